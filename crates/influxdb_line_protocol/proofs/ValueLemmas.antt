@@ -1,0 +1,290 @@
+-- Numbers in front of a text.
+use Rattle.std.proofs.Common.{◌≡◌, ◌≢◌, ◌⊎◌, ◌∙◌, ℕ, suc, ◌+◌, ◌-◌, ◌^◌, ◌<◌, ◌≤◌, List, [], ◌∷◌, length, map, take, drop, get_or, Bool, None, Err, eqb, slice_index, true, false, refl, sym, ap, arith, inl, inr, add-zero, zero-add, one-add}
+use Rattle.std.specs.Prelude.{◌==◌, IsUtf8, IsCharBoundary, ℤ, pos, negsuc, FitsSigned}
+use Rattle.std.specs.Bool.{MatchBool}
+use Rattle.std.specs.Borrow.{Bor}
+use Rattle.std.specs.List.{starts_with}
+use Rattle.std.specs.Str.Pattern.{HasPrefixMatch, FindsTextPrefix}
+use Rattle.std.specs.Char.{is_ascii_digit, digit_value}
+use Rattle.std.specs.Int.{w64}
+use Rattle.std.specs.Str.Parse.{AllDigits, IsNumeral, digits_value, signed_digits_value, without_leading_plus, without_leading_sign}
+use Rattle.std.proofs.lemmas.Bool.{cases_Bool, cases_eq, cases_lt, false_from_ne_true, and_parts, eqb-false, eqb-true, eq-eqb, ne_eqb, leb-true, ltb-true, lt-ltb, le-leb, and_from}
+use Rattle.std.specs.Prelude.{leb, nat_lt}
+use Rattle.std.proofs.lemmas.List.{drop-drop, drop_more, get_or-drop, get_or-map, get_or-take, length-map, get_or_past, length-drop, length-take, length-take-le}
+use Rattle.std.proofs.lemmas.List.Sums.{fold_more, prefix_len_passes, prefix_len-le-length}
+use Rattle.std.proofs.lemmas.Grind.{common_steps}
+use Rattle.std.proofs.lemmas.Str.Parse.{without_leading_plus_none}
+use Rattle.std.proofs.lemmas.Str.{IsCharBoundary-after_ascii, digit_value_digit}
+use Rattle.influxdb_line_protocol.specs.Values.{digits_len, integer, integer_at, integer_len, side_of, fits_i64, boolean, boolean_at, longer_front, unsigned, unsigned_at, word_len}
+use Rattle.influxdb_line_protocol.specs.Readings.{above, miss, fatal, reads, integer_value_invalid, uinteger_value_invalid, timestamp_value_invalid}
+use Rattle.influxdb_line_protocol.specs.Lines.{spaces, timestamp}
+
+-- a digit, by its test
+pub digit_range : (b : ℕ) → is_ascii_digit b ≡ true → (48 ≤ b) × (b ≤ 57)
+digit_range b h = grind (arith, common_steps)
+
+-- the digits in front are digits
+pub all_digits : (text : List ℕ) → AllDigits 10 (take (digits_len text) text)
+all_digits [] = tt
+all_digits (b ∷ text) =
+    elim (cases_Bool (is_ascii_digit b)) [
+      | inl yes_digit ↦
+          let range = digit_range b yes_digit in
+          let value : digit_value b + 48 ≡ b = digit_value_digit b range in
+          rw (yes_digit, one-add) (omega arith, all_digits text)
+      | inr other ↦ rw other tt
+    ]
+
+-- what fits an i64, by its test
+pub fits_from_test : (z : ℤ) → fits_i64 z ≡ true → FitsSigned w64 z
+fits_from_test (pos n) h = record { sfits = ltb-true n (2 ^ 63) h }
+fits_from_test (negsuc n) h = record { sfits = negative_fits n (and_parts (leb n 9223372036854775807) true h).0 }
+  where
+    negative_fits : (n : ℕ) → leb n 9223372036854775807 ≡ true → n < 9223372036854775808
+    negative_fits n h = omega (arith, leb-true n 9223372036854775807 h)
+
+pub test_from_fits : (z : ℤ) → FitsSigned w64 z → fits_i64 z ≡ true
+test_from_fits (pos n) h = lt-ltb n (2 ^ 63) h.sfits
+test_from_fits (negsuc n) h = and_from (leb n 9223372036854775807) true (le-leb n 9223372036854775807 (omega (arith, h.sfits))) refl
+
+-- behind digits a text may be cut
+pub digits_boundary : (text : List ℕ) (sign d : ℕ) → IsUtf8 text → d ≡ digits_len (drop sign text) → 0 < d → IsCharBoundary text (sign + d)
+digits_boundary text sign d utf8 e some =
+    let last : is_ascii_digit (get_or (drop sign text) (d - 1) 0) ≡ true = prefix_len_passes is_ascii_digit (drop sign text) (d - 1) 0 (omega arith) in
+    let byte : is_ascii_digit (get_or text (sign + (d - 1)) 0) ≡ true = rw (← get_or-drop sign text (d - 1) 0) last in
+    let range = digit_range (get_or text (sign + (d - 1)) 0) byte in
+    let within : d ≤ length text - sign = omega (arith, prefix_len-le-length is_ascii_digit (drop sign text), length-drop sign text) in
+    let next : sign + d ≡ sign + (d - 1) + 1 = omega arith in
+    rw next (IsCharBoundary-after_ascii text (sign + (d - 1)) utf8 (omega arith) (omega arith))
+
+-- digits in front, where there is one
+pub front_numeral : (text : List ℕ) → digits_len text ≢ 0 → IsNumeral 10 (take (digits_len text) text)
+front_numeral text some =
+    let len = length-take-le (digits_len text) text (prefix_len-le-length is_ascii_digit text) in
+    (omega arith, all_digits text)
+
+minus_numeral : (rest : List ℕ) → 0 < integer_len (45 ∷ rest) → IsNumeral 10 (without_leading_sign (take (integer_len (45 ∷ rest)) (45 ∷ rest)))
+minus_numeral rest some =
+    elim (cases_Bool (digits_len rest == 0)) [
+      | inl none ↦ let none_left : 0 < 0 = rw none at some in absurd (omega arith)
+      | inr digits ↦ rw (digits, one-add) (front_numeral rest (eqb-false (digits_len rest) 0 digits))
+    ]
+
+plain_numeral : (b : ℕ) (rest : List ℕ) → b ≢ 45 → 0 < integer_len (b ∷ rest) → IsNumeral 10 (without_leading_sign (take (integer_len (b ∷ rest)) (b ∷ rest)))
+plain_numeral b rest other some =
+    let no_minus : (45 == b) ≡ false = ne_eqb 45 b (λ e. other (sym e)) in
+    elim (cases_Bool (is_ascii_digit b)) [
+      | inl first ↦
+          let range = digit_range b first in
+          let no_sign : (b == 45) ≡ false = ne_eqb b 45 other in
+          let no_plus : (b == 43) ≡ false = ne_eqb b 43 (λ e. absurd (omega arith)) in
+          let value : digit_value b + 48 ≡ b = digit_value_digit b range in
+          let some_digit : (suc (digits_len rest) == 0) ≡ false = ne_eqb (suc (digits_len rest)) 0 (λ e. absurd (omega arith)) in
+          let len : integer_len (b ∷ rest) ≡ suc (digits_len rest) = rw (no_minus, first, one-add, some_digit, zero-add) refl in
+          rw (len, no_sign, no_plus) (omega arith, (omega arith, all_digits rest))
+      | inr none ↦ let none_left : 0 < 0 = rw (no_minus, none) at some in absurd (omega arith)
+    ]
+
+-- an integer in front of a text is a numeral
+pub integer_numeral : (text : List ℕ) → 0 < integer_len text → IsNumeral 10 (without_leading_sign (take (integer_len text) text))
+integer_numeral [] some = absurd (omega arith)
+integer_numeral (b ∷ rest) some =
+    elim (cases_eq b 45) [
+      | inl e ↦ rw e (minus_numeral rest (rw e at some))
+      | inr other ↦ plain_numeral b rest other some
+    ]
+
+-- the outcomes of an integer
+pub integer_misses : (text : List ℕ) → integer_len text ≡ 0 → integer_at text ≡ miss
+unfolding integer_at
+integer_misses text e = rw (eq-eqb (integer_len text) 0 e) refl
+
+pub integer_unmarked : (text : List ℕ) → slice_index text (integer_len text) ≢ 105 → integer_at text ≡ miss
+unfolding integer_at
+integer_unmarked text other =
+    elim (cases_Bool (integer_len text == 0)) [
+      | inl none ↦ rw none refl
+      | inr some ↦ rw (some, ne_eqb (slice_index text (integer_len text)) 105 other) refl
+    ]
+
+pub integer_reads : (text : List ℕ) → 0 < integer_len text → slice_index text (integer_len text) ≡ 105
+    → fits_i64 (signed_digits_value 10 (take (integer_len text) text)) ≡ true
+    → integer_at text ≡ reads (integer (signed_digits_value 10 (take (integer_len text) text))) (drop (integer_len text + 1) text)
+unfolding integer_at
+integer_reads text some mark fits =
+    let ne : integer_len text ≡ 0 → ⊥ = λ e. absurd (omega arith) in
+    rw (ne_eqb (integer_len text) 0 ne, eq-eqb (slice_index text (integer_len text)) 105 mark, fits) refl
+
+pub integer_overflows : (text : List ℕ) → 0 < integer_len text → slice_index text (integer_len text) ≡ 105
+    → fits_i64 (signed_digits_value 10 (take (integer_len text) text)) ≡ false
+    → integer_at text ≡ fatal (integer_value_invalid (side_of (take (integer_len text) text)) (take (integer_len text) text))
+unfolding integer_at
+integer_overflows text some mark fits =
+    let ne : integer_len text ≡ 0 → ⊥ = λ e. absurd (omega arith) in
+    rw (ne_eqb (integer_len text) 0 ne, eq-eqb (slice_index text (integer_len text)) 105 mark, fits) refl
+
+-- the byte at a place, from what follows it
+pub byte_behind : (text rest : List ℕ) (n b : ℕ) → drop n text ≡ b ∷ rest → (slice_index text n ≡ b) × (drop (n + 1) text ≡ rest)
+byte_behind text rest n b e =
+    let at = ap (λ (xs : List ℕ). get_or xs 0 0) e in
+    let behind = ap (λ (xs : List ℕ). drop 1 xs) e in
+    (rw (get_or-drop n text 0 0, add-zero n) at at, rw (drop-drop 1 n text) at behind)
+
+-- and what follows a place, from its byte
+pub behind_byte : (text : List ℕ) (n b : ℕ) → slice_index text n ≡ suc b → drop n text ≡ suc b ∷ drop (n + 1) text
+behind_byte text n b e =
+    elim (cases_lt n (length text)) [
+      | inl within ↦ rw (drop_more text n 0 within, e) refl
+      | inr past ↦ let past_end : 0 ≡ suc b = rw (get_or_past text n 0 past) at e in absurd (omega arith)
+    ]
+
+-- what a parse of the number gives: where it fits
+pub integer_parsed : (text number rest : List ℕ) (z : ℤ) → number ≡ take (integer_len text) text → drop (integer_len text) text ≡ 105 ∷ rest
+    → 0 < length number → FitsSigned w64 (signed_digits_value 10 number) → z ≡ signed_digits_value 10 number
+    → integer_at text ≡ reads (integer z) rest
+integer_parsed text number rest z e marked some fits same =
+    let byte = byte_behind text rest (integer_len text) 105 marked in
+    let taken : 0 < integer_len text = omega (arith, length-take (integer_len text) text, ap length e) in
+    rw (same, e, ← byte.1) (integer_reads text taken byte.0 (test_from_fits _ (rw e at fits)))
+
+-- and where it does not
+pub integer_refused : (text number rest : List ℕ) → number ≡ take (integer_len text) text → drop (integer_len text) text ≡ 105 ∷ rest
+    → 0 < length number → (IsNumeral 10 (without_leading_sign number) × FitsSigned w64 (signed_digits_value 10 number) → ⊥)
+    → integer_at text ≡ fatal (integer_value_invalid (side_of number) number)
+integer_refused text number rest e marked some refused =
+    let byte = byte_behind text rest (integer_len text) 105 marked in
+    let taken : 0 < integer_len text = omega (arith, length-take (integer_len text) text, ap length e) in
+    let none = rw e at refused in
+    let test : fits_i64 (signed_digits_value 10 (take (integer_len text) text)) ≡ false =
+    false_from_ne_true _ (λ t. none (integer_numeral text taken, fits_from_test _ t)) in
+    rw e (integer_overflows text taken byte.0 test)
+
+-- the digits in front and the integer in front
+digits_of_plain : (text : List ℕ) → slice_index text 0 ≢ 45 → digits_len text ≡ integer_len text
+digits_of_plain text other =
+    let no_minus : (45 == slice_index text 0) ≡ false = ne_eqb 45 (slice_index text 0) (λ e. other (sym e)) in
+    elim (cases_Bool (digits_len text == 0)) [
+      | inl none ↦ rw (no_minus, none) (eqb-true (digits_len text) 0 none)
+      | inr some ↦ rw (no_minus, some) (sym (zero-add (digits_len text)))
+    ]
+
+digits_of_minus : (text : List ℕ) → slice_index text 0 ≡ 45 → digits_len text ≡ 0
+digits_of_minus [] e = refl
+digits_of_minus (b ∷ rest) e = rw e refl
+
+-- no digit stands in front where no integer does, or one with `-`
+pub unsigned_none : (text number : List ℕ) → number ≡ take (integer_len text) text → (length number ≡ 0) ⊎ (slice_index number 0 ≡ 45) → digits_len text ≡ 0
+unsigned_none text number e (inl empty) =
+    elim (cases_eq (slice_index text 0) 45) [
+      | inl minus ↦ digits_of_minus text minus
+      | inr plain ↦
+          let fits : digits_len text ≤ length text = prefix_len-le-length is_ascii_digit text in
+          omega (arith, digits_of_plain text plain, length-take (integer_len text) text, ap length e)
+    ]
+unsigned_none text number e (inr minus) =
+    elim (cases_eq (slice_index text 0) 45) [
+      | inl minus ↦ digits_of_minus text minus
+      | inr plain ↦
+          elim (cases_lt 0 (integer_len text)) [
+            | inl some ↦ absurd (plain (sym (get_or-take (integer_len text) text 0 0 some) ∙ sym (ap (λ (xs : List ℕ). get_or xs 0 0) e) ∙ minus))
+            | inr none ↦ omega (arith, digits_of_plain text plain)
+          ]
+    ]
+
+-- else the integer is the digits
+pub unsigned_front : (text number : List ℕ) → number ≡ take (integer_len text) text → 0 < length number → slice_index number 0 ≢ 45 → digits_len text ≡ integer_len text
+unsigned_front text number e some plain =
+    let taken : 0 < integer_len text = omega (arith, length-take (integer_len text) text, ap length e) in
+    digits_of_plain text (λ minus. plain (ap (λ (xs : List ℕ). get_or xs 0 0) e ∙ get_or-take (integer_len text) text 0 0 taken ∙ minus))
+
+-- digits have no `+` in front
+no_plus : (text number : List ℕ) → number ≡ take (digits_len text) text → 0 < digits_len text → without_leading_plus number ≡ number
+no_plus text number e some =
+    let first : is_ascii_digit (get_or text 0 0) ≡ true = prefix_len_passes is_ascii_digit text 0 0 some in
+    let range = digit_range (get_or text 0 0) first in
+    let head : get_or number 0 0 ≡ get_or text 0 0 = ap (λ (xs : List ℕ). get_or xs 0 0) e ∙ get_or-take (digits_len text) text 0 0 some in
+    without_leading_plus_none number (λ plus. absurd (omega (arith, head, plus)))
+
+-- the outcomes of an unsigned integer
+pub unsigned_misses : (text : List ℕ) → digits_len text ≡ 0 → unsigned_at text ≡ miss
+unfolding unsigned_at
+unsigned_misses text e = rw (eq-eqb (digits_len text) 0 e) refl
+
+pub unsigned_unmarked : (text : List ℕ) → slice_index text (digits_len text) ≢ 117 → unsigned_at text ≡ miss
+unfolding unsigned_at
+unsigned_unmarked text other =
+    elim (cases_Bool (digits_len text == 0)) [
+      | inl none ↦ rw none refl
+      | inr some ↦ rw (some, ne_eqb (slice_index text (digits_len text)) 117 other) refl
+    ]
+
+pub unsigned_parsed : (text number rest : List ℕ) (n : ℕ) → number ≡ take (digits_len text) text → drop (digits_len text) text ≡ 117 ∷ rest
+    → 0 < length number → digits_value 10 (without_leading_plus number) < 2 ^ 64 → n ≡ digits_value 10 (without_leading_plus number)
+    → unsigned_at text ≡ reads (unsigned n) rest
+unfolding unsigned_at
+unsigned_parsed text number rest n e marked some fits same =
+    let byte = byte_behind text rest (digits_len text) 117 marked in
+    let taken : 0 < digits_len text = omega (arith, length-take (digits_len text) text, ap length e) in
+    let value : n ≡ digits_value 10 (take (digits_len text) text) = same ∙ ap (digits_value 10) (no_plus text number e taken ∙ e) in
+    let small : digits_value 10 (take (digits_len text) text) < 2 ^ 64 = omega (arith, value, same) in
+    rw (ne_eqb (digits_len text) 0 (λ z. absurd (omega arith)), eq-eqb (slice_index text (digits_len text)) 117 byte.0, lt-ltb _ (2 ^ 64) small, value, byte.1) refl
+
+pub unsigned_refused : (text number rest : List ℕ) → number ≡ take (digits_len text) text → drop (digits_len text) text ≡ 117 ∷ rest
+    → 0 < length number → (IsNumeral 10 (without_leading_plus number) × (digits_value 10 (without_leading_plus number) < 2 ^ 64) → ⊥)
+    → unsigned_at text ≡ fatal (uinteger_value_invalid above number)
+unfolding unsigned_at
+unsigned_refused text number rest e marked some refused =
+    let byte = byte_behind text rest (digits_len text) 117 marked in
+    let taken : 0 < digits_len text = omega (arith, length-take (digits_len text) text, ap length e) in
+    let none = rw (no_plus text number e taken ∙ e) at refused in
+    let test : nat_lt (digits_value 10 (take (digits_len text) text)) (2 ^ 64) ≡ false =
+    false_from_ne_true _ (λ t. none (front_numeral text (λ z. absurd (omega arith)), ltb-true _ (2 ^ 64) t)) in
+    rw (ne_eqb (digits_len text) 0 (λ z. absurd (omega arith)), eq-eqb (slice_index text (digits_len text)) 117 byte.0, test, e) refl
+
+-- the longest of the words so far, and one more
+pub word_len_more : (words : List (Bor (List ℕ))) (i : ℕ) (none : Bor (List ℕ)) (text : List ℕ) → i < length words
+    → word_len (take (i + 1) (map (λ word. word.now) words)) text ≡ longer_front text (word_len (take i (map (λ word. word.now) words)) text) (get_or words i none).now
+word_len_more words i none text within =
+    let texts = map (λ (word : Bor (List ℕ)). word.now) words in
+    fold_more (λ n word. longer_front text n word) 0 texts i [] (omega (arith, length-map words (λ (word : Bor (List ℕ)). word.now)))
+    ∙ ap (longer_front text (word_len (take i texts) text)) (get_or-map (λ (word : Bor (List ℕ)). word.now) words i none [] within)
+
+pub longer_front_is : (text word : List ℕ) (n : ℕ) → n < length word → starts_with eqb text word ≡ true → longer_front text n word ≡ length word
+longer_front_is text word n longer found = rw (found, lt-ltb n (length word) longer) refl
+
+pub longer_front_other : (text word : List ℕ) (n : ℕ) → starts_with eqb text word ≡ false → longer_front text n word ≡ n
+longer_front_other text word n other = rw other refl
+
+pub longer_front_short : (text word : List ℕ) (n : ℕ) → length word ≤ n → longer_front text n word ≡ n
+longer_front_short text word n short =
+    let test : nat_lt n (length word) ≡ false = false_from_ne_true _ (λ t. absurd (omega (arith, ltb-true n (length word) t))) in
+    elim (cases_Bool (starts_with eqb text word)) [ inl found ↦ rw (found, test) refl | inr other ↦ rw other refl ]
+
+-- behind a word in front a text may be cut
+pub word_boundary : (found : Bool) (word text : List ℕ) → MatchBool found (HasPrefixMatch (FindsTextPrefix word) text) (FindsTextPrefix word text None) → found ≡ true
+    → IsCharBoundary text (length word)
+word_boundary true word text match e = match.1.2
+word_boundary false word text match e = cc
+
+-- the outcomes of a Boolean
+pub boolean_misses : (b : Bool) (words : List (List ℕ)) (text : List ℕ) → word_len words text ≡ 0 → boolean_at b words text ≡ miss
+unfolding boolean_at
+boolean_misses b words text none = rw (eq-eqb (word_len words text) 0 none) refl
+
+pub boolean_reads : (b : Bool) (words : List (List ℕ)) (text : List ℕ) → 0 < word_len words text
+    → boolean_at b words text ≡ reads (boolean b) (drop (word_len words text) text)
+unfolding boolean_at
+boolean_reads b words text some = rw (ne_eqb (word_len words text) 0 (λ e. absurd (omega arith))) refl
+
+-- a timestamp that no i64 holds
+pub timestamp_refused : (text behind number : List ℕ) → behind ≡ drop (spaces text) text → number ≡ take (integer_len behind) behind
+    → length behind ≢ length text → 0 < length number → (IsNumeral 10 (without_leading_sign number) × FitsSigned w64 (signed_digits_value 10 number) → ⊥)
+    → timestamp text ≡ Err (timestamp_value_invalid (side_of number) number)
+timestamp_refused text behind number past e shorter some refused =
+    let gap : spaces text ≢ 0 = λ z. shorter (ap length past ∙ omega (arith, z, length-drop (spaces text) text)) in
+    let taken : 0 < integer_len behind = omega (arith, length-take (integer_len behind) behind, ap length e) in
+    let none = rw e at refused in
+    let test : fits_i64 (signed_digits_value 10 (take (integer_len behind) behind)) ≡ false =
+    false_from_ne_true _ (λ t. none (integer_numeral behind taken, fits_from_test _ t)) in
+    let digits : (integer_len behind == 0) ≡ false = ne_eqb (integer_len behind) 0 (λ z. absurd (omega arith)) in
+    rw (← past, ne_eqb (spaces text) 0 gap, digits, test, e) refl

@@ -1,0 +1,15 @@
+use Rattle.influxdb_line_protocol.proofs.BasesTellSeries.{clear_series_have_bases, same_series_have_one_base}
+use Rattle.influxdb_line_protocol.proofs.BasesApart.{one_base_is_one_series, plain_series_are_clear}
+use Rattle.influxdb_line_protocol.proofs.laws.bases_tell_series.Goals as goal
+
+pub returns-clause-exist : goal.returns-clause-exist
+returns-clause-exist c = clear_series_have_bases
+
+pub returns-clause-same : goal.returns-clause-same
+returns-clause-same c = same_series_have_one_base
+
+pub returns-clause-only : goal.returns-clause-only
+returns-clause-only c = one_base_is_one_series
+
+pub returns-clause-plain : goal.returns-clause-plain
+returns-clause-plain c = plain_series_are_clear

@@ -1,0 +1,9 @@
+use Rattle.influxdb_line_protocol.proofs.BatchesReadBack.{admitted_batches_read_back}
+use Rattle.influxdb_line_protocol.proofs.RefusedBatches.{other_batches_do_not}
+use Rattle.influxdb_line_protocol.proofs.laws.batch_reads_back.Goals as goal
+
+pub returns-clause-admitted : goal.returns-clause-admitted
+returns-clause-admitted c = admitted_batches_read_back
+
+pub returns-clause-refused : goal.returns-clause-refused
+returns-clause-refused c = other_batches_do_not

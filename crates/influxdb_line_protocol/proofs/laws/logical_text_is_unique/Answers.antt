@@ -1,0 +1,5 @@
+use Rattle.influxdb_line_protocol.proofs.LogicalMeaning.{logical_is}
+use Rattle.influxdb_line_protocol.proofs.laws.logical_text_is_unique.Goals as goal
+
+pub returns : goal.returns
+returns c = logical_is

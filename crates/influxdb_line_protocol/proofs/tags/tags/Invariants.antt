@@ -1,0 +1,17 @@
+use Rattle.std.proofs.Common.{◌≤◌, length, map}
+use denote.Text.{Utf8}
+use denote.Shadow.{shadow}
+use Rattle.influxdb_line_protocol.specs.Lines.{tag}
+use Rattle.influxdb_line_protocol.specs.Parsed.{tag_of}
+use Rattle.influxdb_line_protocol.proofs.ManyLemmas.{SoFar}
+use Rattle.influxdb_line_protocol.proofs.tags.tags.Given as goal
+
+abbrev pub invariant-loop-tags : goal.invariant-loop-tags
+invariant-loop-tags l = record {
+  utf8 : shadow (Utf8 l.rest);
+  so_far : SoFar tag l.text (map tag_of l.tags.items) l.rest;
+  room : 8 ≤ l.tags.capacity;
+}
+
+abbrev pub decreases-loop-tags : goal.decreases-loop-tags
+decreases-loop-tags l = length l.rest

@@ -1,0 +1,48 @@
+-- What a call of `next` on a `ParseLines` gives.
+use Rattle.std.specs.Prelude.{◌≡◌, ℕ, ◌<◌, true, List, ◌∷◌, [], ◌++◌, length, Option, Some, None, Result}
+use Rattle.std.specs.List.{All}
+use Rattle.influxdb_line_protocol.specs.declared.split.Dialect.{Dialect}
+use Rattle.influxdb_line_protocol.specs.declared.error.Error.{Error}
+use Rattle.influxdb_line_protocol.specs.declared.line.ParsedLine.{ParsedLine}
+use Rattle.influxdb_line_protocol.specs.Pieces.{Left, PiecesLeft}
+use Rattle.influxdb_line_protocol.specs.Trimming.{trimmed}
+use Rattle.influxdb_line_protocol.specs.Items.{line_answer}
+use Rattle.influxdb_line_protocol.specs.Light.{is_light}
+use Rattle.influxdb_line_protocol.specs.Outcomes.{HasMemory}
+use Rattle.influxdb_line_protocol.specs.Parsed.{Answers}
+
+-- nothing is left of the piece when it is trimmed
+abbrev pub IsBlankPiece : List ℕ → Type 0
+IsBlankPiece piece = length (trimmed piece) ≡ 0
+
+-- the item is the answer for a trimmed text, or want of memory in its place, but never where the text is light
+pub record IsItemOf (dialect : Dialect) (line : List ℕ) (item : Result ParsedLine Error) : Type 0 where
+  pub answers : Answers item (line_answer dialect line)
+  pub light : is_light dialect line ≡ true → HasMemory item
+
+-- blank pieces were left, then a piece that is not blank, whose item this is, and then the others
+pub record GaveItem (before : Left) (item : Result ParsedLine Error) (others : List (List ℕ)) : Type 0 where
+  pub skipped : List (List ℕ)
+  pub piece : List ℕ
+  pub left : PiecesLeft before (skipped ++ piece ∷ others)
+  pub blank : All IsBlankPiece skipped
+  pub some : 0 < length (trimmed piece)
+  pub item_is : IsItemOf before.dialect (trimmed piece) item
+
+-- only blank pieces were left
+pub record HadBlankPieces (before : Left) : Type 0 where
+  pub skipped : List (List ℕ)
+  pub left : PiecesLeft before skipped
+  pub blank : All IsBlankPiece skipped
+
+-- a call gives the item of the first piece that is not blank and leaves the pieces behind it, whatever the item is;
+-- or `None` where only blank pieces are left, and then none is left
+abbrev pub GivesItem : Left → Option (Result ParsedLine Error) → Left → Type 0
+GivesItem before None after = HadBlankPieces before × PiecesLeft after []
+GivesItem before (Some item) after =
+    (after.dialect ≡ before.dialect) × ((others : List (List ℕ)) → PiecesLeft after others → GaveItem before item others)
+
+-- so many items are left at most
+abbrev pub most_items : Option (List ℕ) → ℕ
+most_items None = 0
+most_items (Some text) = length text

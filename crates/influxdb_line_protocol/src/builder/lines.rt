@@ -1,0 +1,289 @@
+//! Parsed lines that are written again.
+
+ghost use Rattle.std.specs.Prelude.{◌≡◌, ◌+◌, ◌<◌, ◌≤◌, ◌^◌, ◌++◌, length, map, not};
+ghost use Rattle.std.specs.Option.{SomeIff, option_map};
+ghost use Rattle.std.specs.List.{flat_map, list_all};
+ghost use Rattle.smallvec.specs.SmallVec.{small_vec_len};
+ghost use Rattle.influxdb_line_protocol.specs.Bytes.{is_one_of, space};
+ghost use Rattle.influxdb_line_protocol.specs.Lines.{some_tags};
+ghost use Rattle.influxdb_line_protocol.specs.Outcomes.{kind_of};
+ghost use Rattle.influxdb_line_protocol.specs.Parsed.{parsed_point, tag_of, tags_of};
+ghost use Rattle.influxdb_line_protocol.specs.Points.{built, built_timestamp, built_value, is_admitted_field, is_admitted_name, is_admitted_point, is_admitted_tag, never_in, spelling};
+ghost use Rattle.influxdb_line_protocol.specs.Values.{float};
+ghost use Rattle.influxdb_line_protocol.specs.Literals.{literal_of};
+ghost use Rattle.influxdb_line_protocol.specs.Texts.{text_of};
+ghost use Rattle.influxdb_line_protocol.specs.WrittenAgain.{fields_text, parts_text, point_field, point_tag, tag_text, value_text};
+ghost use Rattle.influxdb_line_protocol.specs.Built.{Writes, buffer_of};
+
+use super::{
+    BeforeMeasurement, BufMut, Escapes, FieldValue, LineProtocolBuilder, Refused, escaped_len,
+    field_len, put_escaped, put_field, put_tag, tag_len,
+};
+use crate::names::NameKind;
+use crate::{EscapedStr, FloatText, ParsedLine, values};
+
+/// The literal, as it is.
+impl FieldValue for FloatText<'_> {
+    ghost text = { λ f. built_value (float (literal_of f)) };
+
+    fn fmt_len(&self) -> Option<usize> {
+        Some(self.as_str().len())
+    }
+
+    fn fmt<B: BufMut>(&self, buf: &mut B) {
+        buf.put(self.as_str().as_bytes());
+    }
+}
+
+// Whether a name of this kind may hold the byte.
+fn may_hold(kind: NameKind, byte: u8) -> bool
+    ensures { result ≡ not (is_one_of (never_in (kind_of kind)) byte) }
+{
+    match kind {
+        NameKind::Measurement => !matches!(byte, b'\t' | b'\n' | 0),
+        _ => !matches!(byte, b'\t' | b'\n'),
+    }
+}
+
+// Whether a name of this kind may hold each of the bytes.
+fn may_hold_all(kind: NameKind, bytes: &[u8]) -> bool
+    ensures { result ≡ list_all (λ b. not (is_one_of (never_in (kind_of kind)) b)) bytes.now }
+{
+    bytes.iter().all(|byte| may_hold(kind, *byte))
+}
+
+// Whether the name is admitted as one of this kind.
+#[tactic(auto, unfolding(crate::specs::Points::is_admitted_name))]
+fn is_admitted_name(kind: NameKind, name: &EscapedStr<'_>) -> bool
+    ensures { result ≡ is_admitted_name (kind_of kind) (text_of name.now) }
+{
+    let bytes = name.as_str().as_bytes();
+    if bytes.is_empty() || bytes[bytes.len() - 1] == b'\\' {
+        return false;
+    }
+    let begins_comment = matches!(kind, NameKind::Measurement) && bytes[0] == b'#';
+    may_hold_all(kind, bytes) && !begins_comment
+}
+
+// The tags of the line: none, where it has no set of them.
+fn tags<'a, 'l>(line: &'l ParsedLine<'a>) -> &'l [(EscapedStr<'a>, EscapedStr<'a>)]
+    ensures { some_tags (option_map tags_of line.now.series.tag_set) ≡ map tag_of result.now }
+{
+    match &line.series.tag_set {
+        Some(tags) => tags.as_slice(),
+        None => &[],
+    }
+}
+
+// Whether the key and the value of each tag are admitted.
+fn are_tags_admitted(tags: &[(EscapedStr<'_>, EscapedStr<'_>)]) -> bool
+    ensures { result ≡ list_all (λ t. is_admitted_tag (point_tag t)) tags.now }
+{
+    tags.iter().all(|(key, value)| {
+        is_admitted_name(NameKind::TagKey, key) && is_admitted_name(NameKind::TagValue, value)
+    })
+}
+
+// Whether the key of each field is admitted.
+fn are_fields_admitted(fields: &[(EscapedStr<'_>, values::FieldValue<'_>)]) -> bool
+    ensures { result ≡ list_all (λ f. is_admitted_field (point_field f)) fields.now }
+{
+    fields
+        .iter()
+        .all(|(key, _)| is_admitted_name(NameKind::FieldKey, key))
+}
+
+/// Whether a line reads back where it is written again: whether each of its names is admitted.
+///
+/// A name is admitted where it is not empty, holds no tab and no newline, and does not end in a
+/// backslash; a measurement, besides, holds no NUL and does not begin with `#`. It takes no memory.
+#[tactic(auto, using(crate::proofs::WrittenAgainLemmas::tags_admitted, crate::proofs::WrittenAgainLemmas::fields_admitted), unfolding(crate::specs::Points::is_admitted_point))]
+pub fn is_admitted(line: &ParsedLine<'_>) -> bool
+    ensures { result ≡ is_admitted_point (parsed_point line.now) }
+{
+    is_admitted_name(NameKind::Measurement, &line.series.measurement)
+        && are_tags_admitted(tags(line))
+        && are_fields_admitted(line.field_set.as_slice())
+}
+
+// A value of a parsed line, as the builder takes it.
+#[derive(Clone, Copy)]
+struct ReadValue<'l, 'a>(&'l values::FieldValue<'a>);
+
+impl FieldValue for ReadValue<'_, '_> {
+    ghost text = { λ v. value_text v.0.now };
+
+    fn fmt_len(&self) -> Option<usize> {
+        match self.0 {
+            values::FieldValue::I64(value) => value.fmt_len(),
+            values::FieldValue::U64(value) => value.fmt_len(),
+            values::FieldValue::F64(value) => value.fmt_len(),
+            values::FieldValue::String(value) => value.as_str().fmt_len(),
+            values::FieldValue::Boolean(value) => value.fmt_len(),
+        }
+    }
+
+    fn fmt<B: BufMut>(&self, buf: &mut B) {
+        match self.0 {
+            values::FieldValue::I64(value) => value.fmt(buf),
+            values::FieldValue::U64(value) => value.fmt(buf),
+            values::FieldValue::F64(value) => value.fmt(buf),
+            values::FieldValue::String(value) => value.as_str().fmt(buf),
+            values::FieldValue::Boolean(value) => value.fmt(buf),
+        }
+    }
+}
+
+// The length of the tags, each with its comma, where a `usize` holds it.
+fn tags_len(tags: &[(EscapedStr<'_>, EscapedStr<'_>)]) -> Option<usize>
+    ensures { let text = flat_map tag_text tags.now in
+        SomeIff result (length text < 2 ^ 64) (length text) }
+{
+    let mut len = 0usize;
+    for (key, value) in tags {
+        let one = tag_len(key.as_str().as_bytes(), value.as_str().as_bytes())?;
+        len = len.checked_add(one)?;
+    }
+    Some(len)
+}
+
+// Appends the tags, each with its comma.
+fn put_tags<B: BufMut>(buf: &mut B, tags: &[(EscapedStr<'_>, EscapedStr<'_>)])
+    requires { length (flat_map tag_text tags.now) ≤ B.room buf.old }
+    ensures bytes { B.bytes buf.new ≡ B.bytes buf.old ++ flat_map tag_text tags.now }
+    ensures room { B.room buf.old ≤ B.room buf.new + length (flat_map tag_text tags.now) }
+{
+    for (key, value) in tags {
+        put_tag(buf, key.as_str().as_bytes(), value.as_str().as_bytes());
+    }
+}
+
+// The length of the fields, each with the byte before it, where a `usize` holds it.
+#[tactic(auto, using(crate::proofs::WrittenAgainLemmas::length_fields_behind))]
+fn fields_len(fields: &[(EscapedStr<'_>, values::FieldValue<'_>)]) -> Option<usize>
+    ensures { let text = fields_text space fields.now in
+        SomeIff result (length text < 2 ^ 64) (length text) }
+{
+    let mut len = 0usize;
+    for (key, value) in fields {
+        let one = field_len(key.as_str().as_bytes(), &ReadValue(value))?;
+        len = len.checked_add(one)?;
+    }
+    Some(len)
+}
+
+// Appends the fields, the first behind a space and each other behind a comma.
+fn put_fields<B: BufMut>(buf: &mut B, fields: &[(EscapedStr<'_>, values::FieldValue<'_>)])
+    requires { length (fields_text space fields.now) ≤ B.room buf.old }
+    ensures bytes { B.bytes buf.new ≡ B.bytes buf.old ++ fields_text space fields.now }
+    ensures room { B.room buf.old ≤ B.room buf.new + length (fields_text space fields.now) }
+{
+    let mut before = b' ';
+    for (key, value) in fields {
+        put_field(buf, before, key.as_str().as_bytes(), &ReadValue(value));
+        before = b',';
+    }
+}
+
+// The length of the timestamp with the space before it: 0, where there is none.
+fn timestamp_len(timestamp: Option<i64>) -> usize
+    ensures value { result ≡ length (built_timestamp timestamp) }
+    ensures few { result ≤ 21 }
+{
+    let Some(timestamp) = timestamp else {
+        return 0;
+    };
+    let mut digits = itoa::Buffer::new();
+    digits.format(timestamp).len() + 1
+}
+
+// Appends the timestamp, where there is one, with the space before it.
+fn put_timestamp<B: BufMut>(buf: &mut B, timestamp: Option<i64>)
+    requires { length (built_timestamp timestamp) ≤ B.room buf.old }
+    ensures bytes { B.bytes buf.new ≡ B.bytes buf.old ++ built_timestamp timestamp }
+    ensures room { B.room buf.old ≤ B.room buf.new + length (built_timestamp timestamp) }
+{
+    if let Some(timestamp) = timestamp {
+        let mut digits = itoa::Buffer::new();
+        buf.put(b" ");
+        buf.put(digits.format(timestamp).as_bytes());
+    }
+}
+
+// What is written of a line.
+#[derive(Clone, Copy)]
+struct Parts<'l, 'a> {
+    measurement: &'l [u8],
+    tags: &'l [(EscapedStr<'a>, EscapedStr<'a>)],
+    fields: &'l [(EscapedStr<'a>, values::FieldValue<'a>)],
+    timestamp: Option<i64>,
+}
+
+impl<'l, 'a> Parts<'l, 'a> {
+    // The parts of this line.
+    fn of(line: &'l ParsedLine<'a>) -> Self
+        ensures { parts_text result ≡ built (parsed_point line.now) }
+    {
+        Parts {
+            measurement: line.series.measurement.as_str().as_bytes(),
+            tags: tags(line),
+            fields: line.field_set.as_slice(),
+            timestamp: line.timestamp,
+        }
+    }
+
+    // The length of the line and its newline, where a `usize` holds it.
+    #[tactic(auto, unfolding(crate::specs::WrittenAgain::parts_text))]
+    fn text_len(&self) -> Option<usize>
+        ensures { let text = parts_text self.now in
+            SomeIff result (length text < 2 ^ 64) (length text) }
+    {
+        let measurement = escaped_len(Escapes::OfMeasurement, self.measurement);
+        let tags = tags_len(self.tags)?;
+        let fields = fields_len(self.fields)?;
+        let end = timestamp_len(self.timestamp) + 1;
+        measurement
+            .checked_add(tags)?
+            .checked_add(fields)?
+            .checked_add(end)
+    }
+
+    // Appends the line and its newline.
+    #[tactic(auto, unfolding(crate::specs::WrittenAgain::parts_text))]
+    fn put<B: BufMut>(&self, buf: &mut B)
+        requires { length (parts_text self.now) ≤ B.room buf.old }
+        ensures bytes { B.bytes buf.new ≡ B.bytes buf.old ++ parts_text self.now }
+        ensures room { B.room buf.old ≤ B.room buf.new + length (parts_text self.now) }
+    {
+        put_escaped(buf, Escapes::OfMeasurement, self.measurement);
+        put_tags(buf, self.tags);
+        put_fields(buf, self.fields);
+        put_timestamp(buf, self.timestamp);
+        buf.put(b"\n");
+    }
+}
+
+/// Appends a parsed line as the builder writes it, with its newline: the measurement, the tags, the
+/// fields and the timestamp by their logical texts. The line has at least one field, as each has
+/// that `parse_lines` gave. Where [`is_admitted`] holds, it reads back.
+///
+/// # Errors
+///
+/// `TooLong` where no `usize` holds the length of the line, and else what the buffer answers where
+/// it has no room for the whole of it. The builder is then as before: no part of the line is written.
+pub fn write_line<B: BufMut>(
+    builder: LineProtocolBuilder<B, BeforeMeasurement>,
+    line: &ParsedLine<'_>,
+) -> Result<LineProtocolBuilder<B, BeforeMeasurement>, Refused<B, BeforeMeasurement>>
+    requires { 0 < small_vec_len line.now.field_set }
+    ensures { Writes B.bytes B.room B.refuses
+        (built (parsed_point line.now)) (buffer_of builder) result }
+{
+    let parts = Parts::of(line);
+    let Some(n) = parts.text_len() else {
+        return Err(builder.too_long());
+    };
+    let mut buf = builder.with_room(n)?;
+    parts.put(&mut buf);
+    Ok(LineProtocolBuilder::over(buf))
+}

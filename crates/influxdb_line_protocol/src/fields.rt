@@ -1,0 +1,95 @@
+//! The fields of a line.
+
+ghost use Rattle.std.specs.Prelude.{◌≡◌, ◌<◌, length, IfOk, IfSome, Err};
+ghost use Rattle.influxdb_line_protocol.specs.Light.{is_single_field};
+ghost use Rattle.influxdb_line_protocol.specs.Lines.{behind_comma, field, field_set, joined, without_comma};
+ghost use Rattle.influxdb_line_protocol.specs.Memory.{NeedsMemory};
+ghost use Rattle.influxdb_line_protocol.specs.Outcomes.{Gives};
+ghost use Rattle.influxdb_line_protocol.specs.Parsed.{field_of};
+ghost use Rattle.influxdb_line_protocol.specs.Sets.{FieldsNeedMemory, SetNeedsMemory, fields_of};
+
+use crate::line::behind;
+use crate::names::{self, NameKind};
+use crate::{Dialect, Error, EscapedStr, FieldSet, FieldValue, Result, values};
+use smallvec::SmallVec;
+use std::alloc::Global;
+
+type Field<'a> = (EscapedStr<'a>, FieldValue<'a>);
+
+// A field in front of `text`, and the rest. The copy of the key comes last: where no field stands, the key takes no memory.
+#[tactic(auto, unfolding(crate::specs::Lines::field))]
+fn field<'a>(alloc: Global, text: &'a str) -> Result<Option<(Field<'a>, &'a str)>>
+    ensures value { Gives field_of result (field text.now) }
+    ensures less { IfOk result (λ o. IfSome o (λ p. length p.1.now < length text.now)) }
+    ensures memory { result ≡ Err Error.OutOfMemory → NeedsMemory is_single_field (field text.now) }
+{
+    let Some((key, rest)) = names::spelled(NameKind::FieldKey, text)? else {
+        return Ok(None);
+    };
+    let Some(rest) = behind('=', rest) else {
+        return Ok(None);
+    };
+    let Some((value, rest)) = values::value(alloc, rest)? else {
+        return Ok(None);
+    };
+    let key = names::escaped_str(alloc, NameKind::FieldKey, key)?;
+    Ok(Some(((key, value), rest)))
+}
+
+// A comma and a field in front of `text`, and the rest.
+fn next_field<'a>(alloc: Global, text: &'a str) -> Result<Option<(Field<'a>, &'a str)>>
+    ensures value { Gives field_of result (behind_comma field text.now) }
+    ensures less { IfOk result (λ o. IfSome o (λ p. length p.1.now < length text.now)) }
+    ensures memory { result ≡ Err Error.OutOfMemory → NeedsMemory is_single_field (behind_comma field text.now) }
+{
+    let Some(rest) = behind(',', text) else {
+        return Ok(None);
+    };
+    field(alloc, rest)
+}
+
+// The fields in front of `text`, joined by commas, and the rest. Up to 4 take no memory but for copies.
+fn fields<'a>(alloc: Global, text: &'a str) -> Result<Option<(FieldSet<'a>, &'a str)>>
+    ensures value { Gives fields_of result (joined field text.now) }
+    ensures memory { result ≡ Err Error.OutOfMemory → SetNeedsMemory 4 is_single_field field text.now }
+{
+    let Some((first, mut rest)) = field(alloc, text)? else {
+        return Ok(None);
+    };
+    let mut fields = SmallVec::new(alloc);
+    fields.push_reserved(first);
+    while let Some((next, after)) = next_field(alloc, rest)? {
+        fields.push(next)?;
+        rest = after;
+    }
+    Ok(Some((fields, rest)))
+}
+
+// What follows the fields, where `rest` stands behind them: in the crate's dialect without the comma behind a first
+// field that is the only one.
+fn behind_fields<'a>(dialect: Dialect, fields: &FieldSet<'_>, rest: &'a str) -> &'a str
+    ensures { result.now ≡ without_comma dialect (fields_of fields.now) rest.now }
+{
+    match dialect {
+        Dialect::Crate if fields.len() == 1 => behind(',', rest).unwrap_or(rest),
+        _ => rest,
+    }
+}
+
+/// The fields in front of `text`, joined by commas, and the rest. `None` where no field stands there.
+///
+/// In the crate's dialect the comma behind a first field is taken, also where no field stands behind it.
+pub(crate) fn field_set<'a>(
+    alloc: Global,
+    dialect: Dialect,
+    text: &'a str,
+) -> Result<Option<(FieldSet<'a>, &'a str)>>
+    ensures value { Gives fields_of result (field_set dialect text.now) }
+    ensures memory { result ≡ Err Error.OutOfMemory → FieldsNeedMemory text.now }
+{
+    let Some((fields, rest)) = fields(alloc, text)? else {
+        return Ok(None);
+    };
+    let rest = behind_fields(dialect, &fields, rest);
+    Ok(Some((fields, rest)))
+}

@@ -1,0 +1,102 @@
+//! Laws of the definitions, each the contract of a function that does nothing.
+
+ghost use Rattle.influxdb_line_protocol.specs.Laws.{AdmittedBatchesReadBack, OtherBatchesDoNot};
+ghost use Rattle.influxdb_line_protocol.specs.Laws.{NamesAreParsed, ParsedNamesStandInLines, StrictFieldsEnd};
+ghost use Rattle.influxdb_line_protocol.specs.Laws.{PiecesExist, PiecesAreUnique, PiecesAreTheText, PiecesJoin};
+ghost use Rattle.influxdb_line_protocol.specs.Laws.{AnswersJoin, CommentsStandAlone};
+ghost use Rattle.influxdb_line_protocol.specs.PointsOfLines.{LinesArePoints};
+ghost use Rattle.influxdb_line_protocol.specs.BaseLaws.{ClearSeriesHaveBases, SameSeriesHaveOneBase};
+ghost use Rattle.influxdb_line_protocol.specs.BaseLaws.{OneBaseIsOneSeries, PlainSeriesAreClear};
+ghost use Rattle.influxdb_line_protocol.specs.Meanings.{LogicalIsWithoutEscapes};
+ghost use Rattle.influxdb_line_protocol.specs.Meanings.{TheMostIsRead, TheNextHasTheFault, TheFirstMisses};
+ghost use Rattle.influxdb_line_protocol.specs.Meanings.{FloatFrontIsFloat, FloatFrontIsLongest};
+ghost use Rattle.influxdb_line_protocol.specs.Meanings.{TrimmedIsBehindBlanks, TrimmedFrontIsLongest};
+ghost use Rattle.influxdb_line_protocol.specs.Meanings.{NameEndsBeforeStop, BodyEndsBeforeQuote};
+ghost use Rattle.influxdb_line_protocol.specs.Lines.{tag, field};
+
+/// Where memory and room suffice, a batch built from points, followed by any text, parses to exactly
+/// those points in order and then to what that text alone gives, if and only if every name is
+/// admitted. So it is in both dialects: where a name is not admitted, the batch parses to other items.
+pub fn batch_reads_back()
+    ensures admitted { AdmittedBatchesReadBack }
+    ensures refused { OtherBatchesDoNot }
+{}
+
+/// No name of a line that was read is empty or ends in a backslash, no measurement begins with `#`,
+/// and a tab or a newline in a name stands directly behind a backslash, as does a NUL in a
+/// measurement. Each text that these rules allow for a kind of name is a name of that kind in some
+/// line. In the strict dialect, nothing follows the last field of a line, or a space does.
+pub fn parsed_names()
+    ensures all { NamesAreParsed }
+    ensures each { ParsedNamesStandInLines }
+    ensures fields_end { StrictFieldsEnd }
+{}
+
+/// Each line that is read stands for a point: it has at least one field, its numbers and its timestamp
+/// are in the range of their types, and its floats are literals.
+pub fn lines_are_points()
+    ensures { LinesArePoints }
+{}
+
+/// Each text has exactly one list of pieces, and joined by newlines they are the text. A newline
+/// between two texts joins their pieces exactly where it may end the last piece of the first, and
+/// there their answers are joined too. In the strict dialect, other bytes behind the `#` of a
+/// comment change no other piece.
+pub fn pieces_join()
+    ensures some { PiecesExist }
+    ensures one { PiecesAreUnique }
+    ensures text { PiecesAreTheText }
+    ensures join { PiecesJoin }
+    ensures items { AnswersJoin }
+    ensures comment { CommentsStandAlone }
+{}
+
+/// Each text stands for exactly one logical text, whichever bytes a backslash may escape in it: a
+/// backslash goes where one of these bytes follows, and every other byte stays.
+pub fn logical_text_is_unique()
+    ensures { LogicalIsWithoutEscapes }
+{}
+
+/// Tags and fields that commas join are read as the greatest number that stands in front of a text.
+/// Where one more behind them has a fault, all have that fault, and where the first one misses, all
+/// miss.
+pub fn most_are_read()
+    ensures tags { TheMostIsRead tag }
+    ensures tag_fault { TheNextHasTheFault tag }
+    ensures no_tag { TheFirstMisses tag }
+    ensures fields { TheMostIsRead field }
+    ensures field_fault { TheNextHasTheFault field }
+    ensures no_field { TheFirstMisses field }
+{}
+
+/// What is left of a piece once it is trimmed is what follows its longest front of blanks and
+/// comments: spaces, tabs and newlines, and each `#` with the rest of its line.
+pub fn longest_blank_front_is_trimmed()
+    ensures blanks { TrimmedIsBehindBlanks }
+    ensures longest { TrimmedFrontIsLongest }
+{}
+
+/// A name is spelled by all of a text before the first byte that ends such a name and that no
+/// backslash escapes, or by all of it where there is none. So is the body of a string before the
+/// quote that closes it.
+pub fn first_bare_stop_ends()
+    ensures name { NameEndsBeforeStop }
+    ensures body { BodyEndsBeforeQuote }
+{}
+
+/// A float is read by its longest front: what it takes is a literal, and no longer front is one.
+pub fn longest_float_is_read()
+    ensures literal { FloatFrontIsFloat }
+    ensures longest { FloatFrontIsLongest }
+{}
+
+/// Take two series as they are parsed, that repeat no key and spell no name as one known escape
+/// alone. Both have bases, and these are equal if the measurements and the sets of tags are. Where,
+/// besides, no measurement and no tag value holds a comma, and no tag key an `=`, the bases are equal
+/// only then. A raw text without a backslash meets all that this asks of names.
+pub fn bases_tell_series()
+    ensures exist { ClearSeriesHaveBases }
+    ensures same { SameSeriesHaveOneBase }
+    ensures only { OneBaseIsOneSeries }
+    ensures plain { PlainSeriesAreClear }
+{}

@@ -1,0 +1,27 @@
+//! Reads and writes InfluxDB line protocol.
+//!
+//! [`parse_lines`] reads a text line by line: a line that cannot be read is one fault, and the next
+//! lines are answered as if it had not been there. [`builder`] writes lines that read back.
+#![tactic(auto)]
+
+pub mod builder;
+mod error;
+mod escaped;
+mod fields;
+pub mod laws;
+mod line;
+mod literals;
+mod names;
+mod series;
+mod split;
+mod tags;
+mod values;
+
+pub use builder::{LineProtocolBuilder, is_admitted, write_line};
+pub use error::{Error, ErrorKind, OutOfRange, Result};
+pub use escaped::{EscapedStr, Measurement};
+pub use line::{FieldSet, ParseLines, ParsedLine, parse_lines};
+pub use literals::FloatText;
+pub use series::{Series, TagSet};
+pub use split::{Dialect, SplitLines, split_lines};
+pub use values::FieldValue;

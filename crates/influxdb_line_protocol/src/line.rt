@@ -1,0 +1,239 @@
+//! Lines.
+
+ghost use Rattle.std.specs.Prelude.{◌≡◌, ◌<◌, ◌++◌, ℕ, List, drop, length, slice_index, true, Err, IfSome, MatchOption};
+ghost use Rattle.influxdb_line_protocol.specs.declared.split.Dialect.{Dialect};
+ghost use Rattle.influxdb_line_protocol.specs.Lines.{answer, byte, front_before, spaces};
+ghost use Rattle.influxdb_line_protocol.specs.Bytes.{space};
+ghost use Rattle.influxdb_line_protocol.specs.Outcomes.{HasMemory};
+ghost use Rattle.influxdb_line_protocol.specs.Light.{is_light};
+ghost use Rattle.influxdb_line_protocol.specs.Parsed.{Answers};
+ghost use Rattle.influxdb_line_protocol.specs.Trimming.{trimmed};
+ghost use Rattle.influxdb_line_protocol.specs.Readings.{miss, reads};
+
+use crate::names::{self, NameKind};
+use crate::split::{SplitLines, split_lines};
+use crate::{
+    Dialect, Error, ErrorKind, EscapedStr, FieldValue, Result, Series, fields, tags, values,
+};
+use smallvec::SmallVec;
+use std::alloc::Global;
+use std::marker::Model;
+
+/// The fields of a line, in its order; repeated keys are kept. Up to 4 take no memory.
+pub type FieldSet<'a> = SmallVec<(EscapedStr<'a>, FieldValue<'a>), 4>;
+
+/// What one line says.
+#[derive(Debug, Drop)]
+pub struct ParsedLine<'a> {
+    /// The measurement and the tags.
+    pub series: Series<'a>,
+    /// The fields: at least one, where `parse_lines` gave the line.
+    pub field_set: FieldSet<'a>,
+    /// The timestamp, where the line has one.
+    pub timestamp: Option<i64>,
+}
+
+impl<'a> ParsedLine<'a> {
+    ghost use Rattle.std.specs.Prelude.{◌^◌};
+    ghost use Rattle.std.specs.Option.{option_copied};
+    ghost use Rattle.influxdb_line_protocol.specs.Lookups.{columns, some_items, value_by_key};
+
+    /// One, and the number of fields, and the number of tags, where no tag set counts as none.
+    ///
+    /// The caller sees to it that this fits `usize`, as it does for each line that `parse_lines` gave.
+    /// It takes no memory.
+    pub fn column_count(&self) -> usize
+        requires { columns self.now < 2 ^ 64 }
+        ensures { result ≡ columns self.now }
+    {
+        let tags = match &self.series.tag_set {
+            Some(tags) => tags.len(),
+            None => 0,
+        };
+        1 + self.field_set.len() + tags
+    }
+
+    /// The value of the first tag whose key has the text `tag_key`; `None` where no tag has it.
+    ///
+    /// It takes no memory.
+    pub fn tag_value(&self, tag_key: &str) -> Option<&EscapedStr<'a>>
+        ensures { option_copied result ≡ value_by_key tag_key.now (some_items self.now.series.tag_set) }
+    {
+        let tags = self.series.tag_set.as_ref()?;
+        let tag = tags.iter().find(|tag| tag.0.as_str() == tag_key)?;
+        Some(&tag.1)
+    }
+
+    /// The value of the first field whose key has the text `field_key`; `None` where no field has it.
+    ///
+    /// It takes no memory.
+    pub fn field_value(&self, field_key: &str) -> Option<&FieldValue<'a>>
+        ensures { option_copied result ≡ value_by_key field_key.now self.now.field_set.items }
+    {
+        let field = self
+            .field_set
+            .iter()
+            .find(|field| field.0.as_str() == field_key)?;
+        Some(&field.1)
+    }
+}
+
+// `text` without the blanks and comments in front of it.
+fn trimmed(text: &str) -> &str
+    ensures { result.now ≡ trimmed text.now }
+{
+    let bytes = text.as_bytes();
+    let mut in_comment = false;
+    for (place, byte) in bytes.iter().enumerate() {
+        match byte {
+            b'\n' => in_comment = false,
+            b'#' => in_comment = true,
+            b' ' | b'\t' => {}
+            _ if in_comment => {}
+            _ => return &text[place..],
+        }
+    }
+    &text[text.len()..]
+}
+
+/// What follows `mark`, where it stands in front of `text`.
+pub(crate) fn behind(mark: char, text: &str) -> Option<&str>
+    requires { mark < 128 }
+    ensures value { MatchOption result (byte mark text.now ≡ miss) (λ rest. byte mark text.now ≡ reads mark rest.now) }
+    ensures less { IfSome result (λ rest. length rest.now < length text.now) }
+{
+    text.strip_prefix(mark)
+}
+
+// How many spaces stand in front of `bytes`.
+fn spaces_len(bytes: &[u8]) -> usize
+    ensures { result ≡ spaces bytes.now }
+{
+    bytes.iter().take_while(|byte| **byte == b' ').count()
+}
+
+/// What follows the spaces in front of `text`.
+pub(crate) fn behind_spaces(text: &str) -> &str
+    ensures { result.now ≡ drop (spaces text.now) text.now }
+{
+    &text[spaces_len(text.as_bytes())..]
+}
+
+// What stands before `rest`, which ends `line` and begins with a space.
+fn front_before<'a>(line: &'a str, rest: &str) -> &'a str
+    requires ends { (front : List ℕ) × (line.now ≡ front ++ rest.now) }
+    requires space { slice_index rest.now 0 ≡ space }
+    ensures { result.now ≡ front_before line.now rest.now }
+{
+    &line[..line.len() - rest.len()]
+}
+
+// The answer for a trimmed text.
+#[tactic(auto, unfolding(crate::specs::Lines::answer))]
+fn answer<'a>(alloc: Global, dialect: Dialect, line: &'a str) -> Result<ParsedLine<'a>>
+    ensures value { Answers result (answer dialect line.now) }
+    ensures light { is_light dialect line.now ≡ true → HasMemory result }
+{
+    let Some((measurement, rest)) = names::name(alloc, NameKind::Measurement, line)? else {
+        return Err(Error::MeasurementValueInvalid);
+    };
+    let (tag_set, rest) = tags::tag_set(alloc, rest)?;
+    if behind(' ', rest).is_none() {
+        return Err(Error::GenericParsingError {
+            kind: ErrorKind::TakeWhile1,
+        });
+    }
+    let raw_input = front_before(line, rest);
+    let Some((field_set, rest)) = fields::field_set(alloc, dialect, behind_spaces(rest))? else {
+        return Err(Error::FieldSetMissing);
+    };
+    let (timestamp, rest) = values::timestamp(alloc, rest)?;
+    if !rest.is_empty() {
+        let trailing_content = String::from_str(alloc, rest)?;
+        return Err(Error::CannotParseEntireLine { trailing_content });
+    }
+    let series = Series {
+        raw_input,
+        measurement,
+        tag_set,
+    };
+    Ok(ParsedLine {
+        series,
+        field_set,
+        timestamp,
+    })
+}
+
+/// The lines of a text, one after another: what [`parse_lines`] gives.
+///
+/// Each item is the answer for one piece that holds more than blanks and comments: what its line
+/// says, or its one fault. Whatever an item is, the next ones are those of the pieces behind it.
+/// There are at most `input.len()` items, and it stays ended.
+#[derive(Drop)]
+pub struct ParseLines<'a> {
+    lines: SplitLines<'a>,
+    alloc: Global,
+}
+
+impl<'a> Model for ParseLines<'a> {
+    ghost use Rattle.influxdb_line_protocol.specs.Pieces.{Left};
+
+    ghost Value = { Left };
+
+    ghost view = { λ s. s.lines };
+}
+
+/// Reads the lines of a text, one item a line.
+///
+/// A line that cannot be read is one `Err`, and the next lines are answered as if it had not been
+/// there. A refused request for memory is `Err(Error::OutOfMemory)` in its line's place. A line of
+/// at most 8 tags and 4 fields asks for none where each name and string of it is a part of the
+/// input, or where it holds no backslash and its fault carries no text.
+pub fn parse_lines(alloc: Global, input: &str) -> ParseLines<'_>
+    ensures { result ≡ record { dialect = Dialect.Crate; text = Some input.now } }
+{
+    ParseLines {
+        lines: split_lines(input),
+        alloc,
+    }
+}
+
+impl<'a> Iterator for ParseLines<'a> {
+    type Item = Result<ParsedLine<'a>>;
+
+    ghost use Rattle.std.specs.Iterator.{at_most};
+    ghost use Rattle.influxdb_line_protocol.specs.ParseSteps.{GivesItem, most_items};
+
+    ghost next_gives = { GivesItem };
+
+    ghost remaining = { λ left. at_most (most_items left.text) };
+
+    fn next(&mut self) -> Option<Result<ParsedLine<'a>>> {
+        while let Some(piece) = self.lines.next() {
+            let line = trimmed(piece);
+            if !line.is_empty() {
+                return Some(answer(self.alloc, self.lines.dialect(), line));
+            }
+        }
+        None
+    }
+}
+
+#[cfg(test)]
+mod tests {
+    use super::*;
+
+    #[test]
+    fn texts_are_trimmed_so(rt: HostRuntime) {
+        for (text, wanted) in [
+            ("\n  a ", "a "),
+            ("\t  a ", "a "),
+            ("  #comment\n a ", "a "),
+            ("#comment\tcomment", ""),
+            ("#comment\n #comment2\n#comment\na", "a"),
+            ("#comment\\\na", "a"),
+        ] {
+            assert_eq!(rt; trimmed(text), wanted);
+        }
+    }
+}

@@ -1,0 +1,158 @@
+//! Numbers by their texts.
+
+ghost use Rattle.std.specs.Prelude.{◌≡◌, ◌≤◌, ◌<◌, ◌+◌, IsCharBoundary, codes, length};
+ghost use Rattle.influxdb_line_protocol.specs.Values.{IsFloat, digits_len, exponent_len, float_len, fraction_len, integer_len, number_len};
+
+use std::fmt;
+
+/// The text of a float: digits with `-` in front or not, then a point and digits or not, then `e` or
+/// `E` and digits, with `+` or `-` before them or not, or no such exponent.
+#[derive(Clone, Copy, Debug)]
+pub struct FloatText<'a> {
+    text: &'a str,
+    ghost is_literal: { ∥ IsFloat text.now ∥₁ },
+}
+
+// How many digits stand in front of `bytes`.
+fn digits_len(bytes: &[u8]) -> usize
+    ensures value { result ≡ digits_len bytes.now }
+    ensures fits { result ≤ length bytes.now }
+{
+    bytes
+        .iter()
+        .take_while(|byte| byte.is_ascii_digit())
+        .count()
+}
+
+// How many bytes of `text` an integer takes in front: none, where none stands there.
+pub(crate) fn integer_len(text: &str) -> usize
+    ensures value { result ≡ integer_len text.now }
+    ensures boundary { IsCharBoundary text.now result }
+{
+    let sign = usize::from(text.starts_with('-'));
+    let digits = digits_len(&text.as_bytes()[sign..]);
+    if digits == 0 { 0 } else { sign + digits }
+}
+
+// How many bytes a point and digits take in front of `bytes`: none, where they do not stand there.
+fn fraction_len(bytes: &[u8]) -> usize
+    ensures value { result ≡ fraction_len bytes.now }
+    ensures fits { result ≤ length bytes.now }
+{
+    let [b'.', behind @ ..] = bytes else {
+        return 0;
+    };
+    let digits = digits_len(behind);
+    if digits == 0 { 0 } else { 1 + digits }
+}
+
+// How many bytes digits, with a sign or none, take in front of `bytes`.
+fn power_len(bytes: &[u8]) -> usize
+    ensures value { result ≡ number_len (codes "+-") bytes.now }
+    ensures fits { result ≤ length bytes.now }
+{
+    let [b'+' | b'-', behind @ ..] = bytes else {
+        return digits_len(bytes);
+    };
+    let digits = digits_len(behind);
+    if digits == 0 { 0 } else { 1 + digits }
+}
+
+// How many bytes an exponent takes in front of `bytes`: none, where none stands there.
+fn exponent_len(bytes: &[u8]) -> usize
+    ensures value { result ≡ exponent_len bytes.now }
+    ensures fits { result ≤ length bytes.now }
+{
+    let [b'e' | b'E', behind @ ..] = bytes else {
+        return 0;
+    };
+    let power = power_len(behind);
+    if power == 0 { 0 } else { 1 + power }
+}
+
+// How many bytes of `text` the longest float in front takes, where an integer takes `whole`.
+fn float_len(text: &str, whole: usize) -> usize
+    requires { whole ≡ integer_len text.now }
+    ensures value { result ≡ float_len text.now }
+    ensures boundary { IsCharBoundary text.now result }
+{
+    if whole == 0 {
+        return 0;
+    }
+    let behind = &text.as_bytes()[whole..];
+    let fraction = fraction_len(behind);
+    whole + fraction + exponent_len(&behind[fraction..])
+}
+
+impl<'a> FloatText<'a> {
+    ghost use Rattle.std.specs.Prelude.{MatchOption, IfSome};
+    ghost use Rattle.influxdb_line_protocol.specs.Literals.{literal_of};
+    ghost use Rattle.influxdb_line_protocol.specs.Readings.{miss, reads};
+    ghost use Rattle.influxdb_line_protocol.specs.Values.{float, float_at};
+
+    /// A float of this text: `Some` exactly where the whole text is one.
+    pub fn new(text: &'a str) -> Option<Self>
+        ensures { MatchOption result (¬ IsFloat text.now) (λ f. IsFloat text.now × (literal_of f ≡ text.now)) }
+    {
+        let len = float_len(text, integer_len(text));
+        if len == 0 || len < text.len() {
+            return None;
+        }
+        Some(FloatText { text })
+    }
+
+    /// The text, as it was given.
+    pub fn as_str(&self) -> &'a str
+        ensures { result.now ≡ literal_of self.now }
+    {
+        self.text
+    }
+
+    // The longest float in front of `text`, and the rest, where an integer takes `whole` bytes.
+    pub(crate) fn front(text: &'a str, whole: usize) -> Option<(Self, &'a str)>
+        requires { whole ≡ integer_len text.now }
+        ensures value { MatchOption result (float_at text.now ≡ miss) (λ p. float_at text.now ≡ reads (float (literal_of p.0)) p.1.now) }
+        ensures less { IfSome result (λ p. length p.1.now < length text.now) }
+    {
+        let (text, rest) = text.split_at(float_len(text, whole));
+        if text.is_empty() {
+            return None;
+        }
+        Some((FloatText { text }, rest))
+    }
+}
+
+impl<'a> PartialEq for FloatText<'a> {
+    ghost use Rattle.std.specs.Prelude.{nat_eq};
+    ghost use Rattle.std.specs.Cmp.{on_per, partial_equiv_from_equiv};
+    ghost use Rattle.std.specs.Cmp.Lexicographic.{pointwise, nat_list_eq_equiv};
+    ghost use Rattle.influxdb_line_protocol.specs.Literals.{literal_of};
+
+    ghost eq = { λ x y. pointwise nat_eq (literal_of x) (literal_of y) };
+
+    ghost laws = { on_per literal_of (partial_equiv_from_equiv nat_list_eq_equiv) };
+
+    fn eq(&self, other: &Self) -> bool {
+        self.as_str() == other.as_str()
+    }
+}
+
+impl<'a> Eq for FloatText<'a> {
+    ghost use Rattle.std.specs.Cmp.{on_equiv};
+    ghost use Rattle.std.specs.Cmp.Lexicographic.{nat_list_eq_equiv};
+    ghost use Rattle.influxdb_line_protocol.specs.Literals.{literal_of};
+
+    ghost laws = { on_equiv literal_of nat_list_eq_equiv };
+}
+
+impl<'a> fmt::Display for FloatText<'a> {
+    ghost use Rattle.std.specs.Prelude.{Some};
+    ghost use Rattle.influxdb_line_protocol.specs.Literals.{literal_of};
+
+    ghost output = { λ f. Some (literal_of f) };
+
+    fn fmt<W: fmt::Write>(&self, f: &mut fmt::Formatter<W>) -> fmt::Result {
+        let text = self.as_str();
+        f.write_str(text)
+    }
+}

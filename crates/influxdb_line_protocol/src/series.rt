@@ -1,0 +1,387 @@
+//! Measurement and tags, and what is shown of values, series and lines.
+
+ghost use Rattle.std.specs.Prelude.{◌≡◌, ◌&&◌, ◌-◌, ◌^◌, ◌∷◌, [], ◌++◌, Some, IfOk, OnOk, length, map, min, true, string_bytes};
+ghost use Rattle.std.specs.Fmt.{DisplaysOnOk};
+ghost use Rattle.std.specs.List.{join_by, list_all};
+ghost use Rattle.std.specs.Option.{option_map};
+ghost use Rattle.influxdb_line_protocol.specs.Bases.{GivesBase, GivesMap, GivesOwn, base_by_key, base_of, base_text, based_tag, entry_bytes, in_order, is_part, is_single_tag, keys_of, rises};
+ghost use Rattle.influxdb_line_protocol.specs.Bytes.{comma, is_one_of};
+ghost use Rattle.influxdb_line_protocol.specs.Escapes.{escaped};
+ghost use Rattle.influxdb_line_protocol.specs.Lines.{some_tags};
+ghost use Rattle.influxdb_line_protocol.specs.Outcomes.{HasMemory};
+ghost use Rattle.influxdb_line_protocol.specs.Parsed.{field_of, tag_of, tags_of};
+ghost use Rattle.influxdb_line_protocol.specs.Shown.{comma_before, shown_escapes, shown_field, shown_tag, shown_timestamp};
+ghost use Rattle.influxdb_line_protocol.specs.Texts.{is_single_slice, read_of};
+
+use crate::{Error, EscapedStr, FieldValue, Measurement, ParsedLine, Result};
+use smallvec::SmallVec;
+use std::alloc::{AllocError, Global};
+use std::borrow::CowStr;
+use std::collections::BTreeMap;
+use std::fmt;
+
+/// The tags of a series, in the order of the line; repeated keys are kept. Up to 8 take no memory.
+pub type TagSet<'a> = SmallVec<(EscapedStr<'a>, EscapedStr<'a>), 8>;
+
+/// What tells one series of values from another: the measurement and the tags.
+#[derive(Debug, Drop)]
+pub struct Series<'a> {
+    /// The part of the input that was read as measurement and tags.
+    pub raw_input: &'a str,
+    /// The measurement.
+    pub measurement: Measurement<'a>,
+    /// The tags, or `None` where no comma stands behind the measurement.
+    pub tag_set: Option<TagSet<'a>>,
+}
+
+impl<'a> Series<'a> {
+    /// The text that tells this series from others: its measurement, and its tags in the order of
+    /// their keys, by bytes.
+    ///
+    /// Where each key is greater than the one before it and no name is a copy, it is `raw_input`,
+    /// borrowed; that takes no memory and is never refused. Else it is a text of its own, unescaped.
+    /// It is made of the fields as they stand: after a change of `measurement` or `tag_set`,
+    /// `raw_input` is still that of the line.
+    ///
+    /// # Errors
+    ///
+    /// `DuplicateTag` where the keys do not rise so and one is repeated: with the first key, in the
+    /// order of the tags, that stands at an earlier place too. `OutOfMemory` where a request for
+    /// memory was refused. The series is dropped in both cases.
+    pub fn generate_base(self, alloc: Global) -> Result<CowStr<'a>>
+        ensures value { GivesBase result (base_of self.entry.raw_input.now (read_of self.entry.measurement)
+            (some_tags (option_map tags_of self.entry.tag_set))) }
+        ensures memory { is_part (base_of self.entry.raw_input.now (read_of self.entry.measurement)
+            (some_tags (option_map tags_of self.entry.tag_set))) ≡ true → HasMemory result }
+    {
+        base(
+            alloc,
+            self.raw_input,
+            &self.measurement,
+            tags_in(&self.tag_set),
+        )
+    }
+}
+
+// The base of a series with this raw text, measurement and tags.
+fn base<'a>(
+    alloc: Global,
+    raw_input: &'a str,
+    measurement: &EscapedStr<'a>,
+    tags: &[(EscapedStr<'a>, EscapedStr<'a>)],
+) -> Result<CowStr<'a>>
+    ensures value { GivesBase result (base_of raw_input.now (read_of measurement.now) (map tag_of tags.now)) }
+    ensures memory { is_part (base_of raw_input.now (read_of measurement.now) (map tag_of tags.now)) ≡ true → HasMemory result }
+{
+    if !keys_rise(tags) {
+        let base = base_by_key(alloc, measurement.as_str(), tags)?;
+        return Ok(CowStr::Owned(base));
+    }
+    if is_all_single(measurement, tags) {
+        return Ok(CowStr::Borrowed(raw_input));
+    }
+    let base = base_in_order(alloc, measurement.as_str(), tags)?;
+    Ok(CowStr::Owned(base))
+}
+
+// The tags of a set that may be missing.
+fn tags_in<'t, 'a>(tag_set: &'t Option<TagSet<'a>>) -> &'t [(EscapedStr<'a>, EscapedStr<'a>)]
+    ensures { map tag_of result.now ≡ some_tags (option_map tags_of tag_set.now) }
+{
+    match tag_set {
+        Some(tags) => tags.as_slice(),
+        None => &[],
+    }
+}
+
+// Whether each key is greater than the one before it.
+fn keys_rise<'a>(tags: &[(EscapedStr<'a>, EscapedStr<'a>)]) -> bool
+    ensures { result ≡ rises (keys_of (map tag_of tags.now)) }
+{
+    for at in 1..tags.len() {
+        if tags[at - 1].0 >= tags[at].0 {
+            return false;
+        }
+    }
+    true
+}
+
+// Whether the text is a part of the input.
+fn is_single<'a>(text: &EscapedStr<'a>) -> bool
+    ensures { result ≡ is_single_slice text.now }
+{
+    matches!(text, EscapedStr::SingleSlice(_))
+}
+
+// Whether all keys and values are parts of the input.
+fn are_single<'a>(tags: &[(EscapedStr<'a>, EscapedStr<'a>)]) -> bool
+    ensures { result ≡ list_all (λ t. is_single_tag (tag_of t)) tags.now }
+{
+    tags.iter()
+        .all(|(key, value)| is_single(key) && is_single(value))
+}
+
+// Whether the measurement and all keys and values are parts of the input.
+#[tactic(auto, using(crate::proofs::BaseLemmas::all_single))]
+fn is_all_single<'a>(
+    measurement: &EscapedStr<'a>,
+    tags: &[(EscapedStr<'a>, EscapedStr<'a>)],
+) -> bool
+    ensures { result ≡ (is_single_slice measurement.now && list_all is_single_tag (map tag_of tags.now)) }
+{
+    is_single(measurement) && are_single(tags)
+}
+
+// Appends a tag, unescaped.
+fn push_tag(base: &mut String, key: &str, value: &str) -> std::result::Result<(), AllocError>
+    ensures { OnOk result (string_bytes base.new ≡ string_bytes base.old ++ based_tag (key.now, value.now)) }
+{
+    base.push_str(",")?;
+    base.push_str(key)?;
+    base.push_str("=")?;
+    base.push_str(value)
+}
+
+// The length of a base, and the greatest number where no `usize` holds it.
+fn base_len<'a>(measurement: &str, tags: &[(EscapedStr<'a>, EscapedStr<'a>)]) -> usize
+    ensures { result ≡ min (length (base_text measurement.now (in_order (map tag_of tags.now)))) (2 ^ 64 - 1) }
+{
+    let mut len = measurement.len();
+    for (key, value) in tags {
+        len = len.saturating_add(2);
+        len = len.saturating_add(key.as_str().len());
+        len = len.saturating_add(value.as_str().len());
+    }
+    len
+}
+
+// The base with the tags in their own order.
+fn base_in_order<'a>(
+    alloc: Global,
+    measurement: &str,
+    tags: &[(EscapedStr<'a>, EscapedStr<'a>)],
+) -> std::result::Result<String, AllocError>
+    ensures { IfOk result (λ base. string_bytes base ≡ base_text measurement.now (in_order (map tag_of tags.now))) }
+{
+    let mut base = String::with_capacity(alloc, base_len(measurement, tags))?;
+    base.push_str(measurement)?;
+    for (key, value) in tags {
+        push_tag(&mut base, key.as_str(), value.as_str())?;
+    }
+    Ok(base)
+}
+
+// The tags as a map, or the first repeated key.
+fn tag_map<'t, 'a>(
+    alloc: Global,
+    tags: &'t [(EscapedStr<'a>, EscapedStr<'a>)],
+) -> Result<BTreeMap<&'t str, &'t str>>
+    ensures { GivesMap result (map tag_of tags.now) }
+{
+    let mut map = BTreeMap::new(alloc);
+    for (key, value) in tags {
+        let name = key.as_str();
+        if map.contains_key(name) {
+            let tag_key = String::from_str(alloc, name)?;
+            return Err(Error::DuplicateTag { tag_key });
+        }
+        map.insert(name, value.as_str())?;
+    }
+    Ok(map)
+}
+
+// The measurement and the tags of a map, unescaped; `len` is how long that is.
+fn base_of_map(
+    alloc: Global,
+    len: usize,
+    measurement: &str,
+    tags: &BTreeMap<&str, &str>,
+) -> std::result::Result<String, AllocError>
+    ensures { IfOk result (λ base. string_bytes base ≡ base_text measurement.now (map entry_bytes tags.now.entries)) }
+{
+    let mut base = String::with_capacity(alloc, len)?;
+    base.push_str(measurement)?;
+    for (key, value) in tags {
+        push_tag(&mut base, *key, *value)?;
+    }
+    Ok(base)
+}
+
+// The base with the tags in the order of their keys.
+#[tactic(auto, unfolding(crate::specs::Bases::base_by_key))]
+fn base_by_key<'a>(
+    alloc: Global,
+    measurement: &str,
+    tags: &[(EscapedStr<'a>, EscapedStr<'a>)],
+) -> Result<String>
+    ensures { GivesOwn result (base_by_key measurement.now (map tag_of tags.now)) }
+{
+    let map = tag_map(alloc, tags)?;
+    let len = base_len(measurement, tags);
+    Ok(base_of_map(alloc, len, measurement, &map)?)
+}
+
+// What a text is shown as: this says which bytes get a backslash.
+#[derive(Clone, Copy)]
+pub(crate) enum Shown {
+    ShownMeasurement,
+    ShownKey,
+    ShownString,
+}
+
+impl Shown {
+    // Whether the byte gets a backslash.
+    fn escapes(self, byte: u8) -> bool
+        ensures { result ≡ is_one_of (shown_escapes self) byte }
+    {
+        match self {
+            Shown::ShownMeasurement => matches!(byte, b',' | b' '),
+            Shown::ShownKey => matches!(byte, b',' | b'=' | b' '),
+            Shown::ShownString => byte == b'"',
+        }
+    }
+}
+
+// Writes `text` with its backslashes. What stands between two of them is written as one run.
+fn show_escaped<W: fmt::Write>(shown: Shown, text: &str, f: &mut fmt::Formatter<W>) -> fmt::Result
+    ensures { DisplaysOnOk W.write_str_gives f.old result (Some (escaped (shown_escapes shown) text.now)) f.new }
+{
+    let bytes = text.as_bytes();
+    let mut start = 0;
+    for at in 0..bytes.len() {
+        if shown.escapes(bytes[at]) {
+            f.write_str(&text[start..at])?;
+            f.write_str("\\")?;
+            start = at;
+        }
+    }
+    f.write_str(&text[start..])
+}
+
+// Writes what divides the item at this place from the one before it.
+fn show_comma<W: fmt::Write>(place: usize, f: &mut fmt::Formatter<W>) -> fmt::Result
+    ensures { DisplaysOnOk W.write_str_gives f.old result (Some (comma_before place)) f.new }
+{
+    f.write_str(if place == 0 { "" } else { "," })
+}
+
+// Writes a tag.
+fn show_tag<'a, W: fmt::Write>(
+    key: &EscapedStr<'a>,
+    value: &EscapedStr<'a>,
+    f: &mut fmt::Formatter<W>,
+) -> fmt::Result
+    ensures { DisplaysOnOk W.write_str_gives f.old result (Some (shown_tag (tag_of (key.now, value.now)))) f.new }
+{
+    show_escaped(Shown::ShownKey, key.as_str(), f)?;
+    f.write_str("=")?;
+    show_escaped(Shown::ShownKey, value.as_str(), f)
+}
+
+// Writes a field.
+fn show_field<'a, W: fmt::Write>(
+    key: &EscapedStr<'a>,
+    value: &FieldValue<'a>,
+    f: &mut fmt::Formatter<W>,
+) -> fmt::Result
+    ensures { DisplaysOnOk W.write_str_gives f.old result (Some (shown_field (field_of (key.now, value.now)))) f.new }
+{
+    show_escaped(Shown::ShownKey, key.as_str(), f)?;
+    f.write_str("=")?;
+    fmt::Display::fmt(value, f)
+}
+
+// Writes the tags, with a comma between each two.
+fn show_tags<'a, W: fmt::Write>(
+    tags: &[(EscapedStr<'a>, EscapedStr<'a>)],
+    f: &mut fmt::Formatter<W>,
+) -> fmt::Result
+    ensures { DisplaysOnOk W.write_str_gives f.old result (Some (join_by shown_tag (comma ∷ []) (map tag_of tags.now))) f.new }
+{
+    for (place, (key, value)) in tags.iter().enumerate() {
+        show_comma(place, f)?;
+        show_tag(key, value, f)?;
+    }
+    Ok(())
+}
+
+// Writes the fields, with a comma between each two.
+fn show_fields<'a, W: fmt::Write>(
+    fields: &[(EscapedStr<'a>, FieldValue<'a>)],
+    f: &mut fmt::Formatter<W>,
+) -> fmt::Result
+    ensures { DisplaysOnOk W.write_str_gives f.old result (Some (join_by shown_field (comma ∷ []) (map field_of fields.now))) f.new }
+{
+    for (place, (key, value)) in fields.iter().enumerate() {
+        show_comma(place, f)?;
+        show_field(key, value, f)?;
+    }
+    Ok(())
+}
+
+impl<'a> fmt::Display for FieldValue<'a> {
+    ghost use Rattle.std.specs.Prelude.{Some};
+    ghost use Rattle.influxdb_line_protocol.specs.Parsed.{value_of};
+    ghost use Rattle.influxdb_line_protocol.specs.Shown.{shown_value};
+
+    ghost output = { λ v. Some (shown_value (value_of v)) };
+
+    fn fmt<W: fmt::Write>(&self, f: &mut fmt::Formatter<W>) -> fmt::Result {
+        match self {
+            FieldValue::I64(number) => write!(f, "{number}i"),
+            FieldValue::U64(number) => write!(f, "{number}u"),
+            FieldValue::F64(literal) => f.write_str(literal.as_str()),
+            FieldValue::String(text) => show_escaped(Shown::ShownString, text.as_str(), f),
+            FieldValue::Boolean(value) => write!(f, "{value}"),
+        }
+    }
+}
+
+impl<'a> fmt::Display for Series<'a> {
+    ghost use Rattle.std.specs.Prelude.{Some};
+    ghost use Rattle.std.specs.Option.{option_map};
+    ghost use Rattle.influxdb_line_protocol.specs.Parsed.{tags_of};
+    ghost use Rattle.influxdb_line_protocol.specs.Texts.{read_of};
+    ghost use Rattle.influxdb_line_protocol.specs.Shown.{shown_series};
+
+    ghost output = { λ s. Some (shown_series (read_of s.measurement) (option_map tags_of s.tag_set)) };
+
+    fn fmt<W: fmt::Write>(&self, f: &mut fmt::Formatter<W>) -> fmt::Result {
+        show_escaped(Shown::ShownMeasurement, self.measurement.as_str(), f)?;
+        match &self.tag_set {
+            None => Ok(()),
+            Some(tags) => {
+                f.write_str(",")?;
+                show_tags(tags.as_slice(), f)
+            }
+        }
+    }
+}
+
+// Writes a space and the timestamp, where there is one.
+fn show_timestamp<W: fmt::Write>(timestamp: Option<i64>, f: &mut fmt::Formatter<W>) -> fmt::Result
+    ensures { DisplaysOnOk W.write_str_gives f.old result (Some (shown_timestamp timestamp)) f.new }
+{
+    match timestamp {
+        None => Ok(()),
+        Some(number) => write!(f, " {number}"),
+    }
+}
+
+impl<'a> fmt::Display for ParsedLine<'a> {
+    ghost use Rattle.std.specs.Prelude.{Some};
+    ghost use Rattle.influxdb_line_protocol.specs.Parsed.{line_read};
+    ghost use Rattle.influxdb_line_protocol.specs.Shown.{shown_line};
+
+    ghost output = { λ l. Some (shown_line (line_read l)) };
+
+    fn fmt<W: fmt::Write>(&self, f: &mut fmt::Formatter<W>) -> fmt::Result {
+        fmt::Display::fmt(&self.series, f)?;
+        let fields = self.field_set.as_slice();
+        if !fields.is_empty() {
+            f.write_str(" ")?;
+            show_fields(fields, f)?;
+        }
+        show_timestamp(self.timestamp, f)
+    }
+}

@@ -1,0 +1,93 @@
+-- What is carried: lines with a field, and points that are admitted, so that the batch reads back.
+use Rattle.std.proofs.Common.{◌≡◌, ℕ, ◌==◌, ◌<◌, List, [], ◌∷◌, ◌++◌, length, map, Option, Some, None, Result, Ok, Err, refl, sym, ap, subst, ◌∙◌, arith, inl, inr}
+use Rattle.std.specs.Prelude.{IfOk}
+use Rattle.std.specs.List.{flat_map, AllByRecursion}
+use Rattle.std.proofs.lemmas.Bool.{cases_Bool}
+use Rattle.influxdb_line_protocol.specs.declared.split.Dialect.{Dialect}
+use Rattle.influxdb_line_protocol.specs.declared.split.Dialect.TheVariants.{Crate}
+use Rattle.influxdb_line_protocol.specs.declared.error.Error.{Error}
+use Rattle.influxdb_line_protocol.specs.declared.escaped.EscapedStr.{EscapedStr}
+use Rattle.influxdb_line_protocol.specs.declared.values.FieldValue.{FieldValue}
+use Rattle.influxdb_line_protocol.specs.declared.line.ParsedLine.{ParsedLine}
+use Rattle.influxdb_line_protocol.specs.Readings.{Fault}
+use Rattle.influxdb_line_protocol.specs.Points.{is_admitted_point, built_all}
+use Rattle.influxdb_line_protocol.specs.Lines.{Line, point_of, answer, logical_field}
+use Rattle.influxdb_line_protocol.specs.Parsed.{field_of, line_read}
+use Rattle.influxdb_line_protocol.specs.Trimming.{trimmed}
+use Rattle.influxdb_line_protocol.specs.Pieces.{Left, PiecesLeft}
+use Rattle.influxdb_line_protocol.specs.ParseSteps.{GaveItem}
+use Rattle.influxdb_line_protocol.specs.Items.{HasAnswers, answers_of, answers_of_piece}
+use Rattle.influxdb_line_protocol.specs.Laws.{IsAdmittedPoint, AdmittedBatchesReadBack, PiecesExist, PiecesAreUnique}
+use Rattle.influxdb_line_protocol.specs.PointsOfLines.{LinesArePoints}
+use Rattle.lp_rebuild.specs.declared.batch.Rebuilt.{Rebuilt}
+use Rattle.lp_rebuild.specs.Rebuilding.{Rebuilds, ReadsBack, carried_point, batch_of}
+
+-- a line has as many fields as its point
+some_fields : (fs : List (EscapedStr × FieldValue)) → 0 < length (map logical_field (map field_of fs)) → 0 < length fs
+some_fields [] h = h
+some_fields (f ∷ fs) h = omega arith
+
+-- what is left has pieces
+left_pieces : PiecesExist → (dialect : Dialect) (text : Option (List ℕ)) → (pieces : List (List ℕ)) × PiecesLeft (record { dialect = dialect; text = text }) pieces
+left_pieces exist dialect None = ([], refl)
+left_pieces exist dialect (Some text) = exist dialect text
+
+-- a line that is given has a field
+pub item_has_field : LinesArePoints → PiecesExist → (before : Left) (dialect : Dialect) (text : Option (List ℕ)) (item : Result ParsedLine Error)
+    → ((others : List (List ℕ)) → PiecesLeft (record { dialect = dialect; text = text }) others → GaveItem before item others) → IfOk item (λ line. 0 < length line.field_set.items)
+item_has_field are exist before dialect text (Err e) gives = tt
+item_has_field are exist before dialect text (Ok line) gives =
+    let left = left_pieces exist dialect text in
+    let gave = gives left.0 left.1 in
+    some_fields line.field_set.items (are before.dialect (trimmed gave.piece) (line_read line) gave.item_is.answers).some_field
+
+-- what holds of all of two lists holds of all of both
+all_joined : {X : Type 0} (P : X → Type 0) (xs ys : List X) → AllByRecursion P xs → AllByRecursion P ys → AllByRecursion P (xs ++ ys)
+all_joined P [] ys first second = second
+all_joined P (x ∷ xs) ys first second = (first.0, all_joined P xs ys first.1 second)
+
+-- the point of an answer that is carried is admitted
+answer_admitted : LinesArePoints → (dialect : Dialect) (text : List ℕ) (a : Result Line Fault) → answer dialect text ≡ a → AllByRecursion IsAdmittedPoint (carried_point a)
+answer_admitted are dialect text (Err e) h = tt
+answer_admitted are dialect text (Ok line) h =
+    elim (cases_Bool (is_admitted_point (point_of line))) [
+      | inl good ↦
+          let point : IsAdmittedPoint (point_of line) = record { is_point = are dialect text line h; names_are = good } in
+          rw good (point, tt)
+      | inr bad ↦ rw bad tt
+    ]
+
+-- so are all points that are carried
+points_admitted : LinesArePoints → (dialect : Dialect) (pieces : List (List ℕ)) → AllByRecursion IsAdmittedPoint (flat_map carried_point (answers_of dialect pieces))
+unfolding answers_of_piece
+points_admitted are dialect [] = tt
+points_admitted are dialect (piece ∷ pieces) =
+    let others = points_admitted are dialect pieces in
+    let a = answer dialect (trimmed piece) in
+    elim (cases_Bool (length (trimmed piece) == 0)) [
+      | inl none ↦ rw none others
+      | inr some ↦
+          rw some
+          (all_joined IsAdmittedPoint (carried_point a) (flat_map carried_point (answers_of dialect pieces))
+          (answer_admitted are dialect (trimmed piece) a refl) others)
+    ]
+
+-- a text has no other answers
+answers_are : PiecesAreUnique → (dialect : Dialect) (text : List ℕ) (answers others : List (Result Line Fault))
+    → HasAnswers dialect text answers → HasAnswers dialect text others → answers ≡ others
+answers_are unique dialect text answers others first second =
+    first.answered ∙ ap (answers_of dialect) (unique dialect text first.pieces second.pieces first.are second.are) ∙ sym second.answered
+
+-- the batch of a rebuild reads back
+pub batch_reads_back : AdmittedBatchesReadBack → LinesArePoints → PiecesAreUnique → (text : List ℕ) (r : Rebuilt) → Rebuilds text r → ReadsBack text r
+batch_reads_back law are unique text r h items has dialect t answers behind =
+    let points = flat_map carried_point items in
+    let admitted : AllByRecursion IsAdmittedPoint points =
+    subst (λ (l : List (Result Line Fault)). AllByRecursion IsAdmittedPoint (flat_map carried_point l)) (sym has.answered) (points_admitted are Crate has.pieces) in
+    let batch : r.batch.items ≡ built_all points = h.batch ∙ ap batch_of (answers_are unique Crate text h.answers items h.has has) in
+    let read = law dialect points t answers admitted behind in (
+      read.0,
+      read.1,
+      ap built_all read.1 ∙ sym batch,
+      subst (λ (l : List ℕ). HasAnswers dialect (l ++ t) (map Ok read.0 ++ answers)) (sym batch) read.2,
+    )

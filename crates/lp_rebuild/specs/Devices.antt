@@ -1,0 +1,20 @@
+-- What calls of readers and writers do.
+use Rattle.std.specs.Prelude.{◌≡◌, ℕ, ◌+◌, List, Result, MatchResult}
+use Rattle.std.specs.Vec.{vec_capacity}
+use Rattle.lp_rebuild.specs.declared.devices.Kept.{Kept}
+
+-- a failed call adds one to the count of failures, and no other does
+abbrev pub CountsFailure : {T E : Type 0} → Result T E → ℕ → ℕ → Type 0
+CountsFailure result old new = MatchResult result (λ _. new ≡ old) (λ _. new ≡ old + 1)
+
+-- the bytes that a sink in memory holds
+abbrev pub kept_bytes : Kept → List ℕ
+kept_bytes k = k.bytes.items
+
+-- how many bytes a sink in memory can hold before it grows
+abbrev pub kept_capacity : Kept → ℕ
+kept_capacity k = vec_capacity k.bytes
+
+-- the failures of a sink in memory so far
+abbrev pub kept_failures : Kept → ℕ
+kept_failures k = k.failures.count

@@ -1,0 +1,4 @@
+pub mod Devices
+pub mod Rebuilding
+pub mod RebuildSteps
+pub mod Running

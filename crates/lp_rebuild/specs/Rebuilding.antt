@@ -1,0 +1,74 @@
+-- What a text gives when it is rebuilt: the lines that are carried, written again, and a fault line for each other one.
+use Rattle.std.specs.Prelude.{◌≡◌, ℕ, ◌+◌, Bool, false, not, List, [], ◌∷◌, ◌++◌, codes, map, Result, Ok, Err, decimal, if◌then◌else◌}
+use Rattle.std.specs.List.{flat_map, count_by}
+use Rattle.influxdb_line_protocol.specs.declared.split.Dialect.{Dialect}
+use Rattle.influxdb_line_protocol.specs.declared.split.Dialect.TheVariants.{Crate}
+use Rattle.influxdb_line_protocol.specs.Bytes.{newline}
+use Rattle.influxdb_line_protocol.specs.Readings.{Fault}
+use Rattle.influxdb_line_protocol.specs.Points.{Point, is_admitted_point, built_all}
+use Rattle.influxdb_line_protocol.specs.Lines.{Line, point_of}
+use Rattle.influxdb_line_protocol.specs.Items.{HasAnswers}
+use Rattle.influxdb_line_protocol.specs.Faults.{fault_text}
+use Rattle.lp_rebuild.specs.declared.batch.Rebuilt.{Rebuilt}
+
+-- whether the line of a point is written again: all its names are admitted
+abbrev pub is_carried : Point → Bool
+is_carried p = is_admitted_point p
+
+-- whether an answer is carried
+abbrev pub is_carried_answer : Result Line Fault → Bool
+is_carried_answer (Ok line) = is_carried (point_of line)
+is_carried_answer (Err fault) = false
+
+-- the point of an answer that is carried
+abbrev pub carried_point : Result Line Fault → List Point
+carried_point (Ok line) = if is_carried (point_of line) then point_of line ∷ [] else []
+carried_point (Err fault) = []
+
+-- the lines of the answers that are carried, written again
+abbrev pub batch_of : List (Result Line Fault) → List ℕ
+batch_of answers = built_all (flat_map carried_point answers)
+
+-- what is wrong with an answer that is not carried
+abbrev pub refusal_text : Result Line Fault → List ℕ
+refusal_text (Ok line) = codes "a name cannot be written again"
+refusal_text (Err fault) = fault_text fault
+
+-- a line with the number of an item and what is wrong with it
+abbrev pub fault_line : ℕ → List ℕ → List ℕ
+fault_line number text = codes "item " ++ decimal number ++ codes ": " ++ text ++ newline ∷ []
+
+-- the fault line of an answer that is not carried
+abbrev pub fault_of : ℕ → Result Line Fault → List ℕ
+fault_of number answer = if is_carried_answer answer then [] else fault_line number (refusal_text answer)
+
+-- the fault lines of the answers that are not carried, where the first answer has this number
+abbrev pub faults_from : ℕ → List (Result Line Fault) → List ℕ
+faults_from number [] = []
+faults_from number (answer ∷ answers) = fault_of number answer ++ faults_from (number + 1) answers
+
+-- how many answers are carried
+abbrev pub carried_of : List (Result Line Fault) → ℕ
+carried_of answers = count_by is_carried_answer answers
+
+-- how many answers are not carried
+abbrev pub refused_of : List (Result Line Fault) → ℕ
+refused_of answers = count_by (λ answer. not (is_carried_answer answer)) answers
+
+-- a text is rebuilt: the answers for it, in order and numbered from 1, each written again or refused
+pub record Rebuilds (text : List ℕ) (r : Rebuilt) : Type 0 where
+  pub answers : List (Result Line Fault)
+  pub has : HasAnswers Crate text answers
+  pub batch : r.batch.items ≡ batch_of answers
+  pub faults : r.faults.items ≡ faults_from 1 answers
+  pub carried : r.carried ≡ carried_of answers
+  pub refused : r.refused ≡ refused_of answers
+
+-- the batch of a text reads back, with any text behind it: the answers are first those with the points that were
+-- carried, of which the batch is built, and then those of that text alone; so it is in both dialects
+abbrev pub ReadsBack : List ℕ → Rebuilt → Type 0
+ReadsBack text r =
+    (items : List (Result Line Fault)) → HasAnswers Crate text items
+    → (dialect : Dialect) (t : List ℕ) (answers : List (Result Line Fault)) → HasAnswers dialect t answers
+    → (lines : List Line) × (map point_of lines ≡ flat_map carried_point items) × (built_all (map point_of lines) ≡ r.batch.items)
+    × HasAnswers dialect (r.batch.items ++ t) (map Ok lines ++ answers)

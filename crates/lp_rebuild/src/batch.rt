@@ -1,0 +1,148 @@
+//! The lines of a text, written again.
+ghost use Rattle.std.specs.Prelude.{◌≡◌, ◌+◌, ◌<◌, ◌++◌, length, IfOk, IfSome, OnOk, Result, Ok, Err};
+ghost use Rattle.influxdb_line_protocol.specs.Readings.{Fault};
+ghost use Rattle.influxdb_line_protocol.specs.Points.{built};
+ghost use Rattle.influxdb_line_protocol.specs.Lines.{Line};
+ghost use Rattle.influxdb_line_protocol.specs.Parsed.{line_read, parsed_point, Answers};
+ghost use Rattle.lp_rebuild.specs.Rebuilding.{Rebuilds, ReadsBack};
+ghost use Rattle.lp_rebuild.specs.RebuildSteps.{Refuses, Takes};
+
+use influxdb_line_protocol::{
+    Error, LineProtocolBuilder, ParsedLine, is_admitted, laws, parse_lines, write_line,
+};
+use std::alloc::{AllocError, Global};
+use std::fmt::Display;
+use std::mem;
+
+/// What a text gives when it is rebuilt: its items, numbered from 1, each written again or refused.
+#[derive(Drop)]
+pub struct Rebuilt {
+    /// The lines that were written again, each with its newline.
+    pub batch: Vec<u8>,
+    /// A line for each other item: its number, and what is wrong with it.
+    pub faults: Vec<u8>,
+    /// How many items `batch` holds.
+    pub carried: usize,
+    /// How many items `faults` holds.
+    pub refused: usize,
+}
+
+// What was rebuilt so far.
+#[derive(Drop)]
+struct Progress {
+    batch: Vec<u8>,
+    faults: String,
+    carried: usize,
+    refused: usize,
+}
+
+// What is wrong with a line that has a name that is not admitted.
+const NOT_ADMITTED: &str = "a name cannot be written again";
+
+// Writes the line again, behind `batch`.
+fn carry(batch: Vec<u8>, line: &ParsedLine<'_>) -> Result<Vec<u8>, AllocError>
+    requires { 0 < length line.now.field_set.items }
+    ensures { IfOk result (λ longer. longer.items ≡ batch.items ++ built (parsed_point line.now)) }
+{
+    match write_line(LineProtocolBuilder::new_with(batch), line) {
+        Ok(builder) => Ok(builder.build()),
+        Err(_) => Err(AllocError),
+    }
+}
+
+// Writes a fault line for the next item.
+fn refuse<D: Display + Drop>(so_far: &mut Progress, text: D) -> Result<(), AllocError>
+    requires { so_far.old.carried + so_far.old.refused < usize.MAX }
+    ensures { OnOk result (IfSome (D.output text) (λ bs. Refuses so_far.old bs so_far.new)) }
+{
+    let number = so_far.carried + so_far.refused + 1;
+    writeln!(so_far.faults, "item {number}: {text}")?;
+    so_far.refused += 1;
+    Ok(())
+}
+
+// Takes the next item, a line: it is written again, or refused.
+fn take_line(alloc: Global, so_far: &mut Progress, line: &ParsedLine<'_>) -> Result<(), AllocError>
+    requires room { so_far.old.carried + so_far.old.refused < usize.MAX }
+    requires some_field { 0 < length line.now.field_set.items }
+    ensures taken { OnOk result (Takes so_far.old (Ok (line_read line.now)) so_far.new) }
+    ensures counted { OnOk result
+        (so_far.new.carried + so_far.new.refused ≡ so_far.old.carried + so_far.old.refused + 1) }
+{
+    if !is_admitted(line) {
+        return refuse(so_far, NOT_ADMITTED);
+    }
+    let batch = mem::replace(&mut so_far.batch, Vec::new(alloc));
+    so_far.batch = carry(batch, line)?;
+    so_far.carried += 1;
+    Ok(())
+}
+
+// Takes the next item, an error: its fault is refused. Want of memory ends the rebuild.
+fn take_fault(so_far: &mut Progress, error: Error) -> Result<(), AllocError>
+    requires { so_far.old.carried + so_far.old.refused < usize.MAX }
+    ensures taken { OnOk result
+        ((answer : Result Line Fault) → Answers (Err error) answer → Takes so_far.old answer so_far.new) }
+    ensures counted { OnOk result
+        (so_far.new.carried + so_far.new.refused ≡ so_far.old.carried + so_far.old.refused + 1) }
+{
+    match error {
+        Error::OutOfMemory => Err(AllocError),
+        fault => refuse(so_far, fault),
+    }
+}
+
+// Takes the next item of a text.
+fn take(
+    alloc: Global,
+    so_far: &mut Progress,
+    item: influxdb_line_protocol::Result<ParsedLine<'_>>,
+) -> Result<(), AllocError>
+    requires room { so_far.old.carried + so_far.old.refused < usize.MAX }
+    requires some_field { IfOk item (λ line. 0 < length line.field_set.items) }
+    ensures taken { OnOk result
+        ((answer : Result Line Fault) → Answers item.entry answer → Takes so_far.old answer so_far.new) }
+    ensures counted { OnOk result
+        (so_far.new.carried + so_far.new.refused ≡ so_far.old.carried + so_far.old.refused + 1) }
+{
+    match item {
+        Ok(line) => take_line(alloc, so_far, &line),
+        Err(error) => take_fault(so_far, error),
+    }
+}
+
+/// Writes again each line of a text whose names are all admitted, and refuses every other item.
+///
+/// [`is_admitted`] says which lines these are. For every other item `faults` gains `item N: TEXT` and
+/// a newline, where TEXT is the error, or `a name cannot be written again`. With any text behind it,
+/// `batch` reads back as the lines that were written, and then as that text alone.
+///
+/// The text is read once. A carried line takes no memory but for the growth of `batch`.
+///
+/// # Errors
+///
+/// Where a request for memory is refused, also one of the parser for a line; what was rebuilt so far
+/// is dropped.
+pub fn rebuild(alloc: Global, input: &str) -> Result<Rebuilt, AllocError>
+    ensures rebuilds { IfOk result (λ r. Rebuilds input.now r) }
+    ensures reads_back { IfOk result (λ r. ReadsBack input.now r) }
+{
+    laws::batch_reads_back();
+    laws::lines_are_points();
+    laws::pieces_join();
+    let mut so_far = Progress {
+        batch: Vec::new(alloc),
+        faults: String::new(alloc),
+        carried: 0,
+        refused: 0,
+    };
+    for item in parse_lines(alloc, input) {
+        take(alloc, &mut so_far, item)?;
+    }
+    Ok(Rebuilt {
+        batch: so_far.batch,
+        faults: so_far.faults.into_bytes(),
+        carried: so_far.carried,
+        refused: so_far.refused,
+    })
+}

@@ -1,0 +1,15 @@
+//! Rebuilds the lines of a text: those that can be written again go to one output, and every other
+//! one is a fault, numbered, in another.
+//!
+//! [`rebuild`] does it for a text, and [`run`] from a reader to two writers.
+#![tactic(auto)]
+
+mod batch;
+mod devices;
+mod failures;
+mod program;
+
+pub use batch::{Rebuilt, rebuild};
+pub use devices::{DeviceFault, Kept, Reading, Sink, Source, Writing};
+pub use failures::Failures;
+pub use program::{RunFault, run, status};

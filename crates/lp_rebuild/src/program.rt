@@ -1,0 +1,254 @@
+//! From a reader to two writers.
+ghost use Rattle.std.specs.Prelude.{◌≡◌, ◌≢◌, ◌⊎◌, Ok, Err, ℕ, ◌+◌, ◌<◌, ◌≤◌, ◌↔◌, [], take, drop, length, vec_len, IfOk, IfErr, IsOk, IfSome, OnOk, OnErr, Some};
+ghost use Rattle.std.specs.Io.KnownBytes.{Keeps, Appends, Consumes, IsAtEnd};
+ghost use Rattle.lp_rebuild.specs.declared.batch.Rebuilt.{Rebuilt};
+ghost use Rattle.lp_rebuild.specs.Devices.{CountsFailure};
+ghost use Rattle.lp_rebuild.specs.Rebuilding.{Rebuilds};
+ghost use Rattle.lp_rebuild.specs.Running.{AppendsFront, CountsReadFault, status_of, OnceRead, TestsUtf8, WritesFronts};
+
+use crate::{DeviceFault, Rebuilt, Sink, Source, rebuild};
+use std::alloc::{AllocError, Global};
+use std::fmt;
+
+/// Why a run came to no good end.
+#[derive(Clone, Copy, Debug, PartialEq, Eq)]
+pub enum RunFault {
+    /// The reader failed.
+    Read,
+    /// The input is not UTF-8.
+    NotUtf8,
+    /// A request for memory was refused.
+    OutOfMemory,
+    /// A writer failed.
+    Write,
+}
+
+impl fmt::Display for RunFault {
+    ghost use Rattle.std.specs.Prelude.{Some};
+    ghost use Rattle.lp_rebuild.specs.Running.{run_fault_text};
+
+    ghost output = { λ f. Some (run_fault_text f) };
+
+    fn fmt<W: fmt::Write>(&self, f: &mut fmt::Formatter<W>) -> fmt::Result {
+        match self {
+            RunFault::Read => f.write_str("cannot read the input"),
+            RunFault::NotUtf8 => f.write_str("the input is not UTF-8"),
+            RunFault::OutOfMemory => f.write_str("out of memory"),
+            RunFault::Write => f.write_str("cannot write the output"),
+        }
+    }
+}
+
+// The room that each read is given.
+const BLOCK: usize = 65_536;
+
+// Makes room for a block behind the first `filled` bytes of `input`, which stay as they are.
+fn make_room(input: &mut Vec<u8>, filled: usize) -> Result<(), AllocError>
+    requires { filled ≤ vec_len input.old }
+    ensures front { take filled input.new.items ≡ take filled input.old.items }
+    ensures within { filled ≤ vec_len input.new }
+    ensures room { OnOk result (filled + BLOCK ≤ vec_len input.new) }
+{
+    let end = filled + BLOCK;
+    if input.len() < end {
+        input.resize(end, 0)?;
+    }
+    Ok(())
+}
+
+// One read into `buf`, behind its first `at` bytes, which stay as they are.
+fn read_at<R: Source>(reader: &mut R, buf: &mut [u8], at: usize) -> Result<usize, DeviceFault>
+    requires { at < length buf.old }
+    ensures front { take at buf.new ≡ take at buf.old }
+    ensures fits { IfOk result (λ n. at + n ≤ length buf.new) }
+    ensures ok { IfOk result
+        (λ n. Consumes (R.bytes reader.old) (R.bytes reader.new) (take n (drop at buf.new))) }
+    ensures end { IfOk result (λ n. n ≡ 0 → IsAtEnd (R.bytes reader.new)) }
+    ensures counts { CountsFailure result (R.failures reader.old) (R.failures reader.new) }
+{
+    reader.read(&mut buf[at..])
+}
+
+// One read behind the first `filled` bytes of `input`, which stay as they are.
+fn read_block<R: Source>(
+    reader: &mut R,
+    input: &mut Vec<u8>,
+    filled: usize,
+) -> Result<usize, RunFault>
+    requires { filled ≤ vec_len input.old }
+    ensures front { take filled input.new.items ≡ take filled input.old.items }
+    ensures within { filled ≤ vec_len input.new }
+    ensures fits { IfOk result (λ n. filled + n ≤ vec_len input.new) }
+    ensures ok { IfOk result
+        (λ n. Consumes (R.bytes reader.old) (R.bytes reader.new) (take n (drop filled input.new.items))) }
+    ensures end { IfOk result (λ n. n ≡ 0 → IsAtEnd (R.bytes reader.new)) }
+    ensures counts { CountsReadFault result (R.failures reader.old) (R.failures reader.new) }
+{
+    if make_room(input, filled).is_err() {
+        return Err(RunFault::OutOfMemory);
+    }
+    match read_at(reader, input.as_mut_slice(), filled) {
+        Ok(n) => Ok(n),
+        Err(_) => Err(RunFault::Read),
+    }
+}
+
+// All that the reader has left.
+fn read_all<R: Source>(alloc: Global, reader: &mut R) -> Result<Vec<u8>, RunFault>
+    ensures ok { IfOk result (λ input. Consumes (R.bytes reader.old) (R.bytes reader.new) input.items) }
+    ensures end { OnOk result (IsAtEnd (R.bytes reader.new)) }
+    ensures counts { CountsReadFault result (R.failures reader.old) (R.failures reader.new) }
+{
+    let mut input = Vec::new(alloc);
+    let mut filled = 0;
+    for _ in 0..u64::MAX {
+        match read_block(reader, &mut input, filled) {
+            Ok(0) => {
+                input.truncate(filled);
+                return Ok(input);
+            }
+            Ok(n) => filled += n,
+            Err(fault) => return Err(fault),
+        }
+    }
+    Err(RunFault::OutOfMemory)
+}
+
+// Writes all of `bytes`, and flushes.
+fn write_all<W: Sink>(sink: &mut W, bytes: &[u8]) -> Result<(), DeviceFault>
+    ensures ok { OnOk result (Appends (W.bytes sink.old) (W.bytes sink.new) bytes.now) }
+    ensures part { OnErr result (AppendsFront (W.bytes sink.old) (W.bytes sink.new) bytes.now) }
+    ensures counts { CountsFailure result (W.failures sink.old) (W.failures sink.new) }
+{
+    let mut rest = bytes;
+    while !rest.is_empty() {
+        let n = sink.write(rest)?;
+        rest = &rest[n..];
+    }
+    sink.flush()
+}
+
+/// Reads all that `reader` gives, rebuilds it, and writes the batch to `out` and the faults to `err`.
+///
+/// It reads to the end before it writes, and what it holds of the input is one copy. A reader that
+/// never ends uses up the memory. `err` gets nothing before `out` has taken all of the batch.
+///
+/// # Errors
+///
+/// * `Read` where `reader` failed, and only there; nothing was written.
+/// * `NotUtf8` where the input is not UTF-8; nothing was written.
+/// * `OutOfMemory` where memory was refused; nothing was written.
+/// * `Write` where `out` or `err` failed, and only there; a part of the output may be written.
+pub fn run<R: Source, W: Sink, E: Sink>(
+    alloc: Global,
+    reader: &mut R,
+    out: &mut W,
+    err: &mut E,
+) -> Result<Rebuilt, RunFault>
+    ensures quiet { IfErr result (λ f. f ≢ RunFault.Write
+        → Keeps (W.bytes out.old) (W.bytes out.new) × Keeps (E.bytes err.old) (E.bytes err.new)) }
+    ensures read { (result ≡ Err RunFault.Read) ↔ (R.failures reader.old < R.failures reader.new) }
+    // All was read, unless reading failed or memory ran out.
+    ensures all_read { IfSome (R.bytes reader.old) (λ bs. OnceRead result (R.bytes reader.new ≡ Some [])) }
+    ensures utf8 { IfSome (R.bytes reader.old) (λ bs. TestsUtf8 result bs) }
+    ensures rebuilt { IfOk result (λ r. IfSome (R.bytes reader.old) (λ bs. Rebuilds bs r)) }
+    ensures batch { IfOk result (λ r. Appends (W.bytes out.old) (W.bytes out.new) r.batch.items) }
+    ensures faults { IfOk result (λ r. Appends (E.bytes err.old) (E.bytes err.new) r.faults.items) }
+    ensures part { result ≡ Err RunFault.Write
+        → IfSome (R.bytes reader.old) (λ bs. (r : Rebuilt) × Rebuilds bs r
+        × WritesFronts r.batch.items r.faults.items
+        (W.bytes out.old) (W.bytes out.new) (E.bytes err.old) (E.bytes err.new)) }
+    ensures write { (result ≡ Err RunFault.Write)
+        ↔ ((W.failures out.old < W.failures out.new) ⊎ (E.failures err.old < E.failures err.new)) }
+    // No count falls, so one that has not risen is as before.
+    ensures counts { (W.failures out.old ≤ W.failures out.new) × (E.failures err.old ≤ E.failures err.new) }
+{
+    let input = read_all(alloc, reader)?;
+    let Ok(text) = str::from_utf8(input.as_slice()) else {
+        return Err(RunFault::NotUtf8);
+    };
+    let Ok(rebuilt) = rebuild(alloc, text) else {
+        return Err(RunFault::OutOfMemory);
+    };
+    if write_all(out, rebuilt.batch.as_slice()).is_err() {
+        return Err(RunFault::Write);
+    }
+    if write_all(err, rebuilt.faults.as_slice()).is_err() {
+        return Err(RunFault::Write);
+    }
+    Ok(rebuilt)
+}
+
+/// The exit status of the program: 0 where every item was carried, 1 where some item was not, and 2
+/// for a fault of the run.
+pub fn status(answer: &Result<Rebuilt, RunFault>) -> u8
+    ensures { result ≡ status_of answer.now }
+{
+    match answer {
+        Ok(rebuilt) => { if rebuilt.refused == 0 { 0 } else { 1 } }
+        Err(_) => 2,
+    }
+}
+
+#[cfg(test)]
+mod tests {
+    use super::*;
+    use crate::{Failures, Kept};
+    use std::test::Fail;
+
+    // One line, and then a failure.
+    #[derive(Drop)]
+    struct Breaks {
+        was_read: bool,
+        failures: Failures,
+    }
+
+    impl Source for Breaks {
+        ghost use Rattle.std.specs.Prelude.{None};
+
+        ghost bytes = { λ _. None };
+
+        ghost failures = { λ b. b.failures.count };
+
+        fn read(&mut self, buf: &mut [u8]) -> Result<usize, DeviceFault> {
+            let line = b"m a=1i\n";
+            if self.was_read || buf.len() < line.len() {
+                self.failures.add();
+                return Err(DeviceFault);
+            }
+            self.was_read = true;
+            buf[..line.len()].copy_from_slice(line);
+            Ok(line.len())
+        }
+    }
+
+    #[test]
+    fn lines_are_carried_or_refused(rt: HostRuntime) -> Result<(), Fail> {
+        let mut input: &[u8] = b"cpu usage=64i\n# none\nm 5\n\nw\\\t b=1i\n\nm b=-7i";
+        let mut out = Kept::new(rt.alloc());
+        let mut err = Kept::new(rt.alloc());
+        let answer = run(rt.alloc(), &mut input, &mut out, &mut err);
+        assert_eq!(rt; out.as_slice(), b"cpu usage=64i\nm b=-7i\n".as_slice());
+        assert_eq!(rt;
+            err.as_slice(),
+            b"item 2: No fields were provided\nitem 3: a name cannot be written again\n".as_slice()
+        );
+        assert_eq!(rt; status(&answer), 1);
+        Ok(())
+    }
+
+    #[test]
+    fn a_failed_read_writes_nothing(rt: HostRuntime) -> Result<(), Fail> {
+        let mut input = Breaks {
+            was_read: false,
+            failures: Failures::new(),
+        };
+        let mut out = Kept::new(rt.alloc());
+        let mut err = Kept::new(rt.alloc());
+        let answer = run(rt.alloc(), &mut input, &mut out, &mut err);
+        assert!(rt; matches!(answer, Err(RunFault::Read)));
+        assert!(rt; out.as_slice().is_empty());
+        assert_eq!(rt; status(&answer), 2);
+        Ok(())
+    }
+}

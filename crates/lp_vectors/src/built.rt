@@ -1,0 +1,208 @@
+//! What the builder writes, and that it reads back.
+
+use crate::told;
+use arrayvec::ArrayVec;
+use influxdb_line_protocol::builder::{BufMut, FieldValue, NoRoom};
+use influxdb_line_protocol::{FloatText, LineProtocolBuilder};
+use std::test::Fail;
+
+// A value whose text is so many zeros.
+#[derive(Drop)]
+struct Zeros {
+    count: u128,
+}
+
+impl FieldValue for Zeros {
+    ghost use Rattle.std.specs.Prelude.{replicate};
+
+    ghost text = { λ z. replicate z.count 48 };
+
+    fn fmt_len(&self) -> Option<usize> {
+        usize::try_from(self.count).ok()
+    }
+
+    fn fmt<B: BufMut>(&self, buf: &mut B) {
+        for i in 0..self.count {
+            buf.put(b"0");
+        }
+    }
+}
+
+// What a call that must be accepted gave.
+fn accepted<T: Drop, E: Drop>(answer: Result<T, E>) -> Result<T, Fail> {
+    match answer {
+        Ok(value) => Ok(value),
+        Err(_) => Err("a call was refused".into()),
+    }
+}
+
+#[test]
+fn a_line_is_written_so(rt: HostRuntime) -> Result<(), Fail> {
+    let builder = accepted(LineProtocolBuilder::new(rt.alloc()).measurement("foo"))?;
+    let builder = accepted(builder.tag("bar", "baz"))?;
+    let literal = FloatText::new("42").ok_or("no literal")?;
+    let builder = accepted(accepted(builder.field("qux", literal))?.close_line())?;
+    assert_eq!(rt;
+        builder.build().as_slice(),
+        b"foo,bar=baz qux=42\n".as_slice()
+    );
+    Ok(())
+}
+
+#[test]
+fn a_value_may_be_too_long(rt: HostRuntime) -> Result<(), Fail> {
+    let builder = LineProtocolBuilder::new(rt.alloc());
+    let builder = accepted(accepted(builder.measurement("m"))?.field("a", Zeros { count: 3 }))?;
+    assert_eq!(rt;
+        accepted(builder.close_line())?.build().as_slice(),
+        b"m a=000\n".as_slice()
+    );
+
+    for (count, cause) in [
+        (18_446_744_073_709_551_616u128, NoRoom::TooLong),
+        (18_446_744_073_709_551_615u128, NoRoom::TooLong),
+        (18_446_744_073_709_551_605u128, NoRoom::OutOfMemory),
+    ] {
+        let builder = accepted(LineProtocolBuilder::new(rt.alloc()).measurement("m"))?;
+        match builder.field("a", Zeros { count }) {
+            Ok(_) => return Err("accepted".into()),
+            Err(refused) => {
+                assert_eq!(rt; refused.cause, cause);
+                let builder = accepted(refused.builder.field("b", true))?;
+                let builder = accepted(builder.close_line())?;
+                assert_eq!(rt; builder.build().as_slice(), b"m b=true\n".as_slice());
+            }
+        }
+    }
+    Ok(())
+}
+
+#[test]
+fn a_full_buffer_costs_nothing(rt: HostRuntime) -> Result<(), Fail> {
+    let builder = LineProtocolBuilder::new_with(ArrayVec::<u8, 8>::new());
+    let builder = accepted(accepted(builder.measurement("m"))?.field("a", 1i64))?;
+    let builder = match builder.timestamp(12) {
+        Ok(_) => return Err("accepted".into()),
+        Err(refused) => {
+            assert_eq!(rt; refused.cause, NoRoom::Full);
+            refused.builder
+        }
+    };
+    let bytes = accepted(builder.close_line())?.build();
+    assert_eq!(rt; bytes.as_slice(), b"m a=1i\n".as_slice());
+    Ok(())
+}
+
+#[test]
+fn no_room_takes_the_empty_text_alone(rt: HostRuntime) -> Result<(), Fail> {
+    let builder = LineProtocolBuilder::new_with(ArrayVec::<u8, 0>::new());
+    let builder = match builder.measurement("m") {
+        Ok(_) => return Err("accepted".into()),
+        Err(refused) => {
+            assert_eq!(rt; refused.cause, NoRoom::Full);
+            refused.builder
+        }
+    };
+    accepted(builder.measurement(""))?;
+    Ok(())
+}
+
+#[test]
+fn names_and_values_read_back(rt: HostRuntime) -> Result<(), Fail> {
+    for (name, measurement, key) in [
+        ("plain", "S<plain>", "S<plain>"),
+        ("with space", "C<with space>", "C<with space>"),
+        ("with,comma", "C<with,comma>", "C<with,comma>"),
+        ("with=eq", "S<with=eq>", "C<with=eq>"),
+        (
+            "with\"doublequote",
+            "S<with\"doublequote>",
+            "S<with\"doublequote>",
+        ),
+        (
+            "with'singlequote",
+            "S<with'singlequote>",
+            "S<with'singlequote>",
+        ),
+        (
+            "with\\ backslash",
+            "C<with\\ backslash>",
+            "C<with\\ backslash>",
+        ),
+    ] {
+        let builder = LineProtocolBuilder::new(rt.alloc());
+        let builder = accepted(builder.measurement(name))?;
+        let builder = accepted(builder.tag(name, name))?;
+        let builder = accepted(builder.field(name, false))?;
+        let builder = accepted(builder.field(name, 51i64))?;
+        let builder = accepted(builder.field(name, 51u64))?;
+        let literal = FloatText::new("51").ok_or("no literal")?;
+        let builder = accepted(builder.field(name, literal))?;
+        let builder = accepted(builder.field(name, "some \" value"))?;
+        let builder = accepted(accepted(builder.timestamp(1234))?.close_line())?;
+        let bytes = builder.build();
+        let text = str::from_utf8(bytes.as_slice())?;
+        let wanted = format!(in rt.alloc();
+            "{measurement},{key}={key} {key}=false {key}=51i {key}=51u {key}=f<51> {key}=C<some \" value> at 1234"
+        )?;
+        assert_eq!(rt; told::items(rt.alloc(), text)?.as_str(), wanted.as_str());
+    }
+    Ok(())
+}
+
+#[test]
+fn strings_are_written_so(rt: HostRuntime) -> Result<(), Fail> {
+    for (text, wanted) in [
+        ("a\\", "m s=\"a\\\\\"\n"),
+        ("foo \\\" bar", "m s=\"foo \\\\\\\" bar\"\n"),
+        ("foo \\ bar", "m s=\"foo \\\\ bar\"\n"),
+        ("", "m s=\"\"\n"),
+    ] {
+        let builder = LineProtocolBuilder::new(rt.alloc());
+        let builder = accepted(accepted(builder.measurement("m"))?.field("s", text))?;
+        let bytes = accepted(builder.close_line())?.build();
+        assert_eq!(rt; str::from_utf8(bytes.as_slice())?, wanted);
+    }
+    Ok(())
+}
+
+#[test]
+fn other_names_read_back_otherwise(rt: HostRuntime) -> Result<(), Fail> {
+    for (measurement, key, bytes, wanted) in [
+        ("", "f", " f=1i\n", "TakeWhile1"),
+        ("m", "", "m =1i\n", "FieldSetMissing"),
+        ("w\\", "f", "w\\\\ f=1i\n", "EndsWithBackslash"),
+        ("a\tb", "f", "a\tb f=1i\n", "TakeWhile1"),
+        ("w\\\t", "f", "w\\\\\t f=1i\n", "EndsWithBackslash"),
+    ] {
+        let builder = LineProtocolBuilder::new(rt.alloc());
+        let builder = accepted(accepted(builder.measurement(measurement))?.field(key, 1i64))?;
+        let built = accepted(builder.close_line())?.build();
+        let text = str::from_utf8(built.as_slice())?;
+        assert_eq!(rt; text, bytes);
+        assert_eq!(rt; told::items(rt.alloc(), text)?.as_str(), wanted);
+    }
+    Ok(())
+}
+
+#[test]
+fn tags_that_are_not_admitted_read_back_otherwise(rt: HostRuntime) -> Result<(), Fail> {
+    for (key, value, bytes, wanted) in [
+        ("", "v", "m,=v f=1i\n", "TagSetMalformed"),
+        ("k", "x\ny", "m,k=x\ny f=1i\n", "TakeWhile1|S<y> S<f>=1i"),
+        (
+            "k\\\nx",
+            "v",
+            "m,k\\\\\nx=v f=1i\n",
+            "EndsWithBackslash|S<x=v> S<f>=1i",
+        ),
+    ] {
+        let builder = LineProtocolBuilder::new(rt.alloc());
+        let builder = accepted(accepted(builder.measurement("m"))?.tag(key, value))?;
+        let built = accepted(accepted(builder.field("f", 1i64))?.close_line())?.build();
+        let text = str::from_utf8(built.as_slice())?;
+        assert_eq!(rt; text, bytes);
+        assert_eq!(rt; told::items(rt.alloc(), text)?.as_str(), wanted);
+    }
+    Ok(())
+}

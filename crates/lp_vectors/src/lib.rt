@@ -1,0 +1,23 @@
+//! Tests over tables: worked lines, pieces and runs, with what each must give.
+#![tactic(auto)]
+
+#[cfg(test)]
+mod built;
+pub mod hoard;
+#[cfg(test)]
+mod lines;
+#[cfg(test)]
+mod memory;
+#[cfg(test)]
+mod names;
+#[cfg(test)]
+mod pieces;
+#[cfg(test)]
+mod runs;
+#[cfg(test)]
+mod series;
+#[cfg(test)]
+mod tags;
+pub mod told;
+#[cfg(test)]
+mod values;

@@ -1,0 +1,99 @@
+//! Lines and calls while every request for memory is refused.
+
+use crate::hoard::Hoard;
+use crate::told;
+use influxdb_line_protocol::builder::NoRoom;
+use influxdb_line_protocol::{Error, EscapedStr, LineProtocolBuilder, parse_lines};
+use std::test::Fail;
+
+#[test]
+fn want_of_memory_is_one_item_in_its_lines_place(rt: HostRuntime) -> Result<(), Fail> {
+    let alloc = rt.alloc();
+    for text in [
+        "a\\ b f=1i\nm f=1i",
+        "m,a=1,b=1,c=1,d=1,e=1,f=1,g=1,h=1,i=1 x=1i\nm f=1i",
+        "k a=1i,b=1i,c=1i,d=1i,e=1i\nm f=1i",
+        "m a=1x\nm f=1i",
+        "m s=\"a\\b\"\nm f=1i",
+        "m a=9223372036854775808i\nm f=1i",
+    ] {
+        let mut lines = parse_lines(alloc, text);
+        let hoard = Hoard::new(alloc)?;
+        let first = lines.next();
+        let second = lines.next();
+        let third = lines.next();
+        drop(hoard);
+        assert!(rt; matches!(first, Some(Err(Error::OutOfMemory))), "of {text}");
+        match second {
+            Some(Ok(line)) => {
+                assert_eq!(rt; told::line(alloc, &line)?.as_str(), "S<m> S<f>=1i");
+            }
+            _ => return Err("the second line was not read".into()),
+        }
+        assert!(rt; third.is_none());
+    }
+    Ok(())
+}
+
+#[test]
+fn light_lines_are_read_without_memory(rt: HostRuntime) -> Result<(), Fail> {
+    let alloc = rt.alloc();
+    for (text, wanted) in [
+        (
+            "cpu,host=A,region=west usage_system=64i 1590488773254420000",
+            "S<cpu>,S<host>=S<A>,S<region>=S<west> S<usage_system>=64i at 1590488773254420000",
+        ),
+        ("\\,,\\==x a=\"\\\\\"", "S<,>,S<=>=S<x> S<a>=S<\\>"),
+        (
+            "m,a=1,b=1,c=1,d=1,e=1,f=1,g=1,h=1 a=1i,b=1u,c=1.5,d=t",
+            "S<m>,S<a>=S<1>,S<b>=S<1>,S<c>=S<1>,S<d>=S<1>,S<e>=S<1>,S<f>=S<1>,S<g>=S<1>,S<h>=S<1> S<a>=1i S<b>=1u S<c>=f<1.5> S<d>=true",
+        ),
+        ("m 5", "FieldSetMissing"),
+        ("m,=v f=1i", "TagSetMalformed"),
+        ("m", "TakeWhile1"),
+    ] {
+        let mut lines = parse_lines(alloc, text);
+        let hoard = Hoard::new(alloc)?;
+        let item = lines.next();
+        drop(hoard);
+        let told = match &item {
+            Some(Ok(line)) => told::line(alloc, line)?,
+            Some(Err(fault)) => told::fault(alloc, fault)?,
+            None => return Err("no item".into()),
+        };
+        assert_eq!(rt; told.as_str(), wanted);
+    }
+    Ok(())
+}
+
+#[test]
+fn a_refused_growth_leaves_the_builder_as_it_was(rt: HostRuntime) -> Result<(), Fail> {
+    let alloc = rt.alloc();
+    let builder = LineProtocolBuilder::new(alloc);
+    let hoard = Hoard::new(alloc)?;
+    let answer = builder.measurement("m");
+    drop(hoard);
+    match answer {
+        Ok(_) => Err("accepted".into()),
+        Err(refused) => {
+            assert_eq!(rt; refused.cause, NoRoom::OutOfMemory);
+            assert!(rt; refused.builder.build().is_empty());
+            Ok(())
+        }
+    }
+}
+
+#[test]
+fn a_slice_is_cloned_without_memory_and_a_copy_is_not(rt: HostRuntime) -> Result<(), Fail> {
+    let alloc = rt.alloc();
+    let slice = EscapedStr::from("a b");
+    let copy = EscapedStr::CopiedValue(String::from_str(alloc, "a b")?);
+    let hoard = Hoard::new(alloc)?;
+    let of_slice = slice.clone(alloc).is_ok();
+    let of_copy = copy.clone(alloc).is_err() && copy.to_string(alloc).is_err();
+    let into_copy = copy.into_string(alloc).is_ok();
+    let into_slice = slice.into_string(alloc).is_err();
+    drop(hoard);
+    assert!(rt; of_slice && of_copy && into_copy && into_slice);
+    Ok(())
+}

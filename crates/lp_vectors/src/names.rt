@@ -1,0 +1,65 @@
+//! Names with escapes, read and compared.
+
+use crate::told;
+use influxdb_line_protocol::EscapedStr;
+use std::collections::HashSet;
+use std::test::Fail;
+
+#[test]
+fn lines_have_these_names(rt: HostRuntime) -> Result<(), Fail> {
+    for (text, wanted) in [
+        ("weat\\\nher f=1i", "C<weat\\\nher> S<f>=1i"),
+        ("a\\\\ f=1i", "EndsWithBackslash"),
+        ("a\\\\\\ b f=1i", "C<a\\ b> S<f>=1i"),
+        ("\\=x f=1i", "C<\\=x> S<f>=1i"),
+        ("m \\=x=1i", "S<m> C<=x>=1i"),
+        ("\\, f=1i", "S<,> S<f>=1i"),
+        ("m f\\\\=1i", "EndsWithBackslash"),
+        ("weather\\", "EndsWithBackslash"),
+        ("weather\\\\ f=1i", "EndsWithBackslash"),
+        ("\\wea\\ther f=1i", "C<\\wea\\ther> S<f>=1i"),
+        ("\\\\wea\\\\ther f=1i", "C<\\wea\\ther> S<f>=1i"),
+        ("w\\\t f=1i", "C<w\\\t> S<f>=1i"),
+        ("w\\\\\t f=1i", "EndsWithBackslash"),
+        ("\\ ", "TakeWhile1"),
+        ("\\# a=1i", "C<\\#> S<a>=1i"),
+        ("é\\é f=1i", "C<é\\é> S<f>=1i"),
+        ("\0 field=1 1234", "MeasurementValueInvalid"),
+    ] {
+        assert_eq!(rt;
+            told::items(rt.alloc(), text)?.as_str(),
+            wanted,
+            "of {text}"
+        );
+    }
+    Ok(())
+}
+
+#[test]
+fn equal_texts_are_one_member(rt: HostRuntime) -> Result<(), Fail> {
+    let copy = EscapedStr::CopiedValue(String::from_str(rt.alloc(), "a b")?);
+    let mut set = HashSet::new(rt.alloc());
+    set.insert(EscapedStr::SingleSlice("a b"))?;
+    set.insert(copy)?;
+    assert_eq!(rt; set.len(), 1);
+    Ok(())
+}
+
+#[test]
+fn the_calls_of_a_name_succeed_with_memory(rt: HostRuntime) -> Result<(), Fail> {
+    let alloc = rt.alloc();
+    let name = EscapedStr::from("Foo");
+    assert_eq!(rt; name.as_str(), "Foo");
+    assert_eq!(rt; name.to_string(alloc)?.as_str(), "Foo");
+    assert_eq!(rt; name.clone(alloc)?.as_str(), "Foo");
+    assert_eq!(rt; name.into_string(alloc)?.as_str(), "Foo");
+    let copy = EscapedStr::CopiedValue(String::from_str(alloc, "Foo\\aBar")?);
+    for other in ["Foo\\aBa", "Foo\\aBaz", "Foo\\", "F", ""] {
+        assert!(rt; !copy.eq_text(other), "{other}");
+    }
+    assert!(rt; copy.eq_text("Foo\\aBar"));
+    assert_eq!(rt; copy.clone(alloc)?.as_str(), "Foo\\aBar");
+    let shown = format!(in alloc; "{copy}")?;
+    assert_eq!(rt; shown.as_str(), "Foo\\aBar");
+    Ok(())
+}

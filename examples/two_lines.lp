@@ -1,0 +1,2 @@
+cpu usage=64i
+m 5

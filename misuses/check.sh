@@ -1,0 +1,32 @@
+#!/usr/bin/env bash
+# Each text of this folder is a use of the builder that must not compile: put into a copy of the library, the
+# compiler must refuse the call that the text's second line names, for the state that the builder is in.
+set -eu
+here=$(cd "$(dirname "$0")" && pwd)
+top=$(dirname "$here")
+copy=$(mktemp -d)
+trap 'rm -rf "$copy"' EXIT
+mkdir -p "$copy/crates"
+cp "$top/HANDLES" "$copy/"
+grep '^influxdb_line_protocol:' "$top/crates.txt" >"$copy/crates.txt"
+(cd "$top/crates" && tar --exclude=out -cf - influxdb_line_protocol) | tar -C "$copy/crates" -xf -
+git -C "$copy" init -q
+crate=$copy/crates/influxdb_line_protocol
+echo 'pub mod misuse;' >>"$crate/src/lib.rt"
+
+refused=0
+for text in "$here"/*.txt; do
+    call=$(sed -n 's,^// wanted: ,,p' "$text")
+    cp "$text" "$crate/src/misuse.rt"
+    (cd "$crate" && timeout 300 rt check --only misuse::misuse) >"$copy/log" 2>&1 && {
+        echo "misuse: $(basename "$text") compiles"
+        exit 1
+    }
+    if ! grep -q "^src/misuse.rt:.*error\[unknown-method\]: the method \`$call\` takes \`self\` as" "$copy/log"; then
+        cat "$copy/log"
+        echo "misuse: $(basename "$text") is not refused at \`$call\`"
+        exit 1
+    fi
+    refused=$((refused + 1))
+done
+echo "misuses: $refused refused"

@@ -1,0 +1,7 @@
+#!/usr/bin/env bash
+# The test command: first the checks that the gate cannot make, then the gate. The gate's last line stands last.
+set -eu
+cd "$(dirname "$0")"
+PATH=$PATH:/opt/rattle/bin
+misuses/check.sh
+exec rt ci
