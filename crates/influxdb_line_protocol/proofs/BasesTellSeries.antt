@@ -113,30 +113,30 @@ stand_behind : (tags : List (Pair Text Text)) (text mark rest : List ℕ) → te
 stand_behind [] text mark rest e some h = absurd (omega arith)
 stand_behind (t ∷ tags) text mark rest e some h = (mark, h.0, e, h.1, h.2)
 
--- the tags of a set that leaves nothing stand there, each behind a comma
-pub set_stands : (text : List ℕ) (set : Option (List (Pair Text Text))) → tag_set text ≡ Ok (record { value = set; rest = [] }) → StandBehind tag (some_tags set) text []
-set_stands text set e = go (byte 44 text) refl
+-- the tags of a set stand there, each behind a comma, before what it leaves
+pub set_stands : (text left : List ℕ) (set : Option (List (Pair Text Text))) → tag_set text ≡ Ok (record { value = set; rest = left }) → StandBehind tag (some_tags set) text left
+set_stands text left set e = go (byte 44 text) refl
   where
-    none : text ≡ [] → None ≡ set → StandBehind tag (some_tags set) text []
-    none empty same = rw (← same) empty
+    none : text ≡ left → None ≡ set → StandBehind tag (some_tags set) text left
+    none is same = rw (← same) is
 
-    behind : (c : ℕ) (mark : List ℕ) (r : Reading (List (Pair Text Text))) → byte 44 text ≡ reads c mark → joined tag mark ≡ r → StandBehind tag (some_tags set) text []
+    behind : (c : ℕ) (mark : List ℕ) (r : Reading (List (Pair Text Text))) → byte 44 text ≡ reads c mark → joined tag mark ≡ r → StandBehind tag (some_tags set) text left
     behind c mark miss m j = absurd (let h = rw (m, j) at e in cc)
     behind c mark (fatal f) m j = absurd (let h = rw (m, j) at e in cc)
     behind c mark (reads xs rest) m j =
-        let same = ok_parts (Some xs) set rest [] (rw (m, j) at e) in
+        let same = ok_parts (Some xs) set rest left (rw (m, j) at e) in
         let full = (the_most_is_read tag (λ t. (tag_no_longer t).holds) mark xs rest).0 j in
         let stand = stand_behind xs text mark rest (byte_parts 44 text c mark m).1 full.some full.stand_most.stand in
         rw (← same.0) (subst (λ (r : List ℕ). StandBehind tag xs text r) same.1 stand)
 
-    go : (r : Reading ℕ) → byte 44 text ≡ r → StandBehind tag (some_tags set) text []
-    go miss m = let same = ok_parts None set text [] (rw m at e) in none same.1 same.0
-    go (fatal f) m = let same = ok_parts None set text [] (rw m at e) in none same.1 same.0
+    go : (r : Reading ℕ) → byte 44 text ≡ r → StandBehind tag (some_tags set) text left
+    go miss m = let same = ok_parts None set text left (rw m at e) in none same.1 same.0
+    go (fatal f) m = let same = ok_parts None set text left (rw m at e) in none same.1 same.0
     go (reads c mark) m = behind c mark (joined tag mark) m refl
 
 -- the tags of a parsed series stand behind its measurement
 pub tags_stand : {raw : List ℕ} {m : Text} {tags : List (Pair Text Text)} (h : IsParsedSeries raw m tags) → StandBehind tag tags h.behind []
-tags_stand h = rw (← h.tags_are) (set_stands h.behind h.set h.set_is)
+tags_stand h = rw (← h.tags_are) (set_stands h.behind [] h.set h.set_is)
 
 -- a clear series whose names are parts of its raw text is spelled as they are
 raw_is : (raw : List ℕ) (m : Text) (tags : List (Pair Text Text)) → IsClearSeries raw m tags → (m.is_single && list_all is_single_tag tags) ≡ true

@@ -45,3 +45,4 @@ pub mod BaseOrder
 pub mod SortedTags
 pub mod BasesTellSeries
 pub mod BasesApart
+pub mod ParsedSeries

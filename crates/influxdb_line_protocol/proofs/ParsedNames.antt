@@ -338,6 +338,7 @@ pub record Parts (dialect : Dialect) (line : List ℕ) (l : Line) : Type 0 where
   pub behind_measurement : List ℕ
   pub behind_tags : List ℕ
   pub behind_fields : List ℕ
+  pub series : l.series ≡ front_before line behind_tags
   pub measurement : name a_measurement line ≡ reads l.measurement behind_measurement
   pub tags : tag_set behind_measurement ≡ Ok (record { value = l.tags; rest = behind_tags })
   pub fields : field_set dialect (drop (spaces behind_tags) behind_tags) ≡ reads l.fields behind_fields
@@ -396,6 +397,7 @@ answer_parts dialect line l h =
       behind_measurement = m.read.rest;
       behind_tags = ts.read.rest;
       behind_fields = fs.read.rest;
+      series = refl;
       measurement = must_read measurement_value_invalid (name a_measurement line) m.read m.first;
       tags = ts.first;
       fields = must_read field_set_missing (field_set dialect (drop (spaces ts.read.rest) ts.read.rest)) fs.read fs.first;

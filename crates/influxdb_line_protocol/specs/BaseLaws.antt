@@ -1,11 +1,12 @@
 -- What bases tell of the series that they stand for.
-use Rattle.std.specs.Prelude.{◌≡◌, ℕ, zero, suc, ◌+◌, ◌||◌, Bool, true, false, List, [], ◌∷◌, length, drop, Option, Some, None, Ok}
+use Rattle.std.specs.Prelude.{◌≡◌, ℕ, zero, suc, ◌+◌, ◌||◌, Bool, true, false, List, [], ◌∷◌, ◌++◌, length, drop, Option, Some, None, Ok}
 use Rattle.std.specs.List.{list_any}
 use Rattle.std.specs.List.Sorted.{IsPermutation}
 use Rattle.std.specs.Option.{is_some}
+use Rattle.influxdb_line_protocol.specs.declared.split.Dialect.{Dialect}
 use Rattle.influxdb_line_protocol.specs.Bases.{Base, part, own, repeats, base_of, first_repeated, in_order, keys_of}
 use Rattle.influxdb_line_protocol.specs.Bytes.{backslash, comma, equals, is_one_of}
-use Rattle.influxdb_line_protocol.specs.Lines.{some_tags, tag_set}
+use Rattle.influxdb_line_protocol.specs.Lines.{Line, answer, some_tags, tag_set}
 use Rattle.influxdb_line_protocol.specs.Names.{a_measurement, a_tag_key, a_tag_value, escapable, is_one_escape, name, spelled, spelled_len}
 use Rattle.influxdb_line_protocol.specs.Points.{Pair}
 use Rattle.influxdb_line_protocol.specs.Readings.{Text, reads}
@@ -89,3 +90,9 @@ PlainSeriesAreClear =
     (raw : List ℕ) (measurement : Text) (tags : List (Pair Text Text))
     → is_one_of raw backslash ≡ false → IsParsedSeries raw measurement tags
     → (has_one_escape raw (length tags) ≡ false) × (is_delimited measurement tags ≡ false)
+
+-- The series of each line that is read is a parsed one, and it is a front of the line.
+abbrev pub ReadSeriesAreParsed : Type 0
+ReadSeriesAreParsed =
+    (dialect : Dialect) (line : List ℕ) (l : Line) → answer dialect line ≡ Ok l
+    → IsParsedSeries l.series l.measurement (some_tags l.tags) × ((rest : List ℕ) × (line ≡ l.series ++ rest))

@@ -13,6 +13,7 @@ pub mod Scan
 pub mod Texts
 pub mod Faults
 pub mod Outcomes
+pub mod Filled
 pub mod Parsed
 pub mod Lookups
 pub mod Light

@@ -29,7 +29,13 @@ pub enum EscapedStr<'a> {
 /// The name in front of a line.
 pub type Measurement<'a> = EscapedStr<'a>;
 
+/// The empty text.
 impl<'a> Default for EscapedStr<'a> {
+    ghost use Rattle.std.specs.Prelude.{◌≡◌, [], true};
+    ghost use Rattle.influxdb_line_protocol.specs.Texts.{read_of};
+
+    ghost is_default = { λ e. read_of e ≡ record { bytes = []; is_single = true } };
+
     fn default() -> Self {
         EscapedStr::SingleSlice("")
     }

@@ -1,6 +1,7 @@
 //! The fields of a line.
 
-ghost use Rattle.std.specs.Prelude.{◌≡◌, ◌<◌, length, IfOk, IfSome, Err};
+ghost use Rattle.std.specs.Prelude.{◌≡◌, ◌<◌, ◌≤◌, [], length, IfOk, IfSome, Err};
+ghost use Rattle.influxdb_line_protocol.specs.Filled.{Fills};
 ghost use Rattle.influxdb_line_protocol.specs.Light.{is_single_field};
 ghost use Rattle.influxdb_line_protocol.specs.Lines.{behind_comma, field, field_set, joined, without_comma};
 ghost use Rattle.influxdb_line_protocol.specs.Memory.{NeedsMemory};
@@ -11,7 +12,6 @@ ghost use Rattle.influxdb_line_protocol.specs.Sets.{FieldsNeedMemory, SetNeedsMe
 use crate::line::behind;
 use crate::names::{self, NameKind};
 use crate::{Dialect, Error, EscapedStr, FieldSet, FieldValue, Result, values};
-use smallvec::SmallVec;
 use std::alloc::Global;
 
 type Field<'a> = (EscapedStr<'a>, FieldValue<'a>);
@@ -48,21 +48,23 @@ fn next_field<'a>(alloc: Global, text: &'a str) -> Result<Option<(Field<'a>, &'a
     field(alloc, rest)
 }
 
-// The fields in front of `text`, joined by commas, and the rest. Up to 4 take no memory but for copies.
-fn fields<'a>(alloc: Global, text: &'a str) -> Result<Option<(FieldSet<'a>, &'a str)>>
-    ensures value { Gives fields_of result (joined field text.now) }
+// Fills the empty set with the fields in front of `text`, joined by commas, and gives the rest. Up to 4 take no memory
+// but for copies.
+fn fields<'a>(alloc: Global, text: &'a str, set: &mut FieldSet<'a>) -> Result<Option<&'a str>>
+    requires empty { set.old.items ≡ [] }
+    requires room { 4 ≤ set.old.capacity }
+    ensures value { Fills (fields_of set.new) result (joined field text.now) }
     ensures memory { result ≡ Err Error.OutOfMemory → SetNeedsMemory 4 is_single_field field text.now }
 {
     let Some((first, mut rest)) = field(alloc, text)? else {
         return Ok(None);
     };
-    let mut fields = SmallVec::new(alloc);
-    fields.push_reserved(first);
+    set.push_reserved(first);
     while let Some((next, after)) = next_field(alloc, rest)? {
-        fields.push(next)?;
+        set.push(next)?;
         rest = after;
     }
-    Ok(Some((fields, rest)))
+    Ok(Some(rest))
 }
 
 // What follows the fields, where `rest` stands behind them: in the crate's dialect without the comma behind a first
@@ -76,20 +78,24 @@ fn behind_fields<'a>(dialect: Dialect, fields: &FieldSet<'_>, rest: &'a str) -> 
     }
 }
 
-/// The fields in front of `text`, joined by commas, and the rest. `None` where no field stands there.
+/// Fills the empty `set` with the fields in front of `text`, joined by commas, and gives the rest.
 ///
-/// In the crate's dialect the comma behind a first field is taken, also where no field stands behind it.
+/// `None` where no field stands there. In the crate's dialect the comma behind a first field is taken, also where no
+/// field stands behind it.
 pub(crate) fn field_set<'a>(
     alloc: Global,
     dialect: Dialect,
     text: &'a str,
-) -> Result<Option<(FieldSet<'a>, &'a str)>>
-    ensures value { Gives fields_of result (field_set dialect text.now) }
+    set: &mut FieldSet<'a>,
+) -> Result<Option<&'a str>>
+    requires empty { set.old.items ≡ [] }
+    requires room { 4 ≤ set.old.capacity }
+    ensures value { Fills (fields_of set.new) result (field_set dialect text.now) }
     ensures memory { result ≡ Err Error.OutOfMemory → FieldsNeedMemory text.now }
 {
-    let Some((fields, rest)) = fields(alloc, text)? else {
+    let Some(rest) = fields(alloc, text, set)? else {
         return Ok(None);
     };
-    let rest = behind_fields(dialect, &fields, rest);
-    Ok(Some((fields, rest)))
+    let rest = behind_fields(dialect, set, rest);
+    Ok(Some(rest))
 }

@@ -6,7 +6,7 @@ ghost use Rattle.influxdb_line_protocol.specs.Laws.{PiecesExist, PiecesAreUnique
 ghost use Rattle.influxdb_line_protocol.specs.Laws.{AnswersJoin, CommentsStandAlone};
 ghost use Rattle.influxdb_line_protocol.specs.PointsOfLines.{LinesArePoints};
 ghost use Rattle.influxdb_line_protocol.specs.BaseLaws.{ClearSeriesHaveBases, SameSeriesHaveOneBase};
-ghost use Rattle.influxdb_line_protocol.specs.BaseLaws.{OneBaseIsOneSeries, PlainSeriesAreClear};
+ghost use Rattle.influxdb_line_protocol.specs.BaseLaws.{OneBaseIsOneSeries, PlainSeriesAreClear, ReadSeriesAreParsed};
 ghost use Rattle.influxdb_line_protocol.specs.Meanings.{LogicalIsWithoutEscapes};
 ghost use Rattle.influxdb_line_protocol.specs.Meanings.{TheMostIsRead, TheNextHasTheFault, TheFirstMisses};
 ghost use Rattle.influxdb_line_protocol.specs.Meanings.{FloatFrontIsFloat, FloatFrontIsLongest};
@@ -93,10 +93,13 @@ pub fn longest_float_is_read()
 /// Take two series as they are parsed, that repeat no key and spell no name as one known escape
 /// alone. Both have bases, and these are equal if the measurements and the sets of tags are. Where,
 /// besides, no measurement and no tag value holds a comma, and no tag key an `=`, the bases are equal
-/// only then. A raw text without a backslash meets all that this asks of names.
+/// only then. A raw text without a backslash meets all that this asks of names. The series of each
+/// line that is read is a parsed one: it is the front of the line that was read as measurement and
+/// tags, and alone it reads to the same.
 pub fn bases_tell_series()
     ensures exist { ClearSeriesHaveBases }
     ensures same { SameSeriesHaveOneBase }
     ensures only { OneBaseIsOneSeries }
     ensures plain { PlainSeriesAreClear }
+    ensures read { ReadSeriesAreParsed }
 {}

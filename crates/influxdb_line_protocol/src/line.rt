@@ -128,7 +128,7 @@ fn front_before<'a>(line: &'a str, rest: &str) -> &'a str
     &line[..line.len() - rest.len()]
 }
 
-// The answer for a trimmed text.
+// The answer for a trimmed text. The line is made once, and its sets are filled in place.
 #[tactic(auto, unfolding(crate::specs::Lines::answer))]
 fn answer<'a>(alloc: Global, dialect: Dialect, line: &'a str) -> Result<ParsedLine<'a>>
     ensures value { Answers result (answer dialect line.now) }
@@ -137,14 +137,25 @@ fn answer<'a>(alloc: Global, dialect: Dialect, line: &'a str) -> Result<ParsedLi
     let Some((measurement, rest)) = names::name(alloc, NameKind::Measurement, line)? else {
         return Err(Error::MeasurementValueInvalid);
     };
-    let (tag_set, rest) = tags::tag_set(alloc, rest)?;
+    let mut parsed = ParsedLine {
+        series: Series {
+            raw_input: line,
+            measurement,
+            tag_set: None,
+        },
+        field_set: SmallVec::new(alloc),
+        timestamp: None,
+    };
+    let rest = tags::tag_set(alloc, rest, &mut parsed.series.tag_set)?;
     if behind(' ', rest).is_none() {
         return Err(Error::GenericParsingError {
             kind: ErrorKind::TakeWhile1,
         });
     }
-    let raw_input = front_before(line, rest);
-    let Some((field_set, rest)) = fields::field_set(alloc, dialect, behind_spaces(rest))? else {
+    let series = &mut parsed.series;
+    series.raw_input = front_before(line, rest);
+    let Some(rest) = fields::field_set(alloc, dialect, behind_spaces(rest), &mut parsed.field_set)?
+    else {
         return Err(Error::FieldSetMissing);
     };
     let (timestamp, rest) = values::timestamp(alloc, rest)?;
@@ -152,16 +163,8 @@ fn answer<'a>(alloc: Global, dialect: Dialect, line: &'a str) -> Result<ParsedLi
         let trailing_content = String::from_str(alloc, rest)?;
         return Err(Error::CannotParseEntireLine { trailing_content });
     }
-    let series = Series {
-        raw_input,
-        measurement,
-        tag_set,
-    };
-    Ok(ParsedLine {
-        series,
-        field_set,
-        timestamp,
-    })
+    parsed.timestamp = timestamp;
+    Ok(parsed)
 }
 
 /// The lines of a text, one after another: what [`parse_lines`] gives.

@@ -1,6 +1,7 @@
 //! Names: measurements, keys and tag values.
 
-ghost use Rattle.std.specs.Prelude.{◌≡◌, ◌<◌, ◌≤◌, ◌++◌, length, IsCharBoundary, IfOk, IfSome, IfNone, IsOk, Err, true, string_bytes};
+ghost use Rattle.std.specs.Prelude.{◌≡◌, ◌<◌, ◌≤◌, ◌++◌, length, IsCharBoundary, IfOk, IfSome, IfNone, IsOk, Err, true, not, take, string_bytes};
+ghost use Rattle.influxdb_line_protocol.specs.Bytes.{backslash, is_one_of};
 ghost use Rattle.influxdb_line_protocol.specs.Names.{is_stop, is_escapable, escapable, is_one_escape, is_shared, spelled_len, logical, name, read_text};
 ghost use Rattle.influxdb_line_protocol.specs.Outcomes.{Gives, HasMemory, kind_of};
 ghost use Rattle.influxdb_line_protocol.specs.Memory.{NeedsMemory};
@@ -48,9 +49,19 @@ impl NameKind {
     }
 }
 
-// How many bytes of `text` spell the name in front.
+/// The spelled text of a name.
+#[derive(Clone, Copy)]
+pub(crate) struct Spelling<'a> {
+    text: &'a str,
+    // Whether the text holds no backslash.
+    is_plain: bool,
+    ghost told: { is_plain ≡ not (is_one_of text.now backslash) },
+}
+
+// How many bytes of `text` spell the name in front, also where some are backslashes. Few names hold one.
+#[cold]
 #[tactic(auto, using(crate::proofs::EscapeLemmas::is_escaped_more, crate::proofs::EscapeLemmas::first_bare_is))]
-fn spelled_len(kind: NameKind, text: &str) -> usize
+fn escaped_len(kind: NameKind, text: &str) -> usize
     ensures value { result ≡ spelled_len (kind_of kind) text.now }
     ensures boundary { IsCharBoundary text.now result }
 {
@@ -66,6 +77,26 @@ fn spelled_len(kind: NameKind, text: &str) -> usize
         }
     }
     bytes.len()
+}
+
+// How many bytes of `text` spell the name in front, and whether none of them is a backslash. A name without one is
+// walked once.
+#[tactic(auto, using(crate::proofs::EscapeLemmas::first_bare_is))]
+fn spelled_len(kind: NameKind, text: &str) -> (usize, bool)
+    ensures value { result.0 ≡ spelled_len (kind_of kind) text.now }
+    ensures boundary { IsCharBoundary text.now result.0 }
+    ensures plain { result.1 ≡ not (is_one_of (take result.0 text.now) backslash) }
+{
+    let bytes = text.as_bytes();
+    for (place, byte) in bytes.iter().enumerate() {
+        if kind.is_stop(*byte) {
+            return (place, true);
+        }
+        if *byte == b'\\' {
+            return (escaped_len(kind, text), false);
+        }
+    }
+    (bytes.len(), true)
 }
 
 // The first backslash of `text`: what stands before it, what it stands for with the byte behind it,
@@ -106,35 +137,41 @@ fn without_escapes(alloc: Global, kind: NameKind, spelled: &str) -> Result<Strin
 pub(crate) fn escaped_str<'a>(
     alloc: Global,
     kind: NameKind,
-    spelled: &'a str,
+    spelled: Spelling<'a>,
 ) -> Result<EscapedStr<'a>, AllocError>
-    ensures text { IfOk result (λ name. read_of name ≡ read_text (escapable (kind_of kind)) spelled.now) }
-    ensures no_memory { is_shared (escapable (kind_of kind)) spelled.now ≡ true → IsOk result }
+    ensures text { IfOk result (λ name. read_of name ≡ read_text (escapable (kind_of kind)) spelled.entry.text.now) }
+    ensures no_memory { is_shared (escapable (kind_of kind)) spelled.entry.text.now ≡ true → IsOk result }
 {
-    if kind.is_known_escape(spelled) {
-        return Ok(EscapedStr::SingleSlice(&spelled[1..]));
+    let text = spelled.text;
+    if spelled.is_plain {
+        return Ok(EscapedStr::SingleSlice(text));
     }
-    if !spelled.as_bytes().contains(&b'\\') {
-        return Ok(EscapedStr::SingleSlice(spelled));
+    if kind.is_known_escape(text) {
+        return Ok(EscapedStr::SingleSlice(&text[1..]));
     }
-    Ok(EscapedStr::CopiedValue(without_escapes(alloc, kind, spelled)?))
+    Ok(EscapedStr::CopiedValue(without_escapes(alloc, kind, text)?))
 }
 
 /// The spelled text of a name in front of `text`, and the rest. `None` where no name stands there.
 /// It takes no memory.
-pub(crate) fn spelled(kind: NameKind, text: &str) -> Result<Option<(&str, &str)>, Error>
-    ensures value { Gives (λ s. read_text (escapable (kind_of kind)) s.now) result (name (kind_of kind) text.now) }
+pub(crate) fn spelled(kind: NameKind, text: &str) -> Result<Option<(Spelling<'_>, &str)>, Error>
+    ensures value { Gives (λ s. read_text (escapable (kind_of kind)) s.text.now) result (name (kind_of kind) text.now) }
     ensures tail { IfOk result (λ o. IfSome o (λ p. length p.1.now ≤ length text.now)) }
     ensures memory { HasMemory result }
 {
-    let (front, rest) = text.split_at(spelled_len(kind, text));
+    let (len, is_plain) = spelled_len(kind, text);
+    let (front, rest) = text.split_at(len);
     if front.is_empty() {
         return Ok(None);
     }
     if front.ends_with('\\') {
         return Err(Error::EndsWithBackslash);
     }
-    Ok(Some((front, rest)))
+    let spelled = Spelling {
+        text: front,
+        is_plain,
+    };
+    Ok(Some((spelled, rest)))
 }
 
 /// A name in front of `text`, and the rest. `None` where no name stands there.

@@ -1,11 +1,12 @@
 //! The tags of a line.
 
-ghost use Rattle.std.specs.Prelude.{◌≡◌, ◌<◌, length, IfOk, IfSome, Err};
+ghost use Rattle.std.specs.Prelude.{◌≡◌, ◌<◌, ◌≤◌, [], length, IfOk, IfSome, Err, None};
 ghost use Rattle.std.specs.Option.{option_map};
+ghost use Rattle.influxdb_line_protocol.specs.Filled.{Fills, FillsRead};
 ghost use Rattle.influxdb_line_protocol.specs.Light.{is_single_tag};
 ghost use Rattle.influxdb_line_protocol.specs.Lines.{behind_comma, joined, tag, tag_set};
 ghost use Rattle.influxdb_line_protocol.specs.Memory.{NeedsMemory};
-ghost use Rattle.influxdb_line_protocol.specs.Outcomes.{Gives, GivesRead};
+ghost use Rattle.influxdb_line_protocol.specs.Outcomes.{Gives};
 ghost use Rattle.influxdb_line_protocol.specs.Parsed.{tag_of, tags_of};
 ghost use Rattle.influxdb_line_protocol.specs.Sets.{SetNeedsMemory, TagsNeedMemory};
 
@@ -50,35 +51,43 @@ fn next_tag<'a>(alloc: Global, text: &'a str) -> Result<Option<(Tag<'a>, &'a str
     tag(alloc, rest)
 }
 
-// The tags in front of `text`, joined by commas, and the rest. Up to 8 take no memory but for copies.
-fn tags<'a>(alloc: Global, text: &'a str) -> Result<Option<(TagSet<'a>, &'a str)>>
-    ensures value { Gives tags_of result (joined tag text.now) }
+// Fills the empty set with the tags in front of `text`, joined by commas, and gives the rest. Up to 8 take no memory
+// but for copies.
+fn tags<'a>(alloc: Global, text: &'a str, set: &mut TagSet<'a>) -> Result<Option<&'a str>>
+    requires empty { set.old.items ≡ [] }
+    requires room { 8 ≤ set.old.capacity }
+    ensures value { Fills (tags_of set.new) result (joined tag text.now) }
     ensures memory { result ≡ Err Error.OutOfMemory → SetNeedsMemory 8 is_single_tag tag text.now }
 {
     let Some((first, mut rest)) = tag(alloc, text)? else {
         return Ok(None);
     };
-    let mut tags = SmallVec::new(alloc);
-    tags.push_reserved(first);
+    set.push_reserved(first);
     while let Some((next, after)) = next_tag(alloc, rest)? {
-        tags.push(next)?;
+        set.push(next)?;
         rest = after;
     }
-    Ok(Some((tags, rest)))
+    Ok(Some(rest))
 }
 
-/// The tags behind the comma in front of `text`, and the rest; no set, where no comma stands there.
+/// Fills `set`, which is `None`, with the tags behind the comma in front of `text`, and gives the rest.
 ///
-/// Where no tag stands behind the comma, that is the line's fault.
-pub(crate) fn tag_set<'a>(alloc: Global, text: &'a str) -> Result<(Option<TagSet<'a>>, &'a str)>
-    ensures value { GivesRead (λ set. option_map tags_of set) result (tag_set text.now) }
+/// Where no comma stands there, it stays `None`. Where no tag stands behind the comma, that is the line's fault.
+pub(crate) fn tag_set<'a>(
+    alloc: Global,
+    text: &'a str,
+    set: &mut Option<TagSet<'a>>,
+) -> Result<&'a str>
+    requires none { set.old ≡ None }
+    ensures value { FillsRead (option_map tags_of set.new) result (tag_set text.now) }
     ensures memory { result ≡ Err Error.OutOfMemory → TagsNeedMemory text.now }
 {
     let Some(rest) = behind(',', text) else {
-        return Ok((None, text));
+        return Ok(text);
     };
-    let Some((tags, rest)) = tags(alloc, rest)? else {
+    let empty = set.insert(SmallVec::new(alloc));
+    let Some(rest) = tags(alloc, rest, empty)? else {
         return Err(Error::TagSetMalformed);
     };
-    Ok((Some(tags), rest))
+    Ok(rest)
 }

@@ -35,7 +35,14 @@ pub enum FieldValue<'a> {
     Boolean(bool),
 }
 
+/// The integer 0.
 impl<'a> Default for FieldValue<'a> {
+    ghost use Rattle.std.specs.Prelude.{◌≡◌, pos};
+    ghost use Rattle.influxdb_line_protocol.specs.Parsed.{value_of};
+    ghost use Rattle.influxdb_line_protocol.specs.Values.{integer};
+
+    ghost is_default = { λ v. value_of v ≡ integer (pos 0) };
+
     fn default() -> Self {
         FieldValue::I64(0)
     }

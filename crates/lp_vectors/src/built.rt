@@ -206,3 +206,33 @@ fn tags_that_are_not_admitted_read_back_otherwise(rt: HostRuntime) -> Result<(),
     }
     Ok(())
 }
+
+#[test]
+fn a_string_may_hold_a_newline(rt: HostRuntime) -> Result<(), Fail> {
+    let builder = accepted(LineProtocolBuilder::new(rt.alloc()).measurement("#x"))?;
+    let builder = accepted(accepted(builder.field("f", "a\nm k"))?.field("c", 1i64))?;
+    let built = accepted(builder.close_line())?.build();
+    let text = str::from_utf8(built.as_slice())?;
+    assert_eq!(rt; text, "#x f=\"a\nm k\",c=1i\n");
+    assert_eq!(rt; told::items(rt.alloc(), text)?.as_str(), "S<m> S<k\",c>=1i");
+    Ok(())
+}
+
+#[test]
+fn what_follows_a_batch_is_answered_alone(rt: HostRuntime) -> Result<(), Fail> {
+    for (text, wanted) in [
+        ("m a=1i\n\"x\n", "S<m> S<a>=1i|TakeWhile1"),
+        ("m a=1i\n\\\nn b=2i", "S<m> S<a>=1i|C<\\\nn> S<b>=2i"),
+        ("m a=1i\n# a=\"\nx\n", "S<m> S<a>=1i|TakeWhile1"),
+        ("m a=1x\nn b=2i", "rest <x>|S<n> S<b>=2i"),
+        ("m a=\"x\nn b=2i", "FieldSetMissing"),
+        ("y\\\nn b=2i", "C<y\\\nn> S<b>=2i"),
+    ] {
+        assert_eq!(rt;
+            told::items(rt.alloc(), text)?.as_str(),
+            wanted,
+            "of {text}"
+        );
+    }
+    Ok(())
+}

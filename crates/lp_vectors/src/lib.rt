@@ -2,6 +2,8 @@
 #![tactic(auto)]
 
 #[cfg(test)]
+mod admitted;
+#[cfg(test)]
 mod built;
 pub mod hoard;
 #[cfg(test)]

@@ -91,8 +91,8 @@ fn a_slice_is_cloned_without_memory_and_a_copy_is_not(rt: HostRuntime) -> Result
     let hoard = Hoard::new(alloc)?;
     let of_slice = slice.clone(alloc).is_ok();
     let of_copy = copy.clone(alloc).is_err() && copy.to_string(alloc).is_err();
-    let into_copy = copy.into_string(alloc).is_ok();
     let into_slice = slice.into_string(alloc).is_err();
+    let into_copy = copy.into_string(alloc).is_ok();
     drop(hoard);
     assert!(rt; of_slice && of_copy && into_copy && into_slice);
     Ok(())

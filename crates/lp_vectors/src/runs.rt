@@ -1,6 +1,6 @@
 //! Runs of the program, in memory.
 
-use lp_rebuild::{Kept, run, status};
+use lp_rebuild::{Kept, rebuild, run, status};
 use std::test::Fail;
 
 #[test]
@@ -19,6 +19,30 @@ fn runs_write_this(rt: HostRuntime) -> Result<(), Fail> {
         ),
         ("m a=007i\nm a=-0i\n", "m a=7i\nm a=0i\n", ""),
         ("", "", ""),
+        (
+            "m a=1i x\na=b c=1i",
+            "a=b c=1i\n",
+            "item 1: Could not parse entire line. Found trailing content: ' x'\n",
+        ),
+        ("m a=1E+3,b=007i,c=007u 5", "m a=1E+3,b=7i,c=7u 5\n", ""),
+        ("m s=\"a\\b\"", "m s=\"a\\\\b\"\n", ""),
+        ("m,b=1,a=2 f=t", "m,b=1,a=2 f=true\n", ""),
+        ("m a=1i, 5", "m a=1i 5\n", ""),
+        ("m,a,b=1,k=d=e f=t", "m,a\\,b=1,k=d\\=e f=true\n", ""),
+        ("a=b f=t", "a=b f=true\n", ""),
+        ("\\wea\\ther f=1i", "\\\\wea\\\\ther f=1i\n", ""),
+        ("\\\\wea\\\\ther f=1i", "\\\\wea\\\\ther f=1i\n", ""),
+        ("\\# a=1i", "\\\\# a=1i\n", ""),
+        (
+            "m a=T 5\n# c\nx\nw\\\t a=1i\n",
+            "m a=true 5\n",
+            "item 2: A generic parsing error occurred: TakeWhile1\nitem 3: a name cannot be written again\n",
+        ),
+        (
+            "# it a=\"\nm b=1i\nn c=2i",
+            "",
+            "item 1: Could not parse entire line. Found trailing content: '\nn c=2i'\n",
+        ),
     ] {
         let mut reader = input.as_bytes();
         let mut out = Kept::new(alloc);
@@ -28,6 +52,25 @@ fn runs_write_this(rt: HostRuntime) -> Result<(), Fail> {
         assert_eq!(rt; str::from_utf8(err.as_slice())?, faults, "of {input}");
         let ended = if faults.is_empty() { 0 } else { 1 };
         assert_eq!(rt; status(&answer), ended);
+    }
+    Ok(())
+}
+
+#[test]
+fn what_was_written_is_written_again_unchanged(rt: HostRuntime) -> Result<(), Fail> {
+    let alloc = rt.alloc();
+    for batch in [
+        "m a=1E+3,b=7i,c=7u 5\n",
+        "m s=\"a\\\\b\"\n",
+        "m,b=1,a=2 f=true\n",
+        "m a=1i 5\n",
+        "m,a\\,b=1,k=d\\=e f=true\n",
+        "a=b f=true\n",
+        "\\\\wea\\\\ther f=1i\n",
+    ] {
+        let rebuilt = rebuild(alloc, batch)?;
+        assert_eq!(rt; str::from_utf8(rebuilt.batch.as_slice())?, batch);
+        assert!(rt; rebuilt.faults.is_empty());
     }
     Ok(())
 }

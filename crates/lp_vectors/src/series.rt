@@ -99,6 +99,7 @@ fn lines_are_shown_so(rt: HostRuntime) -> Result<(), Fail> {
         ("m f=42u", "m f=42u"),
         ("m f=42.11", "m f=42.11"),
         ("m f=\"foo\"", "m f=foo"),
+        ("m f=\"some \\\" value\"", "m f=some \\\" value"),
         ("m f=T,g=F", "m f=true,g=false"),
         ("m,tag1=val1,tag2=val2 f=1i", "m,tag1=val1,tag2=val2 f=1i"),
         (

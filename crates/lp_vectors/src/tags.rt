@@ -1,7 +1,7 @@
 //! Tag sets and field sets.
 
 use crate::told;
-use influxdb_line_protocol::parse_lines;
+use influxdb_line_protocol::{FieldValue, parse_lines};
 use std::test::Fail;
 
 #[test]
@@ -77,6 +77,33 @@ fn a_series_keeps_its_text(rt: HostRuntime) -> Result<(), Fail> {
                 Err(_) => assert_eq!(rt; wanted, "", "of {text}"),
             }
         }
+    }
+    Ok(())
+}
+
+#[test]
+fn the_first_match_is_found(rt: HostRuntime) -> Result<(), Fail> {
+    for item in parse_lines(rt.alloc(), "m,k=1,k=2 a=1i,a=2i") {
+        let line = item?;
+        assert_eq!(rt;
+            line.series.tag_set.as_ref().map_or(0, |tags| tags.len()),
+            2
+        );
+        match line.tag_value("k") {
+            Some(value) => assert_eq!(rt; value.as_str(), "1"),
+            None => return Err("no tag".into()),
+        }
+        assert!(rt; matches!(line.field_value("a"), Some(FieldValue::I64(1))));
+    }
+    for item in parse_lines(rt.alloc(), "foo,test=stuff asdf=true 1234") {
+        let line = item?;
+        match line.tag_value("test") {
+            Some(value) => assert_eq!(rt; value.as_str(), "stuff"),
+            None => return Err("no tag".into()),
+        }
+        assert!(rt; matches!(line.field_value("asdf"), Some(FieldValue::Boolean(true))));
+        assert!(rt; line.tag_value("asdf").is_none());
+        assert!(rt; line.field_value("jkl").is_none());
     }
     Ok(())
 }

@@ -6,12 +6,12 @@ use Rattle.influxdb_line_protocol.specs.Parsed.{field_of}
 use Rattle.influxdb_line_protocol.proofs.ManyLemmas.{SoFar}
 use Rattle.influxdb_line_protocol.proofs.fields.fields.Given as goal
 
-abbrev pub invariant-loop-fields : goal.invariant-loop-fields
-invariant-loop-fields l = record {
+abbrev pub invariant-loop-next : goal.invariant-loop-next
+invariant-loop-next l = record {
   utf8 : shadow (Utf8 l.rest);
-  so_far : SoFar field l.text (map field_of l.fields.items) l.rest;
-  room : 4 ≤ l.fields.capacity;
+  so_far : SoFar field l.text (map field_of l.set.items) l.rest;
+  room : 4 ≤ l.set.capacity;
 }
 
-abbrev pub decreases-loop-fields : goal.decreases-loop-fields
-decreases-loop-fields l = length l.rest
+abbrev pub decreases-loop-next : goal.decreases-loop-next
+decreases-loop-next l = length l.rest

@@ -1,5 +1,6 @@
 use Rattle.influxdb_line_protocol.proofs.BasesTellSeries.{clear_series_have_bases, same_series_have_one_base}
 use Rattle.influxdb_line_protocol.proofs.BasesApart.{one_base_is_one_series, plain_series_are_clear}
+use Rattle.influxdb_line_protocol.proofs.ParsedSeries.{read_series_are_parsed}
 use Rattle.influxdb_line_protocol.proofs.laws.bases_tell_series.Goals as goal
 
 pub returns-clause-exist : goal.returns-clause-exist
@@ -13,3 +14,6 @@ returns-clause-only c = one_base_is_one_series
 
 pub returns-clause-plain : goal.returns-clause-plain
 returns-clause-plain c = plain_series_are_clear
+
+pub returns-clause-read : goal.returns-clause-read
+returns-clause-read c = read_series_are_parsed

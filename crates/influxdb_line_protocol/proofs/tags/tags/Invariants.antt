@@ -6,12 +6,12 @@ use Rattle.influxdb_line_protocol.specs.Parsed.{tag_of}
 use Rattle.influxdb_line_protocol.proofs.ManyLemmas.{SoFar}
 use Rattle.influxdb_line_protocol.proofs.tags.tags.Given as goal
 
-abbrev pub invariant-loop-tags : goal.invariant-loop-tags
-invariant-loop-tags l = record {
+abbrev pub invariant-loop-next : goal.invariant-loop-next
+invariant-loop-next l = record {
   utf8 : shadow (Utf8 l.rest);
-  so_far : SoFar tag l.text (map tag_of l.tags.items) l.rest;
-  room : 8 ≤ l.tags.capacity;
+  so_far : SoFar tag l.text (map tag_of l.set.items) l.rest;
+  room : 8 ≤ l.set.capacity;
 }
 
-abbrev pub decreases-loop-tags : goal.decreases-loop-tags
-decreases-loop-tags l = length l.rest
+abbrev pub decreases-loop-next : goal.decreases-loop-next
+decreases-loop-next l = length l.rest

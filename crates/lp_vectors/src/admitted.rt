@@ -1,0 +1,66 @@
+//! Lines whose names were changed, and whether they are admitted.
+
+use influxdb_line_protocol::{
+    EscapedStr, LineProtocolBuilder, ParsedLine, Series, is_admitted, parse_lines, write_line,
+};
+use std::alloc::Global;
+use std::test::Fail;
+
+// A line with this measurement and one field.
+fn named<'a>(alloc: Global, measurement: &'a str) -> Result<ParsedLine<'a>, Fail> {
+    match parse_lines(alloc, "m f=1i").next() {
+        Some(Ok(line)) => {
+            let ParsedLine {
+                series: _,
+                field_set,
+                timestamp,
+            } = line;
+            Ok(ParsedLine {
+                series: Series {
+                    raw_input: "m",
+                    measurement: EscapedStr::from(measurement),
+                    tag_set: None,
+                },
+                field_set,
+                timestamp,
+            })
+        }
+        _ => Err("the line was not read".into()),
+    }
+}
+
+#[test]
+fn measurements_are_admitted_so(rt: HostRuntime) -> Result<(), Fail> {
+    for (measurement, wanted) in [
+        ("m", true),
+        ("a b,c", true),
+        ("a\\b", true),
+        ("", false),
+        ("m\\", false),
+        ("#m", false),
+        ("m#", true),
+        ("a\tb", false),
+        ("a\nb", false),
+        ("a\0b", false),
+    ] {
+        let line = named(rt.alloc(), measurement)?;
+        assert_eq!(rt; is_admitted(&line), wanted, "{measurement}");
+    }
+    Ok(())
+}
+
+#[test]
+fn a_line_is_written_again_so(rt: HostRuntime) -> Result<(), Fail> {
+    let line = named(rt.alloc(), "w\\\t")?;
+    assert!(rt; line.field_set.len() > 0);
+    match write_line(LineProtocolBuilder::new(rt.alloc()), &line) {
+        Ok(builder) => {
+            assert_eq!(rt;
+                str::from_utf8(builder.build().as_slice())?,
+                "w\\\\\t f=1i\n"
+            );
+        }
+        Err(_) => return Err("refused".into()),
+    }
+    Ok(())
+}
