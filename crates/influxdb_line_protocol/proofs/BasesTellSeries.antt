@@ -7,7 +7,7 @@ use Rattle.std.proofs.lemmas.Bool.{and_parts, cases_Bool, eq-eqb, false≢true, 
 use Rattle.std.proofs.lemmas.List.{take-append-drop}
 use Rattle.std.proofs.lemmas.List.Folds.{list_any_at}
 use Rattle.influxdb_line_protocol.specs.BaseLaws.{IsClearSeries, IsParsedSeries, ClearSeriesHaveBases, SameSeriesHaveOneBase, base_bytes, is_tag_one_escape, spelled_tags}
-use Rattle.influxdb_line_protocol.specs.Bases.{own, part, base_by_key, base_of, base_text, based_tag, by_key, first_repeated, in_order, is_single_tag, keys_of, rises}
+use Rattle.influxdb_line_protocol.specs.Bases.{own, base_by_key, base_of, base_text, based_tag, by_key, first_repeated, in_order, is_single_tag, keys_of, rises}
 use Rattle.influxdb_line_protocol.specs.Bytes.{is_one_of}
 use Rattle.influxdb_line_protocol.specs.Escapes.{without_escapes}
 use Rattle.influxdb_line_protocol.specs.Lines.{byte, joined, some_tags, tag, tag_set}

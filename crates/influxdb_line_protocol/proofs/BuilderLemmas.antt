@@ -1,16 +1,19 @@
 -- Escaped texts: how long they are, and what stands before and behind the first byte with a backslash.
 -- And how many digits a number has.
-use Rattle.std.proofs.Common.{◌≡◌, ℕ, suc, zero, ◌+◌, ◌<◌, Bool, true, false, cond, List, [], ◌∷◌, ◌++◌, length, take, drop, get_or, arith, ap, refl, sym, ◌-◌, Some, add-one, length-drop, length-append, ◌∙◌, ◌≤◌, ◌^◌, ◌*◌, ◌/◌}
+use Rattle.std.proofs.Common.{◌≡◌, ℕ, suc, zero, ◌+◌, ◌<◌, Bool, true, false, cond, List, [], ◌∷◌, ◌++◌, length, take, drop, get_or, arith, ap, refl, sym, ◌-◌, subst, not, zero-add, add-one, length-drop, length-append, ◌∙◌, ◌≤◌, ◌^◌, ◌*◌, ◌/◌}
 use Rattle.std.proofs.lemmas.List.{take_all}
-use Rattle.std.specs.List.{position}
+use Rattle.std.specs.List.{list_all}
 use Rattle.std.specs.Fmt.{decimal}
 use Rattle.std.proofs.Math.Nat.{pow-zero, pow-suc}
 use Rattle.std.proofs.lemmas.Fmt.{decimal_step, decimal_digit}
-use Rattle.std.proofs.lemmas.List.Quantifiers.{position-Some}
+use Rattle.std.proofs.lemmas.List.Sums.{AllPass-from_list_all}
+use Rattle.std.proofs.lemmas.List.Elements.{All-get_or}
+use Rattle.std.proofs.lemmas.Bool.{not-true}
 use Rattle.std.specs.Prelude.{count_by}
 use Rattle.std.proofs.lemmas.Grind.{common_steps}
 use Rattle.influxdb_line_protocol.specs.Bytes.{backslash, is_one_of}
 use Rattle.influxdb_line_protocol.specs.Escapes.{escaped}
+use Rattle.influxdb_line_protocol.specs.Marks.{StandBefore}
 
 -- the length with one byte more
 length_step : (p : ℕ → Bool) (b : ℕ) (v : Bool) (t text : List ℕ) → p b ≡ v
@@ -54,12 +57,31 @@ rest_of : (text : List ℕ) (n : ℕ) → take (length text - n) (drop n text) �
 rest_of text n = take_all (length text - n) (drop n text) (omega (arith, length-drop n text))
 
 -- the same, as the code finds the byte and slices behind it
-pub escaped_first : (bytes text : List ℕ) (place : ℕ) → Some place ≡ position (is_one_of bytes) text
+pub escaped_first : (bytes text : List ℕ) (mark : ℕ → Bool) (at : ℕ)
+    → ((b : ℕ) → mark b ≡ is_one_of bytes b) → StandBefore mark text 0 (length text) at → at < length text
     → escaped bytes text
-    ≡ take place text ++ backslash ∷ get_or text place 0 ∷ escaped bytes (take (length text - (place + 1)) (drop (place + 1) text))
-escaped_first bytes text place found =
-    let there = position-Some (is_one_of bytes) text place 0 (sym found) in
-    rw (rest_of text (place + 1), add-one) (escaped_at bytes text place there.0 there.1 there.2)
+    ≡ take at text ++ backslash ∷ get_or text at 0 ∷ escaped bytes (take (length text - (at + 1)) (drop (at + 1) text))
+escaped_first bytes text mark at same run within =
+    let here : mark (get_or text at 0) ≡ true =
+    subst (λ (k : ℕ). mark (get_or text k 0) ≡ true) (zero-add at) (run.here within) in
+    rw (rest_of text (at + 1), add-one)
+    (escaped_at bytes text at within (sym (same (get_or text at 0)) ∙ here)
+    (λ k h. sym (same (get_or text k 0)) ∙ run.none k (omega arith) (omega arith)))
+
+-- where no byte is found, the text stays
+pub escaped_none : (bytes text : List ℕ) (mark : ℕ → Bool) (at : ℕ)
+    → ((b : ℕ) → mark b ≡ is_one_of bytes b) → StandBefore mark text 0 (length text) at → at ≡ length text
+    → escaped bytes text ≡ text
+escaped_none bytes text mark at same run all =
+    escaped_same bytes text (λ k h. sym (same (get_or text k 0)) ∙ run.none k (omega arith) (omega arith))
+
+-- so does a text whose bytes all fail the test
+pub escaped_plain : (bytes text : List ℕ) (mark : ℕ → Bool)
+    → ((b : ℕ) → mark b ≡ is_one_of bytes b) → list_all (λ b. not (mark b)) text ≡ true → escaped bytes text ≡ text
+escaped_plain bytes text mark same free =
+    let fails = AllPass-from_list_all (λ b. not (mark b)) text free in
+    escaped_same bytes text
+    (λ k h. sym (same (get_or text k 0)) ∙ not-true _ (All-get_or (λ b. not (mark b) ≡ true) text k 0 h fails))
 
 -- a power of ten is positive
 power_positive : (k : ℕ) → 0 < 10 ^ k

@@ -1,13 +1,13 @@
 -- Escaped places from left to right, as a scan meets them.
-use Rattle.std.proofs.Common.{◌≡◌, ℕ, ◌+◌, ◌<◌, ◌≤◌, List, [], ◌∷◌, ◌++◌, length, take, get_or, slice_index, Bool, true, false, not, ◌&&◌, cond, refl, ◌∙◌, zero-add, ltb, inl, inr, arith}
+use Rattle.std.proofs.Common.{◌≡◌, ℕ, ◌+◌, ◌<◌, ◌≤◌, List, [], ◌∷◌, ◌++◌, length, take, get_or, slice_index, Bool, true, false, not, ◌&&◌, cond, refl, ◌∙◌, zero-add, arith}
 use Rattle.std.specs.Prelude.{◌==◌}
-use Rattle.std.specs.List.{position_or_len, range_with_len}
+use Rattle.std.specs.List.{range_with_len}
 use Rattle.std.proofs.lemmas.List.{take_more, get_or-take, length-take}
 use Rattle.std.proofs.lemmas.List.Folds.{list_any_at}
-use Rattle.std.proofs.lemmas.Bool.{cases_Bool, eq-eqb, ltb-true, ltb-false}
+use Rattle.std.proofs.lemmas.Bool.{eq-eqb}
 use Rattle.influxdb_line_protocol.proofs.SplitBare.{is_escaped-push}
 use Rattle.std.proofs.lemmas.List.FromFn.{length-range_with_len, get_or-range_with_len}
-use Rattle.std.proofs.lemmas.List.Sums.{passes_at_first, position_or_len_is}
+use Rattle.std.proofs.lemmas.List.Sums.{position_or_len_is}
 use Rattle.influxdb_line_protocol.specs.Bytes.{backslash, is_one_of}
 use Rattle.influxdb_line_protocol.specs.Escapes.{is_escaped_behind, is_bare_at, first_bare}
 
@@ -38,25 +38,6 @@ first_bare_is passes text n fits none found =
     position_or_len_is (is_bare_at passes text) (range_with_len 0 (length text)) n 0 (omega arith)
     (λ k h. rw (get_or-range_with_len 0 (length text) k 0 (omega arith), zero-add k) (none k h))
     (λ h. rw (get_or-range_with_len 0 (length text) n 0 (omega arith), zero-add n) (found (omega arith)))
-
--- no bare byte that passes stands at a place or before it: the first is behind that place
-pub first_bare_behind : (passes : ℕ → Bool) (text : List ℕ) (n : ℕ) → n < length text
-    → ((k : ℕ) → k < n + 1 → is_bare_at passes text k ≡ false)
-    → n < first_bare passes text
-unfolding first_bare
-first_bare_behind passes text n fits none =
-    let places = range_with_len 0 (length text) in
-    let len : length places ≡ length text = length-range_with_len 0 (length text) in
-    let p = is_bare_at passes text in
-    let at = position_or_len p places in
-    elim (cases_Bool (ltb n at)) [
-      | inl behind ↦ ltb-true n at behind
-      | inr before ↦
-          let close : at ≤ n = ltb-false n at before in
-          let found : p (get_or places at 0) ≡ true = passes_at_first p places 0 (omega arith) in
-          let here : get_or places at 0 ≡ at = get_or-range_with_len 0 (length text) at 0 (omega arith) ∙ zero-add at in
-          absurd (let none_here = none at (omega arith) in let found_here = rw here at found in cc)
-    ]
 
 -- a front that reaches past a byte holds it
 pub is_one_of_front : (text : List ℕ) (i n b : ℕ) → i < n → i < length text → slice_index text i ≡ b → is_one_of (take n text) b ≡ true

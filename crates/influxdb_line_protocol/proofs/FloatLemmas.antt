@@ -123,7 +123,7 @@ float_len_longest t n fits parts =
     omega (arith, size, float_at_least whole fraction exponent (drop n t) parts.4 parts.5 parts.6, ap float_len text)
 
 -- a number in front of a text is a sign or none, and digits
-signed_front : (signs t : List ℕ) → 0 < number_len signs t → IsSigned signs (take (number_len signs t) t)
+pub signed_front : (signs t : List ℕ) → 0 < number_len signs t → IsSigned signs (take (number_len signs t) t)
 signed_front signs [] some =
     elim (cases_Bool (is_one_of signs 0)) [
       | inl sign ↦ let none : 0 < 0 = rw sign at some in absurd (omega arith)

@@ -11,8 +11,8 @@ use Rattle.std.proofs.lemmas.Str.Parse.{digit_from_value}
 use Rattle.std.proofs.lemmas.List.Elements.{All-nil}
 use Rattle.std.proofs.lemmas.List.Folds.{list_all-append}
 use Rattle.std.proofs.lemmas.List.{length-append}
-use Rattle.influxdb_line_protocol.specs.declared.split.Part.{Part}
-use Rattle.influxdb_line_protocol.specs.declared.split.Part.TheVariants.{Head, Plain, Quoted}
+use Rattle.influxdb_line_protocol.proofs.SplitWalk.{Part}
+use Rattle.influxdb_line_protocol.proofs.SplitWalk.{Head, Plain, Quoted}
 use Rattle.influxdb_line_protocol.specs.declared.split.Dialect.{Dialect}
 use Rattle.influxdb_line_protocol.specs.declared.split.Dialect.TheVariants.{Crate, Strict}
 use Rattle.influxdb_line_protocol.specs.Bytes.{is_one_of}
@@ -21,7 +21,7 @@ use Rattle.influxdb_line_protocol.specs.Names.{NameKind, a_measurement, a_tag_ke
 use Rattle.influxdb_line_protocol.specs.Values.{Value, integer, unsigned, float, string, boolean, quotable, fits_i64, IsSigned, IsMarked, IsFloat}
 use Rattle.influxdb_line_protocol.specs.Points.{Point, IsPoint, Tag, Field, IsValue, is_admitted_tag, is_admitted_field, is_admitted_point, line_of, built_tag, built_field, built_fields, built_timestamp, built_value, spelling, is_admitted_name}
 use Rattle.influxdb_line_protocol.specs.Pieces.{IsCutPiece, begins_comment}
-use Rattle.influxdb_line_protocol.specs.Scan.{IsIn}
+use Rattle.influxdb_line_protocol.proofs.SplitWalk.{IsIn}
 use Rattle.influxdb_line_protocol.proofs.SplitBare.{is_escaped-nil, is_escaped-push_backslash, is_escaped-push_escaped, is_escaped-push_other}
 use Rattle.influxdb_line_protocol.proofs.SplitWalk.{IsIn-escaped, IsIn-backslash, Head-space, Head-other, Plain-equals, Plain-comma, Plain-opens, Plain-other, Quoted-closes, Quoted-other}
 use Rattle.influxdb_line_protocol.proofs.NameLemmas.{escapable_backslash}

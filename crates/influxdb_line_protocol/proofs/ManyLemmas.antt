@@ -1,19 +1,20 @@
 -- How many that are joined by commas are read one after another.
 use Rattle.std.proofs.Common.{◌≡◌, ℕ, zero, suc, ◌+◌, ◌<◌, ◌≤◌, List, [], ◌∷◌, ◌++◌, length, length-append, Bool, true, false, not, ◌&&◌, refl, sym, ap, ◌∙◌, arith, inl, inr}
+use Rattle.std.specs.Prelude.{◌⊎◌}
 use Rattle.std.specs.List.{list_all}
 use Rattle.std.proofs.lemmas.Bool.{and_left, and_right, lt-leb}
 use Rattle.std.proofs.lemmas.List.{append_assoc, append-nil}
 use Rattle.std.proofs.lemmas.List.Folds.{list_all-append}
-use Rattle.influxdb_line_protocol.specs.Bytes.{is_one_of}
+use Rattle.influxdb_line_protocol.specs.Bytes.{comma, is_one_of}
 use Rattle.influxdb_line_protocol.specs.Readings.{Fault, Reading, miss, fatal, reads}
-use Rattle.influxdb_line_protocol.specs.Lines.{behind_comma, joined, many, onto}
+use Rattle.influxdb_line_protocol.specs.Lines.{behind_comma, byte, joined, many, onto}
 use Rattle.influxdb_line_protocol.specs.Light.{carries_no_text, many_count, read_count}
 use Rattle.influxdb_line_protocol.specs.Memory.{NeedsMemory}
 use Rattle.influxdb_line_protocol.specs.Sets.{HasBackslash, CopiesIn, SetNeedsMemory}
 use Rattle.influxdb_line_protocol.specs.Outcomes.{FailsOn, IsFault}
 use Rattle.influxdb_line_protocol.specs.declared.error.Error.{Error}
 use Rattle.influxdb_line_protocol.specs.declared.error.Error.TheVariants as error
-use Rattle.influxdb_line_protocol.proofs.ReadingLemmas.{EndsIn, EndsIn-end, EndsIn-self, bind_reads, PairRead, backslash_at_end, behind_comma_read}
+use Rattle.influxdb_line_protocol.proofs.ReadingLemmas.{EndsIn, EndsIn-end, EndsIn-self, bind_reads, byte_ends, PairRead, backslash_at_end, behind_comma_read}
 
 -- those that are read behind others
 onto-onto : {A : Type 0} (xs ys : List A) (r : Reading (List A)) → onto xs (onto ys r) ≡ onto (xs ++ ys) r
@@ -57,6 +58,16 @@ pub record SoFar {A : Type 0} (one : List ℕ → Reading A) (text : List ℕ) (
   pub is : joined one text ≡ onto done (many (behind_comma one) fuel rest)
   pub counted : read_count one text ≡ length done + many_count (behind_comma one) fuel rest
   pub ends : EndsIn text rest
+
+-- some were read, and a comma behind them: the next one may stand behind it
+pub record AtNext {A : Type 0} (one : List ℕ → Reading A) (text : List ℕ) (done : List A) (rest place : List ℕ) : Type 0 where
+  pub so_far : SoFar one text done rest
+  pub mark : byte comma rest ≡ reads comma place
+  pub some : 0 < length done
+
+-- where the next one may stand: in front of all, or behind those that were read and a comma
+abbrev pub Reached : {A : Type 0} → (List ℕ → Reading A) → List ℕ → List A → List ℕ → List ℕ → Type 0
+Reached one text done rest place = ((done ≡ []) × (place ≡ text)) ⊎ AtNext one text done rest place
 
 onto_miss : {A : Type 0} (xs : List A) (r : Reading (List A)) → onto xs r ≡ miss → r ≡ miss
 onto_miss xs miss e = refl
@@ -145,6 +156,41 @@ module _ {A : Type 0} (is_single : A → Bool) (one : List ℕ → Reading A)
           let some = backslash_at_end text rest so_far.ends ((behind_comma_read is_single one read rest x after e).copied h) in
           let whole : joined one text ≡ onto (done ++ x ∷ []) (many (behind_comma one) n after) = is ∙ rw e (onto-onto done (x ∷ []) (many (behind_comma one) n after)) in
           rw whole (copies_onto text (done ++ x ∷ []) (many (behind_comma one) n after) some (not_all_last is_single done x h) (many_reads (behind_comma one) n after))
+
+  -- what is read behind a comma is read where the next one may stand
+  next_is : (rest place : List ℕ) → byte comma rest ≡ reads comma place → behind_comma one rest ≡ one place
+  next_is rest place mark = rw mark refl
+
+  -- one more is read where it may stand
+  pub reached_more : (text : List ℕ) (done : List A) (rest place after : List ℕ) (y : A) → Reached one text done rest place → one place ≡ reads y after
+      → length after < length place → SoFar one text (done ++ y ∷ []) after
+  reached_more text done rest place after y (inl first) e less = rw first.0 (so_far_start y text after (rw first.1 at e))
+  reached_more text done rest place after y (inr more) e less =
+      let ends = byte_ends 44 rest 44 place more.mark in
+      so_far_more text done rest after y more.so_far (next_is rest place more.mark ∙ e) (omega (arith, ap length ends.is, length-append ends.front place))
+
+  -- what is fatal where the next one may stand is fatal for all
+  pub reached_fatal : (text : List ℕ) (done : List A) (rest place : List ℕ) (e : Fault) → Reached one text done rest place → one place ≡ fatal e → joined one text ≡ fatal e
+  reached_fatal text done rest place e (inl first) found = rw (rw first.1 at found) refl
+  reached_fatal text done rest place e (inr more) found = so_far_fatal text done rest e more.so_far (next_is rest place more.mark ∙ found)
+
+  -- what is read where the next one may stand needs memory
+  pub reached_needs : (room : ℕ) (text : List ℕ) (done : List A) (rest place : List ℕ) → Reached one text done rest place → NeedsMemory is_single (one place) → SetNeedsMemory room is_single one text
+  reached_needs room text done rest place (inl first) needs = first_needs room text (rw first.1 at needs)
+  reached_needs room text done rest place (inr more) needs = next_needs room text done rest more.so_far (rw (next_is rest place more.mark) needs)
+
+  -- nothing is read where the next one may stand: of the first, there is none; else these are all
+  pub reached_none : (text : List ℕ) (done : List A) (rest place : List ℕ) → Reached one text done rest place → one place ≡ miss → length done ≡ 0 → joined one text ≡ miss
+  reached_none text done rest place (inl first) e none = rw (rw first.1 at e) refl
+  reached_none text done rest place (inr more) e none = absurd (let some = more.some in omega arith)
+
+  pub reached_all : (text : List ℕ) (done : List A) (rest place : List ℕ) → Reached one text done rest place → one place ≡ miss → 0 < length done → joined one text ≡ reads done rest
+  reached_all text done rest place (inl first) e some = absurd (let none = ap length first.0 in omega arith)
+  reached_all text done rest place (inr more) e some = so_far_end text done rest more.so_far (next_is rest place more.mark ∙ e)
+
+  -- where no comma stands behind them, these are all
+  pub last_read : (text : List ℕ) (done : List A) (rest : List ℕ) → SoFar one text done rest → byte comma rest ≡ miss → joined one text ≡ reads done rest
+  last_read text done rest so_far none = so_far_end text done rest so_far (rw none refl)
 
   -- there is one more than there is room for
   pub more_than_room : (room : ℕ) (text : List ℕ) (done : List A) (rest : List ℕ) → SoFar one text done rest → room < length done → SetNeedsMemory room is_single one text

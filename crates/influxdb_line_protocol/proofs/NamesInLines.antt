@@ -2,11 +2,11 @@
 use Rattle.std.proofs.Common.{◌≡◌, ◌≢◌, ℕ, ◌<◌, List, [], ◌∷◌, ◌++◌, length, slice_index, false, refl, subst, arith, inl, inr, append_assoc, Some, None, Ok}
 use Rattle.std.specs.Prelude.{pos}
 use Rattle.std.specs.List.{Contains}
-use Rattle.influxdb_line_protocol.specs.declared.split.Part.TheVariants.{Plain}
+use Rattle.influxdb_line_protocol.proofs.SplitWalk.{Plain}
 use Rattle.influxdb_line_protocol.specs.declared.split.Dialect.{Dialect}
 use Rattle.influxdb_line_protocol.specs.declared.split.Dialect.TheVariants.{Crate, Strict}
 use Rattle.influxdb_line_protocol.specs.Readings.{Text, reads}
-use Rattle.influxdb_line_protocol.specs.Names.{NameKind, a_measurement, a_tag_key, a_tag_value, a_field_key, ends_in_backslash, escapable, name, read_text}
+use Rattle.influxdb_line_protocol.specs.Names.{NameKind, a_measurement, a_tag_key, a_tag_value, a_field_key, ends_in_backslash, escapable, read_text}
 use Rattle.influxdb_line_protocol.specs.Values.{Value, integer, value, integer_at}
 use Rattle.influxdb_line_protocol.specs.Points.{Pair}
 use Rattle.influxdb_line_protocol.specs.Pieces.{IsLastPiece, Pieces.last, begins_comment}

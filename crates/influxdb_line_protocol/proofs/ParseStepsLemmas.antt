@@ -1,14 +1,12 @@
--- The pieces that a call of `next` skips, and the item that it gives.
-use Rattle.std.proofs.Common.{◌≡◌, ℕ, ◌<◌, ◌≤◌, List, [], ◌∷◌, ◌++◌, length, ap, subst, refl, arith, append_assoc, length-append}
-use Rattle.std.specs.Prelude.{Option, Some, None, Result}
+-- The pieces that a call of `next_line` skips, and how many items are left behind it.
+use Rattle.std.proofs.Common.{◌≡◌, ℕ, ◌<◌, ◌≤◌, List, [], ◌∷◌, ◌++◌, length, ap, refl, arith, append_assoc, length-append}
+use Rattle.std.specs.Prelude.{Option, Some, None}
 use Rattle.std.specs.List.{All}
 use Rattle.std.proofs.lemmas.List.Elements.{All-push}
 use Rattle.influxdb_line_protocol.specs.declared.split.Dialect.{Dialect}
-use Rattle.influxdb_line_protocol.specs.declared.error.Error.{Error}
-use Rattle.influxdb_line_protocol.specs.declared.line.ParsedLine.{ParsedLine}
 use Rattle.influxdb_line_protocol.specs.Pieces.{Left, Pieces, Pieces.last, Pieces.cut, PiecesLeft, most_pieces}
 use Rattle.influxdb_line_protocol.specs.Trimming.{trimmed}
-use Rattle.influxdb_line_protocol.specs.ParseSteps.{IsBlankPiece, IsItemOf, GaveItem, most_items}
+use Rattle.influxdb_line_protocol.specs.ParseSteps.{IsBlankPiece, most_items}
 
 -- blank pieces were left before these
 pub record Skipped (before : Left) (others : List (List ℕ)) : Type 0 where
@@ -23,19 +21,6 @@ Skipped-more before piece others e h =
       skipped = h.skipped ++ piece ∷ [];
       left = rw append_assoc h.left;
       blank = All-push IsBlankPiece h.skipped piece h.blank e;
-    }
-
--- the piece behind the skipped ones has this item
-pub GaveItem-behind : (before : Left) (dialect : Dialect) (piece line : List ℕ) (item : Result ParsedLine Error) (others : List (List ℕ)) → dialect ≡ before.dialect → line ≡ trimmed piece
-    → 0 < length line → IsItemOf dialect line item → Skipped before (piece ∷ others) → GaveItem before item others
-GaveItem-behind before dialect piece line item others same e some is h =
-    record {
-      skipped = h.skipped;
-      piece = piece;
-      left = h.left;
-      blank = h.blank;
-      some = rw e at some;
-      item_is = subst (λ d. IsItemOf d (trimmed piece) item) same (subst (λ t. IsItemOf dialect t item) e is);
     }
 
 -- nothing is left of nothing

@@ -1,14 +1,14 @@
 -- Batches with a name that is not admitted do not read back.
-use Rattle.std.proofs.Common.{◌≡◌, ◌≢◌, ◌⊎◌, ℕ, zero, suc, ◌+◌, ◌<◌, List, [], ◌∷◌, ◌++◌, length, map, slice_index, Bool, true, false, not, ◌&&◌, refl, sym, ap, ◌∙◌, subst, arith, inl, inr, append_assoc, append-nil, Option, Ok, Err, Result}
+use Rattle.std.proofs.Common.{◌≡◌, ◌≢◌, ◌⊎◌, ℕ, zero, suc, ◌+◌, ◌<◌, List, [], ◌∷◌, ◌++◌, length, map, slice_index, Bool, true, false, ◌&&◌, refl, sym, ap, ◌∙◌, subst, arith, inl, inr, append_assoc, append-nil, Option, Ok, Err, Result}
 use Rattle.std.specs.Prelude.{◌==◌}
 use Rattle.std.specs.List.{AllByRecursion, Contains, list_all, flat_map}
 use Rattle.std.proofs.lemmas.Bool.{cases_Bool, false≢true, both_ways, and_parts, and_from, and_right, not_from_false, eq-eqb, ne_eqb}
 use Rattle.std.proofs.lemmas.Grind.{flat_map-append}
 use Rattle.std.proofs.lemmas.List.{length-append}
-use Rattle.influxdb_line_protocol.specs.declared.split.Part.TheVariants.{Head, Plain}
+use Rattle.influxdb_line_protocol.proofs.SplitWalk.{Head, Plain}
 use Rattle.influxdb_line_protocol.specs.declared.split.Dialect.{Dialect}
 use Rattle.influxdb_line_protocol.specs.declared.split.Dialect.TheVariants.{Crate, Strict}
-use Rattle.influxdb_line_protocol.specs.Bytes.{comma, is_one_of}
+use Rattle.influxdb_line_protocol.specs.Bytes.{is_one_of}
 use Rattle.influxdb_line_protocol.specs.Escapes.{escaped, escaped_byte}
 use Rattle.influxdb_line_protocol.specs.Readings.{Fault, ends_with_backslash, Text, Reading, fatal, reads}
 use Rattle.influxdb_line_protocol.specs.Names.{NameKind, a_measurement, a_tag_key, a_tag_value, a_field_key, ends_in_backslash, escapable, is_stop, name}

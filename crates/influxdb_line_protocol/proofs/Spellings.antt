@@ -1,12 +1,12 @@
 -- Names by any of their spellings.
-use Rattle.std.proofs.Common.{◌≡◌, ◌≢◌, ℕ, ◌<◌, List, [], ◌∷◌, ◌++◌, length, drop, slice_index, Bool, true, false, not, ◌||◌, refl, sym, ap, ◌∙◌, subst, arith, inl, inr, append_assoc, append-nil}
+use Rattle.std.proofs.Common.{◌≡◌, ◌≢◌, ℕ, ◌<◌, List, [], ◌∷◌, ◌++◌, length, drop, slice_index, Bool, true, false, ◌||◌, refl, sym, ap, ◌∙◌, subst, arith, inl, inr, append_assoc, append-nil}
 use Rattle.std.specs.Prelude.{◌==◌}
 use Rattle.std.specs.List.{list_all}
 use Rattle.std.proofs.lemmas.Bool.{cases_Bool, false≢true, and_parts, and_right, eqb-true, eqb-false, ne_eqb}
 use Rattle.std.proofs.lemmas.Grind.{common_steps}
 use Rattle.std.proofs.lemmas.List.{take_at, drop_at}
-use Rattle.influxdb_line_protocol.specs.declared.split.Part.{Part}
-use Rattle.influxdb_line_protocol.specs.declared.split.Part.TheVariants.{Head, Plain}
+use Rattle.influxdb_line_protocol.proofs.SplitWalk.{Part}
+use Rattle.influxdb_line_protocol.proofs.SplitWalk.{Head, Plain}
 use Rattle.influxdb_line_protocol.specs.Bytes.{is_one_of}
 use Rattle.influxdb_line_protocol.specs.Escapes.{escaped, without_escapes}
 use Rattle.influxdb_line_protocol.specs.Readings.{fatal, reads, ends_with_backslash}

@@ -1,18 +1,30 @@
 -- What a walk knows, a byte further.
-use Rattle.std.proofs.Common.{false, ◌≡◌, ◌≢◌, ℕ, ◌+◌, ◌<◌, ◌≤◌, Bool, true, cond, eqb, List, [], ◌∷◌, ◌++◌, sym, ◌∙◌, ap, arith, add-zero, append_assoc, append-nil, take, drop, length, ◌-◌}
-use Rattle.std.specs.List.{All, count_by}
-use Rattle.std.proofs.lemmas.List.{take-take, take_rest, drop-take, take-append-drop}
-use Rattle.std.proofs.lemmas.List.Elements.{All-head, All-tail}
+use Rattle.std.proofs.Common.{◌≡◌, ◌≢◌, ℕ, ◌+◌, ◌<◌, ◌≤◌, Bool, true, cond, eqb, List, [], ◌∷◌, ◌++◌, ◌∙◌, ap, arith, add-zero, take, length, slice_index, inl, inr}
+use Rattle.std.specs.Prelude.{◌==◌}
+use Rattle.std.specs.List.{count_by}
+use Rattle.std.proofs.lemmas.List.{take_more}
 use Rattle.std.proofs.lemmas.List.Sums.{sum_by-append}
-use Rattle.std.proofs.lemmas.Bool.{ne_eqb}
-use Rattle.influxdb_line_protocol.specs.declared.split.Part.{Part}
-use Rattle.influxdb_line_protocol.specs.declared.split.Part.TheVariants.{Head, Plain, Quoted}
-use Rattle.influxdb_line_protocol.specs.Escapes.{is_escaped_behind, IsBareBehind}
-use Rattle.influxdb_line_protocol.specs.Piece.{HasMoreEquals}
-use Rattle.influxdb_line_protocol.specs.Scan.{IsCountOf, IsIn, Follows}
-use Rattle.influxdb_line_protocol.specs.declared.split.Scan.{Scan}
-use Rattle.influxdb_line_protocol.proofs.SplitBare.{is_escaped-push_other}
+use Rattle.std.proofs.lemmas.Bool.{ne_eqb, cases_Bool}
+use Rattle.influxdb_line_protocol.specs.Bytes.{comma, equals}
+use Rattle.influxdb_line_protocol.specs.Escapes.{is_escaped_behind, bare, IsBareBehind}
+use Rattle.influxdb_line_protocol.specs.Piece.{IsHead, HasMoreEquals, EndsPlain, EndsQuoted}
+use Rattle.influxdb_line_protocol.proofs.SplitBare.{bare-push_escaped, bare-push_bare}
 use Rattle.influxdb_line_protocol.proofs.SplitShape.{IsHead-escaped, IsHead-bare, EndsPlain-escaped, EndsPlain-bare, EndsPlain-start, EndsQuoted-escaped, EndsQuoted-bare, EndsQuoted-start, EndsQuoted-close}
+
+-- the part of a piece that its last byte stands in
+pub data Part : Type 0 where
+  Head Plain Quoted : Part
+
+-- as many `=` and as many `,` are counted
+pub record IsCountOf (counted : List ℕ) (equal_signs commas : ℕ) : Type 0 where
+  pub equals_is : equal_signs ≡ count_by (λ b. b == equals) counted
+  pub commas_is : commas ≡ count_by (λ b. b == comma) counted
+
+-- the piece so far ends in this part, with these counts
+abbrev pub IsIn : Part → ℕ → ℕ → List ℕ → Type 0
+IsIn Head m n piece = IsHead piece × IsCountOf [] m n
+IsIn Plain m n piece = (counted : List ℕ) × EndsPlain piece counted × IsCountOf counted m n
+IsIn Quoted m n piece = (counted : List ℕ) × EndsQuoted piece counted × IsCountOf counted m n
 
 count_by-push : (p : ℕ → Bool) (xs : List ℕ) (b : ℕ) → count_by p (xs ++ b ∷ []) ≡ count_by p xs + cond (p b) 1 0
 count_by-push p xs b = omega (arith, sum_by-append (λ x. cond (p x) 1 0) xs (b ∷ []))
@@ -31,7 +43,16 @@ IsCountOf-other counted e c b h n m =
       commas_is = h.commas_is ∙ omega (arith, count_by-push (λ x. eqb x 44) counted b, ap (λ (t : Bool). cond {A = ℕ} t 1 0) (ne_eqb b 44 m));
     }
 
-HasMoreEquals-from : (counted : List ℕ) (e c : ℕ) → IsCountOf counted e c → c < e → HasMoreEquals counted
+-- the counts of joined bytes
+pub IsCountOf-append : (xs ys : List ℕ) (e c x y : ℕ) → IsCountOf xs e c → IsCountOf ys x y → IsCountOf (xs ++ ys) (e + x) (c + y)
+IsCountOf-append xs ys e c x y h k =
+    record {
+      equals_is = omega (arith, h.equals_is, k.equals_is, sum_by-append (λ b. cond (eqb b 61) 1 0) xs ys);
+      commas_is = omega (arith, h.commas_is, k.commas_is, sum_by-append (λ b. cond (eqb b 44) 1 0) xs ys);
+    }
+
+-- more counted `=` than `,` are more of them
+pub HasMoreEquals-from : (counted : List ℕ) (e c : ℕ) → IsCountOf counted e c → c < e → HasMoreEquals counted
 HasMoreEquals-from counted e c h l = omega (arith, h.equals_is, h.commas_is)
 
 not_more : (counted : List ℕ) (e c : ℕ) → IsCountOf counted e c → e ≤ c → ¬ HasMoreEquals counted
@@ -76,33 +97,11 @@ Quoted-closes e c piece f h = (h.0, EndsQuoted-close h.1 f, h.2)
 pub Quoted-other : (e c : ℕ) (piece : List ℕ) (b : ℕ) → IsBareBehind piece → b ≢ 34 → IsIn Quoted e c piece → IsIn Quoted e c (piece ++ b ∷ [])
 Quoted-other e c piece b f n h = (h.0, EndsQuoted-bare b h.1 f n, h.2)
 
--- several bytes that change nothing
-pub Head-run : (e c : ℕ) (run piece : List ℕ) → IsBareBehind piece → All (λ b. (b ≢ 92) × (b ≢ 32) × (b ≢ 10)) run → IsIn Head e c piece → IsBareBehind (piece ++ run) × IsIn Head e c (piece ++ run)
-Head-run e c [] piece f a h = rw append-nil (f, h)
-Head-run e c (b ∷ run) piece f a h =
-    let p = All-head (λ b. (b ≢ 92) × (b ≢ 32) × (b ≢ 10)) b run a in
-    let r = Head-run e c run (piece ++ b ∷ []) (is_escaped-push_other piece b p.0) (All-tail (λ b. (b ≢ 92) × (b ≢ 32) × (b ≢ 10)) b run a) (Head-other e c piece b f p.1 p.2 h) in
-    rw append_assoc at r
-
-pub Quoted-run : (e c : ℕ) (run piece : List ℕ) → IsBareBehind piece → All (λ b. (b ≢ 92) × (b ≢ 34)) run → IsIn Quoted e c piece → IsBareBehind (piece ++ run) × IsIn Quoted e c (piece ++ run)
-Quoted-run e c [] piece f a h = rw append-nil (f, h)
-Quoted-run e c (b ∷ run) piece f a h =
-    let p = All-head (λ b. (b ≢ 92) × (b ≢ 34)) b run a in
-    let r = Quoted-run e c run (piece ++ b ∷ []) (is_escaped-push_other piece b p.0) (All-tail (λ b. (b ≢ 92) × (b ≢ 34)) b run a) (Quoted-other e c piece b f p.1 h) in
-    rw append_assoc at r
-
--- a front, and a front of `&xs[i..]` behind it
-pub take_run : (i n : ℕ) (xs : List ℕ) → take i xs ++ take n (take (length xs - i) (drop i xs)) ≡ take (i + n) xs
-take_run i n xs =
-    ap (λ t. take i xs ++ take n t) (take_rest xs i)
-    ∙ ap (λ t. take i xs ++ t) (sym (drop-take i n xs))
-    ∙ ap (λ t. t ++ drop i (take (i + n) xs)) (sym (take-take i (i + n) xs (omega arith)))
-    ∙ take-append-drop i (take (i + n) xs)
-
--- a bare byte that is no backslash, by what it does to the part and the counts
-pub Follows-other : (piece : List ℕ) (s : Scan) (b : ℕ) (part : Part) (m n : ℕ) → s.escaped ≡ false → b ≢ 92 → (IsBareBehind piece → IsIn s.part s.equals s.commas piece → IsIn part m n (piece ++ b ∷ [])) → Follows piece s → Follows (piece ++ b ∷ []) (record { part = part; escaped = s.escaped; equals = m; commas = n })
-Follows-other piece s b part m n e o f h =
-    record {
-      escaped_is = e ∙ sym (is_escaped-push_other piece b o);
-      part_is = f (sym h.escaped_is ∙ e) h.part_is;
-    }
+-- the bare bytes that pass a test, one byte further
+pub count_bare_more : (p : ℕ → Bool) (text : List ℕ) (i : ℕ) → i < length text
+    → count_by p (bare (take (i + 1) text)) ≡ count_by p (bare (take i text)) + cond (is_escaped_behind (take i text)) 0 (cond (p (slice_index text i)) 1 0)
+count_bare_more p text i h =
+    elim (cases_Bool (is_escaped_behind (take i text))) [
+      | inl e ↦ rw (take_more text i 0 h, bare-push_escaped (take i text) (slice_index text i) e, e) (omega arith)
+      | inr e ↦ rw (take_more text i 0 h, bare-push_bare (take i text) (slice_index text i) e, e) (count_by-push p (bare (take i text)) (slice_index text i))
+    ]

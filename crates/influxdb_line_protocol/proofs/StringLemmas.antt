@@ -1,52 +1,17 @@
 -- Texts between quotes.
-use Rattle.std.proofs.Common.{◌≡◌, ◌≢◌, ℕ, ◌<◌, List, [], ◌∷◌, length, take, drop, get_or, slice_index, true, false, refl, sym, ap, ◌∙◌, arith, zero-add}
+use Rattle.std.proofs.Common.{◌≡◌, ◌≢◌, ℕ, ◌<◌, List, [], ◌∷◌, length, take, drop, get_or, slice_index, true, false, refl, ap, ◌∙◌, arith, zero-add}
 use Rattle.std.specs.Prelude.{◌==◌, nat_lt}
-use Rattle.std.proofs.lemmas.Bool.{and_parts, eqb-true, ne_eqb, lt-ltb, ltb-true, false_from_ne_true, or_right}
-use Rattle.std.proofs.lemmas.Grind.{common_steps}
+use Rattle.std.proofs.lemmas.Bool.{and_parts, eqb-true, ne_eqb, lt-ltb, ltb-true, false_from_ne_true}
 use Rattle.std.specs.List.{range_with_len}
 use Rattle.std.proofs.lemmas.List.{length-drop}
 use Rattle.std.proofs.lemmas.List.FromFn.{length-range_with_len, get_or-range_with_len}
 use Rattle.std.proofs.lemmas.List.Sums.{passes_at_first}
-use Rattle.influxdb_line_protocol.specs.Bytes.{is_one_of, quote}
-use Rattle.influxdb_line_protocol.specs.Escapes.{without_escapes, first_bare, is_bare_at}
-use Rattle.influxdb_line_protocol.specs.Names.{is_one_escape, is_shared, read_text}
-use Rattle.influxdb_line_protocol.specs.Readings.{Text, miss, reads}
+use Rattle.influxdb_line_protocol.specs.Bytes.{quote}
+use Rattle.influxdb_line_protocol.specs.Escapes.{first_bare, is_bare_at}
+use Rattle.influxdb_line_protocol.specs.Names.{read_text}
+use Rattle.influxdb_line_protocol.specs.Readings.{miss, reads}
 use Rattle.influxdb_line_protocol.specs.Values.{quotable, body_len, string, string_at}
-use Rattle.influxdb_line_protocol.proofs.NameLemmas.{no_backslash, same_text, without_escapes_same}
 use Rattle.influxdb_line_protocol.proofs.ValueLemmas.{byte_behind, behind_byte}
-
--- what a backslash escapes in a string is a character
-pub quotable_ascii : (b : ℕ) → is_one_of quotable b ≡ true → b < 128
-quotable_ascii b h = grind (arith, common_steps)
-
--- a known escape alone stands for its second byte
-escape_alone : (body : List ℕ) → is_one_escape quotable body ≡ true → drop 1 body ≡ without_escapes quotable body
-unfolding without_escapes
-escape_alone [] h = cc
-escape_alone (b ∷ []) h = cc
-escape_alone (b ∷ c ∷ []) h =
-    let parts = and_parts (b == 92) (is_one_of quotable c) h in
-    rw (parts.0, parts.1) refl
-escape_alone (b ∷ c ∷ d ∷ rest) h = cc
-
--- a body that is one escape is read as a part of it
-pub read_escape : (body part : List ℕ) → is_one_escape quotable body ≡ true → part ≡ drop 1 body
-    → let x : Text = record { bytes = part; is_single = true } in x ≡ read_text quotable body
-read_escape body part one e =
-    same_text part (without_escapes quotable body) true (is_shared quotable body) (e ∙ escape_alone body one) (sym (rw one refl))
-
--- a body without a backslash is read as itself
-pub read_plain : (body part : List ℕ) → is_one_of body 92 ≡ false → part ≡ body
-    → let x : Text = record { bytes = part; is_single = true } in x ≡ read_text quotable body
-read_plain body part none e =
-    same_text part (without_escapes quotable body) true (is_shared quotable body) (e ∙ sym (without_escapes_same quotable body (no_backslash body none)))
-    (sym (rw none (or_right (is_one_escape quotable body) true refl)))
-
--- any other is read as a copy
-pub read_copy : (body part : List ℕ) → is_one_escape quotable body ≡ false → is_one_of body 92 ≡ true → part ≡ without_escapes quotable body
-    → let x : Text = record { bytes = part; is_single = false } in x ≡ read_text quotable body
-read_copy body part several some e =
-    same_text part (without_escapes quotable body) false (is_shared quotable body) e (sym (rw (several, some) refl))
 
 -- the outcomes of a string
 pub string_misses : (text : List ℕ) → ((behind : List ℕ) → text ≢ 34 ∷ behind) → string_at text ≡ miss

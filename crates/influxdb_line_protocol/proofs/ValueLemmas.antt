@@ -1,23 +1,21 @@
 -- Numbers in front of a text.
-use Rattle.std.proofs.Common.{◌≡◌, ◌≢◌, ◌⊎◌, ◌∙◌, ℕ, suc, ◌+◌, ◌-◌, ◌^◌, ◌<◌, ◌≤◌, List, [], ◌∷◌, length, map, take, drop, get_or, Bool, None, Err, eqb, slice_index, true, false, refl, sym, ap, arith, inl, inr, add-zero, zero-add, one-add}
-use Rattle.std.specs.Prelude.{◌==◌, IsUtf8, IsCharBoundary, ℤ, pos, negsuc, FitsSigned}
+use Rattle.std.proofs.Common.{◌≡◌, ◌≢◌, ◌∙◌, ℕ, zero, suc, ◌+◌, ◌-◌, ◌^◌, ◌<◌, ◌≤◌, List, [], ◌∷◌, length, map, take, drop, get_or, Bool, None, eqb, slice_index, true, false, refl, sym, ap, subst, arith, inl, inr, add-zero, zero-add, one-add}
+use Rattle.std.specs.Prelude.{◌==◌, if◌then◌else◌, IsUtf8, IsCharBoundary, ℤ, pos, negsuc, FitsSigned}
 use Rattle.std.specs.Bool.{MatchBool}
 use Rattle.std.specs.Borrow.{Bor}
 use Rattle.std.specs.List.{starts_with}
 use Rattle.std.specs.Str.Pattern.{HasPrefixMatch, FindsTextPrefix}
 use Rattle.std.specs.Char.{is_ascii_digit, digit_value}
 use Rattle.std.specs.Int.{w64}
-use Rattle.std.specs.Str.Parse.{AllDigits, IsNumeral, digits_value, signed_digits_value, without_leading_plus, without_leading_sign}
+use Rattle.std.specs.Str.Parse.{AllDigits, IsNumeral, digits_value, signed_digits_value, without_leading_sign}
 use Rattle.std.proofs.lemmas.Bool.{cases_Bool, cases_eq, cases_lt, false_from_ne_true, and_parts, eqb-false, eqb-true, eq-eqb, ne_eqb, leb-true, ltb-true, lt-ltb, le-leb, and_from}
 use Rattle.std.specs.Prelude.{leb, nat_lt}
-use Rattle.std.proofs.lemmas.List.{drop-drop, drop_more, get_or-drop, get_or-map, get_or-take, length-map, get_or_past, length-drop, length-take, length-take-le}
+use Rattle.std.proofs.lemmas.List.{drop-drop, drop_more, get_or-drop, get_or-map, length-map, get_or_past, length-drop, length-take, length-take-le}
 use Rattle.std.proofs.lemmas.List.Sums.{fold_more, prefix_len_passes, prefix_len-le-length}
 use Rattle.std.proofs.lemmas.Grind.{common_steps}
-use Rattle.std.proofs.lemmas.Str.Parse.{without_leading_plus_none}
-use Rattle.std.proofs.lemmas.Str.{IsCharBoundary-after_ascii, digit_value_digit}
-use Rattle.influxdb_line_protocol.specs.Values.{digits_len, integer, integer_at, integer_len, side_of, fits_i64, boolean, boolean_at, longer_front, unsigned, unsigned_at, word_len}
-use Rattle.influxdb_line_protocol.specs.Readings.{above, miss, fatal, reads, integer_value_invalid, uinteger_value_invalid, timestamp_value_invalid}
-use Rattle.influxdb_line_protocol.specs.Lines.{spaces, timestamp}
+use Rattle.std.proofs.lemmas.Str.{IsCharBoundary-after_ascii, IsCharBoundary-start, digit_value_digit}
+use Rattle.influxdb_line_protocol.specs.Values.{Value, digits_len, integer, integer_at, integer_len, side_of, fits_i64, boolean, boolean_at, longer_front, unsigned, unsigned_at, word_len}
+use Rattle.influxdb_line_protocol.specs.Readings.{Reading, Text, ◌otherwise◌, above, miss, fatal, reads, integer_value_invalid, uinteger_value_invalid}
 
 -- a digit, by its test
 pub digit_range : (b : ℕ) → is_ascii_digit b ≡ true → (48 ≤ b) × (b ≤ 57)
@@ -56,6 +54,19 @@ digits_boundary text sign d utf8 e some =
     let within : d ≤ length text - sign = omega (arith, prefix_len-le-length is_ascii_digit (drop sign text), length-drop sign text) in
     let next : sign + d ≡ sign + (d - 1) + 1 = omega arith in
     rw next (IsCharBoundary-after_ascii text (sign + (d - 1)) utf8 (omega arith) (omega arith))
+
+-- the same, behind no digits too
+pub digits_end : (text : List ℕ) (d : ℕ) → IsUtf8 text → d ≡ digits_len text → IsCharBoundary text d
+digits_end text zero utf8 e = IsCharBoundary-start text utf8
+digits_end text (suc d) utf8 e = subst (IsCharBoundary text) (zero-add (suc d)) (digits_boundary text 0 (suc d) utf8 e (omega arith))
+
+-- and behind a sign and digits
+pub negative_end : (text : List ℕ) (r : ℕ) → IsUtf8 text → r ≡ (if digits_len (drop 1 text) == 0 then 0 else 1 + digits_len (drop 1 text)) → IsCharBoundary text r
+negative_end text r utf8 e =
+    elim (cases_Bool (digits_len (drop 1 text) == 0)) [
+      | inl none ↦ rw (e, none) (IsCharBoundary-start text utf8)
+      | inr some ↦ rw (e, some) (digits_boundary text 1 (digits_len (drop 1 text)) utf8 refl (omega (arith, eqb-false (digits_len (drop 1 text)) 0 some)))
+    ]
 
 -- digits in front, where there is one
 pub front_numeral : (text : List ℕ) → digits_len text ≢ 0 → IsNumeral 10 (take (digits_len text) text)
@@ -147,20 +158,27 @@ integer_parsed text number rest z e marked some fits same =
     let taken : 0 < integer_len text = omega (arith, length-take (integer_len text) text, ap length e) in
     rw (same, e, ← byte.1) (integer_reads text taken byte.0 (test_from_fits _ (rw e at fits)))
 
--- and where it does not
-pub integer_refused : (text number rest : List ℕ) → number ≡ take (integer_len text) text → drop (integer_len text) text ≡ 105 ∷ rest
-    → 0 < length number → (IsNumeral 10 (without_leading_sign number) × FitsSigned w64 (signed_digits_value 10 number) → ⊥)
-    → integer_at text ≡ fatal (integer_value_invalid (side_of number) number)
-integer_refused text number rest e marked some refused =
-    let byte = byte_behind text rest (integer_len text) 105 marked in
-    let taken : 0 < integer_len text = omega (arith, length-take (integer_len text) text, ap length e) in
-    let none = rw e at refused in
-    let test : fits_i64 (signed_digits_value 10 (take (integer_len text) text)) ≡ false =
-    false_from_ne_true _ (λ t. none (integer_numeral text taken, fits_from_test _ t)) in
-    rw e (integer_overflows text taken byte.0 test)
+-- an integer and its mark decide
+pub integer_decides : (text : List ℕ) (other : Reading (Value Text)) → 0 < integer_len text → slice_index text (integer_len text) ≡ 105
+    → (integer_at text otherwise other) ≡ integer_at text
+unfolding integer_at
+integer_decides text other some mark =
+    let stands = ne_eqb (integer_len text) 0 (λ e. absurd (omega arith)) in
+    elim (cases_Bool (fits_i64 (signed_digits_value 10 (take (integer_len text) text)))) [
+      | inl fits ↦ rw (stands, eq-eqb (slice_index text (integer_len text)) 105 mark, fits) refl
+      | inr none ↦ rw (stands, eq-eqb (slice_index text (integer_len text)) 105 mark, none) refl
+    ]
+
+-- behind a letter a text may be cut
+pub letter_boundary : (text : List ℕ) (n b : ℕ) → IsUtf8 text → slice_index text n ≡ suc b → suc b < 128 → IsCharBoundary text (n + 1)
+letter_boundary text n b utf8 e small =
+    elim (cases_lt n (length text)) [
+      | inl within ↦ IsCharBoundary-after_ascii text n utf8 within (omega (arith, e))
+      | inr past ↦ let past_end : 0 ≡ suc b = rw (get_or_past text n 0 past) at e in absurd (omega arith)
+    ]
 
 -- the digits in front and the integer in front
-digits_of_plain : (text : List ℕ) → slice_index text 0 ≢ 45 → digits_len text ≡ integer_len text
+pub digits_of_plain : (text : List ℕ) → slice_index text 0 ≢ 45 → digits_len text ≡ integer_len text
 digits_of_plain text other =
     let no_minus : (45 == slice_index text 0) ≡ false = ne_eqb 45 (slice_index text 0) (λ e. other (sym e)) in
     elim (cases_Bool (digits_len text == 0)) [
@@ -168,42 +186,9 @@ digits_of_plain text other =
       | inr some ↦ rw (no_minus, some) (sym (zero-add (digits_len text)))
     ]
 
-digits_of_minus : (text : List ℕ) → slice_index text 0 ≡ 45 → digits_len text ≡ 0
+pub digits_of_minus : (text : List ℕ) → slice_index text 0 ≡ 45 → digits_len text ≡ 0
 digits_of_minus [] e = refl
 digits_of_minus (b ∷ rest) e = rw e refl
-
--- no digit stands in front where no integer does, or one with `-`
-pub unsigned_none : (text number : List ℕ) → number ≡ take (integer_len text) text → (length number ≡ 0) ⊎ (slice_index number 0 ≡ 45) → digits_len text ≡ 0
-unsigned_none text number e (inl empty) =
-    elim (cases_eq (slice_index text 0) 45) [
-      | inl minus ↦ digits_of_minus text minus
-      | inr plain ↦
-          let fits : digits_len text ≤ length text = prefix_len-le-length is_ascii_digit text in
-          omega (arith, digits_of_plain text plain, length-take (integer_len text) text, ap length e)
-    ]
-unsigned_none text number e (inr minus) =
-    elim (cases_eq (slice_index text 0) 45) [
-      | inl minus ↦ digits_of_minus text minus
-      | inr plain ↦
-          elim (cases_lt 0 (integer_len text)) [
-            | inl some ↦ absurd (plain (sym (get_or-take (integer_len text) text 0 0 some) ∙ sym (ap (λ (xs : List ℕ). get_or xs 0 0) e) ∙ minus))
-            | inr none ↦ omega (arith, digits_of_plain text plain)
-          ]
-    ]
-
--- else the integer is the digits
-pub unsigned_front : (text number : List ℕ) → number ≡ take (integer_len text) text → 0 < length number → slice_index number 0 ≢ 45 → digits_len text ≡ integer_len text
-unsigned_front text number e some plain =
-    let taken : 0 < integer_len text = omega (arith, length-take (integer_len text) text, ap length e) in
-    digits_of_plain text (λ minus. plain (ap (λ (xs : List ℕ). get_or xs 0 0) e ∙ get_or-take (integer_len text) text 0 0 taken ∙ minus))
-
--- digits have no `+` in front
-no_plus : (text number : List ℕ) → number ≡ take (digits_len text) text → 0 < digits_len text → without_leading_plus number ≡ number
-no_plus text number e some =
-    let first : is_ascii_digit (get_or text 0 0) ≡ true = prefix_len_passes is_ascii_digit text 0 0 some in
-    let range = digit_range (get_or text 0 0) first in
-    let head : get_or number 0 0 ≡ get_or text 0 0 = ap (λ (xs : List ℕ). get_or xs 0 0) e ∙ get_or-take (digits_len text) text 0 0 some in
-    without_leading_plus_none number (λ plus. absurd (omega (arith, head, plus)))
 
 -- the outcomes of an unsigned integer
 pub unsigned_misses : (text : List ℕ) → digits_len text ≡ 0 → unsigned_at text ≡ miss
@@ -218,28 +203,32 @@ unsigned_unmarked text other =
       | inr some ↦ rw (some, ne_eqb (slice_index text (digits_len text)) 117 other) refl
     ]
 
-pub unsigned_parsed : (text number rest : List ℕ) (n : ℕ) → number ≡ take (digits_len text) text → drop (digits_len text) text ≡ 117 ∷ rest
-    → 0 < length number → digits_value 10 (without_leading_plus number) < 2 ^ 64 → n ≡ digits_value 10 (without_leading_plus number)
-    → unsigned_at text ≡ reads (unsigned n) rest
+pub unsigned_reads : (text : List ℕ) → 0 < digits_len text → slice_index text (digits_len text) ≡ 117
+    → digits_value 10 (take (digits_len text) text) < 2 ^ 64
+    → unsigned_at text ≡ reads (unsigned (digits_value 10 (take (digits_len text) text))) (drop (digits_len text + 1) text)
 unfolding unsigned_at
-unsigned_parsed text number rest n e marked some fits same =
-    let byte = byte_behind text rest (digits_len text) 117 marked in
-    let taken : 0 < digits_len text = omega (arith, length-take (digits_len text) text, ap length e) in
-    let value : n ≡ digits_value 10 (take (digits_len text) text) = same ∙ ap (digits_value 10) (no_plus text number e taken ∙ e) in
-    let small : digits_value 10 (take (digits_len text) text) < 2 ^ 64 = omega (arith, value, same) in
-    rw (ne_eqb (digits_len text) 0 (λ z. absurd (omega arith)), eq-eqb (slice_index text (digits_len text)) 117 byte.0, lt-ltb _ (2 ^ 64) small, value, byte.1) refl
+unsigned_reads text some mark small =
+    let ne : digits_len text ≡ 0 → ⊥ = λ e. absurd (omega arith) in
+    rw (ne_eqb (digits_len text) 0 ne, eq-eqb (slice_index text (digits_len text)) 117 mark, lt-ltb _ (2 ^ 64) small) refl
 
-pub unsigned_refused : (text number rest : List ℕ) → number ≡ take (digits_len text) text → drop (digits_len text) text ≡ 117 ∷ rest
-    → 0 < length number → (IsNumeral 10 (without_leading_plus number) × (digits_value 10 (without_leading_plus number) < 2 ^ 64) → ⊥)
-    → unsigned_at text ≡ fatal (uinteger_value_invalid above number)
+pub unsigned_overflows : (text : List ℕ) → 0 < digits_len text → slice_index text (digits_len text) ≡ 117
+    → 2 ^ 64 ≤ digits_value 10 (take (digits_len text) text)
+    → unsigned_at text ≡ fatal (uinteger_value_invalid above (take (digits_len text) text))
 unfolding unsigned_at
-unsigned_refused text number rest e marked some refused =
-    let byte = byte_behind text rest (digits_len text) 117 marked in
-    let taken : 0 < digits_len text = omega (arith, length-take (digits_len text) text, ap length e) in
-    let none = rw (no_plus text number e taken ∙ e) at refused in
+unsigned_overflows text some mark large =
+    let ne : digits_len text ≡ 0 → ⊥ = λ e. absurd (omega arith) in
     let test : nat_lt (digits_value 10 (take (digits_len text) text)) (2 ^ 64) ≡ false =
-    false_from_ne_true _ (λ t. none (front_numeral text (λ z. absurd (omega arith)), ltb-true _ (2 ^ 64) t)) in
-    rw (ne_eqb (digits_len text) 0 (λ z. absurd (omega arith)), eq-eqb (slice_index text (digits_len text)) 117 byte.0, test, e) refl
+    false_from_ne_true _ (λ t. absurd (omega (arith, large, ltb-true _ (2 ^ 64) t))) in
+    rw (ne_eqb (digits_len text) 0 ne, eq-eqb (slice_index text (digits_len text)) 117 mark, test) refl
+
+-- digits and their mark decide
+pub unsigned_decides : (text : List ℕ) (other : Reading (Value Text)) → integer_at text ≡ miss → 0 < digits_len text → slice_index text (digits_len text) ≡ 117
+    → (integer_at text otherwise unsigned_at text otherwise other) ≡ unsigned_at text
+unsigned_decides text other no_integer some mark =
+    elim (cases_lt (digits_value 10 (take (digits_len text) text)) (2 ^ 64)) [
+      | inl small ↦ rw (no_integer, unsigned_reads text some mark small) refl
+      | inr large ↦ rw (no_integer, unsigned_overflows text some mark large) refl
+    ]
 
 -- the longest of the words so far, and one more
 pub word_len_more : (words : List (Bor (List ℕ))) (i : ℕ) (none : Bor (List ℕ)) (text : List ℕ) → i < length words
@@ -275,16 +264,3 @@ pub boolean_reads : (b : Bool) (words : List (List ℕ)) (text : List ℕ) → 0
     → boolean_at b words text ≡ reads (boolean b) (drop (word_len words text) text)
 unfolding boolean_at
 boolean_reads b words text some = rw (ne_eqb (word_len words text) 0 (λ e. absurd (omega arith))) refl
-
--- a timestamp that no i64 holds
-pub timestamp_refused : (text behind number : List ℕ) → behind ≡ drop (spaces text) text → number ≡ take (integer_len behind) behind
-    → length behind ≢ length text → 0 < length number → (IsNumeral 10 (without_leading_sign number) × FitsSigned w64 (signed_digits_value 10 number) → ⊥)
-    → timestamp text ≡ Err (timestamp_value_invalid (side_of number) number)
-timestamp_refused text behind number past e shorter some refused =
-    let gap : spaces text ≢ 0 = λ z. shorter (ap length past ∙ omega (arith, z, length-drop (spaces text) text)) in
-    let taken : 0 < integer_len behind = omega (arith, length-take (integer_len behind) behind, ap length e) in
-    let none = rw e at refused in
-    let test : fits_i64 (signed_digits_value 10 (take (integer_len behind) behind)) ≡ false =
-    false_from_ne_true _ (λ t. none (integer_numeral behind taken, fits_from_test _ t)) in
-    let digits : (integer_len behind == 0) ≡ false = ne_eqb (integer_len behind) 0 (λ z. absurd (omega arith)) in
-    rw (← past, ne_eqb (spaces text) 0 gap, digits, test, e) refl

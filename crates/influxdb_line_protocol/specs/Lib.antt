@@ -2,14 +2,15 @@ pub mod Bytes
 pub mod Escapes
 pub mod Readings
 pub mod Names
+pub mod Lanes
 pub mod Values
+pub mod Forms
 pub mod Trimming
 pub mod Points
 pub mod Piece
 pub mod Pieces
 pub mod Lines
 pub mod Items
-pub mod Scan
 pub mod Texts
 pub mod Faults
 pub mod Outcomes
@@ -30,3 +31,4 @@ pub mod Meanings
 pub mod Shown
 pub mod Bases
 pub mod BaseLaws
+pub mod Marks

@@ -1,5 +1,6 @@
 -- What a call of `next` on a `ParseLines` gives.
 use Rattle.std.specs.Prelude.{◌≡◌, ℕ, ◌<◌, true, List, ◌∷◌, [], ◌++◌, length, Option, Some, None, Result}
+use Rattle.std.specs.Borrow.{Bor}
 use Rattle.std.specs.List.{All}
 use Rattle.influxdb_line_protocol.specs.declared.split.Dialect.{Dialect}
 use Rattle.influxdb_line_protocol.specs.declared.error.Error.{Error}
@@ -29,6 +30,15 @@ pub record GaveItem (before : Left) (item : Result ParsedLine Error) (others : L
   pub some : 0 < length (trimmed piece)
   pub item_is : IsItemOf before.dialect (trimmed piece) item
 
+-- blank pieces were left, then a piece that is not blank, of which this line is left when it is trimmed, and then the others
+pub record GaveLine (before : Left) (line : List ℕ) (others : List (List ℕ)) : Type 0 where
+  pub skipped : List (List ℕ)
+  pub piece : List ℕ
+  pub left : PiecesLeft before (skipped ++ piece ∷ others)
+  pub blank : All IsBlankPiece skipped
+  pub some : 0 < length line
+  pub line_is : line ≡ trimmed piece
+
 -- only blank pieces were left
 pub record HadBlankPieces (before : Left) : Type 0 where
   pub skipped : List (List ℕ)
@@ -41,6 +51,13 @@ abbrev pub GivesItem : Left → Option (Result ParsedLine Error) → Left → Ty
 GivesItem before None after = HadBlankPieces before × PiecesLeft after []
 GivesItem before (Some item) after =
     (after.dialect ≡ before.dialect) × ((others : List (List ℕ)) → PiecesLeft after others → GaveItem before item others)
+
+-- the line of the first piece that is not blank is given, and the pieces behind it are left; or `None` where only blank
+-- pieces are left, and then none is left
+abbrev pub GivesLine : Left → Option (Bor (List ℕ)) → Left → Type 0
+GivesLine before None after = HadBlankPieces before × PiecesLeft after []
+GivesLine before (Some line) after =
+    (after.dialect ≡ before.dialect) × ((others : List (List ℕ)) → PiecesLeft after others → GaveLine before line.now others)
 
 -- so many items are left at most
 abbrev pub most_items : Option (List ℕ) → ℕ

@@ -4,7 +4,8 @@
 //! line without a field, a tag behind a field or a second timestamp does not compile, and
 //! [`LineProtocolBuilder::build`] gives the buffer back between two lines alone.
 
-ghost use Rattle.std.specs.Prelude.{◌≡◌, ◌≢◌, ◌+◌, ◌-◌, ◌<◌, ◌≤◌, ◌^◌, ◌↔◌, List, [], ◌∷◌, ◌++◌, ℕ, length, IfOk, IfErr, IfNone, IfSome, OnOk, OnErr, IsOk, IsErr, vec_len, vec_capacity};
+ghost use Rattle.std.specs.Prelude.{◌≡◌, ◌≢◌, ◌+◌, ◌-◌, ◌<◌, ◌≤◌, ◌^◌, ◌↔◌, List, [], ◌∷◌, ◌++◌, ℕ, length, IfOk, IfErr, IfNone, IfSome, OnOk, OnErr, IsOk, IsErr, vec_len, vec_capacity, IsTrue};
+ghost use Rattle.std.specs.List.{count_by};
 ghost use Rattle.std.specs.Option.{SomeIff};
 ghost use Rattle.std.specs.Fmt.{decimal, signed_decimal};
 ghost use Rattle.arrayvec.specs.ArrayVec.{array_vec_len};
@@ -15,6 +16,7 @@ ghost use Rattle.influxdb_line_protocol.specs.Escapes.{escaped};
 ghost use Rattle.influxdb_line_protocol.specs.Names.{a_measurement};
 ghost use Rattle.influxdb_line_protocol.specs.Values.{integer, unsigned, string, boolean};
 ghost use Rattle.influxdb_line_protocol.specs.Points.{built_tag, built_value, field_text, spelling};
+ghost use Rattle.influxdb_line_protocol.specs.Marks.{listed};
 ghost use Rattle.influxdb_line_protocol.specs.Built.{Writes, buffer_of, bytes_of};
 
 use arrayvec::ArrayVec;
@@ -22,8 +24,10 @@ use std::alloc::{Allocator, Global};
 use std::marker::PhantomData;
 
 mod lines;
+mod marks;
 
 pub use lines::{is_admitted, write_line};
+use marks::{Marks, before_first, is_free_of};
 
 /// Why a call was refused.
 #[derive(Clone, Copy, Debug, PartialEq, Eq)]
@@ -130,41 +134,68 @@ pub(crate) enum Escapes {
 }
 
 impl Escapes {
-    // Whether the byte gets a backslash.
-    fn has(self, byte: u8) -> bool
-        ensures { result ≡ is_one_of (bytes_of self) byte }
+    // The bytes that get a backslash.
+    #[inline(always)]
+    fn marks(self) -> Marks
+        ensures { (b : ℕ) → is_one_of (listed result) b ≡ is_one_of (bytes_of self) b }
     {
-        match self {
-            Escapes::OfMeasurement => matches!(byte, b',' | b' ' | b'\\'),
-            Escapes::OfKey => matches!(byte, b',' | b'=' | b' ' | b'\\'),
-            Escapes::OfString => matches!(byte, b'"' | b'\\'),
+        let [first, second, third, fourth] = match self {
+            Escapes::OfMeasurement => *b", \\\\",
+            Escapes::OfKey => *b",= \\",
+            Escapes::OfString => *b"\"\\\\\\",
+        };
+        Marks {
+            first,
+            second,
+            third,
+            fourth,
         }
     }
 }
 
+// Whether no byte of `text` gets a backslash.
+#[inline(always)]
+fn is_plain(escapes: Escapes, text: &[u8]) -> bool
+    ensures { IsTrue result → escaped (bytes_of escapes) text.now ≡ text.now }
+{
+    is_free_of(escapes.marks(), text)
+}
+
+// How many bytes of `text` get a backslash.
+#[inline(always)]
+fn backslashes(escapes: Escapes, text: &[u8]) -> usize
+    ensures { result ≡ count_by (is_one_of (bytes_of escapes)) text.now }
+{
+    marks::count(escapes.marks(), text)
+}
+
 // The length of `text` with its backslashes. A text takes at most half of what a `usize` holds.
+#[inline(always)]
 #[tactic(auto, using(crate::proofs::BuilderLemmas::length_escaped))]
 fn escaped_len(escapes: Escapes, text: &[u8]) -> usize
     ensures { result ≡ length (escaped (bytes_of escapes) text.now) }
 {
-    let backslashes = text.iter().filter(|byte| escapes.has(**byte)).count();
-    text.len() + backslashes
+    text.len() + backslashes(escapes, text)
 }
 
 // The first byte of `text` that gets a backslash: what stands before it, the byte, and what follows.
-#[tactic(auto, using(crate::proofs::BuilderLemmas::escaped_same))]
+#[inline(always)]
 fn next_escape(escapes: Escapes, text: &[u8]) -> Option<(&[u8], u8, &[u8])>
     ensures some { IfSome result (λ p. escaped (bytes_of escapes) text.now
         ≡ p.0.now ++ backslash ∷ p.1 ∷ escaped (bytes_of escapes) p.2.now) }
     ensures less { IfSome result (λ p. length p.2.now < length text.now) }
     ensures none { IfNone result (escaped (bytes_of escapes) text.now ≡ text.now) }
 {
-    let at = text.iter().position(|byte| escapes.has(*byte))?;
+    let at = before_first(escapes.marks(), text);
+    if at == text.len() {
+        return None;
+    }
     Some((&text[..at], text[at], &text[at + 1..]))
 }
 
 // Appends `text` with its backslashes. What stands between two of them is copied as one run.
-fn put_escaped<B: BufMut>(buf: &mut B, escapes: Escapes, text: &[u8])
+#[inline(always)]
+fn put_runs<B: BufMut>(buf: &mut B, escapes: Escapes, text: &[u8])
     requires { length (escaped (bytes_of escapes) text.now) ≤ B.room buf.old }
     ensures bytes { B.bytes buf.new ≡ B.bytes buf.old ++ escaped (bytes_of escapes) text.now }
     ensures room { B.room buf.old ≤ B.room buf.new + length (escaped (bytes_of escapes) text.now) }
@@ -176,6 +207,34 @@ fn put_escaped<B: BufMut>(buf: &mut B, escapes: Escapes, text: &[u8])
         rest = after;
     }
     buf.put(rest);
+}
+
+// The same, compiled apart for each kind, so that the bytes that are looked for are constants.
+#[inline(never)]
+fn put_marked<B: BufMut>(buf: &mut B, escapes: Escapes, text: &[u8])
+    requires { length (escaped (bytes_of escapes) text.now) ≤ B.room buf.old }
+    ensures bytes { B.bytes buf.new ≡ B.bytes buf.old ++ escaped (bytes_of escapes) text.now }
+    ensures room { B.room buf.old ≤ B.room buf.new + length (escaped (bytes_of escapes) text.now) }
+{
+    match escapes {
+        Escapes::OfMeasurement => put_runs(buf, Escapes::OfMeasurement, text),
+        Escapes::OfKey => put_runs(buf, Escapes::OfKey, text),
+        Escapes::OfString => put_runs(buf, Escapes::OfString, text),
+    }
+}
+
+// Appends `text` with its backslashes, as a whole where it has none.
+#[inline(always)]
+fn put_escaped<B: BufMut>(buf: &mut B, escapes: Escapes, text: &[u8])
+    requires { length (escaped (bytes_of escapes) text.now) ≤ B.room buf.old }
+    ensures bytes { B.bytes buf.new ≡ B.bytes buf.old ++ escaped (bytes_of escapes) text.now }
+    ensures room { B.room buf.old ≤ B.room buf.new + length (escaped (bytes_of escapes) text.now) }
+{
+    if is_plain(escapes, text) {
+        buf.put(text);
+    } else {
+        put_marked(buf, escapes, text);
+    }
 }
 
 /// A value that a field can have.

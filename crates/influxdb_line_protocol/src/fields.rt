@@ -1,9 +1,9 @@
 //! The fields of a line.
 
-ghost use Rattle.std.specs.Prelude.{◌≡◌, ◌<◌, ◌≤◌, [], length, IfOk, IfSome, Err};
+ghost use Rattle.std.specs.Prelude.{◌≡◌, ◌<◌, ◌≤◌, [], ◌∷◌, ◌++◌, length, IfErr, IfOk, IfSome, OnErr, OnOk, Err};
 ghost use Rattle.influxdb_line_protocol.specs.Filled.{Fills};
 ghost use Rattle.influxdb_line_protocol.specs.Light.{is_single_field};
-ghost use Rattle.influxdb_line_protocol.specs.Lines.{behind_comma, field, field_set, joined, without_comma};
+ghost use Rattle.influxdb_line_protocol.specs.Lines.{field, field_set, joined, without_comma};
 ghost use Rattle.influxdb_line_protocol.specs.Memory.{NeedsMemory};
 ghost use Rattle.influxdb_line_protocol.specs.Outcomes.{Gives};
 ghost use Rattle.influxdb_line_protocol.specs.Parsed.{field_of};
@@ -18,6 +18,7 @@ type Field<'a> = (EscapedStr<'a>, FieldValue<'a>);
 
 // A field in front of `text`, and the rest. The copy of the key comes last: where no field stands, the key takes no memory.
 #[tactic(auto, unfolding(crate::specs::Lines::field))]
+#[inline(always)]
 fn field<'a>(alloc: Global, text: &'a str) -> Result<Option<(Field<'a>, &'a str)>>
     ensures value { Gives field_of result (field text.now) }
     ensures less { IfOk result (λ o. IfSome o (λ p. length p.1.now < length text.now)) }
@@ -26,54 +27,67 @@ fn field<'a>(alloc: Global, text: &'a str) -> Result<Option<(Field<'a>, &'a str)
     let Some((key, rest)) = names::spelled(NameKind::FieldKey, text)? else {
         return Ok(None);
     };
-    let Some(rest) = behind('=', rest) else {
+    let Some(rest) = behind(b'=', rest) else {
         return Ok(None);
     };
     let Some((value, rest)) = values::value(alloc, rest)? else {
         return Ok(None);
     };
-    let key = names::escaped_str(alloc, NameKind::FieldKey, key)?;
+    let key = names::escaped_str(alloc, key)?;
     Ok(Some(((key, value), rest)))
 }
 
-// A comma and a field in front of `text`, and the rest.
-fn next_field<'a>(alloc: Global, text: &'a str) -> Result<Option<(Field<'a>, &'a str)>>
-    ensures value { Gives field_of result (behind_comma field text.now) }
-    ensures less { IfOk result (λ o. IfSome o (λ p. length p.1.now < length text.now)) }
-    ensures memory { result ≡ Err Error.OutOfMemory → NeedsMemory is_single_field (behind_comma field text.now) }
+// How many places a full set gets more, at least: so many that the fields of an ordinary line make it grow once.
+const MORE: usize = 10;
+
+// Appends a field. Only a full set takes memory.
+#[inline(always)]
+fn append<'a>(set: &mut FieldSet<'a>, next: Field<'a>) -> Result<()>
+    ensures ok { OnOk result (set.new.items ≡ set.old.items ++ next.entry ∷ []) }
+    ensures capacity { set.old.capacity ≤ set.new.capacity }
+    ensures err { IfErr result (λ e. e ≡ Error.OutOfMemory) }
+    ensures full { OnErr result (set.old.capacity ≤ length set.old.items) }
 {
-    let Some(rest) = behind(',', text) else {
-        return Ok(None);
-    };
-    field(alloc, rest)
+    if set.len() == set.capacity() {
+        set.reserve_exact(set.len().max(MORE))?;
+    }
+    set.push_reserved(next);
+    Ok(())
 }
 
 // Fills the empty set with the fields in front of `text`, joined by commas, and gives the rest. Up to 4 take no memory
 // but for copies.
+#[inline(always)]
 fn fields<'a>(alloc: Global, text: &'a str, set: &mut FieldSet<'a>) -> Result<Option<&'a str>>
     requires empty { set.old.items ≡ [] }
     requires room { 4 ≤ set.old.capacity }
     ensures value { Fills (fields_of set.new) result (joined field text.now) }
     ensures memory { result ≡ Err Error.OutOfMemory → SetNeedsMemory 4 is_single_field field text.now }
 {
-    let Some((first, mut rest)) = field(alloc, text)? else {
-        return Ok(None);
-    };
-    set.push_reserved(first);
-    while let Some((next, after)) = next_field(alloc, rest)? {
-        set.push(next)?;
+    let mut rest = text;
+    let mut place = text;
+    while let Some((next, after)) = field(alloc, place)? {
+        append(set, next)?;
         rest = after;
+        match behind(b',', rest) {
+            Some(behind) => place = behind,
+            None => return Ok(Some(rest)),
+        }
+    }
+    if set.is_empty() {
+        return Ok(None);
     }
     Ok(Some(rest))
 }
 
 // What follows the fields, where `rest` stands behind them: in the crate's dialect without the comma behind a first
 // field that is the only one.
+#[inline(always)]
 fn behind_fields<'a>(dialect: Dialect, fields: &FieldSet<'_>, rest: &'a str) -> &'a str
     ensures { result.now ≡ without_comma dialect (fields_of fields.now) rest.now }
 {
     match dialect {
-        Dialect::Crate if fields.len() == 1 => behind(',', rest).unwrap_or(rest),
+        Dialect::Crate if fields.len() == 1 => behind(b',', rest).unwrap_or(rest),
         _ => rest,
     }
 }
@@ -82,6 +96,7 @@ fn behind_fields<'a>(dialect: Dialect, fields: &FieldSet<'_>, rest: &'a str) -> 
 ///
 /// `None` where no field stands there. In the crate's dialect the comma behind a first field is taken, also where no
 /// field stands behind it.
+#[inline(always)]
 pub(crate) fn field_set<'a>(
     alloc: Global,
     dialect: Dialect,

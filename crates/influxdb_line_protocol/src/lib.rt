@@ -5,9 +5,12 @@
 #![tactic(auto)]
 
 pub mod builder;
+mod digits;
 mod error;
 mod escaped;
 mod fields;
+mod forms;
+mod lanes;
 pub mod laws;
 mod line;
 mod literals;

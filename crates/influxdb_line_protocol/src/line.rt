@@ -1,12 +1,12 @@
 //! Lines.
 
-ghost use Rattle.std.specs.Prelude.{◌≡◌, ◌<◌, ◌++◌, ℕ, List, drop, length, slice_index, true, Err, IfSome, MatchOption};
+ghost use Rattle.std.specs.Prelude.{◌≡◌, ◌<◌, ◌≤◌, ◌++◌, ℕ, List, [], drop, length, slice_index, true, Err, None, Some, IfSome, MatchOption};
 ghost use Rattle.influxdb_line_protocol.specs.declared.split.Dialect.{Dialect};
 ghost use Rattle.influxdb_line_protocol.specs.Lines.{answer, byte, front_before, spaces};
 ghost use Rattle.influxdb_line_protocol.specs.Bytes.{space};
 ghost use Rattle.influxdb_line_protocol.specs.Outcomes.{HasMemory};
 ghost use Rattle.influxdb_line_protocol.specs.Light.{is_light};
-ghost use Rattle.influxdb_line_protocol.specs.Parsed.{Answers};
+ghost use Rattle.influxdb_line_protocol.specs.Filled.{FillsLine};
 ghost use Rattle.influxdb_line_protocol.specs.Trimming.{trimmed};
 ghost use Rattle.influxdb_line_protocol.specs.Readings.{miss, reads};
 
@@ -79,6 +79,7 @@ impl<'a> ParsedLine<'a> {
 }
 
 // `text` without the blanks and comments in front of it.
+#[inline(always)]
 fn trimmed(text: &str) -> &str
     ensures { result.now ≡ trimmed text.now }
 {
@@ -97,15 +98,20 @@ fn trimmed(text: &str) -> &str
 }
 
 /// What follows `mark`, where it stands in front of `text`.
-pub(crate) fn behind(mark: char, text: &str) -> Option<&str>
+#[inline(always)]
+pub(crate) fn behind(mark: u8, text: &str) -> Option<&str>
     requires { mark < 128 }
     ensures value { MatchOption result (byte mark text.now ≡ miss) (λ rest. byte mark text.now ≡ reads mark rest.now) }
     ensures less { IfSome result (λ rest. length rest.now < length text.now) }
 {
-    text.strip_prefix(mark)
+    match text.as_bytes() {
+        [first, ..] if *first == mark => Some(&text[1..]),
+        _ => None,
+    }
 }
 
 // How many spaces stand in front of `bytes`.
+#[inline(always)]
 fn spaces_len(bytes: &[u8]) -> usize
     ensures { result ≡ spaces bytes.now }
 {
@@ -113,6 +119,7 @@ fn spaces_len(bytes: &[u8]) -> usize
 }
 
 /// What follows the spaces in front of `text`.
+#[inline(always)]
 pub(crate) fn behind_spaces(text: &str) -> &str
     ensures { result.now ≡ drop (spaces text.now) text.now }
 {
@@ -120,6 +127,7 @@ pub(crate) fn behind_spaces(text: &str) -> &str
 }
 
 // What stands before `rest`, which ends `line` and begins with a space.
+#[inline(always)]
 fn front_before<'a>(line: &'a str, rest: &str) -> &'a str
     requires ends { (front : List ℕ) × (line.now ≡ front ++ rest.now) }
     requires space { slice_index rest.now 0 ≡ space }
@@ -128,32 +136,32 @@ fn front_before<'a>(line: &'a str, rest: &str) -> &'a str
     &line[..line.len() - rest.len()]
 }
 
-// The answer for a trimmed text. The line is made once, and its sets are filled in place.
+// Fills the line `parsed`, which has empty sets, with what the trimmed text `line` says. At a fault it is filled in part.
 #[tactic(auto, unfolding(crate::specs::Lines::answer))]
-fn answer<'a>(alloc: Global, dialect: Dialect, line: &'a str) -> Result<ParsedLine<'a>>
-    ensures value { Answers result (answer dialect line.now) }
+#[inline(never)]
+fn fill<'a>(
+    alloc: Global,
+    dialect: Dialect,
+    line: &'a str,
+    parsed: &mut ParsedLine<'a>,
+) -> Result<()>
+    requires no_tags { MatchOption parsed.old.series.tag_set ⊥ (λ tags. (tags.items ≡ []) × (8 ≤ tags.capacity)) }
+    requires empty { parsed.old.field_set.items ≡ [] }
+    requires room { 4 ≤ parsed.old.field_set.capacity }
+    ensures value { FillsLine parsed.new result (answer dialect line.now) }
     ensures light { is_light dialect line.now ≡ true → HasMemory result }
 {
     let Some((measurement, rest)) = names::name(alloc, NameKind::Measurement, line)? else {
         return Err(Error::MeasurementValueInvalid);
     };
-    let mut parsed = ParsedLine {
-        series: Series {
-            raw_input: line,
-            measurement,
-            tag_set: None,
-        },
-        field_set: SmallVec::new(alloc),
-        timestamp: None,
-    };
+    parsed.series.measurement = measurement;
     let rest = tags::tag_set(alloc, rest, &mut parsed.series.tag_set)?;
-    if behind(' ', rest).is_none() {
+    if behind(b' ', rest).is_none() {
         return Err(Error::GenericParsingError {
             kind: ErrorKind::TakeWhile1,
         });
     }
-    let series = &mut parsed.series;
-    series.raw_input = front_before(line, rest);
+    parsed.series.raw_input = front_before(line, rest);
     let Some(rest) = fields::field_set(alloc, dialect, behind_spaces(rest), &mut parsed.field_set)?
     else {
         return Err(Error::FieldSetMissing);
@@ -164,7 +172,16 @@ fn answer<'a>(alloc: Global, dialect: Dialect, line: &'a str) -> Result<ParsedLi
         return Err(Error::CannotParseEntireLine { trailing_content });
     }
     parsed.timestamp = timestamp;
-    Ok(parsed)
+    Ok(())
+}
+
+// Makes the item of a line that is at fault. What was read of the line is dropped here, and nowhere else.
+#[cold]
+#[inline(never)]
+fn refuse(item: &mut Result<ParsedLine<'_>>, fault: Error)
+    ensures { item.new ≡ Err fault }
+{
+    *item = Err(fault);
 }
 
 /// The lines of a text, one after another: what [`parse_lines`] gives.
@@ -184,6 +201,25 @@ impl<'a> Model for ParseLines<'a> {
     ghost Value = { Left };
 
     ghost view = { λ s. s.lines };
+}
+
+impl<'a> ParseLines<'a> {
+    ghost use Rattle.influxdb_line_protocol.specs.ParseSteps.{GivesLine, most_items};
+
+    // The next piece that holds more than blanks and comments, without those in front of it.
+    #[inline(always)]
+    fn next_line(&mut self) -> Option<&'a str>
+        ensures gives { GivesLine self.old result self.new }
+        ensures fewer { IfSome result (λ line. most_items self.new.text < most_items self.old.text) }
+    {
+        while let Some(piece) = self.lines.next() {
+            let line = trimmed(piece);
+            if !line.is_empty() {
+                return Some(line);
+            }
+        }
+        None
+    }
 }
 
 /// Reads the lines of a text, one item a line.
@@ -211,14 +247,25 @@ impl<'a> Iterator for ParseLines<'a> {
 
     ghost remaining = { λ left. at_most (most_items left.text) };
 
+    // The item is made with an empty line in it, and filled in place: a line is large, and each move of it is a copy.
+    #[inline(always)]
     fn next(&mut self) -> Option<Result<ParsedLine<'a>>> {
-        while let Some(piece) = self.lines.next() {
-            let line = trimmed(piece);
-            if !line.is_empty() {
-                return Some(answer(self.alloc, self.lines.dialect(), line));
+        let line = self.next_line()?;
+        let mut item = Ok(ParsedLine {
+            series: Series {
+                raw_input: "",
+                measurement: EscapedStr::SingleSlice(""),
+                tag_set: Some(SmallVec::new(self.alloc)),
+            },
+            field_set: SmallVec::new(self.alloc),
+            timestamp: None,
+        });
+        if let Ok(parsed) = &mut item {
+            if let Err(fault) = fill(self.alloc, self.lines.dialect(), line, parsed) {
+                refuse(&mut item, fault);
             }
         }
-        None
+        Some(item)
     }
 }
 

@@ -1,8 +1,9 @@
 //! Numbers by their texts.
 
-ghost use Rattle.std.specs.Prelude.{◌≡◌, ◌≤◌, ◌<◌, ◌+◌, IsCharBoundary, codes, length};
+ghost use Rattle.std.specs.Prelude.{◌≡◌, ◌≤◌, ◌<◌, ◌+◌, ◌==◌, if◌then◌else◌, IsCharBoundary, codes, length};
 ghost use Rattle.influxdb_line_protocol.specs.Values.{IsFloat, digits_len, exponent_len, float_len, fraction_len, integer_len, number_len};
 
+use crate::digits::digits_len;
 use std::fmt;
 
 /// The text of a float: digits with `-` in front or not, then a point and digits or not, then `e` or
@@ -13,28 +14,30 @@ pub struct FloatText<'a> {
     ghost is_literal: { ∥ IsFloat text.now ∥₁ },
 }
 
-// How many digits stand in front of `bytes`.
-fn digits_len(bytes: &[u8]) -> usize
-    ensures value { result ≡ digits_len bytes.now }
-    ensures fits { result ≤ length bytes.now }
+// How many bytes `-` and the digits behind it take: none, where no digit stands there. Few numbers have a sign, and a
+// branch takes it out of the way of the others.
+#[inline(never)]
+fn negative_len(digits: &[u8]) -> usize
+    ensures value { result ≡ if digits_len digits.now == 0 then 0 else 1 + digits_len digits.now }
 {
-    bytes
-        .iter()
-        .take_while(|byte| byte.is_ascii_digit())
-        .count()
+    let len = digits_len(digits);
+    if len == 0 { 0 } else { 1 + len }
 }
 
 // How many bytes of `text` an integer takes in front: none, where none stands there.
+#[inline(always)]
 pub(crate) fn integer_len(text: &str) -> usize
     ensures value { result ≡ integer_len text.now }
     ensures boundary { IsCharBoundary text.now result }
 {
-    let sign = usize::from(text.starts_with('-'));
-    let digits = digits_len(&text.as_bytes()[sign..]);
-    if digits == 0 { 0 } else { sign + digits }
+    match text.as_bytes() {
+        [b'-', digits @ ..] => negative_len(digits),
+        bytes => digits_len(bytes),
+    }
 }
 
 // How many bytes a point and digits take in front of `bytes`: none, where they do not stand there.
+#[inline(always)]
 fn fraction_len(bytes: &[u8]) -> usize
     ensures value { result ≡ fraction_len bytes.now }
     ensures fits { result ≤ length bytes.now }
@@ -47,6 +50,8 @@ fn fraction_len(bytes: &[u8]) -> usize
 }
 
 // How many bytes digits, with a sign or none, take in front of `bytes`.
+#[cold]
+#[inline(never)]
 fn power_len(bytes: &[u8]) -> usize
     ensures value { result ≡ number_len (codes "+-") bytes.now }
     ensures fits { result ≤ length bytes.now }
@@ -59,6 +64,7 @@ fn power_len(bytes: &[u8]) -> usize
 }
 
 // How many bytes an exponent takes in front of `bytes`: none, where none stands there.
+#[inline(always)]
 fn exponent_len(bytes: &[u8]) -> usize
     ensures value { result ≡ exponent_len bytes.now }
     ensures fits { result ≤ length bytes.now }
@@ -71,6 +77,7 @@ fn exponent_len(bytes: &[u8]) -> usize
 }
 
 // How many bytes of `text` the longest float in front takes, where an integer takes `whole`.
+#[inline(always)]
 fn float_len(text: &str, whole: usize) -> usize
     requires { whole ≡ integer_len text.now }
     ensures value { result ≡ float_len text.now }
@@ -109,6 +116,7 @@ impl<'a> FloatText<'a> {
     }
 
     // The longest float in front of `text`, and the rest, where an integer takes `whole` bytes.
+    #[inline(always)]
     pub(crate) fn front(text: &'a str, whole: usize) -> Option<(Self, &'a str)>
         requires { whole ≡ integer_len text.now }
         ensures value { MatchOption result (float_at text.now ≡ miss) (λ p. float_at text.now ≡ reads (float (literal_of p.0)) p.1.now) }

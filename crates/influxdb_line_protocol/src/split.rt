@@ -1,17 +1,22 @@
 //! The pieces of a text.
 
-ghost use Rattle.std.specs.Prelude.{◌≡◌, ◌≢◌, ℕ, ◌+◌, ◌<◌, ◌≤◌, List, [], ◌∷◌, ◌++◌, length, take, slice_index, IfSome, MatchOption, ◌↔◌, true, nat_lt};
+ghost use Rattle.std.specs.Prelude.{◌≡◌, ◌≢◌, ◌+◌, ◌<◌, ◌≤◌, ◌==◌, ◌||◌, length, take, slice_index, MatchOption};
 ghost use Rattle.std.specs.Iterator.{at_most};
 ghost use Rattle.std.specs.List.{All, count_by};
-ghost use Rattle.influxdb_line_protocol.specs.Bytes.{backslash, newline, space, quote};
-ghost use Rattle.influxdb_line_protocol.specs.Escapes.{IsBareBehind};
-ghost use Rattle.influxdb_line_protocol.specs.Piece.{IsClosed};
-ghost use Rattle.influxdb_line_protocol.specs.Pieces.{Pieces, begins_comment, IsCutPiece, IsFirstCut, GivesPiece, most_pieces};
+ghost use Rattle.influxdb_line_protocol.specs.Bytes.{backslash, newline, space, quote, comma, equals};
+ghost use Rattle.memchr.specs.Find.{IsFirstByte, is_byte3};
+ghost use Rattle.influxdb_line_protocol.specs.Lanes.{IsRunIn, is_quiet};
+ghost use Rattle.influxdb_line_protocol.specs.Escapes.{bare, first_bare};
+ghost use Rattle.influxdb_line_protocol.specs.Pieces.{begins_comment, IsFirstCut, GivesPiece, most_pieces};
 ghost use Rattle.influxdb_line_protocol.specs.declared.split.Dialect.{Dialect};
-ghost use Rattle.influxdb_line_protocol.specs.Scan.{Follows};
 
-use memchr::memchr;
+use crate::lanes::first_set;
+use memchr::{memchr, memchr2, memchr3};
 use std::marker::Model;
+use std::simd::prelude::*;
+
+// How many bytes are looked at together.
+const WIDE: usize = 64;
 
 /// Which rules of line protocol hold.
 #[derive(Clone, Copy, Debug, PartialEq, Eq)]
@@ -22,105 +27,152 @@ pub enum Dialect {
     Strict,
 }
 
-/// The part of a piece that a byte stands in.
-#[derive(Clone, Copy)]
-enum Part {
-    Head,
-    Plain,
-    Quoted,
+/// How many bytes stand before the first bare space or newline, or all of them.
+fn head_len(text: &[u8]) -> usize
+    ensures within { result ≤ length text.now }
+    ensures value { result ≡ first_bare (λ b. b == space || b == newline) text.now }
+{
+    let mut at = 0;
+    while let Some(found) = memchr3(b'\\', b' ', b'\n', &text[at..]) {
+        at += found;
+        if text[at] != b'\\' {
+            return at;
+        }
+        // The byte behind a backslash is escaped.
+        at = (at + 2).min(text.len());
+    }
+    text.len()
 }
 
-/// What the bytes of a piece so far say of the next one.
-#[derive(Clone, Copy)]
-struct Scan {
-    part: Part,
-    escaped: bool,
-    equals: usize,
-    commas: usize,
+/// How many bytes stand before the first bare newline or quote, or all of them.
+fn plain_len(text: &[u8]) -> usize
+    ensures within { result ≤ length text.now }
+    ensures value { result ≡ first_bare (λ b. b == newline || b == quote) text.now }
+{
+    let mut at = 0;
+    while let Some(found) = first_mark(&text[at..]) {
+        at += found;
+        if text[at] != b'\\' {
+            return at;
+        }
+        // The byte behind a backslash is escaped.
+        at = (at + 2).min(text.len());
+    }
+    text.len()
 }
 
-impl Scan {
-    /// Before the first byte.
-    fn start() -> Scan
-        ensures follows { Follows [] result }
-        ensures none { (result.equals ≡ 0) × (result.commas ≡ 0) }
-    {
-        Scan {
-            part: Part::Head,
-            escaped: false,
-            equals: 0,
-            commas: 0,
+/// How many bytes stand before the first bare quote, or all of them.
+fn quoted_len(text: &[u8]) -> usize
+    ensures within { result ≤ length text.now }
+    ensures value { result ≡ first_bare (λ b. b == quote) text.now }
+{
+    let mut at = 0;
+    while let Some(found) = memchr2(b'\\', b'"', &text[at..]) {
+        at += found;
+        if text[at] != b'\\' {
+            return at;
         }
+        // The byte behind a backslash is escaped.
+        at = (at + 2).min(text.len());
     }
+    text.len()
+}
 
-    /// With one byte more, or `None` where that byte is a newline that ends the piece.
-    fn after(self, byte: u8) -> Option<Scan>
-        requires equals_fit { self.equals < usize.MAX }
-        requires commas_fit { self.commas < usize.MAX }
-        ensures follows { (piece : List ℕ) → Follows piece self → MatchOption result ((byte ≡ newline) × IsClosed piece × IsBareBehind piece) (λ next. Follows (piece ++ byte ∷ []) next) }
-        ensures counts { IfSome result (λ next. (next.equals ≤ self.equals + 1) × (next.commas ≤ self.commas + 1)) }
-    {
-        if self.escaped {
-            return Some(Scan {
-                escaped: false,
-                ..self
-            });
-        }
-        if byte == b'\\' {
-            return Some(Scan {
-                escaped: true,
-                ..self
-            });
-        }
-        match self.part {
-            Part::Head => match byte {
-                b'\n' => None,
-                b' ' => Some(Scan {
-                    part: Part::Plain,
-                    ..self
-                }),
-                _ => Some(self),
-            },
-            Part::Plain => match byte {
-                b'\n' => None,
-                b'=' => Some(Scan {
-                    equals: self.equals + 1,
-                    ..self
-                }),
-                b',' => Some(Scan {
-                    commas: self.commas + 1,
-                    ..self
-                }),
-                b'"' if self.commas < self.equals => Some(Scan {
-                    part: Part::Quoted,
-                    ..self
-                }),
-                _ => Some(self),
-            },
-            Part::Quoted => match byte {
-                b'"' => Some(Scan {
-                    part: Part::Plain,
-                    ..self
-                }),
-                _ => Some(self),
-            },
+/// How many bare `=` and how many bare `,` a stretch holds.
+#[tactic(auto, using(crate::proofs::EscapeLemmas::is_escaped_more, crate::proofs::SplitWalk::count_bare_more))]
+fn count_bare(text: &[u8]) -> (usize, usize)
+    ensures equals { result.0 ≡ count_by (λ b. b == equals) (bare text.now) }
+    ensures commas { result.1 ≡ count_by (λ b. b == comma) (bare text.now) }
+    ensures within { (result.0 ≤ length text.now) × (result.1 ≤ length text.now) }
+{
+    let mut equals = 0;
+    let mut commas = 0;
+    let mut is_escaped = false;
+    for byte in text {
+        if is_escaped {
+            is_escaped = false;
+        } else {
+            match *byte {
+                b'\\' => is_escaped = true,
+                b'=' => equals += 1,
+                b',' => commas += 1,
+                _ => {}
+            }
         }
     }
+    (equals, commas)
+}
+
+/// What `first_bare_cut` gives, from stretch to stretch. Each byte is searched once and counted at most once.
+#[inline(never)]
+fn cut_by_stretches(text: &[u8]) -> Option<usize>
+    ensures { IsFirstCut Dialect.Crate text.now result }
+{
+    let head = head_len(text);
+    if *text.get(head)? == b'\n' {
+        return Some(head);
+    }
+    let mut at = head + 1;
+    let (mut equals, mut commas) = (0, 0);
+    loop {
+        // A plain stretch begins at `at`.
+        let end = at + plain_len(&text[at..]);
+        if *text.get(end)? == b'\n' {
+            return Some(end);
+        }
+        let (more_equals, more_commas) = count_bare(&text[at..end]);
+        equals += more_equals;
+        commas += more_commas;
+        at = end + 1;
+        if commas < equals {
+            at += quoted_len(&text[at..]);
+            text.get(at)?;
+            at += 1;
+        }
+    }
+}
+
+/// How many of the 64 bytes from `at` on stand before the first newline, quote or backslash.
+#[inline(always)]
+fn quiet_run(text: &[u8], at: usize) -> usize
+    requires { at + WIDE ≤ length text.now }
+    ensures { IsRunIn is_quiet text.now at WIDE result }
+{
+    let v = u8x64::from_slice(&text[at..]);
+    let newlines = v.simd_eq(u8x64::splat(b'\n'));
+    let others = v.simd_eq(u8x64::splat(b'"')) | v.simd_eq(u8x64::splat(b'\\'));
+    first_set((newlines | others).to_bitmask(), WIDE)
+}
+
+/// The place of the first newline, quote or backslash.
+#[inline(always)]
+fn first_mark(text: &[u8]) -> Option<usize>
+    ensures { IsFirstByte (is_byte3 backslash newline quote) text.now result }
+{
+    let mut at = 0;
+    while text.len() - at >= WIDE {
+        let run = quiet_run(text, at);
+        if run < WIDE {
+            return Some(at + run);
+        }
+        at += WIDE;
+    }
+    let last = memchr3(b'\\', b'\n', b'"', &text[at..])?;
+    Some(at + last)
 }
 
 /// The place of the newline that ends the first piece, or `None` where the text is one piece,
 /// with no regard to comments.
+#[inline(always)]
 fn first_bare_cut(text: &[u8]) -> Option<usize>
     ensures { IsFirstCut Dialect.Crate text.now result }
 {
-    let mut scan = Scan::start();
-    for (i, byte) in text.iter().enumerate() {
-        match scan.after(*byte) {
-            Some(next) => scan = next,
-            None => return Some(i),
-        }
+    let found = first_mark(text)?;
+    // Nothing before it is escaped or quoted.
+    if text[found] == b'\n' {
+        return Some(found);
     }
-    None
+    cut_by_stretches(text)
 }
 
 /// Whether a text is spaces and tabs and then `#`.
@@ -145,6 +197,7 @@ fn first_newline(text: &[u8]) -> Option<usize>
 }
 
 /// The place of the newline that ends the first piece, or `None` where the text is one piece.
+#[inline(always)]
 fn first_cut(dialect: Dialect, text: &[u8]) -> Option<usize>
     ensures { IsFirstCut dialect text.now result }
 {
@@ -214,6 +267,7 @@ impl<'a> Iterator for SplitLines<'a> {
 
     ghost remaining = { λ left. at_most (most_pieces left.text) };
 
+    #[inline(always)]
     fn next(&mut self) -> Option<&'a str> {
         let text = self.rest?;
         match first_cut(self.dialect, text.as_bytes()) {

@@ -1,10 +1,10 @@
 //! The tags of a line.
 
-ghost use Rattle.std.specs.Prelude.{◌≡◌, ◌<◌, ◌≤◌, [], length, IfOk, IfSome, Err, None};
+ghost use Rattle.std.specs.Prelude.{◌≡◌, ◌<◌, ◌≤◌, [], length, IfOk, IfSome, MatchOption, Err};
 ghost use Rattle.std.specs.Option.{option_map};
 ghost use Rattle.influxdb_line_protocol.specs.Filled.{Fills, FillsRead};
 ghost use Rattle.influxdb_line_protocol.specs.Light.{is_single_tag};
-ghost use Rattle.influxdb_line_protocol.specs.Lines.{behind_comma, joined, tag, tag_set};
+ghost use Rattle.influxdb_line_protocol.specs.Lines.{joined, tag, tag_set};
 ghost use Rattle.influxdb_line_protocol.specs.Memory.{NeedsMemory};
 ghost use Rattle.influxdb_line_protocol.specs.Outcomes.{Gives};
 ghost use Rattle.influxdb_line_protocol.specs.Parsed.{tag_of, tags_of};
@@ -13,13 +13,14 @@ ghost use Rattle.influxdb_line_protocol.specs.Sets.{SetNeedsMemory, TagsNeedMemo
 use crate::line::behind;
 use crate::names::{self, NameKind};
 use crate::{Error, EscapedStr, Result, TagSet};
-use smallvec::SmallVec;
 use std::alloc::Global;
+use std::mem;
 
 type Tag<'a> = (EscapedStr<'a>, EscapedStr<'a>);
 
 // A tag in front of `text`, and the rest. The copies come last: where no tag stands, it takes no memory.
 #[tactic(auto, unfolding(crate::specs::Lines::tag))]
+#[inline(always)]
 fn tag<'a>(alloc: Global, text: &'a str) -> Result<Option<(Tag<'a>, &'a str)>>
     ensures value { Gives tag_of result (tag text.now) }
     ensures less { IfOk result (λ o. IfSome o (λ p. length p.1.now < length text.now)) }
@@ -28,64 +29,61 @@ fn tag<'a>(alloc: Global, text: &'a str) -> Result<Option<(Tag<'a>, &'a str)>>
     let Some((key, rest)) = names::spelled(NameKind::TagKey, text)? else {
         return Ok(None);
     };
-    let Some(rest) = behind('=', rest) else {
+    let Some(rest) = behind(b'=', rest) else {
         return Ok(None);
     };
     let Some((value, rest)) = names::spelled(NameKind::TagValue, rest)? else {
         return Ok(None);
     };
-    let key = names::escaped_str(alloc, NameKind::TagKey, key)?;
-    let value = names::escaped_str(alloc, NameKind::TagValue, value)?;
+    let key = names::escaped_str(alloc, key)?;
+    let value = names::escaped_str(alloc, value)?;
     Ok(Some(((key, value), rest)))
-}
-
-// A comma and a tag in front of `text`, and the rest.
-fn next_tag<'a>(alloc: Global, text: &'a str) -> Result<Option<(Tag<'a>, &'a str)>>
-    ensures value { Gives tag_of result (behind_comma tag text.now) }
-    ensures less { IfOk result (λ o. IfSome o (λ p. length p.1.now < length text.now)) }
-    ensures memory { result ≡ Err Error.OutOfMemory → NeedsMemory is_single_tag (behind_comma tag text.now) }
-{
-    let Some(rest) = behind(',', text) else {
-        return Ok(None);
-    };
-    tag(alloc, rest)
 }
 
 // Fills the empty set with the tags in front of `text`, joined by commas, and gives the rest. Up to 8 take no memory
 // but for copies.
+#[inline(always)]
 fn tags<'a>(alloc: Global, text: &'a str, set: &mut TagSet<'a>) -> Result<Option<&'a str>>
     requires empty { set.old.items ≡ [] }
     requires room { 8 ≤ set.old.capacity }
     ensures value { Fills (tags_of set.new) result (joined tag text.now) }
     ensures memory { result ≡ Err Error.OutOfMemory → SetNeedsMemory 8 is_single_tag tag text.now }
 {
-    let Some((first, mut rest)) = tag(alloc, text)? else {
-        return Ok(None);
-    };
-    set.push_reserved(first);
-    while let Some((next, after)) = next_tag(alloc, rest)? {
+    let mut rest = text;
+    let mut place = text;
+    while let Some((next, after)) = tag(alloc, place)? {
         set.push(next)?;
         rest = after;
+        match behind(b',', rest) {
+            Some(behind) => place = behind,
+            None => return Ok(Some(rest)),
+        }
+    }
+    if set.is_empty() {
+        return Ok(None);
     }
     Ok(Some(rest))
 }
 
-/// Fills `set`, which is `None`, with the tags behind the comma in front of `text`, and gives the rest.
+/// Fills `set`, which is an empty one, with the tags behind the comma in front of `text`, and gives the rest.
 ///
-/// Where no comma stands there, it stays `None`. Where no tag stands behind the comma, that is the line's fault.
+/// Where no comma stands there, it becomes `None`. Where no tag stands behind the comma, that is the line's fault.
+#[inline(always)]
 pub(crate) fn tag_set<'a>(
     alloc: Global,
     text: &'a str,
     set: &mut Option<TagSet<'a>>,
 ) -> Result<&'a str>
-    requires none { set.old ≡ None }
+    requires empty { MatchOption set.old ⊥ (λ tags. (tags.items ≡ []) × (8 ≤ tags.capacity)) }
     ensures value { FillsRead (option_map tags_of set.new) result (tag_set text.now) }
     ensures memory { result ≡ Err Error.OutOfMemory → TagsNeedMemory text.now }
 {
-    let Some(rest) = behind(',', text) else {
+    let Some(rest) = behind(b',', text) else {
+        // An empty set holds no memory. To drop it would visit each of its places.
+        mem::forget(set.take());
         return Ok(text);
     };
-    let empty = set.insert(SmallVec::new(alloc));
+    let Some(empty) = set else { unreachable!() };
     let Some(rest) = tags(alloc, rest, empty)? else {
         return Err(Error::TagSetMalformed);
     };

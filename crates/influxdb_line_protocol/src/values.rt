@@ -1,21 +1,21 @@
 //! Values of fields.
 
-ghost use Rattle.std.specs.Prelude.{◌≡◌, ◌≤◌, ◌<◌, ◌++◌, true, false, drop, map, length, string_bytes, IsCharBoundary, IfOk, IfSome, IfNone, IsErr, IsOk, Ok, Err};
+ghost use Rattle.std.specs.Prelude.{◌≡◌, ◌≤◌, ◌<◌, ◌==◌, ◌||◌, true, false, codes, drop, map, length, slice_index, IsCharBoundary, IfOk, IfSome, IsErr, IsOk, Ok, Err};
+ghost use Rattle.std.specs.Char.{is_ascii_digit};
 ghost use Rattle.influxdb_line_protocol.specs.declared.error.Error.{Error};
-ghost use Rattle.influxdb_line_protocol.specs.Bytes.{is_one_of};
-ghost use Rattle.influxdb_line_protocol.specs.Escapes.{without_escapes};
+ghost use Rattle.influxdb_line_protocol.specs.Bytes.{is_one_of, letter_i, letter_u, minus};
 ghost use Rattle.influxdb_line_protocol.specs.Light.{is_single_value};
 ghost use Rattle.influxdb_line_protocol.specs.Lines.{timestamp};
 ghost use Rattle.influxdb_line_protocol.specs.Memory.{NeedsMemory};
-ghost use Rattle.influxdb_line_protocol.specs.Names.{is_shared, read_text};
-ghost use Rattle.influxdb_line_protocol.specs.Outcomes.{Gives, GivesRead, side};
+ghost use Rattle.influxdb_line_protocol.specs.Outcomes.{Gives, GivesRead, IsFault, side};
 ghost use Rattle.influxdb_line_protocol.specs.Parsed.{is_same_variant, value_of};
-ghost use Rattle.influxdb_line_protocol.specs.Readings.{◌otherwise◌};
-ghost use Rattle.influxdb_line_protocol.specs.Texts.{read_of};
-ghost use Rattle.influxdb_line_protocol.specs.Values.{integer_len, integer_at, unsigned_at, float_at, string_at, boolean_at, value, side_of, quotable, body_len, word_len, true_words, false_words};
+ghost use Rattle.influxdb_line_protocol.specs.Readings.{◌otherwise◌, above, integer_value_invalid, timestamp_value_invalid, uinteger_value_invalid};
+ghost use Rattle.influxdb_line_protocol.specs.Values.{digits_len, integer_len, integer_at, unsigned_at, float_at, string_at, boolean_at, value, side_of, word_len, true_words, false_words};
 
+use crate::digits::{integer_value, unsigned_value};
 use crate::error::{Error, OutOfRange};
 use crate::escaped::EscapedStr;
+use crate::forms::{Form, escaped_str, front};
 use crate::line::behind_spaces;
 use crate::literals::{FloatText, integer_len};
 use std::alloc::{AllocError, Global};
@@ -89,63 +89,76 @@ fn side_of(number: &str) -> OutOfRange
     }
 }
 
-// An integer and `i` in front of `text`, and the rest, where an integer takes `whole` bytes.
-pub(crate) fn integer<'a>(
+// An integer out of range, or want of memory for its text.
+#[cold]
+#[inline(never)]
+fn integer_fault(alloc: Global, number: &str) -> Error
+    ensures { IsFault result (λ fault. fault ≡ integer_value_invalid (side_of number.now) number.now) }
+{
+    let source = side_of(number);
+    match String::from_str(alloc, number) {
+        Ok(value) => Error::IntegerValueInvalid { source, value },
+        Err(_) => Error::OutOfMemory,
+    }
+}
+
+// An integer and `i` in front of `text`, and the rest, where the integer takes `whole` bytes.
+#[inline(always)]
+fn integer<'a>(
     alloc: Global,
     text: &'a str,
     whole: usize,
 ) -> Result<Option<(FieldValue<'a>, &'a str)>, Error>
-    requires { whole ≡ integer_len text.now }
+    requires whole { whole ≡ integer_len text.now }
+    requires some { 0 < whole }
+    requires mark { slice_index text.now whole ≡ letter_i }
     ensures value { Gives value_of result (integer_at text.now) }
     ensures less { IfOk result (λ o. IfSome o (λ p. length p.1.now < length text.now)) }
     ensures memory { result ≡ Err Error.OutOfMemory → NeedsMemory is_single_value (integer_at text.now) }
 {
-    let (number, behind) = text.split_at(whole);
-    if number.is_empty() {
-        return Ok(None);
-    }
-    let Some(rest) = behind.strip_prefix('i') else {
-        return Ok(None);
-    };
-    match number.parse::<i64>() {
-        Ok(value) => Ok(Some((FieldValue::I64(value), rest))),
-        Err(_) => {
-            let source = side_of(number);
-            let value = String::from_str(alloc, number)?;
-            Err(Error::IntegerValueInvalid { source, value })
-        }
+    let (number, _) = text.split_at(whole);
+    match integer_value(number) {
+        Some(value) => Ok(Some((FieldValue::I64(value), &text[whole + 1..]))),
+        None => Err(integer_fault(alloc, number)),
     }
 }
 
-// Digits and `u` in front of `text`, and the rest, where an integer takes `whole` bytes.
+// An unsigned integer out of range, or want of memory for its text.
+#[cold]
+#[inline(never)]
+fn unsigned_fault(alloc: Global, number: &str) -> Error
+    ensures { IsFault result (λ fault. fault ≡ uinteger_value_invalid above number.now) }
+{
+    let source = OutOfRange::Above;
+    match String::from_str(alloc, number) {
+        Ok(value) => Error::UIntegerValueInvalid { source, value },
+        Err(_) => Error::OutOfMemory,
+    }
+}
+
+// Digits and `u` in front of `text`, and the rest, where the digits take `whole` bytes.
+#[inline(never)]
 fn unsigned<'a>(
     alloc: Global,
     text: &'a str,
     whole: usize,
 ) -> Result<Option<(FieldValue<'a>, &'a str)>, Error>
-    requires { whole ≡ integer_len text.now }
+    requires whole { whole ≡ digits_len text.now }
+    requires some { 0 < whole }
+    requires mark { slice_index text.now whole ≡ letter_u }
     ensures value { Gives value_of result (unsigned_at text.now) }
     ensures less { IfOk result (λ o. IfSome o (λ p. length p.1.now < length text.now)) }
     ensures memory { result ≡ Err Error.OutOfMemory → NeedsMemory is_single_value (unsigned_at text.now) }
 {
-    let (number, behind) = text.split_at(whole);
-    if number.is_empty() || number.starts_with('-') {
-        return Ok(None);
-    }
-    let Some(rest) = behind.strip_prefix('u') else {
-        return Ok(None);
-    };
-    match number.parse::<u64>() {
-        Ok(value) => Ok(Some((FieldValue::U64(value), rest))),
-        Err(_) => {
-            let source = OutOfRange::Above;
-            let value = String::from_str(alloc, number)?;
-            Err(Error::UIntegerValueInvalid { source, value })
-        }
+    let (number, _) = text.split_at(whole);
+    match unsigned_value(number) {
+        Some(value) => Ok(Some((FieldValue::U64(value), &text[whole + 1..]))),
+        None => Err(unsigned_fault(alloc, number)),
     }
 }
 
 // The longest float in front of `text`, and the rest, where an integer takes `whole` bytes.
+#[inline(always)]
 fn float(text: &str, whole: usize) -> Option<(FieldValue<'_>, &str)>
     requires { whole ≡ integer_len text.now }
     ensures value { Gives value_of (Ok result) (float_at text.now) }
@@ -155,82 +168,46 @@ fn float(text: &str, whole: usize) -> Option<(FieldValue<'_>, &str)>
     Some((FieldValue::F64(value), rest))
 }
 
-// Whether a backslash before the byte escapes it in a string.
-fn is_quotable(byte: u8) -> bool
-    ensures { result ≡ is_one_of quotable byte }
+// Whether `byte` stands at `place`.
+#[inline(always)]
+fn stands_at(bytes: &[u8], place: usize, byte: u8) -> bool
+    requires { 0 < byte }
+    ensures { result ≡ (slice_index bytes.now place == byte) }
 {
-    matches!(byte, b'"' | b'\\')
+    matches!(bytes.get(place), Some(found) if *found == byte)
 }
 
-// How many bytes of `behind` stand before the first bare quote, or all of them.
-#[tactic(auto, using(crate::proofs::EscapeLemmas::is_escaped_more, crate::proofs::EscapeLemmas::first_bare_is))]
-fn body_len(behind: &str) -> usize
-    ensures value { result ≡ body_len behind.now }
-    ensures boundary { IsCharBoundary behind.now result }
+// Whether a number may begin with the first of `bytes`: a digit or `-`.
+#[inline(always)]
+fn begins_number(bytes: &[u8]) -> bool
+    ensures { result ≡ (is_ascii_digit (slice_index bytes.now 0) || slice_index bytes.now 0 == minus) }
 {
-    let bytes = behind.as_bytes();
-    let mut is_escaped = false;
-    for (place, byte) in bytes.iter().enumerate() {
-        if is_escaped {
-            is_escaped = false;
-        } else if *byte == b'"' {
-            return place;
-        } else {
-            is_escaped = *byte == b'\\';
-        }
-    }
-    bytes.len()
+    matches!(bytes, [b'0'..=b'9' | b'-', ..])
 }
 
-// The first backslash of `body`: what stands before it, what it stands for with the byte behind it,
-// and what follows.
-fn next_escape(body: &str) -> Option<(&str, &str, &str)>
-    ensures some { IfSome result (λ p. without_escapes quotable body.now ≡ p.0.now ++ p.1.now ++ without_escapes quotable p.2.now) }
-    ensures less { IfSome result (λ p. length p.2.now < length body.now) }
-    ensures none { IfNone result (without_escapes quotable body.now ≡ body.now) }
+// A number in front of `text`, by the byte behind its integer, and the rest.
+#[inline(always)]
+fn number<'a>(alloc: Global, text: &'a str) -> Result<Option<(FieldValue<'a>, &'a str)>, Error>
+    ensures value { Gives value_of result (integer_at text.now otherwise unsigned_at text.now otherwise float_at text.now) }
+    ensures less { IfOk result (λ o. IfSome o (λ p. length p.1.now < length text.now)) }
+    ensures memory { result ≡ Err Error.OutOfMemory → NeedsMemory is_single_value (integer_at text.now otherwise unsigned_at text.now otherwise float_at text.now) }
 {
-    let at = body.find('\\')?;
-    let (plain, escape) = body.split_at(at);
-    let (backslash, behind) = escape.split_at(1);
-    match behind.as_bytes() {
-        [byte, ..] if is_quotable(*byte) => {
-            let (escaped, after) = behind.split_at(1);
-            Some((plain, escaped, after))
-        }
-        _ => Some((plain, backslash, behind)),
+    let whole = integer_len(text);
+    if whole == 0 {
+        return Ok(None);
     }
-}
-
-// A copy of the text that `body` spells.
-fn without_escapes(alloc: Global, body: &str) -> Result<String, AllocError>
-    ensures { IfOk result (λ text. string_bytes text ≡ without_escapes quotable body.now) }
-{
-    let mut text = String::new(alloc);
-    let mut rest = body;
-    while let Some((plain, escaped, after)) = next_escape(rest) {
-        text.push_str(plain)?;
-        text.push_str(escaped)?;
-        rest = after;
+    let bytes = text.as_bytes();
+    if stands_at(bytes, whole, b'i') {
+        return integer(alloc, text, whole);
     }
-    text.push_str(rest)?;
-    Ok(text)
-}
-
-// The text that `body` spells. Only a copy takes memory.
-fn spelled_text<'a>(alloc: Global, body: &'a str) -> Result<EscapedStr<'a>, AllocError>
-    ensures text { IfOk result (λ text. read_of text ≡ read_text quotable body.now) }
-    ensures no_memory { is_shared quotable body.now ≡ true → IsOk result }
-{
-    if matches!(body.as_bytes(), [b'\\', byte] if is_quotable(*byte)) {
-        return Ok(EscapedStr::SingleSlice(&body[1..]));
+    if stands_at(bytes, whole, b'u') && !stands_at(bytes, 0, b'-') {
+        return unsigned(alloc, text, whole);
     }
-    if !body.as_bytes().contains(&b'\\') {
-        return Ok(EscapedStr::SingleSlice(body));
-    }
-    Ok(EscapedStr::CopiedValue(without_escapes(alloc, body)?))
+    Ok(float(text, whole))
 }
 
 // A text between quotes in front of `text`, and the rest.
+#[inline(always)]
 fn string<'a>(alloc: Global, text: &'a str) -> Result<Option<(FieldValue<'a>, &'a str)>, Error>
     ensures value { Gives value_of result (string_at text.now) }
     ensures less { IfOk result (λ o. IfSome o (λ p. length p.1.now < length text.now)) }
@@ -239,11 +216,11 @@ fn string<'a>(alloc: Global, text: &'a str) -> Result<Option<(FieldValue<'a>, &'
     let Some(behind) = text.strip_prefix('"') else {
         return Ok(None);
     };
-    let (body, closing) = behind.split_at(body_len(behind));
+    let (body, closing) = front(Form::Quoted, behind);
     let Some(rest) = closing.strip_prefix('"') else {
         return Ok(None);
     };
-    let spelled = spelled_text(alloc, body)?;
+    let spelled = escaped_str(alloc, body)?;
     Ok(Some((FieldValue::String(spelled), rest)))
 }
 
@@ -273,22 +250,31 @@ fn boolean_by<'a>(value: bool, words: &[&str], text: &'a str) -> Option<(FieldVa
     Some((FieldValue::Boolean(value), rest))
 }
 
+// Whether a word for true may begin with the first of `bytes`.
+#[inline(always)]
+fn begins_true(bytes: &[u8]) -> bool
+    ensures { result ≡ is_one_of (codes "tT") (slice_index bytes.now 0) }
+{
+    matches!(bytes, [b't' | b'T', ..])
+}
+
 // A Boolean in front of `text`, and the rest.
+#[inline(never)]
 fn boolean(text: &str) -> Option<(FieldValue<'_>, &str)>
     ensures value { Gives value_of (Ok result) (boolean_at true true_words text.now otherwise boolean_at false false_words text.now) }
     ensures less { IfSome result (λ p. length p.1.now < length text.now) }
 {
-    if let Some(read) = boolean_by(true, &["true", "True", "TRUE", "t", "T"], text) {
-        return Some(read);
+    if begins_true(text.as_bytes()) {
+        return boolean_by(true, &["true", "True", "TRUE", "t", "T"], text);
     }
     boolean_by(false, &["false", "False", "FALSE", "f", "F"], text)
 }
 
 /// A value in front of `text`, and the rest. `None` where none stands there.
 ///
-/// The first case that does not miss decides: an integer, an unsigned integer, a float, a text, a
-/// Boolean. A number out of range is the line's fault.
-#[tactic(auto, unfolding(crate::specs::Values::value))]
+/// Its first byte says whether it is a number, a text or a Boolean, and what follows the integer in
+/// front of a number, which number. One out of range is the line's fault.
+#[inline(always)]
 pub(crate) fn value<'a>(
     alloc: Global,
     text: &'a str,
@@ -297,25 +283,33 @@ pub(crate) fn value<'a>(
     ensures less { IfOk result (λ o. IfSome o (λ p. length p.1.now < length text.now)) }
     ensures memory { result ≡ Err Error.OutOfMemory → NeedsMemory is_single_value (value text.now) }
 {
-    let whole = integer_len(text);
-    if let Some(read) = integer(alloc, text, whole)? {
-        return Ok(Some(read));
+    let bytes = text.as_bytes();
+    if begins_number(bytes) {
+        return number(alloc, text);
     }
-    if let Some(read) = unsigned(alloc, text, whole)? {
-        return Ok(Some(read));
-    }
-    if let Some(read) = float(text, whole) {
-        return Ok(Some(read));
-    }
-    if let Some(read) = string(alloc, text)? {
-        return Ok(Some(read));
+    if stands_at(bytes, 0, b'"') {
+        return string(alloc, text);
     }
     Ok(boolean(text))
+}
+
+// A timestamp out of range, or want of memory for its text.
+#[cold]
+#[inline(never)]
+fn timestamp_fault(alloc: Global, number: &str) -> Error
+    ensures { IsFault result (λ fault. fault ≡ timestamp_value_invalid (side_of number.now) number.now) }
+{
+    let source = side_of(number);
+    match String::from_str(alloc, number) {
+        Ok(value) => Error::TimestampValueInvalid { source, value },
+        Err(_) => Error::OutOfMemory,
+    }
 }
 
 /// The timestamp in front of `text`, if spaces and a number stand there, and the rest.
 ///
 /// The spaces behind the number are taken too. A number out of range is the line's fault.
+#[inline(always)]
 pub(crate) fn timestamp(alloc: Global, text: &str) -> Result<(Option<i64>, &str), Error>
     ensures value { GivesRead (λ t. t) result (timestamp text.now) }
     ensures memory { result ≡ Err Error.OutOfMemory → IsErr (timestamp text.now) }
@@ -325,12 +319,8 @@ pub(crate) fn timestamp(alloc: Global, text: &str) -> Result<(Option<i64>, &str)
     if number.is_empty() || behind.len() == text.len() {
         return Ok((None, text));
     }
-    match number.parse::<i64>() {
-        Ok(timestamp) => Ok((Some(timestamp), behind_spaces(rest))),
-        Err(_) => {
-            let source = side_of(number);
-            let value = String::from_str(alloc, number)?;
-            Err(Error::TimestampValueInvalid { source, value })
-        }
+    match integer_value(number) {
+        Some(timestamp) => Ok((Some(timestamp), behind_spaces(rest))),
+        None => Err(timestamp_fault(alloc, number)),
     }
 }

@@ -1,5 +1,5 @@
 -- What a run that could not write left behind.
-use Rattle.std.proofs.Common.{◌≡◌, ℕ, ◌<◌, List, [], take, length, Option, Result, Ok, Err, true, false, is_err, OnErr, OnOk, IfSome, refl, subst, arith, take_all, le_refl}
+use Rattle.std.proofs.Common.{◌≡◌, ℕ, List, length, Option, Result, Ok, Err, true, false, is_err, OnErr, OnOk, IfSome, subst, arith, take_all, le_refl}
 use Rattle.std.specs.Io.KnownBytes.{Consumes, Appends, IsAtEnd}
 use Rattle.std.proofs.KnownBytes.{Consumes-whole, Appends-nil}
 use Rattle.lp_rebuild.specs.declared.batch.Rebuilt.{Rebuilt}

@@ -79,10 +79,12 @@ fn take_line(alloc: Global, so_far: &mut Progress, line: &ParsedLine<'_>) -> Res
 }
 
 // Takes the next item, an error: its fault is refused. Want of memory ends the rebuild.
-fn take_fault(so_far: &mut Progress, error: Error) -> Result<(), AllocError>
+#[cold]
+#[inline(never)]
+fn take_fault(so_far: &mut Progress, error: &Error) -> Result<(), AllocError>
     requires { so_far.old.carried + so_far.old.refused < usize.MAX }
     ensures taken { OnOk result
-        ((answer : Result Line Fault) → Answers (Err error) answer → Takes so_far.old answer so_far.new) }
+        ((answer : Result Line Fault) → Answers (Err error.now) answer → Takes so_far.old answer so_far.new) }
     ensures counted { OnOk result
         (so_far.new.carried + so_far.new.refused ≡ so_far.old.carried + so_far.old.refused + 1) }
 {
@@ -93,20 +95,21 @@ fn take_fault(so_far: &mut Progress, error: Error) -> Result<(), AllocError>
 }
 
 // Takes the next item of a text.
+#[inline(always)]
 fn take(
     alloc: Global,
     so_far: &mut Progress,
-    item: influxdb_line_protocol::Result<ParsedLine<'_>>,
+    item: &influxdb_line_protocol::Result<ParsedLine<'_>>,
 ) -> Result<(), AllocError>
     requires room { so_far.old.carried + so_far.old.refused < usize.MAX }
-    requires some_field { IfOk item (λ line. 0 < length line.field_set.items) }
+    requires some_field { IfOk item.now (λ line. 0 < length line.field_set.items) }
     ensures taken { OnOk result
-        ((answer : Result Line Fault) → Answers item.entry answer → Takes so_far.old answer so_far.new) }
+        ((answer : Result Line Fault) → Answers item.now answer → Takes so_far.old answer so_far.new) }
     ensures counted { OnOk result
         (so_far.new.carried + so_far.new.refused ≡ so_far.old.carried + so_far.old.refused + 1) }
 {
     match item {
-        Ok(line) => take_line(alloc, so_far, &line),
+        Ok(line) => take_line(alloc, so_far, line),
         Err(error) => take_fault(so_far, error),
     }
 }
@@ -137,7 +140,11 @@ pub fn rebuild(alloc: Global, input: &str) -> Result<Rebuilt, AllocError>
         refused: 0,
     };
     for item in parse_lines(alloc, input) {
-        take(alloc, &mut so_far, item)?;
+        let taken = {
+            let item = item;
+            take(alloc, &mut so_far, &item)
+        };
+        taken?;
     }
     Ok(Rebuilt {
         batch: so_far.batch,

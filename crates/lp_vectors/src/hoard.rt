@@ -6,6 +6,7 @@ use std::alloc::{AllocError, Global};
 #[derive(Drop)]
 pub struct Hoard {
     blocks: Vec<Vec<u8>>,
+    left: Vec<Vec<u8>>,
 }
 
 impl Hoard {
@@ -24,7 +25,26 @@ impl Hoard {
             }
             size = size / 2;
         }
-        Ok(Hoard { blocks })
+        let left = Vec::new(alloc);
+        Ok(Hoard { blocks, left })
+    }
+
+    /// The same, but just `count` requests for `size` bytes are granted, and those behind them refused.
+    ///
+    /// A block that is given back serves one request for as many bytes, or for so few that the allocator's smallest
+    /// block holds both, and is not split for smaller ones. It holds for up to 7 blocks of up to 1,024 bytes.
+    pub fn leaving(alloc: Global, count: usize, size: usize) -> Result<Hoard, AllocError> {
+        let mut left = Vec::with_capacity(alloc, count)?;
+        for _ in 0..count {
+            let block = Vec::with_capacity(alloc, size)?;
+            if left.push(block).is_err() {
+                return Err(AllocError);
+            }
+        }
+        let mut hoard = Hoard::new(alloc)?;
+        left.clear();
+        hoard.left = left;
+        Ok(hoard)
     }
 
     /// How many blocks were taken.

@@ -5,6 +5,8 @@
 mod admitted;
 #[cfg(test)]
 mod built;
+#[cfg(test)]
+mod bytewise;
 pub mod hoard;
 #[cfg(test)]
 mod lines;

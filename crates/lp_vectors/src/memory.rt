@@ -1,9 +1,10 @@
-//! Lines and calls while every request for memory is refused.
+//! Lines and calls while requests for memory are refused: each of them, or those behind the first few.
 
 use crate::hoard::Hoard;
 use crate::told;
 use influxdb_line_protocol::builder::NoRoom;
 use influxdb_line_protocol::{Error, EscapedStr, LineProtocolBuilder, parse_lines};
+use std::alloc::Global;
 use std::test::Fail;
 
 #[test]
@@ -63,6 +64,62 @@ fn light_lines_are_read_without_memory(rt: HostRuntime) -> Result<(), Fail> {
         };
         assert_eq!(rt; told.as_str(), wanted);
     }
+    Ok(())
+}
+
+// The item of the first line of `text`, told, where just `count` requests for `size` bytes are granted.
+fn told_with(alloc: Global, text: &str, count: usize, size: usize) -> Result<String, Fail> {
+    let mut lines = parse_lines(alloc, text);
+    let hoard = Hoard::leaving(alloc, count, size)?;
+    let item = lines.next();
+    drop(hoard);
+    match &item {
+        Some(Ok(line)) => Ok(told::line(alloc, line)?),
+        Some(Err(fault)) => Ok(told::fault(alloc, fault)?),
+        None => Err("no item".into()),
+    }
+}
+
+// A hoard cannot refuse the k-th request alone: it refuses those from the k-th on.
+#[test]
+fn each_copy_asks_for_memory_once(rt: HostRuntime) -> Result<(), Fail> {
+    let alloc = rt.alloc();
+    let text = "a\\ b,c\\,d=e\\=f g\\ h=\"i\\\"j\"";
+    for granted in 0..5 {
+        let told = told_with(alloc, text, granted, 16)?;
+        assert_eq!(rt; told.as_str(), "OutOfMemory");
+    }
+    let told = told_with(alloc, text, 5, 16)?;
+    assert_eq!(rt; told.as_str(), "C<a b>,C<c,d>=C<e=f> C<g h>=C<i\"j>");
+    Ok(())
+}
+
+#[test]
+fn one_known_escape_alone_asks_for_none(rt: HostRuntime) -> Result<(), Fail> {
+    let alloc = rt.alloc();
+    // The one request is for the rest, which the fault tells.
+    let refused = told_with(alloc, "m \\,=1i x", 0, 16)?;
+    assert_eq!(rt; refused.as_str(), "OutOfMemory");
+    let told = told_with(alloc, "m \\,=1i x", 1, 16)?;
+    assert_eq!(rt; told.as_str(), "rest < x>");
+    Ok(())
+}
+
+#[test]
+fn a_copy_of_a_thousand_escapes_asks_once(rt: HostRuntime) -> Result<(), Fail> {
+    let alloc = rt.alloc();
+    let mut text = String::from_str(alloc, "a")?;
+    let mut wanted = String::from_str(alloc, "C<a")?;
+    for _ in 0..1_000 {
+        text.push_str("\\ ")?;
+        wanted.push_str(" ")?;
+    }
+    text.push_str(" f=1i")?;
+    wanted.push_str("> S<f>=1i")?;
+    let refused = told_with(alloc, text.as_str(), 0, 1_001)?;
+    assert_eq!(rt; refused.as_str(), "OutOfMemory");
+    let told = told_with(alloc, text.as_str(), 1, 1_001)?;
+    assert_eq!(rt; told.as_str(), wanted.as_str());
     Ok(())
 }
 

@@ -1,6 +1,6 @@
 //! Parsed lines that are written again.
 
-ghost use Rattle.std.specs.Prelude.{◌≡◌, ◌+◌, ◌<◌, ◌≤◌, ◌^◌, ◌++◌, length, map, not};
+ghost use Rattle.std.specs.Prelude.{◌≡◌, ℕ, ◌+◌, ◌<◌, ◌≤◌, ◌^◌, ◌++◌, length, map, not};
 ghost use Rattle.std.specs.Option.{SomeIff, option_map};
 ghost use Rattle.std.specs.List.{flat_map, list_all};
 ghost use Rattle.smallvec.specs.SmallVec.{small_vec_len};
@@ -13,8 +13,10 @@ ghost use Rattle.influxdb_line_protocol.specs.Values.{float};
 ghost use Rattle.influxdb_line_protocol.specs.Literals.{literal_of};
 ghost use Rattle.influxdb_line_protocol.specs.Texts.{text_of};
 ghost use Rattle.influxdb_line_protocol.specs.WrittenAgain.{fields_text, parts_text, point_field, point_tag, tag_text, value_text};
+ghost use Rattle.influxdb_line_protocol.specs.Marks.{listed};
 ghost use Rattle.influxdb_line_protocol.specs.Built.{Writes, buffer_of};
 
+use super::marks::{Marks, is_free_of};
 use super::{
     BeforeMeasurement, BufMut, Escapes, FieldValue, LineProtocolBuilder, Refused, escaped_len,
     field_len, put_escaped, put_field, put_tag, tag_len,
@@ -35,21 +37,29 @@ impl FieldValue for FloatText<'_> {
     }
 }
 
-// Whether a name of this kind may hold the byte.
-fn may_hold(kind: NameKind, byte: u8) -> bool
-    ensures { result ≡ not (is_one_of (never_in (kind_of kind)) byte) }
+// The bytes that a name of this kind may not hold.
+#[inline(always)]
+fn never_in(kind: NameKind) -> Marks
+    ensures { (b : ℕ) → is_one_of (listed result) b ≡ is_one_of (never_in (kind_of kind)) b }
 {
-    match kind {
-        NameKind::Measurement => !matches!(byte, b'\t' | b'\n' | 0),
-        _ => !matches!(byte, b'\t' | b'\n'),
+    let [first, second, third, fourth] = match kind {
+        NameKind::Measurement => *b"\t\n\0\0",
+        _ => *b"\t\n\n\n",
+    };
+    Marks {
+        first,
+        second,
+        third,
+        fourth,
     }
 }
 
 // Whether a name of this kind may hold each of the bytes.
+#[inline(always)]
 fn may_hold_all(kind: NameKind, bytes: &[u8]) -> bool
     ensures { result ≡ list_all (λ b. not (is_one_of (never_in (kind_of kind)) b)) bytes.now }
 {
-    bytes.iter().all(|byte| may_hold(kind, *byte))
+    is_free_of(never_in(kind), bytes)
 }
 
 // Whether the name is admitted as one of this kind.

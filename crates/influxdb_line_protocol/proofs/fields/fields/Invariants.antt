@@ -3,15 +3,16 @@ use denote.Text.{Utf8}
 use denote.Shadow.{shadow}
 use Rattle.influxdb_line_protocol.specs.Lines.{field}
 use Rattle.influxdb_line_protocol.specs.Parsed.{field_of}
-use Rattle.influxdb_line_protocol.proofs.ManyLemmas.{SoFar}
+use Rattle.influxdb_line_protocol.proofs.ManyLemmas.{Reached}
 use Rattle.influxdb_line_protocol.proofs.fields.fields.Given as goal
 
 abbrev pub invariant-loop-next : goal.invariant-loop-next
 invariant-loop-next l = record {
-  utf8 : shadow (Utf8 l.rest);
-  so_far : SoFar field l.text (map field_of l.set.items) l.rest;
+  utf8_rest : shadow (Utf8 l.rest);
+  utf8_place : shadow (Utf8 l.place);
+  reached : Reached field l.text (map field_of l.set.items) l.rest l.place;
   room : 4 ≤ l.set.capacity;
 }
 
 abbrev pub decreases-loop-next : goal.decreases-loop-next
-decreases-loop-next l = length l.rest
+decreases-loop-next l = length l.place

@@ -1,8 +1,9 @@
-use Rattle.std.proofs.lemmas.Str.Pattern.{strip_prefix_char}
-use Rattle.influxdb_line_protocol.proofs.LineLemmas.{byte_stripped}
+use Rattle.std.proofs.Common.{subst, arith}
+use Rattle.std.proofs.lemmas.Str.{IsCharBoundary-after_ascii}
+use Rattle.std.specs.Str.{IsCharBoundary}
 use Rattle.influxdb_line_protocol.proofs.line.behind.Goals as goal
 
-pub returns-clause-value : goal.returns-clause-value
-returns-clause-value c =
-    byte_stripped c.args.mark c.args.text.now c.strip_prefix.result
-    (strip_prefix_char c.args.mark c.args.text.now c.strip_prefix.result c.strip_prefix.ensures.cases c.requires)
+pub range_from-requires : goal.range_from-requires
+range_from-requires c = λ _.
+    let bytes = c.as_bytes.ensures in
+    subst (λ t. IsCharBoundary t 1) bytes.value (IsCharBoundary-after_ascii c.as_bytes.result.now 0 bytes.utf8 (omega (arith, c.in-len1-up.len_at_least)) (omega (arith, c.if-first-mark.true, c.requires)))

@@ -1,13 +1,13 @@
-use Rattle.std.proofs.Common.{arith}
-use Rattle.std.proofs.lemmas.Str.{IsCharBoundary-start}
 use Rattle.std.proofs.lemmas.List.{take_rest}
-use Rattle.influxdb_line_protocol.proofs.ValueLemmas.{digits_boundary}
+use Rattle.influxdb_line_protocol.proofs.ValueLemmas.{digits_end, negative_end}
 use Rattle.influxdb_line_protocol.proofs.literals.integer_len.Goals as goal
 
-pub returns-then-digits-eq0-clause-boundary : goal.returns-then-digits-eq0-clause-boundary
-returns-then-digits-eq0-clause-boundary c = IsCharBoundary-start c.args.text.now c.utf8.text
+pub returns-in-45-clause-boundary : goal.returns-in-45-clause-boundary
+returns-in-45-clause-boundary c =
+    let value = rw (take_rest, c.as_bytes.ensures.value) at c.negative_len.ensures.value in
+    negative_end c.args.text.now c.negative_len.result c.utf8.text value
 
-pub returns-else-digits-eq0-clause-boundary : goal.returns-else-digits-eq0-clause-boundary
-returns-else-digits-eq0-clause-boundary c =
-    let digits = rw (take_rest, c.as_bytes.ensures.value) at c.digits_len-digits.ensures.value in
-    digits_boundary c.args.text.now c.from-sign.result c.digits_len-digits.result c.utf8.text digits (omega arith)
+pub returns-in_default-clause-boundary : goal.returns-in_default-clause-boundary
+returns-in_default-clause-boundary c =
+    let value = rw c.as_bytes.ensures.value at c.digits_len.ensures.value in
+    digits_end c.args.text.now c.digits_len.result c.utf8.text value

@@ -3,15 +3,16 @@ use denote.Text.{Utf8}
 use denote.Shadow.{shadow}
 use Rattle.influxdb_line_protocol.specs.Lines.{tag}
 use Rattle.influxdb_line_protocol.specs.Parsed.{tag_of}
-use Rattle.influxdb_line_protocol.proofs.ManyLemmas.{SoFar}
+use Rattle.influxdb_line_protocol.proofs.ManyLemmas.{Reached}
 use Rattle.influxdb_line_protocol.proofs.tags.tags.Given as goal
 
 abbrev pub invariant-loop-next : goal.invariant-loop-next
 invariant-loop-next l = record {
-  utf8 : shadow (Utf8 l.rest);
-  so_far : SoFar tag l.text (map tag_of l.set.items) l.rest;
+  utf8_rest : shadow (Utf8 l.rest);
+  utf8_place : shadow (Utf8 l.place);
+  reached : Reached tag l.text (map tag_of l.set.items) l.rest l.place;
   room : 8 ≤ l.set.capacity;
 }
 
 abbrev pub decreases-loop-next : goal.decreases-loop-next
-decreases-loop-next l = length l.rest
+decreases-loop-next l = length l.place

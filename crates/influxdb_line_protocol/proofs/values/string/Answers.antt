@@ -14,31 +14,27 @@ pub returns-in_default-strip_prefix-clause-value : goal.returns-in_default-strip
 returns-in_default-strip_prefix-clause-value c =
     let behind = c.in-Some.behind.now in
     let opened = strip_prefix_char 34 c.args.text.now (Some c.in-Some.behind) c.in-Some.ensures.cases (lit< tt) in
-    let back = rw c.body_len.ensures.value at c.split_at.ensures.back in
-    let unclosed = strip_prefix_char 34 c.split_at.result.1.now None c.in_default-strip_prefix.ensures.cases (lit< tt) in
-    string_open c.args.text.now behind opened (λ rest e. unclosed rest (back ∙ e))
+    let unclosed = strip_prefix_char 34 c.front.result.1.now None c.in_default-strip_prefix.ensures.cases (lit< tt) in
+    string_open c.args.text.now behind opened (λ rest e. unclosed rest (c.front.ensures.rest ∙ e))
 
 pub returns-in_err-spelled-clause-memory : goal.returns-in_err-spelled-clause-memory
 returns-in_err-spelled-clause-memory c = λ refused.
     let behind = c.in-Some.behind.now in
     let opened = strip_prefix_char 34 c.args.text.now (Some c.in-Some.behind) c.in-Some.ensures.cases (lit< tt) in
-    let front = rw c.body_len.ensures.value at c.split_at.ensures.front in
-    let back = rw c.body_len.ensures.value at c.split_at.ensures.back in
-    let closed = strip_prefix_char 34 c.split_at.result.1.now (Some c.in-Some-strip_prefix.rest) c.in-Some-strip_prefix.ensures.cases (lit< tt) in
-    let read = string_reads c.args.text.now behind c.in-Some-strip_prefix.rest.now opened (sym back ∙ closed) in
+    let closed = strip_prefix_char 34 c.front.result.1.now (Some c.in-Some-strip_prefix.rest) c.in-Some-strip_prefix.ensures.cases (lit< tt) in
+    let read = string_reads c.args.text.now behind c.in-Some-strip_prefix.rest.now opened (sym c.front.ensures.rest ∙ closed) in
+    let no_memory = rw (c.front.ensures.form, c.front.ensures.text) at c.in_err-spelled.ensures.no_memory in
     let copied : is_shared quotable (take (body_len behind) behind) ≡ false =
-    rw (← front) (elim (cases_Bool (is_shared quotable c.split_at.result.0.now)) [
-      | inl shared ↦ (let never = c.in_err-spelled.ensures.no_memory shared in cc)
+    elim (cases_Bool (is_shared quotable (take (body_len behind) behind))) [
+      | inl shared ↦ absurd (let never = no_memory shared in cc)
       | inr copied ↦ copied
-    ]) in
+    ] in
     rw read copied
 
 pub returns-clause-value : goal.returns-clause-value
 returns-clause-value c =
     let behind = c.in-Some.behind.now in
     let opened = strip_prefix_char 34 c.args.text.now (Some c.in-Some.behind) c.in-Some.ensures.cases (lit< tt) in
-    let front = rw c.body_len.ensures.value at c.split_at.ensures.front in
-    let back = rw c.body_len.ensures.value at c.split_at.ensures.back in
-    let closed = strip_prefix_char 34 c.split_at.result.1.now (Some c.in-Some-strip_prefix.rest) c.in-Some-strip_prefix.ensures.cases (lit< tt) in
-    let read = string_reads c.args.text.now behind c.in-Some-strip_prefix.rest.now opened (sym back ∙ closed) in
-    rw (c.in_ok-spelled.ensures.text, front) read
+    let closed = strip_prefix_char 34 c.front.result.1.now (Some c.in-Some-strip_prefix.rest) c.in-Some-strip_prefix.ensures.cases (lit< tt) in
+    let read = string_reads c.args.text.now behind c.in-Some-strip_prefix.rest.now opened (sym c.front.ensures.rest ∙ closed) in
+    rw (c.in_ok-spelled.ensures.text, c.front.ensures.form, c.front.ensures.text) read

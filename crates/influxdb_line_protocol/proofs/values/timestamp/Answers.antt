@@ -1,20 +1,15 @@
-use Rattle.std.proofs.Common.{◌<◌, length, refl, arith}
+use Rattle.std.proofs.Common.{◌<◌, length, arith, ap}
+use Rattle.std.specs.Prelude.{codes}
+use Rattle.std.proofs.lemmas.List.{length-take}
 use Rattle.std.proofs.lemmas.Grind.{common_steps}
-use Rattle.influxdb_line_protocol.proofs.ValueLemmas.{timestamp_refused}
+use Rattle.influxdb_line_protocol.specs.Values.{integer_len}
+use Rattle.influxdb_line_protocol.proofs.FloatLemmas.{signed_front}
 use Rattle.influxdb_line_protocol.proofs.values.timestamp.Goals as goal
 
-pub returns-in_err-value-in-Err-clause-memory : goal.returns-in_err-value-in-Err-clause-memory
-returns-in_err-value-in-Err-clause-memory c = λ out.
+pub integer_value-requires : goal.integer_value-requires
+integer_value-requires c =
     let behind = c.behind_spaces-behind.result.now in
     let front = rw c.integer_len.ensures.value at c.split_at.ensures.front in
     let some : 0 < length c.split_at.result.0.now = grind (arith, common_steps) in
-    let refused = timestamp_refused c.args.text.now behind c.split_at.result.0.now c.behind_spaces-behind.ensures front c.if-behind-text.false some c.in-Err.ensures.value.0 in
-    rw refused refl
-
-pub returns-in_ok-value-in-Err-clause-value : goal.returns-in_ok-value-in-Err-clause-value
-returns-in_ok-value-in-Err-clause-value c =
-    let behind = c.behind_spaces-behind.result.now in
-    let front = rw c.integer_len.ensures.value at c.split_at.ensures.front in
-    let some : 0 < length c.split_at.result.0.now = grind (arith, common_steps) in
-    let refused = timestamp_refused c.args.text.now behind c.split_at.result.0.now c.behind_spaces-behind.ensures front c.if-behind-text.false some c.in-Err.ensures.value.0 in
-    rw (refused, c.side_of-source.ensures, c.in_ok-value-in-Err.ensures.ok) refl
+    let taken : 0 < integer_len behind = omega (arith, some, length-take (integer_len behind) behind, ap length front) in
+    rw front (signed_front (codes "-") behind taken)

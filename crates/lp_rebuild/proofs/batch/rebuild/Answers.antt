@@ -12,13 +12,13 @@ loop-item-preserved c =
       can = tt;
       finite = tt;
       dialect = s.0 ∙ h.dialect;
-      room = omega (arith, c.in_ok-take.ensures.counted);
+      room = omega (arith, c.in_ok-taken.ensures.counted);
       done = λ others left.
-          SoFar-item c.args.input.now c.loop-item.item-iterator c.in-Some.item others c.loop-item.so_far c.take.new.so_far h.dialect h.done (s.1 others left) c.in_ok-take.ensures.taken;
+          SoFar-item c.args.input.now c.loop-item.item-iterator c.in-Some.item others c.loop-item.so_far c.take-taken.new.so_far h.dialect h.done (s.1 others left) c.in_ok-taken.ensures.taken;
     }
 
-pub take-requires-clause-some_field : goal.take-requires-clause-some_field
-take-requires-clause-some_field c =
+pub take-taken-requires-clause-some_field : goal.take-taken-requires-clause-some_field
+take-taken-requires-clause-some_field c =
     item_has_field c.lines_are_points.ensures c.pieces_join.ensures.some c.loop-item.item-iterator _ _ c.in-Some.item c.in-Some.ensures.steps.1
 
 pub returns-clause-rebuilds : goal.returns-clause-rebuilds

@@ -1,4 +1,4 @@
-use Rattle.std.proofs.Common.{◌+◌, ◌∙◌, rules}
+use Rattle.std.proofs.Common.{◌+◌, ◌∙◌}
 use Rattle.std.proofs.lemmas.List.{take_rest}
 use Rattle.lp_rebuild.proofs.Moving.{write_more, rest_more}
 use Rattle.lp_rebuild.proofs.program.write_all.Goals as goal

@@ -1,0 +1,35 @@
+#!/usr/bin/env bash
+# Times this library over the given files, and the Rust crate beside it where cargo can have it.
+#
+#   bench/run.sh FILE..
+#
+# CARGO_FLAGS: more words for cargo, as where the crate lies if crates.io is out of reach.
+set -eu
+here=$(cd "$(dirname "$0")" && pwd)
+top=$(dirname "$here")
+PATH=$PATH:/opt/rattle/bin
+built=$(mktemp -d)
+trap 'rm -rf "$built"' EXIT
+
+for crate in influxdb_line_protocol lp_rebuild lp_bench; do
+    (cd "$top/crates/$crate" && rt lib > "$built/rt.log" 2>&1) || { tail -n 20 "$built/rt.log" >&2; exit 1; }
+done
+heap=$(dirname "$(dirname "$(readlink -f "$(command -v rt)")")")/c/liblibc_c.a
+cc -O2 "$here/driver.c" "$top/crates/lp_bench/out/liblp_bench.a" "$heap" -o "$built/ours"
+"$built/ours" "$@" | tee "$built/ours.txt"
+
+# shellcheck disable=SC2086
+if (cd "$here/crate" && cargo build --release ${CARGO_FLAGS:-} --target-dir "$built/cargo" > "$built/cargo.log" 2>&1); then
+    echo
+    echo "the Rust crate influxdb-line-protocol:"
+    "$built/cargo/release/lp_bench_crate" "$@" | tee "$built/crate.txt"
+    echo
+    echo "times the crate's speed:"
+    awk 'NR == FNR { speed[$1 " " $2] = $3; next }
+         ($1 " " $2) in speed { printf "%-8s %-14s %6.2fx\n", $1, $2, speed[$1 " " $2] / $3 }' \
+        "$built/ours.txt" "$built/crate.txt"
+else
+    echo "cargo could not build the Rust crate:" >&2
+    tail -n 3 "$built/cargo.log" >&2
+fi
+rm -f "$here/crate/Cargo.lock"

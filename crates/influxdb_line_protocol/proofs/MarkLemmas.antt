@@ -1,0 +1,162 @@
+-- From the mask of one load to the bytes that are marks, and from loads to a whole text.
+use Rattle.std.proofs.Common.{◌≡◌, ℕ, ◌+◌, ◌-◌, ◌%◌, ◌^◌, ◌<◌, ◌≤◌, eqb, Bool, true, false, cond, not, ◌||◌, List, map, length, take, drop, get_or, length-drop, replicate, bit_or, refl, sym, ap, ◌∙◌, subst, arith, inl, inr}
+use Rattle.std.proofs.lemmas.Bool.{cases_eq, cases_lt, eq-eqb, ne_eqb}
+use Rattle.std.proofs.lemmas.Simd.{map-map, mask_l-mod, length-chunk, zip2_splat, zip2_of_maps, first_set_mask_l, run_in_chunk_le, run_in_chunk_fails, run_in_chunk_stops, chunk-drop, ones-mask_l}
+use Rattle.std.proofs.lemmas.List.{length-map, take_all, get_or-drop}
+use Rattle.std.proofs.lemmas.List.Sums.{list_all-from_AllPass, sum_by-append, count_by-le-length}
+use Rattle.std.proofs.lemmas.List.Elements.{All-from_get_or}
+use Rattle.std.proofs.lemmas.List.Folds.{list_all_at}
+use Rattle.std.specs.List.{prefix_len, list_all, count_by}
+use Rattle.std.specs.Prelude.{count_ones}
+use lib.Lanes.{chunk, zip2, mask_l, top}
+use Rattle.influxdb_line_protocol.specs.declared.builder.marks.Marks.{Marks}
+use Rattle.influxdb_line_protocol.specs.Bytes.{is_one_of}
+use Rattle.influxdb_line_protocol.specs.Marks.{StandBefore, listed}
+use Rattle.influxdb_line_protocol.specs.Lanes.{first_set}
+
+-- a lane that is equal to another
+abbrev equal_lane : ℕ → ℕ → ℕ
+equal_lane a b = cond (eqb a b) 255 0
+
+-- the top bit of four lanes that were compared
+any_lane : (e f g h : Bool)
+    → top 7 (bit_or (bit_or (cond e 255 0) (cond f 255 0)) (bit_or (cond g 255 0) (cond h 255 0)))
+    ≡ e || (f || (g || (h || false)))
+any_lane true true true true = refl
+any_lane true true true false = refl
+any_lane true true false true = refl
+any_lane true true false false = refl
+any_lane true false true true = refl
+any_lane true false true false = refl
+any_lane true false false true = refl
+any_lane true false false false = refl
+any_lane false true true true = refl
+any_lane false true true false = refl
+any_lane false true false true = refl
+any_lane false true false false = refl
+any_lane false false true true = refl
+any_lane false false true false = refl
+any_lane false false false true = refl
+any_lane false false false false = refl
+
+eqb_swap : (a b : ℕ) → eqb a b ≡ eqb b a
+eqb_swap a b =
+    elim (cases_eq a b) [
+      | inl same ↦ eq-eqb a b same ∙ sym (eq-eqb b a (sym same))
+      | inr other ↦ ne_eqb a b other ∙ sym (ne_eqb b a (omega arith))
+    ]
+
+-- the lane of a byte that was compared with each mark
+abbrev compared : Marks → ℕ → ℕ
+compared m x =
+    bit_or (bit_or (equal_lane x m.first) (equal_lane x m.second)) (bit_or (equal_lane x m.third) (equal_lane x m.fourth))
+
+-- its top bit tells a mark
+mark_lane : (m : Marks) (x : ℕ) → top 7 (compared m x) ≡ is_one_of (listed m) x
+mark_lane m x =
+    rw (← eqb_swap x m.first, ← eqb_swap x m.second, ← eqb_swap x m.third, ← eqb_swap x m.fourth)
+    (any_lane (eqb x m.first) (eqb x m.second) (eqb x m.third) (eqb x m.fourth))
+
+module _ (m : Marks) (d : List ℕ) (i n r : ℕ) (room : i + n ≤ length d) (few : n ≤ 64) where
+  abbrev lanes : List ℕ
+  lanes =
+      let v = chunk i n d in
+      zip2 bit_or
+      (zip2 bit_or (zip2 equal_lane v (replicate n m.first)) (zip2 equal_lane v (replicate n m.second)))
+      (zip2 bit_or (zip2 equal_lane v (replicate n m.third)) (zip2 equal_lane v (replicate n m.fourth)))
+
+  lanes_are : lanes ≡ map (compared m) (chunk i n d)
+  lanes_are =
+      let v = chunk i n d in
+      let long = length-chunk i n d room in
+      zip2_of_maps bit_or _ _ v
+      (zip2_of_maps bit_or _ _ v (zip2_splat equal_lane v n m.first long) (zip2_splat equal_lane v n m.second long))
+      (zip2_of_maps bit_or _ _ v (zip2_splat equal_lane v n m.third long) (zip2_splat equal_lane v n m.fourth long))
+
+  mask_is : mask_l (map (top 7) lanes) % 2 ^ 64 ≡ mask_l (map (is_one_of (listed m)) (chunk i n d))
+  mask_is =
+      let v = chunk i n d in
+      let marked : map (top 7) lanes ≡ map (is_one_of (listed m)) v =
+      ap (map (top 7)) lanes_are ∙ map-map (top 7) (compared m) v ∙ ap (λ (f : ℕ → Bool). map f v) (λ j x. mark_lane m x j) in
+      ap (λ (l : List Bool). mask_l l % 2 ^ 64) marked
+      ∙ mask_l-mod (map (is_one_of (listed m)) v) 64 (omega (arith, length-map v (is_one_of (listed m)), length-chunk i n d room))
+
+  -- a load tells how many of its bytes stand before the first mark
+  pub run_in_load : r ≡ first_set (mask_l (map (top 7) lanes) % 2 ^ 64) n → StandBefore (is_one_of (listed m)) d i n r
+  run_in_load found =
+      let q = is_one_of (listed m) in
+      let v = chunk i n d in
+      let counted : r ≡ prefix_len (λ x. not (q x)) v =
+      found ∙ ap (λ (k : ℕ). first_set k n) mask_is ∙ first_set_mask_l q v n (length-chunk i n d room) few in
+      record {
+        within = run_in_chunk_le q d i n r 0 room counted;
+        none = run_in_chunk_fails q d i n r 0 room counted;
+        here = run_in_chunk_stops q d i n r 0 room counted;
+      }
+
+  -- the bits that are set in the mask of a load count its marks
+  pub count_in_load : r ≡ count_ones (mask_l (map (top 7) lanes) % 2 ^ 64) → r ≡ count_by (is_one_of (listed m)) (chunk i n d)
+  count_in_load found = found ∙ ap count_ones mask_is ∙ ones-mask_l (is_one_of (listed m)) (chunk i n d)
+
+  -- no more than it has
+  pub few_in_load : r ≡ count_ones (mask_l (map (top 7) lanes) % 2 ^ 64) → r ≤ n
+  few_in_load found = omega (arith, count_in_load found, count_by-le-length (is_one_of (listed m)) (chunk i n d), length-chunk i n d room)
+
+-- what a text counts is what a load counts, and what stands behind it
+pub count_behind : (q : ℕ → Bool) (d : List ℕ) (at n : ℕ) → count_by q (drop at d) ≡ count_by q (chunk at n d) + count_by q (drop (at + n) d)
+count_behind q d at n = ap (count_by q) (chunk-drop at n d) ∙ sum_by-append (λ b. cond (q b) 1 0) (chunk at n d) (drop (at + n) d)
+
+-- a text in which no byte passes the test
+pub free_whole : (q : ℕ → Bool) (d : List ℕ) → ((k : ℕ) → k < length d → q (get_or d k 0) ≡ false)
+    → list_all (λ b. not (q b)) d ≡ true
+free_whole q d none =
+    list_all-from_AllPass (λ b. not (q b)) d
+    (All-from_get_or (λ b. not (q b) ≡ true) d 0 (λ k inside. ap not (none k inside)))
+
+-- a text in which one does
+pub not_free : (q : ℕ → Bool) (d : List ℕ) (k : ℕ) → k < length d → q (get_or d k 0) ≡ true
+    → list_all (λ b. not (q b)) d ≡ false
+not_free q d k inside here = list_all_at (λ b. not (q b)) d k 0 inside (ap not here)
+
+-- a load at the end, which may overlap what was seen, decides
+pub last_decides : (q : ℕ → Bool) (d : List ℕ) (seen n r : ℕ) → n ≤ length d → length d - n ≤ seen
+    → ((k : ℕ) → k < seen → q (get_or d k 0) ≡ false) → StandBefore q d (length d - n) n r
+    → eqb r n ≡ list_all (λ b. not (q b)) d
+last_decides q d seen n r room overlaps front run =
+    elim (cases_eq r n) [
+      | inl whole ↦
+          eq-eqb r n whole
+          ∙ sym (free_whole q d (λ k inside. elim (cases_lt k seen) [
+            | inl early ↦ front k early
+            | inr late ↦ run.none k (omega arith) (omega arith)
+          ]))
+      | inr other ↦
+          let short : r < n = omega (arith, run.within) in
+          ne_eqb r n other ∙ sym (not_free q d (length d - n + r) (omega arith) (run.here short))
+    ]
+
+-- what stands before the first mark of the rest, behind a front without one
+pub behind_front : (q : ℕ → Bool) (d : List ℕ) (at r : ℕ) → at ≤ length d
+    → ((k : ℕ) → k < at → q (get_or d k 0) ≡ false)
+    → StandBefore q (take (length d - at) (drop at d)) 0 (length (take (length d - at) (drop at d))) r
+    → StandBefore q d 0 (length d) (at + r)
+behind_front q d at r room front run =
+    let rest : take (length d - at) (drop at d) ≡ drop at d = take_all (length d - at) (drop at d) (omega (arith, length-drop at d)) in
+    let long : length (take (length d - at) (drop at d)) ≡ length d - at = ap length rest ∙ length-drop at d in
+    let place : (k : ℕ) → get_or (take (length d - at) (drop at d)) k 0 ≡ get_or d (at + k) 0 =
+    λ k. ap (λ (xs : List ℕ). get_or xs k 0) rest ∙ get_or-drop at d k 0 in
+    record {
+      within = omega (arith, run.within);
+      none =
+          λ k from to. elim (cases_lt k at) [
+            | inl early ↦ front k early
+            | inr late ↦
+                let back : at + (k - at) ≡ k = omega arith in
+                subst (λ (x : ℕ). q x ≡ false) (place (k - at) ∙ ap (λ (j : ℕ). get_or d j 0) back)
+                (run.none (k - at) (omega arith) (omega arith))
+          ];
+      here =
+          λ short.
+          let same : at + (0 + r) ≡ 0 + (at + r) = omega arith in
+          subst (λ (x : ℕ). q x ≡ true) (place (0 + r) ∙ ap (λ (j : ℕ). get_or d j 0) same) (run.here (omega arith));
+    }

@@ -1,0 +1,228 @@
+//! Searches of a text for one of a few bytes, many of its bytes at a time.
+ghost use Rattle.std.specs.Prelude.{◌≡◌, ◌+◌, ◌<◌, ◌≤◌, length, not};
+ghost use Rattle.std.specs.List.{count_by, list_all};
+ghost use Rattle.std.specs.Simd.Lanes.{chunk};
+ghost use Rattle.influxdb_line_protocol.specs.Bytes.{is_one_of};
+ghost use Rattle.influxdb_line_protocol.specs.Marks.{StandBefore, listed};
+
+use crate::lanes::first_set;
+use std::simd::prelude::*;
+
+// The bytes that are looked for, of which some may be the same.
+#[derive(Clone, Copy)]
+pub(crate) struct Marks {
+    pub(crate) first: u8,
+    pub(crate) second: u8,
+    pub(crate) third: u8,
+    pub(crate) fourth: u8,
+}
+
+// Whether the byte is one of them.
+#[inline(always)]
+pub(crate) fn is_mark(marks: Marks, byte: u8) -> bool
+    ensures { result ≡ is_one_of (listed marks) byte }
+{
+    (byte == marks.first) | (byte == marks.second) | (byte == marks.third) | (byte == marks.fourth)
+}
+
+// How many of the 16 bytes from `at` on stand before the first mark.
+#[inline(always)]
+fn run_of_16(marks: Marks, text: &[u8], at: usize) -> usize
+    requires { at + 16 ≤ length text.now }
+    ensures { StandBefore (is_one_of (listed marks)) text.now at 16 result }
+{
+    let bytes = u8x16::from_slice(&text[at..]);
+    let found = (bytes.simd_eq(u8x16::splat(marks.first))
+        | bytes.simd_eq(u8x16::splat(marks.second)))
+        | (bytes.simd_eq(u8x16::splat(marks.third)) | bytes.simd_eq(u8x16::splat(marks.fourth)));
+    first_set(found.to_bitmask(), 16)
+}
+
+// How many of the 8 bytes from `at` on stand before the first mark.
+#[inline(always)]
+fn run_of_8(marks: Marks, text: &[u8], at: usize) -> usize
+    requires { at + 8 ≤ length text.now }
+    ensures { StandBefore (is_one_of (listed marks)) text.now at 8 result }
+{
+    let bytes = u8x8::from_slice(&text[at..]);
+    let found = (bytes.simd_eq(u8x8::splat(marks.first)) | bytes.simd_eq(u8x8::splat(marks.second)))
+        | (bytes.simd_eq(u8x8::splat(marks.third)) | bytes.simd_eq(u8x8::splat(marks.fourth)));
+    first_set(found.to_bitmask(), 8)
+}
+
+// How many of the 4 bytes from `at` on stand before the first mark.
+#[inline(always)]
+fn run_of_4(marks: Marks, text: &[u8], at: usize) -> usize
+    requires { at + 4 ≤ length text.now }
+    ensures { StandBefore (is_one_of (listed marks)) text.now at 4 result }
+{
+    let bytes = u8x4::from_slice(&text[at..]);
+    let found = (bytes.simd_eq(u8x4::splat(marks.first)) | bytes.simd_eq(u8x4::splat(marks.second)))
+        | (bytes.simd_eq(u8x4::splat(marks.third)) | bytes.simd_eq(u8x4::splat(marks.fourth)));
+    first_set(found.to_bitmask(), 4)
+}
+
+// Whether a text of less than 16 bytes holds no mark. Two loads that overlap cover it.
+#[inline(always)]
+fn is_short_free_of(marks: Marks, text: &[u8]) -> bool
+    requires { length text.now < 16 }
+    ensures { result ≡ list_all (λ b. not (is_one_of (listed marks) b)) text.now }
+{
+    let len = text.len();
+    if len >= 8 {
+        return run_of_8(marks, text, 0) == 8 && run_of_8(marks, text, len - 8) == 8;
+    }
+    if len >= 4 {
+        return run_of_4(marks, text, 0) == 4 && run_of_4(marks, text, len - 4) == 4;
+    }
+    text.iter().all(|byte| !is_mark(marks, *byte))
+}
+
+// Whether the text holds no mark. The last load may overlap the one before it.
+#[inline(always)]
+pub(crate) fn is_free_of(marks: Marks, text: &[u8]) -> bool
+    ensures { result ≡ list_all (λ b. not (is_one_of (listed marks) b)) text.now }
+{
+    let len = text.len();
+    if len < 16 {
+        return is_short_free_of(marks, text);
+    }
+    let mut at = 0;
+    while len - at > 16 {
+        if run_of_16(marks, text, at) < 16 {
+            return false;
+        }
+        at += 16;
+    }
+    run_of_16(marks, text, len - 16) == 16
+}
+
+// How many bytes of a text of less than 16 stand before the first mark.
+#[inline(always)]
+fn short_before_first(marks: Marks, text: &[u8]) -> usize
+    requires { length text.now < 16 }
+    ensures { StandBefore (is_one_of (listed marks)) text.now 0 (length text.now) result }
+{
+    let mut at = 0;
+    if text.len() >= 8 {
+        let run = run_of_8(marks, text, 0);
+        if run < 8 {
+            return run;
+        }
+        at = 8;
+    }
+    if text.len() - at >= 4 {
+        let run = run_of_4(marks, text, at);
+        if run < 4 {
+            return at + run;
+        }
+        at += 4;
+    }
+    while at < text.len() && !is_mark(marks, text[at]) {
+        at += 1;
+    }
+    at
+}
+
+// How many bytes of the text stand before the first mark.
+#[inline(always)]
+pub(crate) fn before_first(marks: Marks, text: &[u8]) -> usize
+    ensures { StandBefore (is_one_of (listed marks)) text.now 0 (length text.now) result }
+{
+    let mut at = 0;
+    while text.len() - at >= 16 {
+        let run = run_of_16(marks, text, at);
+        if run < 16 {
+            return at + run;
+        }
+        at += 16;
+    }
+    at + short_before_first(marks, &text[at..])
+}
+
+// How many of the 16 bytes from `at` on are marks.
+#[inline(always)]
+fn count_in_16(marks: Marks, text: &[u8], at: usize) -> usize
+    requires { at + 16 ≤ length text.now }
+    ensures value { result ≡ count_by (is_one_of (listed marks)) (chunk at 16 text.now) }
+    ensures few { result ≤ 16 }
+{
+    let bytes = u8x16::from_slice(&text[at..]);
+    let found = (bytes.simd_eq(u8x16::splat(marks.first))
+        | bytes.simd_eq(u8x16::splat(marks.second)))
+        | (bytes.simd_eq(u8x16::splat(marks.third)) | bytes.simd_eq(u8x16::splat(marks.fourth)));
+    found.to_bitmask().count_ones() as usize
+}
+
+// How many of the first 8 bytes are marks.
+#[inline(always)]
+fn count_in_8(marks: Marks, text: &[u8]) -> usize
+    requires { 8 ≤ length text.now }
+    ensures value { result ≡ count_by (is_one_of (listed marks)) (chunk 0 8 text.now) }
+    ensures few { result ≤ 8 }
+{
+    let bytes = u8x8::from_slice(text);
+    let found = (bytes.simd_eq(u8x8::splat(marks.first)) | bytes.simd_eq(u8x8::splat(marks.second)))
+        | (bytes.simd_eq(u8x8::splat(marks.third)) | bytes.simd_eq(u8x8::splat(marks.fourth)));
+    found.to_bitmask().count_ones() as usize
+}
+
+// How many of the first 4 bytes are marks.
+#[inline(always)]
+fn count_in_4(marks: Marks, text: &[u8]) -> usize
+    requires { 4 ≤ length text.now }
+    ensures value { result ≡ count_by (is_one_of (listed marks)) (chunk 0 4 text.now) }
+    ensures few { result ≤ 4 }
+{
+    let bytes = u8x4::from_slice(text);
+    let found = (bytes.simd_eq(u8x4::splat(marks.first)) | bytes.simd_eq(u8x4::splat(marks.second)))
+        | (bytes.simd_eq(u8x4::splat(marks.third)) | bytes.simd_eq(u8x4::splat(marks.fourth)));
+    found.to_bitmask().count_ones() as usize
+}
+
+// How many bytes of the text are marks, one by one.
+#[inline(always)]
+fn walked_count(marks: Marks, text: &[u8]) -> usize
+    ensures value { result ≡ count_by (is_one_of (listed marks)) text.now }
+    ensures few { result ≤ length text.now }
+{
+    text.iter().filter(|byte| is_mark(marks, **byte)).count()
+}
+
+// The same, the first 4 together.
+#[inline(always)]
+fn shorter_count(marks: Marks, text: &[u8]) -> usize
+    ensures value { result ≡ count_by (is_one_of (listed marks)) text.now }
+    ensures few { result ≤ length text.now }
+{
+    if text.len() < 4 {
+        return walked_count(marks, text);
+    }
+    count_in_4(marks, text) + walked_count(marks, &text[4..])
+}
+
+// The same, the first 8 together.
+#[inline(always)]
+fn short_count(marks: Marks, text: &[u8]) -> usize
+    ensures value { result ≡ count_by (is_one_of (listed marks)) text.now }
+    ensures few { result ≤ length text.now }
+{
+    if text.len() < 8 {
+        return shorter_count(marks, text);
+    }
+    count_in_8(marks, text) + shorter_count(marks, &text[8..])
+}
+
+// How many bytes of the text are marks.
+#[inline(always)]
+pub(crate) fn count(marks: Marks, text: &[u8]) -> usize
+    ensures { result ≡ count_by (is_one_of (listed marks)) text.now }
+{
+    let mut front = 0;
+    let mut at = 0;
+    while text.len() - at >= 16 {
+        front += count_in_16(marks, text, at);
+        at += 16;
+    }
+    front + short_count(marks, &text[at..])
+}

@@ -1,0 +1,264 @@
+//! Names and texts between quotes: how far they are spelled, and what their spellings stand for.
+
+ghost use Rattle.std.specs.Prelude.{◌≡◌, ◌+◌, ◌<◌, ◌≤◌, [], true, false, not, length, take, drop, slice_index, string_bytes, IsCharBoundary, IfOk, IsOk};
+ghost use Rattle.std.specs.String.{string_capacity};
+ghost use Rattle.influxdb_line_protocol.specs.Bytes.{backslash, is_one_of};
+ghost use Rattle.influxdb_line_protocol.specs.Escapes.{first_bare, without_escapes};
+ghost use Rattle.influxdb_line_protocol.specs.Forms.{stops_of, known_of, is_plain};
+ghost use Rattle.influxdb_line_protocol.specs.Lanes.{IsRunAt};
+ghost use Rattle.influxdb_line_protocol.specs.Names.{ends_in_backslash, is_one_escape, is_shared, read_text};
+ghost use Rattle.influxdb_line_protocol.specs.Texts.{read_of};
+
+use crate::escaped::EscapedStr;
+use crate::lanes::{HALF_LANES, LANES, backslash_run, backslash_run_half, plain_run};
+use std::alloc::{AllocError, Global};
+
+/// What is spelled: a name of one of three forms, or the text between quotes.
+#[derive(Clone, Copy)]
+pub(crate) enum Form {
+    Measurement,
+    Key,
+    TagValue,
+    Quoted,
+}
+
+impl Form {
+    // Whether a bare byte ends a spelling.
+    #[inline(always)]
+    fn is_stop(self, byte: u8) -> bool
+        ensures { result ≡ stops_of self byte }
+    {
+        match self {
+            Form::Measurement => matches!(byte, b' ' | b'\t' | b'\n' | 0 | b','),
+            Form::Key => matches!(byte, b' ' | b'\t' | b'\n' | b'='),
+            Form::TagValue => matches!(byte, b' ' | b'\t' | b'\n' | b','),
+            Form::Quoted => byte == b'"',
+        }
+    }
+
+    // Whether a backslash before the byte is a known escape.
+    #[inline(always)]
+    fn is_known(self, byte: u8) -> bool
+        ensures { result ≡ is_one_of (known_of self) byte }
+    {
+        match self {
+            Form::Measurement => matches!(byte, b',' | b' ' | b'\\'),
+            Form::Key | Form::TagValue => matches!(byte, b',' | b'=' | b' ' | b'\\'),
+            Form::Quoted => matches!(byte, b'"' | b'\\'),
+        }
+    }
+}
+
+/// The spelled text of a name, or between quotes.
+#[derive(Clone, Copy)]
+pub(crate) struct Spelling<'a> {
+    pub(crate) form: Form,
+    pub(crate) text: &'a str,
+    // Whether the text holds no backslash.
+    is_plain: bool,
+    // How many bytes it takes without its escapes.
+    len: usize,
+    ghost told: { is_plain ≡ not (is_one_of text.now backslash) },
+    ghost counted: { len ≡ length (without_escapes (known_of form) text.now) },
+}
+
+impl<'a> Spelling<'a> {
+    /// Whether it ends in a backslash.
+    #[inline(always)]
+    pub(crate) fn ends_in_backslash(self) -> bool
+        ensures { result ≡ ends_in_backslash self.entry.text.now }
+    {
+        !self.is_plain && matches!(self.text.as_bytes(), [.., b'\\'])
+    }
+}
+
+// How far the bytes from `at` on go that neither end a spelling nor are backslashes, one by one.
+#[inline(always)]
+fn plain_tail(form: Form, bytes: &[u8], at: usize) -> usize
+    requires { at ≤ length bytes.now }
+    ensures { IsRunAt (is_plain (stops_of form)) bytes.now at result }
+{
+    let mut end = at;
+    while end < bytes.len() && bytes[end] != b'\\' && !form.is_stop(bytes[end]) {
+        end += 1;
+    }
+    end
+}
+
+// The same, 16 at a time.
+#[inline(always)]
+fn plain_end(form: Form, bytes: &[u8], at: usize) -> usize
+    requires { at ≤ length bytes.now }
+    ensures { IsRunAt (is_plain (stops_of form)) bytes.now at result }
+{
+    let mut end = at;
+    while bytes.len() - end >= LANES {
+        let run = plain_run(form, bytes, end);
+        if run < LANES {
+            return end + run;
+        }
+        end += LANES;
+    }
+    plain_tail(form, bytes, end)
+}
+
+// How many bytes of `text` are spelled, where the first backslash stands at `at`, and how many they are without their
+// escapes.
+#[cold]
+#[inline(never)]
+fn escaped_end(form: Form, text: &str, at: usize) -> (usize, usize)
+    requires run { IsRunAt (is_plain (stops_of form)) text.now 0 at }
+    requires within { at < length text.now }
+    requires here { slice_index text.now at ≡ backslash }
+    ensures value { result.0 ≡ first_bare (stops_of form) text.now }
+    ensures boundary { IsCharBoundary text.now result.0 }
+    ensures escaped { is_one_of (take result.0 text.now) backslash ≡ true }
+    ensures len { result.1 ≡ length (without_escapes (known_of form) (take result.0 text.now)) }
+{
+    let bytes = text.as_bytes();
+    let mut end = at;
+    let mut known = 0;
+    while end < bytes.len() && bytes[end] == b'\\' {
+        if end + 1 == bytes.len() {
+            return (end + 1, end + 1 - known);
+        }
+        if form.is_known(bytes[end + 1]) {
+            known += 1;
+        }
+        end = plain_end(form, bytes, end + 2);
+    }
+    (end, end - known)
+}
+
+// How many bytes of `text` are spelled, whether none is a backslash, and how many they are without their escapes.
+#[inline(always)]
+fn extent(form: Form, text: &str) -> (usize, bool, usize)
+    ensures value { result.0 ≡ first_bare (stops_of form) text.now }
+    ensures boundary { IsCharBoundary text.now result.0 }
+    ensures plain { result.1 ≡ not (is_one_of (take result.0 text.now) backslash) }
+    ensures len { result.2 ≡ length (without_escapes (known_of form) (take result.0 text.now)) }
+{
+    let bytes = text.as_bytes();
+    let end = plain_end(form, bytes, 0);
+    if end < bytes.len() && bytes[end] == b'\\' {
+        let (end, len) = escaped_end(form, text, end);
+        return (end, false, len);
+    }
+    (end, true, end)
+}
+
+/// The spelled text in front of `text`, also an empty one, and the rest.
+#[inline(always)]
+pub(crate) fn front(form: Form, text: &str) -> (Spelling<'_>, &str)
+    ensures form { result.0.form ≡ form }
+    ensures text { result.0.text.now ≡ take (first_bare (stops_of form) text.now) text.now }
+    ensures rest { result.1.now ≡ drop (first_bare (stops_of form) text.now) text.now }
+{
+    let (end, is_plain, len) = extent(form, text);
+    let (text, rest) = text.split_at(end);
+    let spelled = Spelling {
+        form,
+        text,
+        is_plain,
+        len,
+    };
+    (spelled, rest)
+}
+
+// The first backslash from `at` on, or the end, one by one.
+#[inline(always)]
+fn backslash_walk(bytes: &[u8], at: usize) -> usize
+    requires { at ≤ length bytes.now }
+    ensures { IsRunAt (is_plain (λ b. false)) bytes.now at result }
+{
+    let mut end = at;
+    while end < bytes.len() && bytes[end] != b'\\' {
+        end += 1;
+    }
+    end
+}
+
+// The same, 8 together and then one by one.
+#[inline(always)]
+fn backslash_tail(bytes: &[u8], at: usize) -> usize
+    requires { at ≤ length bytes.now }
+    ensures { IsRunAt (is_plain (λ b. false)) bytes.now at result }
+{
+    if bytes.len() - at < HALF_LANES {
+        return backslash_walk(bytes, at);
+    }
+    let run = backslash_run_half(bytes, at);
+    if run < HALF_LANES {
+        return at + run;
+    }
+    backslash_walk(bytes, at + HALF_LANES)
+}
+
+// The same, 16 at a time.
+#[inline(always)]
+fn backslash_at(bytes: &[u8], at: usize) -> usize
+    requires { at ≤ length bytes.now }
+    ensures { IsRunAt (is_plain (λ b. false)) bytes.now at result }
+{
+    let mut end = at;
+    while bytes.len() - end >= LANES {
+        let run = backslash_run(bytes, end);
+        if run < LANES {
+            return end + run;
+        }
+        end += LANES;
+    }
+    backslash_tail(bytes, end)
+}
+
+// Puts behind `to`, which has room for it, what `spelled` stands for. It asks for no memory.
+#[inline(always)]
+fn put(form: Form, spelled: &str, to: &mut String) -> Result<(), AllocError>
+    requires empty { string_bytes to.old ≡ [] }
+    requires room { length (without_escapes (known_of form) spelled.now) ≤ string_capacity to.old }
+    ensures has_room { IsOk result }
+    ensures text { string_bytes to.new ≡ without_escapes (known_of form) spelled.now }
+{
+    let bytes = spelled.as_bytes();
+    let mut from = 0;
+    let mut at = backslash_at(bytes, 0);
+    while at + 1 < bytes.len() {
+        if form.is_known(bytes[at + 1]) {
+            to.push_str(&spelled[from..at])?;
+            from = at + 1;
+        }
+        at = backslash_at(bytes, at + 2);
+    }
+    to.push_str(&spelled[from..])?;
+    Ok(())
+}
+
+// A copy of what `spelled` stands for, which takes `len` bytes. It asks for memory once.
+#[inline(never)]
+fn copy(alloc: Global, form: Form, spelled: &str, len: usize) -> Result<String, AllocError>
+    requires { len ≡ length (without_escapes (known_of form) spelled.now) }
+    ensures { IfOk result (λ text. string_bytes text ≡ without_escapes (known_of form) spelled.now) }
+{
+    let mut text = String::with_capacity(alloc, len)?;
+    put(form, spelled, &mut text)?;
+    Ok(text)
+}
+
+/// What `spelled` stands for. Only a copy takes memory: one request, for just its length.
+#[inline(always)]
+pub(crate) fn escaped_str<'a>(
+    alloc: Global,
+    spelled: Spelling<'a>,
+) -> Result<EscapedStr<'a>, AllocError>
+    ensures text { IfOk result (λ text. read_of text ≡ read_text (known_of spelled.entry.form) spelled.entry.text.now) }
+    ensures no_memory { is_shared (known_of spelled.entry.form) spelled.entry.text.now ≡ true → IsOk result }
+{
+    let text = spelled.text;
+    if spelled.is_plain {
+        return Ok(EscapedStr::SingleSlice(text));
+    }
+    if matches!(text.as_bytes(), [b'\\', byte] if spelled.form.is_known(*byte)) {
+        return Ok(EscapedStr::SingleSlice(&text[1..]));
+    }
+    Ok(EscapedStr::CopiedValue(copy(alloc, spelled.form, text, spelled.len)?))
+}
