@@ -1,6 +1,8 @@
 pub mod SplitAppend
 pub mod SplitBare
 pub mod SplitJumps
+pub mod SplitMasks
+pub mod SplitCounts
 pub mod SplitStretches
 pub mod SplitMachine
 pub mod SplitPieces
@@ -8,6 +10,7 @@ pub mod SplitShape
 pub mod SplitWalk
 pub mod WideSearch
 pub mod EscapeLemmas
+pub mod MaskLemmas
 pub mod LaneLemmas
 pub mod FormLemmas
 pub mod WalkLemmas

@@ -1,9 +1,9 @@
 -- From the mask of one load to the bytes that are marks, and from loads to a whole text.
-use Rattle.std.proofs.Common.{◌≡◌, ℕ, ◌+◌, ◌-◌, ◌%◌, ◌^◌, ◌<◌, ◌≤◌, eqb, Bool, true, false, cond, not, ◌||◌, List, map, length, take, drop, get_or, length-drop, replicate, bit_or, refl, sym, ap, ◌∙◌, subst, arith, inl, inr}
+use Rattle.std.proofs.Common.{◌≡◌, ℕ, ◌+◌, ◌-◌, ◌/◌, ◌%◌, ◌^◌, ◌<◌, ◌≤◌, eqb, Bool, true, false, cond, not, ◌||◌, List, map, length, drop, get_or, replicate, bit_or, refl, sym, ap, ◌∙◌, arith, inl, inr}
 use Rattle.std.proofs.lemmas.Bool.{cases_eq, cases_lt, eq-eqb, ne_eqb}
-use Rattle.std.proofs.lemmas.Simd.{map-map, mask_l-mod, length-chunk, zip2_splat, zip2_of_maps, first_set_mask_l, run_in_chunk_le, run_in_chunk_fails, run_in_chunk_stops, chunk-drop, ones-mask_l}
-use Rattle.std.proofs.lemmas.List.{length-map, take_all, get_or-drop}
-use Rattle.std.proofs.lemmas.List.Sums.{list_all-from_AllPass, sum_by-append, count_by-le-length}
+use Rattle.std.proofs.lemmas.Simd.{map-map, mask_l-mod, length-chunk, zip2_splat, zip2_of_maps, first_set_mask_l, run_in_chunk_le, run_in_chunk_fails, run_in_chunk_stops, chunk-drop}
+use Rattle.std.proofs.lemmas.List.{length-map, take_rest}
+use Rattle.std.proofs.lemmas.List.Sums.{list_all-from_AllPass, sum_by-append}
 use Rattle.std.proofs.lemmas.List.Elements.{All-from_get_or}
 use Rattle.std.proofs.lemmas.List.Folds.{list_all_at}
 use Rattle.std.specs.List.{prefix_len, list_all, count_by}
@@ -12,7 +12,8 @@ use lib.Lanes.{chunk, zip2, mask_l, top}
 use Rattle.influxdb_line_protocol.specs.declared.builder.marks.Marks.{Marks}
 use Rattle.influxdb_line_protocol.specs.Bytes.{is_one_of}
 use Rattle.influxdb_line_protocol.specs.Marks.{StandBefore, listed}
-use Rattle.influxdb_line_protocol.specs.Lanes.{first_set}
+use Rattle.influxdb_line_protocol.specs.Lanes.{first_set, mask_of}
+use Rattle.influxdb_line_protocol.proofs.MaskLemmas.{shifted, ones}
 
 -- a lane that is equal to another
 abbrev equal_lane : ℕ → ℕ → ℕ
@@ -94,17 +95,41 @@ module _ (m : Marks) (d : List ℕ) (i n r : ℕ) (room : i + n ≤ length d) (f
         here = run_in_chunk_stops q d i n r 0 room counted;
       }
 
-  -- the bits that are set in the mask of a load count its marks
-  pub count_in_load : r ≡ count_ones (mask_l (map (top 7) lanes) % 2 ^ 64) → r ≡ count_by (is_one_of (listed m)) (chunk i n d)
-  count_in_load found = found ∙ ap count_ones mask_is ∙ ones-mask_l (is_one_of (listed m)) (chunk i n d)
-
-  -- no more than it has
-  pub few_in_load : r ≡ count_ones (mask_l (map (top 7) lanes) % 2 ^ 64) → r ≤ n
-  few_in_load found = omega (arith, count_in_load found, count_by-le-length (is_one_of (listed m)) (chunk i n d), length-chunk i n d room)
+  -- the mask of the lanes is that of the bytes
+  pub mask_of_load : mask_l (map (top 7) lanes) % 2 ^ 64 ≡ mask_of (is_one_of (listed m)) d i n
+  mask_of_load = mask_is
 
 -- what a text counts is what a load counts, and what stands behind it
 pub count_behind : (q : ℕ → Bool) (d : List ℕ) (at n : ℕ) → count_by q (drop at d) ≡ count_by q (chunk at n d) + count_by q (drop (at + n) d)
 count_behind q d at n = ap (count_by q) (chunk-drop at n d) ∙ sum_by-append (λ b. cond (q b) 1 0) (chunk at n d) (drop (at + n) d)
+
+-- of a load at the end, the bits behind what was seen count the rest
+pub count_last : (q : ℕ → Bool) (d : List ℕ) (seen n : ℕ) → n ≤ length d → seen ≤ length d → length d - n ≤ seen
+    → count_ones (mask_of q d (length d - n) n / 2 ^ (n - (length d - seen))) ≡ count_by q (drop seen d)
+count_last q d seen n room within overlaps =
+    let new = length d - seen in
+    let place : length d - n + (n - new) ≡ seen = omega arith in
+    let left : n - (n - new) ≡ new = omega arith in
+    ap count_ones (shifted q d (length d - n) n (n - new) (omega arith))
+    ∙ ones q d (length d - n + (n - new)) (n - (n - new))
+    ∙ ap (λ (k : ℕ). count_by q (chunk k (n - (n - new)) d)) place
+    ∙ ap (λ (k : ℕ). count_by q (chunk seen k d)) left
+    ∙ ap (count_by q) (take_rest d seen)
+
+-- two loads that overlap count a text that is no longer than both
+pub count_overlapping : (q : ℕ → Bool) (d : List ℕ) (n first last : ℕ) → n ≤ length d → length d < n + n
+    → first ≡ mask_of q d 0 n → last ≡ mask_of q d (length d - n) n
+    → count_ones first + count_ones (last / 2 ^ (n + n - length d)) ≡ count_by q d
+count_overlapping q d n first last room few front behind =
+    let shift : n + n - length d ≡ n - (length d - n) = omega arith in
+    let from : n ≡ 0 + n = omega arith in
+    let seen = ap count_ones front ∙ ones q d 0 n in
+    let rest =
+    ap (λ (k : ℕ). count_ones (last / 2 ^ k)) shift
+    ∙ ap (λ (m : ℕ). count_ones (m / 2 ^ (n - (length d - n)))) behind
+    ∙ count_last q d n n room room (omega arith)
+    ∙ ap (λ (k : ℕ). count_by q (drop k d)) from in
+    omega (arith, seen, rest, count_behind q d 0 n)
 
 -- a text in which no byte passes the test
 pub free_whole : (q : ℕ → Bool) (d : List ℕ) → ((k : ℕ) → k < length d → q (get_or d k 0) ≡ false)
@@ -134,29 +159,3 @@ last_decides q d seen n r room overlaps front run =
           let short : r < n = omega (arith, run.within) in
           ne_eqb r n other ∙ sym (not_free q d (length d - n + r) (omega arith) (run.here short))
     ]
-
--- what stands before the first mark of the rest, behind a front without one
-pub behind_front : (q : ℕ → Bool) (d : List ℕ) (at r : ℕ) → at ≤ length d
-    → ((k : ℕ) → k < at → q (get_or d k 0) ≡ false)
-    → StandBefore q (take (length d - at) (drop at d)) 0 (length (take (length d - at) (drop at d))) r
-    → StandBefore q d 0 (length d) (at + r)
-behind_front q d at r room front run =
-    let rest : take (length d - at) (drop at d) ≡ drop at d = take_all (length d - at) (drop at d) (omega (arith, length-drop at d)) in
-    let long : length (take (length d - at) (drop at d)) ≡ length d - at = ap length rest ∙ length-drop at d in
-    let place : (k : ℕ) → get_or (take (length d - at) (drop at d)) k 0 ≡ get_or d (at + k) 0 =
-    λ k. ap (λ (xs : List ℕ). get_or xs k 0) rest ∙ get_or-drop at d k 0 in
-    record {
-      within = omega (arith, run.within);
-      none =
-          λ k from to. elim (cases_lt k at) [
-            | inl early ↦ front k early
-            | inr late ↦
-                let back : at + (k - at) ≡ k = omega arith in
-                subst (λ (x : ℕ). q x ≡ false) (place (k - at) ∙ ap (λ (j : ℕ). get_or d j 0) back)
-                (run.none (k - at) (omega arith) (omega arith))
-          ];
-      here =
-          λ short.
-          let same : at + (0 + r) ≡ 0 + (at + r) = omega arith in
-          subst (λ (x : ℕ). q x ≡ true) (place (0 + r) ∙ ap (λ (j : ℕ). get_or d j 0) same) (run.here (omega arith));
-    }

@@ -5,15 +5,9 @@ use Rattle.std.proofs.lemmas.Bool.{cases_Bool, eqb-true, eqb-false, ne_eqb}
 use Rattle.std.proofs.lemmas.Bool.Decides.{nat_tests}
 use Rattle.std.proofs.lemmas.List.{get_or-drop}
 use Rattle.memchr.specs.Find.{Nowhere, Passes, IsFirstByte}
-use Rattle.influxdb_line_protocol.specs.Escapes.{is_escaped_behind, is_bare_at, first_bare, IsBareBehind}
+use Rattle.influxdb_line_protocol.specs.Escapes.{is_escaped_behind, is_bare_at, first_bare, IsBareBehind, IsPassed}
 use Rattle.influxdb_line_protocol.proofs.EscapeLemmas.{is_escaped_more, first_bare_is}
 use Rattle.influxdb_line_protocol.proofs.SplitBare.{is_escaped-nil}
-
--- no bare byte before `at` passes, and the place there is bare, unless the text ends there
-pub record IsPassed (passes : ℕ → Bool) (text : List ℕ) (at : ℕ) : Type 0 where
-  pub within : at ≤ length text
-  pub is_bare : at < length text → IsBareBehind (take at text)
-  pub passed : (k : ℕ) → k < at → is_bare_at passes text k ≡ false
 
 -- a search looks for backslashes and for the bytes that pass
 pub record LooksFor (test passes : ℕ → Bool) : Type 0 where
@@ -58,7 +52,7 @@ module _ (passes : ℕ → Bool) (text : List ℕ) where
       }
 
   -- several such bytes
-  passed_bytes : (at n : ℕ) → at + n ≤ length text
+  pub passed_bytes : (at n : ℕ) → at + n ≤ length text
       → ((k : ℕ) → k < n → (slice_index text (at + k) ≢ 92) × (passes (slice_index text (at + k)) ≡ false))
       → IsPassed passes text at → IsPassed passes text (at + n)
   passed_bytes at zero h none p = subst (IsPassed passes text) (omega arith) p
@@ -81,7 +75,7 @@ module _ (passes : ℕ → Bool) (text : List ℕ) where
       p
 
   -- a backslash and the byte behind it
-  passed_escape : (at : ℕ) → at < length text → slice_index text at ≡ 92 → passes 92 ≡ false
+  pub passed_escape : (at : ℕ) → at < length text → slice_index text at ≡ 92 → passes 92 ≡ false
       → IsPassed passes text at → IsPassed passes text (min (at + 2) (length text))
   passed_escape at h here fails p =
       let flag : is_escaped_behind (take (at + 1) text) ≡ true = rw (is_escaped_more text at h, p.is_bare h, here) refl in
@@ -97,7 +91,7 @@ module _ (passes : ℕ → Bool) (text : List ℕ) where
       }
 
   -- a bare byte that passes is the first
-  passed_to_stop : (at : ℕ) → at < length text → passes (slice_index text at) ≡ true → IsPassed passes text at → at ≡ first_bare passes text
+  pub passed_to_stop : (at : ℕ) → at < length text → passes (slice_index text at) ≡ true → IsPassed passes text at → at ≡ first_bare passes text
   passed_to_stop at h stops p = sym (first_bare_is passes text at (omega arith) p.passed (λ l. rw (stops, p.is_bare l) refl))
 
   -- the end of the text
@@ -133,15 +127,6 @@ module _ (test passes : ℕ → Bool) (search : LooksFor test passes) (text rest
       let to : at + length rest ≡ length text = omega (arith, p.within) in
       passed_to_end passes text (at + length rest) (omega arith)
       (passed_search passes text test search rest at (length rest) same (omega arith) none p)
-
--- the search for the backslash and one byte more
-pub looks_for_one : (c : ℕ) → (92 == c) ≡ false → LooksFor (λ b. b == 92 || b == c) (λ b. b == c)
-looks_for_one c other =
-    record {
-      others = λ b h. grind (arith, nat_tests);
-      stops = λ b h n. grind (arith, nat_tests);
-      escapes = other;
-    }
 
 -- the search for the backslash and two bytes more
 pub looks_for_two : (c d : ℕ) → (92 == c || 92 == d) ≡ false → LooksFor (λ b. b == 92 || b == c || b == d) (λ b. b == c || b == d)

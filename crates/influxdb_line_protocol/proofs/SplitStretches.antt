@@ -1,5 +1,5 @@
 -- A piece, a stretch at a time.
-use Rattle.std.proofs.Common.{◌≡◌, ◌≢◌, ℕ, zero, suc, ◌+◌, ◌-◌, ◌<◌, ◌≤◌, Bool, true, false, List, [], ◌∷◌, ◌++◌, length, take, drop, slice_index, Some, None, append_assoc, refl, sym, ap, ◌∙◌, subst, inl, inr, arith, length-drop}
+use Rattle.std.proofs.Common.{◌≡◌, ◌≢◌, ℕ, zero, suc, ◌+◌, ◌<◌, ◌≤◌, Bool, true, false, List, [], ◌∷◌, ◌++◌, length, take, drop, slice_index, Some, None, append_assoc, refl, sym, ap, ◌∙◌, subst, inl, inr, arith, length-drop}
 use Rattle.std.specs.Prelude.{◌==◌, ◌||◌}
 use Rattle.std.specs.List.{All, count_by}
 use Rattle.std.proofs.lemmas.Bool.Decides.{nat_tests}
@@ -141,13 +141,11 @@ module _ (text rest : List ℕ) (e c at n : ℕ) (p : IsPlainTo text e c at) (sa
 
   -- at a quote, where what is counted of the stretch is added
   pub plain_quote : (x y : ℕ) → at + n < length text → slice_index text (at + n) ≢ 10
-      → x ≡ count_by (λ b. b == 61) (bare (take ((at + n) - at) (drop at text))) → y ≡ count_by (λ b. b == 44) (bare (take ((at + n) - at) (drop at text)))
+      → x ≡ count_by (λ b. b == 61) (bare (take n rest)) → y ≡ count_by (λ b. b == 44) (bare (take n rest))
       → IsBeforeQuote text (e + x) (c + y) (at + n)
   plain_quote x y h other equals_is commas_is =
       let there : slice_index rest n ≡ slice_index text (at + n) = ap (λ (t : List ℕ). slice_index t n) same ∙ get_or-drop at text n 0 in
       let stops = stretch.stops (within_rest h) in
-      let size : (at + n) - at ≡ n = omega arith in
-      let passed : take ((at + n) - at) (drop at text) ≡ take n rest = ap (λ (k : ℕ). take k (drop at text)) size ∙ ap (take n) (sym same) in
       record {
         within = h;
         here = grind (arith, nat_tests);
@@ -156,8 +154,8 @@ module _ (text rest : List ℕ) (e c at n : ℕ) (p : IsPlainTo text e c at) (sa
           p.is_in.0 ++ bare (take n rest),
           ends_plain,
           IsCountOf-append p.is_in.0 (bare (take n rest)) e c x y p.is_in.2 (record {
-            equals_is = rw passed at equals_is;
-            commas_is = rw passed at commas_is;
+            equals_is = equals_is;
+            commas_is = commas_is;
           }),
         );
       }

@@ -4,10 +4,11 @@ use Rattle.std.specs.Prelude.{◌==◌}
 use Rattle.std.proofs.lemmas.Bool.{cases_Bool, or_parts, not-true, not-false, or_cases, eqb-true, eqb-false, cases_lt, cases_eq, and_right}
 use Rattle.std.proofs.lemmas.List.{take_more, length-append}
 use Rattle.std.proofs.lemmas.List.Folds.{list_any_more}
+use mir.Val.{bool_byte}
 use Rattle.influxdb_line_protocol.specs.Bytes.{is_one_of}
-use Rattle.influxdb_line_protocol.specs.Escapes.{is_escaped_behind, is_bare_at, first_bare, without_escapes}
+use Rattle.influxdb_line_protocol.specs.Escapes.{is_escaped_behind, first_bare, without_escapes, Walked}
 use Rattle.influxdb_line_protocol.specs.Forms.{is_plain}
-use Rattle.influxdb_line_protocol.specs.Lanes.{AllPassBetween, IsRunAt}
+use Rattle.influxdb_line_protocol.specs.Lanes.{AllPassBetween, IsRunAt, IsRunIn}
 use Rattle.influxdb_line_protocol.proofs.EscapeLemmas.{first_bare_is, is_escaped_more}
 use Rattle.influxdb_line_protocol.proofs.NameLemmas.{without_escapes_plain_byte}
 use Rattle.influxdb_line_protocol.proofs.SplitBare.{is_escaped-nil, is_escaped-append, is_escaped-behind_other, flag_after}
@@ -46,13 +47,6 @@ without_escapes_append known (b ∷ c ∷ rest) back bare =
           rw (e, without_escapes_append known (c ∷ rest) back inner) refl
     ]
 
--- a walk that stands at a bare place: no stop is bare before it, and so many of the escapes before it are known
-pub record Walked (known : List ℕ) (stops : ℕ → Bool) (text : List ℕ) (at found : ℕ) : Type 0 where
-  pub within : at ≤ length text
-  pub bare : is_escaped_behind (take at text) ≡ false
-  pub passed : (k : ℕ) → k < at → is_bare_at stops text k ≡ false
-  pub counted : length (without_escapes known (take at text)) + found ≡ at
-
 module _ (known : List ℕ) (stops : ℕ → Bool) (text : List ℕ) where
   pub walk_start : Walked known stops text 0 0
   unfolding without_escapes
@@ -80,7 +74,7 @@ module _ (known : List ℕ) (stops : ℕ → Bool) (text : List ℕ) where
       }
 
   -- some plain bytes further
-  walk_bytes : (n at found : ℕ) → Walked known stops text at found → at + n ≤ length text → AllPassBetween (is_plain stops) text at (at + n) → Walked known stops text (at + n) found
+  pub walk_bytes : (n at found : ℕ) → Walked known stops text at found → at + n ≤ length text → AllPassBetween (is_plain stops) text at (at + n) → Walked known stops text (at + n) found
   walk_bytes zero at found w fits pass = rw add-zero w
   walk_bytes (suc n) at found w fits pass =
       let one = walk_byte at found w (omega arith) (pass at (omega arith) (omega arith)) in
@@ -93,6 +87,15 @@ module _ (known : List ℕ) (stops : ℕ → Bool) (text : List ℕ) where
   walk_run at end found w run =
       let e : at + (end - at) ≡ end = omega (arith, run.ordered) in
       rw e at (walk_bytes (end - at) at found w (omega (arith, run.within, run.ordered)) (rw (← e) at run.passes))
+
+  -- up to the next byte of a load that is not plain, or to the end of the load
+  pub walk_load : (at n k r next found : ℕ) → Walked known stops text (at + k) found → at + n ≤ length text → IsRunIn (is_plain stops) text (at + k) (n - k) r → next ≡ k + r
+      → Walked known stops text (at + next) found × (next < n → is_plain stops (slice_index text (at + next)) ≡ false)
+  walk_load at n k r next found w room run is =
+      let place : at + k + r ≡ at + next = omega arith in (
+        rw (← place) (walk_bytes r (at + k) found w (omega (arith, run.0, w.within)) run.1),
+        λ short. rw (← place) (run.2 (omega arith)),
+      )
 
   -- over a backslash and the byte that it escapes, where it is no stop
   pub walk_escape : (at found : ℕ) (t : Bool) → Walked known stops text at found → at + 1 < length text → slice_index text at ≡ 92 → stops 92 ≡ false
@@ -122,6 +125,12 @@ module _ (known : List ℕ) (stops : ℕ → Bool) (text : List ℕ) where
           | inr k ↦ rw (front, joined, is, k, length-append (without_escapes known (take at text)) _) (omega (arith, w.counted))
         ];
       }
+
+  -- the same, where the answer is added as a number
+  pub walk_counted : (at found n : ℕ) (t : Bool) → Walked known stops text at found → at + 1 < length text → slice_index text at ≡ 92 → stops 92 ≡ false
+      → is_one_of known (slice_index text (at + 1)) ≡ t → n ≡ bool_byte t → Walked known stops text (at + 2) (found + n)
+  walk_counted at found n true w within here kept is counted = rw counted (walk_escape at found true w within here kept is)
+  walk_counted at found n false w within here kept is counted = rw counted (walk_escape at found false w within here kept is)
 
   -- the spelling ends where a stop or the end of the text is reached
   pub walk_ends : (end found : ℕ) → Walked known stops text end found → (end < length text → stops (slice_index text end) ≡ true)

@@ -1,5 +1,5 @@
 -- What a backslash does to the byte behind it, and what a text with backslashes stands for.
-use Rattle.std.specs.Prelude.{◌≡◌, ℕ, ◌%◌, ◌==◌, ◌&&◌, Bool, false, not, List, [], ◌∷◌, ◌++◌, length, take, slice_index, if◌then◌else◌}
+use Rattle.std.specs.Prelude.{◌≡◌, ℕ, ◌+◌, ◌<◌, ◌≤◌, ◌%◌, ◌==◌, ◌&&◌, Bool, false, not, List, [], ◌∷◌, ◌++◌, length, take, slice_index, if◌then◌else◌}
 use Rattle.std.specs.List.{position_or_len, range_with_len, suffix_len, flat_map}
 use Rattle.influxdb_line_protocol.specs.Bytes.{backslash, is_one_of}
 
@@ -29,6 +29,12 @@ is_bare_at passes text place = passes (slice_index text place) && not (is_escape
 unfoldable pub first_bare : (ℕ → Bool) → List ℕ → ℕ
 first_bare passes text = position_or_len (is_bare_at passes text) (range_with_len 0 (length text))
 
+-- no bare byte before a place of the text passes the test, and that place is bare, unless the text ends there
+pub record IsPassed (passes : ℕ → Bool) (text : List ℕ) (at : ℕ) : Type 0 where
+  pub within : at ≤ length text
+  pub is_bare : at < length text → IsBareBehind (take at text)
+  pub passed : (k : ℕ) → k < at → is_bare_at passes text k ≡ false
+
 -- what a text stands for: a backslash before one of the known bytes goes, every other byte stays
 unfoldable pub without_escapes : List ℕ → List ℕ → List ℕ
 without_escapes known [] = []
@@ -45,3 +51,10 @@ escaped_byte bytes b = if is_one_of bytes b then backslash ∷ b ∷ [] else b �
 -- the text with a backslash before each of these bytes
 unfoldable pub escaped : List ℕ → List ℕ → List ℕ
 escaped bytes text = flat_map (escaped_byte bytes) text
+
+-- a walk that stands at a bare place: no stop is bare before it, and so many of the escapes before it are known
+pub record Walked (known : List ℕ) (stops : ℕ → Bool) (text : List ℕ) (at found : ℕ) : Type 0 where
+  pub within : at ≤ length text
+  pub bare : is_escaped_behind (take at text) ≡ false
+  pub passed : (k : ℕ) → k < at → is_bare_at stops text k ≡ false
+  pub counted : length (without_escapes known (take at text)) + found ≡ at

@@ -20,6 +20,10 @@ known_of Key = escapable a_tag_key
 known_of TagValue = escapable a_tag_value
 known_of Quoted = quotable
 
+-- whether a byte passes the test or is a backslash
+abbrev pub is_end : (ℕ → Bool) → ℕ → Bool
+is_end stops b = stops b || b == backslash
+
 -- whether a byte neither passes the test nor is a backslash
 abbrev pub is_plain : (ℕ → Bool) → ℕ → Bool
-is_plain stops b = not (stops b || b == backslash)
+is_plain stops b = not (is_end stops b)

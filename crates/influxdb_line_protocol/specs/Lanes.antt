@@ -1,6 +1,7 @@
 -- Runs of bytes that pass a test.
-use Rattle.std.specs.Prelude.{◌≡◌, ℕ, ◌+◌, ◌<◌, ◌≤◌, ◌==◌, if◌then◌else◌, Bool, true, false, not, List, length, slice_index}
+use Rattle.std.specs.Prelude.{◌≡◌, ℕ, ◌+◌, ◌<◌, ◌≤◌, ◌==◌, if◌then◌else◌, Bool, true, false, not, List, length, map, slice_index}
 use Rattle.std.specs.Int.{w64, trailing_zeros}
+use Rattle.std.specs.Simd.Lanes.{chunk, mask_l}
 use Rattle.memchr.specs.Find.{is_byte3}
 use Rattle.influxdb_line_protocol.specs.Bytes.{newline, quote, backslash}
 
@@ -27,3 +28,7 @@ first_set mask n = if mask == 0 then n else trailing_zeros w64 mask
 -- neither a newline nor a quote nor a backslash
 abbrev pub is_quiet : ℕ → Bool
 is_quiet b = not (is_byte3 backslash newline quote b)
+
+-- the mask of those of the n bytes from a place that pass the test
+abbrev pub mask_of : (ℕ → Bool) → List ℕ → ℕ → ℕ → ℕ
+mask_of test bytes at n = mask_l (map test (chunk at n bytes))

@@ -32,3 +32,5 @@ pub mod Shown
 pub mod Bases
 pub mod BaseLaws
 pub mod Marks
+pub mod Stops
+pub mod Counts

@@ -4,7 +4,7 @@
 //! line without a field, a tag behind a field or a second timestamp does not compile, and
 //! [`LineProtocolBuilder::build`] gives the buffer back between two lines alone.
 
-ghost use Rattle.std.specs.Prelude.{◌≡◌, ◌≢◌, ◌+◌, ◌-◌, ◌<◌, ◌≤◌, ◌^◌, ◌↔◌, List, [], ◌∷◌, ◌++◌, ℕ, length, IfOk, IfErr, IfNone, IfSome, OnOk, OnErr, IsOk, IsErr, vec_len, vec_capacity, IsTrue};
+ghost use Rattle.std.specs.Prelude.{◌≡◌, ◌≢◌, ◌+◌, ◌-◌, ◌<◌, ◌≤◌, ◌^◌, ◌↔◌, List, [], ◌∷◌, ◌++◌, ℕ, length, IfOk, IfErr, IfNone, IfSome, OnOk, OnErr, IsOk, IsErr, vec_len, vec_capacity};
 ghost use Rattle.std.specs.List.{count_by};
 ghost use Rattle.std.specs.Option.{SomeIff};
 ghost use Rattle.std.specs.Fmt.{decimal, signed_decimal};
@@ -27,7 +27,7 @@ mod lines;
 mod marks;
 
 pub use lines::{is_admitted, write_line};
-use marks::{Marks, before_first, is_free_of};
+use marks::{Marks, before_first};
 
 /// Why a call was refused.
 #[derive(Clone, Copy, Debug, PartialEq, Eq)]
@@ -153,14 +153,6 @@ impl Escapes {
     }
 }
 
-// Whether no byte of `text` gets a backslash.
-#[inline(always)]
-fn is_plain(escapes: Escapes, text: &[u8]) -> bool
-    ensures { IsTrue result → escaped (bytes_of escapes) text.now ≡ text.now }
-{
-    is_free_of(escapes.marks(), text)
-}
-
 // How many bytes of `text` get a backslash.
 #[inline(always)]
 fn backslashes(escapes: Escapes, text: &[u8]) -> usize
@@ -209,17 +201,22 @@ fn put_runs<B: BufMut>(buf: &mut B, escapes: Escapes, text: &[u8])
     buf.put(rest);
 }
 
-// The same, compiled apart for each kind, so that the bytes that are looked for are constants.
+// Appends `plain`, `byte` with its backslash, and what follows with its backslashes. It is compiled
+// apart for each kind, so that the bytes that are looked for are constants.
 #[inline(never)]
-fn put_marked<B: BufMut>(buf: &mut B, escapes: Escapes, text: &[u8])
-    requires { length (escaped (bytes_of escapes) text.now) ≤ B.room buf.old }
-    ensures bytes { B.bytes buf.new ≡ B.bytes buf.old ++ escaped (bytes_of escapes) text.now }
-    ensures room { B.room buf.old ≤ B.room buf.new + length (escaped (bytes_of escapes) text.now) }
+fn put_marked<B: BufMut>(buf: &mut B, escapes: Escapes, plain: &[u8], byte: u8, after: &[u8])
+    requires { length (plain.now ++ backslash ∷ byte ∷ escaped (bytes_of escapes) after.now) ≤ B.room buf.old }
+    ensures bytes { B.bytes buf.new
+        ≡ B.bytes buf.old ++ (plain.now ++ backslash ∷ byte ∷ escaped (bytes_of escapes) after.now) }
+    ensures room { B.room buf.old
+        ≤ B.room buf.new + length (plain.now ++ backslash ∷ byte ∷ escaped (bytes_of escapes) after.now) }
 {
+    buf.put(plain);
+    buf.put(&[b'\\', byte]);
     match escapes {
-        Escapes::OfMeasurement => put_runs(buf, Escapes::OfMeasurement, text),
-        Escapes::OfKey => put_runs(buf, Escapes::OfKey, text),
-        Escapes::OfString => put_runs(buf, Escapes::OfString, text),
+        Escapes::OfMeasurement => put_runs(buf, Escapes::OfMeasurement, after),
+        Escapes::OfKey => put_runs(buf, Escapes::OfKey, after),
+        Escapes::OfString => put_runs(buf, Escapes::OfString, after),
     }
 }
 
@@ -230,10 +227,9 @@ fn put_escaped<B: BufMut>(buf: &mut B, escapes: Escapes, text: &[u8])
     ensures bytes { B.bytes buf.new ≡ B.bytes buf.old ++ escaped (bytes_of escapes) text.now }
     ensures room { B.room buf.old ≤ B.room buf.new + length (escaped (bytes_of escapes) text.now) }
 {
-    if is_plain(escapes, text) {
-        buf.put(text);
-    } else {
-        put_marked(buf, escapes, text);
+    match next_escape(escapes, text) {
+        None => buf.put(text),
+        Some((plain, byte, after)) => put_marked(buf, escapes, plain, byte, after),
     }
 }
 

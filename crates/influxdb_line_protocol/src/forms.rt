@@ -3,14 +3,17 @@
 ghost use Rattle.std.specs.Prelude.{◌≡◌, ◌+◌, ◌<◌, ◌≤◌, [], true, false, not, length, take, drop, slice_index, string_bytes, IsCharBoundary, IfOk, IsOk};
 ghost use Rattle.std.specs.String.{string_capacity};
 ghost use Rattle.influxdb_line_protocol.specs.Bytes.{backslash, is_one_of};
-ghost use Rattle.influxdb_line_protocol.specs.Escapes.{first_bare, without_escapes};
-ghost use Rattle.influxdb_line_protocol.specs.Forms.{stops_of, known_of, is_plain};
-ghost use Rattle.influxdb_line_protocol.specs.Lanes.{IsRunAt};
+ghost use Rattle.influxdb_line_protocol.specs.Escapes.{Walked, first_bare, without_escapes};
+ghost use Rattle.influxdb_line_protocol.specs.Forms.{stops_of, known_of, is_end, is_plain};
+ghost use Rattle.influxdb_line_protocol.specs.Lanes.{IsRunAt, mask_of};
 ghost use Rattle.influxdb_line_protocol.specs.Names.{ends_in_backslash, is_one_escape, is_shared, read_text};
 ghost use Rattle.influxdb_line_protocol.specs.Texts.{read_of};
 
 use crate::escaped::EscapedStr;
-use crate::lanes::{HALF_LANES, LANES, backslash_run, backslash_run_half, plain_run};
+use crate::lanes::{
+    HALF_LANES, LANES, MASKED, WIDE_LANES, backslash_run, backslashes, backslashes_of, first_set,
+    next_set, plain_run, wide_end_mask,
+};
 use std::alloc::{AllocError, Global};
 
 /// What is spelled: a name of one of three forms, or the text between quotes.
@@ -102,6 +105,50 @@ fn plain_end(form: Form, bytes: &[u8], at: usize) -> usize
     plain_tail(form, bytes, end)
 }
 
+// Goes on from escape to escape over the 32 bytes from `at` on, up to a byte behind them or to one that ends the
+// spelling: how far, and how many of the escapes before it are known.
+#[inline(always)]
+fn escapes_in_load(form: Form, bytes: &[u8], at: usize, found: usize) -> (usize, usize)
+    requires walked { Walked (known_of form) (stops_of form) bytes.now at found }
+    requires room { at + WIDE_LANES < length bytes.now }
+    ensures walked { Walked (known_of form) (stops_of form) bytes.now result.0 result.1 }
+    ensures stops { result.0 < at + WIDE_LANES → stops_of form (slice_index bytes.now result.0) ≡ true }
+    ensures further { at ≤ result.0 }
+{
+    let mask = wide_end_mask(form, bytes, at);
+    let mut place = next_set(mask, 0);
+    let mut known = found;
+    while place < WIDE_LANES && bytes[at + place] == b'\\' {
+        known += usize::from(form.is_known(bytes[at + place + 1]));
+        place = next_set(mask, place + 2);
+    }
+    (at + place, known)
+}
+
+// Goes on from escape to escape to the end of the spelling, with no regard to how many bytes are left: how far, and how
+// many of the escapes before it are known.
+#[inline(never)]
+fn escapes_to_end(form: Form, bytes: &[u8], at: usize, found: usize) -> (usize, usize)
+    requires walked { Walked (known_of form) (stops_of form) bytes.now at found }
+    ensures value { result.0 ≡ first_bare (stops_of form) bytes.now }
+    ensures within { result.0 ≤ length bytes.now }
+    ensures stops { result.0 < length bytes.now → stops_of form (slice_index bytes.now result.0) ≡ true }
+    ensures len { length (without_escapes (known_of form) (take result.0 bytes.now)) + result.1 ≡ result.0 }
+    ensures further { at ≤ result.0 }
+    ensures moves { at < length bytes.now → slice_index bytes.now at ≡ backslash → at < result.0 }
+{
+    let mut end = plain_end(form, bytes, at);
+    let mut known = found;
+    while end < bytes.len() && bytes[end] == b'\\' {
+        if end + 1 == bytes.len() {
+            return (end + 1, known);
+        }
+        known += usize::from(form.is_known(bytes[end + 1]));
+        end = plain_end(form, bytes, end + 2);
+    }
+    (end, known)
+}
+
 // How many bytes of `text` are spelled, where the first backslash stands at `at`, and how many they are without their
 // escapes.
 #[cold]
@@ -118,15 +165,15 @@ fn escaped_end(form: Form, text: &str, at: usize) -> (usize, usize)
     let bytes = text.as_bytes();
     let mut end = at;
     let mut known = 0;
-    while end < bytes.len() && bytes[end] == b'\\' {
-        if end + 1 == bytes.len() {
-            return (end + 1, end + 1 - known);
+    while bytes.len() - end > WIDE_LANES {
+        let (next, found) = escapes_in_load(form, bytes, end, known);
+        if next < end + WIDE_LANES {
+            return (next, next - found);
         }
-        if form.is_known(bytes[end + 1]) {
-            known += 1;
-        }
-        end = plain_end(form, bytes, end + 2);
+        end = next;
+        known = found;
     }
+    let (end, known) = escapes_to_end(form, bytes, end, known);
     (end, end - known)
 }
 
@@ -178,20 +225,19 @@ fn backslash_walk(bytes: &[u8], at: usize) -> usize
     end
 }
 
-// The same, 8 together and then one by one.
+// The same of the last bytes, fewer than 16: by a load that overlaps what was seen, where the text has so many.
 #[inline(always)]
 fn backslash_tail(bytes: &[u8], at: usize) -> usize
-    requires { at ≤ length bytes.now }
+    requires within { at ≤ length bytes.now }
+    requires few { length bytes.now < at + LANES }
     ensures { IsRunAt (is_plain (λ b. false)) bytes.now at result }
 {
-    if bytes.len() - at < HALF_LANES {
+    if bytes.len() < LANES {
         return backslash_walk(bytes, at);
     }
-    let run = backslash_run_half(bytes, at);
-    if run < HALF_LANES {
-        return at + run;
-    }
-    backslash_walk(bytes, at + HALF_LANES)
+    let left = bytes.len() - at;
+    let mask = backslashes(bytes, bytes.len() - LANES) >> (LANES - left);
+    at + first_set(mask, left)
 }
 
 // The same, 16 at a time.
@@ -211,6 +257,30 @@ fn backslash_at(bytes: &[u8], at: usize) -> usize
     backslash_tail(bytes, end)
 }
 
+// The mask of the backslashes of a text of 8 to 63 bytes, and 0 for any other.
+#[inline(always)]
+fn text_mask(bytes: &[u8]) -> u64
+    ensures { HALF_LANES ≤ length bytes.now → length bytes.now < MASKED → result ≡ mask_of (is_end (λ b. false)) bytes.now 0 (length bytes.now) }
+{
+    if bytes.len() < HALF_LANES || bytes.len() >= MASKED {
+        return 0;
+    }
+    backslashes_of(bytes)
+}
+
+// The first backslash from `at` on, or the end: by the mask of the text where it has one.
+#[inline(always)]
+fn next_backslash(bytes: &[u8], mask: u64, at: usize) -> usize
+    requires within { at ≤ length bytes.now }
+    requires mask { HALF_LANES ≤ length bytes.now → length bytes.now < MASKED → mask ≡ mask_of (is_end (λ b. false)) bytes.now 0 (length bytes.now) }
+    ensures { IsRunAt (is_plain (λ b. false)) bytes.now at result }
+{
+    if bytes.len() < HALF_LANES || bytes.len() >= MASKED {
+        return backslash_at(bytes, at);
+    }
+    at + first_set(mask >> at, bytes.len() - at)
+}
+
 // Puts behind `to`, which has room for it, what `spelled` stands for. It asks for no memory.
 #[inline(always)]
 fn put(form: Form, spelled: &str, to: &mut String) -> Result<(), AllocError>
@@ -221,13 +291,14 @@ fn put(form: Form, spelled: &str, to: &mut String) -> Result<(), AllocError>
 {
     let bytes = spelled.as_bytes();
     let mut from = 0;
-    let mut at = backslash_at(bytes, 0);
+    let mask = text_mask(bytes);
+    let mut at = next_backslash(bytes, mask, 0);
     while at + 1 < bytes.len() {
         if form.is_known(bytes[at + 1]) {
             to.push_str(&spelled[from..at])?;
             from = at + 1;
         }
-        at = backslash_at(bytes, at + 2);
+        at = next_backslash(bytes, mask, at + 2);
     }
     to.push_str(&spelled[from..])?;
     Ok(())

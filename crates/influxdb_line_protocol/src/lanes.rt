@@ -1,14 +1,19 @@
 //! How many bytes of one load, from the first, go on a spelling, or hold no backslash.
-ghost use Rattle.std.specs.Prelude.{◌≡◌, ◌+◌, ◌≤◌, false, length};
-ghost use Rattle.influxdb_line_protocol.specs.Forms.{is_plain, stops_of};
-ghost use Rattle.influxdb_line_protocol.specs.Lanes.{IsRunIn, first_set};
+ghost use Rattle.std.specs.Prelude.{◌≡◌, ◌+◌, ◌-◌, ◌/◌, ◌^◌, ◌<◌, ◌≤◌, false, length};
+ghost use Rattle.influxdb_line_protocol.specs.Forms.{is_end, is_plain, stops_of};
+ghost use Rattle.influxdb_line_protocol.specs.Lanes.{IsRunIn, first_set, mask_of};
 
 use crate::forms::Form;
 use std::simd::prelude::*;
 
 pub(crate) const LANES: usize = 16;
 
+pub(crate) const WIDE_LANES: usize = 32;
+
 pub(crate) const HALF_LANES: usize = 8;
+
+/// A text of fewer bytes than this has a mask.
+pub(crate) const MASKED: usize = 64;
 
 /// The place of the lowest bit that is set, or `lanes`.
 #[inline(always)]
@@ -22,11 +27,25 @@ pub(crate) fn first_set(mask: u64, lanes: usize) -> usize
     }
 }
 
-/// How many of the 16 bytes from `at` on stand before the first that ends a spelling of this form or is a backslash.
+/// The place of the lowest bit from `from` on that is set in a mask of 32 lanes, or where they end.
 #[inline(always)]
-pub(crate) fn plain_run(form: Form, bytes: &[u8], at: usize) -> usize
+pub(crate) fn next_set(mask: u64, from: usize) -> usize
+    requires { from < 64 }
+    ensures { result ≡ from + first_set (mask / 2 ^ from) (WIDE_LANES - from) }
+{
+    let rest = mask >> from;
+    if rest == 0 {
+        from.max(WIDE_LANES)
+    } else {
+        from + rest.trailing_zeros() as usize
+    }
+}
+
+/// The mask of those of the 16 bytes from `at` on that end a spelling of this form or are backslashes.
+#[inline(always)]
+pub(crate) fn end_mask(form: Form, bytes: &[u8], at: usize) -> u64
     requires { at + LANES ≤ length bytes.now }
-    ensures { IsRunIn (is_plain (stops_of form)) bytes.now at LANES result }
+    ensures { result ≡ mask_of (is_end (stops_of form)) bytes.now at LANES }
 {
     let v = u8x16::from_slice(&bytes[at..]);
     let backslashes = v.simd_eq(u8x16::splat(b'\\'));
@@ -35,21 +54,60 @@ pub(crate) fn plain_run(form: Form, bytes: &[u8], at: usize) -> usize
     match form {
         Form::Measurement => {
             let own = v.simd_eq(u8x16::splat(b',')) | v.simd_eq(u8x16::splat(0));
-            first_set((stops | own).to_bitmask(), LANES)
+            (stops | own).to_bitmask()
         }
         Form::Key => {
             let own = v.simd_eq(u8x16::splat(b'='));
-            first_set((stops | own).to_bitmask(), LANES)
+            (stops | own).to_bitmask()
         }
         Form::TagValue => {
             let own = v.simd_eq(u8x16::splat(b','));
-            first_set((stops | own).to_bitmask(), LANES)
+            (stops | own).to_bitmask()
         }
         Form::Quoted => {
             let quotes = v.simd_eq(u8x16::splat(b'"'));
-            first_set((backslashes | quotes).to_bitmask(), LANES)
+            (backslashes | quotes).to_bitmask()
         }
     }
+}
+
+/// The same of the 32 bytes from `at` on.
+#[inline(always)]
+pub(crate) fn wide_end_mask(form: Form, bytes: &[u8], at: usize) -> u64
+    requires { at + WIDE_LANES ≤ length bytes.now }
+    ensures { result ≡ mask_of (is_end (stops_of form)) bytes.now at WIDE_LANES }
+{
+    let mask = end_mask(form, bytes, at);
+    mask + (end_mask(form, bytes, at + LANES) << LANES)
+}
+
+/// How many of the 16 bytes from `at` on stand before the first that ends a spelling of this form or is a backslash.
+#[inline(always)]
+pub(crate) fn plain_run(form: Form, bytes: &[u8], at: usize) -> usize
+    requires { at + LANES ≤ length bytes.now }
+    ensures { IsRunIn (is_plain (stops_of form)) bytes.now at LANES result }
+{
+    first_set(end_mask(form, bytes, at), LANES)
+}
+
+/// The mask of the backslashes among the 16 bytes from `at` on.
+#[inline(always)]
+pub(crate) fn backslashes(bytes: &[u8], at: usize) -> u64
+    requires { at + LANES ≤ length bytes.now }
+    ensures { result ≡ mask_of (is_end (λ b. false)) bytes.now at LANES }
+{
+    let lanes = u8x16::from_slice(&bytes[at..]).simd_eq(u8x16::splat(b'\\'));
+    lanes.to_bitmask()
+}
+
+// The same among 8 bytes.
+#[inline(always)]
+fn backslashes_half(bytes: &[u8], at: usize) -> u64
+    requires { at + HALF_LANES ≤ length bytes.now }
+    ensures { result ≡ mask_of (is_end (λ b. false)) bytes.now at HALF_LANES }
+{
+    let lanes = u8x8::from_slice(&bytes[at..]).simd_eq(u8x8::splat(b'\\'));
+    lanes.to_bitmask()
 }
 
 /// How many of the 16 bytes from `at` on stand before the first backslash.
@@ -58,16 +116,48 @@ pub(crate) fn backslash_run(bytes: &[u8], at: usize) -> usize
     requires { at + LANES ≤ length bytes.now }
     ensures { IsRunIn (is_plain (λ b. false)) bytes.now at LANES result }
 {
-    let backslashes = u8x16::from_slice(&bytes[at..]).simd_eq(u8x16::splat(b'\\'));
-    first_set(backslashes.to_bitmask(), LANES)
+    first_set(backslashes(bytes, at), LANES)
 }
 
-/// The same of 8 bytes.
+// The mask of the backslashes of a text of 16 to 63 bytes. The last load overlaps what was seen.
 #[inline(always)]
-pub(crate) fn backslash_run_half(bytes: &[u8], at: usize) -> usize
-    requires { at + HALF_LANES ≤ length bytes.now }
-    ensures { IsRunIn (is_plain (λ b. false)) bytes.now at HALF_LANES result }
+fn backslashes_by_loads(bytes: &[u8]) -> u64
+    requires least { LANES ≤ length bytes.now }
+    requires most { length bytes.now < MASKED }
+    ensures { result ≡ mask_of (is_end (λ b. false)) bytes.now 0 (length bytes.now) }
 {
-    let backslashes = u8x8::from_slice(&bytes[at..]).simd_eq(u8x8::splat(b'\\'));
-    first_set(backslashes.to_bitmask(), HALF_LANES)
+    let mut mask = backslashes(bytes, 0);
+    let mut seen = LANES;
+    while bytes.len() - seen >= LANES {
+        mask += backslashes(bytes, seen) << seen;
+        seen += LANES;
+    }
+    let rest = backslashes(bytes, bytes.len() - LANES) >> (LANES - (bytes.len() - seen));
+    mask + (rest << seen)
+}
+
+// The mask of the backslashes of a text of 8 to 15 bytes, by two loads that overlap.
+#[inline(always)]
+fn backslashes_by_halves(bytes: &[u8]) -> u64
+    requires least { HALF_LANES ≤ length bytes.now }
+    requires most { length bytes.now < LANES }
+    ensures { result ≡ mask_of (is_end (λ b. false)) bytes.now 0 (length bytes.now) }
+{
+    let mask = backslashes_half(bytes, 0);
+    let rest = backslashes_half(bytes, bytes.len() - HALF_LANES) >> (LANES - bytes.len());
+    mask + (rest << HALF_LANES)
+}
+
+/// The mask of the backslashes of a text of 8 to 63 bytes.
+#[inline(always)]
+pub(crate) fn backslashes_of(bytes: &[u8]) -> u64
+    requires least { HALF_LANES ≤ length bytes.now }
+    requires most { length bytes.now < MASKED }
+    ensures { result ≡ mask_of (is_end (λ b. false)) bytes.now 0 (length bytes.now) }
+{
+    if bytes.len() < LANES {
+        backslashes_by_halves(bytes)
+    } else {
+        backslashes_by_loads(bytes)
+    }
 }

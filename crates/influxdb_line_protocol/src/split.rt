@@ -1,17 +1,19 @@
 //! The pieces of a text.
 
-ghost use Rattle.std.specs.Prelude.{◌≡◌, ◌≢◌, ◌+◌, ◌<◌, ◌≤◌, ◌==◌, ◌||◌, length, take, slice_index, MatchOption};
+ghost use Rattle.std.specs.Prelude.{◌≡◌, ◌≢◌, ◌+◌, ◌<◌, ◌≤◌, ◌==◌, ◌||◌, length, take, slice_index, MatchOption, true, false};
 ghost use Rattle.std.specs.Iterator.{at_most};
 ghost use Rattle.std.specs.List.{All, count_by};
 ghost use Rattle.influxdb_line_protocol.specs.Bytes.{backslash, newline, space, quote, comma, equals};
 ghost use Rattle.memchr.specs.Find.{IsFirstByte, is_byte3};
-ghost use Rattle.influxdb_line_protocol.specs.Lanes.{IsRunIn, is_quiet};
-ghost use Rattle.influxdb_line_protocol.specs.Escapes.{bare, first_bare};
+ghost use Rattle.influxdb_line_protocol.specs.Lanes.{IsRunIn, is_quiet, mask_of};
+ghost use Rattle.influxdb_line_protocol.specs.Escapes.{bare, first_bare, IsPassed};
+ghost use Rattle.influxdb_line_protocol.specs.Stops.{is_stop, is_mark};
+ghost use Rattle.influxdb_line_protocol.specs.Counts.{IsCounted};
 ghost use Rattle.influxdb_line_protocol.specs.Pieces.{begins_comment, IsFirstCut, GivesPiece, most_pieces};
 ghost use Rattle.influxdb_line_protocol.specs.declared.split.Dialect.{Dialect};
 
 use crate::lanes::first_set;
-use memchr::{memchr, memchr2, memchr3};
+use memchr::{memchr, memchr3};
 use std::marker::Model;
 use std::simd::prelude::*;
 
@@ -27,13 +29,63 @@ pub enum Dialect {
     Strict,
 }
 
-/// How many bytes stand before the first bare space or newline, or all of them.
-fn head_len(text: &[u8]) -> usize
-    ensures within { result ≤ length text.now }
-    ensures value { result ≡ first_bare (λ b. b == space || b == newline) text.now }
+// The bytes that end a stretch, of which both may be the same.
+#[derive(Clone, Copy)]
+struct Stops {
+    first: u8,
+    second: u8,
+}
+
+// The mask of those of the 64 bytes from `at` on that end a stretch or are backslashes.
+#[inline(always)]
+fn marks_in(stops: Stops, text: &[u8], at: usize) -> u64
+    requires { at + WIDE ≤ length text.now }
+    ensures { result ≡ mask_of (is_mark stops) text.now at WIDE }
 {
-    let mut at = 0;
-    while let Some(found) = memchr3(b'\\', b' ', b'\n', &text[at..]) {
+    let v = u8x64::from_slice(&text[at..]);
+    let ends = v.simd_eq(u8x64::splat(stops.first)) | v.simd_eq(u8x64::splat(stops.second));
+    (v.simd_eq(u8x64::splat(b'\\')) | ends).to_bitmask()
+}
+
+// How many of the 64 bytes from `at` on stand before the first bare one that ends a stretch; where
+// there is none 64, or 65 if the last one is a bare backslash.
+#[inline(always)]
+fn stop_in(stops: Stops, text: &[u8], at: usize) -> usize
+    requires escapes { is_stop stops backslash ≡ false }
+    requires room { at + WIDE < length text.now }
+    requires passed { IsPassed (is_stop stops) text.now at }
+    ensures within { result ≤ WIDE + 1 }
+    ensures passed { IsPassed (is_stop stops) text.now (at + result) }
+    ensures stops { result < WIDE → is_stop stops (slice_index text.now (at + result)) ≡ true }
+{
+    let marks = marks_in(stops, text, at);
+    let mut run = 0;
+    while run < WIDE {
+        let left = marks >> run;
+        if left == 0 {
+            return WIDE;
+        }
+        run += left.trailing_zeros() as usize;
+        if text[at + run] != b'\\' {
+            return run;
+        }
+        // The byte behind a backslash is escaped.
+        run += 2;
+    }
+    run
+}
+
+// How many bytes stand before the first bare one that ends a stretch, or all of them, where there
+// is none before `from`.
+#[inline(always)]
+fn last_len(stops: Stops, text: &[u8], from: usize) -> usize
+    requires escapes { is_stop stops backslash ≡ false }
+    requires passed { IsPassed (is_stop stops) text.now from }
+    ensures within { result ≤ length text.now }
+    ensures value { result ≡ first_bare (is_stop stops) text.now }
+{
+    let mut at = from;
+    while let Some(found) = memchr3(b'\\', stops.first, stops.second, &text[at..]) {
         at += found;
         if text[at] != b'\\' {
             return at;
@@ -42,6 +94,36 @@ fn head_len(text: &[u8]) -> usize
         at = (at + 2).min(text.len());
     }
     text.len()
+}
+
+// How many bytes stand before the first bare one that ends a stretch, or all of them.
+#[inline(always)]
+fn stretch_len(stops: Stops, text: &[u8]) -> usize
+    requires { is_stop stops backslash ≡ false }
+    ensures within { result ≤ length text.now }
+    ensures value { result ≡ first_bare (is_stop stops) text.now }
+{
+    let mut at = 0;
+    while text.len() - at > WIDE {
+        let run = stop_in(stops, text, at);
+        at += run;
+        if run < WIDE {
+            return at;
+        }
+    }
+    last_len(stops, text, at)
+}
+
+/// How many bytes stand before the first bare space or newline, or all of them.
+fn head_len(text: &[u8]) -> usize
+    ensures within { result ≤ length text.now }
+    ensures value { result ≡ first_bare (λ b. b == space || b == newline) text.now }
+{
+    let stops = Stops {
+        first: b' ',
+        second: b'\n',
+    };
+    stretch_len(stops, text)
 }
 
 /// How many bytes stand before the first bare newline or quote, or all of them.
@@ -49,16 +131,11 @@ fn plain_len(text: &[u8]) -> usize
     ensures within { result ≤ length text.now }
     ensures value { result ≡ first_bare (λ b. b == newline || b == quote) text.now }
 {
-    let mut at = 0;
-    while let Some(found) = first_mark(&text[at..]) {
-        at += found;
-        if text[at] != b'\\' {
-            return at;
-        }
-        // The byte behind a backslash is escaped.
-        at = (at + 2).min(text.len());
-    }
-    text.len()
+    let stops = Stops {
+        first: b'\n',
+        second: b'"',
+    };
+    stretch_len(stops, text)
 }
 
 /// How many bytes stand before the first bare quote, or all of them.
@@ -66,44 +143,100 @@ fn quoted_len(text: &[u8]) -> usize
     ensures within { result ≤ length text.now }
     ensures value { result ≡ first_bare (λ b. b == quote) text.now }
 {
-    let mut at = 0;
-    while let Some(found) = memchr2(b'\\', b'"', &text[at..]) {
-        at += found;
-        if text[at] != b'\\' {
-            return at;
-        }
-        // The byte behind a backslash is escaped.
-        at = (at + 2).min(text.len());
-    }
-    text.len()
+    let stops = Stops {
+        first: b'"',
+        second: b'"',
+    };
+    stretch_len(stops, text)
 }
 
-/// How many bare `=` and how many bare `,` a stretch holds.
-#[tactic(auto, using(crate::proofs::EscapeLemmas::is_escaped_more, crate::proofs::SplitWalk::count_bare_more))]
-fn count_bare(text: &[u8]) -> (usize, usize)
-    ensures equals { result.0 ≡ count_by (λ b. b == equals) (bare text.now) }
-    ensures commas { result.1 ≡ count_by (λ b. b == comma) (bare text.now) }
-    ensures within { (result.0 ≤ length text.now) × (result.1 ≤ length text.now) }
+// How many bare `=` and how many bare `,` stand before a place.
+#[derive(Clone, Copy)]
+struct Counts {
+    equals: usize,
+    commas: usize,
+    at: usize,
+}
+
+// Counts on, from one load of 64 bytes, as far as these stand before `end`.
+#[inline(always)]
+fn count_in(text: &[u8], end: usize, counts: Counts) -> Counts
+    requires room { counts.at + WIDE ≤ length text.now }
+    requires within { end ≤ length text.now }
+    requires early { counts.at < end }
+    requires counted { IsCounted text.now end counts }
+    ensures counted { IsCounted text.now end result }
+    ensures further { counts.at < result.at }
 {
-    let mut equals = 0;
-    let mut commas = 0;
-    let mut is_escaped = false;
-    for byte in text {
-        if is_escaped {
-            is_escaped = false;
-        } else {
-            match *byte {
-                b'\\' => is_escaped = true,
-                b'=' => equals += 1,
-                b',' => commas += 1,
-                _ => {}
+    let counted = Stops {
+        first: b'=',
+        second: b',',
+    };
+    let marks = marks_in(counted, text, counts.at);
+    let room = WIDE.min(end - counts.at);
+    let (mut equals, mut commas) = (counts.equals, counts.commas);
+    let mut run = 0;
+    while run < room {
+        let next = run + first_set(marks >> run, WIDE - run);
+        if next >= room {
+            let at = counts.at + room;
+            return Counts { equals, commas, at };
+        }
+        let byte = text[counts.at + next];
+        equals += usize::from(byte == b'=');
+        commas += usize::from(byte == b',');
+        // The byte behind a backslash is escaped.
+        run = next + 1 + usize::from(byte == b'\\');
+    }
+    let at = (counts.at + run).min(end);
+    Counts { equals, commas, at }
+}
+
+// Counts on up to `end`, byte by byte.
+#[inline(always)]
+fn count_last(text: &[u8], end: usize, counts: Counts) -> (usize, usize)
+    requires within { end ≤ length text.now }
+    requires counted { IsCounted text.now end counts }
+    ensures equals { result.0 ≡ count_by (λ b. b == equals) (bare (take end text.now)) }
+    ensures commas { result.1 ≡ count_by (λ b. b == comma) (bare (take end text.now)) }
+    ensures few { (result.0 ≤ end) × (result.1 ≤ end) }
+{
+    let (mut equals, mut commas) = (counts.equals, counts.commas);
+    let mut at = counts.at;
+    while at < end {
+        match text[at] {
+            // The byte behind a backslash is escaped.
+            b'\\' => at = (at + 2).min(end),
+            byte => {
+                equals += usize::from(byte == b'=');
+                commas += usize::from(byte == b',');
+                at += 1;
             }
         }
     }
     (equals, commas)
 }
 
-/// What `first_bare_cut` gives, from stretch to stretch. Each byte is searched once and counted at most once.
+// How many bare `=` and how many bare `,` stand before `end`.
+#[inline(always)]
+fn count_bare(text: &[u8], end: usize) -> (usize, usize)
+    requires { end ≤ length text.now }
+    ensures equals { result.0 ≡ count_by (λ b. b == equals) (bare (take end text.now)) }
+    ensures commas { result.1 ≡ count_by (λ b. b == comma) (bare (take end text.now)) }
+    ensures few { (result.0 ≤ end) × (result.1 ≤ end) }
+{
+    let mut counts = Counts {
+        equals: 0,
+        commas: 0,
+        at: 0,
+    };
+    while counts.at < end && text.len() - counts.at >= WIDE {
+        counts = count_in(text, end, counts);
+    }
+    count_last(text, end, counts)
+}
+
+/// What `first_bare_cut` gives, from stretch to stretch. No stretch is searched twice, and each byte is counted at most once.
 #[inline(never)]
 fn cut_by_stretches(text: &[u8]) -> Option<usize>
     ensures { IsFirstCut Dialect.Crate text.now result }
@@ -116,11 +249,13 @@ fn cut_by_stretches(text: &[u8]) -> Option<usize>
     let (mut equals, mut commas) = (0, 0);
     loop {
         // A plain stretch begins at `at`.
-        let end = at + plain_len(&text[at..]);
+        let rest = &text[at..];
+        let run = plain_len(rest);
+        let end = at + run;
         if *text.get(end)? == b'\n' {
             return Some(end);
         }
-        let (more_equals, more_commas) = count_bare(&text[at..end]);
+        let (more_equals, more_commas) = count_bare(rest, run);
         equals += more_equals;
         commas += more_commas;
         at = end + 1;

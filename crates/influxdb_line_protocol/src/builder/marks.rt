@@ -1,8 +1,8 @@
 //! Searches of a text for one of a few bytes, many of its bytes at a time.
 ghost use Rattle.std.specs.Prelude.{◌≡◌, ◌+◌, ◌<◌, ◌≤◌, length, not};
 ghost use Rattle.std.specs.List.{count_by, list_all};
-ghost use Rattle.std.specs.Simd.Lanes.{chunk};
 ghost use Rattle.influxdb_line_protocol.specs.Bytes.{is_one_of};
+ghost use Rattle.influxdb_line_protocol.specs.Lanes.{mask_of};
 ghost use Rattle.influxdb_line_protocol.specs.Marks.{StandBefore, listed};
 
 use crate::lanes::first_set;
@@ -97,132 +97,142 @@ pub(crate) fn is_free_of(marks: Marks, text: &[u8]) -> bool
     run_of_16(marks, text, len - 16) == 16
 }
 
-// How many bytes of a text of less than 16 stand before the first mark.
+// How many bytes of the text stand before the first mark, one by one.
 #[inline(always)]
-fn short_before_first(marks: Marks, text: &[u8]) -> usize
-    requires { length text.now < 16 }
+fn walked_before_first(marks: Marks, text: &[u8]) -> usize
     ensures { StandBefore (is_one_of (listed marks)) text.now 0 (length text.now) result }
 {
     let mut at = 0;
-    if text.len() >= 8 {
-        let run = run_of_8(marks, text, 0);
-        if run < 8 {
-            return run;
-        }
-        at = 8;
-    }
-    if text.len() - at >= 4 {
-        let run = run_of_4(marks, text, at);
-        if run < 4 {
-            return at + run;
-        }
-        at += 4;
-    }
     while at < text.len() && !is_mark(marks, text[at]) {
         at += 1;
     }
     at
 }
 
-// How many bytes of the text stand before the first mark.
+// How many bytes of a text of less than 16 stand before the first mark. Two loads that overlap cover it.
+#[inline(always)]
+fn short_before_first(marks: Marks, text: &[u8]) -> usize
+    requires { length text.now < 16 }
+    ensures { StandBefore (is_one_of (listed marks)) text.now 0 (length text.now) result }
+{
+    let len = text.len();
+    if len >= 8 {
+        let run = run_of_8(marks, text, 0);
+        return if run < 8 {
+            run
+        } else {
+            len - 8 + run_of_8(marks, text, len - 8)
+        };
+    }
+    if len >= 4 {
+        let run = run_of_4(marks, text, 0);
+        return if run < 4 {
+            run
+        } else {
+            len - 4 + run_of_4(marks, text, len - 4)
+        };
+    }
+    walked_before_first(marks, text)
+}
+
+// How many bytes of the text stand before the first mark. The last load may overlap the one before it.
 #[inline(always)]
 pub(crate) fn before_first(marks: Marks, text: &[u8]) -> usize
     ensures { StandBefore (is_one_of (listed marks)) text.now 0 (length text.now) result }
 {
+    let len = text.len();
+    if len < 16 {
+        return short_before_first(marks, text);
+    }
     let mut at = 0;
-    while text.len() - at >= 16 {
+    while len - at > 16 {
         let run = run_of_16(marks, text, at);
         if run < 16 {
             return at + run;
         }
         at += 16;
     }
-    at + short_before_first(marks, &text[at..])
+    len - 16 + run_of_16(marks, text, len - 16)
 }
 
-// How many of the 16 bytes from `at` on are marks.
+// The mask of the marks among the 16 bytes from `at` on.
 #[inline(always)]
-fn count_in_16(marks: Marks, text: &[u8], at: usize) -> usize
+fn mask_of_16(marks: Marks, text: &[u8], at: usize) -> u64
     requires { at + 16 ≤ length text.now }
-    ensures value { result ≡ count_by (is_one_of (listed marks)) (chunk at 16 text.now) }
-    ensures few { result ≤ 16 }
+    ensures { result ≡ mask_of (is_one_of (listed marks)) text.now at 16 }
 {
     let bytes = u8x16::from_slice(&text[at..]);
     let found = (bytes.simd_eq(u8x16::splat(marks.first))
         | bytes.simd_eq(u8x16::splat(marks.second)))
         | (bytes.simd_eq(u8x16::splat(marks.third)) | bytes.simd_eq(u8x16::splat(marks.fourth)));
-    found.to_bitmask().count_ones() as usize
+    found.to_bitmask()
 }
 
-// How many of the first 8 bytes are marks.
+// The same of 8 bytes.
 #[inline(always)]
-fn count_in_8(marks: Marks, text: &[u8]) -> usize
-    requires { 8 ≤ length text.now }
-    ensures value { result ≡ count_by (is_one_of (listed marks)) (chunk 0 8 text.now) }
-    ensures few { result ≤ 8 }
+fn mask_of_8(marks: Marks, text: &[u8], at: usize) -> u64
+    requires { at + 8 ≤ length text.now }
+    ensures { result ≡ mask_of (is_one_of (listed marks)) text.now at 8 }
 {
-    let bytes = u8x8::from_slice(text);
+    let bytes = u8x8::from_slice(&text[at..]);
     let found = (bytes.simd_eq(u8x8::splat(marks.first)) | bytes.simd_eq(u8x8::splat(marks.second)))
         | (bytes.simd_eq(u8x8::splat(marks.third)) | bytes.simd_eq(u8x8::splat(marks.fourth)));
-    found.to_bitmask().count_ones() as usize
+    found.to_bitmask()
 }
 
-// How many of the first 4 bytes are marks.
+// The same of 4 bytes.
 #[inline(always)]
-fn count_in_4(marks: Marks, text: &[u8]) -> usize
-    requires { 4 ≤ length text.now }
-    ensures value { result ≡ count_by (is_one_of (listed marks)) (chunk 0 4 text.now) }
-    ensures few { result ≤ 4 }
+fn mask_of_4(marks: Marks, text: &[u8], at: usize) -> u64
+    requires { at + 4 ≤ length text.now }
+    ensures { result ≡ mask_of (is_one_of (listed marks)) text.now at 4 }
 {
-    let bytes = u8x4::from_slice(text);
+    let bytes = u8x4::from_slice(&text[at..]);
     let found = (bytes.simd_eq(u8x4::splat(marks.first)) | bytes.simd_eq(u8x4::splat(marks.second)))
         | (bytes.simd_eq(u8x4::splat(marks.third)) | bytes.simd_eq(u8x4::splat(marks.fourth)));
-    found.to_bitmask().count_ones() as usize
+    found.to_bitmask()
 }
 
 // How many bytes of the text are marks, one by one.
 #[inline(always)]
 fn walked_count(marks: Marks, text: &[u8]) -> usize
-    ensures value { result ≡ count_by (is_one_of (listed marks)) text.now }
-    ensures few { result ≤ length text.now }
+    ensures { result ≡ count_by (is_one_of (listed marks)) text.now }
 {
     text.iter().filter(|byte| is_mark(marks, **byte)).count()
 }
 
-// The same, the first 4 together.
-#[inline(always)]
-fn shorter_count(marks: Marks, text: &[u8]) -> usize
-    ensures value { result ≡ count_by (is_one_of (listed marks)) text.now }
-    ensures few { result ≤ length text.now }
-{
-    if text.len() < 4 {
-        return walked_count(marks, text);
-    }
-    count_in_4(marks, text) + walked_count(marks, &text[4..])
-}
-
-// The same, the first 8 together.
+// How many bytes of a text of less than 16 are marks. Of the second of two loads that overlap only what is new counts.
 #[inline(always)]
 fn short_count(marks: Marks, text: &[u8]) -> usize
-    ensures value { result ≡ count_by (is_one_of (listed marks)) text.now }
-    ensures few { result ≤ length text.now }
+    requires { length text.now < 16 }
+    ensures { result ≡ count_by (is_one_of (listed marks)) text.now }
 {
-    if text.len() < 8 {
-        return shorter_count(marks, text);
+    let len = text.len();
+    if len >= 8 {
+        let behind = mask_of_8(marks, text, len - 8) >> (16 - len);
+        return (mask_of_8(marks, text, 0).count_ones() + behind.count_ones()) as usize;
     }
-    count_in_8(marks, text) + shorter_count(marks, &text[8..])
+    if len >= 4 {
+        let behind = mask_of_4(marks, text, len - 4) >> (8 - len);
+        return (mask_of_4(marks, text, 0).count_ones() + behind.count_ones()) as usize;
+    }
+    walked_count(marks, text)
 }
 
-// How many bytes of the text are marks.
+// How many bytes of the text are marks. Of the last load, which may overlap the one before it, only what is new counts.
 #[inline(always)]
 pub(crate) fn count(marks: Marks, text: &[u8]) -> usize
     ensures { result ≡ count_by (is_one_of (listed marks)) text.now }
 {
+    let len = text.len();
+    if len < 16 {
+        return short_count(marks, text);
+    }
     let mut front = 0;
     let mut at = 0;
-    while text.len() - at >= 16 {
-        front += count_in_16(marks, text, at);
+    while len - at > 16 {
+        front += mask_of_16(marks, text, at).count_ones() as usize;
         at += 16;
     }
-    front + short_count(marks, &text[at..])
+    let behind = mask_of_16(marks, text, len - 16) >> (16 - (len - at));
+    front + behind.count_ones() as usize
 }

@@ -1,14 +1,10 @@
-use Rattle.std.proofs.Common.{◌≡◌, ◌≤◌, take}
-use Rattle.std.specs.Prelude.{◌==◌}
-use Rattle.std.specs.List.{count_by}
-use Rattle.influxdb_line_protocol.specs.Bytes.{comma, equals}
-use Rattle.influxdb_line_protocol.specs.Escapes.{bare, is_escaped_behind}
+use Rattle.std.proofs.Common.{◌-◌}
+use Rattle.influxdb_line_protocol.specs.Counts.{IsCounted}
 use Rattle.influxdb_line_protocol.proofs.split.count_bare.Given as goal
 
-abbrev pub invariant-loop-byte : goal.invariant-loop-byte
-invariant-loop-byte l = record {
-  flag : l.is_escaped ≡ is_escaped_behind (take l.byte-index l.text);
-  equals : l.equals ≡ count_by (λ b. b == equals) (bare (take l.byte-index l.text));
-  commas : l.commas ≡ count_by (λ b. b == comma) (bare (take l.byte-index l.text));
-  within : (l.equals ≤ l.byte-index) × (l.commas ≤ l.byte-index);
-}
+-- what was loaded is counted
+abbrev pub invariant-loop-counts : goal.invariant-loop-counts
+invariant-loop-counts l = IsCounted l.text l.end l.counts
+
+abbrev pub decreases-loop-counts : goal.decreases-loop-counts
+decreases-loop-counts l = l.end - l.counts.at

@@ -1,0 +1,15 @@
+use Rattle.std.proofs.Common.{◌≡◌, ℕ, ◌-◌, ◌<◌, ◌≤◌, false, length, get_or}
+use Rattle.influxdb_line_protocol.specs.Bytes.{is_one_of}
+use Rattle.influxdb_line_protocol.specs.Marks.{listed}
+use Rattle.influxdb_line_protocol.proofs.builder.marks.walked_before_first.Given as goal
+
+-- what was passed holds no mark
+abbrev pub invariant-loop-at : goal.invariant-loop-at
+invariant-loop-at l =
+    record {
+      within : l.at ≤ length l.text;
+      none : (k : ℕ) → k < l.at → is_one_of (listed l.marks) (get_or l.text k 0) ≡ false;
+    }
+
+abbrev pub decreases-loop-at : goal.decreases-loop-at
+decreases-loop-at l = length l.text - l.at
