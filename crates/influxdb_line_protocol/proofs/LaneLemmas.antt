@@ -1,6 +1,7 @@
 -- From the mask of one load to the bytes that pass a test.
 use Rattle.std.proofs.Common.{◌≡◌, ℕ, ◌+◌, ◌-◌, ◌%◌, ◌^◌, ◌<◌, ◌≤◌, Bool, true, false, not, List, map, length, get_or, replicate, eqb, cond, bit_or, Fits, w8, sym, ap, ◌∙◌, subst, arith, inl, inr}
 use Rattle.std.proofs.lemmas.Bool.{agree_below, agree_below_at, not-true, not-false, cases_eq, eq-eqb, ne_eqb, cond-true, cond-false}
+use Rattle.std.proofs.lemmas.List.{map-id}
 use Rattle.std.proofs.lemmas.Simd.{map-map, mask_l-mod, length-chunk, get_or-chunk, leading_from_mask_l, trailing_mask_l, zip2_splat, zip2_of_maps}
 use Rattle.std.proofs.lemmas.List.{length-map}
 use Rattle.std.proofs.lemmas.List.Sums.{prefix_len-le-length, prefix_len_passes, prefix_len_stops}
@@ -19,6 +20,12 @@ lanes_of {n} v b long = zip2_splat (λ x y. cond (eqb x y) 255 0) v n b long
 -- the lanes that are in one of two
 pub lanes_or : (f g : ℕ → ℕ) (v : List ℕ) {xs ys : List ℕ} → xs ≡ map f v → ys ≡ map g v → zip2 bit_or xs ys ≡ map (λ x. bit_or (f x) (g x)) v
 lanes_or f g v p q = zip2_of_maps bit_or f g v p q
+
+-- the lanes whose byte is the one that is looked up for it
+pub lanes_looked : (look : ℕ → ℕ) (v : List ℕ) {z : List ℕ} → z ≡ map look v → zip2 {C = ℕ} (λ x y. cond (eqb x y) 255 0) z v ≡ map (λ x. lane x (look x)) v
+lanes_looked look v found =
+    let same : ℕ → ℕ → ℕ = λ x y. cond (eqb x y) 255 0 in
+    zip2_of_maps same look (λ x. x) v found (sym (map-id v))
 
 -- the lowest bit of a mask is the first lane that is set
 run_is : (p : ℕ → Bool) (v : List ℕ) (n : ℕ) → length v ≡ n → n ≤ 64 → first_set (mask_l (map p v)) n ≡ prefix_len (λ x. not (p x)) v

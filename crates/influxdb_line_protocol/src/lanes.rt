@@ -1,5 +1,5 @@
 //! How many bytes of one load, from the first, go on a spelling, or hold no backslash.
-ghost use Rattle.std.specs.Prelude.{◌≡◌, ◌+◌, ◌-◌, ◌/◌, ◌^◌, ◌<◌, ◌≤◌, false, length};
+ghost use Rattle.std.specs.Prelude.{◌≡◌, ◌+◌, ◌-◌, ◌/◌, ◌^◌, ◌<◌, ◌≤◌, bit_and, false, length, map, slice_index};
 ghost use Rattle.influxdb_line_protocol.specs.Forms.{is_end, is_plain, stops_of};
 ghost use Rattle.influxdb_line_protocol.specs.Lanes.{IsRunIn, first_set, mask_of};
 
@@ -41,6 +41,22 @@ pub(crate) fn next_set(mask: u64, from: usize) -> usize
     }
 }
 
+// The bytes that end a key, and the backslash, each at its low half. Where there is none stands 0, whose own place the
+// space has.
+const KEY_ENDS: [u8; 16] = *b" \0\0\0\0\0\0\0\0\t\n\0\\=\0\0";
+
+// The bytes that end a tag's value, in the same way. The backslash has its low half in common with the comma.
+const TAG_VALUE_ENDS: [u8; 16] = *b" \0\0\0\0\0\0\0\0\t\n\0,\0\0\0";
+
+// What the table has for the low half of each byte.
+#[inline(always)]
+fn by_low_half(table: [u8; 16], v: u8x16) -> u8x16
+    requires { length v ≡ LANES }
+    ensures { result ≡ map (λ b. slice_index table (bit_and b 15)) v }
+{
+    u8x16::from_array(table).swizzle_dyn(v & u8x16::splat(15))
+}
+
 /// The mask of those of the 16 bytes from `at` on that end a spelling of this form or are backslashes.
 #[inline(always)]
 pub(crate) fn end_mask(form: Form, bytes: &[u8], at: usize) -> u64
@@ -49,20 +65,17 @@ pub(crate) fn end_mask(form: Form, bytes: &[u8], at: usize) -> u64
 {
     let v = u8x16::from_slice(&bytes[at..]);
     let backslashes = v.simd_eq(u8x16::splat(b'\\'));
-    let blanks = v.simd_eq(u8x16::splat(b' ')) | v.simd_eq(u8x16::splat(b'\t'));
-    let stops = blanks | v.simd_eq(u8x16::splat(b'\n')) | backslashes;
     match form {
         Form::Measurement => {
+            let blanks = v.simd_eq(u8x16::splat(b' ')) | v.simd_eq(u8x16::splat(b'\t'));
+            let stops = blanks | v.simd_eq(u8x16::splat(b'\n')) | backslashes;
             let own = v.simd_eq(u8x16::splat(b',')) | v.simd_eq(u8x16::splat(0));
             (stops | own).to_bitmask()
         }
-        Form::Key => {
-            let own = v.simd_eq(u8x16::splat(b'='));
-            (stops | own).to_bitmask()
-        }
+        Form::Key => by_low_half(KEY_ENDS, v).simd_eq(v).to_bitmask(),
         Form::TagValue => {
-            let own = v.simd_eq(u8x16::splat(b','));
-            (stops | own).to_bitmask()
+            let stops = by_low_half(TAG_VALUE_ENDS, v).simd_eq(v);
+            (stops | backslashes).to_bitmask()
         }
         Form::Quoted => {
             let quotes = v.simd_eq(u8x16::splat(b'"'));
