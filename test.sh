@@ -4,4 +4,5 @@ set -eu
 cd "$(dirname "$0")"
 PATH=$PATH:/opt/rattle/bin
 misuses/check.sh
+checks/arguments.sh
 exec rt ci

@@ -6,6 +6,7 @@ pub mod SplitCounts
 pub mod SplitStretches
 pub mod SplitMachine
 pub mod SplitPieces
+pub mod QuietCuts
 pub mod SplitShape
 pub mod SplitWalk
 pub mod WideSearch
@@ -41,6 +42,7 @@ pub mod LineReadsBack
 pub mod LinePieces
 pub mod Batches
 pub mod BatchesReadBack
+pub mod CommentsAlone
 pub mod Rows
 pub mod LogicalMeaning
 pub mod JoinedMeaning

@@ -58,7 +58,7 @@ crate_goes_on front b (inl (inr h)) = plain_goes_on front h.0 b h.1
 crate_goes_on front b (inr h) = quoted_goes_on front h.0 b h.1
 
 -- a comment is told by its bytes up to the `#`
-begins_comment-append : (front more : List ℕ) → begins_comment front ≡ true → begins_comment (front ++ more) ≡ true
+pub begins_comment-append : (front more : List ℕ) → begins_comment front ≡ true → begins_comment (front ++ more) ≡ true
 begins_comment-append [] more e = absurd (false≢true e)
 begins_comment-append (b ∷ front) more e = go (eqb b 35) (eqb b 32 || eqb b 9) e (begins_comment-append front more)
   where
@@ -233,6 +233,22 @@ comment_replaced (p ∷ before) front old new after text f n h = elim (uncons St
   | inr w ↦
       let r = comment_replaced before front old new after w.0 f n w.3 in
       (p ++ 10 ∷ r.0, cut p r.0 (before ++ (front ++ new) ∷ after) w.2 r.1)
+]
+
+-- a piece that begins as a comment is one
+last_is_comment : (piece : List ℕ) → begins_comment piece ≡ true → IsLastPiece Strict piece → IsComment piece
+last_is_comment piece f (inl h) = h
+last_is_comment piece f (inr h) = absurd (both_ways (begins_comment piece) h.0 f)
+
+-- so is each piece of a text that begins as one
+pub piece_is_comment : (before : List (List ℕ)) (piece : List ℕ) (after : List (List ℕ)) (text : List ℕ) → begins_comment piece ≡ true → Pieces Strict text (before ++ piece ∷ after) → IsComment piece
+piece_is_comment [] piece after text f h = elim (uncons Strict h) [
+  | inl w ↦ last_is_comment piece f w.2
+  | inr w ↦ last_is_comment piece f (IsLastPiece-cut Strict piece w.2)
+]
+piece_is_comment (p ∷ before) piece after text f h = elim (uncons Strict h) [
+  | inl w ↦ absurd (push_is_not_nil before piece after w.0)
+  | inr w ↦ piece_is_comment before piece after w.0 f w.3
 ]
 
 -- a text up to a place, and behind it

@@ -84,9 +84,10 @@ AnswersJoin =
     → Pieces dialect u (before ++ piece ∷ []) → IsCutPiece dialect piece
     → HasAnswers dialect u first → HasAnswers dialect t others → HasAnswers dialect (u ++ newline ∷ t) (first ++ others)
 
--- In the strict dialect, other bytes behind the `#` of a comment change no other piece.
+-- In the strict dialect, other bytes after the `#` of a comment change no other piece and no answer.
 abbrev pub CommentsStandAlone : Type 0
 CommentsStandAlone =
-    (front old new : List ℕ) (before after : List (List ℕ)) (text : List ℕ)
+    (front old new : List ℕ) (before after : List (List ℕ)) (text : List ℕ) (answers : List (Result Line Fault))
     → begins_comment front ≡ true → All (λ b. b ≢ newline) new → Pieces Strict text (before ++ (front ++ old) ∷ after)
-    → (other : List ℕ) × Pieces Strict other (before ++ (front ++ new) ∷ after)
+    → HasAnswers Strict text answers
+    → (other : List ℕ) × Pieces Strict other (before ++ (front ++ new) ∷ after) × HasAnswers Strict other answers

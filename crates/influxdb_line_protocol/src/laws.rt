@@ -40,8 +40,8 @@ pub fn lines_are_points()
 
 /// Each text has exactly one list of pieces, and joined by newlines they are the text. A newline
 /// between two texts joins their pieces exactly where it may end the last piece of the first, and
-/// there their answers are joined too. In the strict dialect, other bytes behind the `#` of a
-/// comment change no other piece.
+/// there their answers are joined too. In the strict dialect, other bytes after the `#` of a
+/// comment change no other piece and no item.
 pub fn pieces_join()
     ensures some { PiecesExist }
     ensures one { PiecesAreUnique }

@@ -11,7 +11,7 @@ ghost use Rattle.influxdb_line_protocol.specs.Trimming.{trimmed};
 ghost use Rattle.influxdb_line_protocol.specs.Readings.{miss, reads};
 
 use crate::names::{self, NameKind};
-use crate::split::{SplitLines, split_lines};
+use crate::split::{SplitLines, split_lines_in};
 use crate::{
     Dialect, Error, ErrorKind, EscapedStr, FieldValue, Result, Series, fields, tags, values,
 };
@@ -231,8 +231,25 @@ impl<'a> ParseLines<'a> {
 pub fn parse_lines(alloc: Global, input: &str) -> ParseLines<'_>
     ensures { result ≡ record { dialect = Dialect.Crate; text = Some input.now } }
 {
+    parse_lines_in(alloc, Dialect::Crate, input)
+}
+
+/// Reads all lines of a text by the rules of a dialect.
+///
+/// [`parse_lines`] does so by those of the crate; what it says of faults and of memory holds here too. In the strict
+/// dialect a comment ends at its own newline, and a comma after the first field stays in the rest of the line unless a
+/// second field follows it.
+///
+/// ```text
+/// parse_lines_in(alloc, Dialect::Crate, "m a=1i,")   gives  Ok, with the field a=1i
+/// parse_lines_in(alloc, Dialect::Strict, "m a=1i,")  gives  CannotParseEntireLine, with the rest ","
+/// ```
+#[inline]
+pub fn parse_lines_in(alloc: Global, dialect: Dialect, input: &str) -> ParseLines<'_>
+    ensures { result ≡ record { dialect = dialect; text = Some input.now } }
+{
     ParseLines {
-        lines: split_lines(input),
+        lines: split_lines_in(dialect, input),
         alloc,
     }
 }

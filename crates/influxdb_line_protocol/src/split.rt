@@ -20,12 +20,15 @@ use std::simd::prelude::*;
 // How many bytes are looked at together.
 const WIDE: usize = 64;
 
-/// Which rules of line protocol hold.
+/// A dialect of line protocol: which rules hold.
+///
+/// The calls that name no dialect read that of the Rust crate.
 #[derive(Clone, Copy, Debug, PartialEq, Eq)]
 pub enum Dialect {
-    /// Those of the Rust crate `influxdb-line-protocol`.
+    /// The rules of the Rust crate `influxdb-line-protocol`.
     Crate,
-    /// The same, but a comment ends with its line, and no comma behind a field is lost.
+    /// The same but for two: a comment ends at its own newline, whatever it holds, and the comma after the first
+    /// field is taken only together with a second field.
     Strict,
 }
 
@@ -236,7 +239,8 @@ fn count_bare(text: &[u8], end: usize) -> (usize, usize)
     count_last(text, end, counts)
 }
 
-/// What `first_bare_cut` gives, from stretch to stretch. No stretch is searched twice, and each byte is counted at most once.
+/// The place of the newline that ends the first piece, or `None` where the text is one piece, with no regard to
+/// comments. It goes from stretch to stretch: no stretch is searched twice, and each byte is counted at most once.
 #[inline(never)]
 fn cut_by_stretches(text: &[u8]) -> Option<usize>
     ensures { IsFirstCut Dialect.Crate text.now result }
@@ -296,20 +300,6 @@ fn first_mark(text: &[u8]) -> Option<usize>
     Some(at + last)
 }
 
-/// The place of the newline that ends the first piece, or `None` where the text is one piece,
-/// with no regard to comments.
-#[inline(always)]
-fn first_bare_cut(text: &[u8]) -> Option<usize>
-    ensures { IsFirstCut Dialect.Crate text.now result }
-{
-    let found = first_mark(text)?;
-    // Nothing before it is escaped or quoted.
-    if text[found] == b'\n' {
-        return Some(found);
-    }
-    cut_by_stretches(text)
-}
-
 /// Whether a text is spaces and tabs and then `#`.
 fn is_comment(text: &[u8]) -> bool
     ensures { result ≡ begins_comment text.now }
@@ -336,10 +326,15 @@ fn first_newline(text: &[u8]) -> Option<usize>
 fn first_cut(dialect: Dialect, text: &[u8]) -> Option<usize>
     ensures { IsFirstCut dialect text.now result }
 {
+    let found = first_mark(text)?;
+    // Nothing before it is escaped or quoted, and it is the first newline: it ends a comment too.
+    if text[found] == b'\n' {
+        return Some(found);
+    }
     match dialect {
-        Dialect::Crate => first_bare_cut(text),
+        Dialect::Crate => cut_by_stretches(text),
         Dialect::Strict if is_comment(text) => first_newline(text),
-        Dialect::Strict => first_bare_cut(text),
+        Dialect::Strict => cut_by_stretches(text),
     }
 }
 
@@ -376,8 +371,16 @@ pub fn split_lines(input: &str) -> SplitLines<'_>
     split_lines_in(Dialect::Crate, input)
 }
 
-// Splits a text into its pieces by the rules of a dialect.
-pub(crate) fn split_lines_in(dialect: Dialect, input: &str) -> SplitLines<'_>
+/// Splits a text into its pieces by the rules of a dialect.
+///
+/// [`split_lines`] does so by those of the crate. In the strict dialect a piece that begins with any spaces and tabs
+/// and then `#` ends at the first newline, even after a backslash or an open quote. No memory is taken.
+///
+/// ```text
+/// split_lines_in(Dialect::Crate, "# a=\"\nm b=1i")   gives  "# a=\"\nm b=1i"
+/// split_lines_in(Dialect::Strict, "# a=\"\nm b=1i")  gives  "# a=\""  and  "m b=1i"
+/// ```
+pub fn split_lines_in(dialect: Dialect, input: &str) -> SplitLines<'_>
     ensures { result ≡ record { dialect = dialect; text = Some input.now } }
 {
     SplitLines {

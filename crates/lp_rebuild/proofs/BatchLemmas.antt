@@ -4,7 +4,6 @@ use Rattle.std.specs.Prelude.{IfOk}
 use Rattle.std.specs.List.{flat_map, AllByRecursion}
 use Rattle.std.proofs.lemmas.Bool.{cases_Bool}
 use Rattle.influxdb_line_protocol.specs.declared.split.Dialect.{Dialect}
-use Rattle.influxdb_line_protocol.specs.declared.split.Dialect.TheVariants.{Crate}
 use Rattle.influxdb_line_protocol.specs.declared.error.Error.{Error}
 use Rattle.influxdb_line_protocol.specs.declared.escaped.EscapedStr.{EscapedStr}
 use Rattle.influxdb_line_protocol.specs.declared.values.FieldValue.{FieldValue}
@@ -20,7 +19,7 @@ use Rattle.influxdb_line_protocol.specs.Items.{HasAnswers, answers_of, answers_o
 use Rattle.influxdb_line_protocol.specs.Laws.{IsAdmittedPoint, AdmittedBatchesReadBack, PiecesExist, PiecesAreUnique}
 use Rattle.influxdb_line_protocol.specs.PointsOfLines.{LinesArePoints}
 use Rattle.lp_rebuild.specs.declared.batch.Rebuilt.{Rebuilt}
-use Rattle.lp_rebuild.specs.Rebuilding.{Rebuilds, ReadsBack, carried_point, batch_of}
+use Rattle.lp_rebuild.specs.Rebuilding.{RebuildsIn, ReadsBackIn, carried_point, batch_of}
 
 -- a line has as many fields as its point
 some_fields : (fs : List (EscapedStr × FieldValue)) → 0 < length (map logical_field (map field_of fs)) → 0 < length fs
@@ -79,12 +78,12 @@ answers_are unique dialect text answers others first second =
     first.answered ∙ ap (answers_of dialect) (unique dialect text first.pieces second.pieces first.are second.are) ∙ sym second.answered
 
 -- the batch of a rebuild reads back
-pub batch_reads_back : AdmittedBatchesReadBack → LinesArePoints → PiecesAreUnique → (text : List ℕ) (r : Rebuilt) → Rebuilds text r → ReadsBack text r
-batch_reads_back law are unique text r h items has dialect t answers behind =
+pub batch_reads_back : AdmittedBatchesReadBack → LinesArePoints → PiecesAreUnique → (from : Dialect) (text : List ℕ) (r : Rebuilt) → RebuildsIn from text r → ReadsBackIn from text r
+batch_reads_back law are unique from text r h items has dialect t answers behind =
     let points = flat_map carried_point items in
     let admitted : AllByRecursion IsAdmittedPoint points =
-    subst (λ (l : List (Result Line Fault)). AllByRecursion IsAdmittedPoint (flat_map carried_point l)) (sym has.answered) (points_admitted are Crate has.pieces) in
-    let batch : r.batch.items ≡ built_all points = h.batch ∙ ap batch_of (answers_are unique Crate text h.answers items h.has has) in
+    subst (λ (l : List (Result Line Fault)). AllByRecursion IsAdmittedPoint (flat_map carried_point l)) (sym has.answered) (points_admitted are from has.pieces) in
+    let batch : r.batch.items ≡ built_all points = h.batch ∙ ap batch_of (answers_are unique from text h.answers items h.has has) in
     let read = law dialect points t answers admitted behind in (
       read.0,
       read.1,

@@ -2,8 +2,9 @@
 use Rattle.std.proofs.Common.{◌≡◌, ℕ, List, length, Option, Result, Ok, Err, true, false, is_err, OnErr, OnOk, IfSome, subst, arith, take_all, le_refl}
 use Rattle.std.specs.Io.KnownBytes.{Consumes, Appends, IsAtEnd}
 use Rattle.std.proofs.KnownBytes.{Consumes-whole, Appends-nil}
+use Rattle.influxdb_line_protocol.specs.declared.split.Dialect.{Dialect}
 use Rattle.lp_rebuild.specs.declared.batch.Rebuilt.{Rebuilt}
-use Rattle.lp_rebuild.specs.Rebuilding.{Rebuilds}
+use Rattle.lp_rebuild.specs.Rebuilding.{RebuildsIn}
 use Rattle.lp_rebuild.specs.Running.{AppendsFront, WritesFronts}
 
 -- the fact that holds at a fault
@@ -17,17 +18,17 @@ at_no_fault (Ok x) failed h = h
 at_no_fault (Err e) failed h = absurd (cc)
 
 -- what is said of a run that could not write
-abbrev pub LeftParts : (out out_after err err_after : Option (List ℕ)) → List ℕ → Type 0
-LeftParts out out_after err err_after input =
-    (r : Rebuilt) × Rebuilds input r × WritesFronts r.batch.items r.faults.items out out_after err err_after
+abbrev pub LeftParts : Dialect → (out out_after err err_after : Option (List ℕ)) → List ℕ → Type 0
+LeftParts dialect out out_after err err_after input =
+    (r : Rebuilt) × RebuildsIn dialect input r × WritesFronts r.batch.items r.faults.items out out_after err err_after
 
 -- a part of the batch was written, and no fault
-pub batch_part : (a b out out_after err : Option (List ℕ)) (input text batch : List ℕ) (r : Rebuilt) → Consumes a b input → IsAtEnd b → text ≡ input → Rebuilds text r
-    → batch ≡ r.batch.items → AppendsFront out out_after batch → IfSome a (LeftParts out out_after err err)
-batch_part a b out out_after err input text batch r read end same rebuilt is part =
-    Consumes-whole a b input (LeftParts out out_after err err) read end (
+pub batch_part : (dialect : Dialect) (a b out out_after err : Option (List ℕ)) (input text batch : List ℕ) (r : Rebuilt) → Consumes a b input → IsAtEnd b → text ≡ input → RebuildsIn dialect text r
+    → batch ≡ r.batch.items → AppendsFront out out_after batch → IfSome a (LeftParts dialect out out_after err err)
+batch_part dialect a b out out_after err input text batch r read end same rebuilt is part =
+    Consumes-whole a b input (LeftParts dialect out out_after err err) read end (
       r,
-      subst (λ t. Rebuilds t r) same rebuilt,
+      subst (λ t. RebuildsIn dialect t r) same rebuilt,
       record {
         batch_written = part.0;
         faults_written = 0;
@@ -38,13 +39,13 @@ batch_part a b out out_after err input text batch r read end same rebuilt is par
     )
 
 -- the whole batch was written, and a part of the faults
-pub faults_part : (a b out out_after err err_after : Option (List ℕ)) (input text batch faults : List ℕ) (r : Rebuilt) → Consumes a b input → IsAtEnd b → text ≡ input → Rebuilds text r
-    → batch ≡ r.batch.items → faults ≡ r.faults.items → Appends out out_after batch → AppendsFront err err_after faults → IfSome a (LeftParts out out_after err err_after)
-faults_part a b out out_after err err_after input text batch faults r read end same rebuilt batch_is faults_is whole part =
+pub faults_part : (dialect : Dialect) (a b out out_after err err_after : Option (List ℕ)) (input text batch faults : List ℕ) (r : Rebuilt) → Consumes a b input → IsAtEnd b → text ≡ input → RebuildsIn dialect text r
+    → batch ≡ r.batch.items → faults ≡ r.faults.items → Appends out out_after batch → AppendsFront err err_after faults → IfSome a (LeftParts dialect out out_after err err_after)
+faults_part dialect a b out out_after err err_after input text batch faults r read end same rebuilt batch_is faults_is whole part =
     let all = take_all (length r.batch.items) r.batch.items (le_refl _) in
-    Consumes-whole a b input (LeftParts out out_after err err_after) read end (
+    Consumes-whole a b input (LeftParts dialect out out_after err err_after) read end (
       r,
-      subst (λ t. Rebuilds t r) same rebuilt,
+      subst (λ t. RebuildsIn dialect t r) same rebuilt,
       record {
         batch_written = length r.batch.items;
         faults_written = part.0;

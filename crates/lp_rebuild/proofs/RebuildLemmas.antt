@@ -6,7 +6,6 @@ use Rattle.std.proofs.lemmas.Bool.Decides.{nat_tests}
 use Rattle.std.proofs.lemmas.List.Elements.{All-tail}
 use Rattle.std.proofs.lemmas.List.Sums.{sum_by-append}
 use Rattle.influxdb_line_protocol.specs.declared.split.Dialect.{Dialect}
-use Rattle.influxdb_line_protocol.specs.declared.split.Dialect.TheVariants.{Crate}
 use Rattle.influxdb_line_protocol.specs.declared.error.Error.{Error}
 use Rattle.influxdb_line_protocol.specs.declared.error.Error.TheVariants as error
 use Rattle.influxdb_line_protocol.specs.declared.line.ParsedLine.{ParsedLine}
@@ -22,7 +21,7 @@ use Rattle.influxdb_line_protocol.specs.Trimming.{trimmed}
 use Rattle.influxdb_line_protocol.specs.Pieces.{Left, Pieces, PiecesLeft}
 use Rattle.influxdb_line_protocol.specs.ParseSteps.{IsBlankPiece, GaveItem}
 use Rattle.influxdb_line_protocol.specs.Items.{line_answer, answers_of, answers_of_piece}
-use Rattle.lp_rebuild.specs.Rebuilding.{Rebuilds, batch_of, carried_point, faults_from, fault_of, carried_of, refused_of, is_carried, is_carried_answer, refusal_text}
+use Rattle.lp_rebuild.specs.Rebuilding.{RebuildsIn, batch_of, carried_point, faults_from, fault_of, carried_of, refused_of, is_carried, is_carried_answer, refusal_text}
 use Rattle.lp_rebuild.specs.RebuildSteps.{Refuses, Takes}
 
 -- an answer that is not carried was refused with its text
@@ -163,49 +162,49 @@ piece_answers dialect piece h =
     rw e refl
 
 -- the answers for the pieces before these others were taken
-pub record SoFar (text : List ℕ) (others : List (List ℕ)) (so_far : Progress) : Type 0 where
+pub record SoFar (dialect : Dialect) (text : List ℕ) (others : List (List ℕ)) (so_far : Progress) : Type 0 where
   pub front : List (List ℕ)
-  pub pieces : Pieces Crate text (front ++ others)
-  pub took : Took (answers_of Crate front) so_far
+  pub pieces : Pieces dialect text (front ++ others)
+  pub took : Took (answers_of dialect front) so_far
 
 -- before the first piece
-pub SoFar-none : (text : List ℕ) (pieces : List (List ℕ)) (so_far : Progress) → Pieces Crate text pieces → Took [] so_far → SoFar text pieces so_far
-SoFar-none text pieces so_far h t = record { front = []; pieces = h; took = t }
+pub SoFar-none : (dialect : Dialect) (text : List ℕ) (pieces : List (List ℕ)) (so_far : Progress) → Pieces dialect text pieces → Took [] so_far → SoFar dialect text pieces so_far
+SoFar-none dialect text pieces so_far h t = record { front = []; pieces = h; took = t }
 
 regrouped : (front skipped : List (List ℕ)) (piece : List ℕ) (others : List (List ℕ)) → front ++ (skipped ++ piece ∷ others) ≡ (front ++ (skipped ++ piece ∷ [])) ++ others
 regrouped front skipped piece others = simp append_assoc
 
 -- the answers behind blank pieces and one that is not
-front_answers : (front skipped : List (List ℕ)) (piece : List ℕ) → All IsBlankPiece skipped → 0 < length (trimmed piece)
-    → answers_of Crate (front ++ (skipped ++ piece ∷ [])) ≡ answers_of Crate front ++ line_answer Crate (trimmed piece) ∷ []
-front_answers front skipped piece blank some =
-    let f = answers_of_piece Crate in
+front_answers : (dialect : Dialect) (front skipped : List (List ℕ)) (piece : List ℕ) → All IsBlankPiece skipped → 0 < length (trimmed piece)
+    → answers_of dialect (front ++ (skipped ++ piece ∷ [])) ≡ answers_of dialect front ++ line_answer dialect (trimmed piece) ∷ []
+front_answers dialect front skipped piece blank some =
+    let f = answers_of_piece dialect in
     flat_map-append f front (skipped ++ piece ∷ [])
-    ∙ ap (λ (l : List (Result Line Fault)). answers_of Crate front ++ l)
-    (flat_map-append f skipped (piece ∷ []) ∙ ap (λ (l : List (Result Line Fault)). l ++ (f piece ++ [])) (blank_answers Crate skipped blank) ∙ append-nil (f piece) ∙ piece_answers Crate piece some)
+    ∙ ap (λ (l : List (Result Line Fault)). answers_of dialect front ++ l)
+    (flat_map-append f skipped (piece ∷ []) ∙ ap (λ (l : List (Result Line Fault)). l ++ (f piece ++ [])) (blank_answers dialect skipped blank) ∙ append-nil (f piece) ∙ piece_answers dialect piece some)
 
 -- an item was taken, and the blank pieces before it were passed
-pub SoFar-item : (text : List ℕ) (before : Left) (item : Result ParsedLine Error) (others : List (List ℕ)) (old new : Progress) → before.dialect ≡ Crate
-    → ((left : List (List ℕ)) → PiecesLeft before left → SoFar text left old) → GaveItem before item others
-    → ((answer : Result Line Fault) → Answers item answer → Takes old answer new) → SoFar text others new
-SoFar-item text before item others old new crate done gave takes =
+pub SoFar-item : (dialect : Dialect) (text : List ℕ) (before : Left) (item : Result ParsedLine Error) (others : List (List ℕ)) (old new : Progress) → before.dialect ≡ dialect
+    → ((left : List (List ℕ)) → PiecesLeft before left → SoFar dialect text left old) → GaveItem before item others
+    → ((answer : Result Line Fault) → Answers item answer → Takes old answer new) → SoFar dialect text others new
+SoFar-item dialect text before item others old new same done gave takes =
     let h = done (gave.skipped ++ gave.piece ∷ others) gave.left in
-    let answer = line_answer Crate (trimmed gave.piece) in
+    let answer = line_answer dialect (trimmed gave.piece) in
     record {
       front = h.front ++ (gave.skipped ++ gave.piece ∷ []);
-      pieces = subst (Pieces Crate text) (regrouped h.front gave.skipped gave.piece others) h.pieces;
-      took = subst (λ l. Took l new) (sym (front_answers h.front gave.skipped gave.piece gave.blank gave.some))
-          (Took-more (answers_of Crate h.front) answer old new h.took (takes answer (subst (λ d. Answers item (line_answer d (trimmed gave.piece))) crate gave.item_is.answers)));
+      pieces = subst (Pieces dialect text) (regrouped h.front gave.skipped gave.piece others) h.pieces;
+      took = subst (λ l. Took l new) (sym (front_answers dialect h.front gave.skipped gave.piece gave.blank gave.some))
+          (Took-more (answers_of dialect h.front) answer old new h.took (takes answer (subst (λ d. Answers item (line_answer d (trimmed gave.piece))) same gave.item_is.answers)));
     }
 
 -- only blank pieces were left
-pub SoFar-end : (text : List ℕ) (skipped : List (List ℕ)) (so_far : Progress) → All IsBlankPiece skipped → SoFar text skipped so_far
-    → (r : Rebuilt) → r.batch ≡ so_far.batch → r.faults.items ≡ string_bytes so_far.faults → r.carried ≡ so_far.carried → r.refused ≡ so_far.refused → Rebuilds text r
-SoFar-end text skipped so_far blank h r batch faults carried refused =
-    let none : answers_of Crate (h.front ++ skipped) ≡ answers_of Crate h.front =
-    flat_map-append (answers_of_piece Crate) h.front skipped ∙ ap (λ (l : List (Result Line Fault)). answers_of Crate h.front ++ l) (blank_answers Crate skipped blank) ∙ append-nil (answers_of Crate h.front) in
+pub SoFar-end : (dialect : Dialect) (text : List ℕ) (skipped : List (List ℕ)) (so_far : Progress) → All IsBlankPiece skipped → SoFar dialect text skipped so_far
+    → (r : Rebuilt) → r.batch ≡ so_far.batch → r.faults.items ≡ string_bytes so_far.faults → r.carried ≡ so_far.carried → r.refused ≡ so_far.refused → RebuildsIn dialect text r
+SoFar-end dialect text skipped so_far blank h r batch faults carried refused =
+    let none : answers_of dialect (h.front ++ skipped) ≡ answers_of dialect h.front =
+    flat_map-append (answers_of_piece dialect) h.front skipped ∙ ap (λ (l : List (Result Line Fault)). answers_of dialect h.front ++ l) (blank_answers dialect skipped blank) ∙ append-nil (answers_of dialect h.front) in
     record {
-      answers = answers_of Crate h.front;
+      answers = answers_of dialect h.front;
       has = record { pieces = h.front ++ skipped; are = h.pieces; answered = sym none };
       batch = ap (λ v. v.items) batch ∙ h.took.batch;
       faults = faults ∙ h.took.faults;

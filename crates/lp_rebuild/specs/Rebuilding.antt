@@ -55,20 +55,29 @@ carried_of answers = count_by is_carried_answer answers
 abbrev pub refused_of : List (Result Line Fault) → ℕ
 refused_of answers = count_by (λ answer. not (is_carried_answer answer)) answers
 
--- a text is rebuilt: the answers for it, in order and numbered from 1, each written again or refused
-pub record Rebuilds (text : List ℕ) (r : Rebuilt) : Type 0 where
+-- a text is rebuilt by the rules of a dialect: the answers for it, in order and numbered from 1, each written again or
+-- refused
+pub record RebuildsIn (dialect : Dialect) (text : List ℕ) (r : Rebuilt) : Type 0 where
   pub answers : List (Result Line Fault)
-  pub has : HasAnswers Crate text answers
+  pub has : HasAnswers dialect text answers
   pub batch : r.batch.items ≡ batch_of answers
   pub faults : r.faults.items ≡ faults_from 1 answers
   pub carried : r.carried ≡ carried_of answers
   pub refused : r.refused ≡ refused_of answers
 
--- the batch of a text reads back, with any text behind it: the answers are first those with the points that were
--- carried, of which the batch is built, and then those of that text alone; so it is in both dialects
-abbrev pub ReadsBack : List ℕ → Rebuilt → Type 0
-ReadsBack text r =
-    (items : List (Result Line Fault)) → HasAnswers Crate text items
+-- a text is rebuilt by the rules of the Rust crate
+abbrev pub Rebuilds : List ℕ → Rebuilt → Type 0
+Rebuilds text r = RebuildsIn Crate text r
+
+-- the batch of a text that was read by the rules of one dialect reads back in each, followed by any text: the answers
+-- are first those with the points that were carried, of which the batch is built, and then those of that text alone
+abbrev pub ReadsBackIn : Dialect → List ℕ → Rebuilt → Type 0
+ReadsBackIn from text r =
+    (items : List (Result Line Fault)) → HasAnswers from text items
     → (dialect : Dialect) (t : List ℕ) (answers : List (Result Line Fault)) → HasAnswers dialect t answers
     → (lines : List Line) × (map point_of lines ≡ flat_map carried_point items) × (built_all (map point_of lines) ≡ r.batch.items)
     × HasAnswers dialect (r.batch.items ++ t) (map Ok lines ++ answers)
+
+-- the batch of a text that was read by the rules of the Rust crate reads back
+abbrev pub ReadsBack : List ℕ → Rebuilt → Type 0
+ReadsBack text r = ReadsBackIn Crate text r

@@ -1,10 +1,14 @@
 -- What a run answers, and what it leaves in its reader and its writers.
-use Rattle.std.specs.Prelude.{◌≡◌, ℕ, ◌+◌, ◌<◌, List, take, codes, Option, Result, Ok, Err, ◌==◌, if◌then◌else◌}
+use Rattle.std.specs.Prelude.{◌≡◌, ◌≢◌, ◌⊎◌, ◌↔◌, ℕ, ◌+◌, ◌<◌, ◌≤◌, List, [], ◌∷◌, bytes_eq, take, codes, Option, Some, None, Result, Ok, Err, IfOk, IfErr, IfSome, ◌==◌, if◌then◌else◌}
+use Rattle.std.specs.Borrow.{Bor}
+use Rattle.influxdb_line_protocol.specs.declared.split.Dialect.{Dialect}
+use Rattle.influxdb_line_protocol.specs.declared.split.Dialect.TheVariants.{Crate, Strict}
 use Rattle.std.specs.Str.{IsUtf8}
-use Rattle.std.specs.Io.KnownBytes.{Appends}
+use Rattle.std.specs.Io.KnownBytes.{Appends, Keeps}
 use Rattle.lp_rebuild.specs.declared.program.RunFault.{RunFault}
 use Rattle.lp_rebuild.specs.declared.program.RunFault.TheVariants.{Read, NotUtf8, OutOfMemory, Write}
 use Rattle.lp_rebuild.specs.declared.batch.Rebuilt.{Rebuilt}
+use Rattle.lp_rebuild.specs.Rebuilding.{RebuildsIn}
 
 -- the text of a fault of a run
 abbrev pub run_fault_text : RunFault → List ℕ
@@ -12,6 +16,12 @@ run_fault_text Read = codes "cannot read the input"
 run_fault_text NotUtf8 = codes "the input is not UTF-8"
 run_fault_text OutOfMemory = codes "out of memory"
 run_fault_text Write = codes "cannot write the output"
+
+-- the dialect that the words after the program's name ask for
+abbrev pub asked_dialect : List (Bor (List ℕ)) → Option Dialect
+asked_dialect [] = Some Crate
+asked_dialect (word ∷ []) = if bytes_eq word.now (codes "--strict") then Some Strict else None
+asked_dialect (word ∷ next ∷ words) = None
 
 -- 0 where every item was carried, 1 where some item was not, 2 for a fault of the run
 abbrev pub status_of : Result Rebuilt RunFault → ℕ
@@ -53,3 +63,41 @@ CountsReadFault (Err Write) old new = ⊥
 -- known bytes grew by a front of bs
 abbrev pub AppendsFront : Option (List ℕ) → Option (List ℕ) → List ℕ → Type 0
 AppendsFront old new bs = (n : ℕ) × Appends old new (take n bs)
+
+-- what a device tells of itself: its bytes, where they are known, and how many of its calls failed so far
+pub record Told : Type 0 where
+  pub bytes : Option (List ℕ)
+  pub failures : ℕ
+
+-- what a device tells, by the two members of its trait
+abbrev pub told_by : {D : Type 0} → (D → Option (List ℕ)) → (D → ℕ) → D → Told
+told_by bytes failures device = record { bytes = bytes device; failures = failures device }
+
+-- a run by the rules of a dialect: what it answers, and what it leaves in its reader and in its two writers
+pub record RunsIn (dialect : Dialect) (result : Result Rebuilt RunFault)
+    (reader reader_after out out_after err err_after : Told) : Type 0 where
+  -- nothing was written, unless a writer failed
+  pub quiet : IfErr result (λ f. f ≢ Write → Keeps out.bytes out_after.bytes × Keeps err.bytes err_after.bytes)
+  -- `Read` is answered exactly where the reader failed
+  pub read : (result ≡ Err Read) ↔ (reader.failures < reader_after.failures)
+  -- all was read, unless reading failed or memory ran out
+  pub all_read : IfSome reader.bytes (λ bs. OnceRead result (reader_after.bytes ≡ Some []))
+  -- `NotUtf8` is answered exactly where what was read is no UTF-8
+  pub utf8 : IfSome reader.bytes (λ bs. TestsUtf8 result bs)
+  -- what is returned is what was read, rebuilt
+  pub rebuilt : IfOk result (λ r. IfSome reader.bytes (λ bs. RebuildsIn dialect bs r))
+  -- the first writer gained the batch
+  pub batch : IfOk result (λ r. Appends out.bytes out_after.bytes r.batch.items)
+  -- the second writer gained the faults
+  pub faults : IfOk result (λ r. Appends err.bytes err_after.bytes r.faults.items)
+  -- where a writer failed, each gained a front of what was meant for it
+  pub part : result ≡ Err Write → IfSome reader.bytes
+      (λ bs. (r : Rebuilt) × RebuildsIn dialect bs r × WritesFronts r.batch.items r.faults.items out.bytes out_after.bytes err.bytes err_after.bytes)
+  -- `Write` is answered exactly where a writer failed
+  pub write : (result ≡ Err Write) ↔ ((out.failures < out_after.failures) ⊎ (err.failures < err_after.failures))
+  -- no count of failures falls, so one that has not risen is as before
+  pub counts : (out.failures ≤ out_after.failures) × (err.failures ≤ err_after.failures)
+
+-- a run by the rules of the Rust crate
+abbrev pub Runs : Result Rebuilt RunFault → (reader reader_after out out_after err err_after : Told) → Type 0
+Runs = RunsIn Crate

@@ -4,11 +4,11 @@ ghost use Rattle.influxdb_line_protocol.specs.Readings.{Fault};
 ghost use Rattle.influxdb_line_protocol.specs.Points.{built};
 ghost use Rattle.influxdb_line_protocol.specs.Lines.{Line};
 ghost use Rattle.influxdb_line_protocol.specs.Parsed.{line_read, parsed_point, Answers};
-ghost use Rattle.lp_rebuild.specs.Rebuilding.{Rebuilds, ReadsBack};
+ghost use Rattle.lp_rebuild.specs.Rebuilding.{Rebuilds, RebuildsIn, ReadsBack, ReadsBackIn};
 ghost use Rattle.lp_rebuild.specs.RebuildSteps.{Refuses, Takes};
 
 use influxdb_line_protocol::{
-    Error, LineProtocolBuilder, ParsedLine, is_admitted, laws, parse_lines, write_line,
+    Dialect, Error, LineProtocolBuilder, ParsedLine, is_admitted, laws, parse_lines_in, write_line,
 };
 use std::alloc::{AllocError, Global};
 use std::fmt::Display;
@@ -130,6 +130,23 @@ pub fn rebuild(alloc: Global, input: &str) -> Result<Rebuilt, AllocError>
     ensures rebuilds { IfOk result (λ r. Rebuilds input.now r) }
     ensures reads_back { IfOk result (λ r. ReadsBack input.now r) }
 {
+    rebuild_in(alloc, Dialect::Crate, input)
+}
+
+/// Writes again each line of a text whose names are all admitted, and refuses every other item, by the rules of a
+/// dialect.
+///
+/// [`rebuild`] does so by those of the crate; what it says of the batch, the faults and memory holds here too. The batch
+/// reads back in both dialects, whichever one the text was read in.
+///
+/// # Errors
+///
+/// Where a request for memory is refused, as for [`rebuild`].
+#[inline]
+pub fn rebuild_in(alloc: Global, dialect: Dialect, input: &str) -> Result<Rebuilt, AllocError>
+    ensures rebuilds { IfOk result (λ r. RebuildsIn dialect input.now r) }
+    ensures reads_back { IfOk result (λ r. ReadsBackIn dialect input.now r) }
+{
     laws::batch_reads_back();
     laws::lines_are_points();
     laws::pieces_join();
@@ -139,7 +156,7 @@ pub fn rebuild(alloc: Global, input: &str) -> Result<Rebuilt, AllocError>
         carried: 0,
         refused: 0,
     };
-    for item in parse_lines(alloc, input) {
+    for item in parse_lines_in(alloc, dialect, input) {
         let taken = {
             let item = item;
             take(alloc, &mut so_far, &item)

@@ -9,7 +9,7 @@ mod devices;
 mod failures;
 mod program;
 
-pub use batch::{Rebuilt, rebuild};
+pub use batch::{Rebuilt, rebuild, rebuild_in};
 pub use devices::{DeviceFault, Kept, Reading, Sink, Source, Writing};
 pub use failures::Failures;
-pub use program::{RunFault, run, status};
+pub use program::{RunFault, USAGE, dialect_of, run, run_in, status};

@@ -3,10 +3,10 @@ ghost use Rattle.std.specs.Prelude.{◌≡◌, ◌≢◌, ◌⊎◌, Ok, Err, �
 ghost use Rattle.std.specs.Io.KnownBytes.{Keeps, Appends, Consumes, IsAtEnd};
 ghost use Rattle.lp_rebuild.specs.declared.batch.Rebuilt.{Rebuilt};
 ghost use Rattle.lp_rebuild.specs.Devices.{CountsFailure};
-ghost use Rattle.lp_rebuild.specs.Rebuilding.{Rebuilds};
-ghost use Rattle.lp_rebuild.specs.Running.{AppendsFront, CountsReadFault, status_of, OnceRead, TestsUtf8, WritesFronts};
+ghost use Rattle.lp_rebuild.specs.Running.{AppendsFront, CountsReadFault, Runs, RunsIn, asked_dialect, status_of, told_by};
 
-use crate::{DeviceFault, Rebuilt, Sink, Source, rebuild};
+use crate::{DeviceFault, Rebuilt, Sink, Source, rebuild_in};
+use influxdb_line_protocol::Dialect;
 use std::alloc::{AllocError, Global};
 use std::fmt;
 
@@ -145,29 +145,40 @@ pub fn run<R: Source, W: Sink, E: Sink>(
     out: &mut W,
     err: &mut E,
 ) -> Result<Rebuilt, RunFault>
-    ensures quiet { IfErr result (λ f. f ≢ RunFault.Write
-        → Keeps (W.bytes out.old) (W.bytes out.new) × Keeps (E.bytes err.old) (E.bytes err.new)) }
-    ensures read { (result ≡ Err RunFault.Read) ↔ (R.failures reader.old < R.failures reader.new) }
-    // All was read, unless reading failed or memory ran out.
-    ensures all_read { IfSome (R.bytes reader.old) (λ bs. OnceRead result (R.bytes reader.new ≡ Some [])) }
-    ensures utf8 { IfSome (R.bytes reader.old) (λ bs. TestsUtf8 result bs) }
-    ensures rebuilt { IfOk result (λ r. IfSome (R.bytes reader.old) (λ bs. Rebuilds bs r)) }
-    ensures batch { IfOk result (λ r. Appends (W.bytes out.old) (W.bytes out.new) r.batch.items) }
-    ensures faults { IfOk result (λ r. Appends (E.bytes err.old) (E.bytes err.new) r.faults.items) }
-    ensures part { result ≡ Err RunFault.Write
-        → IfSome (R.bytes reader.old) (λ bs. (r : Rebuilt) × Rebuilds bs r
-        × WritesFronts r.batch.items r.faults.items
-        (W.bytes out.old) (W.bytes out.new) (E.bytes err.old) (E.bytes err.new)) }
-    ensures write { (result ≡ Err RunFault.Write)
-        ↔ ((W.failures out.old < W.failures out.new) ⊎ (E.failures err.old < E.failures err.new)) }
-    // No count falls, so one that has not risen is as before.
-    ensures counts { (W.failures out.old ≤ W.failures out.new) × (E.failures err.old ≤ E.failures err.new) }
+    ensures { Runs result
+        (told_by R.bytes R.failures reader.old) (told_by R.bytes R.failures reader.new)
+        (told_by W.bytes W.failures out.old) (told_by W.bytes W.failures out.new)
+        (told_by E.bytes E.failures err.old) (told_by E.bytes E.failures err.new) }
+{
+    run_in(alloc, Dialect::Crate, reader, out, err)
+}
+
+/// Reads all that `reader` gives, rebuilds it by the rules of a dialect, and writes the batch to `out` and the faults to
+/// `err`.
+///
+/// [`run`] does so by those of the crate; what it says of the order, of memory and of its faults holds here too.
+///
+/// # Errors
+///
+/// Those of [`run`].
+#[inline]
+pub fn run_in<R: Source, W: Sink, E: Sink>(
+    alloc: Global,
+    dialect: Dialect,
+    reader: &mut R,
+    out: &mut W,
+    err: &mut E,
+) -> Result<Rebuilt, RunFault>
+    ensures { RunsIn dialect result
+        (told_by R.bytes R.failures reader.old) (told_by R.bytes R.failures reader.new)
+        (told_by W.bytes W.failures out.old) (told_by W.bytes W.failures out.new)
+        (told_by E.bytes E.failures err.old) (told_by E.bytes E.failures err.new) }
 {
     let input = read_all(alloc, reader)?;
     let Ok(text) = str::from_utf8(input.as_slice()) else {
         return Err(RunFault::NotUtf8);
     };
-    let Ok(rebuilt) = rebuild(alloc, text) else {
+    let Ok(rebuilt) = rebuild_in(alloc, dialect, text) else {
         return Err(RunFault::OutOfMemory);
     };
     if write_all(out, rebuilt.batch.as_slice()).is_err() {
@@ -187,6 +198,29 @@ pub fn status(answer: &Result<Rebuilt, RunFault>) -> u8
     match answer {
         Ok(rebuilt) => { if rebuilt.refused == 0 { 0 } else { 1 } }
         Err(_) => 2,
+    }
+}
+
+/// How the program is called: the line that it prints where its arguments ask for no dialect, without the newline.
+pub const USAGE: &str = "usage: lp_rebuild [--strict]";
+
+/// The dialect that the words after the program's name ask for: that of the crate where there is no word, the strict
+/// one for the one word `--strict`, and `None` for all else.
+///
+/// It takes no memory.
+///
+/// ```text
+/// dialect_of(&[])                        gives  Some(Dialect::Crate)
+/// dialect_of(&["--strict"])              gives  Some(Dialect::Strict)
+/// dialect_of(&["--strict", "--strict"])  gives  None
+/// ```
+pub fn dialect_of(words: &[&str]) -> Option<Dialect>
+    ensures { result ≡ asked_dialect words.now }
+{
+    match words {
+        [] => Some(Dialect::Crate),
+        [word] if *word == "--strict" => Some(Dialect::Strict),
+        _ => None,
     }
 }
 

@@ -7,6 +7,8 @@ mod admitted;
 mod built;
 #[cfg(test)]
 mod bytewise;
+#[cfg(test)]
+mod dialects;
 pub mod hoard;
 #[cfg(test)]
 mod lines;

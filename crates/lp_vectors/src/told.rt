@@ -1,6 +1,8 @@
 //! Items as one line of text each, so that a table can hold what is wanted.
 
-use influxdb_line_protocol::{Error, EscapedStr, FieldValue, ParsedLine, parse_lines, split_lines};
+use influxdb_line_protocol::{
+    Dialect, Error, EscapedStr, FieldValue, ParsedLine, parse_lines_in, split_lines_in,
+};
 use std::alloc::{AllocError, Global};
 
 /// A name: `S` and its text where it is a part of the input or a fixed text, and `C` where it is a
@@ -79,8 +81,13 @@ pub fn fault(alloc: Global, fault: &Error) -> Result<String, AllocError> {
 
 /// The items of a text, divided by `|`.
 pub fn items(alloc: Global, input: &str) -> Result<String, AllocError> {
+    items_in(alloc, Dialect::Crate, input)
+}
+
+/// The same, by the rules of a dialect.
+pub fn items_in(alloc: Global, dialect: Dialect, input: &str) -> Result<String, AllocError> {
     let mut told = String::new(alloc);
-    for item in parse_lines(alloc, input) {
+    for item in parse_lines_in(alloc, dialect, input) {
         let one = match &item {
             Ok(parsed) => line(alloc, parsed)?,
             Err(error) => fault(alloc, error)?,
@@ -95,8 +102,13 @@ pub fn items(alloc: Global, input: &str) -> Result<String, AllocError> {
 
 /// The pieces of a text, each between `<` and `>`.
 pub fn pieces(alloc: Global, input: &str) -> Result<String, AllocError> {
+    pieces_in(alloc, Dialect::Crate, input)
+}
+
+/// The same, by the rules of a dialect.
+pub fn pieces_in(alloc: Global, dialect: Dialect, input: &str) -> Result<String, AllocError> {
     let mut told = String::new(alloc);
-    for piece in split_lines(input) {
+    for piece in split_lines_in(dialect, input) {
         told.push_str("<")?;
         told.push_str(piece)?;
         told.push_str(">")?;

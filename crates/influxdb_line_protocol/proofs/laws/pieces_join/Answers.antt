@@ -1,6 +1,7 @@
 use Rattle.std.proofs.Common.{refl}
-use Rattle.influxdb_line_protocol.proofs.SplitPieces.{pieces_exist, same_pieces, join_from_cut, cut_from_join, comment_replaced}
+use Rattle.influxdb_line_protocol.proofs.SplitPieces.{pieces_exist, same_pieces, join_from_cut, cut_from_join}
 use Rattle.influxdb_line_protocol.proofs.Batches.{pieces_are_text, answers_join}
+use Rattle.influxdb_line_protocol.proofs.CommentsAlone.{comments_stand_alone}
 use Rattle.influxdb_line_protocol.proofs.laws.pieces_join.Goals as goal
 
 pub returns-clause-some : goal.returns-clause-some
@@ -22,4 +23,4 @@ pub returns-clause-items : goal.returns-clause-items
 returns-clause-items c = answers_join
 
 pub returns-clause-comment : goal.returns-clause-comment
-returns-clause-comment c = λ front old new before after text f n h. comment_replaced before front old new after text f n h
+returns-clause-comment c = comments_stand_alone
