@@ -1,5 +1,5 @@
 -- What calls of readers and writers do.
-use Rattle.std.specs.Prelude.{◌≡◌, ℕ, ◌+◌, List, Result, MatchResult}
+use Rattle.std.specs.Prelude.{◌≡◌, ℕ, ◌+◌, Bool, List, Result, MatchResult}
 use Rattle.std.specs.Vec.{vec_capacity}
 use Rattle.lp_rebuild.specs.declared.devices.Kept.{Kept}
 
@@ -18,3 +18,7 @@ kept_capacity k = vec_capacity k.bytes
 -- the failures of a sink in memory so far
 abbrev pub kept_failures : Kept → ℕ
 kept_failures k = k.failures.count
+
+-- whether all that was written to a sink in memory was flushed
+abbrev pub kept_is_flushed : Kept → Bool
+kept_is_flushed k = k.flushes.is_flushed

@@ -1,5 +1,5 @@
 -- What a run answers, and what it leaves in its reader and its writers.
-use Rattle.std.specs.Prelude.{◌≡◌, ◌≢◌, ◌⊎◌, ◌↔◌, ℕ, ◌+◌, ◌<◌, ◌≤◌, List, [], ◌∷◌, bytes_eq, take, codes, Option, Some, None, Result, Ok, Err, IfOk, IfErr, IfSome, ◌==◌, if◌then◌else◌}
+use Rattle.std.specs.Prelude.{◌≡◌, ◌≢◌, ◌⊎◌, ◌↔◌, ℕ, ◌+◌, ◌<◌, ◌≤◌, List, [], ◌∷◌, bytes_eq, take, codes, Option, Some, None, Result, Ok, Err, IfOk, IfErr, IfSome, ◌==◌, Bool, true, OnOk, if◌then◌else◌}
 use Rattle.std.specs.Borrow.{Bor}
 use Rattle.influxdb_line_protocol.specs.declared.split.Dialect.{Dialect}
 use Rattle.influxdb_line_protocol.specs.declared.split.Dialect.TheVariants.{Crate, Strict}
@@ -64,18 +64,30 @@ CountsReadFault (Err Write) old new = ⊥
 abbrev pub AppendsFront : Option (List ℕ) → Option (List ℕ) → List ℕ → Type 0
 AppendsFront old new bs = (n : ℕ) × Appends old new (take n bs)
 
--- what a device tells of itself: its bytes, where they are known, and how many of its calls failed so far
-pub record Told : Type 0 where
+-- what a reader tells of itself: the bytes that are left, where they are known, and how many of its calls failed so far
+pub record ReaderTold : Type 0 where
   pub bytes : Option (List ℕ)
   pub failures : ℕ
 
--- what a device tells, by the two members of its trait
-abbrev pub told_by : {D : Type 0} → (D → Option (List ℕ)) → (D → ℕ) → D → Told
-told_by bytes failures device = record { bytes = bytes device; failures = failures device }
+-- what a reader tells, by the members of its trait
+abbrev pub reader_told : {D : Type 0} → (D → Option (List ℕ)) → (D → ℕ) → D → ReaderTold
+reader_told bytes failures reader = record { bytes = bytes reader; failures = failures reader }
+
+-- what a writer tells of itself: the bytes that it holds, where they are known, how many of its calls failed so far, and
+-- whether all that was written was flushed
+pub record WriterTold : Type 0 where
+  pub bytes : Option (List ℕ)
+  pub failures : ℕ
+  pub is_flushed : Bool
+
+-- what a writer tells, by the members of its trait
+abbrev pub writer_told : {D : Type 0} → (D → Option (List ℕ)) → (D → ℕ) → (D → Bool) → D → WriterTold
+writer_told bytes failures is_flushed writer =
+    record { bytes = bytes writer; failures = failures writer; is_flushed = is_flushed writer }
 
 -- a run by the rules of a dialect: what it answers, and what it leaves in its reader and in its two writers
 pub record RunsIn (dialect : Dialect) (result : Result Rebuilt RunFault)
-    (reader reader_after out out_after err err_after : Told) : Type 0 where
+    (reader reader_after : ReaderTold) (out out_after err err_after : WriterTold) : Type 0 where
   -- nothing was written, unless a writer failed
   pub quiet : IfErr result (λ f. f ≢ Write → Keeps out.bytes out_after.bytes × Keeps err.bytes err_after.bytes)
   -- `Read` is answered exactly where the reader failed
@@ -90,6 +102,8 @@ pub record RunsIn (dialect : Dialect) (result : Result Rebuilt RunFault)
   pub batch : IfOk result (λ r. Appends out.bytes out_after.bytes r.batch.items)
   -- the second writer gained the faults
   pub faults : IfOk result (λ r. Appends err.bytes err_after.bytes r.faults.items)
+  -- all that was written to each writer was flushed
+  pub flushed : OnOk result ((out_after.is_flushed ≡ true) × (err_after.is_flushed ≡ true))
   -- where a writer failed, each gained a front of what was meant for it
   pub part : result ≡ Err Write → IfSome reader.bytes
       (λ bs. (r : Rebuilt) × RebuildsIn dialect bs r × WritesFronts r.batch.items r.faults.items out.bytes out_after.bytes err.bytes err_after.bytes)
@@ -99,5 +113,5 @@ pub record RunsIn (dialect : Dialect) (result : Result Rebuilt RunFault)
   pub counts : (out.failures ≤ out_after.failures) × (err.failures ≤ err_after.failures)
 
 -- a run by the rules of the Rust crate
-abbrev pub Runs : Result Rebuilt RunFault → (reader reader_after out out_after err err_after : Told) → Type 0
+abbrev pub Runs : Result Rebuilt RunFault → (reader reader_after : ReaderTold) → (out out_after err err_after : WriterTold) → Type 0
 Runs = RunsIn Crate

@@ -1,12 +1,13 @@
 //! Readers and writers that may fail.
 //!
-//! A fault says no more than that the device failed. What a device's bytes are, and how often it has
-//! failed, is told to contracts alone.
-ghost use Rattle.std.specs.Prelude.{Option, ◌≡◌, ℕ, ◌+◌, ◌≤◌, ◌<◌, List, [], length, Some, None, IfOk, IsOk, OnErr};
+//! A fault says no more than that the device failed. What a device's bytes are, how often it has failed, and
+//! whether all that was written to it was flushed, is told to contracts alone.
+ghost use Rattle.std.specs.Prelude.{Option, ◌≡◌, ℕ, ◌+◌, ◌≤◌, ◌<◌, Bool, true, false, List, [], length, Some, None, IfOk, IsOk, OnOk, OnErr};
 ghost use Rattle.std.specs.Io.KnownBytes.{ReadConsumes, WriteAppends, Keeps};
-ghost use Rattle.lp_rebuild.specs.Devices.{CountsFailure, kept_bytes, kept_capacity, kept_failures};
+ghost use Rattle.lp_rebuild.specs.Devices.{CountsFailure, kept_bytes, kept_capacity, kept_failures, kept_is_flushed};
 
 use crate::failures::Failures;
+use crate::flushes::Flushes;
 use std::alloc::Global;
 use std::io::{Read, Write};
 
@@ -37,12 +38,15 @@ pub trait Source {
 
 /// Bytes that go out.
 ///
-/// For contracts it has two members: `bytes`, those that it holds, where they are known, and
-/// `failures`, how many calls failed so far.
+/// For contracts it has three members: `bytes`, those that it holds, where they are known;
+/// `failures`, how many calls failed so far; and `is_flushed`, whether all that was written was
+/// flushed.
 pub trait Sink {
     ghost bytes: { Self → Option (List ℕ) };
 
     ghost failures: { Self → ℕ };
+
+    ghost is_flushed: { Self → Bool };
 
     /// Appends the first bytes of `buf`: so many as it answers, and never 0 for a `buf` that is not
     /// empty.
@@ -54,7 +58,8 @@ pub trait Sink {
         ensures bound { IfOk result (λ n. n ≤ length buf.now) }
         ensures moves { IfOk result (λ n. 0 < length buf.now → 0 < n) }
         ensures bytes { WriteAppends (bytes self.old) (bytes self.new) result buf.now }
-        ensures counts { CountsFailure result (failures self.old) (failures self.new) };
+        ensures counts { CountsFailure result (failures self.old) (failures self.new) }
+        ensures unflushed { IfOk result (λ n. 0 < n → is_flushed self.new ≡ false) };
 
     /// Hands on what it may still keep back. Its bytes stay as they are.
     ///
@@ -63,7 +68,8 @@ pub trait Sink {
     /// A fault of the device.
     fn flush(&mut self) -> Result<(), DeviceFault>
         ensures bytes { Keeps (bytes self.old) (bytes self.new) }
-        ensures counts { CountsFailure result (failures self.old) (failures self.new) };
+        ensures counts { CountsFailure result (failures self.old) (failures self.new) }
+        ensures flushed { OnOk result (is_flushed self.new ≡ true) };
 }
 
 /// A source over a reader of std. Its bytes are not known to contracts.
@@ -122,16 +128,19 @@ impl<'a> Source for &'a [u8] {
 pub struct Writing<W> {
     inner: W,
     failures: Failures,
+    flushes: Flushes,
 }
 
 impl<W: Write> Writing<W> {
     /// A sink that has not failed so far. It takes no memory.
     pub fn new(inner: W) -> Self
-        ensures { result.failures.count ≡ 0 }
+        ensures unfailed { result.failures.count ≡ 0 }
+        ensures flushed { result.flushes.is_flushed ≡ true }
     {
         Writing {
             inner,
             failures: Failures::new(),
+            flushes: Flushes::new(),
         }
     }
 }
@@ -141,9 +150,14 @@ impl<W: Write> Sink for Writing<W> {
 
     ghost failures = { λ w. w.failures.count };
 
+    ghost is_flushed = { λ w. w.flushes.is_flushed };
+
     fn write(&mut self, buf: &[u8]) -> Result<usize, DeviceFault> {
         match self.inner.write(buf) {
-            Ok(n) if n > 0 || buf.is_empty() => Ok(n),
+            Ok(n) if n > 0 || buf.is_empty() => {
+                self.flushes.on_write();
+                Ok(n)
+            }
             _ => {
                 self.failures.add();
                 Err(DeviceFault)
@@ -153,7 +167,10 @@ impl<W: Write> Sink for Writing<W> {
 
     fn flush(&mut self) -> Result<(), DeviceFault> {
         match self.inner.flush() {
-            Ok(()) => Ok(()),
+            Ok(()) => {
+                self.flushes.on_flush();
+                Ok(())
+            }
             Err(_) => {
                 self.failures.add();
                 Err(DeviceFault)
@@ -167,6 +184,7 @@ impl<W: Write> Sink for Writing<W> {
 pub struct Kept {
     bytes: Vec<u8>,
     failures: Failures,
+    flushes: Flushes,
 }
 
 impl Kept {
@@ -174,10 +192,12 @@ impl Kept {
     pub fn new(alloc: Global) -> Self
         ensures empty { kept_bytes result ≡ [] }
         ensures unfailed { kept_failures result ≡ 0 }
+        ensures flushed { kept_is_flushed result ≡ true }
     {
         Kept {
             bytes: Vec::new(alloc),
             failures: Failures::new(),
+            flushes: Flushes::new(),
         }
     }
 
@@ -189,17 +209,20 @@ impl Kept {
     }
 }
 
-/// A write is taken whole, and fails only where memory for it was refused. A flush does nothing.
+/// A write is taken whole, and fails only where memory for it was refused. A flush moves no byte.
 impl Sink for Kept {
     ghost bytes = { λ k. Some (kept_bytes k) };
 
     ghost failures = { λ k. kept_failures k };
+
+    ghost is_flushed = { λ k. kept_is_flushed k };
 
     fn write(&mut self, buf: &[u8]) -> Result<usize, DeviceFault>
         ensures bound { IfOk result (λ n. n ≤ length buf.now) }
         ensures moves { IfOk result (λ n. 0 < length buf.now → 0 < n) }
         ensures bytes { WriteAppends (Some (kept_bytes self.old)) (Some (kept_bytes self.new)) result buf.now }
         ensures counts { CountsFailure result (kept_failures self.old) (kept_failures self.new) }
+        ensures unflushed { IfOk result (λ n. 0 < n → kept_is_flushed self.new ≡ false) }
         ensures whole { IfOk result (λ n. n ≡ length buf.now) }
         ensures refused { OnErr result
             (kept_capacity self.old < length (kept_bytes self.old) + length buf.now) }
@@ -208,14 +231,18 @@ impl Sink for Kept {
             self.failures.add();
             return Err(DeviceFault);
         }
+        self.flushes.on_write();
         Ok(buf.len())
     }
 
     fn flush(&mut self) -> Result<(), DeviceFault>
         ensures bytes { kept_bytes self.new ≡ kept_bytes self.old }
         ensures counts { CountsFailure result (kept_failures self.old) (kept_failures self.new) }
+        ensures flushed { OnOk result (kept_is_flushed self.new ≡ true) }
         ensures succeeds { IsOk result }
     {
+        // It holds nothing back.
+        self.flushes.on_flush();
         Ok(())
     }
 }

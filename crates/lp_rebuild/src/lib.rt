@@ -7,6 +7,7 @@
 mod batch;
 mod devices;
 mod failures;
+mod flushes;
 mod program;
 
 pub use batch::{Rebuilt, rebuild, rebuild_in};

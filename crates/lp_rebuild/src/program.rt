@@ -1,9 +1,8 @@
 //! From a reader to two writers.
-ghost use Rattle.std.specs.Prelude.{◌≡◌, ◌≢◌, ◌⊎◌, Ok, Err, ℕ, ◌+◌, ◌<◌, ◌≤◌, ◌↔◌, [], take, drop, length, vec_len, IfOk, IfErr, IsOk, IfSome, OnOk, OnErr, Some};
-ghost use Rattle.std.specs.Io.KnownBytes.{Keeps, Appends, Consumes, IsAtEnd};
-ghost use Rattle.lp_rebuild.specs.declared.batch.Rebuilt.{Rebuilt};
+ghost use Rattle.std.specs.Prelude.{◌≡◌, ◌+◌, ◌<◌, ◌≤◌, take, drop, length, vec_len, true, IfOk, OnOk, OnErr};
+ghost use Rattle.std.specs.Io.KnownBytes.{Appends, Consumes, IsAtEnd};
 ghost use Rattle.lp_rebuild.specs.Devices.{CountsFailure};
-ghost use Rattle.lp_rebuild.specs.Running.{AppendsFront, CountsReadFault, Runs, RunsIn, asked_dialect, status_of, told_by};
+ghost use Rattle.lp_rebuild.specs.Running.{AppendsFront, CountsReadFault, Runs, RunsIn, asked_dialect, reader_told, status_of, writer_told};
 
 use crate::{DeviceFault, Rebuilt, Sink, Source, rebuild_in};
 use influxdb_line_protocol::Dialect;
@@ -119,6 +118,7 @@ fn write_all<W: Sink>(sink: &mut W, bytes: &[u8]) -> Result<(), DeviceFault>
     ensures ok { OnOk result (Appends (W.bytes sink.old) (W.bytes sink.new) bytes.now) }
     ensures part { OnErr result (AppendsFront (W.bytes sink.old) (W.bytes sink.new) bytes.now) }
     ensures counts { CountsFailure result (W.failures sink.old) (W.failures sink.new) }
+    ensures flushed { OnOk result (W.is_flushed sink.new ≡ true) }
 {
     let mut rest = bytes;
     while !rest.is_empty() {
@@ -146,9 +146,9 @@ pub fn run<R: Source, W: Sink, E: Sink>(
     err: &mut E,
 ) -> Result<Rebuilt, RunFault>
     ensures { Runs result
-        (told_by R.bytes R.failures reader.old) (told_by R.bytes R.failures reader.new)
-        (told_by W.bytes W.failures out.old) (told_by W.bytes W.failures out.new)
-        (told_by E.bytes E.failures err.old) (told_by E.bytes E.failures err.new) }
+        (reader_told R.bytes R.failures reader.old) (reader_told R.bytes R.failures reader.new)
+        (writer_told W.bytes W.failures W.is_flushed out.old) (writer_told W.bytes W.failures W.is_flushed out.new)
+        (writer_told E.bytes E.failures E.is_flushed err.old) (writer_told E.bytes E.failures E.is_flushed err.new) }
 {
     run_in(alloc, Dialect::Crate, reader, out, err)
 }
@@ -170,9 +170,9 @@ pub fn run_in<R: Source, W: Sink, E: Sink>(
     err: &mut E,
 ) -> Result<Rebuilt, RunFault>
     ensures { RunsIn dialect result
-        (told_by R.bytes R.failures reader.old) (told_by R.bytes R.failures reader.new)
-        (told_by W.bytes W.failures out.old) (told_by W.bytes W.failures out.new)
-        (told_by E.bytes E.failures err.old) (told_by E.bytes E.failures err.new) }
+        (reader_told R.bytes R.failures reader.old) (reader_told R.bytes R.failures reader.new)
+        (writer_told W.bytes W.failures W.is_flushed out.old) (writer_told W.bytes W.failures W.is_flushed out.new)
+        (writer_told E.bytes E.failures E.is_flushed err.old) (writer_told E.bytes E.failures E.is_flushed err.new) }
 {
     let input = read_all(alloc, reader)?;
     let Ok(text) = str::from_utf8(input.as_slice()) else {

@@ -13,6 +13,7 @@ returns-then-is_err g c =
       rebuilt = search rules;
       batch = search rules;
       faults = search rules;
+      flushed = search rules;
       part = λ failed.
           batch_part c.args.dialect _ _ _ _ _ _ _ _ _ read.ok read.end (c.in-Ok.ensures.cases.0 ∙ c.as_slice.ensures.value) c.in-Ok-rebuild_in.ensures.rebuilds
           c.as_slice-2.ensures.value (at_fault c.write_all.result c.if-is_err.ensures.value c.write_all.ensures.part);
@@ -31,6 +32,7 @@ returns-then-is_err-2 g c =
       rebuilt = search rules;
       batch = search rules;
       faults = search rules;
+      flushed = search rules;
       part = λ failed.
           faults_part c.args.dialect _ _ _ _ _ _ _ _ _ _ _ read.ok read.end (c.in-Ok.ensures.cases.0 ∙ c.as_slice.ensures.value) c.in-Ok-rebuild_in.ensures.rebuilds
           c.as_slice-2.ensures.value c.as_slice-3.ensures.value
