@@ -9,22 +9,22 @@ use Rattle.influxdb_line_protocol.proofs.LineLemmas.{byte_reads}
 
 module _ {A : Type 0} where
   -- one value that the first gives, and each other that the second gives
-  abbrev Chain : (List ℕ → Reading A) → (List ℕ → Reading A) → List A → List ℕ → List ℕ → Type 0
+  abbrev pub Chain : (List ℕ → Reading A) → (List ℕ → Reading A) → List A → List ℕ → List ℕ → Type 0
   Chain f g [] text rest = text ≡ rest
   Chain f g (x ∷ xs) text rest = (after : List ℕ) × (f text ≡ reads x after) × Chain g g xs after rest
 
   -- what reads behind them
-  abbrev next : (List ℕ → Reading A) → (List ℕ → Reading A) → List A → List ℕ → Reading A
+  abbrev pub next : (List ℕ → Reading A) → (List ℕ → Reading A) → List A → List ℕ → Reading A
   next f g [] rest = f rest
   next f g (x ∷ xs) rest = next g g xs rest
 
   -- where all are given by one, so is the next
-  next_same : (g : List ℕ → Reading A) (xs : List A) (rest : List ℕ) → next g g xs rest ≡ g rest
+  pub next_same : (g : List ℕ → Reading A) (xs : List A) (rest : List ℕ) → next g g xs rest ≡ g rest
   next_same g [] rest = refl
   next_same g (x ∷ xs) rest = next_same g xs rest
 
   -- a reading that gives no value
-  abbrev GivesNone : Reading A → Type 0
+  abbrev pub GivesNone : Reading A → Type 0
   GivesNone r = (y : A) (after : List ℕ) → r ≢ reads y after
 
   -- no more stand there than those behind which none is read
@@ -58,7 +58,7 @@ module _ {A : Type 0} where
   chain_push f g (x ∷ xs) text a y after h e = (h.0, h.1, chain_push g g xs h.0 a y after h.2 e)
 
   -- what is given for as many, by what reads behind them
-  ended : List A → List ℕ → Reading A → Reading (List A)
+  pub ended : List A → List ℕ → Reading A → Reading (List A)
   ended xs rest miss = reads xs rest
   ended xs rest (fatal e) = fatal e
   ended xs rest (reads y after) = reads xs rest
@@ -71,7 +71,7 @@ module _ {A : Type 0} where
   ended_more x xs rest (reads y after) = refl
 
   -- what is given for one and as many more, by what reads behind them
-  outcome : List A → List ℕ → Reading A → Reading (List A)
+  pub outcome : List A → List ℕ → Reading A → Reading (List A)
   outcome [] rest miss = miss
   outcome [] rest (fatal e) = fatal e
   outcome [] rest (reads y after) = miss
@@ -152,12 +152,12 @@ module _ {A : Type 0} where
     tail_is (suc n) text room = tail_more n text room (λ after less. tail_is n after less) (g text) refl
 
   -- what is read of a text
-  record Whole (one : List ℕ → Reading A) (text : List ℕ) : Type 0 where
-    xs : List A
-    rest : List ℕ
-    chain : Chain one (behind_comma one) xs text rest
-    none : GivesNone (next one (behind_comma one) xs rest)
-    ends : joined one text ≡ outcome xs rest (next one (behind_comma one) xs rest)
+  pub record Whole (one : List ℕ → Reading A) (text : List ℕ) : Type 0 where
+    pub xs : List A
+    pub rest : List ℕ
+    pub chain : Chain one (behind_comma one) xs text rest
+    pub none : GivesNone (next one (behind_comma one) xs rest)
+    pub ends : joined one text ≡ outcome xs rest (next one (behind_comma one) xs rest)
 
   -- behind a comma, it is what the text behind the comma gives
   behind_whole : (one : List ℕ → Reading A) (text behind : List ℕ) → text ≡ 44 ∷ behind → behind_comma one text ≡ one behind
@@ -224,7 +224,7 @@ module _ {A : Type 0} where
   misses (reads y after) none fine = absurd (none y after refl)
 
   module _ (one : List ℕ → Reading A) (no_longer : (text : List ℕ) (x : A) (rest : List ℕ) → one text ≡ reads x rest → length rest ≤ length text) where
-    behind_shorter : (text : List ℕ) (x : A) (rest : List ℕ) → behind_comma one text ≡ reads x rest → length rest < length text
+    pub behind_shorter : (text : List ℕ) (x : A) (rest : List ℕ) → behind_comma one text ≡ reads x rest → length rest < length text
     behind_shorter text x rest e =
         let p = behind_parts one text (reads x rest) e (λ k. cc) in
         let h = no_longer p.0 x rest p.2 in
@@ -245,7 +245,7 @@ module _ {A : Type 0} where
           ends = rw e (ap (onto (x ∷ [])) t.ends ∙ ended_more x t.xs t.rest (behind_comma one t.rest) ∙ ap (ended (x ∷ t.xs) t.rest) (sym last));
         }
 
-    whole_is : (text : List ℕ) → Whole one text
+    pub whole_is : (text : List ℕ) → Whole one text
     whole_is text = whole_by text (one text) refl
 
     -- what is read is that of the most that stand there
@@ -258,7 +258,7 @@ module _ {A : Type 0} where
         (subst (λ (t : List ℕ). joined one text ≡ outcome w.xs t (next one (behind_comma one) w.xs t)) same.1 w.ends)
 
     -- they stand there, and no more do
-    stand_most : (text : List ℕ) (xs : List A) (rest : List ℕ) → Chain one (behind_comma one) xs text rest
+    pub stand_most : (text : List ℕ) (xs : List A) (rest : List ℕ) → Chain one (behind_comma one) xs text rest
         → GivesNone (next one (behind_comma one) xs rest) → StandMost one text xs rest
     stand_most text xs rest h none =
         record {

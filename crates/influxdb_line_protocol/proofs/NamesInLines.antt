@@ -2,6 +2,8 @@
 use Rattle.std.proofs.Common.{◌≡◌, ◌≢◌, ℕ, ◌<◌, List, [], ◌∷◌, ◌++◌, length, slice_index, false, refl, subst, arith, inl, inr, append_assoc, Some, None, Ok}
 use Rattle.std.specs.Prelude.{pos}
 use Rattle.std.specs.List.{Contains}
+use Rattle.std.specs.Str.{IsUtf8}
+use Rattle.std.proofs.lemmas.Str.{IsUtf8-append, IsUtf8-nil}
 use Rattle.influxdb_line_protocol.proofs.SplitWalk.{Plain}
 use Rattle.influxdb_line_protocol.specs.declared.split.Dialect.{Dialect}
 use Rattle.influxdb_line_protocol.specs.declared.split.Dialect.TheVariants.{Crate, Strict}
@@ -19,6 +21,7 @@ use Rattle.influxdb_line_protocol.proofs.SplitWalk.{Plain-equals}
 use Rattle.influxdb_line_protocol.proofs.LinePieces.{Reaches, reaches_start, reaches_simple}
 use Rattle.influxdb_line_protocol.proofs.LineReadsBack.{answer_from_parts}
 use Rattle.influxdb_line_protocol.proofs.ParsedNames.{name_kept}
+use Rattle.influxdb_line_protocol.proofs.Utf8Spellings.{utf8_push, spelling_utf8}
 use Rattle.influxdb_line_protocol.proofs.Spellings.{SpelledAs, SpelledAs.done, SpelledAs.plain, spelled_as, spelled_logical, spelled_reads, spelled_begins, spelled_spaces, BeginsLine, line_no_comment, line_trimmed, line_some, reaches_head, reaches_other, reaches_gap, reaches_field_key}
 
 -- a name that is not empty and does not end in a backslash, with a spelling
@@ -147,21 +150,34 @@ letter a_field_key = record { spelled = plain 120 [] [] refl refl done; some = o
 one_element : {X : Type 0} (y x : X) → y ≡ x → Contains (y ∷ []) x
 one_element y x e = (0, omega arith, e)
 
+-- the name of one letter is UTF-8
+x_utf8 : IsUtf8 (120 ∷ [])
+x_utf8 = utf8_push 120 [] (omega arith) IsUtf8-nil
+
+-- a line whose names are spelled in UTF-8 is UTF-8
+whole_utf8 : {m k v f : List ℕ} → IsUtf8 m → IsUtf8 k → IsUtf8 v → IsUtf8 f → IsUtf8 (whole m k v f)
+whole_utf8 {m = m} {k = k} {v = v} {f = f} a b c d =
+    let end = utf8_push 61 (49 ∷ 105 ∷ []) (omega arith) (utf8_push 49 (105 ∷ []) (omega arith) (utf8_push 105 [] (omega arith) IsUtf8-nil)) in
+    let field = IsUtf8-append f (61 ∷ 49 ∷ 105 ∷ []) d end in
+    let from_v = IsUtf8-append v (32 ∷ from_field f) c (utf8_push 32 (from_field f) (omega arith) field) in
+    let from_k = IsUtf8-append k (61 ∷ from_value v f) b (utf8_push 61 (from_value v f) (omega arith) from_v) in
+    IsUtf8-append m (44 ∷ from_key k v f) a (utf8_push 44 (from_key k v f) (omega arith) from_k)
+
 -- each parsed name, in the line whose other names are one letter
 pub parsed_names_stand_in_lines : ParsedNamesStandInLines
 parsed_names_stand_in_lines dialect a_measurement n h =
     let s = has_spelling a_measurement n h in
     let x : List ℕ = 120 ∷ [] in
-    (whole s.0 x x x, line_of s.0 x x x, stands s.1 h.begins (letter a_tag_key) (letter a_tag_value) (letter a_field_key) dialect, one_element _ n (spelled_logical s.1.spelled))
+    (whole s.0 x x x, line_of s.0 x x x, stands s.1 h.begins (letter a_tag_key) (letter a_tag_value) (letter a_field_key) dialect, one_element _ n (spelled_logical s.1.spelled), λ u. whole_utf8 (spelling_utf8 s.1.spelled u) x_utf8 x_utf8 x_utf8)
 parsed_names_stand_in_lines dialect a_tag_key n h =
     let s = has_spelling a_tag_key n h in
     let x : List ℕ = 120 ∷ [] in
-    (whole x s.0 x x, line_of x s.0 x x, stands (letter a_measurement) (omega arith) s.1 (letter a_tag_value) (letter a_field_key) dialect, one_element _ n (spelled_logical s.1.spelled))
+    (whole x s.0 x x, line_of x s.0 x x, stands (letter a_measurement) (omega arith) s.1 (letter a_tag_value) (letter a_field_key) dialect, one_element _ n (spelled_logical s.1.spelled), λ u. whole_utf8 x_utf8 (spelling_utf8 s.1.spelled u) x_utf8 x_utf8)
 parsed_names_stand_in_lines dialect a_tag_value n h =
     let s = has_spelling a_tag_value n h in
     let x : List ℕ = 120 ∷ [] in
-    (whole x x s.0 x, line_of x x s.0 x, stands (letter a_measurement) (omega arith) (letter a_tag_key) s.1 (letter a_field_key) dialect, one_element _ n (spelled_logical s.1.spelled))
+    (whole x x s.0 x, line_of x x s.0 x, stands (letter a_measurement) (omega arith) (letter a_tag_key) s.1 (letter a_field_key) dialect, one_element _ n (spelled_logical s.1.spelled), λ u. whole_utf8 x_utf8 x_utf8 (spelling_utf8 s.1.spelled u) x_utf8)
 parsed_names_stand_in_lines dialect a_field_key n h =
     let s = has_spelling a_field_key n h in
     let x : List ℕ = 120 ∷ [] in
-    (whole x x x s.0, line_of x x x s.0, stands (letter a_measurement) (omega arith) (letter a_tag_key) (letter a_tag_value) s.1 dialect, one_element _ n (spelled_logical s.1.spelled))
+    (whole x x x s.0, line_of x x x s.0, stands (letter a_measurement) (omega arith) (letter a_tag_key) (letter a_tag_value) s.1 dialect, one_element _ n (spelled_logical s.1.spelled), λ u. whole_utf8 x_utf8 x_utf8 x_utf8 (spelling_utf8 s.1.spelled u))

@@ -218,13 +218,13 @@ bound (fatal e) f y rest h = absurd (cc)
 bound (reads x behind) f y rest h = record { value = x; behind = behind; first = refl; second = h }
 
 -- what was added to
-record Onto {A : Type 0} (xs : List A) (r : Reading (List A)) (zs : List A) (rest : List ℕ) : Type 0 where
-  more : List A
-  are : r ≡ reads more rest
-  all : xs ++ more ≡ zs
+pub record Onto {A : Type 0} (xs : List A) (r : Reading (List A)) (zs : List A) (rest : List ℕ) : Type 0 where
+  pub more : List A
+  pub are : r ≡ reads more rest
+  pub all : xs ++ more ≡ zs
 
 -- each list that was added to is such
-onto_parts : {A : Type 0} (xs : List A) (r : Reading (List A)) (zs : List A) (rest : List ℕ) → onto xs r ≡ reads zs rest → Onto xs r zs rest
+pub onto_parts : {A : Type 0} (xs : List A) (r : Reading (List A)) (zs : List A) (rest : List ℕ) → onto xs r ≡ reads zs rest → Onto xs r zs rest
 onto_parts xs miss zs rest h = absurd (cc)
 onto_parts xs (fatal e) zs rest h = absurd (cc)
 onto_parts xs (reads more behind) zs rest h =
@@ -452,11 +452,11 @@ trimmed_begins : (text : List ℕ) → slice_index (trimmed text) 0 ≢ 35
 trimmed_begins text = rw (trimmed_is text) (left_begins false text)
 
 -- an element of a list that is made from others is made from one of them
-nothing_in_nil : {X : Type 0} (x : X) → Contains [] x → ⊥
+pub nothing_in_nil : {X : Type 0} (x : X) → Contains [] x → ⊥
 nothing_in_nil x h = omega (arith, h.1)
 
 -- an element is the first, or one of the others
-first_or_later : {X : Type 0} (y x : X) (xs : List X) → Contains (y ∷ xs) x → (y ≡ x) ⊎ Contains xs x
+pub first_or_later : {X : Type 0} (y x : X) (xs : List X) → Contains (y ∷ xs) x → (y ≡ x) ⊎ Contains xs x
 first_or_later y x xs h =
     elim (Contains-append_cases (y ∷ []) xs x h) [
       | inl first ↦ elim (Contains-push_cases [] y x first) [ inl never ↦ absurd (nothing_in_nil x never) | inr same ↦ inl same ]

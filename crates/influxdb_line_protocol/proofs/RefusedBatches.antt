@@ -38,11 +38,11 @@ StopsWith stop (b ∷ rest) = b ≡ stop
 
 -- a line with a front that is not cut, and whose answer is a fault wherever the text ends behind that front or goes on as
 -- the line does
-record Fails (line : List ℕ) : Type 0 where
-  front : List ℕ
-  stop : ℕ
-  behind : List ℕ
-  is : line ≡ front ++ stop ∷ behind
+pub record Fails (line : List ℕ) : Type 0 where
+  pub front : List ℕ
+  pub stop : ℕ
+  pub behind : List ℕ
+  pub is : line ≡ front ++ stop ∷ behind
   begins : (rest : List ℕ) → BeginsLine (front ++ rest)
   reached : IsClosed front
   answered : (dialect : Dialect) (rest : List ℕ) → StopsWith stop rest → answer dialect (front ++ rest) ≡ Err ends_with_backslash
@@ -89,7 +89,7 @@ stops_here stop [] t behind e = tt
 stops_here stop (b ∷ y) t behind e = cc
 
 -- the first answer for such a line is a fault
-first_fails : (dialect : Dialect) (line : List ℕ) (f : Fails line) (behind : List ℕ) {text : List ℕ} {pieces : List (List ℕ)} → text ≡ f.front ++ f.stop ∷ behind → Pieces dialect text pieces
+pub first_fails : (dialect : Dialect) (line : List ℕ) (f : Fails line) (behind : List ℕ) {text : List ℕ} {pieces : List (List ℕ)} → text ≡ f.front ++ f.stop ∷ behind → Pieces dialect text pieces
     → (others : List (Result Line Fault)) × (answers_of dialect pieces ≡ Err ends_with_backslash ∷ others)
 first_fails dialect line f behind e (last piece h) =
     ([], ap (λ xs. answers_of_piece dialect xs ++ []) e ∙ ap (λ xs. xs ++ []) (piece_fails dialect line f (f.stop ∷ behind) refl))
@@ -509,7 +509,7 @@ fields_line_fails m ts fs more named tagged f =
     }
 
 -- the line of a point whose names are parsed names, not all of them admitted
-point_fails : (p : Point) → IsPoint p → ParsedPoint p → is_admitted_point p ≡ false → Fails (line_of p)
+pub point_fails : (p : Point) → IsPoint p → ParsedPoint p → is_admitted_point p ≡ false → Fails (line_of p)
 unfolding is_admitted_point
 point_fails p h names bad =
     let end = built_timestamp p.timestamp in
@@ -526,7 +526,7 @@ point_fails p h names bad =
     subst Fails (sym (line_parts p)) parts
 
 -- a text has one list of answers
-same_answers : (dialect : Dialect) (text : List ℕ) (answers others : List (Result Line Fault)) → HasAnswers dialect text answers → HasAnswers dialect text others → answers ≡ others
+pub same_answers : (dialect : Dialect) (text : List ℕ) (answers others : List (Result Line Fault)) → HasAnswers dialect text answers → HasAnswers dialect text others → answers ≡ others
 same_answers dialect text answers others h k = h.answered ∙ ap (answers_of dialect) (same_pieces dialect refl h.are k.are) ∙ sym k.answered
 
 -- the items of lines and of what follows them

@@ -19,7 +19,7 @@ use Rattle.influxdb_line_protocol.specs.Readings.{Text}
 use Rattle.influxdb_line_protocol.proofs.BaseOrder.{AreNew, by_key_moves}
 
 -- a key is less than all of these
-abbrev IsBelow : List ℕ → List (List ℕ × List ℕ) → Type 0
+abbrev pub IsBelow : List ℕ → List (List ℕ × List ℕ) → Type 0
 IsBelow k [] = Unit {0}
 IsBelow k (e ∷ es) = (slice_cmp nat_cmp k e.0 ≡ Less) × IsBelow k es
 
@@ -29,7 +29,7 @@ Rise [] = Unit {0}
 Rise (e ∷ es) = IsBelow e.0 es × Rise es
 
 -- a lower key is below the same
-below_all : (k l : List ℕ) (es : List (List ℕ × List ℕ)) → slice_cmp nat_cmp k l ≡ Less → IsBelow l es → IsBelow k es
+pub below_all : (k l : List ℕ) (es : List (List ℕ × List ℕ)) → slice_cmp nat_cmp k l ≡ Less → IsBelow l es → IsBelow k es
 below_all k l [] less below = tt
 below_all k l (e ∷ es) less below = (nat_list_cmp_total.trans k l e.0 less below.0, below_all k l es less below.1)
 
@@ -133,7 +133,7 @@ same_moved xs ys rise up moves =
     same_elements xs ys rise up (λ e h. Contains-permutation xs ys e moves h) (λ e h. Contains-permutation ys xs e (IsPermutation-sym xs ys moves) h)
 
 -- keys that rise from one to the next rise
-less_from_test : (o : Ordering) → is_lt o ≡ true → o ≡ Less
+pub less_from_test : (o : Ordering) → is_lt o ≡ true → o ≡ Less
 less_from_test Less h = refl
 less_from_test Equal h = cc
 less_from_test Greater h = cc

@@ -1,10 +1,11 @@
 -- What bases tell of the series that they stand for.
-use Rattle.std.specs.Prelude.{◌≡◌, ℕ, zero, suc, ◌+◌, ◌||◌, Bool, true, false, List, [], ◌∷◌, ◌++◌, length, drop, Option, Some, None, Ok}
+use Rattle.std.specs.Prelude.{◌≡◌, ◌↔◌, ℕ, zero, suc, ◌+◌, ◌||◌, Bool, true, false, List, [], ◌∷◌, ◌++◌, length, drop, map, Option, Some}
+use Rattle.std.specs.Prelude.{None, Ok}
 use Rattle.std.specs.List.{list_any}
 use Rattle.std.specs.List.Sorted.{IsPermutation}
 use Rattle.std.specs.Option.{is_some}
 use Rattle.influxdb_line_protocol.specs.declared.split.Dialect.{Dialect}
-use Rattle.influxdb_line_protocol.specs.Bases.{Base, part, own, repeats, base_of, first_repeated, in_order, keys_of}
+use Rattle.influxdb_line_protocol.specs.Bases.{Base, part, own, repeats, base_of, by_key, first_repeated, in_order, keys_of, rises}
 use Rattle.influxdb_line_protocol.specs.Bytes.{backslash, comma, equals, is_one_of}
 use Rattle.influxdb_line_protocol.specs.Lines.{Line, answer, some_tags, tag_set}
 use Rattle.influxdb_line_protocol.specs.Names.{a_measurement, a_tag_key, a_tag_value, escapable, is_one_escape, name, spelled, spelled_len}
@@ -96,3 +97,13 @@ abbrev pub ReadSeriesAreParsed : Type 0
 ReadSeriesAreParsed =
     (dialect : Dialect) (line : List ℕ) (l : Line) → answer dialect line ≡ Ok l
     → IsParsedSeries l.series l.measurement (some_tags l.tags) × ((rest : List ℕ) × (line ≡ l.series ++ rest))
+
+-- the keys of entries, in order
+abbrev pub entry_keys : List (List ℕ × List ℕ) → List (List ℕ)
+entry_keys entries = map (λ e. e.0) entries
+
+-- Where no key repeats, the tags by their keys are the one list of the same tags whose keys rise.
+abbrev pub TagsByKeyAreSorted : Type 0
+TagsByKeyAreSorted =
+    (tags : List (Pair Text Text)) (entries : List (List ℕ × List ℕ)) → first_repeated (keys_of tags) ≡ length tags
+    → (entries ≡ by_key tags) ↔ ((rises (entry_keys entries) ≡ true) × IsPermutation (in_order tags) entries)

@@ -1,16 +1,18 @@
 -- What the definitions say of one another: the statements of the laws.
-use Rattle.std.specs.Prelude.{◌≡◌, ◌≢◌, ◌↔◌, ℕ, true, false, List, [], ◌∷◌, ◌++◌, map, Result, Ok}
+use Rattle.std.specs.Prelude.{◌≡◌, ◌≢◌, ◌↔◌, ℕ, true, false, List, [], ◌∷◌, ◌++◌, map, Result, Ok, Err}
 use Rattle.std.specs.List.{All, AllByRecursion, Contains, list_all, join_with_byte}
+use Rattle.std.specs.Str.{IsUtf8}
 use Rattle.influxdb_line_protocol.specs.declared.split.Dialect.{Dialect}
 use Rattle.influxdb_line_protocol.specs.declared.split.Dialect.TheVariants.{Strict}
 use Rattle.influxdb_line_protocol.specs.Bytes.{newline}
-use Rattle.influxdb_line_protocol.specs.Readings.{Fault}
+use Rattle.influxdb_line_protocol.specs.Readings.{Fault, ends_with_backslash}
 use Rattle.influxdb_line_protocol.specs.Points.{Point, IsPoint, is_admitted_point, built_all}
 use Rattle.influxdb_line_protocol.specs.Pieces.{Pieces, IsCutPiece, begins_comment}
 use Rattle.influxdb_line_protocol.specs.Lines.{Line, point_of, answer}
 use Rattle.influxdb_line_protocol.specs.Names.{NameKind}
 use Rattle.influxdb_line_protocol.specs.Items.{HasAnswers, HasItems}
 use Rattle.influxdb_line_protocol.specs.NamesOfLines.{names_of, IsParsedName, EndsItsFields}
+use Rattle.influxdb_line_protocol.specs.UnreadableNames.{HasReadableNames}
 
 -- a point whose names are all admitted
 pub record IsAdmittedPoint (p : Point) : Type 0 where
@@ -37,6 +39,22 @@ OtherBatchesDoNot =
     → AllByRecursion IsPoint points → list_all is_admitted_point points ≡ false
     → HasItems dialect (built_all points ++ t) items → HasItems dialect t others → items ≢ map Ok points ++ others
 
+-- No item of a text is a point with a name that no line has.
+abbrev pub ItemsHaveReadableNames : Type 0
+ItemsHaveReadableNames =
+    (dialect : Dialect) (text : List ℕ) (items : List (Result Point Fault)) (p : Point)
+    → HasItems dialect text items → Contains items (Ok p) → HasReadableNames p
+
+-- After the lines of admitted points, the line of a point that is not admitted, though lines can have each of its names,
+-- is answered `EndsWithBackslash` in its place, whatever follows it.
+abbrev pub OtherPointsEndWithBackslash : Type 0
+OtherPointsEndWithBackslash =
+    (dialect : Dialect) (before : List Point) (p : Point) (after : List Point) (t : List ℕ) (answers : List (Result Line Fault))
+    → AllByRecursion IsAdmittedPoint before → IsPoint p → is_admitted_point p ≡ false → HasReadableNames p
+    → HasAnswers dialect (built_all (before ++ p ∷ after) ++ t) answers
+    → (lines : List Line) × (others : List (Result Line Fault)) × (map point_of lines ≡ before)
+    × (answers ≡ map Ok lines ++ Err ends_with_backslash ∷ others)
+
 -- The names of each line that is answered for a text are names as a line can have them.
 abbrev pub NamesAreParsed : Type 0
 NamesAreParsed =
@@ -44,11 +62,12 @@ NamesAreParsed =
     → HasAnswers dialect text answers → Contains answers (Ok line) → Contains (names_of kind (point_of line)) n
     → IsParsedName kind n
 
--- Each such name is a name of that kind in some line.
+-- Each such name is a name of that kind in some line, and the text of that line is UTF-8 where the name is.
 abbrev pub ParsedNamesStandInLines : Type 0
 ParsedNamesStandInLines =
     (dialect : Dialect) (kind : NameKind) (n : List ℕ) → IsParsedName kind n
     → (text : List ℕ) × (line : Line) × HasAnswers dialect text (Ok line ∷ []) × Contains (names_of kind (point_of line)) n
+    × (IsUtf8 n → IsUtf8 text)
 
 -- In the strict dialect, nothing follows the fields of a line, or a space does.
 abbrev pub StrictFieldsEnd : Type 0

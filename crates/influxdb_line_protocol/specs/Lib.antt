@@ -21,13 +21,16 @@ pub mod Light
 pub mod Memory
 pub mod Sets
 pub mod ParseSteps
+pub mod GivenItems
 pub mod Literals
 pub mod Built
 pub mod WrittenAgain
 pub mod NamesOfLines
 pub mod PointsOfLines
+pub mod UnreadableNames
 pub mod Laws
 pub mod Meanings
+pub mod MeaningsOfAnswers
 pub mod Shown
 pub mod Bases
 pub mod BaseLaws

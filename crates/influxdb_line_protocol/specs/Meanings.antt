@@ -1,14 +1,15 @@
 -- What the computing definitions mean: the same said as relations, and the statements of the laws that tie the two.
 use Rattle.std.specs.Prelude.{◌≡◌, ◌≢◌, ◌↔◌, ℕ, ◌<◌, ◌≤◌, ◌==◌, Bool, false, true, List, [], ◌∷◌, ◌++◌, length, take}
-use Rattle.std.specs.List.{All}
+use Rattle.std.specs.List.{All, Contains}
 use Rattle.influxdb_line_protocol.specs.Bytes.{tab, newline, space, quote, hash, comma, backslash, is_one_of}
 use Rattle.influxdb_line_protocol.specs.Escapes.{bare, without_escapes, IsBareBehind}
 use Rattle.influxdb_line_protocol.specs.Names.{NameKind, is_stop, spelled}
 use Rattle.influxdb_line_protocol.specs.Values.{body_len}
 use Rattle.influxdb_line_protocol.specs.Readings.{Fault, Reading, miss, fatal, reads}
-use Rattle.influxdb_line_protocol.specs.Values.{IsFloat, float_len}
+use Rattle.influxdb_line_protocol.specs.Values.{IsFloat, float_len, word_len}
 use Rattle.influxdb_line_protocol.specs.Trimming.{trimmed}
 use Rattle.influxdb_line_protocol.specs.Lines.{joined}
+use Rattle.influxdb_line_protocol.specs.Light.{read_count}
 
 -- what a text stands for, where a backslash may escape the known bytes
 pub data IsLogical (known : List ℕ) : List ℕ → List ℕ → Type 0 where
@@ -74,6 +75,11 @@ TheNextHasTheFault {A} one =
 abbrev pub TheFirstMisses : {A : Type 0} → (List ℕ → Reading A) → Type 0
 TheFirstMisses one = (text : List ℕ) → (joined one text ≡ miss) ↔ (one text ≡ miss)
 
+-- As many are counted as the most that stand in front of the text, whatever follows them.
+abbrev pub CountIsOfTheMost : {A : Type 0} → (List ℕ → Reading A) → Type 0
+CountIsOfTheMost {A} one =
+    (text : List ℕ) → (xs : List A) × (rest : List ℕ) × StandMost one text xs rest × (read_count one text ≡ length xs)
+
 -- nothing, or what begins with a newline
 abbrev pub IsLineEnd : List ℕ → Type 0
 IsLineEnd [] = Unit {0}
@@ -131,3 +137,13 @@ FloatFrontIsFloat = (text : List ℕ) → 0 < float_len text → IsFloat (take (
 -- No longer front of the text is one.
 abbrev pub FloatFrontIsLongest : Type 0
 FloatFrontIsLongest = (text : List ℕ) (n : ℕ) → n ≤ length text → IsFloat (take n text) → n ≤ float_len text
+
+-- The bytes that the longest of words takes in front of a text are one of the words.
+abbrev pub WordFrontIsWord : Type 0
+WordFrontIsWord =
+    (words : List (List ℕ)) (text : List ℕ) → 0 < word_len words text → Contains words (take (word_len words text) text)
+
+-- No longer front of the text is one of them.
+abbrev pub WordFrontIsLongest : Type 0
+WordFrontIsLongest =
+    (words : List (List ℕ)) (text : List ℕ) (n : ℕ) → n ≤ length text → Contains words (take n text) → n ≤ word_len words text

@@ -1,5 +1,5 @@
 -- What a call of `next` on a `ParseLines` gives.
-use Rattle.std.specs.Prelude.{◌≡◌, ℕ, ◌<◌, true, List, ◌∷◌, [], ◌++◌, length, Option, Some, None, Result}
+use Rattle.std.specs.Prelude.{◌≡◌, ℕ, ◌<◌, ◌^◌, true, List, ◌∷◌, [], ◌++◌, length, Option, Some, None, IfSome, Result, IfOk}
 use Rattle.std.specs.Borrow.{Bor}
 use Rattle.std.specs.List.{All}
 use Rattle.influxdb_line_protocol.specs.declared.split.Dialect.{Dialect}
@@ -9,6 +9,7 @@ use Rattle.influxdb_line_protocol.specs.Pieces.{Left, PiecesLeft}
 use Rattle.influxdb_line_protocol.specs.Trimming.{trimmed}
 use Rattle.influxdb_line_protocol.specs.Items.{line_answer}
 use Rattle.influxdb_line_protocol.specs.Light.{is_light}
+use Rattle.influxdb_line_protocol.specs.Lookups.{columns}
 use Rattle.influxdb_line_protocol.specs.Outcomes.{HasMemory}
 use Rattle.influxdb_line_protocol.specs.Parsed.{Answers}
 
@@ -16,10 +17,21 @@ use Rattle.influxdb_line_protocol.specs.Parsed.{Answers}
 abbrev pub IsBlankPiece : List ℕ → Type 0
 IsBlankPiece piece = length (trimmed piece) ≡ 0
 
--- the item is the answer for a trimmed text, or want of memory in its place, but never where the text is light
+-- a line that was read has at least one tag, where it has a tag set
+abbrev pub HasNoEmptyTagSet : Result ParsedLine Error → Type 0
+HasNoEmptyTagSet item = IfOk item (λ line. IfSome line.series.tag_set (λ tags. 0 < length tags.items))
+
+-- the columns of a line that was read can be counted: a `usize` holds their number
+abbrev pub CanCountColumns : Result ParsedLine Error → Type 0
+CanCountColumns item = IfOk item (λ line. columns line < 2 ^ 64)
+
+-- the item is the answer for a trimmed text, or want of memory in its place, but never where the text is light; the tag
+-- set of a line that was read is not empty, and its columns can be counted
 pub record IsItemOf (dialect : Dialect) (line : List ℕ) (item : Result ParsedLine Error) : Type 0 where
   pub answers : Answers item (line_answer dialect line)
   pub light : is_light dialect line ≡ true → HasMemory item
+  pub tags : HasNoEmptyTagSet item
+  pub columns_fit : CanCountColumns item
 
 -- blank pieces were left, then a piece that is not blank, whose item this is, and then the others
 pub record GaveItem (before : Left) (item : Result ParsedLine Error) (others : List (List ℕ)) : Type 0 where

@@ -1,31 +1,43 @@
 //! Laws of the definitions, each the contract of a function that does nothing.
 
 ghost use Rattle.influxdb_line_protocol.specs.Laws.{AdmittedBatchesReadBack, OtherBatchesDoNot};
+ghost use Rattle.influxdb_line_protocol.specs.Laws.{ItemsHaveReadableNames, OtherPointsEndWithBackslash};
 ghost use Rattle.influxdb_line_protocol.specs.Laws.{NamesAreParsed, ParsedNamesStandInLines, StrictFieldsEnd};
 ghost use Rattle.influxdb_line_protocol.specs.Laws.{PiecesExist, PiecesAreUnique, PiecesAreTheText, PiecesJoin};
 ghost use Rattle.influxdb_line_protocol.specs.Laws.{AnswersJoin, CommentsStandAlone};
 ghost use Rattle.influxdb_line_protocol.specs.PointsOfLines.{LinesArePoints};
-ghost use Rattle.influxdb_line_protocol.specs.BaseLaws.{ClearSeriesHaveBases, SameSeriesHaveOneBase};
+ghost use Rattle.influxdb_line_protocol.specs.GivenItems.{ItemsAreOfPieces, ItemsAreAnswers, ItemsSoFar};
+ghost use Rattle.influxdb_line_protocol.specs.BaseLaws.{ClearSeriesHaveBases, SameSeriesHaveOneBase, TagsByKeyAreSorted};
 ghost use Rattle.influxdb_line_protocol.specs.BaseLaws.{OneBaseIsOneSeries, PlainSeriesAreClear, ReadSeriesAreParsed};
 ghost use Rattle.influxdb_line_protocol.specs.Meanings.{LogicalIsWithoutEscapes};
-ghost use Rattle.influxdb_line_protocol.specs.Meanings.{TheMostIsRead, TheNextHasTheFault, TheFirstMisses};
+ghost use Rattle.influxdb_line_protocol.specs.Meanings.{TheMostIsRead, TheNextHasTheFault, TheFirstMisses, CountIsOfTheMost};
 ghost use Rattle.influxdb_line_protocol.specs.Meanings.{FloatFrontIsFloat, FloatFrontIsLongest};
+ghost use Rattle.influxdb_line_protocol.specs.Meanings.{WordFrontIsWord, WordFrontIsLongest};
 ghost use Rattle.influxdb_line_protocol.specs.Meanings.{TrimmedIsBehindBlanks, TrimmedFrontIsLongest};
 ghost use Rattle.influxdb_line_protocol.specs.Meanings.{NameEndsBeforeStop, BodyEndsBeforeQuote};
+ghost use Rattle.influxdb_line_protocol.specs.MeaningsOfAnswers.{AnswerIsByRows};
 ghost use Rattle.influxdb_line_protocol.specs.Lines.{tag, field};
 
 /// Where memory and room suffice, a batch built from points, followed by any text, parses to exactly
 /// those points in order and then to what that text alone gives, if and only if every name is
 /// admitted. So it is in both dialects: where a name is not admitted, the batch parses to other items.
+/// Some of these names no line has, so no text parses to such a point: a name that is empty or ends
+/// in a backslash, a measurement that begins with `#`, a name with a tab or a newline, or a
+/// measurement with a NUL, that does not stand directly after a backslash. Where the names of the
+/// first point that is not admitted are not among these, its line is answered `EndsWithBackslash` in
+/// the point's place.
 pub fn batch_reads_back()
     ensures admitted { AdmittedBatchesReadBack }
     ensures refused { OtherBatchesDoNot }
+    ensures unreadable { ItemsHaveReadableNames }
+    ensures in_place { OtherPointsEndWithBackslash }
 {}
 
 /// No name of a line that was read is empty or ends in a backslash, no measurement begins with `#`,
 /// and a tab or a newline in a name stands directly behind a backslash, as does a NUL in a
 /// measurement. Each text that these rules allow for a kind of name is a name of that kind in some
-/// line. In the strict dialect, nothing follows the last field of a line, or a space does.
+/// line, whose text is UTF-8 where the name is. In the strict dialect, nothing follows the last field
+/// of a line, or a space does.
 pub fn parsed_names()
     ensures all { NamesAreParsed }
     ensures each { ParsedNamesStandInLines }
@@ -36,6 +48,16 @@ pub fn parsed_names()
 /// are in the range of their types, and its floats are literals.
 pub fn lines_are_points()
     ensures { LinesArePoints }
+{}
+
+/// The items that calls of `next` give, from `parse_lines` to `None`, are those of the text: one item
+/// for each piece that holds more than blanks and comments, in the order of the pieces, and each is
+/// the answer for its piece, or `OutOfMemory` in its place, but never where the line is light. Up to
+/// any call, they are the items of the pieces before the ones that are left.
+pub fn items_are_answers()
+    ensures pieces { ItemsAreOfPieces }
+    ensures answers { ItemsAreAnswers }
+    ensures so_far { ItemsSoFar }
 {}
 
 /// Each text has exactly one list of pieces, and joined by newlines they are the text. A newline
@@ -59,14 +81,22 @@ pub fn logical_text_is_unique()
 
 /// Tags and fields that commas join are read as the greatest number that stands in front of a text.
 /// Where one more behind them has a fault, all have that fault, and where the first one misses, all
-/// miss.
+/// miss. As many are counted as the greatest number that stands there, also where one more has a fault.
 pub fn most_are_read()
     ensures tags { TheMostIsRead tag }
     ensures tag_fault { TheNextHasTheFault tag }
     ensures no_tag { TheFirstMisses tag }
+    ensures tag_count { CountIsOfTheMost tag }
     ensures fields { TheMostIsRead field }
     ensures field_fault { TheNextHasTheFault field }
     ensures no_field { TheFirstMisses field }
+    ensures field_count { CountIsOfTheMost field }
+{}
+
+/// Each trimmed text is answered by the first row of the table of answers that holds for it, and by
+/// no other: each row says, besides its own condition, that the parts before it were read.
+pub fn answers_are_by_rows()
+    ensures { AnswerIsByRows }
 {}
 
 /// What is left of a piece once it is trimmed is what follows its longest front of blanks and
@@ -88,6 +118,18 @@ pub fn first_bare_stop_ends()
 pub fn longest_float_is_read()
     ensures literal { FloatFrontIsFloat }
     ensures longest { FloatFrontIsLongest }
+{}
+
+/// A boolean is read by its longest word: what it takes is one of its words, and no longer front is one.
+pub fn longest_word_is_read()
+    ensures word { WordFrontIsWord }
+    ensures longest { WordFrontIsLongest }
+{}
+
+/// Where no key repeats, the tags by their keys are the same tags, in the one order in which their keys
+/// rise.
+pub fn tags_by_key_are_sorted()
+    ensures { TagsByKeyAreSorted }
 {}
 
 /// Take two series as they are parsed, that repeat no key and spell no name as one known escape

@@ -1,6 +1,6 @@
 //! Lines.
 
-ghost use Rattle.std.specs.Prelude.{◌≡◌, ◌<◌, ◌≤◌, ◌++◌, ℕ, List, [], drop, length, slice_index, true, Err, None, Some, IfSome, MatchOption};
+ghost use Rattle.std.specs.Prelude.{◌≡◌, ◌<◌, ◌≤◌, ◌++◌, ◌^◌, ℕ, List, [], drop, length, slice_index, true, Err, None, Some, IfSome, MatchOption};
 ghost use Rattle.influxdb_line_protocol.specs.declared.split.Dialect.{Dialect};
 ghost use Rattle.influxdb_line_protocol.specs.Lines.{answer, byte, front_before, spaces};
 ghost use Rattle.influxdb_line_protocol.specs.Bytes.{space};
@@ -187,8 +187,9 @@ fn refuse(item: &mut Result<ParsedLine<'_>>, fault: Error)
 /// The lines of a text, one after another: what [`parse_lines`] gives.
 ///
 /// Each item is the answer for one piece that holds more than blanks and comments: what its line
-/// says, or its one fault. Whatever an item is, the next ones are those of the pieces behind it.
-/// There are at most `input.len()` items, and it stays ended.
+/// says, or its one fault. Where a line has a tag set, that holds at least one tag. Whatever an item
+/// is, the next ones are those of the pieces behind it. There are at most `input.len()` items, and it
+/// stays ended.
 #[derive(Drop)]
 pub struct ParseLines<'a> {
     lines: SplitLines<'a>,
@@ -211,6 +212,7 @@ impl<'a> ParseLines<'a> {
     fn next_line(&mut self) -> Option<&'a str>
         ensures gives { GivesLine self.old result self.new }
         ensures fewer { IfSome result (λ line. most_items self.new.text < most_items self.old.text) }
+        ensures fits { IfSome result (λ line. length line.now < 2 ^ 63) }
     {
         while let Some(piece) = self.lines.next() {
             let line = trimmed(piece);

@@ -1,4 +1,5 @@
 use Rattle.influxdb_line_protocol.specs.Lines.{field, tag}
+use Rattle.influxdb_line_protocol.proofs.CountMeaning.{count_is_of_the_most}
 use Rattle.influxdb_line_protocol.proofs.JoinedMeaning.{the_most_is_read, the_next_has_the_fault, the_first_misses}
 use Rattle.influxdb_line_protocol.proofs.ShorterRests.{tag_no_longer, field_no_longer}
 use Rattle.influxdb_line_protocol.proofs.laws.most_are_read.Goals as goal
@@ -20,3 +21,9 @@ returns-clause-field_fault c = the_next_has_the_fault field (λ text. (field_no_
 
 pub returns-clause-no_field : goal.returns-clause-no_field
 returns-clause-no_field c = the_first_misses field (λ text. (field_no_longer text).holds)
+
+pub returns-clause-tag_count : goal.returns-clause-tag_count
+returns-clause-tag_count c = count_is_of_the_most tag (λ text. (tag_no_longer text).holds)
+
+pub returns-clause-field_count : goal.returns-clause-field_count
+returns-clause-field_count c = count_is_of_the_most field (λ text. (field_no_longer text).holds)
