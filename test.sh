@@ -5,4 +5,6 @@ cd "$(dirname "$0")"
 PATH=$PATH:/opt/rattle/bin
 misuses/check.sh
 checks/arguments.sh
+checks/refusals.sh
+checks/differential.sh
 exec rt ci

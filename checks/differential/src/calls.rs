@@ -1,0 +1,133 @@
+//! Calls of the builder: the same ones to both.
+
+use crate::texts::{self, Seeded};
+use influxdb_line_protocol::builder::{
+    AfterField, AfterMeasurement, AfterTimestamp, BeforeMeasurement, FieldValue,
+};
+use influxdb_line_protocol::LineProtocolBuilder;
+use std::fmt;
+
+/// A float by its text, for the crate's builder.
+pub struct Literal<'a>(pub &'a str);
+
+impl FieldValue for Literal<'_> {
+    fn fmt(&self, f: &mut fmt::Formatter<'_>) -> fmt::Result {
+        f.write_str(self.0)
+    }
+}
+
+type Building<S> = LineProtocolBuilder<Vec<u8>, S>;
+
+enum Lines {
+    Closed(Building<BeforeMeasurement>),
+    Measured(Building<AfterMeasurement>),
+    Fielded(Building<AfterField>),
+    Stamped(Building<AfterTimestamp>),
+}
+
+/// Calls as `crates/lp_checks` spells them, and what the crate's builder writes for them.
+pub struct Calls {
+    pub program: Vec<u8>,
+    pub built: Vec<u8>,
+}
+
+fn spell_text(program: &mut Vec<u8>, text: &str) {
+    program.extend_from_slice(&(text.len() as u16).to_le_bytes());
+    program.extend_from_slice(text.as_bytes());
+}
+
+fn spell_field(program: &mut Vec<u8>, letter: u8, key: &str) {
+    program.push(letter);
+    spell_text(program, key);
+}
+
+// A field of either state: both have a call of that name.
+macro_rules! field {
+    ($builder:expr, $seeded:expr, $program:expr) => {{
+        let key = texts::name($seeded);
+        match $seeded.below(5) {
+            0 => {
+                let value = $seeded.next() as i64 >> $seeded.below(64);
+                spell_field($program, b'i', &key);
+                $program.extend_from_slice(&value.to_le_bytes());
+                $builder.field(&key, value)
+            }
+            1 => {
+                let value = $seeded.next() >> $seeded.below(64);
+                spell_field($program, b'u', &key);
+                $program.extend_from_slice(&value.to_le_bytes());
+                $builder.field(&key, value)
+            }
+            2 => {
+                let value = $seeded.once_in(2);
+                spell_field($program, b'b', &key);
+                $program.push(u8::from(value));
+                $builder.field(&key, value)
+            }
+            3 => {
+                let value = texts::literal($seeded);
+                spell_field($program, b'f', &key);
+                spell_text($program, &value);
+                $builder.field(&key, Literal(&value))
+            }
+            _ => {
+                let value = texts::text($seeded);
+                spell_field($program, b's', &key);
+                spell_text($program, &value);
+                $builder.field(&key, value.as_str())
+            }
+        }
+    }};
+}
+
+fn call(lines: Lines, seeded: &mut Seeded, program: &mut Vec<u8>) -> Lines {
+    match lines {
+        Lines::Closed(builder) => {
+            let name = texts::name(seeded);
+            program.push(b'm');
+            spell_text(program, &name);
+            Lines::Measured(builder.measurement(&name))
+        }
+        Lines::Measured(builder) if seeded.once_in(2) => {
+            let (key, value) = (texts::name(seeded), texts::name(seeded));
+            program.push(b't');
+            spell_text(program, &key);
+            spell_text(program, &value);
+            Lines::Measured(builder.tag(&key, &value))
+        }
+        Lines::Measured(builder) => Lines::Fielded(field!(builder, seeded, program)),
+        Lines::Fielded(builder) => match seeded.below(4) {
+            0 => {
+                program.push(b'.');
+                Lines::Closed(builder.close_line())
+            }
+            1 => {
+                let timestamp = seeded.next() as i64 >> seeded.below(64);
+                program.push(b'@');
+                program.extend_from_slice(&timestamp.to_le_bytes());
+                Lines::Stamped(builder.timestamp(timestamp))
+            }
+            _ => Lines::Fielded(field!(builder, seeded, program)),
+        },
+        Lines::Stamped(builder) => {
+            program.push(b'.');
+            Lines::Closed(builder.close_line())
+        }
+    }
+}
+
+/// A few calls, and those that close the last line.
+pub fn calls(seeded: &mut Seeded) -> Calls {
+    let mut program = Vec::new();
+    let mut lines = Lines::Closed(LineProtocolBuilder::new());
+    let few = seeded.below(16);
+    for made in 0.. {
+        lines = match lines {
+            Lines::Closed(builder) if made >= few => {
+                return Calls { program, built: builder.build() };
+            }
+            lines => call(lines, seeded, &mut program),
+        };
+    }
+    unreachable!("a line is closed after a while")
+}

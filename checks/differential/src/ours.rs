@@ -1,0 +1,89 @@
+//! This library's calls, by the static library of crates/lp_checks.
+
+extern "C" {
+    fn lp_checks_pieces(strict: bool, text: *const u8, len: usize, out: *mut u8, room: usize, ends: *mut u64, entries: usize) -> u64;
+    fn lp_checks_items(strict: bool, text: *const u8, len: usize, out: *mut u8, room: usize, ends: *mut u64, entries: usize) -> u64;
+    fn lp_checks_bases(text: *const u8, len: usize, out: *mut u8, room: usize, ends: *mut u64, entries: usize) -> u64;
+    fn lp_checks_shown(text: *const u8, len: usize, out: *mut u8, room: usize, ends: *mut u64, entries: usize) -> u64;
+    fn lp_checks_written(
+        text: *const u8, len: usize, start: *const u8, start_len: usize, again: bool, refused_at: *mut u64,
+        out: *mut u8, room: usize, ends: *mut u64, entries: usize,
+    ) -> u64;
+    fn lp_checks_build(
+        program: *const u8, len: usize, reserved: u64, again: bool, refused_at: *mut u64,
+        out: *mut u8, room: usize, ends: *mut u64, entries: usize,
+    ) -> u64;
+}
+
+/// Entries of text, as the library reports them.
+pub struct Report {
+    out: Vec<u8>,
+    ends: Vec<u64>,
+    count: usize,
+}
+
+impl Report {
+    pub fn new() -> Self {
+        Report { out: vec![0; 1 << 18], ends: vec![0; 1 << 12], count: 0 }
+    }
+
+    pub fn count(&self) -> usize {
+        self.count
+    }
+
+    /// The entry at this place; each is a part of the report.
+    pub fn entry(&self, place: usize) -> &str {
+        let start = if place == 0 { 0 } else { self.ends[place - 1] as usize };
+        std::str::from_utf8(&self.out[start..self.ends[place] as usize]).expect("an entry is UTF-8")
+    }
+
+    fn fill(&mut self, call: impl FnOnce(*mut u8, usize, *mut u64, usize) -> u64) -> &Self {
+        let (room, entries) = (self.out.len(), self.ends.len());
+        self.count = call(self.out.as_mut_ptr(), room, self.ends.as_mut_ptr(), entries) as usize;
+        assert!(self.count <= entries, "a report has room for its entries");
+        assert!(self.count == 0 || self.ends[self.count - 1] as usize <= room, "a report has room for its text");
+        self
+    }
+
+    pub fn pieces(&mut self, text: &str) -> &Self {
+        self.fill(|out, room, ends, entries| unsafe {
+            lp_checks_pieces(false, text.as_ptr(), text.len(), out, room, ends, entries)
+        })
+    }
+
+    pub fn items(&mut self, text: &str) -> &Self {
+        self.fill(|out, room, ends, entries| unsafe {
+            lp_checks_items(false, text.as_ptr(), text.len(), out, room, ends, entries)
+        })
+    }
+
+    pub fn bases(&mut self, text: &str) -> &Self {
+        self.fill(|out, room, ends, entries| unsafe {
+            lp_checks_bases(text.as_ptr(), text.len(), out, room, ends, entries)
+        })
+    }
+
+    pub fn shown(&mut self, text: &str) -> &Self {
+        self.fill(|out, room, ends, entries| unsafe {
+            lp_checks_shown(text.as_ptr(), text.len(), out, room, ends, entries)
+        })
+    }
+
+    /// One entry: all lines of the text, as they are written again.
+    pub fn written(&mut self, text: &str) -> &Self {
+        let mut refused_at = u64::MAX;
+        self.fill(|out, room, ends, entries| unsafe {
+            lp_checks_written(
+                text.as_ptr(), text.len(), [].as_ptr(), 0, false, &mut refused_at, out, room, ends, entries,
+            )
+        })
+    }
+
+    /// One entry: what the calls write.
+    pub fn build(&mut self, program: &[u8]) -> &Self {
+        let mut refused_at = u64::MAX;
+        self.fill(|out, room, ends, entries| unsafe {
+            lp_checks_build(program.as_ptr(), program.len(), 0, false, &mut refused_at, out, room, ends, entries)
+        })
+    }
+}

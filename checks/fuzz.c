@@ -1,0 +1,183 @@
+/* What must hold of every text, in both dialects, for libFuzzer. `checks/fuzz.sh` builds this and runs it. */
+#include "lp_checks.h"
+
+#include <stdio.h>
+#include <stdlib.h>
+#include <string.h>
+
+enum { TEXT = 1 << 12, ROOM = 1 << 17, ENTRIES = 1 << 14 };
+
+#define MUST(c)                                       \
+    do {                                              \
+        if (!(c)) {                                   \
+            fprintf(stderr, "broken: %s\n", #c);      \
+            abort();                                  \
+        }                                             \
+    } while (0)
+
+/* Entries of text, as the library reports them. */
+struct report { uint64_t count, ends[ENTRIES]; uint8_t out[ROOM]; };
+
+static size_t start_of(const struct report *report, uint64_t place) {
+    return place ? (size_t)report->ends[place - 1] : 0;
+}
+
+static size_t len_of(const struct report *report, uint64_t place) {
+    return (size_t)report->ends[place] - start_of(report, place);
+}
+
+static const uint8_t *entry(const struct report *report, uint64_t place) { return report->out + start_of(report, place); }
+
+static bool is_same(const struct report *a, uint64_t at, const struct report *b, uint64_t bt) {
+    return len_of(a, at) == len_of(b, bt) && !memcmp(entry(a, at), entry(b, bt), len_of(a, at));
+}
+
+static bool is_text(const struct report *report, uint64_t place, const char *text) {
+    return len_of(report, place) == strlen(text) && !memcmp(entry(report, place), text, strlen(text));
+}
+
+static bool begins(const struct report *report, uint64_t place, const char *text) {
+    return len_of(report, place) >= strlen(text) && !memcmp(entry(report, place), text, strlen(text));
+}
+
+/* Nothing was left out for want of room. */
+static void must_fit(const struct report *report) {
+    MUST(report->count <= ENTRIES);
+    MUST(report->count == 0 || report->ends[report->count - 1] <= ROOM);
+}
+
+static void read_items(bool is_strict, const uint8_t *text, size_t len, struct report *into) {
+    into->count = lp_checks_items(is_strict, text, len, into->out, ROOM, into->ends, ENTRIES);
+    must_fit(into);
+}
+
+static void read_shown(const uint8_t *text, size_t len, struct report *into) {
+    into->count = lp_checks_shown(text, len, into->out, ROOM, into->ends, ENTRIES);
+    must_fit(into);
+}
+
+static void rebuild(bool is_strict, const uint8_t *text, size_t len, struct report *into) {
+    into->count = lp_checks_rebuild(is_strict, text, len, into->out, ROOM, into->ends, ENTRIES);
+    MUST(into->count == 3);
+    must_fit(into);
+}
+
+static struct report pieces, items, one, rebuilt, again, of_batch, all, shown, shown_again;
+static uint8_t joined[ROOM + TEXT];
+
+/* The pieces joined by newlines are the text. Each item is that of its piece alone. */
+static void check_pieces(bool is_strict, const uint8_t *text, size_t len) {
+    pieces.count = lp_checks_pieces(is_strict, text, len, pieces.out, ROOM, pieces.ends, ENTRIES);
+    must_fit(&pieces);
+    size_t at = 0;
+    uint64_t item = 0;
+    for (uint64_t place = 0; place < pieces.count; place++) {
+        size_t piece = len_of(&pieces, place);
+        MUST(piece <= len - at && !memcmp(text + at, entry(&pieces, place), piece));
+        read_items(is_strict, text + at, piece, &one);
+        MUST(one.count <= 1);
+        if (one.count == 1) {
+            MUST(item < items.count && is_same(&one, 0, &items, item));
+            item++;
+        }
+        at += piece;
+        if (place + 1 < pieces.count) MUST(at < len && text[at++] == '\n');
+    }
+    MUST(at == len);
+    MUST(item == items.count && items.count <= pieces.count && items.count <= len);
+}
+
+/* The batch alone reads back as the lines that were carried, and is written again unchanged; before the text its lines
+   come first, and then the items of the text. */
+static void check_batch(bool is_strict, const uint8_t *text, size_t len) {
+    const uint8_t *batch = entry(&rebuilt, 0);
+    size_t batch_len = len_of(&rebuilt, 0);
+    read_items(is_strict, batch, batch_len, &of_batch);
+    for (uint64_t place = 0; place < of_batch.count; place++) MUST(begins(&of_batch, place, "line "));
+
+    uint64_t lines = 0;
+    for (uint64_t place = 0; place < items.count; place++) {
+        lines += begins(&items, place, "line ");
+        MUST(!is_text(&items, place, "OutOfMemory"));
+    }
+    MUST(of_batch.count <= lines);
+    char counts[64];
+    snprintf(counts, sizeof counts, "%llu carried, %llu refused", (unsigned long long)of_batch.count,
+             (unsigned long long)(items.count - of_batch.count));
+    MUST(is_text(&rebuilt, 2, counts));
+    MUST((len_of(&rebuilt, 1) == 0) == (items.count == of_batch.count));
+
+    rebuild(is_strict, batch, batch_len, &again);
+    MUST(is_same(&again, 0, &rebuilt, 0) && len_of(&again, 1) == 0);
+
+    memcpy(joined, batch, batch_len);
+    memcpy(joined + batch_len, text, len);
+    read_items(is_strict, joined, batch_len + len, &all);
+    MUST(all.count == of_batch.count + items.count);
+    for (uint64_t place = 0; place < of_batch.count; place++) MUST(is_same(&all, place, &of_batch, place));
+    for (uint64_t place = 0; place < items.count; place++) MUST(is_same(&all, of_batch.count + place, &items, place));
+}
+
+/* A comment before the text changes no item. The newline that ends it is escaped, so no piece ends there in the crate's
+   dialect; in the strict one it does. */
+static void check_comment(bool is_strict, const uint8_t *text, size_t len) {
+    memcpy(joined, "#\\\n", 3);
+    memcpy(joined + 3, text, len);
+    read_items(is_strict, joined, len + 3, &all);
+    MUST(all.count == items.count);
+    for (uint64_t place = 0; place < items.count; place++) MUST(is_same(&all, place, &items, place));
+}
+
+/* What is shown of the batch is shown of the text, in the same order. Only the crate's dialect is shown. */
+static void check_shown(const uint8_t *text, size_t len) {
+    read_shown(text, len, &shown);
+    read_shown(entry(&rebuilt, 0), len_of(&rebuilt, 0), &shown_again);
+    uint64_t place = 0;
+    for (uint64_t wanted = 0; wanted < shown_again.count; wanted++) {
+        while (place < shown.count && !is_same(&shown, place, &shown_again, wanted)) place++;
+        MUST(place < shown.count);
+        place++;
+    }
+}
+
+/* A run writes what `rebuild` gives. */
+static void check_run(bool is_strict, const uint8_t *text, size_t len) {
+    uint64_t lens[2];
+    MUST(lp_checks_run(is_strict, text, len, one.out, ROOM, again.out, ROOM, lens) == 0);
+    MUST(lens[0] == len_of(&rebuilt, 0) && !memcmp(one.out, entry(&rebuilt, 0), lens[0]));
+    MUST(lens[1] == len_of(&rebuilt, 1) && !memcmp(again.out, entry(&rebuilt, 1), lens[1]));
+}
+
+/* Bytes that spell calls of the builder are written, and read without harm. */
+static void check_builder(const uint8_t *bytes, size_t len) {
+    uint64_t refused_at = UINT64_MAX;
+    one.count = lp_checks_build(bytes, len, 0, false, &refused_at, one.out, ROOM, one.ends, ENTRIES);
+    must_fit(&one);
+    MUST(refused_at == UINT64_MAX);
+    if (one.count == 1) read_items(false, one.out, (size_t)one.ends[0], &all);
+}
+
+int LLVMFuzzerTestOneInput(const uint8_t *bytes, size_t len);
+
+int LLVMFuzzerTestOneInput(const uint8_t *bytes, size_t len) {
+    static uint8_t text[TEXT];
+    if (len > TEXT) return 0;
+    if (len > 0) memcpy(text, bytes, len);
+    check_builder(text, len);
+    if (!lp_checks_is_utf8(text, len)) {
+        uint64_t lens[2];
+        MUST(lp_checks_run(false, text, len, one.out, ROOM, again.out, ROOM, lens) == 2);
+        MUST(lens[0] == 0 && lens[1] == 0);
+        return 0;
+    }
+    for (int is_strict = 0; is_strict < 2; is_strict++) {
+        read_items(is_strict, text, len, &items);
+        check_pieces(is_strict, text, len);
+        rebuild(is_strict, text, len, &rebuilt);
+        check_batch(is_strict, text, len);
+        check_comment(is_strict, text, len);
+        if (!is_strict) check_shown(text, len);
+        check_run(is_strict, text, len);
+    }
+    return 0;
+}

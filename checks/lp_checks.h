@@ -1,0 +1,25 @@
+/* The calls of crates/lp_checks. What each of them gives is said there. A slice is a pointer, which is never null, and a
+   length. */
+#ifndef LP_CHECKS_H
+#define LP_CHECKS_H
+#include <stdbool.h>
+#include <stddef.h>
+#include <stdint.h>
+
+bool lp_checks_is_utf8(const uint8_t *text, size_t len);
+uint64_t lp_checks_pieces(bool is_strict, const uint8_t *text, size_t len, uint8_t *out, size_t room, uint64_t *ends,
+                          size_t entries);
+uint64_t lp_checks_items(bool is_strict, const uint8_t *text, size_t len, uint8_t *out, size_t room, uint64_t *ends,
+                         size_t entries);
+uint64_t lp_checks_bases(const uint8_t *text, size_t len, uint8_t *out, size_t room, uint64_t *ends, size_t entries);
+uint64_t lp_checks_shown(const uint8_t *text, size_t len, uint8_t *out, size_t room, uint64_t *ends, size_t entries);
+uint64_t lp_checks_copies(const uint8_t *text, size_t len, uint8_t *out, size_t room, uint64_t *ends, size_t entries);
+uint64_t lp_checks_written(const uint8_t *text, size_t len, const uint8_t *start, size_t start_len, bool again,
+                           uint64_t *refused_at, uint8_t *out, size_t room, uint64_t *ends, size_t entries);
+uint64_t lp_checks_build(const uint8_t *program, size_t len, uint64_t reserved, bool again, uint64_t *refused_at,
+                         uint8_t *out, size_t room, uint64_t *ends, size_t entries);
+uint64_t lp_checks_rebuild(bool is_strict, const uint8_t *text, size_t len, uint8_t *out, size_t room, uint64_t *ends,
+                           size_t entries);
+uint8_t lp_checks_run(bool is_strict, const uint8_t *input, size_t len, uint8_t *out, size_t room, uint8_t *err,
+                      size_t err_room, uint64_t lens[2]);
+#endif

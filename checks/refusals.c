@@ -1,0 +1,476 @@
+/* Refuses each request for memory in turn: for N = 1, 2, .. the Nth alone, until a run makes fewer than N requests.
+   What must come is written out here, from the format's rules. `checks/refusals.sh` builds this and runs it.
+
+   malloc, realloc and free of the library come here by the linker's --wrap. */
+#include "lp_checks.h"
+
+#include <stdarg.h>
+#include <stdio.h>
+#include <stdlib.h>
+#include <string.h>
+
+enum { ROOM = 1 << 14, ENTRIES = 64, UNTOUCHED = 0xA5, NOWHERE = 1000 };
+
+static const char *const REFUSED = "OutOfMemory";
+
+/* ---- memory ---- */
+
+static bool counting;        /* a call of the library is running */
+static unsigned long asked;  /* its requests so far */
+static unsigned long refuse; /* the request to refuse; 0: none */
+static long held;            /* blocks that it has not given back */
+static unsigned long runs;   /* all runs so far */
+
+void *__real_malloc(size_t size);
+void *__real_realloc(void *block, size_t size);
+void __real_free(void *block);
+void *__wrap_malloc(size_t size);
+void *__wrap_realloc(void *block, size_t size);
+void __wrap_free(void *block);
+
+void *__wrap_malloc(size_t size) {
+    if (counting && ++asked == refuse) return NULL;
+    void *block = __real_malloc(size);
+    if (counting && block) held++;
+    return block;
+}
+
+void *__wrap_realloc(void *block, size_t size) {
+    if (counting && ++asked == refuse) return NULL;
+    void *moved = __real_realloc(block, size);
+    if (counting && moved && !block) held++;
+    return moved;
+}
+
+void __wrap_free(void *block) {
+    if (counting && block) held--;
+    __real_free(block);
+}
+
+/* ---- differences ---- */
+
+static const char *subject; /* what is being tried */
+
+static void fail(const char *format, ...) {
+    va_list rest;
+    va_start(rest, format);
+    fprintf(stderr, "refusals: %s", subject);
+    if (refuse) fprintf(stderr, ", request %lu refused", refuse);
+    fputs(": ", stderr);
+    vfprintf(stderr, format, rest);
+    fputc('\n', stderr);
+    va_end(rest);
+    exit(1);
+}
+
+/* ---- runs ---- */
+
+static uint8_t out[ROOM], err[ROOM];
+static uint64_t ends[ENTRIES], count, refused_at;
+
+static void begin(unsigned long n) {
+    memset(out, UNTOUCHED, sizeof out);
+    memset(err, UNTOUCHED, sizeof err);
+    memset(ends, 0, sizeof ends);
+    count = 0;
+    refused_at = NOWHERE;
+    asked = 0;
+    refuse = n;
+    held = 0;
+    counting = true;
+}
+
+static void end(void) {
+    counting = false;
+    runs++;
+    if (held) fail("%ld blocks of memory were not given back", held);
+}
+
+static size_t from(size_t place) { return place ? (size_t)ends[place - 1] : 0; }
+
+static bool is(size_t place, const char *wanted) {
+    size_t start = from(place), len = (size_t)ends[place] - start;
+    return len == strlen(wanted) && !memcmp(out + start, wanted, len);
+}
+
+static void must_be(size_t place, const char *wanted) {
+    if (!is(place, wanted))
+        fail("entry %zu is \"%.*s\" and should be \"%s\"", place, (int)(ends[place] - from(place)), out + from(place), wanted);
+}
+
+static void must_be_untouched(const uint8_t *bytes, const char *what) {
+    for (size_t at = 0; at < ROOM; at++)
+        if (bytes[at] != UNTOUCHED) fail("%s was written", what);
+}
+
+/* ---- entries, of which a refusal makes one `OutOfMemory` ---- */
+
+/* `requests` is how many requests the entry makes; SOME: one at least, and how many is not said; ANY: nothing is said. */
+enum { SOME = -1, ANY = -2 };
+struct entry { const char *wanted; long requests; };
+
+enum call { PIECES, ITEMS, STRICT_ITEMS, BASES, SHOWN, COPIES };
+
+static void call(enum call what, const char *text, unsigned long n) {
+    const uint8_t *bytes = (const uint8_t *)text;
+    size_t len = strlen(text);
+    begin(n);
+    switch (what) {
+    case PIECES: count = lp_checks_pieces(false, bytes, len, out, ROOM, ends, ENTRIES); break;
+    case ITEMS: count = lp_checks_items(false, bytes, len, out, ROOM, ends, ENTRIES); break;
+    case STRICT_ITEMS: count = lp_checks_items(true, bytes, len, out, ROOM, ends, ENTRIES); break;
+    case BASES: count = lp_checks_bases(bytes, len, out, ROOM, ends, ENTRIES); break;
+    case SHOWN: count = lp_checks_shown(bytes, len, out, ROOM, ends, ENTRIES); break;
+    case COPIES: count = lp_checks_copies(bytes, len, out, ROOM, ends, ENTRIES); break;
+    }
+    end();
+}
+
+/* The entries are as wanted, but for one that is refused; its place, or NOWHERE. */
+static size_t refused_entry(const struct entry *entries, size_t wanted) {
+    size_t refused = NOWHERE;
+    if (count != wanted) fail("%lu entries came and not %zu", (unsigned long)count, wanted);
+    for (size_t place = 0; place < wanted; place++) {
+        if (is(place, REFUSED)) {
+            if (refused != NOWHERE) fail("entries %zu and %zu are %s", refused, place, REFUSED);
+            refused = place;
+        } else {
+            must_be(place, entries[place].wanted);
+        }
+    }
+    return refused;
+}
+
+/* The requests up to `first` are left alone. */
+static void each_refused(enum call what, const char *text, const struct entry *entries, size_t wanted, unsigned long first) {
+    long refused[ENTRIES] = {0};
+    subject = text;
+    for (unsigned long n = first + 1;; n++) {
+        call(what, text, n);
+        size_t place = refused_entry(entries, wanted);
+        if (asked < n) {
+            if (place != NOWHERE) fail("entry %zu is %s, and nothing was refused", place, REFUSED);
+            break;
+        }
+        if (place == NOWHERE) fail("no entry is %s", REFUSED);
+        refused[place]++;
+    }
+    refuse = 0;
+    for (size_t place = 0; place < wanted; place++) {
+        long should = entries[place].requests;
+        if (should == SOME ? refused[place] == 0 : should != ANY && refused[place] != should)
+            fail("entry %zu makes %ld requests", place, refused[place]);
+    }
+}
+
+#define COUNT(a) (sizeof(a) / sizeof(a)[0])
+#define EACH(what, text, ...)                                              \
+    do {                                                                   \
+        const struct entry wanted_[] = {__VA_ARGS__};                      \
+        each_refused(what, text, wanted_, COUNT(wanted_), 0);              \
+    } while (0)
+
+static void items(void) {
+    EACH(ITEMS,
+         "m a=1i\n"
+         "a\\ b,c\\,d=e\\=f g\\ h=\"i\\\"j\"\n"
+         "m,a=1,b=1,c=1,d=1,e=1,f=1,g=1,h=1,i=1 v=1i,w=1i,x=1i,y=1i,z=1i\n"
+         "m a=1x",
+         {"line 1:m S1:m S1:a=i1", 0},
+         {"line 14:a\\ b,c\\,d=e\\=f C3:a b,C3:c,d=C3:e=f C3:g h=sC3:i\"j", 5},
+         {"line 37:m,a=1,b=1,c=1,d=1,e=1,f=1,g=1,h=1,i=1 S1:m,S1:a=S1:1,S1:b=S1:1,S1:c=S1:1,S1:d=S1:1,S1:e=S1:1,"
+          "S1:f=S1:1,S1:g=S1:1,S1:h=S1:1,S1:i=S1:1 S1:v=i1 S1:w=i1 S1:x=i1 S1:y=i1 S1:z=i1", SOME},
+         {"CannotParseEntireLine 1:x", 1});
+    EACH(ITEMS, "a\\ b f=1i\nm f=1i", {"line 4:a\\ b C3:a b S1:f=i1", 1}, {"line 1:m S1:m S1:f=i1", 0});
+    EACH(ITEMS, "m \\,=1i x", {"CannotParseEntireLine 2: x", 1});
+    EACH(ITEMS, "cpu,host=A,region=west usage_system=64i 1590488773254420000",
+         {"line 22:cpu,host=A,region=west S3:cpu,S4:host=S1:A,S6:region=S4:west S12:usage_system=i64 at 1590488773254420000", 0});
+    EACH(ITEMS, "\\,,\\==x a=\"\\\\\"", {"line 7:\\,,\\==x S1:,,S1:==S1:x S1:a=sS1:\\", 0});
+    EACH(ITEMS, "m 5\nfoo\n,x\nm, f=1i\nm\\\\ f=1i", {"FieldSetMissing", 0}, {"GenericParsingError", 0},
+         {"MeasurementValueInvalid", 0}, {"TagSetMalformed", 0}, {"EndsWithBackslash", ANY});
+    EACH(ITEMS,
+         "m a=-9223372036854775809i\nm a=18446744073709551616u\nm a=1i 9223372036854775808\nm s=\"a\\b\"\nm a=1e5 7\nm a=T",
+         {"IntegerValueInvalid Below 20:-9223372036854775809", 1}, {"UIntegerValueInvalid Above 20:18446744073709551616", 1},
+         {"TimestampValueInvalid Above 19:9223372036854775808", 1}, {"line 1:m S1:m S1:s=sC3:a\\b", 1},
+         {"line 1:m S1:m S1:a=f3:1e5 at 7", 0}, {"line 1:m S1:m S1:a=true", 0});
+    EACH(ITEMS, "m a=1i, 5\nm a=1i,b=2i, 5", {"line 1:m S1:m S1:a=i1 at 5", 0}, {"CannotParseEntireLine 3:, 5", 1});
+    EACH(STRICT_ITEMS, "m a=1i, 5\nm a=1i,", {"CannotParseEntireLine 3:, 5", 1}, {"CannotParseEntireLine 1:,", 1});
+    EACH(ITEMS, "# it a=\"\nm b=1i\nn c=2i", {"CannotParseEntireLine 7:\nn c=2i", 1});
+    EACH(STRICT_ITEMS, "# it a=\"\nm b=1i\nn c=2i", {"line 1:m S1:m S1:b=i1", 0}, {"line 1:n S1:n S1:c=i2", 0});
+}
+
+/* A name with a thousand escapes: one request. */
+static void long_name(void) {
+    char text[2100] = "a", wanted[3200] = "line 2001:a";
+    for (int i = 0; i < 1000; i++) {
+        strcat(text, "\\ ");
+        strcat(wanted, "\\ ");
+    }
+    strcat(text, " f=1i");
+    strcat(wanted, " C1001:a");
+    for (int i = 0; i < 1000; i++) strcat(wanted, " ");
+    strcat(wanted, " S1:f=i1");
+    EACH(ITEMS, text, {wanted, 1});
+}
+
+static void bases(void) {
+    EACH(BASES, "foo,tag2=2,tag1=1 f=1i", {"owned 17:foo,tag1=1,tag2=2", SOME});
+    EACH(BASES, "foo,tag=1,tag=2 f=1i", {"DuplicateTag 3:tag", SOME});
+    EACH(BASES, "\\,,k=v f=1i", {"borrowed 6:\\,,k=v", 0});
+    EACH(BASES, "foo,c=1,b=1,b=2,c=3 f=1i\nm,B=1,a=2 f=1i\nm,a=1,B=2 f=1i\nm,b,a=1,a=2 f=1i\na\\ b,k\\,1=v f=1i\nm 5",
+         {"DuplicateTag 1:b", SOME}, {"borrowed 9:m,B=1,a=2", 0}, {"owned 9:m,B=2,a=1", SOME},
+         {"owned 11:m,a=2,b,a=1", SOME}, {"owned 9:a b,k,1=v", SOME}, {"FieldSetMissing", 0});
+}
+
+/* Copies of a measurement and of a string, both with an escape; the line's own two requests are left alone. */
+static void copies(void) {
+    const struct entry wanted[] = {{"C3:a b", 1}, {"3:a b", 1}, {"3:a b", 1}, {"C3:a b", 0}, {"sC3:a\"b", 1}, {"sC3:a\"b", 0}};
+    each_refused(COPIES, "a\\ b s=\"a\\\"b\"", wanted, COUNT(wanted), 2);
+    EACH(COPIES, "m s=\"x\"", {"S1:m", 0}, {"1:m", 1}, {"1:m", 1}, {"S1:m", 0}, {"sS1:x", 0}, {"sS1:x", 0});
+}
+
+/* Neither the splitter nor what is shown of a line asks for memory. */
+static void no_requests(void) {
+    EACH(PIECES, "meas tag=val field=\"\nval\"\nnext", {"meas tag=val field=\"\nval\"", 0}, {"next", 0});
+    EACH(PIECES, "# it a=\"\nm b=1i\nn c=2i", {"# it a=\"\nm b=1i\nn c=2i", 0});
+    EACH(SHOWN, "m,tag1=val1,tag2=val2 field1=42.1,field2=false 33\nm 5",
+         {"m,tag1=val1,tag2=val2 field1=42.1,field2=false 33", 0}, {"m,tag1=val1,tag2=val2", 0}, {"42.1", 0},
+         {"false", 0}, {"No fields were provided", 0});
+}
+
+/* ---- calls of the builder ---- */
+
+/* A call: its letter, its texts and its number, and the text that it appends. */
+struct step { char letter; const char *key, *text; int64_t number; const char *wanted; };
+
+static const struct step ONE_LINE[] = {
+    {'m', "foo", NULL, 0, "foo"},
+    {'t', "bar", "baz", 0, ",bar=baz"},
+    {'f', "qux", "42", 0, " qux=42"},
+    {'.', NULL, NULL, 0, "\n"},
+};
+
+static const struct step TWO_LINES[] = {
+    {'m', "with,comma and space", NULL, 0, "with\\,comma\\ and\\ space"},
+    {'t', "with space", "with=eq", 0, ",with\\ space=with\\=eq"},
+    {'t', "k", "with\\ backslash", 0, ",k=with\\\\\\ backslash"},
+    {'s', "a", "foo \\ bar", 0, " a=\"foo \\\\ bar\""},
+    {'i', "c", NULL, 51, ",c=51i"},
+    {'u', "u", NULL, 51, ",u=51u"},
+    {'b', "b", NULL, 0, ",b=false"},
+    {'f', "f", "-1.234456E+3", 0, ",f=-1.234456E+3"},
+    {'@', NULL, NULL, 1234, " 1234"},
+    {'.', NULL, NULL, 0, "\n"},
+    {'m', "#x", NULL, 0, "#x"},
+    {'s', "f", "a\nm k", 0, " f=\"a\nm k\""},
+    {'i', "c", NULL, 1, ",c=1i"},
+    {'.', NULL, NULL, 0, "\n"},
+};
+
+static const struct step STAMPED_FIELD[] = {
+    {'m', "m", NULL, 0, "m"},
+    {'i', "a", NULL, 1, " a=1i"},
+    {'@', NULL, NULL, 12, " 12"},
+    {'.', NULL, NULL, 0, "\n"},
+};
+
+static uint8_t program[4096];
+static size_t program_len;
+
+static void spell(const void *bytes, size_t len) {
+    memcpy(program + program_len, bytes, len);
+    program_len += len;
+}
+
+static void spell_text(const char *text) {
+    size_t len = strlen(text);
+    uint8_t two[2] = {(uint8_t)len, (uint8_t)(len >> 8)};
+    spell(two, 2);
+    spell(text, len);
+}
+
+static void spell_number(int64_t number) {
+    uint8_t eight[8];
+    for (int i = 0; i < 8; i++) eight[i] = (uint8_t)((uint64_t)number >> (8 * i));
+    spell(eight, 8);
+}
+
+static void spell_step(const struct step *step) {
+    uint8_t truth = step->number != 0;
+    spell(&step->letter, 1);
+    if (step->key) spell_text(step->key);
+    if (step->text) spell_text(step->text);
+    if (step->letter == 'i' || step->letter == 'u' || step->letter == '@') spell_number(step->number);
+    if (step->letter == 'b') spell(&truth, 1);
+}
+
+static void build(size_t reserved, bool again, unsigned long n) {
+    begin(n);
+    count = lp_checks_build(program, program_len, reserved, again, &refused_at, out, ROOM, ends, ENTRIES);
+    end();
+}
+
+/* What the first calls append, and the end of the line that is open behind them. */
+static void text_before(const struct step *steps, size_t calls, bool ended, char *text) {
+    *text = 0;
+    for (size_t i = 0; i < calls; i++) strcat(text, steps[i].wanted);
+    if (!ended || !calls || steps[calls - 1].letter == '.') return;
+    bool has_field = strchr("sfiub@", steps[calls - 1].letter) != NULL;
+    strcat(text, has_field ? "\n" : " end=true\n");
+}
+
+/* The kind of a call: of fields, the first of a line is one kind and the later ones another. */
+static size_t kind(const struct step *steps, size_t place) {
+    if (!strchr("sfiub", steps[place].letter)) return (size_t)(strchr("mt@.", steps[place].letter) - "mt@.");
+    return strchr("sfiub", steps[place - 1].letter) ? 5 : 4;
+}
+
+static bool kinds[6]; /* which kinds of calls were refused */
+
+/* Each request in turn, where `reserved` bytes of memory are reserved first. */
+static void build_with(const struct step *steps, size_t calls, size_t reserved) {
+    unsigned long own = reserved > 0; /* the reservation is a request too */
+    char text[2048];
+    for (unsigned long n = own + 1;; n++) {
+        build(reserved, true, n);
+        bool is_refused = asked >= n;
+        if (count != 1) fail("the call made again, with %zu bytes reserved, was refused too", reserved);
+        text_before(steps, calls, false, text);
+        must_be(0, text);
+        if (!is_refused) {
+            if (refused_at != NOWHERE) fail("call %lu was refused, and no request was", (unsigned long)refused_at);
+            break;
+        }
+        if (refused_at >= calls) fail("no call was refused");
+        size_t place = (size_t)refused_at;
+        if (n == own + 1) { /* the first call that outgrows what is reserved */
+            size_t first = 0, len = strlen(steps[0].wanted);
+            while (len <= reserved) len += strlen(steps[++first].wanted);
+            if (place != first) fail("call %zu was refused and not %zu, with %zu bytes reserved", place, first, reserved);
+        }
+        kinds[kind(steps, place)] = true;
+        build(reserved, false, n);
+        if (count != 1 || refused_at != place) fail("another call was refused the second time");
+        text_before(steps, place, true, text);
+        must_be(0, text);
+    }
+}
+
+static void calls(const char *name, const struct step *steps, size_t count_of) {
+    char text[2048];
+    subject = name;
+    program_len = 0;
+    for (size_t i = 0; i < count_of; i++) spell_step(&steps[i]);
+    text_before(steps, count_of, false, text);
+    size_t len = strlen(text);
+    for (size_t reserved = 0; reserved <= len; reserved++) build_with(steps, count_of, reserved);
+    build(len, true, 0);
+    if (asked != 1) fail("%lu requests came behind the reservation of the whole", asked - 1);
+    build(len, true, 1);
+    if (count != 0) fail("the reservation was refused, and bytes came");
+}
+
+static void builder(void) {
+    calls("one line of the builder", ONE_LINE, COUNT(ONE_LINE));
+    calls("two lines of the builder", TWO_LINES, COUNT(TWO_LINES));
+    calls("a line with a timestamp", STAMPED_FIELD, COUNT(STAMPED_FIELD));
+    refuse = 0;
+    subject = "the builder";
+    for (size_t i = 0; i < COUNT(kinds); i++)
+        if (!kinds[i]) fail("the call of kind %zu was never refused", i);
+}
+
+/* ---- lines that are written again ---- */
+
+static void written(void) {
+    static const char *const start = "m a=1i\n";
+    static const char *const text = "m a=1E+3,b=007i,c=007u 5\nm,a,b=1,k=d=e f=t\nm,b=1,a=2 f=t";
+    static const char *const lines[] = {"m a=1E+3,b=7i,c=7u 5\n", "m,a\\,b=1,k=d\\=e f=true\n", "m,b=1,a=2 f=true\n"};
+    bool was_refused[COUNT(lines)] = {false};
+    char whole[256], before[256];
+    subject = "write_line";
+    snprintf(whole, sizeof whole, "%s%s%s%s", start, lines[0], lines[1], lines[2]);
+    for (unsigned long n = 2;; n++) { /* the first request is for `start` */
+        bool is_refused = false;
+        for (int again = 1; again >= 0; again--) {
+            begin(n);
+            count = lp_checks_written((const uint8_t *)text, strlen(text), (const uint8_t *)start, strlen(start), again,
+                                      &refused_at, out, ROOM, ends, ENTRIES);
+            end();
+            if (count != 1) fail("the call made again was refused too");
+            is_refused = asked >= n;
+            if (is_refused && refused_at >= COUNT(lines)) fail("no call was refused");
+            if (!is_refused && refused_at != NOWHERE) fail("a call was refused, and no request was");
+            if (!is_refused) break;
+            snprintf(before, sizeof before, "%s", start);
+            for (size_t i = 0; i < (size_t)refused_at; i++) strcat(before, lines[i]);
+            must_be(0, again ? whole : before);
+            was_refused[refused_at] = true;
+        }
+        if (!is_refused) break;
+    }
+    must_be(0, whole);
+    refuse = 0;
+    if (!was_refused[0]) fail("the first line was never refused");
+}
+
+/* ---- rebuild and run ---- */
+
+static const char *const INPUT = "m a=T 5\n# c\nx\nw\\\t a=1i\n";
+static const char *const BATCH = "m a=true 5\n";
+static const char *const FAULTS =
+    "item 2: A generic parsing error occurred: TakeWhile1\nitem 3: a name cannot be written again\n";
+
+static void rebuild(bool is_strict) {
+    subject = is_strict ? "rebuild in the strict dialect" : "rebuild";
+    for (unsigned long n = 1;; n++) {
+        begin(n);
+        count = lp_checks_rebuild(is_strict, (const uint8_t *)INPUT, strlen(INPUT), out, ROOM, ends, ENTRIES);
+        end();
+        if (asked < n) break;
+        if (count != 0) fail("an answer came");
+        must_be_untouched(out, "the report");
+    }
+    if (asked == 0) fail("no request was made");
+    if (count != 3) fail("no answer came");
+    must_be(0, BATCH);
+    must_be(1, FAULTS);
+    must_be(2, "1 carried, 2 refused");
+}
+
+static void run(bool is_strict) {
+    subject = is_strict ? "run in the strict dialect" : "run";
+    uint64_t lens[2];
+    uint8_t answer;
+    for (unsigned long n = 1;; n++) {
+        lens[0] = lens[1] = NOWHERE;
+        begin(n);
+        answer = lp_checks_run(is_strict, (const uint8_t *)INPUT, strlen(INPUT), out, ROOM, err, ROOM, lens);
+        end();
+        if (asked < n) break;
+        if (answer != 3) fail("the answer is %d and not out of memory", answer);
+        if (lens[0] || lens[1]) fail("the sinks hold %lu and %lu bytes", (unsigned long)lens[0], (unsigned long)lens[1]);
+        must_be_untouched(out, "the output");
+        must_be_untouched(err, "the output of faults");
+    }
+    if (asked == 0) fail("no request was made");
+    if (answer != 0) fail("the answer is %d", answer);
+    if (lens[0] != strlen(BATCH) || memcmp(out, BATCH, strlen(BATCH))) fail("the output is not the batch");
+    if (lens[1] != strlen(FAULTS) || memcmp(err, FAULTS, strlen(FAULTS))) fail("the faults are not as stated");
+}
+
+int main(void) {
+    no_requests();
+    items();
+    long_name();
+    bases();
+    copies();
+    builder();
+    written();
+    for (int is_strict = 0; is_strict < 2; is_strict++) {
+        rebuild(is_strict);
+        run(is_strict);
+    }
+    printf("%lu runs", runs);
+    return 0;
+}

@@ -1,0 +1,29 @@
+#!/usr/bin/env bash
+# Refuses each request for memory in turn, and looks at what comes: `refusals.c` says what should. The address and leak
+# sanitizer of the C compiler watches, where it has one.
+set -eu
+here=$(cd "$(dirname "$0")" && pwd)
+top=$(dirname "$here")
+if ! command -v cc >/dev/null; then
+    echo "refusals: there is no cc here, so nothing was tried"
+    exit 0
+fi
+. "$here/library.sh"
+build_library
+built=$(mktemp -d)
+trap 'rm -rf "$built"' EXIT
+
+sanitizer=-fsanitize=address
+watched=", watched by the address sanitizer"
+echo 'int main(void) { return 0; }' >"$built/probe.c"
+if ! { cc $sanitizer "$built/probe.c" -o "$built/probe" && "$built/probe"; } >/dev/null 2>&1; then
+    sanitizer=
+    watched=", without an address sanitizer"
+fi
+cc -O2 -Wall -Wextra $sanitizer -Wl,--wrap=malloc,--wrap=realloc,--wrap=free "$here/refusals.c" "$library" "$heap" \
+    -o "$built/refusals"
+if ! said=$("$built/refusals"); then
+    echo "refusals: what should come with a request refused did not come" >&2
+    exit 1
+fi
+echo "refusals: $said$watched: each as stated"

@@ -1,0 +1,377 @@
+//! The library's calls over byte slices, for the drivers in `checks/`.
+//!
+//! What a call gives is a report: entries of text, one after another in `out`, and where each of them ends in `ends`. Each
+//! call answers the number of entries; those that have no room are counted, and not kept. Each text must be UTF-8, which
+//! `lp_checks_is_utf8` tells. No report takes memory, and no call keeps any.
+#![tactic(auto)]
+
+mod calls;
+mod report;
+mod sinks;
+mod told;
+
+ghost use Rattle.std.specs.Prelude.{IsUtf8};
+
+use calls::{Answer, Lines};
+use influxdb_line_protocol::{
+    Dialect, EscapedStr, LineProtocolBuilder, ParsedLine, parse_lines, parse_lines_in,
+    split_lines_in, write_line,
+};
+use lp_rebuild::{RunFault, rebuild_in, run_in};
+use report::Report;
+use sinks::Room;
+use std::alloc::Global;
+use std::fmt::Write;
+
+// The strict dialect, or that of the crate.
+fn dialect(is_strict: bool) -> Dialect {
+    if is_strict {
+        Dialect::Strict
+    } else {
+        Dialect::Crate
+    }
+}
+
+/// Whether a text is UTF-8.
+#[unsafe(no_mangle)]
+pub extern "C" fn lp_checks_is_utf8(text: &[u8]) -> bool {
+    str::from_utf8(text).is_ok()
+}
+
+/// The pieces of a text.
+#[unsafe(no_mangle)]
+pub extern "C" fn lp_checks_pieces(
+    is_strict: bool,
+    text: &[u8],
+    out: &mut [u8],
+    ends: &mut [u64],
+) -> u64
+    requires { IsUtf8 text.now }
+{
+    let text = unsafe { str::from_utf8_unchecked(text) };
+    let mut report = Report::new(out, ends);
+    for piece in split_lines_in(dialect(is_strict), text) {
+        report.push(piece.as_bytes());
+        report.end();
+    }
+    report.count()
+}
+
+/// The items of a text, told as `told` says.
+#[unsafe(no_mangle)]
+pub extern "C" fn lp_checks_items(
+    alloc: Global,
+    is_strict: bool,
+    text: &[u8],
+    out: &mut [u8],
+    ends: &mut [u64],
+) -> u64
+    requires { IsUtf8 text.now }
+{
+    let text = unsafe { str::from_utf8_unchecked(text) };
+    let mut report = Report::new(out, ends);
+    for item in parse_lines_in(alloc, dialect(is_strict), text) {
+        match &item {
+            Ok(line) => told::tell_line(&mut report, line),
+            Err(fault) => told::tell_fault(&mut report, fault),
+        }
+        report.end();
+    }
+    report.count()
+}
+
+// The base of a line's series, or its fault.
+fn report_base(alloc: Global, report: &mut Report<'_>, line: ParsedLine<'_>) {
+    match &line.series.generate_base(alloc) {
+        Ok(base) => told::tell_base(report, base),
+        Err(fault) => told::tell_fault(report, fault),
+    }
+}
+
+/// The base of the series of each line, or its fault, and the fault of each other item.
+#[unsafe(no_mangle)]
+pub extern "C" fn lp_checks_bases(
+    alloc: Global,
+    text: &[u8],
+    out: &mut [u8],
+    ends: &mut [u64],
+) -> u64
+    requires { IsUtf8 text.now }
+{
+    let text = unsafe { str::from_utf8_unchecked(text) };
+    let mut report = Report::new(out, ends);
+    for item in parse_lines(alloc, text) {
+        match item {
+            Ok(line) => report_base(alloc, &mut report, line),
+            Err(fault) => told::tell_fault(&mut report, &fault),
+        }
+        report.end();
+    }
+    report.count()
+}
+
+// What is shown of a line, of its series, and of each of its values: an entry each.
+fn report_shown(report: &mut Report<'_>, line: &ParsedLine<'_>) {
+    let series = &line.series;
+    let _ = write!(report, "{line}");
+    report.end();
+    let _ = write!(report, "{series}");
+    report.end();
+    for (_, value) in line.field_set.as_slice() {
+        let _ = write!(report, "{value}");
+        report.end();
+    }
+}
+
+/// What is shown of each item: of a line an entry, one of its series, and one of each of its values; of a fault one.
+#[unsafe(no_mangle)]
+pub extern "C" fn lp_checks_shown(
+    alloc: Global,
+    text: &[u8],
+    out: &mut [u8],
+    ends: &mut [u64],
+) -> u64
+    requires { IsUtf8 text.now }
+{
+    let text = unsafe { str::from_utf8_unchecked(text) };
+    let mut report = Report::new(out, ends);
+    for item in parse_lines(alloc, text) {
+        match &item {
+            Ok(line) => report_shown(&mut report, line),
+            Err(fault) => {
+                let _ = write!(report, "{fault}");
+                report.end();
+            }
+        }
+    }
+    report.count()
+}
+
+// The calls that copy a name, and the name behind them: an entry each.
+fn report_copies(alloc: Global, report: &mut Report<'_>, name: &EscapedStr<'_>) {
+    match &name.clone(alloc) {
+        Ok(copy) => told::tell_name(report, copy),
+        Err(_) => report.push(b"OutOfMemory"),
+    }
+    report.end();
+    told::tell_copy(report, &name.to_string(alloc));
+    report.end();
+    told::tell_copy(report, &EscapedStr::from(name.as_str()).into_string(alloc));
+    report.end();
+    told::tell_name(report, name);
+    report.end();
+}
+
+// The copies of a line's measurement and of its values.
+fn report_line_copies(alloc: Global, report: &mut Report<'_>, line: &ParsedLine<'_>) {
+    report_copies(alloc, report, &line.series.measurement);
+    for (_, value) in line.field_set.as_slice() {
+        match &value.clone(alloc) {
+            Ok(copy) => told::tell_value(report, copy),
+            Err(_) => report.push(b"OutOfMemory"),
+        }
+        report.end();
+        told::tell_value(report, value);
+        report.end();
+    }
+}
+
+/// Copies of the measurement and the values of each line, an entry each: of the measurement by `clone`, by `to_string` and
+/// by `into_string` of a slice of the same text, and then the measurement itself; of each value by `clone`, and then the
+/// value itself. The fault of each other item.
+#[unsafe(no_mangle)]
+pub extern "C" fn lp_checks_copies(
+    alloc: Global,
+    text: &[u8],
+    out: &mut [u8],
+    ends: &mut [u64],
+) -> u64
+    requires { IsUtf8 text.now }
+{
+    let text = unsafe { str::from_utf8_unchecked(text) };
+    let mut report = Report::new(out, ends);
+    for item in parse_lines(alloc, text) {
+        match &item {
+            Ok(line) => report_line_copies(alloc, &mut report, line),
+            Err(fault) => {
+                told::tell_fault(&mut report, fault);
+                report.end();
+            }
+        }
+    }
+    report.count()
+}
+
+/// Appends each line of a text to `start`, as it is written again, and reports all the bytes. `refused_at` gets the place
+/// of the item at which `write_line` was refused, counted from 0. A call that was refused is made again where `again` is
+/// set, and again where it is not: then the bytes are those that the refused call left. No entry where a second call, or
+/// the memory for `start`, was refused.
+#[unsafe(no_mangle)]
+pub extern "C" fn lp_checks_written(
+    alloc: Global,
+    text: &[u8],
+    start: &[u8],
+    again: bool,
+    refused_at: &mut u64,
+    out: &mut [u8],
+    ends: &mut [u64],
+) -> u64
+    requires { IsUtf8 text.now }
+{
+    let text = unsafe { str::from_utf8_unchecked(text) };
+    let mut report = Report::new(out, ends);
+    let mut bytes = Vec::new(alloc);
+    if bytes.extend_from_slice(start).is_err() {
+        return 0;
+    }
+    let mut builder = LineProtocolBuilder::new_with(bytes);
+    for (place, item) in parse_lines(alloc, text).enumerate() {
+        let Ok(line) = item else { continue };
+        if line.field_set.as_slice().is_empty() {
+            continue;
+        }
+        builder = match write_line(builder, &line) {
+            Ok(longer) => longer,
+            Err(refused) => {
+                *refused_at = place as u64;
+                if !again {
+                    report.push(refused.builder.build().as_slice());
+                    report.end();
+                    return report.count();
+                }
+                let Ok(longer) = write_line(refused.builder, &line) else {
+                    return 0;
+                };
+                longer
+            }
+        };
+    }
+    report.push(builder.build().as_slice());
+    report.end();
+    report.count()
+}
+
+// A builder over a `Vec` with so much memory reserved; none is asked for where that is 0.
+fn builder_with(alloc: Global, reserved: usize) -> Option<Lines> {
+    if reserved == 0 {
+        return Some(Lines::Closed(LineProtocolBuilder::new(alloc)));
+    }
+    let bytes = Vec::with_capacity(alloc, reserved).ok()?;
+    Some(Lines::Closed(LineProtocolBuilder::new_with(bytes)))
+}
+
+// Makes the calls that `program` spells. At the first refusal `refused_at` gets its place, and the call is made again, or
+// the calls end. `None` where a second call was refused, or a call is none of the builder's state.
+fn make_calls(lines: Lines, program: &[u8], again: bool, refused_at: &mut u64) -> Option<Lines> {
+    let mut lines = lines;
+    let mut rest = program;
+    let mut place = 0u64;
+    let mut is_refused = false;
+    for _ in 0..=program.len() {
+        let Some((call, after)) = calls::take_call(rest) else {
+            break;
+        };
+        match calls::make(lines, call) {
+            Answer::Written(longer) => {
+                lines = longer;
+                rest = after;
+                place = place.saturating_add(1);
+            }
+            Answer::Refused(before) => {
+                if is_refused {
+                    return None;
+                }
+                *refused_at = place;
+                is_refused = true;
+                lines = before;
+                if !again {
+                    return Some(lines);
+                }
+            }
+            Answer::Misplaced => return None,
+        }
+    }
+    if rest.is_empty() { Some(lines) } else { None }
+}
+
+/// Makes the calls of a builder that `program` spells, as `calls` says, over a `Vec` with `reserved` bytes of memory, and
+/// reports the bytes, the open line ended. `refused_at` gets the place of the call that was refused, counted from 0. That
+/// call is made again where `again` is set; where it is not, no further call is made. No entry where a second call or the
+/// reservation was refused, or where a call is none of the builder's state.
+#[unsafe(no_mangle)]
+pub extern "C" fn lp_checks_build(
+    alloc: Global,
+    program: &[u8],
+    reserved: u64,
+    again: bool,
+    refused_at: &mut u64,
+    out: &mut [u8],
+    ends: &mut [u64],
+) -> u64 {
+    let mut report = Report::new(out, ends);
+    let Some(lines) = builder_with(alloc, reserved as usize) else {
+        return 0;
+    };
+    let Some(lines) = make_calls(lines, program, again, refused_at) else {
+        return 0;
+    };
+    let Some(bytes) = calls::finish(lines) else {
+        return 0;
+    };
+    report.push(bytes.as_slice());
+    report.end();
+    report.count()
+}
+
+/// Rebuilds a text: the batch, the faults, and how many items were carried and refused. No entry where memory was refused.
+#[unsafe(no_mangle)]
+pub extern "C" fn lp_checks_rebuild(
+    alloc: Global,
+    is_strict: bool,
+    text: &[u8],
+    out: &mut [u8],
+    ends: &mut [u64],
+) -> u64
+    requires { IsUtf8 text.now }
+{
+    let text = unsafe { str::from_utf8_unchecked(text) };
+    let mut report = Report::new(out, ends);
+    let Ok(rebuilt) = rebuild_in(alloc, dialect(is_strict), text) else {
+        return 0;
+    };
+    report.push(rebuilt.batch.as_slice());
+    report.end();
+    report.push(rebuilt.faults.as_slice());
+    report.end();
+    let carried = rebuilt.carried;
+    let refused = rebuilt.refused;
+    let _ = write!(report, "{carried} carried, {refused} refused");
+    report.end();
+    report.count()
+}
+
+/// Runs over bytes, into `out` and `err`; `lens` gets how many bytes each of the two holds then. The answer is 0 where the
+/// run came to its end, 1 where the reader failed, 2 where the bytes are not UTF-8, 3 where memory was refused, and 4 where a
+/// buffer was full.
+#[unsafe(no_mangle)]
+pub extern "C" fn lp_checks_run(
+    alloc: Global,
+    is_strict: bool,
+    input: &[u8],
+    out: &mut [u8],
+    err: &mut [u8],
+    lens: &mut [u64; 2],
+) -> u8 {
+    let mut reader = input;
+    let mut out = Room::new(out);
+    let mut err = Room::new(err);
+    let answer = run_in(alloc, dialect(is_strict), &mut reader, &mut out, &mut err);
+    *lens = [out.len() as u64, err.len() as u64];
+    match answer {
+        Ok(_) => 0,
+        Err(RunFault::Read) => 1,
+        Err(RunFault::NotUtf8) => 2,
+        Err(RunFault::OutOfMemory) => 3,
+        Err(RunFault::Write) => 4,
+    }
+}
