@@ -1,9 +1,8 @@
 -- Each text is answered by one row of the table.
-use Rattle.std.proofs.Common.{◌≡◌, ℕ, ◌-◌, ◌==◌, List, [], ◌∷◌, ◌++◌, length, take, drop, refl, sym, ap, ◌∙◌, subst, inl, inr, arith}
-use Rattle.std.proofs.Common.{length-append, Option, Some, None, Ok, Err, Result}
+use Rattle.std.proofs.Common.{◌≡◌, ℕ, ◌==◌, List, [], ◌∷◌, ◌++◌, length, take, drop, refl, sym, ap, ◌∙◌, subst, inl, inr}
+use Rattle.std.proofs.Common.{Option, Some, None, Ok, Err, Result}
 use Rattle.std.specs.Prelude.{ℤ, ◌||◌}
 use Rattle.std.specs.Str.Parse.{signed_digits_value}
-use Rattle.std.proofs.Math.Seq.{take-append_seam}
 use Rattle.std.proofs.lemmas.Bool.{cases_Bool, eqb-true, eq-eqb, both_ways}
 use Rattle.influxdb_line_protocol.specs.declared.split.Dialect.{Dialect}
 use Rattle.influxdb_line_protocol.specs.Bytes.{comma, equals, space}
@@ -23,6 +22,7 @@ use Rattle.influxdb_line_protocol.specs.MeaningsOfAnswers.{IsAnswer.no_field, Is
 use Rattle.influxdb_line_protocol.specs.MeaningsOfAnswers.{AnswerIsByRows}
 use Rattle.influxdb_line_protocol.proofs.JoinedMeaning.{the_most_is_read, the_next_has_the_fault, the_first_misses}
 use Rattle.influxdb_line_protocol.proofs.LightLemmas.{tag_set_ends}
+use Rattle.influxdb_line_protocol.proofs.ParsedSeries.{front_is}
 use Rattle.influxdb_line_protocol.proofs.ReadingLemmas.{EndsIn, EndsIn-end, name_ends}
 use Rattle.influxdb_line_protocol.proofs.ShorterRests.{tag_no_longer, field_no_longer}
 
@@ -128,12 +128,6 @@ space_here (c ∷ rest) h = let e = eq-eqb c 32 h in (rest, rw e refl)
 no_space_here : (text : List ℕ) → ¬ BeginsWith space text → byte space text ≡ miss
 no_space_here [] h = refl
 no_space_here (c ∷ rest) h = elim (cases_Bool (c == 32)) [ inl e ↦ absurd (h (eqb-true c 32 e)) | inr other ↦ rw other refl ]
-
--- the front before a rest of the line
-front_is : (line front rest : List ℕ) → line ≡ front ++ rest → front_before line rest ≡ front
-front_is line front rest e =
-    let n : length (front ++ rest) - length rest ≡ length front = omega (arith, length-append front rest) in
-    rw (e, n) (take-append_seam front rest)
 
 -- the answers of the rows, by what the parts read
 module _ (dialect : Dialect) (text : List ℕ) where

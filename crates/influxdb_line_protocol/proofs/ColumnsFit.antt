@@ -26,7 +26,7 @@ use Rattle.influxdb_line_protocol.proofs.ShorterRests.{tag_no_longer, field_no_l
 
 module _ {A : Type 0} (one : List ℕ → Reading A)
     (no_longer : (text : List ℕ) (x : A) (rest : List ℕ) → one text ≡ reads x rest → length rest ≤ length text) where
-  -- values that stand behind commas are no more than the bytes before the rest
+  -- values that stand after commas are no more than the bytes before the rest
   room_behind : (xs : List A) (text rest : List ℕ) → StandBehind one xs text rest → length xs + length rest ≤ length text
   room_behind [] text rest h = omega (arith, ap length h)
   room_behind (x ∷ xs) text rest h =

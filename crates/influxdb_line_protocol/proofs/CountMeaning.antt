@@ -1,4 +1,4 @@
--- As many tags and fields are counted as the most that stand in front of a text.
+-- As many tags and fields are counted as the most that stand at the start of a text.
 use Rattle.std.proofs.Common.{◌≡◌, ℕ, zero, suc, ◌<◌, ◌≤◌, List, [], ◌∷◌, length, refl, sym, ap, ◌∙◌, subst, arith}
 use Rattle.influxdb_line_protocol.specs.Readings.{Reading, miss, fatal, reads}
 use Rattle.influxdb_line_protocol.specs.Lines.{behind_comma}

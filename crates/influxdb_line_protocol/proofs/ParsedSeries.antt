@@ -150,7 +150,7 @@ set_read [] text h = rw h refl
 set_read (t ∷ tags) text h = rw (h.2, h.3, many_read (length h.1) tags h.1 h.4 (stand_room tags h.1 [] h.4)) refl
 
 -- the front before a rest of the line
-front_is : (line front rest : List ℕ) → line ≡ front ++ rest → front_before line rest ≡ front
+pub front_is : (line front rest : List ℕ) → line ≡ front ++ rest → front_before line rest ≡ front
 front_is line front rest e =
     let n : length (front ++ rest) - length rest ≡ length front = omega (arith, length-append front rest) in
     rw (e, n) (take-append_seam front rest)

@@ -75,7 +75,7 @@ TheNextHasTheFault {A} one =
 abbrev pub TheFirstMisses : {A : Type 0} → (List ℕ → Reading A) → Type 0
 TheFirstMisses one = (text : List ℕ) → (joined one text ≡ miss) ↔ (one text ≡ miss)
 
--- As many are counted as the most that stand in front of the text, whatever follows them.
+-- As many are counted as the most that stand at the start of the text, whatever follows them.
 abbrev pub CountIsOfTheMost : {A : Type 0} → (List ℕ → Reading A) → Type 0
 CountIsOfTheMost {A} one =
     (text : List ℕ) → (xs : List A) × (rest : List ℕ) × StandMost one text xs rest × (read_count one text ≡ length xs)
@@ -138,7 +138,7 @@ FloatFrontIsFloat = (text : List ℕ) → 0 < float_len text → IsFloat (take (
 abbrev pub FloatFrontIsLongest : Type 0
 FloatFrontIsLongest = (text : List ℕ) (n : ℕ) → n ≤ length text → IsFloat (take n text) → n ≤ float_len text
 
--- The bytes that the longest of words takes in front of a text are one of the words.
+-- The bytes that the longest of words takes at the start of a text are one of the words.
 abbrev pub WordFrontIsWord : Type 0
 WordFrontIsWord =
     (words : List (List ℕ)) (text : List ℕ) → 0 < word_len words text → Contains words (take (word_len words text) text)
