@@ -100,3 +100,9 @@ module _ (s : Stops) (text : List ℕ) (at run : ℕ) (escapes : is_stop s 92 �
             subst (IsPassed (is_stop s) text) (omega arith)
             (passed_escape (is_stop s) text (at + (run + r)) (omega arith) backslash escapes passed_to);
       }
+
+-- a load without a mark is passed
+pub quiet_load : (s : Stops) (text : List ℕ) (at : ℕ) → is_stop s 92 ≡ false → at + 64 < length text → IsPassed (is_stop s) text at
+    → (mask : ℕ) → mask ≡ mask_of (is_mark s) text at 64 → mask ≡ 0 → IsPassed (is_stop s) text (at + 64)
+quiet_load s text at escapes room passed mask made empty =
+    walk_ends s text at 0 escapes room (omega arith) (subst (IsPassed (is_stop s) text) (omega arith) passed) mask made (rw empty refl)

@@ -13,12 +13,15 @@ ghost use Rattle.influxdb_line_protocol.specs.Pieces.{begins_comment, IsFirstCut
 ghost use Rattle.influxdb_line_protocol.specs.declared.split.Dialect.{Dialect};
 
 use crate::lanes::first_set;
-use memchr::{memchr, memchr3};
+use memchr::{memchr, memchr2, memchr3};
 use std::marker::Model;
 use std::simd::prelude::*;
 
 // How many bytes are looked at together.
 const WIDE: usize = 64;
+
+// How many bytes are looked at by wide loads, where they show nothing, before `memchr` searches on.
+const NEAR: usize = 384;
 
 /// A dialect of line protocol: which rules hold.
 ///
@@ -51,17 +54,17 @@ fn marks_in(stops: Stops, text: &[u8], at: usize) -> u64
 }
 
 // How many of the 64 bytes from `at` on stand before the first bare one that ends a stretch; where
-// there is none 64, or 65 if the last one is a bare backslash.
+// there is none 64, or 65 if the last one is a bare backslash. Their mask is `marks`.
 #[inline(always)]
-fn stop_in(stops: Stops, text: &[u8], at: usize) -> usize
+fn stop_in(stops: Stops, text: &[u8], at: usize, marks: u64) -> usize
     requires escapes { is_stop stops backslash ≡ false }
     requires room { at + WIDE < length text.now }
     requires passed { IsPassed (is_stop stops) text.now at }
+    requires marked { marks ≡ mask_of (is_mark stops) text.now at WIDE }
     ensures within { result ≤ WIDE + 1 }
     ensures passed { IsPassed (is_stop stops) text.now (at + result) }
     ensures stops { result < WIDE → is_stop stops (slice_index text.now (at + result)) ≡ true }
 {
-    let marks = marks_in(stops, text, at);
     let mut run = 0;
     while run < WIDE {
         let left = marks >> run;
@@ -78,28 +81,72 @@ fn stop_in(stops: Stops, text: &[u8], at: usize) -> usize
     run
 }
 
+// The place of the first byte that ends a stretch or is a backslash: `memchr3` looks for these three
+// in a head or a plain stretch, `memchr2` for the backslash and the quote in a quoted one.
+#[inline(always)]
+fn next_mark(stops: Stops, text: &[u8]) -> Option<usize>
+    ensures { IsFirstByte (is_mark stops) text.now result }
+{
+    if stops.first == stops.second {
+        return memchr2(b'\\', stops.first, text);
+    }
+    memchr3(b'\\', stops.first, stops.second, text)
+}
+
+// The place that wide loads reach from `from` on: the first bare byte that ends a stretch, or else
+// one with many bytes before it that show nothing, or with few bytes after it.
+#[inline(always)]
+fn passed_near(stops: Stops, text: &[u8], from: usize) -> usize
+    requires escapes { is_stop stops backslash ≡ false }
+    requires passed { IsPassed (is_stop stops) text.now from }
+    ensures further { from ≤ result }
+    ensures passed { IsPassed (is_stop stops) text.now result }
+{
+    let mut at = from;
+    let mut quiet = 0;
+    while quiet < NEAR && text.len() - at > WIDE {
+        let marks = marks_in(stops, text, at);
+        if marks == 0 {
+            at += WIDE;
+            quiet += WIDE;
+            continue;
+        }
+        let run = stop_in(stops, text, at, marks);
+        at += run;
+        if run < WIDE {
+            return at;
+        }
+        quiet = 0;
+    }
+    at
+}
+
 // How many bytes stand before the first bare one that ends a stretch, or all of them, where there
 // is none before `from`.
-#[inline(always)]
-fn last_len(stops: Stops, text: &[u8], from: usize) -> usize
+#[inline(never)]
+fn far_len(stops: Stops, text: &[u8], from: usize) -> usize
     requires escapes { is_stop stops backslash ≡ false }
     requires passed { IsPassed (is_stop stops) text.now from }
     ensures within { result ≤ length text.now }
     ensures value { result ≡ first_bare (is_stop stops) text.now }
 {
     let mut at = from;
-    while let Some(found) = memchr3(b'\\', stops.first, stops.second, &text[at..]) {
+    loop {
+        at = passed_near(stops, text, at);
+        let Some(found) = next_mark(stops, &text[at..]) else {
+            return text.len();
+        };
         at += found;
         if text[at] != b'\\' {
             return at;
         }
-        // The byte behind a backslash is escaped.
+        // The byte after a backslash is escaped.
         at = (at + 2).min(text.len());
     }
-    text.len()
 }
 
-// How many bytes stand before the first bare one that ends a stretch, or all of them.
+// How many bytes stand before the first bare one that ends a stretch, or all of them: the near ones
+// are searched by wide loads, the far ones by `memchr`.
 #[inline(always)]
 fn stretch_len(stops: Stops, text: &[u8]) -> usize
     requires { is_stop stops backslash ≡ false }
@@ -107,14 +154,14 @@ fn stretch_len(stops: Stops, text: &[u8]) -> usize
     ensures value { result ≡ first_bare (is_stop stops) text.now }
 {
     let mut at = 0;
-    while text.len() - at > WIDE {
-        let run = stop_in(stops, text, at);
+    while at < NEAR && text.len() - at > WIDE {
+        let run = stop_in(stops, text, at, marks_in(stops, text, at));
         at += run;
         if run < WIDE {
             return at;
         }
     }
-    last_len(stops, text, at)
+    far_len(stops, text, at)
 }
 
 /// How many bytes stand before the first bare space or newline, or all of them.

@@ -1,0 +1,14 @@
+use Rattle.std.proofs.Common.{◌-◌, ◌≤◌, length}
+use Rattle.influxdb_line_protocol.specs.Escapes.{IsPassed}
+use Rattle.influxdb_line_protocol.specs.Stops.{is_stop}
+use Rattle.influxdb_line_protocol.proofs.split.passed_near.Given as goal
+
+-- what was walked over holds no bare byte that ends a stretch
+abbrev pub invariant-loop-quiet : goal.invariant-loop-quiet
+invariant-loop-quiet l = record {
+  further : l.fn.from ≤ l.at;
+  passed : IsPassed (is_stop l.stops) l.text l.at;
+}
+
+abbrev pub decreases-loop-quiet : goal.decreases-loop-quiet
+decreases-loop-quiet l = length l.initial.text - l.at
