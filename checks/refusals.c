@@ -397,7 +397,7 @@ static void written(void) {
             count = lp_checks_written((const uint8_t *)text, strlen(text), (const uint8_t *)start, strlen(start), again,
                                       &refused_at, out, ROOM, ends, ENTRIES);
             end();
-            if (count != 1) fail("the call made again was refused too");
+            if (count != 1) fail("no bytes came");
             is_refused = asked >= n;
             if (is_refused && refused_at >= COUNT(lines)) fail("no call was refused");
             if (!is_refused && refused_at != NOWHERE) fail("a call was refused, and no request was");

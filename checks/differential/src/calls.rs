@@ -124,7 +124,10 @@ pub fn calls(seeded: &mut Seeded) -> Calls {
     for made in 0.. {
         lines = match lines {
             Lines::Closed(builder) if made >= few => {
-                return Calls { program, built: builder.build() };
+                return Calls {
+                    program,
+                    built: builder.build(),
+                };
             }
             lines => call(lines, seeded, &mut program),
         };

@@ -78,8 +78,14 @@ impl<'t> Told<'t> {
             FieldValue::F64(value) => {
                 self.take("f")?;
                 let literal = self.text()?;
-                let number: f64 = literal.parse().map_err(|_| format!("{literal:?} is no number"))?;
-                must_equal("a float", &format!("{:x}", number.to_bits()), &format!("{:x}", value.to_bits()))?;
+                let number: f64 = literal
+                    .parse()
+                    .map_err(|_| format!("{literal:?} is no number"))?;
+                must_equal(
+                    "a float",
+                    &format!("{:x}", number.to_bits()),
+                    &format!("{:x}", value.to_bits()),
+                )?;
                 return Ok(Some(literal));
             }
         }
@@ -102,14 +108,19 @@ fn side(source: &ParseIntError) -> &'static str {
 
 // A fault, as `crates/lp_checks` tells it.
 fn told_fault(fault: &Error) -> String {
-    let range = |name: &str, source, value: &str| format!("{name} {} {}", side(source), counted(value));
+    let range =
+        |name: &str, source, value: &str| format!("{name} {} {}", side(source), counted(value));
     match fault {
         Error::DuplicateTag { tag_key } => format!("DuplicateTag {}", counted(tag_key)),
         Error::MeasurementValueInvalid => "MeasurementValueInvalid".into(),
         Error::FieldSetMissing => "FieldSetMissing".into(),
         Error::IntegerValueInvalid { source, value } => range("IntegerValueInvalid", source, value),
-        Error::UIntegerValueInvalid { source, value } => range("UIntegerValueInvalid", source, value),
-        Error::TimestampValueInvalid { source, value } => range("TimestampValueInvalid", source, value),
+        Error::UIntegerValueInvalid { source, value } => {
+            range("UIntegerValueInvalid", source, value)
+        }
+        Error::TimestampValueInvalid { source, value } => {
+            range("TimestampValueInvalid", source, value)
+        }
         Error::EndsWithBackslash => "EndsWithBackslash".into(),
         Error::CannotParseEntireLine { trailing_content } => {
             format!("CannotParseEntireLine {}", counted(trailing_content))
@@ -128,7 +139,9 @@ fn compare_line<'t>(text: &str, line: &ParsedLine<'_>, told: &'t str) -> Outcome
     let debug = format!("{:?}", line.series);
     let wanted = format!("Series {{ raw_input: {raw:?}, measurement: ");
     if !debug.starts_with(&wanted) {
-        return Err(format!("the raw text is {raw:?} here, and there it is in {debug}"));
+        return Err(format!(
+            "the raw text is {raw:?} here, and there it is in {debug}"
+        ));
     }
     told.take(" ")?;
     told.name(&line.series.measurement)?;
@@ -149,7 +162,10 @@ fn compare_line<'t>(text: &str, line: &ParsedLine<'_>, told: &'t str) -> Outcome
         told.take(&format!(" at {timestamp}"))?;
     }
     must_equal("the end of a line", told.0, "")?;
-    match literals.iter().find(|literal| !text.contains(&format!("={literal}"))) {
+    match literals
+        .iter()
+        .find(|literal| !text.contains(&format!("={literal}")))
+    {
         Some(literal) => Err(format!("{literal:?} does not stand in the text")),
         None => Ok(literals),
     }
@@ -160,7 +176,8 @@ fn with_literals<'t>(mut line: ParsedLine<'t>, literals: &[&'t str]) -> ParsedLi
     let mut literals = literals.iter();
     for (_, value) in &mut line.field_set {
         if let FieldValue::F64(_) = value {
-            *value = FieldValue::String((*literals.next().expect("a literal for each float")).into());
+            *value =
+                FieldValue::String((*literals.next().expect("a literal for each float")).into());
         }
     }
     line
@@ -202,7 +219,10 @@ macro_rules! write_field {
             FieldValue::U64(value) => $builder.field($key, *value),
             FieldValue::Boolean(value) => $builder.field($key, *value),
             FieldValue::String(value) => $builder.field($key, value.as_str()),
-            FieldValue::F64(_) => $builder.field($key, Literal($literals.next().expect("a literal for each float"))),
+            FieldValue::F64(_) => $builder.field(
+                $key,
+                Literal($literals.next().expect("a literal for each float")),
+            ),
         }
     };
 }
@@ -283,7 +303,8 @@ impl Reports {
         }
         must_count("texts shown", shown.count(), shown_place)?;
         must_count("batches", written.count(), 1)?;
-        let theirs = String::from_utf8(builder.build()).map_err(|_| "the crate's batch is not UTF-8")?;
+        let theirs =
+            String::from_utf8(builder.build()).map_err(|_| "the crate's batch is not UTF-8")?;
         must_equal("the lines written again", written.entry(0), &theirs)?;
         Ok(items.count())
     }

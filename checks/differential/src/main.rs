@@ -21,12 +21,20 @@ fn compare_calls(seeded: &mut Seeded, built: &mut Report) -> Outcome<()> {
     if built.count() == 1 && built.entry(0) == theirs {
         return Ok(());
     }
-    let ours = if built.count() == 1 { built.entry(0) } else { "nothing" };
-    Err(format!("what is built:\n  here {ours:?}\n  there {theirs:?}"))
+    let ours = if built.count() == 1 {
+        built.entry(0)
+    } else {
+        "nothing"
+    };
+    Err(format!(
+        "what is built:\n  here {ours:?}\n  there {theirs:?}"
+    ))
 }
 
 fn number(word: Option<String>, otherwise: u64) -> u64 {
-    word.map_or(otherwise, |word| word.parse().expect("COUNT and SEED are numbers"))
+    word.map_or(otherwise, |word| {
+        word.parse().expect("COUNT and SEED are numbers")
+    })
 }
 
 fn main() -> ExitCode {
@@ -46,7 +54,9 @@ fn main() -> ExitCode {
             }
         }
         if let Err(fault) = compare_calls(&mut seeded, &mut built) {
-            eprintln!("differential: the calls behind text {made} of seed {seed} differ in {fault}");
+            eprintln!(
+                "differential: the calls behind text {made} of seed {seed} differ in {fault}"
+            );
             return ExitCode::FAILURE;
         }
     }

@@ -1,17 +1,62 @@
 //! This library's calls, by the static library of crates/lp_checks.
 
 extern "C" {
-    fn lp_checks_pieces(strict: bool, text: *const u8, len: usize, out: *mut u8, room: usize, ends: *mut u64, entries: usize) -> u64;
-    fn lp_checks_items(strict: bool, text: *const u8, len: usize, out: *mut u8, room: usize, ends: *mut u64, entries: usize) -> u64;
-    fn lp_checks_bases(text: *const u8, len: usize, out: *mut u8, room: usize, ends: *mut u64, entries: usize) -> u64;
-    fn lp_checks_shown(text: *const u8, len: usize, out: *mut u8, room: usize, ends: *mut u64, entries: usize) -> u64;
+    fn lp_checks_pieces(
+        strict: bool,
+        text: *const u8,
+        len: usize,
+        out: *mut u8,
+        room: usize,
+        ends: *mut u64,
+        entries: usize,
+    ) -> u64;
+    fn lp_checks_items(
+        strict: bool,
+        text: *const u8,
+        len: usize,
+        out: *mut u8,
+        room: usize,
+        ends: *mut u64,
+        entries: usize,
+    ) -> u64;
+    fn lp_checks_bases(
+        text: *const u8,
+        len: usize,
+        out: *mut u8,
+        room: usize,
+        ends: *mut u64,
+        entries: usize,
+    ) -> u64;
+    fn lp_checks_shown(
+        text: *const u8,
+        len: usize,
+        out: *mut u8,
+        room: usize,
+        ends: *mut u64,
+        entries: usize,
+    ) -> u64;
     fn lp_checks_written(
-        text: *const u8, len: usize, start: *const u8, start_len: usize, again: bool, refused_at: *mut u64,
-        out: *mut u8, room: usize, ends: *mut u64, entries: usize,
+        text: *const u8,
+        len: usize,
+        start: *const u8,
+        start_len: usize,
+        again: bool,
+        refused_at: *mut u64,
+        out: *mut u8,
+        room: usize,
+        ends: *mut u64,
+        entries: usize,
     ) -> u64;
     fn lp_checks_build(
-        program: *const u8, len: usize, reserved: u64, again: bool, refused_at: *mut u64,
-        out: *mut u8, room: usize, ends: *mut u64, entries: usize,
+        program: *const u8,
+        len: usize,
+        reserved: u64,
+        again: bool,
+        refused_at: *mut u64,
+        out: *mut u8,
+        room: usize,
+        ends: *mut u64,
+        entries: usize,
     ) -> u64;
 }
 
@@ -24,7 +69,11 @@ pub struct Report {
 
 impl Report {
     pub fn new() -> Self {
-        Report { out: vec![0; 1 << 18], ends: vec![0; 1 << 12], count: 0 }
+        Report {
+            out: vec![0; 1 << 18],
+            ends: vec![0; 1 << 12],
+            count: 0,
+        }
     }
 
     pub fn count(&self) -> usize {
@@ -33,7 +82,11 @@ impl Report {
 
     /// The entry at this place; each is a part of the report.
     pub fn entry(&self, place: usize) -> &str {
-        let start = if place == 0 { 0 } else { self.ends[place - 1] as usize };
+        let start = if place == 0 {
+            0
+        } else {
+            self.ends[place - 1] as usize
+        };
         std::str::from_utf8(&self.out[start..self.ends[place] as usize]).expect("an entry is UTF-8")
     }
 
@@ -41,7 +94,10 @@ impl Report {
         let (room, entries) = (self.out.len(), self.ends.len());
         self.count = call(self.out.as_mut_ptr(), room, self.ends.as_mut_ptr(), entries) as usize;
         assert!(self.count <= entries, "a report has room for its entries");
-        assert!(self.count == 0 || self.ends[self.count - 1] as usize <= room, "a report has room for its text");
+        assert!(
+            self.count == 0 || self.ends[self.count - 1] as usize <= room,
+            "a report has room for its text"
+        );
         self
     }
 
@@ -74,7 +130,16 @@ impl Report {
         let mut refused_at = u64::MAX;
         self.fill(|out, room, ends, entries| unsafe {
             lp_checks_written(
-                text.as_ptr(), text.len(), [].as_ptr(), 0, false, &mut refused_at, out, room, ends, entries,
+                text.as_ptr(),
+                text.len(),
+                [].as_ptr(),
+                0,
+                false,
+                &mut refused_at,
+                out,
+                room,
+                ends,
+                entries,
             )
         })
     }
@@ -83,7 +148,17 @@ impl Report {
     pub fn build(&mut self, program: &[u8]) -> &Self {
         let mut refused_at = u64::MAX;
         self.fill(|out, room, ends, entries| unsafe {
-            lp_checks_build(program.as_ptr(), program.len(), 0, false, &mut refused_at, out, room, ends, entries)
+            lp_checks_build(
+                program.as_ptr(),
+                program.len(),
+                0,
+                false,
+                &mut refused_at,
+                out,
+                room,
+                ends,
+                entries,
+            )
         })
     }
 }

@@ -33,13 +33,54 @@ impl Seeded {
 
 // What a text is made of where it follows no grammar.
 const TOKENS: &[&str] = &[
-    "\\", "\\", "\\", " ", " ", "=", "=", ",", ",", "\"", "\"", "\n", "\n", "\t", "#", "\0", "\r", "a", "b", "é", "m",
-    "0", "1", "9", ".", "-", "+", "e", "E", "i", "u", "t", "true", "FALSE", "m a=1i\n", " a=1", ",k=v", "=\"", "\\\"",
-    "9223372036854775807", "9223372036854775808", "18446744073709551616",
+    "\\",
+    "\\",
+    "\\",
+    " ",
+    " ",
+    "=",
+    "=",
+    ",",
+    ",",
+    "\"",
+    "\"",
+    "\n",
+    "\n",
+    "\t",
+    "#",
+    "\0",
+    "\r",
+    "a",
+    "b",
+    "é",
+    "m",
+    "0",
+    "1",
+    "9",
+    ".",
+    "-",
+    "+",
+    "e",
+    "E",
+    "i",
+    "u",
+    "t",
+    "true",
+    "FALSE",
+    "m a=1i\n",
+    " a=1",
+    ",k=v",
+    "=\"",
+    "\\\"",
+    "9223372036854775807",
+    "9223372036854775808",
+    "18446744073709551616",
 ];
 
 fn tokens(seeded: &mut Seeded, most: usize) -> String {
-    (0..seeded.below(most + 1)).map(|_| seeded.one_of(TOKENS)).collect()
+    (0..seeded.below(most + 1))
+        .map(|_| seeded.one_of(TOKENS))
+        .collect()
 }
 
 /// A name, of which a byte may mean something to the reader; also an empty one.
@@ -47,7 +88,22 @@ pub fn name(seeded: &mut Seeded) -> String {
     if seeded.once_in(12) {
         return tokens(seeded, 4);
     }
-    let plain = ["cpu", "host", "m", "a", "tag", "region=eu", "x y", "a,b", "\\,", "back\\slash", "é", "k1", "k2", "b"];
+    let plain = [
+        "cpu",
+        "host",
+        "m",
+        "a",
+        "tag",
+        "region=eu",
+        "x y",
+        "a,b",
+        "\\,",
+        "back\\slash",
+        "é",
+        "k1",
+        "k2",
+        "b",
+    ];
     let mut name = String::from(seeded.one_of(&plain));
     if seeded.once_in(20) {
         name = name.repeat(1 + seeded.below(12));
@@ -73,8 +129,13 @@ fn spelled(seeded: &mut Seeded, name: &str) -> String {
 /// A number's text: of a few digits, or near to a limit.
 pub fn digits(seeded: &mut Seeded) -> String {
     let near = [
-        "0", "9223372036854775807", "9223372036854775808", "9223372036854775809", "18446744073709551615",
-        "18446744073709551616", "99999999999999999999999999",
+        "0",
+        "9223372036854775807",
+        "9223372036854775808",
+        "9223372036854775809",
+        "18446744073709551615",
+        "18446744073709551616",
+        "99999999999999999999999999",
     ];
     let mut digits = if seeded.once_in(6) {
         String::from(seeded.one_of(&near))
@@ -110,9 +171,24 @@ fn value(seeded: &mut Seeded) -> String {
         0 | 1 => format!("{}{}i", seeded.one_of(&["", "", "-"]), digits(seeded)),
         2 => format!("{}u", digits(seeded)),
         3 => literal(seeded),
-        4 => String::from(seeded.one_of(&["t", "T", "true", "True", "TRUE", "f", "F", "false", "False", "FALSE"])),
+        4 => String::from(seeded.one_of(&[
+            "t", "T", "true", "True", "TRUE", "f", "F", "false", "False", "FALSE",
+        ])),
         5 => format!("\"{}\"", tokens(seeded, 6)),
-        6 => format!("\"{}\"", seeded.one_of(&["", "\\\"", "\\\\", "plain", "a b", "two\nlines", "a,b=c", "\\\\\\\"", "a\\b"])),
+        6 => format!(
+            "\"{}\"",
+            seeded.one_of(&[
+                "",
+                "\\\"",
+                "\\\\",
+                "plain",
+                "a b",
+                "two\nlines",
+                "a,b=c",
+                "\\\\\\\"",
+                "a\\b"
+            ])
+        ),
         _ => tokens(seeded, 2),
     }
 }
@@ -135,7 +211,12 @@ fn line(seeded: &mut Seeded) -> String {
     }
     line += seeded.one_of(&["", "", "", "", "", "", ",", " ", "x"]);
     if seeded.once_in(2) {
-        line += &format!("{}{}{}", seeded.one_of(&[" ", " ", "  "]), seeded.one_of(&["", "-"]), digits(seeded));
+        line += &format!(
+            "{}{}{}",
+            seeded.one_of(&[" ", " ", "  "]),
+            seeded.one_of(&["", "-"]),
+            digits(seeded)
+        );
         line += seeded.one_of(&["", "", "", " ", "  "]);
     }
     line
@@ -149,7 +230,9 @@ fn mutated(seeded: &mut Seeded, text: &str) -> String {
         match seeded.below(3) {
             0 if at < letters.len() => drop(letters.remove(at)),
             1 if at < letters.len() => letters.insert(at, letters[at]),
-            _ => letters.splice(at..at, seeded.one_of(TOKENS).chars()).for_each(drop),
+            _ => letters
+                .splice(at..at, seeded.one_of(TOKENS).chars())
+                .for_each(drop),
         }
     }
     letters.into_iter().collect()

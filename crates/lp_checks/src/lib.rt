@@ -13,6 +13,7 @@ mod told;
 ghost use Rattle.std.specs.Prelude.{IsUtf8};
 
 use calls::{Answer, Lines};
+use influxdb_line_protocol::builder::BeforeMeasurement;
 use influxdb_line_protocol::{
     Dialect, EscapedStr, LineProtocolBuilder, ParsedLine, parse_lines, parse_lines_in,
     split_lines_in, write_line,
@@ -202,10 +203,37 @@ pub extern "C" fn lp_checks_copies(
     report.count()
 }
 
-/// Appends each line of a text to `start`, as it is written again, and reports all the bytes. `refused_at` gets the place
-/// of the item at which `write_line` was refused, counted from 0. A call that was refused is made again where `again` is
-/// set, and again where it is not: then the bytes are those that the refused call left. No entry where a second call, or
-/// the memory for `start`, was refused.
+type Batch = LineProtocolBuilder<Vec<u8>, BeforeMeasurement>;
+
+// Writes a line again. Where that is refused `refused_at` gets the item's place, and the line is written once more if
+// `again` is set. `Err` has the builder that the refused call handed back.
+fn write_item(
+    builder: Batch,
+    line: &ParsedLine<'_>,
+    place: usize,
+    again: bool,
+    refused_at: &mut u64,
+) -> Result<Batch, Batch> {
+    if line.field_set.as_slice().is_empty() {
+        return Ok(builder);
+    }
+    let refused = match write_line(builder, line) {
+        Ok(longer) => return Ok(longer),
+        Err(refused) => refused,
+    };
+    *refused_at = place as u64;
+    if !again {
+        return Err(refused.builder);
+    }
+    match write_line(refused.builder, line) {
+        Ok(longer) => Ok(longer),
+        Err(refused) => Err(refused.builder),
+    }
+}
+
+/// Appends each line of a text to `start`, as it is written again, and reports all the bytes. Where `write_line` is refused
+/// `refused_at` gets the place of the item, counted from 0, and the call is made again if `again` is set; else, or where that
+/// is refused too, no further line is written. No entry where the memory for `start` was refused.
 #[unsafe(no_mangle)]
 pub extern "C" fn lp_checks_written(
     alloc: Global,
@@ -224,28 +252,15 @@ pub extern "C" fn lp_checks_written(
     if bytes.extend_from_slice(start).is_err() {
         return 0;
     }
-    let mut builder = LineProtocolBuilder::new_with(bytes);
+    let mut written = Ok(LineProtocolBuilder::new_with(bytes));
     for (place, item) in parse_lines(alloc, text).enumerate() {
         let Ok(line) = item else { continue };
-        if line.field_set.as_slice().is_empty() {
-            continue;
-        }
-        builder = match write_line(builder, &line) {
-            Ok(longer) => longer,
-            Err(refused) => {
-                *refused_at = place as u64;
-                if !again {
-                    report.push(refused.builder.build().as_slice());
-                    report.end();
-                    return report.count();
-                }
-                let Ok(longer) = write_line(refused.builder, &line) else {
-                    return 0;
-                };
-                longer
-            }
+        written = match written {
+            Ok(builder) => write_item(builder, &line, place, again, refused_at),
+            refused => refused,
         };
     }
+    let (Ok(builder) | Err(builder)) = written;
     report.push(builder.build().as_slice());
     report.end();
     report.count()
