@@ -310,7 +310,7 @@ static void build(size_t reserved, bool again, unsigned long n) {
     end();
 }
 
-/* What the first calls append, and the end of the line that is open behind them. */
+/* What the first calls append, and the end of the line that is open after them. */
 static void text_before(const struct step *steps, size_t calls, bool ended, char *text) {
     *text = 0;
     for (size_t i = 0; i < calls; i++) strcat(text, steps[i].wanted);
@@ -365,7 +365,7 @@ static void calls(const char *name, const struct step *steps, size_t count_of) {
     size_t len = strlen(text);
     for (size_t reserved = 0; reserved <= len; reserved++) build_with(steps, count_of, reserved);
     build(len, true, 0);
-    if (asked != 1) fail("%lu requests came behind the reservation of the whole", asked - 1);
+    if (asked != 1) fail("%lu requests came after the reservation of the whole", asked - 1);
     build(len, true, 1);
     if (count != 0) fail("the reservation was refused, and bytes came");
 }

@@ -45,7 +45,7 @@ impl<'t> Told<'t> {
         }
     }
 
-    // Takes a text behind its length.
+    // Takes a text after its length.
     fn text(&mut self) -> Outcome<&'t str> {
         let (len, rest) = self.0.split_once(':').ok_or("no length")?;
         let len: usize = len.parse().map_err(|_| format!("no length: {len:?}"))?;
@@ -93,7 +93,7 @@ impl<'t> Told<'t> {
     }
 }
 
-// A text behind its length.
+// A text after its length.
 fn counted(text: &str) -> String {
     format!("{}:{text}", text.len())
 }

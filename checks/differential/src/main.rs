@@ -55,7 +55,7 @@ fn main() -> ExitCode {
         }
         if let Err(fault) = compare_calls(&mut seeded, &mut built) {
             eprintln!(
-                "differential: the calls behind text {made} of seed {seed} differ in {fault}"
+                "differential: the calls after text {made} of seed {seed} differ in {fault}"
             );
             return ExitCode::FAILURE;
         }

@@ -54,7 +54,7 @@ fn take_number(bytes: &[u8]) -> Option<(u64, &[u8])> {
     Some((u64::from_le_bytes(*number), rest))
 }
 
-// The value behind the letter of a field and its key, and what follows.
+// The value after the letter of a field and its key, and what follows.
 fn take_value(letter: u8, bytes: &[u8]) -> Option<(Value<'_>, &[u8])> {
     match letter {
         b's' => {
@@ -217,7 +217,7 @@ pub fn make(lines: Lines, call: Call<'_>) -> Answer {
     }
 }
 
-/// The bytes, the open line ended in the shortest way: behind the measurement and tags by the field `end=true`. `None`
+/// The bytes, the open line ended in the shortest way: after the measurement and tags by the field `end=true`. `None`
 /// where that was refused.
 pub fn finish(lines: Lines) -> Option<Vec<u8>> {
     match lines {

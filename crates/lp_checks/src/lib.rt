@@ -148,7 +148,7 @@ pub extern "C" fn lp_checks_shown(
     report.count()
 }
 
-// The calls that copy a name, and the name behind them: an entry each.
+// The calls that copy a name, and then the name itself: an entry each.
 fn report_copies(alloc: Global, report: &mut Report<'_>, name: &EscapedStr<'_>) {
     match &name.clone(alloc) {
         Ok(copy) => told::tell_name(report, copy),

@@ -1,4 +1,4 @@
-//! What was read, as text without doubt: each text follows its length and a colon.
+//! What was read, as text that can be read in one way only: each text follows its length and a colon.
 
 use crate::report::Report;
 use influxdb_line_protocol::{Error, EscapedStr, FieldValue, OutOfRange, ParsedLine};
@@ -44,7 +44,7 @@ pub fn tell_value(report: &mut Report<'_>, value: &FieldValue<'_>) {
     }
 }
 
-// The tags, each behind a comma; for an empty set a comma.
+// The tags, each after a comma; for an empty set a comma.
 fn tell_tags(report: &mut Report<'_>, tags: &[(EscapedStr<'_>, EscapedStr<'_>)]) {
     if tags.is_empty() {
         report.push(b",");
@@ -57,7 +57,7 @@ fn tell_tags(report: &mut Report<'_>, tags: &[(EscapedStr<'_>, EscapedStr<'_>)])
     }
 }
 
-/// A line: `line`, its raw text, its measurement, its tags, its fields, and its timestamp behind `at`.
+/// A line: `line`, its raw text, its measurement, its tags, its fields, and its timestamp after `at`.
 pub fn tell_line(report: &mut Report<'_>, line: &ParsedLine<'_>) {
     report.push(b"line ");
     tell_text(report, line.series.raw_input);
