@@ -38,6 +38,7 @@ fn measurements_are_admitted_so(rt: HostRuntime) -> Result<(), Fail> {
         ("", false),
         ("m\\", false),
         ("#m", false),
+        ("#x", false),
         ("m#", true),
         ("a\tb", false),
         ("a\nb", false),

@@ -4,6 +4,7 @@ use crate::told;
 use arrayvec::ArrayVec;
 use influxdb_line_protocol::builder::{BufMut, FieldValue, NoRoom};
 use influxdb_line_protocol::{FloatText, LineProtocolBuilder};
+use std::alloc::Global;
 use std::test::Fail;
 
 // A value whose text is so many zeros.
@@ -100,7 +101,9 @@ fn no_room_takes_the_empty_text_alone(rt: HostRuntime) -> Result<(), Fail> {
         Ok(_) => return Err("accepted".into()),
         Err(refused) => {
             assert_eq!(rt; refused.cause, NoRoom::Full);
-            refused.builder
+            let buffer = refused.builder.build();
+            assert!(rt; buffer.as_slice().is_empty());
+            LineProtocolBuilder::new_with(buffer)
         }
     };
     accepted(builder.measurement(""))?;
@@ -151,17 +154,32 @@ fn names_and_values_read_back(rt: HostRuntime) -> Result<(), Fail> {
 }
 
 #[test]
-fn strings_are_written_so(rt: HostRuntime) -> Result<(), Fail> {
-    for (text, wanted) in [
-        ("a\\", "m s=\"a\\\\\"\n"),
-        ("foo \\\" bar", "m s=\"foo \\\\\\\" bar\"\n"),
-        ("foo \\ bar", "m s=\"foo \\\\ bar\"\n"),
-        ("", "m s=\"\"\n"),
+fn strings_are_written_and_read_back_so(rt: HostRuntime) -> Result<(), Fail> {
+    for (text, wanted, item) in [
+        ("a\\", "m s=\"a\\\\\"\n", "S<m> S<s>=C<a\\>"),
+        (
+            "foo \\\" bar",
+            "m s=\"foo \\\\\\\" bar\"\n",
+            "S<m> S<s>=C<foo \\\" bar>",
+        ),
+        (
+            "foo \\ bar",
+            "m s=\"foo \\\\ bar\"\n",
+            "S<m> S<s>=C<foo \\ bar>",
+        ),
+        (
+            "some value",
+            "m s=\"some value\"\n",
+            "S<m> S<s>=S<some value>",
+        ),
+        ("", "m s=\"\"\n", "S<m> S<s>=S<>"),
     ] {
         let builder = LineProtocolBuilder::new(rt.alloc());
         let builder = accepted(accepted(builder.measurement("m"))?.field("s", text))?;
         let bytes = accepted(builder.close_line())?.build();
-        assert_eq!(rt; str::from_utf8(bytes.as_slice())?, wanted);
+        let built = str::from_utf8(bytes.as_slice())?;
+        assert_eq!(rt; built, wanted);
+        assert_eq!(rt; told::items(rt.alloc(), built)?.as_str(), item);
     }
     Ok(())
 }
@@ -224,6 +242,7 @@ fn what_follows_a_batch_is_answered_alone(rt: HostRuntime) -> Result<(), Fail> {
         ("m a=1i\n\"x\n", "S<m> S<a>=1i|TakeWhile1"),
         ("m a=1i\n\\\nn b=2i", "S<m> S<a>=1i|C<\\\nn> S<b>=2i"),
         ("m a=1i\n# a=\"\nx\n", "S<m> S<a>=1i|TakeWhile1"),
+        ("m a=1i\n# a=\"\nx", "S<m> S<a>=1i|TakeWhile1"),
         ("m a=1x\nn b=2i", "rest <x>|S<n> S<b>=2i"),
         ("m a=\"x\nn b=2i", "FieldSetMissing"),
         ("y\\\nn b=2i", "C<y\\\nn> S<b>=2i"),
@@ -234,5 +253,73 @@ fn what_follows_a_batch_is_answered_alone(rt: HostRuntime) -> Result<(), Fail> {
             "of {text}"
         );
     }
+    Ok(())
+}
+
+// A line of a measurement, perhaps a tag, and one field that is true.
+fn true_line(
+    alloc: Global,
+    measurement: &str,
+    tag: Option<(&str, &str)>,
+    key: &str,
+) -> Result<Vec<u8>, Fail> {
+    let builder = accepted(LineProtocolBuilder::new(alloc).measurement(measurement))?;
+    let builder = match tag {
+        Some((tag_key, tag_value)) => accepted(builder.tag(tag_key, tag_value))?,
+        None => builder,
+    };
+    let builder = accepted(accepted(builder.field(key, true))?.close_line())?;
+    Ok(builder.build())
+}
+
+// The names are those of the Rust crate's own tests.
+#[test]
+fn a_name_reads_back_in_each_place(rt: HostRuntime) -> Result<(), Fail> {
+    let alloc = rt.alloc();
+    for (name, measurement, key) in [
+        ("plain", "S<plain>", "S<plain>"),
+        ("with space", "C<with space>", "C<with space>"),
+        ("with,comma", "C<with,comma>", "C<with,comma>"),
+        ("with=eq", "S<with=eq>", "C<with=eq>"),
+        (
+            "with\"doublequote",
+            "S<with\"doublequote>",
+            "S<with\"doublequote>",
+        ),
+        (
+            "with'singlequote",
+            "S<with'singlequote>",
+            "S<with'singlequote>",
+        ),
+        (
+            "with\\ backslash",
+            "C<with\\ backslash>",
+            "C<with\\ backslash>",
+        ),
+    ] {
+        let mut batch = true_line(alloc, name, None, "dummy")?;
+        batch.append(&mut true_line(alloc, "m", Some((name, "dummy")), "dummy")?)?;
+        batch.append(&mut true_line(alloc, "m", Some(("dummy", name)), "dummy")?)?;
+        batch.append(&mut true_line(alloc, "m", None, name)?)?;
+        let told = told::items(alloc, str::from_utf8(batch.as_slice())?)?;
+        let wanted = format!(in alloc;
+            "{measurement} S<dummy>=true|S<m>,{key}=S<dummy> S<dummy>=true|S<m>,S<dummy>={key} S<dummy>=true|S<m> {key}=true"
+        )?;
+        assert_eq!(rt; told.as_str(), wanted.as_str());
+    }
+    Ok(())
+}
+
+#[test]
+fn a_timestamp_reads_back(rt: HostRuntime) -> Result<(), Fail> {
+    let builder = accepted(LineProtocolBuilder::new(rt.alloc()).measurement("m"))?;
+    let builder = accepted(accepted(builder.field("dummy", true))?.timestamp(1234))?;
+    let bytes = accepted(builder.close_line())?.build();
+    let text = str::from_utf8(bytes.as_slice())?;
+    assert_eq!(rt; text, "m dummy=true 1234\n");
+    assert_eq!(rt;
+        told::items(rt.alloc(), text)?.as_str(),
+        "S<m> S<dummy>=true at 1234"
+    );
     Ok(())
 }

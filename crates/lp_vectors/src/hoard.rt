@@ -1,5 +1,7 @@
 //! Takes all memory, so that each request is refused while the hoard lives.
 
+ghost use Rattle.std.specs.Prelude.{◌<◌};
+
 use std::alloc::{AllocError, Global};
 
 /// All the memory that the process could get, in blocks.
@@ -9,34 +11,39 @@ pub struct Hoard {
     left: Vec<Vec<u8>>,
 }
 
+// Takes blocks of this size until one is refused.
+fn take_all(alloc: Global, size: usize, blocks: &mut Vec<Vec<u8>>) -> Result<(), AllocError> {
+    for _ in 0..65_536 {
+        let Ok(block) = Vec::with_capacity(alloc, size) else {
+            return Ok(());
+        };
+        blocks.push(block)?;
+    }
+    Ok(())
+}
+
 impl Hoard {
     /// Takes blocks, the largest first, until 16 bytes are refused.
     pub fn new(alloc: Global) -> Result<Hoard, AllocError> {
         let mut blocks = Vec::with_capacity(alloc, 65_536)?;
         let mut size = 1usize << 46;
-        for _ in 0..43 {
-            for _ in 0..65_536 {
-                let Ok(block) = Vec::with_capacity(alloc, size) else {
-                    break;
-                };
-                if blocks.push(block).is_err() {
-                    return Err(AllocError);
-                }
-            }
+        for _ in 0..36 {
+            take_all(alloc, size, &mut blocks)?;
             size = size / 2;
+        }
+        // Blocks that were freed before are kept by their size.
+        for step in 0..64usize {
+            take_all(alloc, 1_032 - 16 * step, &mut blocks)?;
         }
         let left = Vec::new(alloc);
         Ok(Hoard { blocks, left })
     }
 
-    /// The same, but just `count` requests for `size` bytes are granted, and those behind them refused.
-    ///
-    /// A block that is given back serves one request for as many bytes, or for so few that the allocator's smallest
-    /// block holds both, and is not split for smaller ones. It holds for up to 7 blocks of up to 1,024 bytes.
-    pub fn leaving(alloc: Global, count: usize, size: usize) -> Result<Hoard, AllocError> {
-        let mut left = Vec::with_capacity(alloc, count)?;
-        for _ in 0..count {
-            let block = Vec::with_capacity(alloc, size)?;
+    /// The same, but one request for each of these sizes is granted, where it is for a new block. Up to 1,032 bytes each.
+    pub fn leaving(alloc: Global, sizes: &[usize]) -> Result<Hoard, AllocError> {
+        let mut left = Vec::with_capacity(alloc, sizes.len())?;
+        for size in sizes {
+            let block = Vec::with_capacity(alloc, *size)?;
             if left.push(block).is_err() {
                 return Err(AllocError);
             }
@@ -44,6 +51,18 @@ impl Hoard {
         let mut hoard = Hoard::new(alloc)?;
         left.clear();
         hoard.left = left;
+        Ok(hoard)
+    }
+
+    /// The same, but about so many bytes are granted, in requests of any size.
+    pub fn leaving_bytes(alloc: Global, bytes: usize) -> Result<Hoard, AllocError>
+        requires { bytes < 4096 }
+    {
+        let room: Vec<u8> = Vec::with_capacity(alloc, 4_096)?;
+        let mut hoard = Hoard::new(alloc)?;
+        drop(room);
+        let rest = Vec::with_capacity(alloc, 4_096 - bytes)?;
+        hoard.blocks.push(rest)?;
         Ok(hoard)
     }
 

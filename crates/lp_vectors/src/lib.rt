@@ -8,10 +8,24 @@ mod built;
 #[cfg(test)]
 mod bytewise;
 #[cfg(test)]
+mod changed;
+#[cfg(test)]
 mod dialects;
+#[cfg(test)]
+mod drops;
+#[cfg(test)]
+mod failures;
+#[cfg(test)]
+mod faults;
 pub mod hoard;
 #[cfg(test)]
+mod hostile;
+#[cfg(test)]
+mod lent;
+#[cfg(test)]
 mod lines;
+#[cfg(test)]
+mod long;
 #[cfg(test)]
 mod memory;
 #[cfg(test)]
@@ -19,9 +33,13 @@ mod names;
 #[cfg(test)]
 mod pieces;
 #[cfg(test)]
+mod refused;
+#[cfg(test)]
 mod runs;
 #[cfg(test)]
 mod series;
+#[cfg(test)]
+mod small_buffers;
 #[cfg(test)]
 mod tags;
 pub mod told;

@@ -22,10 +22,7 @@ fn lines_are_answered_so(rt: HostRuntime) -> Result<(), Fail> {
         ("meas tag=val field=1\nnext\n", "FieldSetMissing|TakeWhile1"),
         ("foo 1234", "FieldSetMissing"),
         ("foo", "TakeWhile1"),
-        ("# a=\"\nm b=1i", "S<m> S<b>=1i"),
         ("# it a=\"\nm b=1i\nn c=2i", "rest <\nn c=2i>"),
-        ("m a=1i\n# say \"hi\nn b=2i", "S<m> S<a>=1i|S<n> S<b>=2i"),
-        ("#\\\nm b=1i\nn c=2i", "S<m> S<b>=1i|S<n> S<c>=2i"),
         ("m a,b=\"x\ny\"", "FieldSetMissing|TakeWhile1"),
         (
             "  measurement  a=1i  123  ",
@@ -45,7 +42,6 @@ fn lines_are_answered_so(rt: HostRuntime) -> Result<(), Fail> {
         ("m f=\0", "FieldSetMissing"),
         ("field=1 1234", "FieldSetMissing"),
         ("tag1=1 field=1 1234", "S<tag1=1> S<field>=f<1> at 1234"),
-        ("m,t\\ 1=v s=\"x\n", "FieldSetMissing"),
     ] {
         assert_eq!(rt;
             told::items(rt.alloc(), text)?.as_str(),

@@ -1,9 +1,8 @@
-//! Lines and calls while requests for memory are refused: each of them, or those behind the first few.
+//! Lines that are read while requests for memory are refused: each of them, or those after the first few.
 
 use crate::hoard::Hoard;
 use crate::told;
-use influxdb_line_protocol::builder::NoRoom;
-use influxdb_line_protocol::{Error, EscapedStr, LineProtocolBuilder, parse_lines};
+use influxdb_line_protocol::{Error, parse_lines};
 use std::alloc::Global;
 use std::test::Fail;
 
@@ -67,10 +66,10 @@ fn light_lines_are_read_without_memory(rt: HostRuntime) -> Result<(), Fail> {
     Ok(())
 }
 
-// The item of the first line of `text`, told, where just `count` requests for `size` bytes are granted.
-fn told_with(alloc: Global, text: &str, count: usize, size: usize) -> Result<String, Fail> {
+// The item of the first line of `text`, told, where just one request for each of these sizes is granted.
+fn told_with(alloc: Global, text: &str, granted: &[usize]) -> Result<String, Fail> {
     let mut lines = parse_lines(alloc, text);
-    let hoard = Hoard::leaving(alloc, count, size)?;
+    let hoard = Hoard::leaving(alloc, granted)?;
     let item = lines.next();
     drop(hoard);
     match &item {
@@ -80,16 +79,16 @@ fn told_with(alloc: Global, text: &str, count: usize, size: usize) -> Result<Str
     }
 }
 
-// A hoard cannot refuse the k-th request alone: it refuses those from the k-th on.
 #[test]
 fn each_copy_asks_for_memory_once(rt: HostRuntime) -> Result<(), Fail> {
     let alloc = rt.alloc();
     let text = "a\\ b,c\\,d=e\\=f g\\ h=\"i\\\"j\"";
+    let sizes = [3usize; 5];
     for granted in 0..5 {
-        let told = told_with(alloc, text, granted, 16)?;
+        let told = told_with(alloc, text, &sizes[..granted])?;
         assert_eq!(rt; told.as_str(), "OutOfMemory");
     }
-    let told = told_with(alloc, text, 5, 16)?;
+    let told = told_with(alloc, text, &sizes)?;
     assert_eq!(rt; told.as_str(), "C<a b>,C<c,d>=C<e=f> C<g h>=C<i\"j>");
     Ok(())
 }
@@ -98,9 +97,9 @@ fn each_copy_asks_for_memory_once(rt: HostRuntime) -> Result<(), Fail> {
 fn one_known_escape_alone_asks_for_none(rt: HostRuntime) -> Result<(), Fail> {
     let alloc = rt.alloc();
     // The one request is for the rest, which the fault tells.
-    let refused = told_with(alloc, "m \\,=1i x", 0, 16)?;
+    let refused = told_with(alloc, "m \\,=1i x", &[])?;
     assert_eq!(rt; refused.as_str(), "OutOfMemory");
-    let told = told_with(alloc, "m \\,=1i x", 1, 16)?;
+    let told = told_with(alloc, "m \\,=1i x", &[2])?;
     assert_eq!(rt; told.as_str(), "rest < x>");
     Ok(())
 }
@@ -108,49 +107,13 @@ fn one_known_escape_alone_asks_for_none(rt: HostRuntime) -> Result<(), Fail> {
 #[test]
 fn a_copy_of_a_thousand_escapes_asks_once(rt: HostRuntime) -> Result<(), Fail> {
     let alloc = rt.alloc();
-    let mut text = String::from_str(alloc, "a")?;
-    let mut wanted = String::from_str(alloc, "C<a")?;
-    for _ in 0..1_000 {
-        text.push_str("\\ ")?;
-        wanted.push_str(" ")?;
-    }
-    text.push_str(" f=1i")?;
-    wanted.push_str("> S<f>=1i")?;
-    let refused = told_with(alloc, text.as_str(), 0, 1_001)?;
+    let escapes = "\\ ".repeat(alloc, 1_000)?;
+    let spaces = " ".repeat(alloc, 1_000)?;
+    let text = format!(in alloc; "a{escapes} f=1i")?;
+    let wanted = format!(in alloc; "C<a{spaces}> S<f>=1i")?;
+    let refused = told_with(alloc, text.as_str(), &[])?;
     assert_eq!(rt; refused.as_str(), "OutOfMemory");
-    let told = told_with(alloc, text.as_str(), 1, 1_001)?;
+    let told = told_with(alloc, text.as_str(), &[1_001])?;
     assert_eq!(rt; told.as_str(), wanted.as_str());
-    Ok(())
-}
-
-#[test]
-fn a_refused_growth_leaves_the_builder_as_it_was(rt: HostRuntime) -> Result<(), Fail> {
-    let alloc = rt.alloc();
-    let builder = LineProtocolBuilder::new(alloc);
-    let hoard = Hoard::new(alloc)?;
-    let answer = builder.measurement("m");
-    drop(hoard);
-    match answer {
-        Ok(_) => Err("accepted".into()),
-        Err(refused) => {
-            assert_eq!(rt; refused.cause, NoRoom::OutOfMemory);
-            assert!(rt; refused.builder.build().is_empty());
-            Ok(())
-        }
-    }
-}
-
-#[test]
-fn a_slice_is_cloned_without_memory_and_a_copy_is_not(rt: HostRuntime) -> Result<(), Fail> {
-    let alloc = rt.alloc();
-    let slice = EscapedStr::from("a b");
-    let copy = EscapedStr::CopiedValue(String::from_str(alloc, "a b")?);
-    let hoard = Hoard::new(alloc)?;
-    let of_slice = slice.clone(alloc).is_ok();
-    let of_copy = copy.clone(alloc).is_err() && copy.to_string(alloc).is_err();
-    let into_slice = slice.into_string(alloc).is_err();
-    let into_copy = copy.into_string(alloc).is_ok();
-    drop(hoard);
-    assert!(rt; of_slice && of_copy && into_copy && into_slice);
     Ok(())
 }

@@ -21,9 +21,6 @@ fn lines_have_these_names(rt: HostRuntime) -> Result<(), Fail> {
         ("\\\\wea\\\\ther f=1i", "C<\\wea\\ther> S<f>=1i"),
         ("w\\\t f=1i", "C<w\\\t> S<f>=1i"),
         ("w\\\\\t f=1i", "EndsWithBackslash"),
-        ("\\ ", "TakeWhile1"),
-        ("\\# a=1i", "C<\\#> S<a>=1i"),
-        ("é\\é f=1i", "C<é\\é> S<f>=1i"),
         ("\0 field=1 1234", "MeasurementValueInvalid"),
     ] {
         assert_eq!(rt;

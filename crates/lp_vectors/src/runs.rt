@@ -28,6 +28,11 @@ fn runs_write_this(rt: HostRuntime) -> Result<(), Fail> {
         ("m s=\"a\\b\"", "m s=\"a\\\\b\"\n", ""),
         ("m,b=1,a=2 f=t", "m,b=1,a=2 f=true\n", ""),
         ("m a=1i, 5", "m a=1i 5\n", ""),
+        (
+            "cpu usage=64i\n# none\nm 5\n\nw\\\t b=1i\n\nm b=-7i",
+            "cpu usage=64i\nm b=-7i\n",
+            "item 2: No fields were provided\nitem 3: a name cannot be written again\n",
+        ),
         ("m,a,b=1,k=d=e f=t", "m,a\\,b=1,k=d\\=e f=true\n", ""),
         ("a=b f=t", "a=b f=true\n", ""),
         ("\\wea\\ther f=1i", "\\\\wea\\\\ther f=1i\n", ""),

@@ -1,7 +1,8 @@
 //! Tag sets and field sets.
 
 use crate::told;
-use influxdb_line_protocol::{FieldValue, parse_lines};
+use influxdb_line_protocol::{FieldValue, ParsedLine, parse_lines};
+use std::process::Abort;
 use std::test::Fail;
 
 #[test]
@@ -104,6 +105,68 @@ fn the_first_match_is_found(rt: HostRuntime) -> Result<(), Fail> {
         assert!(rt; matches!(line.field_value("asdf"), Some(FieldValue::Boolean(true))));
         assert!(rt; line.tag_value("asdf").is_none());
         assert!(rt; line.field_value("jkl").is_none());
+    }
+    Ok(())
+}
+
+// The rows come from the Rust crate's own tests.
+#[test]
+fn keys_and_tag_values_may_hold_a_nul(rt: HostRuntime) -> Result<(), Fail> {
+    for (text, wanted) in [
+        (
+            "m,ta\0g1=one value=1 123",
+            "S<m>,S<ta\0g1>=S<one> S<value>=f<1> at 123",
+        ),
+        (
+            "m,tag1=o\0ne value=1 123",
+            "S<m>,S<tag1>=S<o\0ne> S<value>=f<1> at 123",
+        ),
+        (
+            "m,tag1=one val\0ue=1 123",
+            "S<m>,S<tag1>=S<one> S<val\0ue>=f<1> at 123",
+        ),
+        (
+            "m,\0=one value=1 123",
+            "S<m>,S<\0>=S<one> S<value>=f<1> at 123",
+        ),
+        (
+            "m,tag1=\0 value=1 123",
+            "S<m>,S<tag1>=S<\0> S<value>=f<1> at 123",
+        ),
+        (
+            "m,tag1=one \0=1 123",
+            "S<m>,S<tag1>=S<one> S<\0>=f<1> at 123",
+        ),
+    ] {
+        assert_eq!(rt; told::items(rt.alloc(), text)?.as_str(), wanted);
+    }
+    Ok(())
+}
+
+// How many columns a line has whose sets are small.
+fn columns(rt: &impl Abort, line: &ParsedLine<'_>) -> usize {
+    assert!(rt; line.field_set.len() < 100);
+    if let Some(tags) = &line.series.tag_set {
+        assert!(rt; tags.len() < 100);
+    }
+    line.column_count()
+}
+
+#[test]
+fn columns_are_counted_so(rt: HostRuntime) -> Result<(), Fail> {
+    for (text, wanted) in [
+        (
+            "cpu,host=A,region=west usage_system=64i 1590488773254420000",
+            4,
+        ),
+        ("m,a,b=1,c=d=e f=t", 4),
+        ("m,k=1,k=2 a=1i,a=2i", 5),
+        ("m f=1i", 2),
+    ] {
+        let Some(Ok(line)) = parse_lines(rt.alloc(), text).next() else {
+            return Err("no line".into());
+        };
+        assert_eq!(rt; columns(&rt, &line), wanted, "of {text}");
     }
     Ok(())
 }

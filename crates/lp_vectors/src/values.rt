@@ -1,4 +1,5 @@
-//! Values and timestamps.
+//! Values and timestamps. What stands behind `asdf=` and `field=` comes from the Rust crate's own tests, the others from the
+//! format's rules.
 
 use crate::told;
 use influxdb_line_protocol::{FieldValue, FloatText, parse_lines};
@@ -56,14 +57,29 @@ fn values_are_read_so(rt: HostRuntime) -> Result<(), Fail> {
         ("m s=\"ab", "FieldSetMissing"),
         ("m s=\"ab\\\"", "FieldSetMissing"),
         (
-            "m s=\"The \\\"string\\\" val\"",
-            "S<m> S<s>=C<The \"string\" val>",
+            "foo asdf=\"The \\\"string\\\" val\"",
+            "S<foo> S<asdf>=C<The \"string\" val>",
         ),
-        ("m s=\"hot\\cold\"", "S<m> S<s>=C<hot\\cold>"),
-        ("m s=\"hot\\\\cold\"", "S<m> S<s>=C<hot\\cold>"),
-        ("m s=\"hot\\\\\\cold\"", "S<m> S<s>=C<hot\\\\cold>"),
-        ("m s=\"hot\\\\\\\\cold\"", "S<m> S<s>=C<hot\\\\cold>"),
-        ("m s=\"hot\\\\\\\\\\cold\"", "S<m> S<s>=C<hot\\\\\\cold>"),
+        (
+            "foo asdf=\"too hot\\cold\"",
+            "S<foo> S<asdf>=C<too hot\\cold>",
+        ),
+        (
+            "foo asdf=\"too hot\\\\cold\"",
+            "S<foo> S<asdf>=C<too hot\\cold>",
+        ),
+        (
+            "foo asdf=\"too hot\\\\\\cold\"",
+            "S<foo> S<asdf>=C<too hot\\\\cold>",
+        ),
+        (
+            "foo asdf=\"too hot\\\\\\\\cold\"",
+            "S<foo> S<asdf>=C<too hot\\\\cold>",
+        ),
+        (
+            "foo asdf=\"too hot\\\\\\\\\\cold\"",
+            "S<foo> S<asdf>=C<too hot\\\\\\cold>",
+        ),
         ("foo asdf=23i 1234", "S<foo> S<asdf>=23i at 1234"),
         ("foo asdf=44 546", "S<foo> S<asdf>=f<44> at 546"),
         ("foo asdf=3.74 123", "S<foo> S<asdf>=f<3.74> at 123"),
@@ -78,15 +94,15 @@ fn values_are_read_so(rt: HostRuntime) -> Result<(), Fail> {
         ("m0 field=-1.234456E+", "rest <E+>"),
         ("m0 field=-1.234456E-", "rest <E->"),
         (
-            "m a=99999999999999999999999999999999i",
+            "m0 field=99999999999999999999999999999999i",
             "IntegerValueInvalid Above <99999999999999999999999999999999>",
         ),
         (
-            "m a=99999999999999999999999999999999u",
+            "m0 field=99999999999999999999999999999999u",
             "UIntegerValueInvalid Above <99999999999999999999999999999999>",
         ),
         (
-            "m a=1i 99999999999999999999999999999999",
+            "m0 field=1i 99999999999999999999999999999999",
             "TimestampValueInvalid Above <99999999999999999999999999999999>",
         ),
     ] {
@@ -101,24 +117,20 @@ fn values_are_read_so(rt: HostRuntime) -> Result<(), Fail> {
 
 #[test]
 fn boolean_words_are_read_so(rt: HostRuntime) -> Result<(), Fail> {
-    for (word, value) in [
-        ("true", true),
-        ("True", true),
-        ("TRUE", true),
-        ("t", true),
-        ("T", true),
-        ("false", false),
-        ("False", false),
-        ("FALSE", false),
-        ("f", false),
-        ("F", false),
+    for (text, wanted) in [
+        ("foo asdf=t", "S<foo> S<asdf>=true"),
+        ("foo asdf=T", "S<foo> S<asdf>=true"),
+        ("foo asdf=true", "S<foo> S<asdf>=true"),
+        ("foo asdf=True", "S<foo> S<asdf>=true"),
+        ("foo asdf=TRUE", "S<foo> S<asdf>=true"),
+        ("foo asdf=f", "S<foo> S<asdf>=false"),
+        ("foo asdf=F", "S<foo> S<asdf>=false"),
+        ("foo asdf=false", "S<foo> S<asdf>=false"),
+        ("foo asdf=False", "S<foo> S<asdf>=false"),
+        ("foo asdf=FALSE", "S<foo> S<asdf>=false"),
+        ("foo asdf=T 7", "S<foo> S<asdf>=true at 7"),
     ] {
-        let text = format!(in rt.alloc(); "foo asdf={word} 7")?;
-        let wanted = format!(in rt.alloc(); "S<foo> S<asdf>={value} at 7")?;
-        assert_eq!(rt;
-            told::items(rt.alloc(), text.as_str())?.as_str(),
-            wanted.as_str()
-        );
+        assert_eq!(rt; told::items(rt.alloc(), text)?.as_str(), wanted);
     }
     Ok(())
 }

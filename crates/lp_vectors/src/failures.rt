@@ -1,0 +1,129 @@
+//! Runs of the program over devices that fail, at each call in turn. The answers come from the format's rules.
+
+use crate::drops::{Basin, Trickle};
+use lp_rebuild::{RunFault, Writing, run};
+use std::alloc::Global;
+use std::cell::Cell;
+use std::io::{self, Write};
+use std::test::Fail;
+
+const TEXT: &[u8] = b"m a=T 5\n# c\nx\nw\\\t a=1i\n";
+
+const OUT: &[u8] = b"m a=true 5\n";
+
+const ERR: &[u8] =
+    b"item 2: A generic parsing error occurred: TakeWhile1\nitem 3: a name cannot be written again\n";
+
+// A run over the text: its answer, and what the sinks hold.
+#[derive(Drop)]
+struct Ended {
+    fault: Option<RunFault>,
+    out: Basin,
+    err: Basin,
+}
+
+// Runs over the text, where each device fails at its call, and at none where that is 0.
+fn run_with(alloc: Global, reader_at: usize, out_at: usize, err_at: usize) -> Ended {
+    let mut reader = Trickle::new(TEXT, reader_at);
+    let mut out = Basin::new(out_at);
+    let mut err = Basin::new(err_at);
+    let fault = run(alloc, &mut reader, &mut out, &mut err).err();
+    Ended { fault, out, err }
+}
+
+#[test]
+fn a_run_is_the_same_byte_by_byte(rt: HostRuntime) {
+    // The reader says at one call more than there are bytes that it is at its end.
+    for reader_at in [0, TEXT.len() + 2] {
+        let ended = run_with(rt.alloc(), reader_at, OUT.len() + 2, ERR.len() + 2);
+        assert_eq!(rt; ended.fault, None);
+        assert_eq!(rt; ended.out.as_slice(), OUT);
+        assert_eq!(rt; ended.err.as_slice(), ERR);
+        assert_eq!(rt; ended.out.flushes(), 1);
+        assert_eq!(rt; ended.err.flushes(), 1);
+    }
+}
+
+#[test]
+fn a_reader_that_fails_leaves_both_outputs_empty(rt: HostRuntime) {
+    for reader_at in 1..TEXT.len() + 2 {
+        let ended = run_with(rt.alloc(), reader_at, 0, 0);
+        assert_eq!(rt; ended.fault, Some(RunFault::Read), "at {reader_at}");
+        assert!(rt; ended.out.as_slice().is_empty(), "at {reader_at}");
+        assert!(rt; ended.err.as_slice().is_empty(), "at {reader_at}");
+    }
+}
+
+// The last call is the flush.
+#[test]
+fn an_output_that_fails_holds_what_it_took_before(rt: HostRuntime) {
+    for out_at in 1..OUT.len() + 2 {
+        let ended = run_with(rt.alloc(), 0, out_at, 0);
+        assert_eq!(rt; ended.fault, Some(RunFault::Write), "at {out_at}");
+        assert_eq!(rt; ended.out.as_slice(), &OUT[..out_at - 1], "at {out_at}");
+        assert!(rt; ended.err.as_slice().is_empty(), "at {out_at}");
+    }
+}
+
+#[test]
+fn faults_that_cannot_be_written_come_after_the_whole_batch(rt: HostRuntime) {
+    for err_at in 1..ERR.len() + 2 {
+        let ended = run_with(rt.alloc(), 0, 0, err_at);
+        assert_eq!(rt; ended.fault, Some(RunFault::Write), "at {err_at}");
+        assert_eq!(rt; ended.out.as_slice(), OUT, "at {err_at}");
+        assert_eq!(rt; ended.err.as_slice(), &ERR[..err_at - 1], "at {err_at}");
+    }
+}
+
+#[test]
+fn input_that_is_no_text_leaves_both_outputs_empty(rt: HostRuntime) {
+    let mut reader = Trickle::new(b"m a=1i\n\xc3", 0);
+    let mut out = Basin::new(0);
+    let mut err = Basin::new(0);
+    let answer = run(rt.alloc(), &mut reader, &mut out, &mut err);
+    assert_eq!(rt; answer.err(), Some(RunFault::NotUtf8));
+    assert!(rt; out.as_slice().is_empty());
+    assert!(rt; err.as_slice().is_empty());
+}
+
+// A writer of std that takes nothing, or all, and counts its flushes.
+#[derive(Drop)]
+struct Counted<'a> {
+    takes: bool,
+    flushes: &'a Cell<usize>,
+}
+
+impl<'a> Write for Counted<'a> {
+    fn write(&mut self, buf: &[u8]) -> io::Result<usize> {
+        if self.takes { Ok(buf.len()) } else { Ok(0) }
+    }
+
+    fn flush(&mut self) -> io::Result<()> {
+        self.flushes.set(self.flushes.get().saturating_add(1));
+        Ok(())
+    }
+}
+
+#[test]
+fn a_writer_that_takes_nothing_has_failed(rt: HostRuntime) {
+    for (out_takes, err_takes, fault, out_flushes, err_flushes) in [
+        (true, true, None, 1, 1),
+        (false, true, Some(RunFault::Write), 0, 0),
+        (true, false, Some(RunFault::Write), 1, 0),
+    ] {
+        let (out_count, err_count) = (Cell::new(0), Cell::new(0));
+        let mut reader = TEXT;
+        let mut out = Writing::new(Counted {
+            takes: out_takes,
+            flushes: &out_count,
+        });
+        let mut err = Writing::new(Counted {
+            takes: err_takes,
+            flushes: &err_count,
+        });
+        let answer = run(rt.alloc(), &mut reader, &mut out, &mut err);
+        assert_eq!(rt; answer.err(), fault);
+        assert_eq!(rt; out_count.get(), out_flushes);
+        assert_eq!(rt; err_count.get(), err_flushes);
+    }
+}

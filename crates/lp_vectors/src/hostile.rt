@@ -1,0 +1,192 @@
+//! Texts that somebody might write to make a reader stumble: long runs of backslashes, quotes and comments before a
+//! newline, and texts that end early. The answers come from the format's rules.
+
+use crate::told;
+use influxdb_line_protocol::{
+    Dialect, LineProtocolBuilder, is_admitted, parse_lines, parse_lines_in, split_lines_in,
+    write_line,
+};
+use std::alloc::{AllocError, Global};
+use std::test::Fail;
+
+const DIALECTS: [Dialect; 2] = [Dialect::Crate, Dialect::Strict];
+
+// A text with a run of backslashes in it.
+fn with_backslashes(
+    alloc: Global,
+    before: &str,
+    count: usize,
+    after: &str,
+) -> Result<String, AllocError> {
+    let mut text = String::from_str(alloc, before)?;
+    let run = "\\".repeat(alloc, count)?;
+    text.push_str(run.as_str())?;
+    text.push_str(after)?;
+    Ok(text)
+}
+
+#[test]
+fn long_runs_of_backslashes_are_read_by_twos(rt: HostRuntime) -> Result<(), Fail> {
+    let alloc = rt.alloc();
+    // What stands before and after the run, and the same for the run that is left of it.
+    for (before, count, after, told_before, told_count, told_after) in [
+        ("", 10_000, "", "EndsWithBackslash", 0, ""),
+        ("", 9_999, "", "EndsWithBackslash", 0, ""),
+        (
+            "",
+            10_000,
+            "\nx f=1i",
+            "EndsWithBackslash|S<x> S<f>=1i",
+            0,
+            "",
+        ),
+        ("", 9_999, "\nx f=1i", "C<", 5_000, "\nx> S<f>=1i"),
+        ("m s=\"", 10_000, "\"", "S<m> S<s>=C<", 5_000, ">"),
+        ("m s=\"", 9_999, "\"", "FieldSetMissing", 0, ""),
+    ] {
+        let text = with_backslashes(alloc, before, count, after)?;
+        let wanted = with_backslashes(alloc, told_before, told_count, told_after)?;
+        for dialect in DIALECTS {
+            let told = told::items_in(alloc, dialect, text.as_str())?;
+            assert_eq!(rt; told.as_str(), wanted.as_str(), "{before} {count} {after}");
+        }
+    }
+    Ok(())
+}
+
+#[test]
+fn each_line_is_cut_and_answered_on_its_own(rt: HostRuntime) -> Result<(), Fail> {
+    let alloc = rt.alloc();
+    // The pieces by each dialect, and the items, which are the same.
+    for (text, by_crate, by_strict, items) in [
+        // The counts of `=` and `,` begin anew with each piece: what a line before had does not tell whether a quote opens.
+        (
+            "m a=1i\n# say \"hi\nn b=2i",
+            "<m a=1i><# say \"hi><n b=2i>",
+            "<m a=1i><# say \"hi><n b=2i>",
+            "S<m> S<a>=1i|S<n> S<b>=2i",
+        ),
+        (
+            "m a=1i\nn \"x\no b=2i",
+            "<m a=1i><n \"x><o b=2i>",
+            "<m a=1i><n \"x><o b=2i>",
+            "S<m> S<a>=1i|FieldSetMissing|S<o> S<b>=2i",
+        ),
+        (
+            "m ,,,\nn c=\"x\ny\"",
+            "<m ,,,><n c=\"x\ny\">",
+            "<m ,,,><n c=\"x\ny\">",
+            "FieldSetMissing|S<n> S<c>=S<x\ny>",
+        ),
+        (
+            "# a=\"\nm b=1i",
+            "<# a=\"\nm b=1i>",
+            "<# a=\"><m b=1i>",
+            "S<m> S<b>=1i",
+        ),
+        (
+            "#\\\nm b=1i\nn c=2i",
+            "<#\\\nm b=1i><n c=2i>",
+            "<#\\><m b=1i><n c=2i>",
+            "S<m> S<b>=1i|S<n> S<c>=2i",
+        ),
+        ("\\ ", "<\\ >", "<\\ >", "TakeWhile1"),
+        ("\\# a=1i", "<\\# a=1i>", "<\\# a=1i>", "C<\\#> S<a>=1i"),
+        ("é\\é f=1i", "<é\\é f=1i>", "<é\\é f=1i>", "C<é\\é> S<f>=1i"),
+        (
+            "m,t\\ 1=v s=\"x\n",
+            "<m,t\\ 1=v s=\"x\n>",
+            "<m,t\\ 1=v s=\"x\n>",
+            "FieldSetMissing",
+        ),
+    ] {
+        for (dialect, pieces) in [(Dialect::Crate, by_crate), (Dialect::Strict, by_strict)] {
+            let told = told::pieces_in(alloc, dialect, text)?;
+            assert_eq!(rt; told.as_str(), pieces, "of {text}");
+            let told = told::items_in(alloc, dialect, text)?;
+            assert_eq!(rt; told.as_str(), items, "of {text}");
+        }
+    }
+    Ok(())
+}
+
+#[test]
+fn a_backslash_and_a_number_sign_are_a_name(rt: HostRuntime) -> Result<(), Fail> {
+    let alloc = rt.alloc();
+    let Some(Ok(line)) = parse_lines(alloc, "\\# a=1i").next() else {
+        return Err("no line".into());
+    };
+    assert!(rt; is_admitted(&line));
+    assert!(rt; line.field_set.len() > 0);
+    match write_line(LineProtocolBuilder::new(alloc), &line) {
+        Ok(builder) => {
+            let bytes = builder.build();
+            assert_eq!(rt; bytes.as_slice(), b"\\\\# a=1i\n".as_slice());
+        }
+        Err(_) => return Err("refused".into()),
+    }
+    Ok(())
+}
+
+// How many pieces a text has, where each of them is empty.
+fn empty_pieces(dialect: Dialect, text: &str) -> Option<usize> {
+    let mut count = 0usize;
+    for piece in split_lines_in(dialect, text) {
+        if !piece.is_empty() {
+            return None;
+        }
+        count = count.saturating_add(1);
+    }
+    Some(count)
+}
+
+#[test]
+fn many_newlines_make_as_many_pieces_and_one(rt: HostRuntime) -> Result<(), Fail> {
+    let text = "\n".repeat(rt.alloc(), 100_000)?;
+    for dialect in DIALECTS {
+        assert_eq!(rt; empty_pieces(dialect, text.as_str()), Some(100_001));
+        assert!(rt;
+            parse_lines_in(rt.alloc(), dialect, text.as_str())
+                .next()
+                .is_none()
+        );
+    }
+    Ok(())
+}
+
+// A batch of two lines, and what it and its first line are read as.
+const BATCH: &[u8] = b"m,t\\ 1=v s=\"x\ny\",f=1i 5\nn a=2u\n";
+
+const FIRST_LINE: &[u8] = b"m,t\\ 1=v s=\"x\ny\",f=1i 5\n";
+
+const FIRST: &str = "S<m>,C<t 1>=S<v> S<s>=S<x\ny> S<f>=1i at 5";
+
+const BOTH: &str = "S<m>,C<t 1>=S<v> S<s>=S<x\ny> S<f>=1i at 5|S<n> S<a>=2u";
+
+// Whether these are the items that a front of the batch may have.
+fn is_told_of_front(front: &[u8], told: &str) -> bool {
+    if front.len() < FIRST_LINE.len() {
+        return !told.contains('|');
+    }
+    told == FIRST
+        || told
+            .strip_prefix(FIRST)
+            .map_or(false, |rest| rest.starts_with('|'))
+}
+
+#[test]
+fn each_front_of_a_batch_begins_with_the_lines_that_it_holds(rt: HostRuntime) -> Result<(), Fail> {
+    for dialect in DIALECTS {
+        for end in 0..BATCH.len() + 1 {
+            let front = &BATCH[..end];
+            let told = told::items_in(rt.alloc(), dialect, str::from_utf8(front)?)?;
+            assert!(rt;
+                is_told_of_front(front, told.as_str()),
+                "{end} bytes: {told}"
+            );
+        }
+        let told = told::items_in(rt.alloc(), dialect, str::from_utf8(BATCH)?)?;
+        assert_eq!(rt; told.as_str(), BOTH);
+    }
+    Ok(())
+}

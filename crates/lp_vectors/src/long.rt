@@ -1,0 +1,88 @@
+//! Long lines and long faults, in both dialects: with memory at hand each is answered in full. The answers come from the
+//! format's rules.
+
+use crate::told;
+use influxdb_line_protocol::Dialect;
+use std::alloc::{AllocError, Global};
+use std::test::Fail;
+
+const DIALECTS: [Dialect; 2] = [Dialect::Crate, Dialect::Strict];
+
+// A text that repeats a part between two others.
+fn repeated(
+    alloc: Global,
+    before: &str,
+    part: &str,
+    count: usize,
+    after: &str,
+) -> Result<String, AllocError> {
+    let mut text = String::from_str(alloc, before)?;
+    let run = part.repeat(alloc, count)?;
+    text.push_str(run.as_str())?;
+    text.push_str(after)?;
+    Ok(text)
+}
+
+#[test]
+fn long_sets_are_read_whole(rt: HostRuntime) -> Result<(), Fail> {
+    // What is repeated stands between two texts, in the line and in what is told of it.
+    for (before, part, after, told_before, told_part, told_after) in [
+        ("m a=1i", ",b=2u", "", "S<m> S<a>=1i", " S<b>=2u", ""),
+        (
+            "m a=1i",
+            ",\\,=\"\\\\\"",
+            " 5",
+            "S<m> S<a>=1i",
+            " S<,>=S<\\>",
+            " at 5",
+        ),
+        (
+            "m,k=v",
+            ",t=w",
+            " f=1i",
+            "S<m>,S<k>=S<v>",
+            ",S<t>=S<w>",
+            " S<f>=1i",
+        ),
+        (
+            "m,k=v",
+            ",\\==x\\ y",
+            " f=1i",
+            "S<m>,S<k>=S<v>",
+            ",S<=>=C<x y>",
+            " S<f>=1i",
+        ),
+    ] {
+        for count in [3, 4, 7, 8, 14, 999] {
+            let text = repeated(rt.alloc(), before, part, count, after)?;
+            let wanted = repeated(rt.alloc(), told_before, told_part, count, told_after)?;
+            for dialect in DIALECTS {
+                let told = told::items_in(rt.alloc(), dialect, text.as_str())?;
+                assert_eq!(rt; told.as_str(), wanted.as_str(), "{count} of {part}");
+            }
+        }
+    }
+    Ok(())
+}
+
+#[test]
+fn long_faults_tell_all_of_their_text(rt: HostRuntime) -> Result<(), Fail> {
+    for (before, part, after, told_before, told_after) in [
+        ("m a=1i", "x", "", "rest <", ">"),
+        ("m a=1i ", "x\\", "", "rest < ", ">"),
+        ("m a=", "9", "i", "IntegerValueInvalid Above <", ">"),
+        ("m a=-", "9", "i", "IntegerValueInvalid Below <-", ">"),
+        ("m a=", "9", "u", "UIntegerValueInvalid Above <", ">"),
+        ("m a=1i ", "9", "", "TimestampValueInvalid Above <", ">"),
+    ] {
+        for count in [65, 100_000] {
+            let text = repeated(rt.alloc(), before, part, count, after)?;
+            let wanted = repeated(rt.alloc(), told_before, part, count, told_after)?;
+            for dialect in DIALECTS {
+                let told = told::items_in(rt.alloc(), dialect, text.as_str())?;
+                assert_eq!(rt; told.as_str(), wanted.as_str(), "{count} of {part}");
+            }
+        }
+    }
+    Ok(())
+}

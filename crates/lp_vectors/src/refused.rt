@@ -1,0 +1,422 @@
+//! Calls at which one request for memory is refused: the first, the second, and so on. Each answers with want of memory
+//! and nothing else, and what it was called on can be used as before. The answers come from the format's rules.
+//!
+//! The sizes in the tables are those of the requests that the code makes, in their order. A call ends at the first
+//! refusal, so the request that is refused is the first one behind those that are granted.
+
+ghost use Rattle.std.specs.Prelude.{◌<◌};
+
+use crate::drops::Basin;
+use crate::hoard::Hoard;
+use crate::lent::Lent;
+use crate::small_buffers::{LINE, first_refused, refusal};
+use crate::told;
+use influxdb_line_protocol::builder::NoRoom;
+use influxdb_line_protocol::{
+    EscapedStr, FieldValue, FloatText, LineProtocolBuilder, ParseLines, ParsedLine, parse_lines,
+    write_line,
+};
+use lp_rebuild::{DeviceFault, RunFault, Source, rebuild, run};
+use std::alloc::{AllocError, Global};
+use std::borrow::CowStr;
+use std::process::Abort;
+use std::test::Fail;
+
+const FOUR_LINES: &str =
+    "m a=1i\na\\ b,c\\,d=e\\=f g\\ h=\"i\\\"j\"\nm,a=1,b=1,c=1,d=1,e=1,f=1,g=1,h=1,i=1 v=1i,w=1i,x=1i,y=1i,z=1i\nm a=1x";
+
+const FOUR_ITEMS: [&str; 4] = [
+    "S<m> S<a>=1i",
+    "C<a b>,C<c,d>=C<e=f> C<g h>=C<i\"j>",
+    "S<m>,S<a>=S<1>,S<b>=S<1>,S<c>=S<1>,S<d>=S<1>,S<e>=S<1>,S<f>=S<1>,S<g>=S<1>,S<h>=S<1>,S<i>=S<1> S<v>=1i S<w>=1i S<x>=1i S<y>=1i S<z>=1i",
+    "rest <x>",
+];
+
+// An item, told.
+fn told_item(
+    alloc: Global,
+    item: &Option<influxdb_line_protocol::Result<ParsedLine<'_>>>,
+) -> Result<String, Fail> {
+    match item {
+        Some(Ok(line)) => Ok(told::line(alloc, line)?),
+        Some(Err(fault)) => Ok(told::fault(alloc, fault)?),
+        None => Err("no item".into()),
+    }
+}
+
+// The next item, told, where just one request for each of these sizes is granted.
+fn next_with(alloc: Global, lines: &mut ParseLines<'_>, granted: &[usize]) -> Result<String, Fail> {
+    let hoard = Hoard::leaving(alloc, granted)?;
+    let item = lines.next();
+    drop(hoard);
+    told_item(alloc, &item)
+}
+
+// The items of the four lines, divided by `|`, where just one request for each of these sizes is granted at `place`.
+fn items_with(alloc: Global, place: usize, granted: &[usize]) -> Result<String, Fail> {
+    let mut lines = parse_lines(alloc, FOUR_LINES);
+    let mut told = String::new(alloc);
+    for at in 0..5 {
+        let item = if at == place {
+            next_with(alloc, &mut lines, granted)?
+        } else {
+            match lines.next() {
+                None => return Ok(told),
+                item => told_item(alloc, &item)?,
+            }
+        };
+        told.push_str(item.as_str())?;
+        told.push_str("|")?;
+    }
+    Ok(told)
+}
+
+#[test]
+fn each_request_of_four_lines_is_refused_in_turn(rt: HostRuntime) -> Result<(), Fail> {
+    let [first, second, third, fourth] = FOUR_ITEMS;
+    let second_refused = format!(in rt.alloc(); "{first}|OutOfMemory|{third}|{fourth}|")?;
+    let third_refused = format!(in rt.alloc(); "{first}|{second}|OutOfMemory|{fourth}|")?;
+    let fourth_refused = format!(in rt.alloc(); "{first}|{second}|{third}|OutOfMemory|")?;
+    let none_refused = format!(in rt.alloc(); "{first}|{second}|{third}|{fourth}|")?;
+    for (place, granted, wanted) in [
+        (0, [].as_slice(), &none_refused),
+        (1, [].as_slice(), &second_refused),
+        (1, [3usize].as_slice(), &second_refused),
+        (1, [3, 3].as_slice(), &second_refused),
+        (1, [3, 3, 3].as_slice(), &second_refused),
+        (1, [3, 3, 3, 3].as_slice(), &second_refused),
+        (1, [3, 3, 3, 3, 3].as_slice(), &none_refused),
+        (2, [].as_slice(), &third_refused),
+        (2, [1_024].as_slice(), &third_refused),
+        (2, [1_024, 1_008].as_slice(), &none_refused),
+        (3, [].as_slice(), &fourth_refused),
+        (3, [1].as_slice(), &none_refused),
+    ] {
+        let told = items_with(rt.alloc(), place, granted)?;
+        assert_eq!(rt; told.as_str(), wanted.as_str(), "at {place}");
+    }
+    Ok(())
+}
+
+// The base of a series, told, where just one request for each of these sizes is granted.
+fn base_with(alloc: Global, text: &str, granted: &[usize]) -> Result<String, Fail> {
+    let Some(Ok(line)) = parse_lines(alloc, text).next() else {
+        return Err("no line".into());
+    };
+    let hoard = Hoard::leaving(alloc, granted)?;
+    let base = line.series.generate_base(alloc);
+    drop(hoard);
+    match base {
+        Ok(CowStr::Borrowed(text)) => Ok(format!(in alloc; "borrowed {text}")?),
+        Ok(CowStr::Owned(text)) => Ok(format!(in alloc; "owned {text}")?),
+        Err(fault) => Ok(told::fault(alloc, &fault)?),
+    }
+}
+
+#[test]
+fn each_request_of_a_base_is_refused_in_turn(rt: HostRuntime) -> Result<(), Fail> {
+    for (text, granted, wanted) in [
+        ("foo,tag2=2,tag1=1 f=1i", [].as_slice(), "OutOfMemory"),
+        (
+            "foo,tag2=2,tag1=1 f=1i",
+            [488usize].as_slice(),
+            "OutOfMemory",
+        ),
+        (
+            "foo,tag2=2,tag1=1 f=1i",
+            [488, 17].as_slice(),
+            "owned foo,tag1=1,tag2=2",
+        ),
+        ("foo,tag=1,tag=2 f=1i", [].as_slice(), "OutOfMemory"),
+        ("foo,tag=1,tag=2 f=1i", [488].as_slice(), "OutOfMemory"),
+        (
+            "foo,tag=1,tag=2 f=1i",
+            [488, 3].as_slice(),
+            "DuplicateTag <tag>",
+        ),
+        ("\\,,k=v f=1i", [].as_slice(), "borrowed \\,,k=v"),
+    ] {
+        let told = base_with(rt.alloc(), text, granted)?;
+        assert_eq!(rt; told.as_str(), wanted, "of {text}");
+    }
+    Ok(())
+}
+
+// Makes a call of a builder: where it is to be refused, once so and then again.
+macro_rules! called {
+    ($rt:ident, $is_refused:expr, $builder:ident.$call:ident($($argument:expr),*)) => {{
+        let hoard = if $is_refused { Some(Hoard::new($rt.alloc())?) } else { None };
+        let answer = $builder.$call($($argument),*);
+        drop(hoard);
+        match answer {
+            Ok(builder) => {
+                assert!($rt; !$is_refused);
+                builder
+            }
+            Err(refused) => {
+                assert!($rt; $is_refused);
+                assert_eq!($rt; refused.cause, NoRoom::OutOfMemory);
+                match refused.builder.$call($($argument),*) {
+                    Ok(builder) => builder,
+                    Err(_) => return Err("refused again".into()),
+                }
+            }
+        }
+    }};
+}
+
+// Two lines that a buffer holds before, so long that no growth of it is granted in place.
+const HELD: &[u8] = b"m a=1i\nn b=2i\n";
+
+// A `Vec` with these lines, and room for so many bytes more.
+fn held(alloc: Global, room: usize) -> Result<Vec<u8>, AllocError>
+    requires { room < 20 }
+{
+    let mut bytes = Vec::with_capacity(alloc, HELD.len() + room)?;
+    bytes.extend_from_slice(HELD)?;
+    Ok(bytes)
+}
+
+#[test]
+fn a_refused_call_succeeds_when_it_is_made_again(rt: HostRuntime) -> Result<(), Fail> {
+    let literal = FloatText::new("42").ok_or("no literal")?;
+    for room in [0, 3, 11, 18] {
+        let builder = LineProtocolBuilder::new_with(held(rt.alloc(), room)?);
+        let builder = called!(rt, room == 0, builder.measurement("foo"));
+        let builder = called!(rt, room == 3, builder.tag("bar", "baz"));
+        let builder = called!(rt, room == 11, builder.field("qux", literal));
+        let builder = called!(rt, room == 18, builder.close_line());
+        let wanted = b"m a=1i\nn b=2i\nfoo,bar=baz qux=42\n".as_slice();
+        assert_eq!(rt; builder.build().as_slice(), wanted, "at {room}");
+    }
+    Ok(())
+}
+
+#[test]
+fn a_refused_first_growth_leaves_the_builder_empty(rt: HostRuntime) -> Result<(), Fail> {
+    let builder = LineProtocolBuilder::new(rt.alloc());
+    let hoard = Hoard::new(rt.alloc())?;
+    let answer = builder.measurement("m");
+    drop(hoard);
+    let Err(refused) = answer else {
+        return Err("accepted".into());
+    };
+    assert_eq!(rt; refused.cause, NoRoom::OutOfMemory);
+    assert!(rt; refused.builder.build().is_empty());
+    Ok(())
+}
+
+#[test]
+fn a_vec_with_room_is_written_to_without_memory(rt: HostRuntime) -> Result<(), Fail> {
+    let literal = FloatText::new("42").ok_or("no literal")?;
+    for room in 0..20 {
+        let (call, len) = first_refused(room);
+        let mut bytes = held(rt.alloc(), room)?;
+        let hoard = Hoard::new(rt.alloc())?;
+        let refused = refusal(Lent { buffer: &mut bytes }, literal);
+        drop(hoard);
+        assert_eq!(rt;
+            refused,
+            call.map(|call| (call, NoRoom::OutOfMemory)),
+            "at {room}"
+        );
+        let written = bytes.as_slice().strip_prefix(HELD).ok_or("other lines")?;
+        assert_eq!(rt; written.len(), len, "at {room}");
+        assert!(rt; LINE.as_bytes().starts_with(written), "at {room}");
+    }
+    Ok(())
+}
+
+#[test]
+fn a_refused_line_leaves_the_lines_before_it(rt: HostRuntime) -> Result<(), Fail> {
+    let alloc = rt.alloc();
+    let Some(Ok(line)) = parse_lines(alloc, LINE).next() else {
+        return Err("no line".into());
+    };
+    assert!(rt; line.field_set.len() > 0);
+    let held = b"m a=1i\n".to_vec(alloc)?;
+    let hoard = Hoard::new(alloc)?;
+    let answer = write_line(LineProtocolBuilder::new_with(held), &line);
+    drop(hoard);
+    let Err(refused) = answer else {
+        return Err("accepted".into());
+    };
+    assert_eq!(rt; refused.cause, NoRoom::OutOfMemory);
+    let held = refused.builder.build();
+    assert_eq!(rt; held.as_slice(), b"m a=1i\n".as_slice());
+    match write_line(LineProtocolBuilder::new_with(held), &line) {
+        Ok(builder) => {
+            let wanted = b"m a=1i\nfoo,bar=baz qux=42\n".as_slice();
+            assert_eq!(rt; builder.build().as_slice(), wanted);
+            Ok(())
+        }
+        Err(_) => Err("refused again".into()),
+    }
+}
+
+#[test]
+fn a_refused_copy_leaves_the_name(rt: HostRuntime) -> Result<(), Fail> {
+    let alloc = rt.alloc();
+    let slice = EscapedStr::from("a b");
+    let copy = EscapedStr::CopiedValue(String::from_str(alloc, "a b")?);
+    let hoard = Hoard::new(alloc)?;
+    let of_slice = slice.clone(alloc).is_ok();
+    let of_copy = copy.clone(alloc).is_err() && copy.to_string(alloc).is_err();
+    let into_slice = slice.into_string(alloc).is_err();
+    drop(hoard);
+    assert!(rt; of_slice && of_copy && into_slice);
+    assert!(rt; matches!(copy, EscapedStr::CopiedValue(_)) && copy.eq_text("a b"));
+    let hoard = Hoard::new(alloc)?;
+    let into_copy = copy.into_string(alloc).is_ok();
+    drop(hoard);
+    assert!(rt; into_copy);
+    Ok(())
+}
+
+#[test]
+fn a_refused_copy_leaves_the_value(rt: HostRuntime) -> Result<(), Fail> {
+    let alloc = rt.alloc();
+    let copy = EscapedStr::CopiedValue(String::from_str(alloc, "a b")?);
+    let value = FieldValue::String(copy);
+    let hoard = Hoard::new(alloc)?;
+    let is_refused = value.clone(alloc).is_err();
+    drop(hoard);
+    assert!(rt; is_refused);
+    assert!(rt; matches!(value, FieldValue::String(EscapedStr::CopiedValue(_))));
+    assert_eq!(rt; told::value(alloc, &value)?.as_str(), "C<a b>");
+    Ok(())
+}
+
+// In the first text the name's request is served by what the growing faults gave back, so in the second it is the first.
+const TEXTS: [(&str, &str, &str); 2] = [
+    (
+        "m a=T 5\n# c\nx\nw\\\t a=1i\n",
+        "m a=true 5\n",
+        "item 2: A generic parsing error occurred: TakeWhile1\nitem 3: a name cannot be written again\n",
+    ),
+    (
+        "w\\\t a=1i\n",
+        "",
+        "item 1: a name cannot be written again\n",
+    ),
+];
+
+// Whether a text is rebuilt, where about so many bytes are granted.
+fn is_rebuilt(
+    rt: &impl Abort,
+    alloc: Global,
+    place: usize,
+    bytes: usize,
+) -> Result<bool, AllocError>
+    requires place { place < 2 }
+    requires bytes { bytes < 4096 }
+{
+    let (text, batch, faults) = TEXTS[place];
+    let hoard = Hoard::leaving_bytes(alloc, bytes)?;
+    let answer = rebuild(alloc, text);
+    drop(hoard);
+    match answer {
+        Ok(rebuilt) => {
+            assert_eq!(rt; rebuilt.batch.as_slice(), batch.as_bytes());
+            assert_eq!(rt; rebuilt.faults.as_slice(), faults.as_bytes());
+            Ok(true)
+        }
+        Err(AllocError) => Ok(false),
+    }
+}
+
+// With 16 bytes more each time, each request in turn is the first that is refused, and then none is.
+#[test]
+fn each_request_of_a_rebuild_is_refused_in_turn(rt: HostRuntime) -> Result<(), Fail> {
+    for place in 0..2 {
+        let mut was_rebuilt = false;
+        for step in 0..96 {
+            let is_rebuilt = is_rebuilt(&rt, rt.alloc(), place, 16 * step)?;
+            assert!(rt; is_rebuilt || !was_rebuilt, "at {place} with {step}");
+            assert!(rt; !is_rebuilt || step > 3, "at {place} with {step}");
+            was_rebuilt = is_rebuilt;
+        }
+        assert!(rt; was_rebuilt, "at {place}");
+    }
+    Ok(())
+}
+
+// The bytes of a text, and after the last one a hoard that leaves about so many bytes.
+#[derive(Drop)]
+struct Hoarding<'a> {
+    alloc: Global,
+    text: &'a [u8],
+    bytes_left: usize,
+    hoard: Option<Hoard>,
+}
+
+impl<'a> Source for Hoarding<'a> {
+    ghost use Rattle.std.specs.Prelude.{None};
+
+    ghost bytes = { λ _. None };
+
+    ghost failures = { λ _. 0 };
+
+    fn read(&mut self, buf: &mut [u8]) -> Result<usize, DeviceFault> {
+        if self.text.is_empty() && self.bytes_left < 4_096 {
+            self.hoard = Hoard::leaving_bytes(self.alloc, self.bytes_left).ok();
+        }
+        self.text.read(buf)
+    }
+}
+
+// Whether a run over a text succeeds, where about so many bytes are granted after it was read.
+fn is_run(rt: &impl Abort, alloc: Global, place: usize, bytes: usize) -> bool
+    requires { place < 2 }
+{
+    let (text, batch, faults) = TEXTS[place];
+    let mut reader = Hoarding {
+        alloc,
+        text: text.as_bytes(),
+        bytes_left: bytes,
+        hoard: None,
+    };
+    let (mut out, mut err) = (Basin::new(0), Basin::new(0));
+    let fault = run(alloc, &mut reader, &mut out, &mut err).err();
+    assert!(rt; reader.hoard.is_some());
+    drop(reader);
+    if fault.is_none() {
+        assert_eq!(rt; out.as_slice(), batch.as_bytes());
+        assert_eq!(rt; err.as_slice(), faults.as_bytes());
+        return true;
+    }
+    assert_eq!(rt; fault, Some(RunFault::OutOfMemory));
+    assert!(rt; out.as_slice().is_empty());
+    assert!(rt; err.as_slice().is_empty());
+    false
+}
+
+#[test]
+fn a_run_that_is_refused_memory_writes_nothing(rt: HostRuntime) {
+    for place in 0..2 {
+        let mut was_run = false;
+        for step in 0..96 {
+            let is_run = is_run(&rt, rt.alloc(), place, 16 * step);
+            assert!(rt; is_run || !was_run, "at {place} with {step}");
+            assert!(rt; !is_run || step > 3, "at {place} with {step}");
+            was_run = is_run;
+        }
+        assert!(rt; was_run, "at {place}");
+    }
+}
+
+#[test]
+fn a_run_that_is_refused_memory_as_it_reads_writes_nothing(rt: HostRuntime) -> Result<(), Fail> {
+    for granted in [[].as_slice(), [65_536usize].as_slice()] {
+        let mut reader = b"m a=1i\n".as_slice();
+        let mut out = Basin::new(0);
+        let mut err = Basin::new(0);
+        let hoard = Hoard::leaving(rt.alloc(), granted)?;
+        let answer = run(rt.alloc(), &mut reader, &mut out, &mut err);
+        drop(hoard);
+        assert_eq!(rt; answer.err(), Some(RunFault::OutOfMemory));
+        assert!(rt; out.as_slice().is_empty());
+        assert!(rt; err.as_slice().is_empty());
+    }
+    Ok(())
+}
