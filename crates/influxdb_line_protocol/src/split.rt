@@ -21,7 +21,7 @@ use std::simd::prelude::*;
 const WIDE: usize = 64;
 
 // How many bytes are looked at by wide loads, where they show nothing, before `memchr` searches on.
-const NEAR: usize = 384;
+const NEAR: usize = 320;
 
 /// A dialect of line protocol: which rules hold.
 ///
@@ -93,36 +93,8 @@ fn next_mark(stops: Stops, text: &[u8]) -> Option<usize>
     memchr3(b'\\', stops.first, stops.second, text)
 }
 
-// The place that wide loads reach from `from` on: the first bare byte that ends a stretch, or else
-// one with many bytes before it that show nothing, or with few bytes after it.
-#[inline(always)]
-fn passed_near(stops: Stops, text: &[u8], from: usize) -> usize
-    requires escapes { is_stop stops backslash ≡ false }
-    requires passed { IsPassed (is_stop stops) text.now from }
-    ensures further { from ≤ result }
-    ensures passed { IsPassed (is_stop stops) text.now result }
-{
-    let mut at = from;
-    let mut quiet = 0;
-    while quiet < NEAR && text.len() - at > WIDE {
-        let marks = marks_in(stops, text, at);
-        if marks == 0 {
-            at += WIDE;
-            quiet += WIDE;
-            continue;
-        }
-        let run = stop_in(stops, text, at, marks);
-        at += run;
-        if run < WIDE {
-            return at;
-        }
-        quiet = 0;
-    }
-    at
-}
-
 // How many bytes stand before the first bare one that ends a stretch, or all of them, where there
-// is none before `from`.
+// is none before `from`. Wide loads go on as long as they show something near.
 #[inline(never)]
 fn far_len(stops: Stops, text: &[u8], from: usize) -> usize
     requires escapes { is_stop stops backslash ≡ false }
@@ -130,9 +102,23 @@ fn far_len(stops: Stops, text: &[u8], from: usize) -> usize
     ensures within { result ≤ length text.now }
     ensures value { result ≡ first_bare (is_stop stops) text.now }
 {
-    let mut at = from;
+    let (mut at, mut quiet) = (from, 0);
     loop {
-        at = passed_near(stops, text, at);
+        if quiet < NEAR && text.len() - at > WIDE {
+            let marks = marks_in(stops, text, at);
+            if marks == 0 {
+                at += WIDE;
+                quiet += WIDE;
+                continue;
+            }
+            let run = stop_in(stops, text, at, marks);
+            at += run;
+            if run < WIDE {
+                return at;
+            }
+            quiet = 0;
+            continue;
+        }
         let Some(found) = next_mark(stops, &text[at..]) else {
             return text.len();
         };
@@ -142,6 +128,7 @@ fn far_len(stops: Stops, text: &[u8], from: usize) -> usize
         }
         // The byte after a backslash is escaped.
         at = (at + 2).min(text.len());
+        quiet = 0;
     }
 }
 
