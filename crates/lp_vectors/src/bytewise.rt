@@ -42,7 +42,7 @@ impl Scan {
     }
 }
 
-/// The first piece of a text, and the text behind its newline, if one ends it.
+/// The first piece of a text, and the text after its newline, if one ends it.
 fn first_piece(text: &[u8]) -> (&[u8], Option<&[u8]>) {
     let mut scan = Scan {
         part: Part::Head,

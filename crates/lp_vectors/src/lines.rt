@@ -1,4 +1,4 @@
-//! Lines and what each is answered with.
+//! Lines and their answers. `foo`, `bar`, `meas`, `field=1` and `tag1=1` are the Rust crate's own tests, the others follow the rules.
 
 use crate::told;
 use std::test::Fail;

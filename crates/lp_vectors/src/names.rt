@@ -1,4 +1,4 @@
-//! Names with escapes, read and compared.
+//! Names with escapes, read and compared. `Foo` and `wea` are the Rust crate's own tests, the others follow the format's rules.
 
 use crate::told;
 use influxdb_line_protocol::EscapedStr;

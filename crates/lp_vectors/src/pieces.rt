@@ -1,4 +1,4 @@
-//! Texts and their pieces.
+//! Texts and their pieces. `foo`, `meas` and `t=v` are the Rust crate's own tests, the others follow the format's rules.
 
 use crate::told;
 use std::test::Fail;

@@ -2,7 +2,7 @@
 //! and nothing else, and what it was called on can be used as before. The answers come from the format's rules.
 //!
 //! The sizes in the tables are those of the requests that the code makes, in their order. A call ends at the first
-//! refusal, so the request that is refused is the first one behind those that are granted.
+//! refusal, so the request that is refused is the first one after those that are granted.
 
 ghost use Rattle.std.specs.Prelude.{◌<◌};
 
@@ -28,7 +28,8 @@ const FOUR_LINES: &str =
 const FOUR_ITEMS: [&str; 4] = [
     "S<m> S<a>=1i",
     "C<a b>,C<c,d>=C<e=f> C<g h>=C<i\"j>",
-    "S<m>,S<a>=S<1>,S<b>=S<1>,S<c>=S<1>,S<d>=S<1>,S<e>=S<1>,S<f>=S<1>,S<g>=S<1>,S<h>=S<1>,S<i>=S<1> S<v>=1i S<w>=1i S<x>=1i S<y>=1i S<z>=1i",
+    "S<m>,S<a>=S<1>,S<b>=S<1>,S<c>=S<1>,S<d>=S<1>,S<e>=S<1>,S<f>=S<1>,S<g>=S<1>,S<h>=S<1>,S<i>=S<1> \
+     S<v>=1i S<w>=1i S<x>=1i S<y>=1i S<z>=1i",
     "rest <x>",
 ];
 
@@ -325,18 +326,18 @@ fn is_rebuilt(
     }
 }
 
-// With 16 bytes more each time, each request in turn is the first that is refused, and then none is.
+// With so many bytes the first request is refused, or the second, and so on; with the last number none is.
+
 #[test]
 fn each_request_of_a_rebuild_is_refused_in_turn(rt: HostRuntime) -> Result<(), Fail> {
     for place in 0..2 {
-        let mut was_rebuilt = false;
-        for step in 0..96 {
-            let is_rebuilt = is_rebuilt(&rt, rt.alloc(), place, 16 * step)?;
-            assert!(rt; is_rebuilt || !was_rebuilt, "at {place} with {step}");
-            assert!(rt; !is_rebuilt || step > 3, "at {place} with {step}");
-            was_rebuilt = is_rebuilt;
+        for bytes in [0, 16, 32, 64, 80, 96] {
+            assert!(rt;
+                !is_rebuilt(&rt, rt.alloc(), place, bytes)?,
+                "{bytes} bytes at {place}"
+            );
         }
-        assert!(rt; was_rebuilt, "at {place}");
+        assert!(rt; is_rebuilt(&rt, rt.alloc(), place, 1_536)?, "at {place}");
     }
     Ok(())
 }
@@ -394,14 +395,13 @@ fn is_run(rt: &impl Abort, alloc: Global, place: usize, bytes: usize) -> bool
 #[test]
 fn a_run_that_is_refused_memory_writes_nothing(rt: HostRuntime) {
     for place in 0..2 {
-        let mut was_run = false;
-        for step in 0..96 {
-            let is_run = is_run(&rt, rt.alloc(), place, 16 * step);
-            assert!(rt; is_run || !was_run, "at {place} with {step}");
-            assert!(rt; !is_run || step > 3, "at {place} with {step}");
-            was_run = is_run;
+        for bytes in [0, 16, 32, 64, 80, 96] {
+            assert!(rt;
+                !is_run(&rt, rt.alloc(), place, bytes),
+                "{bytes} bytes at {place}"
+            );
         }
-        assert!(rt; was_run, "at {place}");
+        assert!(rt; is_run(&rt, rt.alloc(), place, 1_536), "at {place}");
     }
 }
 

@@ -42,6 +42,10 @@ fn series_have_these_bases(rt: HostRuntime) -> Result<(), Fail> {
             "foo,tag=1,tag=2 f=1i",
             "Must not contain duplicate tags, but \"tag\" was repeated",
         ),
+        (
+            "m,K=1,K=2 f=1i",
+            "Must not contain duplicate tags, but \"K\" was repeated",
+        ),
         ("m,B=1,a=2 f=1i", "B<m,B=1,a=2>"),
         ("m,a=1,B=2 f=1i", "O<m,B=2,a=1>"),
         ("m,b,a=1,a=2 f=1i", "O<m,a=2,b,a=1>"),

@@ -1,4 +1,4 @@
-//! Tag sets and field sets.
+//! Tag sets and field sets. `foo` and `testmeasure` are the Rust crate's own tests, the others follow the format's rules.
 
 use crate::told;
 use influxdb_line_protocol::{FieldValue, ParsedLine, parse_lines};

@@ -1,4 +1,4 @@
-//! Values and timestamps. What stands behind `asdf=` and `field=` comes from the Rust crate's own tests, the others from the
+//! Values and timestamps. What stands after `asdf=` and `field=` comes from the Rust crate's own tests, the others from the
 //! format's rules.
 
 use crate::told;
