@@ -1,13 +1,13 @@
 //! Lines whose names were changed, and whether they are admitted.
 
+use crate::fault::Fault;
 use influxdb_line_protocol::{
     EscapedStr, LineProtocolBuilder, ParsedLine, Series, is_admitted, parse_lines, write_line,
 };
 use std::alloc::Global;
-use std::test::Fail;
 
 // A line with this measurement and one field.
-fn named<'a>(alloc: Global, measurement: &'a str) -> Result<ParsedLine<'a>, Fail> {
+fn named<'a>(alloc: Global, measurement: &'a str) -> Result<ParsedLine<'a>, Fault> {
     match parse_lines(alloc, "m f=1i").next() {
         Some(Ok(line)) => {
             let ParsedLine {
@@ -25,12 +25,12 @@ fn named<'a>(alloc: Global, measurement: &'a str) -> Result<ParsedLine<'a>, Fail
                 timestamp,
             })
         }
-        _ => Err("the line was not read".into()),
+        _ => Err(Fault::Unexpected),
     }
 }
 
 #[test]
-fn measurements_are_admitted_so(rt: HostRuntime) -> Result<(), Fail> {
+fn measurements_are_admitted_so(rt: HostRuntime) -> Result<(), Fault> {
     for (measurement, wanted) in [
         ("m", true),
         ("a b,c", true),
@@ -51,7 +51,7 @@ fn measurements_are_admitted_so(rt: HostRuntime) -> Result<(), Fail> {
 }
 
 #[test]
-fn a_line_is_written_again_so(rt: HostRuntime) -> Result<(), Fail> {
+fn a_line_is_written_again_so(rt: HostRuntime) -> Result<(), Fault> {
     let line = named(rt.alloc(), "w\\\t")?;
     assert!(rt; line.field_set.len() > 0);
     match write_line(LineProtocolBuilder::new(rt.alloc()), &line) {
@@ -61,7 +61,7 @@ fn a_line_is_written_again_so(rt: HostRuntime) -> Result<(), Fail> {
                 "w\\\\\t f=1i\n"
             );
         }
-        Err(_) => return Err("refused".into()),
+        Err(_) => return Err(Fault::Unexpected),
     }
     Ok(())
 }

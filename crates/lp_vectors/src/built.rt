@@ -1,11 +1,11 @@
 //! What the builder writes, and that it reads back.
 
+use crate::fault::Fault;
 use crate::told;
 use arrayvec::ArrayVec;
 use influxdb_line_protocol::builder::{BufMut, FieldValue, NoRoom};
 use influxdb_line_protocol::{FloatText, LineProtocolBuilder};
 use std::alloc::Global;
-use std::test::Fail;
 
 // A value whose text is so many zeros.
 #[derive(Drop)]
@@ -30,18 +30,18 @@ impl FieldValue for Zeros {
 }
 
 // What a call that must be accepted gave.
-fn accepted<T: Drop, E: Drop>(answer: Result<T, E>) -> Result<T, Fail> {
+fn accepted<T: Drop, E: Drop>(answer: Result<T, E>) -> Result<T, Fault> {
     match answer {
         Ok(value) => Ok(value),
-        Err(_) => Err("a call was refused".into()),
+        Err(_) => Err(Fault::Unexpected),
     }
 }
 
 #[test]
-fn a_line_is_written_so(rt: HostRuntime) -> Result<(), Fail> {
+fn a_line_is_written_so(rt: HostRuntime) -> Result<(), Fault> {
     let builder = accepted(LineProtocolBuilder::new(rt.alloc()).measurement("foo"))?;
     let builder = accepted(builder.tag("bar", "baz"))?;
-    let literal = FloatText::new("42").ok_or("no literal")?;
+    let literal = FloatText::new("42").ok_or(Fault::Unexpected)?;
     let builder = accepted(accepted(builder.field("qux", literal))?.close_line())?;
     assert_eq!(rt;
         builder.build().as_slice(),
@@ -51,7 +51,7 @@ fn a_line_is_written_so(rt: HostRuntime) -> Result<(), Fail> {
 }
 
 #[test]
-fn a_value_may_be_too_long(rt: HostRuntime) -> Result<(), Fail> {
+fn a_value_may_be_too_long(rt: HostRuntime) -> Result<(), Fault> {
     let builder = LineProtocolBuilder::new(rt.alloc());
     let builder = accepted(accepted(builder.measurement("m"))?.field("a", Zeros { count: 3 }))?;
     assert_eq!(rt;
@@ -66,7 +66,7 @@ fn a_value_may_be_too_long(rt: HostRuntime) -> Result<(), Fail> {
     ] {
         let builder = accepted(LineProtocolBuilder::new(rt.alloc()).measurement("m"))?;
         match builder.field("a", Zeros { count }) {
-            Ok(_) => return Err("accepted".into()),
+            Ok(_) => return Err(Fault::Unexpected),
             Err(refused) => {
                 assert_eq!(rt; refused.cause, cause);
                 let builder = accepted(refused.builder.field("b", true))?;
@@ -79,11 +79,11 @@ fn a_value_may_be_too_long(rt: HostRuntime) -> Result<(), Fail> {
 }
 
 #[test]
-fn a_full_buffer_costs_nothing(rt: HostRuntime) -> Result<(), Fail> {
+fn a_full_buffer_costs_nothing(rt: HostRuntime) -> Result<(), Fault> {
     let builder = LineProtocolBuilder::new_with(ArrayVec::<u8, 8>::new());
     let builder = accepted(accepted(builder.measurement("m"))?.field("a", 1i64))?;
     let builder = match builder.timestamp(12) {
-        Ok(_) => return Err("accepted".into()),
+        Ok(_) => return Err(Fault::Unexpected),
         Err(refused) => {
             assert_eq!(rt; refused.cause, NoRoom::Full);
             refused.builder
@@ -95,10 +95,10 @@ fn a_full_buffer_costs_nothing(rt: HostRuntime) -> Result<(), Fail> {
 }
 
 #[test]
-fn no_room_takes_the_empty_text_alone(rt: HostRuntime) -> Result<(), Fail> {
+fn no_room_takes_the_empty_text_alone(rt: HostRuntime) -> Result<(), Fault> {
     let builder = LineProtocolBuilder::new_with(ArrayVec::<u8, 0>::new());
     let builder = match builder.measurement("m") {
-        Ok(_) => return Err("accepted".into()),
+        Ok(_) => return Err(Fault::Unexpected),
         Err(refused) => {
             assert_eq!(rt; refused.cause, NoRoom::Full);
             let buffer = refused.builder.build();
@@ -111,7 +111,7 @@ fn no_room_takes_the_empty_text_alone(rt: HostRuntime) -> Result<(), Fail> {
 }
 
 #[test]
-fn names_and_values_read_back(rt: HostRuntime) -> Result<(), Fail> {
+fn names_and_values_read_back(rt: HostRuntime) -> Result<(), Fault> {
     for (name, measurement, key) in [
         ("plain", "S<plain>", "S<plain>"),
         ("with space", "C<with space>", "C<with space>"),
@@ -139,7 +139,7 @@ fn names_and_values_read_back(rt: HostRuntime) -> Result<(), Fail> {
         let builder = accepted(builder.field(name, false))?;
         let builder = accepted(builder.field(name, 51i64))?;
         let builder = accepted(builder.field(name, 51u64))?;
-        let literal = FloatText::new("51").ok_or("no literal")?;
+        let literal = FloatText::new("51").ok_or(Fault::Unexpected)?;
         let builder = accepted(builder.field(name, literal))?;
         let builder = accepted(builder.field(name, "some \" value"))?;
         let builder = accepted(accepted(builder.timestamp(1234))?.close_line())?;
@@ -154,7 +154,7 @@ fn names_and_values_read_back(rt: HostRuntime) -> Result<(), Fail> {
 }
 
 #[test]
-fn strings_are_written_and_read_back_so(rt: HostRuntime) -> Result<(), Fail> {
+fn strings_are_written_and_read_back_so(rt: HostRuntime) -> Result<(), Fault> {
     for (text, wanted, item) in [
         ("a\\", "m s=\"a\\\\\"\n", "S<m> S<s>=C<a\\>"),
         (
@@ -185,7 +185,7 @@ fn strings_are_written_and_read_back_so(rt: HostRuntime) -> Result<(), Fail> {
 }
 
 #[test]
-fn other_names_read_back_otherwise(rt: HostRuntime) -> Result<(), Fail> {
+fn other_names_read_back_otherwise(rt: HostRuntime) -> Result<(), Fault> {
     for (measurement, key, bytes, wanted) in [
         ("", "f", " f=1i\n", "TakeWhile1"),
         ("m", "", "m =1i\n", "FieldSetMissing"),
@@ -204,7 +204,7 @@ fn other_names_read_back_otherwise(rt: HostRuntime) -> Result<(), Fail> {
 }
 
 #[test]
-fn tags_that_are_not_admitted_read_back_otherwise(rt: HostRuntime) -> Result<(), Fail> {
+fn tags_that_are_not_admitted_read_back_otherwise(rt: HostRuntime) -> Result<(), Fault> {
     for (key, value, bytes, wanted) in [
         ("", "v", "m,=v f=1i\n", "TagSetMalformed"),
         ("k", "x\ny", "m,k=x\ny f=1i\n", "TakeWhile1|S<y> S<f>=1i"),
@@ -226,7 +226,7 @@ fn tags_that_are_not_admitted_read_back_otherwise(rt: HostRuntime) -> Result<(),
 }
 
 #[test]
-fn a_string_may_hold_a_newline(rt: HostRuntime) -> Result<(), Fail> {
+fn a_string_may_hold_a_newline(rt: HostRuntime) -> Result<(), Fault> {
     let builder = accepted(LineProtocolBuilder::new(rt.alloc()).measurement("#x"))?;
     let builder = accepted(accepted(builder.field("f", "a\nm k"))?.field("c", 1i64))?;
     let built = accepted(builder.close_line())?.build();
@@ -237,7 +237,7 @@ fn a_string_may_hold_a_newline(rt: HostRuntime) -> Result<(), Fail> {
 }
 
 #[test]
-fn what_follows_a_batch_is_answered_alone(rt: HostRuntime) -> Result<(), Fail> {
+fn what_follows_a_batch_is_answered_alone(rt: HostRuntime) -> Result<(), Fault> {
     for (text, wanted) in [
         ("m a=1i\n\"x\n", "S<m> S<a>=1i|TakeWhile1"),
         ("m a=1i\n\\\nn b=2i", "S<m> S<a>=1i|C<\\\nn> S<b>=2i"),
@@ -262,7 +262,7 @@ fn true_line(
     measurement: &str,
     tag: Option<(&str, &str)>,
     key: &str,
-) -> Result<Vec<u8>, Fail> {
+) -> Result<Vec<u8>, Fault> {
     let builder = accepted(LineProtocolBuilder::new(alloc).measurement(measurement))?;
     let builder = match tag {
         Some((tag_key, tag_value)) => accepted(builder.tag(tag_key, tag_value))?,
@@ -274,7 +274,7 @@ fn true_line(
 
 // The names are those of the Rust crate's own tests.
 #[test]
-fn a_name_reads_back_in_each_place(rt: HostRuntime) -> Result<(), Fail> {
+fn a_name_reads_back_in_each_place(rt: HostRuntime) -> Result<(), Fault> {
     let alloc = rt.alloc();
     for (name, measurement, key) in [
         ("plain", "S<plain>", "S<plain>"),
@@ -311,7 +311,7 @@ fn a_name_reads_back_in_each_place(rt: HostRuntime) -> Result<(), Fail> {
 }
 
 #[test]
-fn a_timestamp_reads_back(rt: HostRuntime) -> Result<(), Fail> {
+fn a_timestamp_reads_back(rt: HostRuntime) -> Result<(), Fault> {
     let builder = accepted(LineProtocolBuilder::new(rt.alloc()).measurement("m"))?;
     let builder = accepted(accepted(builder.field("dummy", true))?.timestamp(1234))?;
     let bytes = accepted(builder.close_line())?.build();

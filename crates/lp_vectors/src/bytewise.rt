@@ -1,7 +1,7 @@
 //! The pieces of a text byte by byte, to be held against those that the splitter finds by jumps.
 
+use crate::fault::Fault;
 use influxdb_line_protocol::split_lines;
-use std::test::Fail;
 
 /// The part of a piece that a byte stands in.
 #[derive(Clone, Copy)]
@@ -73,7 +73,7 @@ fn is_split_so(text: &str) -> bool {
 }
 
 #[test]
-fn short_texts_have_the_same_pieces_by_jumps(rt: HostRuntime) -> Result<(), Fail> {
+fn short_texts_have_the_same_pieces_by_jumps(rt: HostRuntime) -> Result<(), Fault> {
     let mut buffer = [b'a'; 6];
     let mut texts = 0usize;
     for (len, count) in [1u32, 7, 49, 343, 2401, 16_807, 117_649].iter().enumerate() {

@@ -1,20 +1,20 @@
 //! What is shown of lines that were made from a parsed one by changing its public fields. The texts are those of the Rust
 //! crate's own tests.
 
+use crate::fault::Fault;
 use influxdb_line_protocol::{
     EscapedStr, FieldSet, FieldValue, FloatText, ParsedLine, Series, TagSet, parse_lines,
 };
 use std::alloc::Global;
-use std::test::Fail;
 
 // A line with this measurement and these tags, made from a parsed one.
 fn changed<'a>(
     alloc: Global,
     measurement: &'a str,
     tags: &[(&'a str, &'a str)],
-) -> Result<ParsedLine<'a>, Fail> {
+) -> Result<ParsedLine<'a>, Fault> {
     let Some(Ok(line)) = parse_lines(alloc, "foo f=1i").next() else {
-        return Err("no line".into());
+        return Err(Fault::Unexpected);
     };
     let ParsedLine {
         series,
@@ -39,8 +39,8 @@ fn changed<'a>(
 }
 
 #[test]
-fn values_are_shown_so(rt: HostRuntime) -> Result<(), Fail> {
-    let literal = FloatText::new("42.11").ok_or("no literal")?;
+fn values_are_shown_so(rt: HostRuntime) -> Result<(), Fault> {
+    let literal = FloatText::new("42.11").ok_or(Fault::Unexpected)?;
     for (value, wanted) in [
         (FieldValue::I64(-42), "-42i"),
         (FieldValue::U64(42), "42u"),
@@ -59,7 +59,7 @@ fn values_are_shown_so(rt: HostRuntime) -> Result<(), Fail> {
 }
 
 #[test]
-fn changed_series_are_shown_so(rt: HostRuntime) -> Result<(), Fail> {
+fn changed_series_are_shown_so(rt: HostRuntime) -> Result<(), Fault> {
     for (tags, wanted) in [
         ([].as_slice(), "m"),
         (
@@ -74,9 +74,9 @@ fn changed_series_are_shown_so(rt: HostRuntime) -> Result<(), Fail> {
 }
 
 #[test]
-fn a_changed_line_is_shown_so(rt: HostRuntime) -> Result<(), Fail> {
+fn a_changed_line_is_shown_so(rt: HostRuntime) -> Result<(), Fault> {
     let mut line = changed(rt.alloc(), "m", &[("tag1", "val1")])?;
-    let literal = FloatText::new("42.1").ok_or("no literal")?;
+    let literal = FloatText::new("42.1").ok_or(Fault::Unexpected)?;
     line.field_set = FieldSet::new(rt.alloc());
     line.field_set
         .push((EscapedStr::from("field1"), FieldValue::F64(literal)))?;
@@ -89,7 +89,7 @@ fn a_changed_line_is_shown_so(rt: HostRuntime) -> Result<(), Fail> {
 }
 
 #[test]
-fn names_and_strings_are_shown_with_their_escapes(rt: HostRuntime) -> Result<(), Fail> {
+fn names_and_strings_are_shown_with_their_escapes(rt: HostRuntime) -> Result<(), Fault> {
     let mut line = changed(rt.alloc(), "m,and m", &[("tag ,1", "val ,1")])?;
     let text = FieldValue::String(EscapedStr::from("Foo\"Bar"));
     line.field_set = FieldSet::new(rt.alloc());

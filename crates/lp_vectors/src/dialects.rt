@@ -1,12 +1,12 @@
 //! Texts that the two dialects read in different ways, and some that they read alike.
 
+use crate::fault::Fault;
 use crate::told;
 use influxdb_line_protocol::Dialect;
 use lp_rebuild::{Kept, USAGE, dialect_of, rebuild_in, run_in, status};
-use std::test::Fail;
 
 #[test]
-fn lines_are_answered_by_their_dialect(rt: HostRuntime) -> Result<(), Fail> {
+fn lines_are_answered_by_their_dialect(rt: HostRuntime) -> Result<(), Fault> {
     for (text, by_crate, by_strict) in [
         ("m a=1i, 5", "S<m> S<a>=1i at 5", "rest <, 5>"),
         ("m a=1i,", "S<m> S<a>=1i", "rest <,>"),
@@ -43,7 +43,7 @@ fn lines_are_answered_by_their_dialect(rt: HostRuntime) -> Result<(), Fail> {
 }
 
 #[test]
-fn texts_have_the_pieces_of_their_dialect(rt: HostRuntime) -> Result<(), Fail> {
+fn texts_have_the_pieces_of_their_dialect(rt: HostRuntime) -> Result<(), Fault> {
     for (text, by_crate, by_strict) in [
         (
             "# it a=\"\nm b=1i\nn c=2i",
@@ -76,7 +76,7 @@ fn texts_have_the_pieces_of_their_dialect(rt: HostRuntime) -> Result<(), Fail> {
 }
 
 #[test]
-fn runs_are_in_the_dialect_that_was_asked_for(rt: HostRuntime) -> Result<(), Fail> {
+fn runs_are_in_the_dialect_that_was_asked_for(rt: HostRuntime) -> Result<(), Fault> {
     let alloc = rt.alloc();
     for (words, out_wanted, err_wanted, ended) in [
         ([].as_slice(), "m a=1i\n", "", 0),
@@ -87,7 +87,7 @@ fn runs_are_in_the_dialect_that_was_asked_for(rt: HostRuntime) -> Result<(), Fai
             1,
         ),
     ] {
-        let dialect = dialect_of(words).ok_or("no dialect")?;
+        let dialect = dialect_of(words).ok_or(Fault::Unexpected)?;
         let mut reader = "m a=1i,\n".as_bytes();
         let mut out = Kept::new(alloc);
         let mut err = Kept::new(alloc);

@@ -1,11 +1,11 @@
 //! Runs of the program over devices that fail, at each call in turn. The answers come from the format's rules.
 
 use crate::drops::{Basin, Trickle};
+use crate::fault::Fault;
 use lp_rebuild::{RunFault, Writing, run};
 use std::alloc::Global;
 use std::cell::Cell;
 use std::io::{self, Write};
-use std::test::Fail;
 
 const TEXT: &[u8] = b"m a=T 5\n# c\nx\nw\\\t a=1i\n";
 

@@ -1,12 +1,12 @@
 //! The texts of faults. They are those of the Rust crate, but for want of memory and the faults of a run, which are from
 //! the format's rules.
 
+use crate::fault::Fault;
 use influxdb_line_protocol::{Error, parse_lines};
 use lp_rebuild::RunFault;
-use std::test::Fail;
 
 #[test]
-fn faults_of_lines_are_shown_so(rt: HostRuntime) -> Result<(), Fail> {
+fn faults_of_lines_are_shown_so(rt: HostRuntime) -> Result<(), Fault> {
     for (text, wanted) in [
         (",x", "Invalid measurement was provided"),
         ("m 5", "No fields were provided"),
@@ -38,7 +38,7 @@ fn faults_of_lines_are_shown_so(rt: HostRuntime) -> Result<(), Fail> {
         ("m", "A generic parsing error occurred: TakeWhile1"),
     ] {
         let Some(Err(fault)) = parse_lines(rt.alloc(), text).next() else {
-            return Err("no fault".into());
+            return Err(Fault::Unexpected);
         };
         assert_eq!(rt;
             format!(in rt.alloc(); "{fault}")?.as_str(),
@@ -50,7 +50,7 @@ fn faults_of_lines_are_shown_so(rt: HostRuntime) -> Result<(), Fail> {
 }
 
 #[test]
-fn other_faults_are_shown_so(rt: HostRuntime) -> Result<(), Fail> {
+fn other_faults_are_shown_so(rt: HostRuntime) -> Result<(), Fault> {
     let fault = Error::OutOfMemory;
     assert_eq!(rt;
         format!(in rt.alloc(); "{fault}")?.as_str(),
@@ -64,7 +64,7 @@ fn other_faults_are_shown_so(rt: HostRuntime) -> Result<(), Fail> {
 }
 
 #[test]
-fn faults_of_runs_are_shown_so(rt: HostRuntime) -> Result<(), Fail> {
+fn faults_of_runs_are_shown_so(rt: HostRuntime) -> Result<(), Fault> {
     for (fault, wanted) in [
         (RunFault::Read, "cannot read the input"),
         (RunFault::NotUtf8, "the input is not UTF-8"),

@@ -1,13 +1,13 @@
 //! Texts that somebody might write to make a reader stumble: long runs of backslashes, quotes and comments before a
 //! newline, and texts that end early. The answers come from the format's rules.
 
+use crate::fault::Fault;
 use crate::told;
 use influxdb_line_protocol::{
     Dialect, LineProtocolBuilder, is_admitted, parse_lines, parse_lines_in, split_lines_in,
     write_line,
 };
 use std::alloc::{AllocError, Global};
-use std::test::Fail;
 
 const DIALECTS: [Dialect; 2] = [Dialect::Crate, Dialect::Strict];
 
@@ -26,7 +26,7 @@ fn with_backslashes(
 }
 
 #[test]
-fn long_runs_of_backslashes_are_read_by_twos(rt: HostRuntime) -> Result<(), Fail> {
+fn long_runs_of_backslashes_are_read_by_twos(rt: HostRuntime) -> Result<(), Fault> {
     let alloc = rt.alloc();
     // What stands before and after the run, and the same for the run that is left of it.
     for (before, count, after, told_before, told_count, told_after) in [
@@ -55,7 +55,7 @@ fn long_runs_of_backslashes_are_read_by_twos(rt: HostRuntime) -> Result<(), Fail
 }
 
 #[test]
-fn each_line_is_cut_and_answered_on_its_own(rt: HostRuntime) -> Result<(), Fail> {
+fn each_line_is_cut_and_answered_on_its_own(rt: HostRuntime) -> Result<(), Fault> {
     let alloc = rt.alloc();
     // The pieces by each dialect, and the items, which are the same.
     for (text, by_crate, by_strict, items) in [
@@ -111,10 +111,10 @@ fn each_line_is_cut_and_answered_on_its_own(rt: HostRuntime) -> Result<(), Fail>
 }
 
 #[test]
-fn a_backslash_and_a_number_sign_are_a_name(rt: HostRuntime) -> Result<(), Fail> {
+fn a_backslash_and_a_number_sign_are_a_name(rt: HostRuntime) -> Result<(), Fault> {
     let alloc = rt.alloc();
     let Some(Ok(line)) = parse_lines(alloc, "\\# a=1i").next() else {
-        return Err("no line".into());
+        return Err(Fault::Unexpected);
     };
     assert!(rt; is_admitted(&line));
     assert!(rt; line.field_set.len() > 0);
@@ -123,7 +123,7 @@ fn a_backslash_and_a_number_sign_are_a_name(rt: HostRuntime) -> Result<(), Fail>
             let bytes = builder.build();
             assert_eq!(rt; bytes.as_slice(), b"\\\\# a=1i\n".as_slice());
         }
-        Err(_) => return Err("refused".into()),
+        Err(_) => return Err(Fault::Unexpected),
     }
     Ok(())
 }
@@ -141,7 +141,7 @@ fn empty_pieces(dialect: Dialect, text: &str) -> Option<usize> {
 }
 
 #[test]
-fn many_newlines_make_as_many_pieces_and_one(rt: HostRuntime) -> Result<(), Fail> {
+fn many_newlines_make_as_many_pieces_and_one(rt: HostRuntime) -> Result<(), Fault> {
     let text = "\n".repeat(rt.alloc(), 100_000)?;
     for dialect in DIALECTS {
         assert_eq!(rt; empty_pieces(dialect, text.as_str()), Some(100_001));
@@ -175,7 +175,7 @@ fn is_told_of_front(front: &[u8], told: &str) -> bool {
 }
 
 #[test]
-fn each_front_of_a_batch_begins_with_the_lines_that_it_holds(rt: HostRuntime) -> Result<(), Fail> {
+fn each_front_of_a_batch_begins_with_the_lines_that_it_holds(rt: HostRuntime) -> Result<(), Fault> {
     for dialect in DIALECTS {
         for end in 0..BATCH.len() + 1 {
             let front = &BATCH[..end];

@@ -16,6 +16,8 @@ mod drops;
 #[cfg(test)]
 mod failures;
 #[cfg(test)]
+mod fault;
+#[cfg(test)]
 mod faults;
 pub mod hoard;
 #[cfg(test)]

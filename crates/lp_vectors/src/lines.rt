@@ -1,10 +1,10 @@
 //! Lines and their answers. `foo`, `bar`, `meas`, `field=1` and `tag1=1` are the Rust crate's own tests, the others follow the rules.
 
+use crate::fault::Fault;
 use crate::told;
-use std::test::Fail;
 
 #[test]
-fn lines_are_answered_so(rt: HostRuntime) -> Result<(), Fail> {
+fn lines_are_answered_so(rt: HostRuntime) -> Result<(), Fault> {
     for (text, wanted) in [
         ("", ""),
         ("\n\n\n", ""),
@@ -53,7 +53,7 @@ fn lines_are_answered_so(rt: HostRuntime) -> Result<(), Fail> {
 }
 
 #[test]
-fn each_front_of_a_line_is_answered_so(rt: HostRuntime) -> Result<(), Fail> {
+fn each_front_of_a_line_is_answered_so(rt: HostRuntime) -> Result<(), Fault> {
     for (text, wanted) in [
         ("", ""),
         ("m", "TakeWhile1"),

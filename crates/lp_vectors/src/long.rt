@@ -1,10 +1,10 @@
 //! Long lines and long faults, in both dialects: with memory at hand each is answered in full. The answers come from the
 //! format's rules.
 
+use crate::fault::Fault;
 use crate::told;
 use influxdb_line_protocol::Dialect;
 use std::alloc::{AllocError, Global};
-use std::test::Fail;
 
 const DIALECTS: [Dialect; 2] = [Dialect::Crate, Dialect::Strict];
 
@@ -24,7 +24,7 @@ fn repeated(
 }
 
 #[test]
-fn long_sets_are_read_whole(rt: HostRuntime) -> Result<(), Fail> {
+fn long_sets_are_read_whole(rt: HostRuntime) -> Result<(), Fault> {
     // What is repeated stands between two texts, in the line and in what is told of it.
     for (before, part, after, told_before, told_part, told_after) in [
         ("m a=1i", ",b=2u", "", "S<m> S<a>=1i", " S<b>=2u", ""),
@@ -66,7 +66,7 @@ fn long_sets_are_read_whole(rt: HostRuntime) -> Result<(), Fail> {
 }
 
 #[test]
-fn long_faults_tell_all_of_their_text(rt: HostRuntime) -> Result<(), Fail> {
+fn long_faults_tell_all_of_their_text(rt: HostRuntime) -> Result<(), Fault> {
     for (before, part, after, told_before, told_after) in [
         ("m a=1i", "x", "", "rest <", ">"),
         ("m a=1i ", "x\\", "", "rest < ", ">"),

@@ -1,13 +1,13 @@
 //! Lines that are read while requests for memory are refused: each of them, or those after the first few.
 
+use crate::fault::Fault;
 use crate::hoard::Hoard;
 use crate::told;
 use influxdb_line_protocol::{Error, parse_lines};
 use std::alloc::Global;
-use std::test::Fail;
 
 #[test]
-fn want_of_memory_is_one_item_in_its_lines_place(rt: HostRuntime) -> Result<(), Fail> {
+fn want_of_memory_is_one_item_in_its_lines_place(rt: HostRuntime) -> Result<(), Fault> {
     let alloc = rt.alloc();
     for text in [
         "a\\ b f=1i\nm f=1i",
@@ -28,7 +28,7 @@ fn want_of_memory_is_one_item_in_its_lines_place(rt: HostRuntime) -> Result<(), 
             Some(Ok(line)) => {
                 assert_eq!(rt; told::line(alloc, &line)?.as_str(), "S<m> S<f>=1i");
             }
-            _ => return Err("the second line was not read".into()),
+            _ => return Err(Fault::Unexpected),
         }
         assert!(rt; third.is_none());
     }
@@ -36,7 +36,7 @@ fn want_of_memory_is_one_item_in_its_lines_place(rt: HostRuntime) -> Result<(), 
 }
 
 #[test]
-fn light_lines_are_read_without_memory(rt: HostRuntime) -> Result<(), Fail> {
+fn light_lines_are_read_without_memory(rt: HostRuntime) -> Result<(), Fault> {
     let alloc = rt.alloc();
     for (text, wanted) in [
         (
@@ -59,7 +59,7 @@ fn light_lines_are_read_without_memory(rt: HostRuntime) -> Result<(), Fail> {
         let told = match &item {
             Some(Ok(line)) => told::line(alloc, line)?,
             Some(Err(fault)) => told::fault(alloc, fault)?,
-            None => return Err("no item".into()),
+            None => return Err(Fault::Unexpected),
         };
         assert_eq!(rt; told.as_str(), wanted);
     }
@@ -67,7 +67,7 @@ fn light_lines_are_read_without_memory(rt: HostRuntime) -> Result<(), Fail> {
 }
 
 // The item of the first line of `text`, told, where just one request for each of these sizes is granted.
-fn told_with(alloc: Global, text: &str, granted: &[usize]) -> Result<String, Fail> {
+fn told_with(alloc: Global, text: &str, granted: &[usize]) -> Result<String, Fault> {
     let mut lines = parse_lines(alloc, text);
     let hoard = Hoard::leaving(alloc, granted)?;
     let item = lines.next();
@@ -75,12 +75,12 @@ fn told_with(alloc: Global, text: &str, granted: &[usize]) -> Result<String, Fai
     match &item {
         Some(Ok(line)) => Ok(told::line(alloc, line)?),
         Some(Err(fault)) => Ok(told::fault(alloc, fault)?),
-        None => Err("no item".into()),
+        None => Err(Fault::Unexpected),
     }
 }
 
 #[test]
-fn each_copy_asks_for_memory_once(rt: HostRuntime) -> Result<(), Fail> {
+fn each_copy_asks_for_memory_once(rt: HostRuntime) -> Result<(), Fault> {
     let alloc = rt.alloc();
     let text = "a\\ b,c\\,d=e\\=f g\\ h=\"i\\\"j\"";
     let sizes = [3usize; 5];
@@ -94,7 +94,7 @@ fn each_copy_asks_for_memory_once(rt: HostRuntime) -> Result<(), Fail> {
 }
 
 #[test]
-fn one_known_escape_alone_asks_for_none(rt: HostRuntime) -> Result<(), Fail> {
+fn one_known_escape_alone_asks_for_none(rt: HostRuntime) -> Result<(), Fault> {
     let alloc = rt.alloc();
     // The one request is for the rest, which the fault tells.
     let refused = told_with(alloc, "m \\,=1i x", &[])?;
@@ -105,7 +105,7 @@ fn one_known_escape_alone_asks_for_none(rt: HostRuntime) -> Result<(), Fail> {
 }
 
 #[test]
-fn a_copy_of_a_thousand_escapes_asks_once(rt: HostRuntime) -> Result<(), Fail> {
+fn a_copy_of_a_thousand_escapes_asks_once(rt: HostRuntime) -> Result<(), Fault> {
     let alloc = rt.alloc();
     let escapes = "\\ ".repeat(alloc, 1_000)?;
     let spaces = " ".repeat(alloc, 1_000)?;

@@ -1,12 +1,12 @@
 //! Names with escapes, read and compared. `Foo` and `wea` are the Rust crate's own tests, the others follow the format's rules.
 
+use crate::fault::Fault;
 use crate::told;
 use influxdb_line_protocol::EscapedStr;
 use std::collections::HashSet;
-use std::test::Fail;
 
 #[test]
-fn lines_have_these_names(rt: HostRuntime) -> Result<(), Fail> {
+fn lines_have_these_names(rt: HostRuntime) -> Result<(), Fault> {
     for (text, wanted) in [
         ("weat\\\nher f=1i", "C<weat\\\nher> S<f>=1i"),
         ("a\\\\ f=1i", "EndsWithBackslash"),
@@ -33,7 +33,7 @@ fn lines_have_these_names(rt: HostRuntime) -> Result<(), Fail> {
 }
 
 #[test]
-fn equal_texts_are_one_member(rt: HostRuntime) -> Result<(), Fail> {
+fn equal_texts_are_one_member(rt: HostRuntime) -> Result<(), Fault> {
     let copy = EscapedStr::CopiedValue(String::from_str(rt.alloc(), "a b")?);
     let mut set = HashSet::new(rt.alloc());
     set.insert(EscapedStr::SingleSlice("a b"))?;
@@ -43,7 +43,7 @@ fn equal_texts_are_one_member(rt: HostRuntime) -> Result<(), Fail> {
 }
 
 #[test]
-fn the_calls_of_a_name_succeed_with_memory(rt: HostRuntime) -> Result<(), Fail> {
+fn the_calls_of_a_name_succeed_with_memory(rt: HostRuntime) -> Result<(), Fault> {
     let alloc = rt.alloc();
     let name = EscapedStr::from("Foo");
     assert_eq!(rt; name.as_str(), "Foo");

@@ -1,10 +1,10 @@
 //! Texts and their pieces. `foo`, `meas` and `t=v` are the Rust crate's own tests, the others follow the format's rules.
 
+use crate::fault::Fault;
 use crate::told;
-use std::test::Fail;
 
 #[test]
-fn texts_have_these_pieces(rt: HostRuntime) -> Result<(), Fail> {
+fn texts_have_these_pieces(rt: HostRuntime) -> Result<(), Fault> {
     for (text, wanted) in [
         ("", "<>"),
         (

@@ -7,6 +7,7 @@
 ghost use Rattle.std.specs.Prelude.{◌<◌};
 
 use crate::drops::Basin;
+use crate::fault::Fault;
 use crate::hoard::Hoard;
 use crate::lent::Lent;
 use crate::small_buffers::{LINE, first_refused, refusal};
@@ -20,7 +21,6 @@ use lp_rebuild::{DeviceFault, RunFault, Source, rebuild, run};
 use std::alloc::{AllocError, Global};
 use std::borrow::CowStr;
 use std::process::Abort;
-use std::test::Fail;
 
 const FOUR_LINES: &str =
     "m a=1i\na\\ b,c\\,d=e\\=f g\\ h=\"i\\\"j\"\nm,a=1,b=1,c=1,d=1,e=1,f=1,g=1,h=1,i=1 v=1i,w=1i,x=1i,y=1i,z=1i\nm a=1x";
@@ -37,16 +37,20 @@ const FOUR_ITEMS: [&str; 4] = [
 fn told_item(
     alloc: Global,
     item: &Option<influxdb_line_protocol::Result<ParsedLine<'_>>>,
-) -> Result<String, Fail> {
+) -> Result<String, Fault> {
     match item {
         Some(Ok(line)) => Ok(told::line(alloc, line)?),
         Some(Err(fault)) => Ok(told::fault(alloc, fault)?),
-        None => Err("no item".into()),
+        None => Err(Fault::Unexpected),
     }
 }
 
 // The next item, told, where just one request for each of these sizes is granted.
-fn next_with(alloc: Global, lines: &mut ParseLines<'_>, granted: &[usize]) -> Result<String, Fail> {
+fn next_with(
+    alloc: Global,
+    lines: &mut ParseLines<'_>,
+    granted: &[usize],
+) -> Result<String, Fault> {
     let hoard = Hoard::leaving(alloc, granted)?;
     let item = lines.next();
     drop(hoard);
@@ -54,7 +58,7 @@ fn next_with(alloc: Global, lines: &mut ParseLines<'_>, granted: &[usize]) -> Re
 }
 
 // The items of the four lines, divided by `|`, where just one request for each of these sizes is granted at `place`.
-fn items_with(alloc: Global, place: usize, granted: &[usize]) -> Result<String, Fail> {
+fn items_with(alloc: Global, place: usize, granted: &[usize]) -> Result<String, Fault> {
     let mut lines = parse_lines(alloc, FOUR_LINES);
     let mut told = String::new(alloc);
     for at in 0..5 {
@@ -73,7 +77,7 @@ fn items_with(alloc: Global, place: usize, granted: &[usize]) -> Result<String, 
 }
 
 #[test]
-fn each_request_of_four_lines_is_refused_in_turn(rt: HostRuntime) -> Result<(), Fail> {
+fn each_request_of_four_lines_is_refused_in_turn(rt: HostRuntime) -> Result<(), Fault> {
     let [first, second, third, fourth] = FOUR_ITEMS;
     let second_refused = format!(in rt.alloc(); "{first}|OutOfMemory|{third}|{fourth}|")?;
     let third_refused = format!(in rt.alloc(); "{first}|{second}|OutOfMemory|{fourth}|")?;
@@ -100,9 +104,9 @@ fn each_request_of_four_lines_is_refused_in_turn(rt: HostRuntime) -> Result<(), 
 }
 
 // The base of a series, told, where just one request for each of these sizes is granted.
-fn base_with(alloc: Global, text: &str, granted: &[usize]) -> Result<String, Fail> {
+fn base_with(alloc: Global, text: &str, granted: &[usize]) -> Result<String, Fault> {
     let Some(Ok(line)) = parse_lines(alloc, text).next() else {
-        return Err("no line".into());
+        return Err(Fault::Unexpected);
     };
     let hoard = Hoard::leaving(alloc, granted)?;
     let base = line.series.generate_base(alloc);
@@ -115,7 +119,7 @@ fn base_with(alloc: Global, text: &str, granted: &[usize]) -> Result<String, Fai
 }
 
 #[test]
-fn each_request_of_a_base_is_refused_in_turn(rt: HostRuntime) -> Result<(), Fail> {
+fn each_request_of_a_base_is_refused_in_turn(rt: HostRuntime) -> Result<(), Fault> {
     for (text, granted, wanted) in [
         ("foo,tag2=2,tag1=1 f=1i", [].as_slice(), "OutOfMemory"),
         (
@@ -159,7 +163,7 @@ macro_rules! called {
                 assert_eq!($rt; refused.cause, NoRoom::OutOfMemory);
                 match refused.builder.$call($($argument),*) {
                     Ok(builder) => builder,
-                    Err(_) => return Err("refused again".into()),
+                    Err(_) => return Err(Fault::Unexpected),
                 }
             }
         }
@@ -179,8 +183,8 @@ fn held(alloc: Global, room: usize) -> Result<Vec<u8>, AllocError>
 }
 
 #[test]
-fn a_refused_call_succeeds_when_it_is_made_again(rt: HostRuntime) -> Result<(), Fail> {
-    let literal = FloatText::new("42").ok_or("no literal")?;
+fn a_refused_call_succeeds_when_it_is_made_again(rt: HostRuntime) -> Result<(), Fault> {
+    let literal = FloatText::new("42").ok_or(Fault::Unexpected)?;
     for room in [0, 3, 11, 18] {
         let builder = LineProtocolBuilder::new_with(held(rt.alloc(), room)?);
         let builder = called!(rt, room == 0, builder.measurement("foo"));
@@ -194,13 +198,13 @@ fn a_refused_call_succeeds_when_it_is_made_again(rt: HostRuntime) -> Result<(), 
 }
 
 #[test]
-fn a_refused_first_growth_leaves_the_builder_empty(rt: HostRuntime) -> Result<(), Fail> {
+fn a_refused_first_growth_leaves_the_builder_empty(rt: HostRuntime) -> Result<(), Fault> {
     let builder = LineProtocolBuilder::new(rt.alloc());
     let hoard = Hoard::new(rt.alloc())?;
     let answer = builder.measurement("m");
     drop(hoard);
     let Err(refused) = answer else {
-        return Err("accepted".into());
+        return Err(Fault::Unexpected);
     };
     assert_eq!(rt; refused.cause, NoRoom::OutOfMemory);
     assert!(rt; refused.builder.build().is_empty());
@@ -208,8 +212,8 @@ fn a_refused_first_growth_leaves_the_builder_empty(rt: HostRuntime) -> Result<()
 }
 
 #[test]
-fn a_vec_with_room_is_written_to_without_memory(rt: HostRuntime) -> Result<(), Fail> {
-    let literal = FloatText::new("42").ok_or("no literal")?;
+fn a_vec_with_room_is_written_to_without_memory(rt: HostRuntime) -> Result<(), Fault> {
+    let literal = FloatText::new("42").ok_or(Fault::Unexpected)?;
     for room in 0..20 {
         let (call, len) = first_refused(room);
         let mut bytes = held(rt.alloc(), room)?;
@@ -221,7 +225,10 @@ fn a_vec_with_room_is_written_to_without_memory(rt: HostRuntime) -> Result<(), F
             call.map(|call| (call, NoRoom::OutOfMemory)),
             "at {room}"
         );
-        let written = bytes.as_slice().strip_prefix(HELD).ok_or("other lines")?;
+        let written = bytes
+            .as_slice()
+            .strip_prefix(HELD)
+            .ok_or(Fault::Unexpected)?;
         assert_eq!(rt; written.len(), len, "at {room}");
         assert!(rt; LINE.as_bytes().starts_with(written), "at {room}");
     }
@@ -229,10 +236,10 @@ fn a_vec_with_room_is_written_to_without_memory(rt: HostRuntime) -> Result<(), F
 }
 
 #[test]
-fn a_refused_line_leaves_the_lines_before_it(rt: HostRuntime) -> Result<(), Fail> {
+fn a_refused_line_leaves_the_lines_before_it(rt: HostRuntime) -> Result<(), Fault> {
     let alloc = rt.alloc();
     let Some(Ok(line)) = parse_lines(alloc, LINE).next() else {
-        return Err("no line".into());
+        return Err(Fault::Unexpected);
     };
     assert!(rt; line.field_set.len() > 0);
     let held = b"m a=1i\n".to_vec(alloc)?;
@@ -240,7 +247,7 @@ fn a_refused_line_leaves_the_lines_before_it(rt: HostRuntime) -> Result<(), Fail
     let answer = write_line(LineProtocolBuilder::new_with(held), &line);
     drop(hoard);
     let Err(refused) = answer else {
-        return Err("accepted".into());
+        return Err(Fault::Unexpected);
     };
     assert_eq!(rt; refused.cause, NoRoom::OutOfMemory);
     let held = refused.builder.build();
@@ -251,12 +258,12 @@ fn a_refused_line_leaves_the_lines_before_it(rt: HostRuntime) -> Result<(), Fail
             assert_eq!(rt; builder.build().as_slice(), wanted);
             Ok(())
         }
-        Err(_) => Err("refused again".into()),
+        Err(_) => Err(Fault::Unexpected),
     }
 }
 
 #[test]
-fn a_refused_copy_leaves_the_name(rt: HostRuntime) -> Result<(), Fail> {
+fn a_refused_copy_leaves_the_name(rt: HostRuntime) -> Result<(), Fault> {
     let alloc = rt.alloc();
     let slice = EscapedStr::from("a b");
     let copy = EscapedStr::CopiedValue(String::from_str(alloc, "a b")?);
@@ -275,7 +282,7 @@ fn a_refused_copy_leaves_the_name(rt: HostRuntime) -> Result<(), Fail> {
 }
 
 #[test]
-fn a_refused_copy_leaves_the_value(rt: HostRuntime) -> Result<(), Fail> {
+fn a_refused_copy_leaves_the_value(rt: HostRuntime) -> Result<(), Fault> {
     let alloc = rt.alloc();
     let copy = EscapedStr::CopiedValue(String::from_str(alloc, "a b")?);
     let value = FieldValue::String(copy);
@@ -329,7 +336,7 @@ fn is_rebuilt(
 // With so many bytes the first request is refused, or the second, and so on; with the last number none is.
 
 #[test]
-fn each_request_of_a_rebuild_is_refused_in_turn(rt: HostRuntime) -> Result<(), Fail> {
+fn each_request_of_a_rebuild_is_refused_in_turn(rt: HostRuntime) -> Result<(), Fault> {
     for place in 0..2 {
         for bytes in [0, 16, 32, 64, 80, 96] {
             assert!(rt;
@@ -406,7 +413,7 @@ fn a_run_that_is_refused_memory_writes_nothing(rt: HostRuntime) {
 }
 
 #[test]
-fn a_run_that_is_refused_memory_as_it_reads_writes_nothing(rt: HostRuntime) -> Result<(), Fail> {
+fn a_run_that_is_refused_memory_as_it_reads_writes_nothing(rt: HostRuntime) -> Result<(), Fault> {
     for granted in [[].as_slice(), [65_536usize].as_slice()] {
         let mut reader = b"m a=1i\n".as_slice();
         let mut out = Basin::new(0);

@@ -1,10 +1,10 @@
 //! Runs of the program, in memory.
 
+use crate::fault::Fault;
 use lp_rebuild::{Kept, rebuild, run, status};
-use std::test::Fail;
 
 #[test]
-fn runs_write_this(rt: HostRuntime) -> Result<(), Fail> {
+fn runs_write_this(rt: HostRuntime) -> Result<(), Fault> {
     let alloc = rt.alloc();
     for (input, wanted, faults) in [
         (
@@ -62,7 +62,7 @@ fn runs_write_this(rt: HostRuntime) -> Result<(), Fail> {
 }
 
 #[test]
-fn what_was_written_is_written_again_unchanged(rt: HostRuntime) -> Result<(), Fail> {
+fn what_was_written_is_written_again_unchanged(rt: HostRuntime) -> Result<(), Fault> {
     let alloc = rt.alloc();
     for batch in [
         "m a=1E+3,b=7i,c=7u 5\n",
@@ -81,7 +81,7 @@ fn what_was_written_is_written_again_unchanged(rt: HostRuntime) -> Result<(), Fa
 }
 
 #[test]
-fn input_that_is_no_text_writes_nothing(rt: HostRuntime) -> Result<(), Fail> {
+fn input_that_is_no_text_writes_nothing(rt: HostRuntime) -> Result<(), Fault> {
     let alloc = rt.alloc();
     for input in [b"\xff".as_slice(), b"m a=1i\n\xc3".as_slice()] {
         let mut reader = input;
@@ -92,7 +92,7 @@ fn input_that_is_no_text_writes_nothing(rt: HostRuntime) -> Result<(), Fail> {
         assert!(rt; out.as_slice().is_empty());
         assert!(rt; err.as_slice().is_empty());
         match answer {
-            Ok(_) => return Err("read".into()),
+            Ok(_) => return Err(Fault::Unexpected),
             Err(fault) => {
                 let told = format!(in alloc; "{fault}")?;
                 assert_eq!(rt; told.as_str(), "the input is not UTF-8");

@@ -1,15 +1,15 @@
 //! Series and their bases, and what is shown of lines that were made from a parsed one.
 
+use crate::fault::Fault;
 use influxdb_line_protocol::{EscapedStr, ParsedLine, Series, TagSet, parse_lines};
 use std::alloc::{AllocError, Global};
 use std::borrow::CowStr;
-use std::test::Fail;
 
 // The line of a text that has one.
-fn parsed<'a>(alloc: Global, text: &'a str) -> Result<ParsedLine<'a>, Fail> {
+fn parsed<'a>(alloc: Global, text: &'a str) -> Result<ParsedLine<'a>, Fault> {
     match parse_lines(alloc, text).next() {
         Some(Ok(line)) => Ok(line),
-        _ => Err(Fail::new("no line was read")),
+        _ => Err(Fault::Unexpected),
     }
 }
 
@@ -32,7 +32,7 @@ fn base(alloc: Global, series: Series<'_>) -> Result<String, AllocError> {
 }
 
 #[test]
-fn series_have_these_bases(rt: HostRuntime) -> Result<(), Fail> {
+fn series_have_these_bases(rt: HostRuntime) -> Result<(), Fault> {
     for (text, wanted) in [
         (
             "foo,c=1,b=1,b=2,c=3 f=1i",
@@ -70,7 +70,7 @@ fn series_have_these_bases(rt: HostRuntime) -> Result<(), Fail> {
 }
 
 #[test]
-fn a_changed_measurement_is_shown(rt: HostRuntime) -> Result<(), Fail> {
+fn a_changed_measurement_is_shown(rt: HostRuntime) -> Result<(), Fault> {
     let mut series = parsed(rt.alloc(), "foo f=1i")?.series;
     series.measurement = EscapedStr::from("bar");
     assert_eq!(rt; format!(in rt.alloc(); "{series}")?.as_str(), "bar");
@@ -79,7 +79,7 @@ fn a_changed_measurement_is_shown(rt: HostRuntime) -> Result<(), Fail> {
 }
 
 #[test]
-fn an_empty_tag_set_shows_its_comma(rt: HostRuntime) -> Result<(), Fail> {
+fn an_empty_tag_set_shows_its_comma(rt: HostRuntime) -> Result<(), Fault> {
     let mut series = parsed(rt.alloc(), "m f=1i")?.series;
     series.tag_set = Some(TagSet::new(rt.alloc()));
     assert_eq!(rt; format!(in rt.alloc(); "{series}")?.as_str(), "m,");
@@ -88,7 +88,7 @@ fn an_empty_tag_set_shows_its_comma(rt: HostRuntime) -> Result<(), Fail> {
 }
 
 #[test]
-fn a_changed_tag_set_has_a_base_of_its_own(rt: HostRuntime) -> Result<(), Fail> {
+fn a_changed_tag_set_has_a_base_of_its_own(rt: HostRuntime) -> Result<(), Fault> {
     let mut series = parsed(rt.alloc(), "m,a=1 f=1i")?.series;
     series.tag_set = Some(tag_set(rt.alloc(), &[("b", "1"), ("a", "2")])?);
     assert_eq!(rt; base(rt.alloc(), series)?.as_str(), "O<m,a=2,b=1>");
@@ -96,7 +96,7 @@ fn a_changed_tag_set_has_a_base_of_its_own(rt: HostRuntime) -> Result<(), Fail> 
 }
 
 #[test]
-fn lines_are_shown_so(rt: HostRuntime) -> Result<(), Fail> {
+fn lines_are_shown_so(rt: HostRuntime) -> Result<(), Fault> {
     let alloc = rt.alloc();
     for (text, wanted) in [
         ("m f=-42i", "m f=-42i"),

@@ -2,12 +2,12 @@
 
 ghost use Rattle.std.specs.Prelude.{◌<◌};
 
+use crate::fault::Fault;
 use crate::lent::Lent;
 use arrayvec::ArrayVec;
 use influxdb_line_protocol::builder::{BufMut, NoRoom};
 use influxdb_line_protocol::{FloatText, LineProtocolBuilder, ParsedLine, parse_lines, write_line};
 use std::process::Abort;
-use std::test::Fail;
 
 /// The line, which is written by four calls.
 pub const LINE: &str = "foo,bar=baz qux=42\n";
@@ -44,10 +44,10 @@ pub fn first_refused(capacity: usize) -> (Option<&'static str>, usize) {
 }
 
 // Writes the line into a buffer of this capacity, call by call.
-fn writes_by_calls<const CAP: usize>(rt: &impl Abort) -> Result<(), Fail>
+fn writes_by_calls<const CAP: usize>(rt: &impl Abort) -> Result<(), Fault>
     requires { CAP < 20 }
 {
-    let literal = FloatText::new("42").ok_or("no literal")?;
+    let literal = FloatText::new("42").ok_or(Fault::Unexpected)?;
     let (call, len) = first_refused(CAP);
     let refused = call.map(|call| (call, NoRoom::Full));
     assert_eq!(rt;
@@ -89,13 +89,13 @@ macro_rules! at_each_capacity {
 }
 
 #[test]
-fn the_call_that_does_not_fit_is_refused(rt: HostRuntime) -> Result<(), Fail> {
+fn the_call_that_does_not_fit_is_refused(rt: HostRuntime) -> Result<(), Fault> {
     at_each_capacity!(writes_by_calls, &rt);
     Ok(())
 }
 
 // Writes the line into a buffer of this capacity, as a whole.
-fn writes_whole<const CAP: usize>(rt: &impl Abort, line: &ParsedLine<'_>) -> Result<(), Fail>
+fn writes_whole<const CAP: usize>(rt: &impl Abort, line: &ParsedLine<'_>) -> Result<(), Fault>
     requires { CAP < 20 }
 {
     assert!(rt; line.field_set.len() > 0);
@@ -117,9 +117,9 @@ fn writes_whole<const CAP: usize>(rt: &impl Abort, line: &ParsedLine<'_>) -> Res
 }
 
 #[test]
-fn a_line_that_does_not_fit_is_refused_as_a_whole(rt: HostRuntime) -> Result<(), Fail> {
+fn a_line_that_does_not_fit_is_refused_as_a_whole(rt: HostRuntime) -> Result<(), Fault> {
     let Some(Ok(line)) = parse_lines(rt.alloc(), LINE).next() else {
-        return Err("no line".into());
+        return Err(Fault::Unexpected);
     };
     at_each_capacity!(writes_whole, &rt, &line);
     Ok(())

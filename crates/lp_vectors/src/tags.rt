@@ -1,12 +1,12 @@
 //! Tag sets and field sets. `foo` and `testmeasure` are the Rust crate's own tests, the others follow the format's rules.
 
+use crate::fault::Fault;
 use crate::told;
 use influxdb_line_protocol::{FieldValue, ParsedLine, parse_lines};
 use std::process::Abort;
-use std::test::Fail;
 
 #[test]
-fn sets_are_read_so(rt: HostRuntime) -> Result<(), Fail> {
+fn sets_are_read_so(rt: HostRuntime) -> Result<(), Fault> {
     for (text, wanted) in [
         (
             "cpu,host=A,region=west usage_system=64i 1590488773254420000",
@@ -65,7 +65,7 @@ fn sets_are_read_so(rt: HostRuntime) -> Result<(), Fail> {
 }
 
 #[test]
-fn a_series_keeps_its_text(rt: HostRuntime) -> Result<(), Fail> {
+fn a_series_keeps_its_text(rt: HostRuntime) -> Result<(), Fault> {
     for (text, wanted) in [
         ("cpu,host=A,region=west a=1i", "cpu,host=A,region=west"),
         ("  cpu a=1i", "cpu"),
@@ -83,7 +83,7 @@ fn a_series_keeps_its_text(rt: HostRuntime) -> Result<(), Fail> {
 }
 
 #[test]
-fn the_first_match_is_found(rt: HostRuntime) -> Result<(), Fail> {
+fn the_first_match_is_found(rt: HostRuntime) -> Result<(), Fault> {
     for item in parse_lines(rt.alloc(), "m,k=1,k=2 a=1i,a=2i") {
         let line = item?;
         assert_eq!(rt;
@@ -92,7 +92,7 @@ fn the_first_match_is_found(rt: HostRuntime) -> Result<(), Fail> {
         );
         match line.tag_value("k") {
             Some(value) => assert_eq!(rt; value.as_str(), "1"),
-            None => return Err("no tag".into()),
+            None => return Err(Fault::Unexpected),
         }
         assert!(rt; matches!(line.field_value("a"), Some(FieldValue::I64(1))));
     }
@@ -100,7 +100,7 @@ fn the_first_match_is_found(rt: HostRuntime) -> Result<(), Fail> {
         let line = item?;
         match line.tag_value("test") {
             Some(value) => assert_eq!(rt; value.as_str(), "stuff"),
-            None => return Err("no tag".into()),
+            None => return Err(Fault::Unexpected),
         }
         assert!(rt; matches!(line.field_value("asdf"), Some(FieldValue::Boolean(true))));
         assert!(rt; line.tag_value("asdf").is_none());
@@ -111,7 +111,7 @@ fn the_first_match_is_found(rt: HostRuntime) -> Result<(), Fail> {
 
 // The rows come from the Rust crate's own tests.
 #[test]
-fn keys_and_tag_values_may_hold_a_nul(rt: HostRuntime) -> Result<(), Fail> {
+fn keys_and_tag_values_may_hold_a_nul(rt: HostRuntime) -> Result<(), Fault> {
     for (text, wanted) in [
         (
             "m,ta\0g1=one value=1 123",
@@ -153,7 +153,7 @@ fn columns(rt: &impl Abort, line: &ParsedLine<'_>) -> usize {
 }
 
 #[test]
-fn columns_are_counted_so(rt: HostRuntime) -> Result<(), Fail> {
+fn columns_are_counted_so(rt: HostRuntime) -> Result<(), Fault> {
     for (text, wanted) in [
         (
             "cpu,host=A,region=west usage_system=64i 1590488773254420000",
@@ -164,7 +164,7 @@ fn columns_are_counted_so(rt: HostRuntime) -> Result<(), Fail> {
         ("m f=1i", 2),
     ] {
         let Some(Ok(line)) = parse_lines(rt.alloc(), text).next() else {
-            return Err("no line".into());
+            return Err(Fault::Unexpected);
         };
         assert_eq!(rt; columns(&rt, &line), wanted, "of {text}");
     }

@@ -1,12 +1,12 @@
 //! Values and timestamps. What stands after `asdf=` and `field=` comes from the Rust crate's own tests, the others from the
 //! format's rules.
 
+use crate::fault::Fault;
 use crate::told;
 use influxdb_line_protocol::{FieldValue, FloatText, parse_lines};
-use std::test::Fail;
 
 #[test]
-fn values_are_read_so(rt: HostRuntime) -> Result<(), Fail> {
+fn values_are_read_so(rt: HostRuntime) -> Result<(), Fault> {
     for (text, wanted) in [
         ("m a=1.", "rest <.>"),
         ("m a=1e", "rest <e>"),
@@ -116,7 +116,7 @@ fn values_are_read_so(rt: HostRuntime) -> Result<(), Fail> {
 }
 
 #[test]
-fn boolean_words_are_read_so(rt: HostRuntime) -> Result<(), Fail> {
+fn boolean_words_are_read_so(rt: HostRuntime) -> Result<(), Fault> {
     for (text, wanted) in [
         ("foo asdf=t", "S<foo> S<asdf>=true"),
         ("foo asdf=T", "S<foo> S<asdf>=true"),
@@ -136,7 +136,7 @@ fn boolean_words_are_read_so(rt: HostRuntime) -> Result<(), Fail> {
 }
 
 #[test]
-fn a_long_float_is_read(rt: HostRuntime) -> Result<(), Fail> {
+fn a_long_float_is_read(rt: HostRuntime) -> Result<(), Fault> {
     let mut literal = String::new(rt.alloc());
     for _ in 0..1000 {
         literal.push_str("9")?;
@@ -165,7 +165,7 @@ fn float_texts_are_literals_alone(rt: HostRuntime) {
 }
 
 #[test]
-fn values_are_cloned_and_compared(rt: HostRuntime) -> Result<(), Fail> {
+fn values_are_cloned_and_compared(rt: HostRuntime) -> Result<(), Fault> {
     let alloc = rt.alloc();
     let text = "m a=1i,b=1u,c=1.0,d=\"x\\y\",e=t,f=1";
     for item in parse_lines(alloc, text) {
