@@ -5,7 +5,8 @@ ghost use Rattle.influxdb_line_protocol.specs.declared.split.Dialect.{Dialect};
 ghost use Rattle.influxdb_line_protocol.specs.Lines.{answer, byte, front_before, spaces};
 ghost use Rattle.influxdb_line_protocol.specs.Bytes.{space};
 ghost use Rattle.influxdb_line_protocol.specs.Outcomes.{HasMemory};
-ghost use Rattle.influxdb_line_protocol.specs.Light.{is_light};
+ghost use Rattle.influxdb_line_protocol.specs.Light.{is_light_in};
+ghost use Rattle.influxdb_line_protocol.specs.Lookups.{room_of};
 ghost use Rattle.influxdb_line_protocol.specs.Filled.{FillsLine};
 ghost use Rattle.influxdb_line_protocol.specs.Trimming.{trimmed};
 ghost use Rattle.influxdb_line_protocol.specs.Readings.{miss, reads};
@@ -145,11 +146,12 @@ fn fill<'a>(
     line: &'a str,
     parsed: &mut ParsedLine<'a>,
 ) -> Result<()>
-    requires no_tags { MatchOption parsed.old.series.tag_set ⊥ (λ tags. (tags.items ≡ []) × (8 ≤ tags.capacity)) }
-    requires empty { parsed.old.field_set.items ≡ [] }
-    requires room { 4 ≤ parsed.old.field_set.capacity }
+    requires no_tags { MatchOption parsed.old.series.tag_set ⊥ (λ tags. tags.items ≡ []) }
+    requires no_fields { parsed.old.field_set.items ≡ [] }
     ensures value { FillsLine parsed.new result (answer dialect line.now) }
-    ensures light { is_light dialect line.now ≡ true → HasMemory result }
+    ensures light { is_light_in (room_of parsed.old.series.tag_set) parsed.old.field_set.capacity dialect line.now ≡ true → HasMemory result }
+    ensures tag_room { IfSome parsed.new.series.tag_set (λ tags. room_of parsed.old.series.tag_set ≤ tags.capacity) }
+    ensures field_room { parsed.old.field_set.capacity ≤ parsed.new.field_set.capacity }
 {
     let Some((measurement, rest)) = names::name(alloc, NameKind::Measurement, line)? else {
         return Err(Error::MeasurementValueInvalid);
