@@ -1,10 +1,10 @@
 -- A line with a reading that needs memory is not light, whatever room there is for tags and fields.
-use Rattle.std.proofs.Common.{◌≡◌, ℕ, ◌<◌, List, [], ◌∷◌, length, take, drop, Bool, true, false, not, ◌&&◌, ◌||◌, inl, inr, ap, refl, arith}
+use Rattle.std.proofs.Common.{◌≡◌, ℕ, ◌<◌, ◌≤◌, List, [], ◌∷◌, length, take, drop, Bool, true, false, not, ◌&&◌, ◌||◌, inl, inr, ap, refl, arith}
 use Rattle.std.specs.Prelude.{ℤ, Option, Some, None, Result, Ok, Err, nat_le, ◌==◌}
 use Rattle.std.specs.List.{list_all}
 use Rattle.std.specs.Result.{IsErr}
 use Rattle.std.specs.Str.Parse.{signed_digits_value}
-use Rattle.std.proofs.lemmas.Bool.{cases_Bool, and_left, and_right}
+use Rattle.std.proofs.lemmas.Bool.{cases_Bool, and_left, and_parts, and_right, le-leb, leb-true}
 use Rattle.influxdb_line_protocol.specs.declared.split.Dialect.{Dialect}
 use Rattle.influxdb_line_protocol.specs.Bytes.{is_one_of}
 use Rattle.influxdb_line_protocol.specs.Readings.{Fault, Text, Read, Reading, miss, fatal, reads, field_set_missing, take_while1, timestamp_value_invalid, cannot_parse_entire_line, or_fault}
@@ -94,6 +94,17 @@ module _ (dialect : Dialect) (line : List ℕ) where
   many_fields : (p q : ℕ) → nat_le (fields_in line) q ≡ false → is_light_in p q dialect line ≡ false
   unfolding is_light_in
   many_fields p q h = second_copied (nat_le (tags_in line) p) (nat_le (fields_in line) q) (is_light_answer line (answer dialect line)) h
+
+  -- a line that needs no memory in some room needs none in more
+  pub more_room : (p q more_tags more_fields : ℕ) → p ≤ more_tags → q ≤ more_fields → is_light_in p q dialect line ≡ true
+      → is_light_in more_tags more_fields dialect line ≡ true
+  unfolding is_light_in
+  more_room p q more_tags more_fields h k light =
+      let parts = and_parts (nat_le (tags_in line) p && nat_le (fields_in line) q) (is_light_answer line (answer dialect line)) light in
+      let counts = and_parts (nat_le (tags_in line) p) (nat_le (fields_in line) q) parts.0 in
+      let tags : tags_in line ≤ p = leb-true (tags_in line) p counts.0 in
+      let fields : fields_in line ≤ q = leb-true (fields_in line) q counts.1 in
+      rw (le-leb (tags_in line) more_tags (omega arith), le-leb (fields_in line) more_fields (omega arith)) parts.1
 
   -- a line whose measurement needs memory is not light
   pub measurement_needs : (p q : ℕ) → NeedsMemory (λ t. t.is_single) (name a_measurement line) → is_light_in p q dialect line ≡ false
