@@ -328,7 +328,7 @@ impl<'a> ParseLines<'a> {
     /// room that new sets have, and it needs none for copies and for the text of a fault.
     #[inline(always)]
     pub fn next_into(&mut self, line: &mut ParsedLine<'a>) -> Option<Result<()>>
-        ensures gives { GivesItem self.old (item_in line.new result) self.new }
+        ensures gives { GivesItem self.old (option_map (item_in line.new) result) self.new }
         ensures fewer { IfSome result (λ answer. most_items self.new.text < most_items self.old.text) }
         ensures fault { LeavesEmpty line.new result }
         ensures ended { IfNone result (line.new ≡ line.old) }
