@@ -46,4 +46,6 @@ mod small_buffers;
 mod tags;
 pub mod told;
 #[cfg(test)]
+mod used_again;
+#[cfg(test)]
 mod values;

@@ -84,18 +84,49 @@ pub fn items(alloc: Global, input: &str) -> Result<String, AllocError> {
     items_in(alloc, Dialect::Crate, input)
 }
 
-/// The same, by the rules of a dialect.
+/// The same, by the rules of a dialect. They are read twice, each by itself and all into one line: where the two differ,
+/// both are told.
 pub fn items_in(alloc: Global, dialect: Dialect, input: &str) -> Result<String, AllocError> {
+    let told = items_by_themselves(alloc, dialect, input)?;
+    let again = items_into_one(alloc, dialect, input)?;
+    if told.as_str() != again.as_str() {
+        return format!(in alloc; "{told}, but into one line {again}");
+    }
+    Ok(told)
+}
+
+// One more item.
+fn push_item(told: &mut String, item: &str) -> Result<(), AllocError> {
+    if !told.is_empty() {
+        told.push_str("|")?;
+    }
+    told.push_str(item)
+}
+
+// The items of a text, by `next`.
+fn items_by_themselves(alloc: Global, dialect: Dialect, input: &str) -> Result<String, AllocError> {
     let mut told = String::new(alloc);
     for item in parse_lines_in(alloc, dialect, input) {
         let one = match &item {
             Ok(parsed) => line(alloc, parsed)?,
             Err(error) => fault(alloc, error)?,
         };
-        if !told.is_empty() {
-            told.push_str("|")?;
-        }
-        told.push_str(one.as_str())?;
+        push_item(&mut told, one.as_str())?;
+    }
+    Ok(told)
+}
+
+// The items of a text, by `next_into`.
+fn items_into_one(alloc: Global, dialect: Dialect, input: &str) -> Result<String, AllocError> {
+    let mut told = String::new(alloc);
+    let mut lines = parse_lines_in(alloc, dialect, input);
+    let mut parsed = ParsedLine::new(alloc);
+    while let Some(answer) = lines.next_into(&mut parsed) {
+        let one = match &answer {
+            Ok(()) => line(alloc, &parsed)?,
+            Err(error) => fault(alloc, error)?,
+        };
+        push_item(&mut told, one.as_str())?;
     }
     Ok(told)
 }
