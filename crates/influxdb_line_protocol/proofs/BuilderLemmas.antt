@@ -31,6 +31,29 @@ length_escaped bytes (b ∷ text) =
     let rest = length_escaped bytes text in
     length_step (is_one_of bytes) b (is_one_of bytes b) (escaped bytes text) text refl rest
 
+-- nothing gets a backslash in an empty text
+pub escaped_nothing : (bytes : List ℕ) → escaped bytes [] ≡ []
+unfolding escaped
+escaped_nothing bytes = refl
+
+-- a byte that gets a backslash counts
+uncounted : (p : ℕ → Bool) (b : ℕ) (v : Bool) (text : List ℕ) → p b ≡ v → count_by p (b ∷ text) ≡ 0 → (v ≡ false) × (count_by p text ≡ 0)
+uncounted p b true text h none = absurd (grind (arith, common_steps))
+uncounted p b false text h none = (refl, grind (arith, common_steps))
+
+-- a text stays where no byte of it gets a backslash
+escaped_uncounted : (bytes text : List ℕ) → count_by (is_one_of bytes) text ≡ 0 → escaped bytes text ≡ text
+unfolding escaped
+escaped_uncounted bytes [] none = refl
+escaped_uncounted bytes (b ∷ text) none =
+    let step = uncounted (is_one_of bytes) b (is_one_of bytes b) text refl none in
+    let rest : escaped bytes text ≡ text = escaped_uncounted bytes text step.1 in
+    rw step.0 (ap (λ (xs : List ℕ). b ∷ xs) rest)
+
+-- a text that is as long as its escaped one stays
+pub escaped_as_long : (bytes text : List ℕ) → length (escaped bytes text) ≡ length text → escaped bytes text ≡ text
+escaped_as_long bytes text same = escaped_uncounted bytes text (omega (arith, length_escaped bytes text))
+
 -- a text without a byte that gets a backslash stays
 pub escaped_same : (bytes text : List ℕ)
     → ((k : ℕ) → k < length text → is_one_of bytes (get_or text k 0) ≡ false) → escaped bytes text ≡ text

@@ -6,6 +6,7 @@ use Rattle.influxdb_line_protocol.specs.declared.builder.NoRoom.{NoRoom}
 use Rattle.influxdb_line_protocol.specs.declared.builder.NoRoom.TheVariants.{TooLong}
 use Rattle.influxdb_line_protocol.specs.declared.builder.LineProtocolBuilder.{LineProtocolBuilder}
 use Rattle.influxdb_line_protocol.specs.declared.builder.Refused.{Refused}
+use Rattle.influxdb_line_protocol.specs.Escapes.{escaped}
 use Rattle.influxdb_line_protocol.specs.Names.{a_measurement, a_tag_key, escapable}
 use Rattle.influxdb_line_protocol.specs.Values.{quotable}
 
@@ -18,6 +19,10 @@ abbrev pub bytes_of : Escapes → List ℕ
 bytes_of OfMeasurement = escapable a_measurement
 bytes_of OfKey = escapable a_tag_key
 bytes_of OfString = quotable
+
+-- no byte of a text gets a backslash
+abbrev pub IsPlainText : List ℕ → List ℕ → Type 0
+IsPlainText bytes text = escaped bytes text ≡ text
 
 -- a call whose text is this one appends exactly it, or is refused and changes nothing
 pub record Writes {B S T : Type 0} (bytes : B → List ℕ) (room : B → ℕ) (refuses : NoRoom → Type 0)

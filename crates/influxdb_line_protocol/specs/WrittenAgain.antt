@@ -1,11 +1,15 @@
 -- The texts that the builder writes for the parts of a parsed line.
 use Rattle.std.specs.Prelude.{ℕ, List, [], ◌∷◌, ◌++◌, map}
-use Rattle.std.specs.List.{flat_map}
+use Rattle.std.specs.List.{AllByRecursion, flat_map}
 use Rattle.influxdb_line_protocol.specs.declared.escaped.EscapedStr.{EscapedStr}
 use Rattle.influxdb_line_protocol.specs.declared.values.FieldValue.{FieldValue}
 use Rattle.influxdb_line_protocol.specs.declared.builder.lines.Parts.{Parts}
 use Rattle.influxdb_line_protocol.specs.Bytes.{newline, space}
-use Rattle.influxdb_line_protocol.specs.Names.{a_measurement}
+use Rattle.influxdb_line_protocol.specs.declared.values.FieldValue.TheVariants.{String}
+use Rattle.influxdb_line_protocol.specs.Names.{a_measurement, a_tag_key, a_field_key, escapable}
+use Rattle.influxdb_line_protocol.specs.Values.{quotable}
+use Rattle.influxdb_line_protocol.specs.Texts.{text_of}
+use Rattle.influxdb_line_protocol.specs.Built.{IsPlainText}
 use Rattle.influxdb_line_protocol.specs.Points.{Tag, Field, spelling, built_tag, built_value, built_fields, built_timestamp}
 use Rattle.influxdb_line_protocol.specs.Lines.{logical_tag, logical_field, logical_value}
 use Rattle.influxdb_line_protocol.specs.Parsed.{tag_of, field_of, value_of}
@@ -35,3 +39,26 @@ unfoldable pub parts_text : Parts → List ℕ
 parts_text p =
     spelling a_measurement p.measurement.now ++ flat_map tag_text p.tags.now ++ fields_text space p.fields.now
     ++ built_timestamp p.timestamp ++ newline ∷ []
+
+-- no byte of a tag gets a backslash
+abbrev pub IsPlainTag : EscapedStr × EscapedStr → Type 0
+IsPlainTag t = IsPlainText (escapable a_tag_key) (text_of t.0) × IsPlainText (escapable a_tag_key) (text_of t.1)
+
+-- the text between the quotes of a value, and none where it has no quotes
+abbrev pub quoted_text : FieldValue → List ℕ
+quoted_text (String t) = text_of t
+quoted_text other = []
+
+-- no byte of a value gets a backslash
+abbrev pub IsPlainValue : FieldValue → Type 0
+IsPlainValue v = IsPlainText quotable (quoted_text v)
+
+-- no byte of a field gets a backslash
+abbrev pub IsPlainField : EscapedStr × FieldValue → Type 0
+IsPlainField f = IsPlainText (escapable a_field_key) (text_of f.0) × IsPlainValue f.1
+
+-- no byte of the parts of a line gets a backslash
+pub record ArePlainParts (p : Parts) : Type 0 where
+  pub measurement : IsPlainText (escapable a_measurement) p.measurement.now
+  pub tags : AllByRecursion IsPlainTag p.tags.now
+  pub fields : AllByRecursion IsPlainField p.fields.now

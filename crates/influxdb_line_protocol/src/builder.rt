@@ -4,7 +4,7 @@
 //! line without a field, a tag behind a field or a second timestamp does not compile, and
 //! [`LineProtocolBuilder::build`] gives the buffer back between two lines alone.
 
-ghost use Rattle.std.specs.Prelude.{◌≡◌, ◌≢◌, ◌+◌, ◌-◌, ◌<◌, ◌≤◌, ◌^◌, ◌↔◌, List, [], ◌∷◌, ◌++◌, ℕ, length, IfOk, IfErr, IfNone, IfSome, OnOk, OnErr, IsOk, IsErr, vec_len, vec_capacity};
+ghost use Rattle.std.specs.Prelude.{◌≡◌, ◌≢◌, ◌+◌, ◌-◌, ◌<◌, ◌≤◌, ◌^◌, ◌↔◌, List, [], ◌∷◌, ◌++◌, ℕ, true, length, IfOk, IfErr, IfNone, IfSome, OnOk, OnErr, IsOk, IsErr, vec_len, vec_capacity};
 ghost use Rattle.std.specs.List.{count_by};
 ghost use Rattle.std.specs.Option.{SomeIff};
 ghost use Rattle.std.specs.Fmt.{decimal, signed_decimal};
@@ -17,7 +17,8 @@ ghost use Rattle.influxdb_line_protocol.specs.Names.{a_measurement};
 ghost use Rattle.influxdb_line_protocol.specs.Values.{integer, unsigned, string, boolean};
 ghost use Rattle.influxdb_line_protocol.specs.Points.{built_tag, built_value, field_text, spelling};
 ghost use Rattle.influxdb_line_protocol.specs.Marks.{listed};
-ghost use Rattle.influxdb_line_protocol.specs.Built.{Writes, buffer_of, bytes_of};
+ghost use Rattle.influxdb_line_protocol.specs.Built.{IsPlainText, Writes, buffer_of, bytes_of};
+ghost use Rattle.influxdb_line_protocol.specs.declared.builder.Escapes.TheVariants.{OfKey, OfString};
 
 use arrayvec::ArrayVec;
 use std::alloc::{Allocator, Global};
@@ -161,6 +162,27 @@ fn backslashes(escapes: Escapes, text: &[u8]) -> usize
     marks::count(escapes.marks(), text)
 }
 
+// What was measured of a text: how many bytes it has with its backslashes, and whether it is known to have none.
+#[derive(Clone, Copy)]
+struct Extent {
+    len: usize,
+    is_plain: bool,
+}
+
+// The length of `text` with its backslashes, and whether it has none.
+#[inline(always)]
+#[tactic(auto, using(crate::proofs::BuilderLemmas::escaped_as_long))]
+fn measure(escapes: Escapes, text: &[u8]) -> Extent
+    ensures len { result.len ≡ length (escaped (bytes_of escapes) text.now) }
+    ensures plain { result.is_plain ≡ true → IsPlainText (bytes_of escapes) text.now }
+{
+    let len = escaped_len(escapes, text);
+    Extent {
+        len,
+        is_plain: len == text.len(),
+    }
+}
+
 // The length of `text` with its backslashes. A text takes at most half of what a `usize` holds.
 #[inline(always)]
 #[tactic(auto, using(crate::proofs::BuilderLemmas::length_escaped))]
@@ -220,13 +242,18 @@ fn put_marked<B: BufMut>(buf: &mut B, escapes: Escapes, plain: &[u8], byte: u8, 
     }
 }
 
-// Appends `text` with its backslashes, as a whole where it has none.
+// Appends `text` with its backslashes, as a whole where it has none. It is not searched where it is known to have none.
 #[inline(always)]
-fn put_escaped<B: BufMut>(buf: &mut B, escapes: Escapes, text: &[u8])
-    requires { length (escaped (bytes_of escapes) text.now) ≤ B.room buf.old }
+fn put_escaped<B: BufMut>(buf: &mut B, escapes: Escapes, is_plain: bool, text: &[u8])
+    requires plain { is_plain ≡ true → IsPlainText (bytes_of escapes) text.now }
+    requires room { length (escaped (bytes_of escapes) text.now) ≤ B.room buf.old }
     ensures bytes { B.bytes buf.new ≡ B.bytes buf.old ++ escaped (bytes_of escapes) text.now }
     ensures room { B.room buf.old ≤ B.room buf.new + length (escaped (bytes_of escapes) text.now) }
 {
+    if is_plain {
+        buf.put(text);
+        return;
+    }
     match next_escape(escapes, text) {
         None => buf.put(text),
         Some((plain, byte, after)) => put_marked(buf, escapes, plain, byte, after),
@@ -319,10 +346,21 @@ impl FieldValue for &str {
     }
 
     fn fmt<B: BufMut>(&self, buf: &mut B) {
-        buf.put(b"\"");
-        put_escaped(buf, Escapes::OfString, self.as_bytes());
-        buf.put(b"\"");
+        put_string(buf, false, self.as_bytes());
     }
+}
+
+// Appends `text` between quotes, with its backslashes.
+#[inline(always)]
+fn put_string<B: BufMut>(buf: &mut B, is_plain: bool, text: &[u8])
+    requires plain { is_plain ≡ true → IsPlainText (bytes_of OfString) text.now }
+    requires room { length (built_value (string text.now)) ≤ B.room buf.old }
+    ensures bytes { B.bytes buf.new ≡ B.bytes buf.old ++ built_value (string text.now) }
+    ensures room { B.room buf.old ≤ B.room buf.new + length (built_value (string text.now)) }
+{
+    buf.put(b"\"");
+    put_escaped(buf, Escapes::OfString, is_plain, text);
+    buf.put(b"\"");
 }
 
 // The length of a tag with the comma before it, where a `usize` holds it.
@@ -336,17 +374,18 @@ fn tag_len(key: &[u8], value: &[u8]) -> Option<usize>
 }
 
 // Appends a tag with the comma before it.
-fn put_tag<B: BufMut>(buf: &mut B, key: &[u8], value: &[u8])
-    requires { length (built_tag (record { key = key.now; value = value.now })) ≤ B.room buf.old }
+fn put_tag<B: BufMut>(buf: &mut B, is_plain: bool, key: &[u8], value: &[u8])
+    requires plain { is_plain ≡ true → IsPlainText (bytes_of OfKey) key.now × IsPlainText (bytes_of OfKey) value.now }
+    requires room { length (built_tag (record { key = key.now; value = value.now })) ≤ B.room buf.old }
     ensures bytes { B.bytes buf.new
         ≡ B.bytes buf.old ++ built_tag (record { key = key.now; value = value.now }) }
     ensures room { B.room buf.old
         ≤ B.room buf.new + length (built_tag (record { key = key.now; value = value.now })) }
 {
     buf.put(b",");
-    put_escaped(buf, Escapes::OfKey, key);
+    put_escaped(buf, Escapes::OfKey, is_plain, key);
     buf.put(b"=");
-    put_escaped(buf, Escapes::OfKey, value);
+    put_escaped(buf, Escapes::OfKey, is_plain, value);
 }
 
 // The length of a field with the byte before it, where a `usize` holds it.
@@ -360,13 +399,20 @@ fn field_len<F: FieldValue>(key: &[u8], value: &F) -> Option<usize>
 }
 
 // Appends `before`, and then a field.
-fn put_field<B: BufMut, F: FieldValue>(buf: &mut B, before: u8, key: &[u8], value: &F)
-    requires { length (before ∷ field_text key.now (F.text value.now)) ≤ B.room buf.old }
+fn put_field<B: BufMut, F: FieldValue>(
+    buf: &mut B,
+    before: u8,
+    is_plain: bool,
+    key: &[u8],
+    value: &F,
+)
+    requires plain { is_plain ≡ true → IsPlainText (bytes_of OfKey) key.now }
+    requires room { length (before ∷ field_text key.now (F.text value.now)) ≤ B.room buf.old }
     ensures bytes { B.bytes buf.new ≡ B.bytes buf.old ++ before ∷ field_text key.now (F.text value.now) }
     ensures room { B.room buf.old ≤ B.room buf.new + length (before ∷ field_text key.now (F.text value.now)) }
 {
     buf.put(&[before]);
-    put_escaped(buf, Escapes::OfKey, key);
+    put_escaped(buf, Escapes::OfKey, is_plain, key);
     buf.put(b"=");
     value.fmt(buf);
 }
@@ -479,7 +525,7 @@ impl<B: BufMut, S> LineProtocolBuilder<B, S> {
             return Err(self.too_long());
         };
         let mut buf = self.with_room(n)?;
-        put_field(&mut buf, before, key.as_bytes(), value);
+        put_field(&mut buf, before, false, key.as_bytes(), value);
         Ok(LineProtocolBuilder::over(buf))
     }
 
@@ -524,7 +570,7 @@ impl<B: BufMut> LineProtocolBuilder<B, BeforeMeasurement> {
             (spelling a_measurement name.now) (buffer_of self) result }
     {
         let mut buf = self.with_room(escaped_len(Escapes::OfMeasurement, name.as_bytes()))?;
-        put_escaped(&mut buf, Escapes::OfMeasurement, name.as_bytes());
+        put_escaped(&mut buf, Escapes::OfMeasurement, false, name.as_bytes());
         Ok(LineProtocolBuilder::over(buf))
     }
 
@@ -556,7 +602,7 @@ impl<B: BufMut> LineProtocolBuilder<B, AfterMeasurement> {
             return Err(self.too_long());
         };
         let mut buf = self.with_room(n)?;
-        put_tag(&mut buf, key.as_bytes(), value.as_bytes());
+        put_tag(&mut buf, false, key.as_bytes(), value.as_bytes());
         Ok(LineProtocolBuilder::over(buf))
     }
 

@@ -33,6 +33,8 @@ mod memory;
 #[cfg(test)]
 mod names;
 #[cfg(test)]
+mod own_heap;
+#[cfg(test)]
 mod pieces;
 #[cfg(test)]
 mod refused;

@@ -1,25 +1,25 @@
 //! Parsed lines that are written again.
 
-ghost use Rattle.std.specs.Prelude.{◌≡◌, ℕ, ◌+◌, ◌<◌, ◌≤◌, ◌^◌, ◌++◌, length, map, not};
+ghost use Rattle.std.specs.Prelude.{◌≡◌, ℕ, ◌+◌, ◌<◌, ◌≤◌, ◌^◌, ◌∷◌, ◌++◌, length, map, not, true, IfSome};
 ghost use Rattle.std.specs.Option.{SomeIff, option_map};
-ghost use Rattle.std.specs.List.{flat_map, list_all};
+ghost use Rattle.std.specs.List.{AllByRecursion, flat_map, list_all};
 ghost use Rattle.smallvec.specs.SmallVec.{small_vec_len};
 ghost use Rattle.influxdb_line_protocol.specs.Bytes.{is_one_of, space};
 ghost use Rattle.influxdb_line_protocol.specs.Lines.{some_tags};
 ghost use Rattle.influxdb_line_protocol.specs.Outcomes.{kind_of};
 ghost use Rattle.influxdb_line_protocol.specs.Parsed.{parsed_point, tag_of, tags_of};
-ghost use Rattle.influxdb_line_protocol.specs.Points.{built, built_timestamp, built_value, is_admitted_field, is_admitted_name, is_admitted_point, is_admitted_tag, never_in, spelling};
+ghost use Rattle.influxdb_line_protocol.specs.Points.{built, built_timestamp, built_value, field_text, is_admitted_field, is_admitted_name, is_admitted_point, is_admitted_tag, never_in, spelling};
 ghost use Rattle.influxdb_line_protocol.specs.Values.{float};
 ghost use Rattle.influxdb_line_protocol.specs.Literals.{literal_of};
 ghost use Rattle.influxdb_line_protocol.specs.Texts.{text_of};
-ghost use Rattle.influxdb_line_protocol.specs.WrittenAgain.{fields_text, parts_text, point_field, point_tag, tag_text, value_text};
+ghost use Rattle.influxdb_line_protocol.specs.WrittenAgain.{ArePlainParts, IsPlainField, IsPlainTag, IsPlainValue, fields_text, parts_text, point_field, point_tag, tag_text, value_text};
 ghost use Rattle.influxdb_line_protocol.specs.Marks.{listed};
 ghost use Rattle.influxdb_line_protocol.specs.Built.{Writes, buffer_of};
 
 use super::marks::{Marks, is_free_of};
 use super::{
-    BeforeMeasurement, BufMut, Escapes, FieldValue, LineProtocolBuilder, Refused, escaped_len,
-    field_len, put_escaped, put_field, put_tag, tag_len,
+    BeforeMeasurement, BufMut, Escapes, Extent, FieldValue, LineProtocolBuilder, Refused, measure,
+    put_escaped, put_field, put_string, put_tag,
 };
 use crate::names::NameKind;
 use crate::{EscapedStr, FloatText, ParsedLine, values};
@@ -116,15 +116,19 @@ pub fn is_admitted(line: &ParsedLine<'_>) -> bool
         && are_fields_admitted(line.field_set.as_slice())
 }
 
-// A value of a parsed line, as the builder takes it.
+// A value of a parsed line, as the builder takes it, and whether its text is known to get no backslash.
 #[derive(Clone, Copy)]
-struct ReadValue<'l, 'a>(&'l values::FieldValue<'a>);
+struct ReadValue<'l, 'a> {
+    value: &'l values::FieldValue<'a>,
+    is_plain: bool,
+    ghost told: { is_plain ≡ true → IsPlainValue value.now },
+}
 
 impl FieldValue for ReadValue<'_, '_> {
-    ghost text = { λ v. value_text v.0.now };
+    ghost text = { λ v. value_text v.value.now };
 
     fn fmt_len(&self) -> Option<usize> {
-        match self.0 {
+        match self.value {
             values::FieldValue::I64(value) => value.fmt_len(),
             values::FieldValue::U64(value) => value.fmt_len(),
             values::FieldValue::F64(value) => value.fmt_len(),
@@ -134,63 +138,143 @@ impl FieldValue for ReadValue<'_, '_> {
     }
 
     fn fmt<B: BufMut>(&self, buf: &mut B) {
-        match self.0 {
+        match self.value {
             values::FieldValue::I64(value) => value.fmt(buf),
             values::FieldValue::U64(value) => value.fmt(buf),
             values::FieldValue::F64(value) => value.fmt(buf),
-            values::FieldValue::String(value) => value.as_str().fmt(buf),
+            values::FieldValue::String(value) => {
+                put_string(buf, self.is_plain, value.as_str().as_bytes());
+            }
             values::FieldValue::Boolean(value) => value.fmt(buf),
         }
     }
 }
 
-// The length of the tags, each with its comma, where a `usize` holds it.
-fn tags_len(tags: &[(EscapedStr<'_>, EscapedStr<'_>)]) -> Option<usize>
-    ensures { let text = flat_map tag_text tags.now in
-        SomeIff result (length text < 2 ^ 64) (length text) }
+// The length of a tag with the comma before it, where a `usize` holds it, and whether it gets no backslash.
+fn measure_tag(tag: &(EscapedStr<'_>, EscapedStr<'_>)) -> Option<Extent>
+    ensures len { SomeIff (option_map (λ m. m.len) result) (length (tag_text tag.now) < 2 ^ 64) (length (tag_text tag.now)) }
+    ensures plain { IfSome result (λ m. m.is_plain ≡ true → IsPlainTag tag.now) }
+{
+    let key = measure(Escapes::OfKey, tag.0.as_str().as_bytes());
+    let value = measure(Escapes::OfKey, tag.1.as_str().as_bytes());
+    Some(Extent {
+        len: key.len.checked_add(value.len)?.checked_add(2)?,
+        is_plain: key.is_plain && value.is_plain,
+    })
+}
+
+// The length of the tags, each with its comma, where a `usize` holds it, and whether none gets a backslash.
+fn measure_tags(tags: &[(EscapedStr<'_>, EscapedStr<'_>)]) -> Option<Extent>
+    ensures len { let text = flat_map tag_text tags.now in
+        SomeIff (option_map (λ m. m.len) result) (length text < 2 ^ 64) (length text) }
+    ensures plain { IfSome result (λ m. m.is_plain ≡ true → AllByRecursion IsPlainTag tags.now) }
 {
     let mut len = 0usize;
-    for (key, value) in tags {
-        let one = tag_len(key.as_str().as_bytes(), value.as_str().as_bytes())?;
-        len = len.checked_add(one)?;
+    let mut is_plain = true;
+    for tag in tags {
+        let one = measure_tag(tag)?;
+        len = len.checked_add(one.len)?;
+        is_plain &= one.is_plain;
     }
-    Some(len)
+    Some(Extent { len, is_plain })
 }
 
 // Appends the tags, each with its comma.
-fn put_tags<B: BufMut>(buf: &mut B, tags: &[(EscapedStr<'_>, EscapedStr<'_>)])
-    requires { length (flat_map tag_text tags.now) ≤ B.room buf.old }
+fn put_tags<B: BufMut>(buf: &mut B, is_plain: bool, tags: &[(EscapedStr<'_>, EscapedStr<'_>)])
+    requires plain { is_plain ≡ true → AllByRecursion IsPlainTag tags.now }
+    requires room { length (flat_map tag_text tags.now) ≤ B.room buf.old }
     ensures bytes { B.bytes buf.new ≡ B.bytes buf.old ++ flat_map tag_text tags.now }
     ensures room { B.room buf.old ≤ B.room buf.new + length (flat_map tag_text tags.now) }
 {
     for (key, value) in tags {
-        put_tag(buf, key.as_str().as_bytes(), value.as_str().as_bytes());
+        put_tag(
+            buf,
+            is_plain,
+            key.as_str().as_bytes(),
+            value.as_str().as_bytes(),
+        );
     }
 }
 
-// The length of the fields, each with the byte before it, where a `usize` holds it.
+// The length of a field with the byte before it, where a `usize` holds it, and whether it gets no backslash.
+fn measure_field(field: &(EscapedStr<'_>, values::FieldValue<'_>)) -> Option<Extent>
+    ensures len { let text = space ∷ field_text (text_of field.now.0) (value_text field.now.1) in
+        SomeIff (option_map (λ m. m.len) result) (length text < 2 ^ 64) (length text) }
+    ensures plain { IfSome result (λ m. m.is_plain ≡ true → IsPlainField field.now) }
+{
+    let key = measure(Escapes::OfKey, field.0.as_str().as_bytes());
+    let value = measure_value(&field.1)?;
+    Some(Extent {
+        len: key.len.checked_add(value.len)?.checked_add(2)?,
+        is_plain: key.is_plain && value.is_plain,
+    })
+}
+
+// The length of a text that gets no backslash.
+fn plain_extent(len: Option<usize>) -> Option<Extent>
+    ensures { option_map (λ e. e.len) result ≡ len }
+{
+    let len = len?;
+    Some(Extent {
+        len,
+        is_plain: true,
+    })
+}
+
+// The length of a value's text, where a `usize` holds it, and whether it gets no backslash.
+#[inline(always)]
+#[tactic(auto, using(crate::proofs::BuilderLemmas::escaped_nothing))]
+fn measure_value(value: &values::FieldValue<'_>) -> Option<Extent>
+    ensures len { SomeIff (option_map (λ m. m.len) result) (length (value_text value.now) < 2 ^ 64) (length (value_text value.now)) }
+    ensures plain { IfSome result (λ m. m.is_plain ≡ true → IsPlainValue value.now) }
+{
+    match value {
+        values::FieldValue::I64(value) => plain_extent(value.fmt_len()),
+        values::FieldValue::U64(value) => plain_extent(value.fmt_len()),
+        values::FieldValue::F64(value) => plain_extent(value.fmt_len()),
+        values::FieldValue::Boolean(value) => plain_extent(value.fmt_len()),
+        values::FieldValue::String(text) => {
+            let text = measure(Escapes::OfString, text.as_str().as_bytes());
+            Some(Extent {
+                len: text.len.checked_add(2)?,
+                is_plain: text.is_plain,
+            })
+        }
+    }
+}
+
+// The length of the fields, each with the byte before it, where a `usize` holds it, and whether none gets a backslash.
 #[tactic(auto, using(crate::proofs::WrittenAgainLemmas::length_fields_behind))]
-fn fields_len(fields: &[(EscapedStr<'_>, values::FieldValue<'_>)]) -> Option<usize>
-    ensures { let text = fields_text space fields.now in
-        SomeIff result (length text < 2 ^ 64) (length text) }
+fn measure_fields(fields: &[(EscapedStr<'_>, values::FieldValue<'_>)]) -> Option<Extent>
+    ensures len { let text = fields_text space fields.now in
+        SomeIff (option_map (λ m. m.len) result) (length text < 2 ^ 64) (length text) }
+    ensures plain { IfSome result (λ m. m.is_plain ≡ true → AllByRecursion IsPlainField fields.now) }
 {
     let mut len = 0usize;
-    for (key, value) in fields {
-        let one = field_len(key.as_str().as_bytes(), &ReadValue(value))?;
-        len = len.checked_add(one)?;
+    let mut is_plain = true;
+    for field in fields {
+        let one = measure_field(field)?;
+        len = len.checked_add(one.len)?;
+        is_plain &= one.is_plain;
     }
-    Some(len)
+    Some(Extent { len, is_plain })
 }
 
-// Appends the fields, the first behind a space and each other behind a comma.
-fn put_fields<B: BufMut>(buf: &mut B, fields: &[(EscapedStr<'_>, values::FieldValue<'_>)])
-    requires { length (fields_text space fields.now) ≤ B.room buf.old }
+// Appends the fields, the first after a space and each other after a comma.
+fn put_fields<B: BufMut>(
+    buf: &mut B,
+    is_plain: bool,
+    fields: &[(EscapedStr<'_>, values::FieldValue<'_>)],
+)
+    requires plain { is_plain ≡ true → AllByRecursion IsPlainField fields.now }
+    requires room { length (fields_text space fields.now) ≤ B.room buf.old }
     ensures bytes { B.bytes buf.new ≡ B.bytes buf.old ++ fields_text space fields.now }
     ensures room { B.room buf.old ≤ B.room buf.new + length (fields_text space fields.now) }
 {
     let mut before = b' ';
     for (key, value) in fields {
-        put_field(buf, before, key.as_str().as_bytes(), &ReadValue(value));
+        let value = ReadValue { value, is_plain };
+        put_field(buf, before, is_plain, key.as_str().as_bytes(), &value);
         before = b',';
     }
 }
@@ -242,32 +326,37 @@ impl<'l, 'a> Parts<'l, 'a> {
         }
     }
 
-    // The length of the line and its newline, where a `usize` holds it.
+    // The length of the line and its newline, where a `usize` holds it, and whether it gets no backslash.
     #[tactic(auto, unfolding(crate::specs::WrittenAgain::parts_text))]
-    fn text_len(&self) -> Option<usize>
-        ensures { let text = parts_text self.now in
-            SomeIff result (length text < 2 ^ 64) (length text) }
+    fn measure(&self) -> Option<Extent>
+        ensures len { let text = parts_text self.now in
+            SomeIff (option_map (λ m. m.len) result) (length text < 2 ^ 64) (length text) }
+        ensures plain { IfSome result (λ m. m.is_plain ≡ true → ArePlainParts self.now) }
     {
-        let measurement = escaped_len(Escapes::OfMeasurement, self.measurement);
-        let tags = tags_len(self.tags)?;
-        let fields = fields_len(self.fields)?;
+        let measurement = measure(Escapes::OfMeasurement, self.measurement);
+        let tags = measure_tags(self.tags)?;
+        let fields = measure_fields(self.fields)?;
         let end = timestamp_len(self.timestamp) + 1;
-        measurement
-            .checked_add(tags)?
-            .checked_add(fields)?
-            .checked_add(end)
+        let len = measurement
+            .len
+            .checked_add(tags.len)?
+            .checked_add(fields.len)?
+            .checked_add(end)?;
+        let is_plain = measurement.is_plain && tags.is_plain && fields.is_plain;
+        Some(Extent { len, is_plain })
     }
 
-    // Appends the line and its newline.
+    // Appends the line and its newline. Its texts are not searched where they are known to get no backslash.
     #[tactic(auto, unfolding(crate::specs::WrittenAgain::parts_text))]
-    fn put<B: BufMut>(&self, buf: &mut B)
-        requires { length (parts_text self.now) ≤ B.room buf.old }
+    fn put<B: BufMut>(&self, buf: &mut B, is_plain: bool)
+        requires plain { is_plain ≡ true → ArePlainParts self.now }
+        requires room { length (parts_text self.now) ≤ B.room buf.old }
         ensures bytes { B.bytes buf.new ≡ B.bytes buf.old ++ parts_text self.now }
         ensures room { B.room buf.old ≤ B.room buf.new + length (parts_text self.now) }
     {
-        put_escaped(buf, Escapes::OfMeasurement, self.measurement);
-        put_tags(buf, self.tags);
-        put_fields(buf, self.fields);
+        put_escaped(buf, Escapes::OfMeasurement, is_plain, self.measurement);
+        put_tags(buf, is_plain, self.tags);
+        put_fields(buf, is_plain, self.fields);
         put_timestamp(buf, self.timestamp);
         buf.put(b"\n");
     }
@@ -290,10 +379,10 @@ pub fn write_line<B: BufMut>(
         (built (parsed_point line.now)) (buffer_of builder) result }
 {
     let parts = Parts::of(line);
-    let Some(n) = parts.text_len() else {
+    let Some(extent) = parts.measure() else {
         return Err(builder.too_long());
     };
-    let mut buf = builder.with_room(n)?;
-    parts.put(&mut buf);
+    let mut buf = builder.with_room(extent.len)?;
+    parts.put(&mut buf, extent.is_plain);
     Ok(LineProtocolBuilder::over(buf))
 }
