@@ -12,6 +12,8 @@ pub mod SplitWalk
 pub mod WideSearch
 pub mod EscapeLemmas
 pub mod MaskLemmas
+pub mod MaskBits
+pub mod EscapedMasks
 pub mod LaneLemmas
 pub mod FormLemmas
 pub mod WalkLemmas

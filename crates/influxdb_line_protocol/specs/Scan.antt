@@ -1,0 +1,17 @@
+-- Masks of the places of a text, and which of them are escaped.
+use Rattle.std.specs.Prelude.{◌≡◌, ℕ, ◌+◌, ◌≤◌, ◌==◌, Bool, List, length, map, take}
+use Rattle.std.specs.List.{range_with_len}
+use Rattle.std.specs.Simd.Lanes.{mask_l}
+use Rattle.influxdb_line_protocol.specs.Bytes.{backslash}
+use Rattle.influxdb_line_protocol.specs.Escapes.{IsBareBehind, is_escaped_behind}
+use Rattle.influxdb_line_protocol.specs.Lanes.{mask_of}
+
+-- the mask of those of the n places from one on that pass the test
+abbrev pub mask_at : (ℕ → Bool) → ℕ → ℕ → ℕ
+mask_at test at n = mask_l (map test (range_with_len at n))
+
+-- of any 64 bytes of a text whose first is bare and whose backslashes have the one mask, the escaped ones have the other
+abbrev pub TellsEscaped : ℕ → ℕ → Type 0
+TellsEscaped backslashes mask =
+    (text : List ℕ) (at : ℕ) → at + 64 ≤ length text → IsBareBehind (take at text) → backslashes ≡ mask_of (λ b. b == backslash) text at 64
+    → mask ≡ mask_at (λ k. is_escaped_behind (take k text)) at 64
