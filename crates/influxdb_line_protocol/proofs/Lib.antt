@@ -14,6 +14,7 @@ pub mod EscapeLemmas
 pub mod MaskLemmas
 pub mod MaskBits
 pub mod EscapedMasks
+pub mod BareMasks
 pub mod LaneLemmas
 pub mod FormLemmas
 pub mod WalkLemmas

@@ -1,8 +1,8 @@
 -- Masks of loads: what is left of one without its lowest bits, and what its bits tell.
-use Rattle.std.proofs.Common.{◌≡◌, ℕ, zero, suc, ◌+◌, ◌-◌, ◌*◌, ◌/◌, ◌^◌, ◌<◌, ◌≤◌, Bool, true, false, cond, not, List, [], ◌∷◌, map, length, take, drop, slice_index, sym, ap, ◌∙◌, subst, arith, ◌%◌, ◌++◌, get_or, refl, inl, inr}
-use native.Mathlib.Nat.{pow-suc, mul_comm, zero-div, div-one, div-div-eq-div-mul}
+use Rattle.std.proofs.Common.{◌≡◌, ℕ, zero, suc, ◌+◌, ◌-◌, ◌*◌, ◌/◌, ◌^◌, ◌<◌, ◌≤◌, Bool, true, false, cond, not, List, [], ◌∷◌, map, length, take, drop, slice_index, sym, ap, ◌∙◌, subst, arith, ◌%◌, ◌++◌, get_or, refl, inl, inr, take-append-drop}
+use native.Mathlib.Nat.{pow-suc, mul_comm, zero-div, div-one, div-div-eq-div-mul, add-mul-mod_self_right}
 use Rattle.std.proofs.lemmas.Simd.{ones-mask_l, length-chunk, first_set_mask_l, trailing_mask_l, none_from_empty_mask, run_in_chunk_le, run_in_chunk_fails, run_in_chunk_stops, mask_l-lt, map-map, mask_l-mod, get_or-chunk}
-use Rattle.std.proofs.lemmas.List.{drop-drop, drop-take, drop-map, drop_all, length-map, get_or_past, map-append}
+use Rattle.std.proofs.lemmas.List.{drop-drop, drop-take, drop-map, drop_all, length-map, length-take, get_or_past, map-append}
 use Rattle.std.specs.List.{count_by, prefix_len}
 use Rattle.std.specs.Prelude.{count_ones}
 use Rattle.std.specs.Int.{w64, trailing_zeros}
@@ -120,6 +120,13 @@ module _ (test : ℕ → Bool) (bytes : List ℕ) (at n : ℕ) (room : at + n �
       ap (λ l. mask_l l % 2 ^ 64) (tops ∙ same)
       ∙ mask_l-mod (map test v) 64 (omega (arith, length-map v test, length-chunk at n bytes room))
 
+  -- the same, where each byte is compared with bytes that are not known
+  pub mask_by_lanes : (f : ℕ → ℕ) → ((x : ℕ) → top 7 (f x) ≡ test x) → (z : List ℕ) → z ≡ map f (chunk at n bytes) → mask_l (map (top 7) z) % 2 ^ 64 ≡ mask_of test bytes at n
+  mask_by_lanes f same z lanes =
+      let v = chunk at n bytes in
+      ap (λ (l : List Bool). mask_l l % 2 ^ 64) (ap (map (top 7)) lanes ∙ map-map (top 7) f v ∙ ap (λ (g : ℕ → Bool). map g v) (λ j x. same x j))
+      ∙ mask_l-mod (map test v) 64 (omega (arith, length-map v test, length-chunk at n bytes room))
+
   -- the lowest bit of a mask tells how far the bytes go that fail the test
   pub run_is : (r : ℕ) → r ≡ first_set (mask_of test bytes at n) n → IsRunIn (λ b. not (test b)) bytes at n r
   run_is r found =
@@ -154,6 +161,15 @@ mask_l-append [] ys = omega arith
 mask_l-append (x ∷ xs) ys =
     let rest = mask_l-append xs ys in
     rw (pow-suc 2 (length xs)) (omega (arith, rest))
+
+-- the lowest bits of a mask are the mask of its first lanes
+pub mask_mod : (ms : List Bool) (k : ℕ) → k ≤ length ms → mask_l ms % 2 ^ k ≡ mask_l (take k ms)
+mask_mod ms k within =
+    let long : length (take k ms) ≡ k = length-take k ms ∙ omega arith in
+    let whole : mask_l ms ≡ mask_l (take k ms) + mask_l (drop k ms) * 2 ^ k =
+    ap mask_l (sym (take-append-drop k ms)) ∙ mask_l-append (take k ms) (drop k ms) ∙ ap (λ (n : ℕ). mask_l (take k ms) + mask_l (drop k ms) * 2 ^ n) long in
+    ap (λ (n : ℕ). n % 2 ^ k) whole ∙ add-mul-mod_self_right (mask_l (take k ms)) (mask_l (drop k ms)) (2 ^ k)
+    ∙ mask_l-mod (take k ms) k (omega (arith, long))
 
 module _ (test : ℕ → Bool) (bytes : List ℕ) (at n m : ℕ) (room : at + n + m ≤ length bytes) where
   -- the mask of one load and that of the bytes behind it

@@ -1,17 +1,22 @@
 -- The walk that counts the bare equals signs and commas of a stretch, from mark to mark.
-use Rattle.std.proofs.Common.{◌≡◌, ◌≢◌, ℕ, zero, suc, ◌+◌, ◌-◌, ◌/◌, ◌^◌, ◌<◌, ◌≤◌, List, length, take, slice_index, min, Bool, true, false, cond, ◌||◌, refl, sym, ap, ◌∙◌, subst, inl, inr, arith}
+use Rattle.std.proofs.Common.{◌≡◌, ◌≢◌, ℕ, zero, suc, ◌+◌, ◌-◌, ◌/◌, ◌^◌, ◌<◌, ◌≤◌, List, map, length, take, slice_index, min, Bool, true, false, cond, not, ◌&&◌, bit_and, count_ones, refl, sym, ap, ap₂, ◌∙◌, subst, inl, inr, arith}
 use Rattle.std.specs.Prelude.{◌==◌}
-use Rattle.std.specs.List.{count_by}
-use Rattle.std.proofs.lemmas.Bool.{cases_Bool, cases_lt, ne_eqb, false≢true}
+use Rattle.std.specs.List.{count_by, range_with_len}
+use Rattle.std.proofs.lemmas.Bool.{cases_Bool, cases_lt, ne_eqb}
+use Rattle.std.proofs.lemmas.List.FromFn.{length-range_with_len, length-map-range_with_len, take-map-range_with_len}
+use Rattle.std.proofs.lemmas.List.Sums.{count_by-le-length, sum_by-cons}
+use Rattle.std.proofs.lemmas.Nat.Bits.{ones_shr}
+use Rattle.std.proofs.lemmas.Simd.{ones-mask_l}
+use lib.Bits.{and_mask}
+use lib.Lanes.{mask_l}
 use mir.Val.{bool_byte}
-use Rattle.memchr.specs.Find.{is_byte3}
 use Rattle.influxdb_line_protocol.specs.declared.split.Counts.{Counts}
 use Rattle.influxdb_line_protocol.specs.Counts.{IsCounted}
-use Rattle.influxdb_line_protocol.specs.Escapes.{bare, is_escaped_behind, IsBareBehind}
-use Rattle.influxdb_line_protocol.specs.Lanes.{first_set, mask_of}
-use Rattle.influxdb_line_protocol.specs.Marks.{StandBefore}
+use Rattle.influxdb_line_protocol.specs.Escapes.{bare, is_bare_at, is_escaped_behind, IsBareBehind}
+use Rattle.influxdb_line_protocol.specs.Scan.{mask_at}
+use Rattle.influxdb_line_protocol.proofs.BareMasks.{at_most_one, one_escaped, next_bare}
 use Rattle.influxdb_line_protocol.proofs.EscapeLemmas.{is_escaped_more}
-use Rattle.influxdb_line_protocol.proofs.MaskLemmas.{first_left}
+use Rattle.influxdb_line_protocol.proofs.MaskLemmas.{mask_mod}
 use Rattle.influxdb_line_protocol.proofs.SplitBare.{is_escaped-nil}
 use Rattle.influxdb_line_protocol.proofs.SplitWalk.{count_bare_more}
 
@@ -31,18 +36,14 @@ counted_start text end = record {
 }
 
 -- a test counts one at most
-at_most_one : (t : Bool) → cond t 1 0 ≤ 1
-at_most_one true = omega arith
-at_most_one false = omega arith
+one_at_most : (t : Bool) → cond t 1 0 ≤ 1
+one_at_most true = omega arith
+one_at_most false = omega arith
 
 -- a test as a number
 as_number : (t : Bool) → bool_byte t ≡ cond t 1 0
 as_number true = refl
 as_number false = refl
-
--- what one byte adds is no more than one
-pub adds_one : (t : Bool) (n : ℕ) → n ≡ bool_byte t → n ≤ 1
-adds_one t n is = omega (arith, is, as_number t, at_most_one t)
 
 module _ (text : List ℕ) (end : ℕ) (fits : end ≤ length text) (e c at : ℕ) (early : at < end) (counted : IsCounted text end (counts_at e c at)) where
   -- the bare bytes that pass a test, one bare byte further
@@ -104,8 +105,8 @@ module _ (text : List ℕ) (end : ℕ) (fits : end ≤ length text) (e c at : �
           is_bare = bare_next;
           equals_are = ap (λ (n : ℕ). n + cond (slice_index text at == 61) 1 0) counted.equals_are ∙ sym (count_next (λ b. b == 61));
           commas_are = ap (λ (n : ℕ). n + cond (slice_index text at == 44) 1 0) counted.commas_are ∙ sym (count_next (λ b. b == 44));
-          few_equals = omega (arith, counted.few_equals, at_most_one (slice_index text at == 61));
-          few_commas = omega (arith, counted.few_commas, at_most_one (slice_index text at == 44));
+          few_equals = omega (arith, counted.few_equals, one_at_most (slice_index text at == 61));
+          few_commas = omega (arith, counted.few_commas, one_at_most (slice_index text at == 44));
         }
 
   -- the same, with what is added by name
@@ -132,68 +133,78 @@ module _ (text : List ℕ) (end : ℕ) (fits : end ≤ length text) (e c at : �
       → IsCounted text end (counts_at (e + x) (c + y) (at + 1))
   counted_alone other x y x_is y_is = counted_step x y 0 (at + 1) x_is y_is (rw (ne_eqb (slice_index text at) 92 other) refl) (omega arith)
 
--- none of three tests
-none_of_three : (e f g : Bool) → ((e || f) || g) ≡ false → (e ≡ false) × (f ≡ false) × (g ≡ false)
-none_of_three false false false h = (refl, refl, refl)
-none_of_three true f g h = absurd (false≢true (sym h))
-none_of_three false true g h = absurd (false≢true (sym h))
-none_of_three false false true h = absurd (false≢true (sym h))
+-- a byte is counted where it is bare
+as_bare : (e t : Bool) → cond {A = ℕ} e 0 (cond t 1 0) ≡ cond (t && not e) 1 0
+as_bare true true = refl
+as_bare true false = refl
+as_bare false true = refl
+as_bare false false = refl
 
-module _ (text : List ℕ) (end : ℕ) (fits : end ≤ length text) (e c : ℕ) where
-  -- a byte that is no mark changes no count
-  counted_other : (at : ℕ) → at < end → is_byte3 92 61 44 (slice_index text at) ≡ false
-      → IsCounted text end (counts_at e c at) → IsCounted text end (counts_at e c (at + 1))
-  counted_other at early other counted =
-      let b = slice_index text at in
-      let none = none_of_three (b == 92) (b == 61) (b == 44) other in
-      let to : at + 1 ≡ min ((at + 1) + cond (b == 92) 1 0) end =
-      (let step : at + 1 ≡ min ((at + 1) + 0) end = omega arith in step ∙ ap (λ (t : Bool). min ((at + 1) + cond t 1 0) end) (sym none.0)) in
-      let one = counted_byte text end fits e c at early counted (at + 1) to in
-      let equals_same : e + cond (b == 61) 1 0 ≡ e = ap (λ (t : Bool). e + cond t 1 0) none.1 ∙ omega arith in
-      let commas_same : c + cond (b == 44) 1 0 ≡ c = ap (λ (t : Bool). c + cond t 1 0) none.2 ∙ omega arith in
-      subst (λ (m : ℕ). IsCounted text end (counts_at e m (at + 1))) commas_same
-      (subst (λ (n : ℕ). IsCounted text end (counts_at n (c + cond (b == 44) 1 0) (at + 1))) equals_same one)
+-- the bare bytes that pass a test, some places further
+count_along : (p : ℕ → Bool) (text : List ℕ) (n at : ℕ) → at + n ≤ length text
+    → count_by p (bare (take (at + n) text)) ≡ count_by p (bare (take at text)) + count_by (is_bare_at p text) (range_with_len at n)
+count_along p text zero at room =
+    let place : at + 0 ≡ at = omega arith in
+    ap (λ (k : ℕ). count_by p (bare (take k text))) place ∙ omega arith
+count_along p text (suc n) at room =
+    let one = count_bare_more p text at (omega arith) in
+    let here = as_bare (is_escaped_behind (take at text)) (p (slice_index text at)) in
+    let place : at + suc n ≡ at + 1 + n = omega arith in
+    let more : count_by (is_bare_at p text) (range_with_len at (suc n)) ≡ cond (is_bare_at p text at) 1 0 + count_by (is_bare_at p text) (range_with_len (at + 1) n) =
+    sum_by-cons (λ k. cond (is_bare_at p text k) 1 0) at (range_with_len (at + 1) n) in
+    ap (λ (k : ℕ). count_by p (bare (take k text))) place ∙ omega (arith, count_along p text n (at + 1) (omega arith), one, here)
 
-  -- nor do several
-  pub counted_others : (at n : ℕ) → at + n ≤ end → ((k : ℕ) → at ≤ k → k < at + n → is_byte3 92 61 44 (slice_index text k) ≡ false)
-      → IsCounted text end (counts_at e c at) → IsCounted text end (counts_at e c (at + n))
-  counted_others at zero h none counted = subst (λ (k : ℕ). IsCounted text end (counts_at e c k)) (omega arith) counted
-  counted_others at (suc n) h none counted =
-      let before = counted_others at n (omega arith) (λ k from to. none k from (omega arith)) counted in
-      subst (λ (k : ℕ). IsCounted text end (counts_at e c k)) (omega arith)
-      (counted_other (at + n) (omega arith) (none (at + n) (omega arith) (omega arith)) before)
+-- the lowest bits of a mask of 64 places, of which there are n
+count_low : (q : ℕ → Bool) (at n : ℕ) → n ≤ 64 → count_ones (bit_and (mask_at q at 64) ((2 ^ 64 - 1) / 2 ^ (64 - n))) ≡ count_by q (range_with_len at n)
+count_low q at n few =
+    let ones_are : (2 ^ 64 - 1) / 2 ^ (64 - n) ≡ 2 ^ n - 1 =
+    ones_shr 64 (64 - n) (omega arith) ∙ ap (λ (k : ℕ). 2 ^ k - 1) (omega arith) in
+    ap (λ (m : ℕ). count_ones (bit_and (mask_at q at 64) m)) ones_are
+    ∙ ap count_ones (and_mask (mask_at q at 64) n
+    ∙ mask_mod (map q (range_with_len at 64)) n (omega (arith, length-map-range_with_len q at 64))
+    ∙ ap mask_l (take-map-range_with_len q at 64 n few))
+    ∙ ones-mask_l q (range_with_len at n)
 
--- from a bare place of a load on, with a mask of the backslashes, the equals signs and the commas
-module _ (text : List ℕ) (end : ℕ) (fits : end ≤ length text) (e c at run room : ℕ) (loaded : at + 64 ≤ length text) (before : at < end)
-    (room_is : room ≡ min 64 (end - at)) (short : run < room) (counted : IsCounted text end (counts_at e c (min (at + run) end)))
-    (mask : ℕ) (made : mask ≡ mask_of (is_byte3 92 61 44) text at 64) (r : ℕ) (found : r ≡ first_set (mask / 2 ^ run) (64 - run)) where
-  -- how many bytes stand before the next mark
-  stand : StandBefore (is_byte3 92 61 44) text (at + run) (64 - run) r
-  stand =
-      subst (StandBefore (is_byte3 92 61 44) text (at + run) (64 - run))
-      (sym (found ∙ ap (λ (m : ℕ). first_set (m / 2 ^ run) (64 - run)) made))
-      (first_left (is_byte3 92 61 44) text at 64 loaded (omega arith) run (omega arith))
+-- one load of a stretch
+module _ (text : List ℕ) (end : ℕ) (fits : end ≤ length text) (e c at : ℕ) (room : at + 64 ≤ length text) (early : at < end)
+    (counted : IsCounted text end (counts_at e c at)) (near last next : ℕ) (near_is : near ≡ min 64 (end - at))
+    (last_is : last ≡ cond (is_bare_at (λ b. b == 92) text (at + 63)) 1 0) (to : next ≡ min (at + (near + last)) end) where
+  -- the escaped byte after the load, where there is one, is not counted
+  count_to : (p : ℕ → Bool) → count_by p (bare (take next text)) ≡ count_by p (bare (take at text)) + count_by (is_bare_at p text) (range_with_len at near)
+  count_to p =
+      let along = count_along p text near at (omega arith) in
+      elim (cases_lt (at + near) next) [
+        | inl further ↦
+            let whole : near ≡ 64 = omega arith in
+            let inside : at + 64 < length text = omega arith in
+            let place : next ≡ at + 64 + 1 = omega (arith, at_most_one text at inside last last_is) in
+            let escaped = one_escaped text at inside last last_is (omega arith) in
+            let same : count_by p (bare (take (at + 64 + 1) text)) ≡ count_by p (bare (take (at + 64) text)) =
+            count_bare_more p text (at + 64) inside
+            ∙ ap (λ (f : Bool). count_by p (bare (take (at + 64) text)) + cond f 0 (cond (p (slice_index text (at + 64))) 1 0)) escaped ∙ omega arith in
+            ap (λ (k : ℕ). count_by p (bare (take k text))) place ∙ same ∙ ap (λ (k : ℕ). count_by p (bare (take (at + k) text))) (sym whole) ∙ along
+        | inr there ↦
+            let place : next ≡ at + near = omega arith in
+            ap (λ (k : ℕ). count_by p (bare (take k text))) place ∙ along
+      ]
 
-  -- the walk has not left the stretch
-  here : IsCounted text end (counts_at e c (at + run))
-  here =
-      let same : min (at + run) end ≡ at + run = omega (arith, room_is) in
-      subst (λ (k : ℕ). IsCounted text end (counts_at e c k)) same counted
-
-  -- the next mark stands behind the stretch or the load, of which the rest is counted
-  pub count_ends : room ≤ run + r → IsCounted text end (counts_at e c (at + room))
-  count_ends far =
-      let whole : (at + run) + (room - run) ≡ at + room = omega arith in
-      subst (λ (k : ℕ). IsCounted text end (counts_at e c k)) whole
-      (counted_others text end fits e c (at + run) (room - run) (omega (arith, room_is)) (λ k from to. stand.none k from (omega arith)) here)
-
-  -- the next mark is counted, and behind a backslash a byte is left out
-  pub count_mark : run + r < room → (x y n : ℕ)
-      → x ≡ bool_byte (slice_index text (at + (run + r)) == 61) → y ≡ bool_byte (slice_index text (at + (run + r)) == 44)
-      → n ≡ bool_byte (slice_index text (at + (run + r)) == 92)
-      → IsCounted text end (counts_at (e + x) (c + y) (min (at + (((run + r) + 1) + n)) end))
-  count_mark near x y n x_is y_is n_is =
-      let there : (at + run) + r ≡ at + (run + r) = omega arith in
-      let up_to = subst (λ (k : ℕ). IsCounted text end (counts_at e c k)) there
-      (counted_others text end fits e c (at + run) r (omega (arith, room_is)) stand.none here) in
-      counted_step text end fits e c (at + (run + r)) (omega (arith, room_is)) up_to x y n _ x_is y_is n_is (omega arith)
+  -- what the low bits of the masks of the bare ones add
+  pub counted_load : (x y : ℕ) → x ≡ mask_at (is_bare_at (λ b. b == 61) text) at 64 → y ≡ mask_at (is_bare_at (λ b. b == 44) text) at 64
+      → IsCounted text end (counts_at (e + count_ones (bit_and x ((2 ^ 64 - 1) / 2 ^ (64 - near)))) (c + count_ones (bit_and y ((2 ^ 64 - 1) / 2 ^ (64 - near)))) next)
+  counted_load x y x_is y_is =
+      let low = (2 ^ 64 - 1) / 2 ^ (64 - near) in
+      let few : near ≤ 64 = omega arith in
+      let equals_low = ap (λ (m : ℕ). count_ones (bit_and m low)) x_is ∙ count_low (is_bare_at (λ b. b == 61) text) at near few in
+      let commas_low = ap (λ (m : ℕ). count_ones (bit_and m low)) y_is ∙ count_low (is_bare_at (λ b. b == 44) text) at near few in
+      let long = length-range_with_len at near in
+      record {
+        within = omega (arith, to);
+        is_bare = λ more.
+            let inside : at + 64 < length text = omega arith in
+            let place : next ≡ at + (64 + last) = omega arith in
+            ap (λ (k : ℕ). is_escaped_behind (take k text)) place ∙ next_bare text at inside last last_is;
+        equals_are = ap₂ (λ (a b : ℕ). a + b) counted.equals_are equals_low ∙ sym (count_to (λ b. b == 61));
+        commas_are = ap₂ (λ (a b : ℕ). a + b) counted.commas_are commas_low ∙ sym (count_to (λ b. b == 44));
+        few_equals = omega (arith, counted.few_equals, equals_low, long, count_by-le-length (is_bare_at (λ b. b == 61) text) (range_with_len at near));
+        few_commas = omega (arith, counted.few_commas, commas_low, long, count_by-le-length (is_bare_at (λ b. b == 44) text) (range_with_len at near));
+      }

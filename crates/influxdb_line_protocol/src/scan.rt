@@ -1,8 +1,25 @@
-//! Which bytes of a text are escaped, many of its bytes at a time.
-ghost use Rattle.influxdb_line_protocol.specs.Scan.{TellsEscaped};
+//! Masks of 64 bytes of a text, and which of those bytes are escaped.
+ghost use Rattle.std.specs.Prelude.{◌≡◌, ◌+◌, ◌≤◌, ◌==◌, length};
+ghost use Rattle.influxdb_line_protocol.specs.Lanes.{mask_of};
+ghost use Rattle.influxdb_line_protocol.specs.Scan.{TellsBare, TellsEscaped, TellsEscapesNext};
+
+use std::simd::prelude::*;
+
+/// How many bytes are looked at together.
+pub(crate) const WIDE: usize = 64;
 
 // The odd ones of 64 places.
 const ODD: u64 = 0xAAAA_AAAA_AAAA_AAAA;
+
+/// The mask of those of the 64 bytes from `at` on that are this one.
+#[inline(always)]
+pub(crate) fn places_of(byte: u8, text: &[u8], at: usize) -> u64
+    requires { at + WIDE ≤ length text.now }
+    ensures { result ≡ mask_of (λ b. b == byte) text.now at WIDE }
+{
+    let v = u8x64::from_slice(&text[at..]);
+    v.simd_eq(u8x64::splat(byte)).to_bitmask()
+}
 
 /// Which of 64 bytes are escaped, where the first is not and these are the backslashes among them.
 ///
@@ -17,4 +34,21 @@ pub(crate) fn escaped(backslashes: u64) -> u64
     }
     let left = ((backslashes << 1) | ODD).wrapping_sub(backslashes);
     left ^ ODD ^ backslashes
+}
+
+/// Which of 64 bytes are bare marks, where the first is not escaped and these are the marks and the backslashes among
+/// them.
+#[inline(always)]
+pub(crate) fn bare(marks: u64, backslashes: u64) -> u64
+    ensures { TellsBare marks backslashes result }
+{
+    marks & !escaped(backslashes)
+}
+
+/// How many bytes after 64 are escaped by these, of which the first is not and the backslashes are given.
+#[inline(always)]
+pub(crate) fn escapes_next(backslashes: u64) -> usize
+    ensures { TellsEscapesNext backslashes result }
+{
+    (bare(backslashes, backslashes) >> (WIDE - 1)) as usize
 }
