@@ -1,13 +1,13 @@
 -- What the mask of the bare marks of a load tells.
-use Rattle.std.proofs.Common.{◌≡◌, ℕ, ◌+◌, ◌-◌, ◌/◌, ◌%◌, ◌^◌, ◌<◌, ◌≤◌, Bool, true, false, cond, not, ◌&&◌, map, List, length, take, get_or, slice_index, bit_and, refl, sym, ap, ap₂, ◌∙◌, subst, arith, inl, inr}
+use Rattle.std.proofs.Common.{◌≡◌, ℕ, zero, suc, ◌+◌, ◌-◌, ◌/◌, ◌%◌, ◌^◌, ◌<◌, ◌≤◌, Bool, true, false, cond, not, ◌&&◌, map, List, ◌∷◌, length, take, get_or, slice_index, bit_and, count_ones, refl, sym, ap, ap₂, ◌∙◌, subst, arith, inl, inr}
 use Rattle.std.specs.Prelude.{◌==◌}
 use Rattle.std.specs.Int.{w64, bit_not}
-use Rattle.std.specs.List.{range_with_len, prefix_len}
+use Rattle.std.specs.List.{count_by, range_with_len, prefix_len}
 use Rattle.std.proofs.lemmas.Bool.{cases_Bool, cases_lt, and_parts, not-true, not-false}
 use Rattle.std.proofs.lemmas.List.{length-map}
-use Rattle.std.proofs.lemmas.List.FromFn.{length-range_with_len, get_or-range_with_len, get_or-map-range_with_len}
+use Rattle.std.proofs.lemmas.List.FromFn.{length-range_with_len, length-map-range_with_len, get_or-range_with_len, get_or-map-range_with_len, take-map-range_with_len}
 use Rattle.std.proofs.lemmas.List.Sums.{prefix_len-le-length, prefix_len_passes, prefix_len_stops}
-use Rattle.std.proofs.lemmas.Simd.{first_set_mask_l, bit_mask_l, mask_l-lt}
+use Rattle.std.proofs.lemmas.Simd.{first_set_mask_l, bit_mask_l, mask_l-lt, ones-mask_l}
 use lib.Lanes.{mask_l}
 use Rattle.influxdb_line_protocol.specs.Escapes.{is_escaped_behind, is_bare_at, IsBareBehind, IsPassed}
 use Rattle.influxdb_line_protocol.specs.Lanes.{first_set}
@@ -15,6 +15,7 @@ use Rattle.influxdb_line_protocol.specs.Scan.{mask_at, TellsEscaped, TellsBare}
 use Rattle.influxdb_line_protocol.proofs.EscapeLemmas.{is_escaped_more}
 use Rattle.influxdb_line_protocol.proofs.EscapedMasks.{of_places}
 use Rattle.influxdb_line_protocol.proofs.MaskBits.{and_of_maps, not_of_map}
+use Rattle.influxdb_line_protocol.proofs.MaskLemmas.{mask_mod}
 
 -- the marks that are not escaped are the bare ones
 pub tells_bare : (marks m e r : ℕ) → TellsEscaped m e → r ≡ bit_and marks (bit_not w64 e) → TellsBare marks m r
@@ -62,6 +63,21 @@ highest p at =
     let bit : mask_l ms / 2 ^ 63 % 2 ≡ cond (p (at + 63)) 1 0 =
     bit_mask_l ms 63 ∙ ap (λ (t : Bool). cond t 1 0) (get_or-map-range_with_len p at 64 63 (at + 63) false (omega arith) refl) in
     omega arith
+
+-- its lowest bits tell how many of the first places pass
+pub ones_low : (p : ℕ → Bool) (at n : ℕ) → n ≤ 64 → count_ones (mask_at p at 64 % 2 ^ n) ≡ count_by p (range_with_len at n)
+ones_low p at n few =
+    ap count_ones (mask_mod (map p (range_with_len at 64)) n (omega (arith, length-map-range_with_len p at 64))
+    ∙ ap mask_l (take-map-range_with_len p at 64 n few))
+    ∙ ones-mask_l p (range_with_len at n)
+
+-- a mask of places from the next one on, as one of places from this one on
+range_next : {X : Type 0} (f : ℕ → X) (n at : ℕ) → map f (range_with_len (at + 1) n) ≡ map (λ k. f (k + 1)) (range_with_len at n)
+range_next f zero at = refl
+range_next f (suc n) at = ap (λ (rest : List _). f (at + 1) ∷ rest) (range_next f n (at + 1))
+
+pub mask_next : (p : ℕ → Bool) (at n : ℕ) → mask_at p (at + 1) n ≡ mask_at (λ k. p (k + 1)) at n
+mask_next p at n = ap mask_l (range_next p n at)
 
 -- only a bare backslash escapes what stands after it
 both_ways : (e t : Bool) → (not e && t) ≡ (t && not e)

@@ -18,6 +18,7 @@ pub mod BareMasks
 pub mod LaneLemmas
 pub mod FormLemmas
 pub mod WalkLemmas
+pub mod WalkMasks
 pub mod CopyLemmas
 pub mod NameLemmas
 pub mod ValueLemmas

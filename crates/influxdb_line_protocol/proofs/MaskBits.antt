@@ -1,10 +1,12 @@
 -- Masks of lists of lanes under the operations on bits.
-use Rattle.std.proofs.Common.{◌≡◌, ℕ, ◌+◌, ◌*◌, ◌/◌, ◌%◌, ◌^◌, min, max, Bool, true, false, cond, not, ◌&&◌, ◌||◌, List, [], ◌∷◌, map, length, bit_and, bit_or, bit_xor, refl, sym, ap, ap₂, ◌∙◌, arith}
+use Rattle.std.proofs.Common.{◌≡◌, ℕ, ◌+◌, ◌*◌, ◌/◌, ◌%◌, ◌^◌, min, max, Bool, true, false, cond, not, ◌&&◌, ◌||◌, List, [], ◌∷◌, map, length, bit_and, bit_or, bit_xor, refl, sym, ap, ap₂, ◌∙◌, arith, ◌<◌, ◌≤◌, ◌-◌, suc}
 use native.Mathlib.Nat.{pow-suc}
 use Rattle.std.specs.Int.{w64, bit_not}
 use Rattle.std.proofs.lemmas.List.{length-map}
 use Rattle.std.proofs.lemmas.Simd.{map-map, zip2_of_maps}
-use lib.Bits.{and_step, or_step, xor_step, differ}
+use Rattle.std.proofs.Math.Nat.{mod-eq_of_lt, pow-le-pow_right}
+use lib.Bits.{and_step, or_step, xor_step, differ, and_mask}
+use lib.Pow.{pow_pos}
 use lib.Lanes.{zip2, mask_l}
 
 -- one of two, and not both
@@ -86,3 +88,11 @@ not_of_map f vs long =
     mask_not (map f vs) ∙ ap (λ (n : ℕ). 2 ^ n) (length-map vs f ∙ long) in
     let rest : bit_not w64 (mask_l (map f vs)) ≡ mask_l (map not (map f vs)) = omega arith in
     rest ∙ ap mask_l (map-map not f vs)
+
+-- the bits below a place
+pub below_is : (m n : ℕ) → n < 64 → bit_and m (1 * 2 ^ n % 2 ^ 64 - 1) ≡ m % 2 ^ n
+below_is m n few =
+    let more : 2 ^ suc n ≤ 2 ^ 64 = pow-le-pow_right {n = 2} (omega arith) few in
+    let fits : 1 * 2 ^ n < 2 ^ 64 = omega (arith, more, pow-suc 2 n, pow_pos n) in
+    let one : 1 * 2 ^ n % 2 ^ 64 ≡ 2 ^ n = mod-eq_of_lt fits ∙ omega arith in
+    ap (λ (k : ℕ). bit_and m (k - 1)) one ∙ and_mask m n

@@ -1,14 +1,12 @@
 -- Masks of loads: what is left of one without its lowest bits, and what its bits tell.
-use Rattle.std.proofs.Common.{◌≡◌, ℕ, zero, suc, ◌+◌, ◌-◌, ◌*◌, ◌/◌, ◌^◌, ◌<◌, ◌≤◌, Bool, true, false, cond, not, List, [], ◌∷◌, map, length, take, drop, slice_index, sym, ap, ◌∙◌, subst, arith, ◌%◌, ◌++◌, get_or, refl, inl, inr, take-append-drop}
+use Rattle.std.proofs.Common.{◌≡◌, ℕ, zero, suc, ◌+◌, ◌-◌, ◌*◌, ◌/◌, ◌^◌, ◌<◌, ◌≤◌, Bool, true, false, cond, not, List, [], ◌∷◌, map, length, take, drop, sym, ap, ◌∙◌, arith, ◌%◌, ◌++◌, get_or, refl, inl, inr, take-append-drop}
 use native.Mathlib.Nat.{pow-suc, mul_comm, zero-div, div-one, div-div-eq-div-mul, add-mul-mod_self_right}
-use Rattle.std.proofs.lemmas.Simd.{ones-mask_l, length-chunk, first_set_mask_l, trailing_mask_l, none_from_empty_mask, run_in_chunk_le, run_in_chunk_fails, run_in_chunk_stops, mask_l-lt, map-map, mask_l-mod, get_or-chunk}
+use Rattle.std.proofs.lemmas.Simd.{ones-mask_l, length-chunk, first_set_mask_l, run_in_chunk_le, run_in_chunk_fails, run_in_chunk_stops, mask_l-lt, map-map, mask_l-mod, get_or-chunk}
 use Rattle.std.proofs.lemmas.List.{drop-drop, drop-take, drop-map, drop_all, length-map, length-take, get_or_past, map-append}
 use Rattle.std.specs.List.{count_by, prefix_len}
 use Rattle.std.specs.Prelude.{count_ones}
-use Rattle.std.specs.Int.{w64, trailing_zeros}
 use lib.Lanes.{chunk, mask_l, top}
 use Rattle.influxdb_line_protocol.specs.Lanes.{first_set, mask_of, IsRunIn}
-use Rattle.influxdb_line_protocol.specs.Marks.{StandBefore}
 use Rattle.std.proofs.Math.Nat.{mod-eq_of_lt, pow-le-pow_right}
 use Rattle.std.proofs.Math.Seq.{take-add}
 use Rattle.std.proofs.lemmas.Bool.{cases_lt, agree_below, agree_below_at}
@@ -29,15 +27,6 @@ mask_l-drop (m ∷ ms) (suc k) =
     ∙ ap (λ n. n / 2 ^ k) (half m (mask_l ms))
     ∙ mask_l-drop ms k
 
--- where a bit is set, one of the lanes passes the test
-some_passes : (test : ℕ → Bool) (bytes : List ℕ) → 0 < mask_l (map test bytes) → prefix_len (λ b. not (test b)) bytes < length bytes
-some_passes test [] some = absurd (omega arith)
-some_passes test (b ∷ bs) some = step (test b) (mask_l (map test bs)) (prefix_len (λ x. not (test x)) bs) (length bs) (some_passes test bs) some
-  where
-    step : (t : Bool) (mask run n : ℕ) → (0 < mask → run < n) → 0 < cond t 1 0 + 2 * mask → cond (not t) (1 + run) 0 < suc n
-    step true mask run n rest set = omega arith
-    step false mask run n rest set = omega (arith, rest (omega arith))
-
 module _ (test : ℕ → Bool) (bytes : List ℕ) (at n : ℕ) where
   -- shifted, the mask of a load is that of the bytes behind
   pub shifted : (k : ℕ) → k ≤ n → mask_of test bytes at n / 2 ^ k ≡ mask_of test bytes (at + k) (n - k)
@@ -57,40 +46,6 @@ module _ (test : ℕ → Bool) (bytes : List ℕ) (at n : ℕ) where
   -- its bits count the bytes that pass the test
   pub ones : count_ones (mask_of test bytes at n) ≡ count_by test (chunk at n bytes)
   ones = ones-mask_l test (chunk at n bytes)
-
-  module _ (room : at + n ≤ length bytes) (few : n ≤ 64) (k : ℕ) (within : k ≤ n) where
-    -- with no bit left in it, none of the bytes behind passes
-    pub none_left : mask_of test bytes at n / 2 ^ k ≡ 0 → (j : ℕ) → at + k ≤ j → j < at + n → test (slice_index bytes j) ≡ false
-    none_left empty j from to =
-        none_from_empty_mask test bytes (at + k) (n - k) 0 (omega arith) (sym (shifted k within) ∙ empty) j from (omega arith)
-
-    -- how many lanes stand behind the lowest k
-    lanes_behind : length (chunk (at + k) (n - k) bytes) ≡ n - k
-    lanes_behind = length-chunk (at + k) (n - k) bytes (omega arith)
-
-    -- what is counted before the first lane that passes stands before the first byte that does
-    stands : (r : ℕ) → r ≡ prefix_len (λ b. not (test b)) (chunk (at + k) (n - k) bytes) → StandBefore test bytes (at + k) (n - k) r
-    stands r counted = record {
-      within = run_in_chunk_le test bytes (at + k) (n - k) r 0 (omega arith) counted;
-      none = run_in_chunk_fails test bytes (at + k) (n - k) r 0 (omega arith) counted;
-      here = run_in_chunk_stops test bytes (at + k) (n - k) r 0 (omega arith) counted;
-    }
-
-    -- the lowest bit that is left is the next byte that passes
-    pub next_left : (r : ℕ) → 0 < mask_of test bytes at n / 2 ^ k → r ≡ trailing_zeros w64 (mask_of test bytes at n / 2 ^ k)
-        → (r < n - k) × StandBefore test bytes (at + k) (n - k) r
-    next_left r some found =
-        let some_behind : 0 < mask_of test bytes (at + k) (n - k) = subst (λ (m : ℕ). 0 < m) (shifted k within) some in
-        let counted : r ≡ prefix_len (λ b. not (test b)) (chunk (at + k) (n - k) bytes) =
-        found ∙ ap (trailing_zeros w64) (shifted k within)
-        ∙ trailing_mask_l test 64 (chunk (at + k) (n - k) bytes) (omega (arith, lanes_behind)) some_behind in
-        (omega (arith, counted, lanes_behind, some_passes test (chunk (at + k) (n - k) bytes) some_behind), stands r counted)
-
-    -- the same, where there may be none
-    pub first_left : StandBefore test bytes (at + k) (n - k) (first_set (mask_of test bytes at n / 2 ^ k) (n - k))
-    first_left =
-        stands _ (ap (λ (m : ℕ). first_set m (n - k)) (shifted k within)
-        ∙ first_set_mask_l test (chunk (at + k) (n - k) bytes) (n - k) lanes_behind (omega arith))
 
 -- where two tests agree on each byte of a list, they give one list of answers
 map_agree : (f g : ℕ → Bool) (v : List ℕ) → ((k : ℕ) → f (get_or v k 0) ≡ g (get_or v k 0)) → map f v ≡ map g v

@@ -1,22 +1,17 @@
 -- The walk that counts the bare equals signs and commas of a stretch, from mark to mark.
-use Rattle.std.proofs.Common.{◌≡◌, ◌≢◌, ℕ, zero, suc, ◌+◌, ◌-◌, ◌/◌, ◌^◌, ◌<◌, ◌≤◌, List, map, length, take, slice_index, min, Bool, true, false, cond, not, ◌&&◌, bit_and, count_ones, refl, sym, ap, ap₂, ◌∙◌, subst, inl, inr, arith}
+use Rattle.std.proofs.Common.{◌≡◌, ◌≢◌, ℕ, zero, suc, ◌+◌, ◌-◌, ◌%◌, ◌^◌, ◌<◌, ◌≤◌, List, length, take, slice_index, min, Bool, true, false, cond, not, ◌&&◌, count_ones, refl, sym, ap, ap₂, ◌∙◌, subst, inl, inr, arith}
 use Rattle.std.specs.Prelude.{◌==◌}
 use Rattle.std.specs.List.{count_by, range_with_len}
 use Rattle.std.proofs.lemmas.Bool.{cases_Bool, cases_lt, ne_eqb}
-use Rattle.std.proofs.lemmas.List.FromFn.{length-range_with_len, length-map-range_with_len, take-map-range_with_len}
+use Rattle.std.proofs.lemmas.List.FromFn.{length-range_with_len}
 use Rattle.std.proofs.lemmas.List.Sums.{count_by-le-length, sum_by-cons}
-use Rattle.std.proofs.lemmas.Nat.Bits.{ones_shr}
-use Rattle.std.proofs.lemmas.Simd.{ones-mask_l}
-use lib.Bits.{and_mask}
-use lib.Lanes.{mask_l}
 use mir.Val.{bool_byte}
 use Rattle.influxdb_line_protocol.specs.declared.split.Counts.{Counts}
 use Rattle.influxdb_line_protocol.specs.Counts.{IsCounted}
 use Rattle.influxdb_line_protocol.specs.Escapes.{bare, is_bare_at, is_escaped_behind, IsBareBehind}
 use Rattle.influxdb_line_protocol.specs.Scan.{mask_at}
-use Rattle.influxdb_line_protocol.proofs.BareMasks.{at_most_one, one_escaped, next_bare}
+use Rattle.influxdb_line_protocol.proofs.BareMasks.{at_most_one, one_escaped, next_bare, ones_low}
 use Rattle.influxdb_line_protocol.proofs.EscapeLemmas.{is_escaped_more}
-use Rattle.influxdb_line_protocol.proofs.MaskLemmas.{mask_mod}
 use Rattle.influxdb_line_protocol.proofs.SplitBare.{is_escaped-nil}
 use Rattle.influxdb_line_protocol.proofs.SplitWalk.{count_bare_more}
 
@@ -154,17 +149,6 @@ count_along p text (suc n) at room =
     sum_by-cons (λ k. cond (is_bare_at p text k) 1 0) at (range_with_len (at + 1) n) in
     ap (λ (k : ℕ). count_by p (bare (take k text))) place ∙ omega (arith, count_along p text n (at + 1) (omega arith), one, here)
 
--- the lowest bits of a mask of 64 places, of which there are n
-count_low : (q : ℕ → Bool) (at n : ℕ) → n ≤ 64 → count_ones (bit_and (mask_at q at 64) ((2 ^ 64 - 1) / 2 ^ (64 - n))) ≡ count_by q (range_with_len at n)
-count_low q at n few =
-    let ones_are : (2 ^ 64 - 1) / 2 ^ (64 - n) ≡ 2 ^ n - 1 =
-    ones_shr 64 (64 - n) (omega arith) ∙ ap (λ (k : ℕ). 2 ^ k - 1) (omega arith) in
-    ap (λ (m : ℕ). count_ones (bit_and (mask_at q at 64) m)) ones_are
-    ∙ ap count_ones (and_mask (mask_at q at 64) n
-    ∙ mask_mod (map q (range_with_len at 64)) n (omega (arith, length-map-range_with_len q at 64))
-    ∙ ap mask_l (take-map-range_with_len q at 64 n few))
-    ∙ ones-mask_l q (range_with_len at n)
-
 -- one load of a stretch
 module _ (text : List ℕ) (end : ℕ) (fits : end ≤ length text) (e c at : ℕ) (room : at + 64 ≤ length text) (early : at < end)
     (counted : IsCounted text end (counts_at e c at)) (near last next : ℕ) (near_is : near ≡ min 64 (end - at))
@@ -190,12 +174,11 @@ module _ (text : List ℕ) (end : ℕ) (fits : end ≤ length text) (e c at : �
 
   -- what the low bits of the masks of the bare ones add
   pub counted_load : (x y : ℕ) → x ≡ mask_at (is_bare_at (λ b. b == 61) text) at 64 → y ≡ mask_at (is_bare_at (λ b. b == 44) text) at 64
-      → IsCounted text end (counts_at (e + count_ones (bit_and x ((2 ^ 64 - 1) / 2 ^ (64 - near)))) (c + count_ones (bit_and y ((2 ^ 64 - 1) / 2 ^ (64 - near)))) next)
+      → IsCounted text end (counts_at (e + count_ones (x % 2 ^ near)) (c + count_ones (y % 2 ^ near)) next)
   counted_load x y x_is y_is =
-      let low = (2 ^ 64 - 1) / 2 ^ (64 - near) in
       let few : near ≤ 64 = omega arith in
-      let equals_low = ap (λ (m : ℕ). count_ones (bit_and m low)) x_is ∙ count_low (is_bare_at (λ b. b == 61) text) at near few in
-      let commas_low = ap (λ (m : ℕ). count_ones (bit_and m low)) y_is ∙ count_low (is_bare_at (λ b. b == 44) text) at near few in
+      let equals_low = ap (λ (m : ℕ). count_ones (m % 2 ^ near)) x_is ∙ ones_low (is_bare_at (λ b. b == 61) text) at near few in
+      let commas_low = ap (λ (m : ℕ). count_ones (m % 2 ^ near)) y_is ∙ ones_low (is_bare_at (λ b. b == 44) text) at near few in
       let long = length-range_with_len at near in
       record {
         within = omega (arith, to);

@@ -11,9 +11,10 @@ ghost use Rattle.influxdb_line_protocol.specs.Texts.{read_of};
 
 use crate::escaped::EscapedStr;
 use crate::lanes::{
-    HALF_LANES, LANES, MASKED, WIDE_LANES, backslash_run, backslashes, backslashes_of, first_set,
-    next_set, plain_run, wide_end_mask,
+    HALF_LANES, LANES, MASKED, backslash_run, backslashes, backslashes_of, first_set, known_in,
+    plain_run, stops_in,
 };
+use crate::scan::{WIDE, bare, escapes_next, ones_below, places_of};
 use std::alloc::{AllocError, Global};
 
 /// What is spelled: a name of one of three forms, or the text between quotes.
@@ -105,24 +106,25 @@ fn plain_end(form: Form, bytes: &[u8], at: usize) -> usize
     plain_tail(form, bytes, end)
 }
 
-// Goes on from escape to escape over the 32 bytes from `at` on, up to a byte behind them or to one that ends the
-// spelling: how far, and how many of the escapes before it are known.
+// Goes over the 64 bytes from `at` on, up to one that ends the spelling or to the next bare place after them: how far,
+// and how many of the escapes before it are known.
 #[inline(always)]
 fn escapes_in_load(form: Form, bytes: &[u8], at: usize, found: usize) -> (usize, usize)
     requires walked { Walked (known_of form) (stops_of form) bytes.now at found }
-    requires room { at + WIDE_LANES < length bytes.now }
+    requires room { at + WIDE < length bytes.now }
     ensures walked { Walked (known_of form) (stops_of form) bytes.now result.0 result.1 }
-    ensures stops { result.0 < at + WIDE_LANES → stops_of form (slice_index bytes.now result.0) ≡ true }
+    ensures stops { result.0 < at + WIDE → stops_of form (slice_index bytes.now result.0) ≡ true }
     ensures further { at ≤ result.0 }
 {
-    let mask = wide_end_mask(form, bytes, at);
-    let mut place = next_set(mask, 0);
-    let mut known = found;
-    while place < WIDE_LANES && bytes[at + place] == b'\\' {
-        known += usize::from(form.is_known(bytes[at + place + 1]));
-        place = next_set(mask, place + 2);
+    let backslashes = places_of(b'\\', bytes, at);
+    let run = first_set(bare(stops_in(form, bytes, at), backslashes), WIDE);
+    // The bare backslashes of which the next byte is known.
+    let known = bare(backslashes, backslashes) & known_in(form, bytes, at + 1);
+    let found = found + ones_below(known, run);
+    if run < WIDE {
+        return (at + run, found);
     }
-    (at + place, known)
+    (at + (WIDE + escapes_next(backslashes)), found)
 }
 
 // Goes on from escape to escape to the end of the spelling, with no regard to how many bytes are left: how far, and how
@@ -165,9 +167,9 @@ fn escaped_end(form: Form, text: &str, at: usize) -> (usize, usize)
     let bytes = text.as_bytes();
     let mut end = at;
     let mut known = 0;
-    while bytes.len() - end > WIDE_LANES {
+    while bytes.len() - end > WIDE {
         let (next, found) = escapes_in_load(form, bytes, end, known);
-        if next < end + WIDE_LANES {
+        if next < end + WIDE {
             return (next, next - found);
         }
         end = next;

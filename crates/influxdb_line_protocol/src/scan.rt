@@ -1,5 +1,5 @@
 //! Masks of 64 bytes of a text, and which of those bytes are escaped.
-ghost use Rattle.std.specs.Prelude.{◌≡◌, ◌+◌, ◌≤◌, ◌==◌, length};
+ghost use Rattle.std.specs.Prelude.{◌≡◌, ◌+◌, ◌%◌, ◌^◌, ◌≤◌, ◌==◌, count_ones, length};
 ghost use Rattle.influxdb_line_protocol.specs.Lanes.{mask_of};
 ghost use Rattle.influxdb_line_protocol.specs.Scan.{TellsBare, TellsEscaped, TellsEscapesNext};
 
@@ -51,4 +51,18 @@ pub(crate) fn escapes_next(backslashes: u64) -> usize
     ensures { TellsEscapesNext backslashes result }
 {
     (bare(backslashes, backslashes) >> (WIDE - 1)) as usize
+}
+
+/// How many of the lowest `n` bits are set.
+#[inline(always)]
+pub(crate) fn ones_below(mask: u64, n: usize) -> usize
+    requires { n ≤ WIDE }
+    ensures { result ≡ count_ones (mask % 2 ^ n) }
+{
+    let low = if n < WIDE {
+        mask & ((1 << n) - 1)
+    } else {
+        mask
+    };
+    low.count_ones() as usize
 }

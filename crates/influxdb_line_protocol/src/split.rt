@@ -13,7 +13,7 @@ ghost use Rattle.influxdb_line_protocol.specs.Pieces.{begins_comment, IsFirstCut
 ghost use Rattle.influxdb_line_protocol.specs.declared.split.Dialect.{Dialect};
 
 use crate::lanes::first_set;
-use crate::scan::{WIDE, bare, escapes_next, places_of};
+use crate::scan::{WIDE, bare, escapes_next, ones_below, places_of};
 use memchr::{memchr, memchr2, memchr3};
 use std::marker::Model;
 use std::simd::prelude::*;
@@ -191,10 +191,9 @@ fn count_in(text: &[u8], end: usize, counts: Counts) -> Counts
     let equals = bare(places_of(b'=', text, counts.at), backslashes);
     let commas = bare(places_of(b',', text, counts.at), backslashes);
     let room = WIDE.min(end - counts.at);
-    let near = u64::MAX >> (WIDE - room);
     Counts {
-        equals: counts.equals + (equals & near).count_ones() as usize,
-        commas: counts.commas + (commas & near).count_ones() as usize,
+        equals: counts.equals + ones_below(equals, room),
+        commas: counts.commas + ones_below(commas, room),
         at: (counts.at + (room + escapes_next(backslashes))).min(end),
     }
 }

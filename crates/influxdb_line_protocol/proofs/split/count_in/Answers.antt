@@ -13,9 +13,10 @@ returns c =
     let last = c.escapes_next.ensures text counts.at room bare given in
     record {
       counted =
-          counted_load text c.args.end c.requires.within counts.equals counts.commas counts.at room c.requires.early c.requires.counted
+          rw (c.ones_below.ensures, c.ones_below-2.ensures)
+          (counted_load text c.args.end c.requires.within counts.equals counts.commas counts.at room c.requires.early c.requires.counted
           c.min-room.result c.escapes_next.result c.min.result c.min-room.ensures last c.min.ensures _ _
           (c.bare-equals.ensures (λ b. b == 61) text counts.at room bare given c.places_of.ensures)
-          (c.bare-commas.ensures (λ b. b == 44) text counts.at room bare given c.places_of-2.ensures);
+          (c.bare-commas.ensures (λ b. b == 44) text counts.at room bare given c.places_of-2.ensures));
       further = omega (arith, c.min.ensures, c.min-room.ensures);
     }
