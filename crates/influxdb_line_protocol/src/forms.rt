@@ -153,9 +153,8 @@ fn escapes_to_end(form: Form, bytes: &[u8], at: usize, found: usize) -> (usize, 
 
 // How many bytes of `text` are spelled, where the first backslash stands at `at`, and how many they are without their
 // escapes.
-#[cold]
-#[inline(never)]
-fn escaped_end(form: Form, text: &str, at: usize) -> (usize, usize)
+#[inline(always)]
+fn escaped_end_of(form: Form, text: &str, at: usize) -> (usize, usize)
     requires run { IsRunAt (is_plain (stops_of form)) text.now 0 at }
     requires within { at < length text.now }
     requires here { slice_index text.now at ≡ backslash }
@@ -177,6 +176,26 @@ fn escaped_end(form: Form, text: &str, at: usize) -> (usize, usize)
     }
     let (end, known) = escapes_to_end(form, bytes, end, known);
     (end, end - known)
+}
+
+// The same, with a loop for each form, which then compares with bytes that are known.
+#[cold]
+#[inline(never)]
+fn escaped_end(form: Form, text: &str, at: usize) -> (usize, usize)
+    requires run { IsRunAt (is_plain (stops_of form)) text.now 0 at }
+    requires within { at < length text.now }
+    requires here { slice_index text.now at ≡ backslash }
+    ensures value { result.0 ≡ first_bare (stops_of form) text.now }
+    ensures boundary { IsCharBoundary text.now result.0 }
+    ensures escaped { is_one_of (take result.0 text.now) backslash ≡ true }
+    ensures len { result.1 ≡ length (without_escapes (known_of form) (take result.0 text.now)) }
+{
+    match form {
+        Form::Measurement => escaped_end_of(Form::Measurement, text, at),
+        Form::Key => escaped_end_of(Form::Key, text, at),
+        Form::TagValue => escaped_end_of(Form::TagValue, text, at),
+        Form::Quoted => escaped_end_of(Form::Quoted, text, at),
+    }
 }
 
 // How many bytes of `text` are spelled, whether none is a backslash, and how many they are without their escapes.
