@@ -23,8 +23,8 @@ pub(crate) fn places_of(byte: u8, text: &[u8], at: usize) -> u64
 
 /// Which of 64 bytes are escaped, where the first is not and these are the backslashes among them.
 ///
-/// From the places after a backslash, and the odd ones, the backslashes are taken away as one number. What is borrowed
-/// goes along each run of backslashes, and changes the places of one parity just where the run began at the other.
+/// The backslashes are taken, as one number, from the places after a backslash and the odd ones. What is borrowed goes
+/// along each run of backslashes, so that one subtraction tells at which parity it began.
 #[inline(always)]
 pub(crate) fn escaped(backslashes: u64) -> u64
     ensures { TellsEscaped backslashes result }

@@ -208,17 +208,12 @@ fn count_last(text: &[u8], end: usize, counts: Counts) -> (usize, usize)
     ensures few { (result.0 ≤ end) × (result.1 ≤ end) }
 {
     let (mut equals, mut commas) = (counts.equals, counts.commas);
-    let mut at = counts.at;
-    while at < end {
-        match text[at] {
-            // The byte behind a backslash is escaped.
-            b'\\' => at = (at + 2).min(end),
-            byte => {
-                equals += usize::from(byte == b'=');
-                commas += usize::from(byte == b',');
-                at += 1;
-            }
-        }
+    let mut escaped = false;
+    for at in counts.at..end {
+        let byte = text[at];
+        equals += usize::from(!escaped & (byte == b'='));
+        commas += usize::from(!escaped & (byte == b','));
+        escaped = !escaped & (byte == b'\\');
     }
     (equals, commas)
 }
