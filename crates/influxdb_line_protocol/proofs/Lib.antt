@@ -12,9 +12,13 @@ pub mod SplitWalk
 pub mod WideSearch
 pub mod EscapeLemmas
 pub mod MaskLemmas
+pub mod MaskBits
+pub mod EscapedMasks
+pub mod BareMasks
 pub mod LaneLemmas
 pub mod FormLemmas
 pub mod WalkLemmas
+pub mod WalkMasks
 pub mod CopyLemmas
 pub mod NameLemmas
 pub mod ValueLemmas

@@ -1,19 +1,20 @@
 -- From the mask of one load to the bytes that are marks, and from loads to a whole text.
-use Rattle.std.proofs.Common.{◌≡◌, ℕ, ◌+◌, ◌-◌, ◌/◌, ◌%◌, ◌^◌, ◌<◌, ◌≤◌, eqb, Bool, true, false, cond, not, ◌||◌, List, map, length, drop, get_or, replicate, bit_or, refl, sym, ap, ◌∙◌, arith, inl, inr}
-use Rattle.std.proofs.lemmas.Bool.{cases_eq, cases_lt, eq-eqb, ne_eqb}
-use Rattle.std.proofs.lemmas.Simd.{map-map, mask_l-mod, length-chunk, zip2_splat, zip2_of_maps, first_set_mask_l, run_in_chunk_le, run_in_chunk_fails, run_in_chunk_stops, chunk-drop}
-use Rattle.std.proofs.lemmas.List.{length-map, take_rest}
+use Rattle.std.proofs.Common.{◌≡◌, ℕ, ◌+◌, ◌-◌, ◌/◌, ◌%◌, ◌^◌, ◌<◌, ◌≤◌, eqb, Bool, true, false, cond, not, ◌||◌, List, map, length, drop, get_or, replicate, bit_or, refl, sym, ap, ◌∙◌, subst, arith, inl, inr}
+use Rattle.std.proofs.lemmas.Bool.{cases_eq, eq-eqb, ne_eqb}
+use Rattle.std.proofs.lemmas.Simd.{length-chunk, run_in_chunk_le, run_in_chunk_fails, run_in_chunk_stops, chunk-drop}
+use Rattle.std.proofs.lemmas.List.{take_rest}
 use Rattle.std.proofs.lemmas.List.Sums.{list_all-from_AllPass, sum_by-append}
 use Rattle.std.proofs.lemmas.List.Elements.{All-from_get_or}
 use Rattle.std.proofs.lemmas.List.Folds.{list_all_at}
-use Rattle.std.specs.List.{prefix_len, list_all, count_by}
+use Rattle.std.specs.List.{list_all, count_by}
 use Rattle.std.specs.Prelude.{count_ones}
 use lib.Lanes.{chunk, zip2, mask_l, top}
 use Rattle.influxdb_line_protocol.specs.declared.builder.marks.Marks.{Marks}
 use Rattle.influxdb_line_protocol.specs.Bytes.{is_one_of}
 use Rattle.influxdb_line_protocol.specs.Marks.{StandBefore, listed}
 use Rattle.influxdb_line_protocol.specs.Lanes.{first_set, mask_of}
-use Rattle.influxdb_line_protocol.proofs.MaskLemmas.{shifted, ones}
+use Rattle.influxdb_line_protocol.proofs.LaneLemmas.{lanes_of, lanes_or}
+use Rattle.influxdb_line_protocol.proofs.MaskLemmas.{shifted, ones, lowest, mask_by_lanes}
 
 -- a lane that is equal to another
 abbrev equal_lane : ℕ → ℕ → ℕ
@@ -58,46 +59,27 @@ mark_lane m x =
     rw (← eqb_swap x m.first, ← eqb_swap x m.second, ← eqb_swap x m.third, ← eqb_swap x m.fourth)
     (any_lane (eqb x m.first) (eqb x m.second) (eqb x m.third) (eqb x m.fourth))
 
-module _ (m : Marks) (d : List ℕ) (i n r : ℕ) (room : i + n ≤ length d) (few : n ≤ 64) where
-  abbrev lanes : List ℕ
-  lanes =
-      let v = chunk i n d in
-      zip2 bit_or
-      (zip2 bit_or (zip2 equal_lane v (replicate n m.first)) (zip2 equal_lane v (replicate n m.second)))
-      (zip2 bit_or (zip2 equal_lane v (replicate n m.third)) (zip2 equal_lane v (replicate n m.fourth)))
+-- the mask of the lanes of a load is that of its bytes
+pub mask_of_load : (m : Marks) (d : List ℕ) (i n : ℕ) → i + n ≤ length d → n ≤ 64
+    → (let v = chunk i n d in
+    mask_l (map (top 7) (zip2 bit_or
+    (zip2 bit_or (zip2 equal_lane v (replicate n m.first)) (zip2 equal_lane v (replicate n m.second)))
+    (zip2 bit_or (zip2 equal_lane v (replicate n m.third)) (zip2 equal_lane v (replicate n m.fourth))))) % 2 ^ 64) ≡ mask_of (is_one_of (listed m)) d i n
+mask_of_load m d i n room few =
+    let v = chunk i n d in
+    let long = length-chunk i n d room in
+    mask_by_lanes (is_one_of (listed m)) d i n room few (compared m) (mark_lane m) _
+    (lanes_or _ _ v (lanes_or _ _ v (lanes_of v m.first long) (lanes_of v m.second long)) (lanes_or _ _ v (lanes_of v m.third long) (lanes_of v m.fourth long)))
 
-  lanes_are : lanes ≡ map (compared m) (chunk i n d)
-  lanes_are =
-      let v = chunk i n d in
-      let long = length-chunk i n d room in
-      zip2_of_maps bit_or _ _ v
-      (zip2_of_maps bit_or _ _ v (zip2_splat equal_lane v n m.first long) (zip2_splat equal_lane v n m.second long))
-      (zip2_of_maps bit_or _ _ v (zip2_splat equal_lane v n m.third long) (zip2_splat equal_lane v n m.fourth long))
-
-  mask_is : mask_l (map (top 7) lanes) % 2 ^ 64 ≡ mask_l (map (is_one_of (listed m)) (chunk i n d))
-  mask_is =
-      let v = chunk i n d in
-      let marked : map (top 7) lanes ≡ map (is_one_of (listed m)) v =
-      ap (map (top 7)) lanes_are ∙ map-map (top 7) (compared m) v ∙ ap (λ (f : ℕ → Bool). map f v) (λ j x. mark_lane m x j) in
-      ap (λ (l : List Bool). mask_l l % 2 ^ 64) marked
-      ∙ mask_l-mod (map (is_one_of (listed m)) v) 64 (omega (arith, length-map v (is_one_of (listed m)), length-chunk i n d room))
-
-  -- a load tells how many of its bytes stand before the first mark
-  pub run_in_load : r ≡ first_set (mask_l (map (top 7) lanes) % 2 ^ 64) n → StandBefore (is_one_of (listed m)) d i n r
-  run_in_load found =
-      let q = is_one_of (listed m) in
-      let v = chunk i n d in
-      let counted : r ≡ prefix_len (λ x. not (q x)) v =
-      found ∙ ap (λ (k : ℕ). first_set k n) mask_is ∙ first_set_mask_l q v n (length-chunk i n d room) few in
-      record {
-        within = run_in_chunk_le q d i n r 0 room counted;
-        none = run_in_chunk_fails q d i n r 0 room counted;
-        here = run_in_chunk_stops q d i n r 0 room counted;
-      }
-
-  -- the mask of the lanes is that of the bytes
-  pub mask_of_load : mask_l (map (top 7) lanes) % 2 ^ 64 ≡ mask_of (is_one_of (listed m)) d i n
-  mask_of_load = mask_is
+-- its lowest bit tells how many of the bytes stand before the first mark
+pub stand_before : (q : ℕ → Bool) (d : List ℕ) (i n r : ℕ) → i + n ≤ length d → n ≤ 64 → r ≡ first_set (mask_of q d i n) n → StandBefore q d i n r
+stand_before q d i n r room few found =
+    let counted = found ∙ lowest q d i n room few in
+    record {
+      within = run_in_chunk_le q d i n r 0 room counted;
+      none = run_in_chunk_fails q d i n r 0 room counted;
+      here = run_in_chunk_stops q d i n r 0 room counted;
+    }
 
 -- what a text counts is what a load counts, and what stands behind it
 pub count_behind : (q : ℕ → Bool) (d : List ℕ) (at n : ℕ) → count_by q (drop at d) ≡ count_by q (chunk at n d) + count_by q (drop (at + n) d)
@@ -132,30 +114,24 @@ count_overlapping q d n first last room few front behind =
     omega (arith, seen, rest, count_behind q d 0 n)
 
 -- a text in which no byte passes the test
-pub free_whole : (q : ℕ → Bool) (d : List ℕ) → ((k : ℕ) → k < length d → q (get_or d k 0) ≡ false)
+free_whole : (q : ℕ → Bool) (d : List ℕ) → ((k : ℕ) → k < length d → q (get_or d k 0) ≡ false)
     → list_all (λ b. not (q b)) d ≡ true
 free_whole q d none =
     list_all-from_AllPass (λ b. not (q b)) d
     (All-from_get_or (λ b. not (q b) ≡ true) d 0 (λ k inside. ap not (none k inside)))
 
 -- a text in which one does
-pub not_free : (q : ℕ → Bool) (d : List ℕ) (k : ℕ) → k < length d → q (get_or d k 0) ≡ true
+not_free : (q : ℕ → Bool) (d : List ℕ) (k : ℕ) → k < length d → q (get_or d k 0) ≡ true
     → list_all (λ b. not (q b)) d ≡ false
 not_free q d k inside here = list_all_at (λ b. not (q b)) d k 0 inside (ap not here)
 
--- a load at the end, which may overlap what was seen, decides
-pub last_decides : (q : ℕ → Bool) (d : List ℕ) (seen n r : ℕ) → n ≤ length d → length d - n ≤ seen
-    → ((k : ℕ) → k < seen → q (get_or d k 0) ≡ false) → StandBefore q d (length d - n) n r
-    → eqb r n ≡ list_all (λ b. not (q b)) d
-last_decides q d seen n r room overlaps front run =
-    elim (cases_eq r n) [
-      | inl whole ↦
-          eq-eqb r n whole
-          ∙ sym (free_whole q d (λ k inside. elim (cases_lt k seen) [
-            | inl early ↦ front k early
-            | inr late ↦ run.none k (omega arith) (omega arith)
-          ]))
+-- where the first mark stands decides
+pub first_decides : (q : ℕ → Bool) (d : List ℕ) (r : ℕ) → StandBefore q d 0 (length d) r → eqb r (length d) ≡ list_all (λ b. not (q b)) d
+first_decides q d r run =
+    elim (cases_eq r (length d)) [
+      | inl whole ↦ eq-eqb r (length d) whole ∙ sym (free_whole q d (λ k inside. run.none k (omega arith) (omega arith)))
       | inr other ↦
-          let short : r < n = omega (arith, run.within) in
-          ne_eqb r n other ∙ sym (not_free q d (length d - n + r) (omega arith) (run.here short))
+          let short : r < length d = omega (arith, run.within) in
+          let place : 0 + r ≡ r = omega arith in
+          ne_eqb r (length d) other ∙ sym (not_free q d r short (subst (λ (k : ℕ). q (get_or d k 0) ≡ true) place (run.here short)))
     ]

@@ -1,14 +1,12 @@
 -- Masks of loads: what is left of one without its lowest bits, and what its bits tell.
-use Rattle.std.proofs.Common.{◌≡◌, ℕ, zero, suc, ◌+◌, ◌-◌, ◌*◌, ◌/◌, ◌^◌, ◌<◌, ◌≤◌, Bool, true, false, cond, not, List, [], ◌∷◌, map, length, take, drop, slice_index, sym, ap, ◌∙◌, subst, arith, ◌%◌, ◌++◌, get_or, refl, inl, inr}
-use native.Mathlib.Nat.{pow-suc, mul_comm, zero-div, div-one, div-div-eq-div-mul}
-use Rattle.std.proofs.lemmas.Simd.{ones-mask_l, length-chunk, first_set_mask_l, trailing_mask_l, none_from_empty_mask, run_in_chunk_le, run_in_chunk_fails, run_in_chunk_stops, mask_l-lt, map-map, mask_l-mod, get_or-chunk}
-use Rattle.std.proofs.lemmas.List.{drop-drop, drop-take, drop-map, drop_all, length-map, get_or_past, map-append}
+use Rattle.std.proofs.Common.{◌≡◌, ℕ, zero, suc, ◌+◌, ◌-◌, ◌*◌, ◌/◌, ◌^◌, ◌<◌, ◌≤◌, Bool, true, false, cond, not, List, [], ◌∷◌, map, length, take, drop, sym, ap, ◌∙◌, arith, ◌%◌, ◌++◌, get_or, refl, inl, inr, take-append-drop}
+use native.Mathlib.Nat.{pow-suc, mul_comm, zero-div, div-one, div-div-eq-div-mul, add-mul-mod_self_right}
+use Rattle.std.proofs.lemmas.Simd.{ones-mask_l, length-chunk, first_set_mask_l, run_in_chunk_le, run_in_chunk_fails, run_in_chunk_stops, mask_l-lt, map-map, mask_l-mod, get_or-chunk}
+use Rattle.std.proofs.lemmas.List.{drop-drop, drop-take, drop-map, drop_all, length-map, length-take, get_or_past, map-append}
 use Rattle.std.specs.List.{count_by, prefix_len}
 use Rattle.std.specs.Prelude.{count_ones}
-use Rattle.std.specs.Int.{w64, trailing_zeros}
 use lib.Lanes.{chunk, mask_l, top}
 use Rattle.influxdb_line_protocol.specs.Lanes.{first_set, mask_of, IsRunIn}
-use Rattle.influxdb_line_protocol.specs.Marks.{StandBefore}
 use Rattle.std.proofs.Math.Nat.{mod-eq_of_lt, pow-le-pow_right}
 use Rattle.std.proofs.Math.Seq.{take-add}
 use Rattle.std.proofs.lemmas.Bool.{cases_lt, agree_below, agree_below_at}
@@ -29,15 +27,6 @@ mask_l-drop (m ∷ ms) (suc k) =
     ∙ ap (λ n. n / 2 ^ k) (half m (mask_l ms))
     ∙ mask_l-drop ms k
 
--- where a bit is set, one of the lanes passes the test
-some_passes : (test : ℕ → Bool) (bytes : List ℕ) → 0 < mask_l (map test bytes) → prefix_len (λ b. not (test b)) bytes < length bytes
-some_passes test [] some = absurd (omega arith)
-some_passes test (b ∷ bs) some = step (test b) (mask_l (map test bs)) (prefix_len (λ x. not (test x)) bs) (length bs) (some_passes test bs) some
-  where
-    step : (t : Bool) (mask run n : ℕ) → (0 < mask → run < n) → 0 < cond t 1 0 + 2 * mask → cond (not t) (1 + run) 0 < suc n
-    step true mask run n rest set = omega arith
-    step false mask run n rest set = omega (arith, rest (omega arith))
-
 module _ (test : ℕ → Bool) (bytes : List ℕ) (at n : ℕ) where
   -- shifted, the mask of a load is that of the bytes behind
   pub shifted : (k : ℕ) → k ≤ n → mask_of test bytes at n / 2 ^ k ≡ mask_of test bytes (at + k) (n - k)
@@ -57,40 +46,6 @@ module _ (test : ℕ → Bool) (bytes : List ℕ) (at n : ℕ) where
   -- its bits count the bytes that pass the test
   pub ones : count_ones (mask_of test bytes at n) ≡ count_by test (chunk at n bytes)
   ones = ones-mask_l test (chunk at n bytes)
-
-  module _ (room : at + n ≤ length bytes) (few : n ≤ 64) (k : ℕ) (within : k ≤ n) where
-    -- with no bit left in it, none of the bytes behind passes
-    pub none_left : mask_of test bytes at n / 2 ^ k ≡ 0 → (j : ℕ) → at + k ≤ j → j < at + n → test (slice_index bytes j) ≡ false
-    none_left empty j from to =
-        none_from_empty_mask test bytes (at + k) (n - k) 0 (omega arith) (sym (shifted k within) ∙ empty) j from (omega arith)
-
-    -- how many lanes stand behind the lowest k
-    lanes_behind : length (chunk (at + k) (n - k) bytes) ≡ n - k
-    lanes_behind = length-chunk (at + k) (n - k) bytes (omega arith)
-
-    -- what is counted before the first lane that passes stands before the first byte that does
-    stands : (r : ℕ) → r ≡ prefix_len (λ b. not (test b)) (chunk (at + k) (n - k) bytes) → StandBefore test bytes (at + k) (n - k) r
-    stands r counted = record {
-      within = run_in_chunk_le test bytes (at + k) (n - k) r 0 (omega arith) counted;
-      none = run_in_chunk_fails test bytes (at + k) (n - k) r 0 (omega arith) counted;
-      here = run_in_chunk_stops test bytes (at + k) (n - k) r 0 (omega arith) counted;
-    }
-
-    -- the lowest bit that is left is the next byte that passes
-    pub next_left : (r : ℕ) → 0 < mask_of test bytes at n / 2 ^ k → r ≡ trailing_zeros w64 (mask_of test bytes at n / 2 ^ k)
-        → (r < n - k) × StandBefore test bytes (at + k) (n - k) r
-    next_left r some found =
-        let some_behind : 0 < mask_of test bytes (at + k) (n - k) = subst (λ (m : ℕ). 0 < m) (shifted k within) some in
-        let counted : r ≡ prefix_len (λ b. not (test b)) (chunk (at + k) (n - k) bytes) =
-        found ∙ ap (trailing_zeros w64) (shifted k within)
-        ∙ trailing_mask_l test 64 (chunk (at + k) (n - k) bytes) (omega (arith, lanes_behind)) some_behind in
-        (omega (arith, counted, lanes_behind, some_passes test (chunk (at + k) (n - k) bytes) some_behind), stands r counted)
-
-    -- the same, where there may be none
-    pub first_left : StandBefore test bytes (at + k) (n - k) (first_set (mask_of test bytes at n / 2 ^ k) (n - k))
-    first_left =
-        stands _ (ap (λ (m : ℕ). first_set m (n - k)) (shifted k within)
-        ∙ first_set_mask_l test (chunk (at + k) (n - k) bytes) (n - k) lanes_behind (omega arith))
 
 -- where two tests agree on each byte of a list, they give one list of answers
 map_agree : (f g : ℕ → Bool) (v : List ℕ) → ((k : ℕ) → f (get_or v k 0) ≡ g (get_or v k 0)) → map f v ≡ map g v
@@ -118,6 +73,13 @@ module _ (test : ℕ → Bool) (bytes : List ℕ) (at n : ℕ) (room : at + n �
       let tops = ap (map (top 7)) lanes ∙ map-map (top 7) f v in
       let same = map_agree set test v (λ k. agree_below_at set test 256 (get_or v k 0) all (in_load fits k)) in
       ap (λ l. mask_l l % 2 ^ 64) (tops ∙ same)
+      ∙ mask_l-mod (map test v) 64 (omega (arith, length-map v test, length-chunk at n bytes room))
+
+  -- the same, where each byte is compared with bytes that are not known
+  pub mask_by_lanes : (f : ℕ → ℕ) → ((x : ℕ) → top 7 (f x) ≡ test x) → (z : List ℕ) → z ≡ map f (chunk at n bytes) → mask_l (map (top 7) z) % 2 ^ 64 ≡ mask_of test bytes at n
+  mask_by_lanes f same z lanes =
+      let v = chunk at n bytes in
+      ap (λ (l : List Bool). mask_l l % 2 ^ 64) (ap (map (top 7)) lanes ∙ map-map (top 7) f v ∙ ap (λ (g : ℕ → Bool). map g v) (λ j x. same x j))
       ∙ mask_l-mod (map test v) 64 (omega (arith, length-map v test, length-chunk at n bytes room))
 
   -- the lowest bit of a mask tells how far the bytes go that fail the test
@@ -154,6 +116,15 @@ mask_l-append [] ys = omega arith
 mask_l-append (x ∷ xs) ys =
     let rest = mask_l-append xs ys in
     rw (pow-suc 2 (length xs)) (omega (arith, rest))
+
+-- the lowest bits of a mask are the mask of its first lanes
+pub mask_mod : (ms : List Bool) (k : ℕ) → k ≤ length ms → mask_l ms % 2 ^ k ≡ mask_l (take k ms)
+mask_mod ms k within =
+    let long : length (take k ms) ≡ k = length-take k ms ∙ omega arith in
+    let whole : mask_l ms ≡ mask_l (take k ms) + mask_l (drop k ms) * 2 ^ k =
+    ap mask_l (sym (take-append-drop k ms)) ∙ mask_l-append (take k ms) (drop k ms) ∙ ap (λ (n : ℕ). mask_l (take k ms) + mask_l (drop k ms) * 2 ^ n) long in
+    ap (λ (n : ℕ). n % 2 ^ k) whole ∙ add-mul-mod_self_right (mask_l (take k ms)) (mask_l (drop k ms)) (2 ^ k)
+    ∙ mask_l-mod (take k ms) k (omega (arith, long))
 
 module _ (test : ℕ → Bool) (bytes : List ℕ) (at n m : ℕ) (room : at + n + m ≤ length bytes) where
   -- the mask of one load and that of the bytes behind it

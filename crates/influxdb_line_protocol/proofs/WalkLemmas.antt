@@ -1,14 +1,16 @@
 -- A walk over a spelling, from escape to escape.
-use Rattle.std.proofs.Common.{◌≡◌, ◌≢◌, ℕ, zero, suc, ◌+◌, ◌-◌, ◌<◌, ◌≤◌, Bool, List, [], ◌∷◌, ◌++◌, length, take, slice_index, true, false, cond, eqb, refl, sym, ap, ◌∙◌, arith, inl, inr, add-one, add-zero, append_assoc}
+use Rattle.std.proofs.Common.{◌≡◌, ◌≢◌, ℕ, zero, suc, ◌+◌, ◌-◌, ◌<◌, ◌≤◌, Bool, List, [], ◌∷◌, ◌++◌, length, take, slice_index, true, false, cond, eqb, not, ◌&&◌, refl, sym, ap, ap₂, ◌∙◌, subst, arith, inl, inr, add-one, add-zero, append_assoc}
 use Rattle.std.specs.Prelude.{◌==◌}
-use Rattle.std.proofs.lemmas.Bool.{cases_Bool, or_parts, not-true, not-false, or_cases, eqb-true, eqb-false, cases_lt, cases_eq, and_right}
+use Rattle.std.proofs.lemmas.Bool.{false≢true, cases_Bool, or_parts, not-true, not-false, or_cases, eqb-true, eqb-false, cases_lt, cases_eq, and_right}
 use Rattle.std.proofs.lemmas.List.{take_more, length-append}
 use Rattle.std.proofs.lemmas.List.Folds.{list_any_more}
+use Rattle.std.proofs.lemmas.List.Sums.{sum_by-cons}
+use Rattle.std.specs.List.{count_by, range_with_len}
 use mir.Val.{bool_byte}
 use Rattle.influxdb_line_protocol.specs.Bytes.{is_one_of}
-use Rattle.influxdb_line_protocol.specs.Escapes.{is_escaped_behind, first_bare, without_escapes, Walked}
+use Rattle.influxdb_line_protocol.specs.Escapes.{is_escaped_behind, is_bare_at, first_bare, without_escapes, Walked}
 use Rattle.influxdb_line_protocol.specs.Forms.{is_plain}
-use Rattle.influxdb_line_protocol.specs.Lanes.{AllPassBetween, IsRunAt, IsRunIn}
+use Rattle.influxdb_line_protocol.specs.Lanes.{AllPassBetween, IsRunAt}
 use Rattle.influxdb_line_protocol.proofs.EscapeLemmas.{first_bare_is, is_escaped_more}
 use Rattle.influxdb_line_protocol.proofs.NameLemmas.{without_escapes_plain_byte}
 use Rattle.influxdb_line_protocol.proofs.SplitBare.{is_escaped-nil, is_escaped-append, is_escaped-behind_other, flag_after}
@@ -46,6 +48,31 @@ without_escapes_append known (b ∷ c ∷ rest) back bare =
           let inner : is_escaped_behind (c ∷ rest) ≡ false = sym (is_escaped-behind_other [] (c ∷ rest) b e) ∙ bare in
           rw (e, without_escapes_append known (c ∷ rest) back inner) refl
     ]
+
+module _ (known text : List ℕ) where
+  -- a known escape begins at a place
+  abbrev pub is_escape_at : ℕ → Bool
+  is_escape_at k = is_bare_at (λ b. b == 92) text k && is_one_of known (slice_index text (k + 1))
+
+  -- how many of so many places from one on begin one
+  abbrev pub escapes_from : ℕ → ℕ → ℕ
+  escapes_from at n = count_by is_escape_at (range_with_len at n)
+
+  escapes_first : (at n : ℕ) → escapes_from at (suc n) ≡ cond (is_escape_at at) 1 0 + escapes_from (at + 1) n
+  escapes_first at n = sum_by-cons (λ k. cond (is_escape_at k) 1 0) at (range_with_len (at + 1) n)
+
+  pub escapes_more : (n at : ℕ) → escapes_from at (suc n) ≡ escapes_from at n + cond (is_escape_at (at + n)) 1 0
+  escapes_more zero at =
+      let place : at + 0 ≡ at = omega arith in
+      omega (arith, escapes_first at 0, ap (λ (k : ℕ). cond {A = ℕ} (is_escape_at k) 1 0) place)
+  escapes_more (suc n) at =
+      let place : at + 1 + n ≡ at + suc n = omega arith in
+      omega (arith, escapes_first at (suc n), escapes_first at n, escapes_more n (at + 1), ap (λ (k : ℕ). cond {A = ℕ} (is_escape_at k) 1 0) place)
+
+-- a bare byte that is no bare stop is no stop
+bare_fails : (t e : Bool) → e ≡ false → (t && not e) ≡ false → t ≡ false
+bare_fails false e bare h = refl
+bare_fails true e bare h = absurd (false≢true (sym h ∙ ap not bare))
 
 module _ (known : List ℕ) (stops : ℕ → Bool) (text : List ℕ) where
   pub walk_start : Walked known stops text 0 0
@@ -88,15 +115,6 @@ module _ (known : List ℕ) (stops : ℕ → Bool) (text : List ℕ) where
       let e : at + (end - at) ≡ end = omega (arith, run.ordered) in
       rw e at (walk_bytes (end - at) at found w (omega (arith, run.within, run.ordered)) (rw (← e) at run.passes))
 
-  -- up to the next byte of a load that is not plain, or to the end of the load
-  pub walk_load : (at n k r next found : ℕ) → Walked known stops text (at + k) found → at + n ≤ length text → IsRunIn (is_plain stops) text (at + k) (n - k) r → next ≡ k + r
-      → Walked known stops text (at + next) found × (next < n → is_plain stops (slice_index text (at + next)) ≡ false)
-  walk_load at n k r next found w room run is =
-      let place : at + k + r ≡ at + next = omega arith in (
-        rw (← place) (walk_bytes r (at + k) found w (omega (arith, run.0, w.within)) run.1),
-        λ short. rw (← place) (run.2 (omega arith)),
-      )
-
   -- over a backslash and the byte that it escapes, where it is no stop
   pub walk_escape : (at found : ℕ) (t : Bool) → Walked known stops text at found → at + 1 < length text → slice_index text at ≡ 92 → stops 92 ≡ false
       → is_one_of known (slice_index text (at + 1)) ≡ t → Walked known stops text (at + 2) (found + cond t 1 0)
@@ -125,6 +143,62 @@ module _ (known : List ℕ) (stops : ℕ → Bool) (text : List ℕ) where
           | inr k ↦ rw (front, joined, is, k, length-append (without_escapes known (take at text)) _) (omega (arith, w.counted))
         ];
       }
+
+  -- over a byte that is neither a backslash nor a stop
+  to_by_byte : (n at found : ℕ) → Walked known stops text at found → at < length text → (slice_index text at == 92) ≡ false → is_bare_at stops text at ≡ false
+      → (Walked known stops text (at + 1) found → Walked known stops text (at + 1 + n) (found + escapes_from known text (at + 1) n))
+      → Walked known stops text (at + suc n) (found + escapes_from known text at (suc n))
+  to_by_byte n at found w within other not_stop rest =
+      let stays : stops (slice_index text at) ≡ false = bare_fails (stops (slice_index text at)) (is_escaped_behind (take at text)) w.bare not_stop in
+      let one = walk_byte at found w within (rw (stays, other) refl) in
+      let none : cond {A = ℕ} (is_escape_at known text at) 1 0 ≡ 0 = ap (λ (t : Bool). cond {A = ℕ} ((t && not (is_escaped_behind (take at text))) && is_one_of known (slice_index text (at + 1))) 1 0) other in
+      let place : at + 1 + n ≡ at + suc n = omega arith in
+      let count : found + escapes_from known text (at + 1) n ≡ found + escapes_from known text at (suc n) = omega (arith, escapes_first known text at n, none) in
+      subst (λ (k : ℕ). Walked known stops text k (found + escapes_from known text at (suc n))) place
+      (subst (λ (k : ℕ). Walked known stops text (at + 1 + n) k) count (rest one))
+
+  -- over a backslash and the byte that it escapes
+  to_by_escape : (n at found : ℕ) → stops 92 ≡ false → Walked known stops text at found → at + 1 < length text → (slice_index text at == 92) ≡ true
+      → ((more : ℕ) → Walked known stops text (at + 2) more → Walked known stops text (at + 2 + n) (more + escapes_from known text (at + 2) n))
+      → Walked known stops text (at + suc (suc n)) (found + escapes_from known text at (suc (suc n)))
+  to_by_escape n at found kept w within is rest =
+      let t = is_one_of known (slice_index text (at + 1)) in
+      let here : slice_index text at ≡ 92 = eqb-true (slice_index text at) 92 is in
+      let two = walk_escape at found t w within here kept refl in
+      let first : cond {A = ℕ} (is_escape_at known text at) 1 0 ≡ cond t 1 0 = ap₂ (λ (a e : Bool). cond {A = ℕ} ((a && not e) && t) 1 0) is w.bare in
+      let flag : is_escaped_behind (take (at + 1) text) ≡ true = rw (is_escaped_more text at (omega arith), w.bare, here) refl in
+      let second : cond {A = ℕ} (is_escape_at known text (at + 1)) 1 0 ≡ 0 =
+      ap (λ (e : Bool). cond {A = ℕ} (((slice_index text (at + 1) == 92) && not e) && is_one_of known (slice_index text (at + 1 + 1))) 1 0) flag
+      ∙ ap (λ (a : Bool). cond {A = ℕ} (a && is_one_of known (slice_index text (at + 1 + 1))) 1 0) (and_right (slice_index text (at + 1) == 92) false refl) in
+      let next : at + 1 + 1 ≡ at + 2 = omega arith in
+      let behind : escapes_from known text (at + 1 + 1) n ≡ escapes_from known text (at + 2) n = ap (λ (k : ℕ). escapes_from known text k n) next in
+      let place : at + 2 + n ≡ at + suc (suc n) = omega arith in
+      let count : found + cond t 1 0 + escapes_from known text (at + 2) n ≡ found + escapes_from known text at (suc (suc n)) =
+      omega (arith, escapes_first known text at (suc n), escapes_first known text (at + 1) n, first, second, behind) in
+      subst (λ (k : ℕ). Walked known stops text k (found + escapes_from known text at (suc (suc n)))) place
+      (subst (λ (k : ℕ). Walked known stops text (at + 2 + n) k) count (rest (found + cond t 1 0) two))
+
+  -- up to a bare place, with no bare stop on the way
+  pub walk_to : (n at found : ℕ) → stops 92 ≡ false → Walked known stops text at found → at + n ≤ length text → is_escaped_behind (take (at + n) text) ≡ false
+      → ((k : ℕ) → at ≤ k → k < at + n → is_bare_at stops text k ≡ false)
+      → Walked known stops text (at + n) (found + escapes_from known text at n)
+  walk_to zero at found kept w room bare none = rw (add-zero at, add-zero found) w
+  walk_to (suc zero) at found kept w room bare none =
+      elim (cases_Bool (slice_index text at == 92)) [
+        | inl is ↦ absurd (false≢true (sym bare ∙ rw (is_escaped_more text at (omega arith), w.bare, is) refl))
+        | inr other ↦ to_by_byte zero at found w (omega arith) other (none at (omega arith) (omega arith)) (λ one. rw (add-zero (at + 1), add-zero found) one)
+      ]
+  walk_to (suc (suc n)) at found kept w room bare none =
+      let one_on : at + 1 + suc n ≡ at + suc (suc n) = omega arith in
+      let two_on : at + 2 + n ≡ at + suc (suc n) = omega arith in
+      elim (cases_Bool (slice_index text at == 92)) [
+        | inl is ↦
+            to_by_escape n at found kept w (omega arith) is
+            (λ more walked. walk_to n (at + 2) more kept walked (omega arith) (ap (λ (k : ℕ). is_escaped_behind (take k text)) two_on ∙ bare) (λ k from to. none k (omega arith) (omega arith)))
+        | inr other ↦
+            to_by_byte (suc n) at found w (omega arith) other (none at (omega arith) (omega arith))
+            (λ walked. walk_to (suc n) (at + 1) found kept walked (omega arith) (ap (λ (k : ℕ). is_escaped_behind (take k text)) one_on ∙ bare) (λ k from to. none k (omega arith) (omega arith)))
+      ]
 
   -- the same, where the answer is added as a number
   pub walk_counted : (at found n : ℕ) (t : Bool) → Walked known stops text at found → at + 1 < length text → slice_index text at ≡ 92 → stops 92 ≡ false

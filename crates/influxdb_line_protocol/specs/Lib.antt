@@ -3,6 +3,7 @@ pub mod Escapes
 pub mod Readings
 pub mod Names
 pub mod Lanes
+pub mod Scan
 pub mod Values
 pub mod Forms
 pub mod Trimming

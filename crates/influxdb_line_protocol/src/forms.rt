@@ -11,9 +11,10 @@ ghost use Rattle.influxdb_line_protocol.specs.Texts.{read_of};
 
 use crate::escaped::EscapedStr;
 use crate::lanes::{
-    HALF_LANES, LANES, MASKED, WIDE_LANES, backslash_run, backslashes, backslashes_of, first_set,
-    next_set, plain_run, wide_end_mask,
+    HALF_LANES, LANES, MASKED, backslash_run, backslashes, backslashes_of, first_set, known_in,
+    plain_run, stops_in,
 };
+use crate::scan::{WIDE, bare, escapes_next, ones_below, places_of};
 use std::alloc::{AllocError, Global};
 
 /// What is spelled: a name of one of three forms, or the text between quotes.
@@ -105,24 +106,25 @@ fn plain_end(form: Form, bytes: &[u8], at: usize) -> usize
     plain_tail(form, bytes, end)
 }
 
-// Goes on from escape to escape over the 32 bytes from `at` on, up to a byte behind them or to one that ends the
-// spelling: how far, and how many of the escapes before it are known.
+// Goes over the 64 bytes from `at` on, up to one that ends the spelling or to the next bare place after them: how far,
+// and how many of the escapes before it are known.
 #[inline(always)]
 fn escapes_in_load(form: Form, bytes: &[u8], at: usize, found: usize) -> (usize, usize)
     requires walked { Walked (known_of form) (stops_of form) bytes.now at found }
-    requires room { at + WIDE_LANES < length bytes.now }
+    requires room { at + WIDE < length bytes.now }
     ensures walked { Walked (known_of form) (stops_of form) bytes.now result.0 result.1 }
-    ensures stops { result.0 < at + WIDE_LANES → stops_of form (slice_index bytes.now result.0) ≡ true }
+    ensures stops { result.0 < at + WIDE → stops_of form (slice_index bytes.now result.0) ≡ true }
     ensures further { at ≤ result.0 }
 {
-    let mask = wide_end_mask(form, bytes, at);
-    let mut place = next_set(mask, 0);
-    let mut known = found;
-    while place < WIDE_LANES && bytes[at + place] == b'\\' {
-        known += usize::from(form.is_known(bytes[at + place + 1]));
-        place = next_set(mask, place + 2);
+    let backslashes = places_of(b'\\', bytes, at);
+    let run = first_set(bare(stops_in(form, bytes, at), backslashes), WIDE);
+    // The bare backslashes of which the next byte is known.
+    let known = bare(backslashes, backslashes) & known_in(form, bytes, at + 1);
+    let found = found + ones_below(known, run);
+    if run < WIDE {
+        return (at + run, found);
     }
-    (at + place, known)
+    (at + (WIDE + escapes_next(backslashes)), found)
 }
 
 // Goes on from escape to escape to the end of the spelling, with no regard to how many bytes are left: how far, and how
@@ -151,9 +153,8 @@ fn escapes_to_end(form: Form, bytes: &[u8], at: usize, found: usize) -> (usize, 
 
 // How many bytes of `text` are spelled, where the first backslash stands at `at`, and how many they are without their
 // escapes.
-#[cold]
-#[inline(never)]
-fn escaped_end(form: Form, text: &str, at: usize) -> (usize, usize)
+#[inline(always)]
+fn escaped_end_of(form: Form, text: &str, at: usize) -> (usize, usize)
     requires run { IsRunAt (is_plain (stops_of form)) text.now 0 at }
     requires within { at < length text.now }
     requires here { slice_index text.now at ≡ backslash }
@@ -165,9 +166,9 @@ fn escaped_end(form: Form, text: &str, at: usize) -> (usize, usize)
     let bytes = text.as_bytes();
     let mut end = at;
     let mut known = 0;
-    while bytes.len() - end > WIDE_LANES {
+    while bytes.len() - end > WIDE {
         let (next, found) = escapes_in_load(form, bytes, end, known);
-        if next < end + WIDE_LANES {
+        if next < end + WIDE {
             return (next, next - found);
         }
         end = next;
@@ -175,6 +176,26 @@ fn escaped_end(form: Form, text: &str, at: usize) -> (usize, usize)
     }
     let (end, known) = escapes_to_end(form, bytes, end, known);
     (end, end - known)
+}
+
+// The same, with a loop for each form, which then compares with bytes that are known.
+#[cold]
+#[inline(never)]
+fn escaped_end(form: Form, text: &str, at: usize) -> (usize, usize)
+    requires run { IsRunAt (is_plain (stops_of form)) text.now 0 at }
+    requires within { at < length text.now }
+    requires here { slice_index text.now at ≡ backslash }
+    ensures value { result.0 ≡ first_bare (stops_of form) text.now }
+    ensures boundary { IsCharBoundary text.now result.0 }
+    ensures escaped { is_one_of (take result.0 text.now) backslash ≡ true }
+    ensures len { result.1 ≡ length (without_escapes (known_of form) (take result.0 text.now)) }
+{
+    match form {
+        Form::Measurement => escaped_end_of(Form::Measurement, text, at),
+        Form::Key => escaped_end_of(Form::Key, text, at),
+        Form::TagValue => escaped_end_of(Form::TagValue, text, at),
+        Form::Quoted => escaped_end_of(Form::Quoted, text, at),
+    }
 }
 
 // How many bytes of `text` are spelled, whether none is a backslash, and how many they are without their escapes.

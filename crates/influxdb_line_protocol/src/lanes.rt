@@ -1,14 +1,14 @@
 //! How many bytes of one load, from the first, go on a spelling, or hold no backslash.
-ghost use Rattle.std.specs.Prelude.{◌≡◌, ◌+◌, ◌-◌, ◌/◌, ◌^◌, ◌<◌, ◌≤◌, bit_and, false, length, map, slice_index};
-ghost use Rattle.influxdb_line_protocol.specs.Forms.{is_end, is_plain, stops_of};
+ghost use Rattle.std.specs.Prelude.{◌≡◌, ◌+◌, ◌<◌, ◌≤◌, bit_and, false, length, map, slice_index};
+ghost use Rattle.influxdb_line_protocol.specs.Bytes.{is_one_of};
+ghost use Rattle.influxdb_line_protocol.specs.Forms.{is_end, is_plain, known_of, stops_of};
 ghost use Rattle.influxdb_line_protocol.specs.Lanes.{IsRunIn, first_set, mask_of};
 
 use crate::forms::Form;
+use crate::scan::WIDE;
 use std::simd::prelude::*;
 
 pub(crate) const LANES: usize = 16;
-
-pub(crate) const WIDE_LANES: usize = 32;
 
 pub(crate) const HALF_LANES: usize = 8;
 
@@ -24,20 +24,6 @@ pub(crate) fn first_set(mask: u64, lanes: usize) -> usize
         lanes
     } else {
         mask.trailing_zeros() as usize
-    }
-}
-
-/// The place of the lowest bit from `from` on that is set in a mask of 32 lanes, or where they end.
-#[inline(always)]
-pub(crate) fn next_set(mask: u64, from: usize) -> usize
-    requires { from < 64 }
-    ensures { result ≡ from + first_set (mask / 2 ^ from) (WIDE_LANES - from) }
-{
-    let rest = mask >> from;
-    if rest == 0 {
-        from.max(WIDE_LANES)
-    } else {
-        from + rest.trailing_zeros() as usize
     }
 }
 
@@ -84,14 +70,43 @@ pub(crate) fn end_mask(form: Form, bytes: &[u8], at: usize) -> u64
     }
 }
 
-/// The same of the 32 bytes from `at` on.
+/// The mask of those of the 64 bytes from `at` on that end a spelling of this form where they are bare.
 #[inline(always)]
-pub(crate) fn wide_end_mask(form: Form, bytes: &[u8], at: usize) -> u64
-    requires { at + WIDE_LANES ≤ length bytes.now }
-    ensures { result ≡ mask_of (is_end (stops_of form)) bytes.now at WIDE_LANES }
+pub(crate) fn stops_in(form: Form, bytes: &[u8], at: usize) -> u64
+    requires { at + WIDE ≤ length bytes.now }
+    ensures { result ≡ mask_of (stops_of form) bytes.now at WIDE }
 {
-    let mask = end_mask(form, bytes, at);
-    mask + (end_mask(form, bytes, at + LANES) << LANES)
+    let v = u8x64::from_slice(&bytes[at..]);
+    let blanks = v.simd_eq(u8x64::splat(b' ')) | v.simd_eq(u8x64::splat(b'\t'));
+    let stops = blanks | v.simd_eq(u8x64::splat(b'\n'));
+    match form {
+        Form::Measurement => {
+            let own = v.simd_eq(u8x64::splat(b',')) | v.simd_eq(u8x64::splat(0));
+            (stops | own).to_bitmask()
+        }
+        Form::Key => (stops | v.simd_eq(u8x64::splat(b'='))).to_bitmask(),
+        Form::TagValue => (stops | v.simd_eq(u8x64::splat(b','))).to_bitmask(),
+        Form::Quoted => v.simd_eq(u8x64::splat(b'"')).to_bitmask(),
+    }
+}
+
+/// The mask of those of the 64 bytes from `at` on that a backslash escapes in it.
+#[inline(always)]
+pub(crate) fn known_in(form: Form, bytes: &[u8], at: usize) -> u64
+    requires { at + WIDE ≤ length bytes.now }
+    ensures { result ≡ mask_of (λ b. is_one_of (known_of form) b) bytes.now at WIDE }
+{
+    let v = u8x64::from_slice(&bytes[at..]);
+    let backslashes = v.simd_eq(u8x64::splat(b'\\'));
+    let name = v.simd_eq(u8x64::splat(b',')) | v.simd_eq(u8x64::splat(b' '));
+    match form {
+        Form::Measurement => (name | backslashes).to_bitmask(),
+        Form::Key | Form::TagValue => {
+            let own = v.simd_eq(u8x64::splat(b'=')) | backslashes;
+            (name | own).to_bitmask()
+        }
+        Form::Quoted => (v.simd_eq(u8x64::splat(b'"')) | backslashes).to_bitmask(),
+    }
 }
 
 /// How many of the 16 bytes from `at` on stand before the first that ends a spelling of this form or is a backslash.

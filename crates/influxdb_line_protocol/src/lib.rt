@@ -15,6 +15,7 @@ pub mod laws;
 mod line;
 mod literals;
 mod names;
+mod scan;
 mod series;
 mod split;
 mod tags;

@@ -13,12 +13,10 @@ ghost use Rattle.influxdb_line_protocol.specs.Pieces.{begins_comment, IsFirstCut
 ghost use Rattle.influxdb_line_protocol.specs.declared.split.Dialect.{Dialect};
 
 use crate::lanes::first_set;
+use crate::scan::{WIDE, bare, escapes_next, ones_below, places_of};
 use memchr::{memchr, memchr2, memchr3};
 use std::marker::Model;
 use std::simd::prelude::*;
-
-// How many bytes are looked at together.
-const WIDE: usize = 64;
 
 // How many bytes are looked at by wide loads, where they show nothing, before `memchr` searches on.
 const NEAR: usize = 320;
@@ -42,43 +40,32 @@ struct Stops {
     second: u8,
 }
 
-// The mask of those of the 64 bytes from `at` on that end a stretch or are backslashes.
+// The mask of those of the 64 bytes from `at` on that end a stretch.
 #[inline(always)]
-fn marks_in(stops: Stops, text: &[u8], at: usize) -> u64
+fn stops_in(stops: Stops, text: &[u8], at: usize) -> u64
     requires { at + WIDE ≤ length text.now }
-    ensures { result ≡ mask_of (is_mark stops) text.now at WIDE }
+    ensures { result ≡ mask_of (is_stop stops) text.now at WIDE }
 {
     let v = u8x64::from_slice(&text[at..]);
-    let ends = v.simd_eq(u8x64::splat(stops.first)) | v.simd_eq(u8x64::splat(stops.second));
-    (v.simd_eq(u8x64::splat(b'\\')) | ends).to_bitmask()
+    (v.simd_eq(u8x64::splat(stops.first)) | v.simd_eq(u8x64::splat(stops.second))).to_bitmask()
 }
 
 // How many of the 64 bytes from `at` on stand before the first bare one that ends a stretch; where
-// there is none 64, or 65 if the last one is a bare backslash. Their mask is `marks`.
+// there is none 64, or 65 if the last one is a bare backslash. The backslashes among them are given.
 #[inline(always)]
-fn stop_in(stops: Stops, text: &[u8], at: usize, marks: u64) -> usize
-    requires escapes { is_stop stops backslash ≡ false }
+fn stop_in(stops: Stops, text: &[u8], at: usize, backslashes: u64) -> usize
     requires room { at + WIDE < length text.now }
     requires passed { IsPassed (is_stop stops) text.now at }
-    requires marked { marks ≡ mask_of (is_mark stops) text.now at WIDE }
+    requires given { backslashes ≡ mask_of (λ b. b == backslash) text.now at WIDE }
     ensures within { result ≤ WIDE + 1 }
     ensures passed { IsPassed (is_stop stops) text.now (at + result) }
     ensures stops { result < WIDE → is_stop stops (slice_index text.now (at + result)) ≡ true }
 {
-    let mut run = 0;
-    while run < WIDE {
-        let left = marks >> run;
-        if left == 0 {
-            return WIDE;
-        }
-        run += left.trailing_zeros() as usize;
-        if text[at + run] != b'\\' {
-            return run;
-        }
-        // The byte behind a backslash is escaped.
-        run += 2;
+    let run = first_set(bare(stops_in(stops, text, at), backslashes), WIDE);
+    if run < WIDE {
+        return run;
     }
-    run
+    WIDE + escapes_next(backslashes)
 }
 
 // The place of the first byte that ends a stretch or is a backslash: `memchr3` looks for these three
@@ -105,18 +92,13 @@ fn far_len(stops: Stops, text: &[u8], from: usize) -> usize
     let (mut at, mut quiet) = (from, 0);
     loop {
         if quiet < NEAR && text.len() - at > WIDE {
-            let marks = marks_in(stops, text, at);
-            if marks == 0 {
-                at += WIDE;
-                quiet += WIDE;
-                continue;
-            }
-            let run = stop_in(stops, text, at, marks);
+            let backslashes = places_of(b'\\', text, at);
+            let run = stop_in(stops, text, at, backslashes);
             at += run;
             if run < WIDE {
                 return at;
             }
-            quiet = 0;
+            quiet = if backslashes == 0 { quiet + WIDE } else { 0 };
             continue;
         }
         let Some(found) = next_mark(stops, &text[at..]) else {
@@ -142,7 +124,7 @@ fn stretch_len(stops: Stops, text: &[u8]) -> usize
 {
     let mut at = 0;
     while at < NEAR && text.len() - at > WIDE {
-        let run = stop_in(stops, text, at, marks_in(stops, text, at));
+        let run = stop_in(stops, text, at, places_of(b'\\', text, at));
         at += run;
         if run < WIDE {
             return at;
@@ -205,28 +187,15 @@ fn count_in(text: &[u8], end: usize, counts: Counts) -> Counts
     ensures counted { IsCounted text.now end result }
     ensures further { counts.at < result.at }
 {
-    let counted = Stops {
-        first: b'=',
-        second: b',',
-    };
-    let marks = marks_in(counted, text, counts.at);
+    let backslashes = places_of(b'\\', text, counts.at);
+    let equals = bare(places_of(b'=', text, counts.at), backslashes);
+    let commas = bare(places_of(b',', text, counts.at), backslashes);
     let room = WIDE.min(end - counts.at);
-    let (mut equals, mut commas) = (counts.equals, counts.commas);
-    let mut run = 0;
-    while run < room {
-        let next = run + first_set(marks >> run, WIDE - run);
-        if next >= room {
-            let at = counts.at + room;
-            return Counts { equals, commas, at };
-        }
-        let byte = text[counts.at + next];
-        equals += usize::from(byte == b'=');
-        commas += usize::from(byte == b',');
-        // The byte behind a backslash is escaped.
-        run = next + 1 + usize::from(byte == b'\\');
+    Counts {
+        equals: counts.equals + ones_below(equals, room),
+        commas: counts.commas + ones_below(commas, room),
+        at: (counts.at + (room + escapes_next(backslashes))).min(end),
     }
-    let at = (counts.at + run).min(end);
-    Counts { equals, commas, at }
 }
 
 // Counts on up to `end`, byte by byte.
@@ -239,17 +208,12 @@ fn count_last(text: &[u8], end: usize, counts: Counts) -> (usize, usize)
     ensures few { (result.0 ≤ end) × (result.1 ≤ end) }
 {
     let (mut equals, mut commas) = (counts.equals, counts.commas);
-    let mut at = counts.at;
-    while at < end {
-        match text[at] {
-            // The byte behind a backslash is escaped.
-            b'\\' => at = (at + 2).min(end),
-            byte => {
-                equals += usize::from(byte == b'=');
-                commas += usize::from(byte == b',');
-                at += 1;
-            }
-        }
+    let mut escaped = false;
+    for at in counts.at..end {
+        let byte = text[at];
+        equals += usize::from(!escaped & (byte == b'='));
+        commas += usize::from(!escaped & (byte == b','));
+        escaped = !escaped & (byte == b'\\');
     }
     (equals, commas)
 }

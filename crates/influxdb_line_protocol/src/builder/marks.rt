@@ -25,17 +25,50 @@ pub(crate) fn is_mark(marks: Marks, byte: u8) -> bool
     (byte == marks.first) | (byte == marks.second) | (byte == marks.third) | (byte == marks.fourth)
 }
 
+// The mask of the marks among the 16 bytes from `at` on.
+#[inline(always)]
+fn mask_of_16(marks: Marks, text: &[u8], at: usize) -> u64
+    requires { at + 16 ≤ length text.now }
+    ensures { result ≡ mask_of (is_one_of (listed marks)) text.now at 16 }
+{
+    let bytes = u8x16::from_slice(&text[at..]);
+    let found = (bytes.simd_eq(u8x16::splat(marks.first))
+        | bytes.simd_eq(u8x16::splat(marks.second)))
+        | (bytes.simd_eq(u8x16::splat(marks.third)) | bytes.simd_eq(u8x16::splat(marks.fourth)));
+    found.to_bitmask()
+}
+
+// The same of 8 bytes.
+#[inline(always)]
+fn mask_of_8(marks: Marks, text: &[u8], at: usize) -> u64
+    requires { at + 8 ≤ length text.now }
+    ensures { result ≡ mask_of (is_one_of (listed marks)) text.now at 8 }
+{
+    let bytes = u8x8::from_slice(&text[at..]);
+    let found = (bytes.simd_eq(u8x8::splat(marks.first)) | bytes.simd_eq(u8x8::splat(marks.second)))
+        | (bytes.simd_eq(u8x8::splat(marks.third)) | bytes.simd_eq(u8x8::splat(marks.fourth)));
+    found.to_bitmask()
+}
+
+// The same of 4 bytes.
+#[inline(always)]
+fn mask_of_4(marks: Marks, text: &[u8], at: usize) -> u64
+    requires { at + 4 ≤ length text.now }
+    ensures { result ≡ mask_of (is_one_of (listed marks)) text.now at 4 }
+{
+    let bytes = u8x4::from_slice(&text[at..]);
+    let found = (bytes.simd_eq(u8x4::splat(marks.first)) | bytes.simd_eq(u8x4::splat(marks.second)))
+        | (bytes.simd_eq(u8x4::splat(marks.third)) | bytes.simd_eq(u8x4::splat(marks.fourth)));
+    found.to_bitmask()
+}
+
 // How many of the 16 bytes from `at` on stand before the first mark.
 #[inline(always)]
 fn run_of_16(marks: Marks, text: &[u8], at: usize) -> usize
     requires { at + 16 ≤ length text.now }
     ensures { StandBefore (is_one_of (listed marks)) text.now at 16 result }
 {
-    let bytes = u8x16::from_slice(&text[at..]);
-    let found = (bytes.simd_eq(u8x16::splat(marks.first))
-        | bytes.simd_eq(u8x16::splat(marks.second)))
-        | (bytes.simd_eq(u8x16::splat(marks.third)) | bytes.simd_eq(u8x16::splat(marks.fourth)));
-    first_set(found.to_bitmask(), 16)
+    first_set(mask_of_16(marks, text, at), 16)
 }
 
 // How many of the 8 bytes from `at` on stand before the first mark.
@@ -44,10 +77,7 @@ fn run_of_8(marks: Marks, text: &[u8], at: usize) -> usize
     requires { at + 8 ≤ length text.now }
     ensures { StandBefore (is_one_of (listed marks)) text.now at 8 result }
 {
-    let bytes = u8x8::from_slice(&text[at..]);
-    let found = (bytes.simd_eq(u8x8::splat(marks.first)) | bytes.simd_eq(u8x8::splat(marks.second)))
-        | (bytes.simd_eq(u8x8::splat(marks.third)) | bytes.simd_eq(u8x8::splat(marks.fourth)));
-    first_set(found.to_bitmask(), 8)
+    first_set(mask_of_8(marks, text, at), 8)
 }
 
 // How many of the 4 bytes from `at` on stand before the first mark.
@@ -56,45 +86,7 @@ fn run_of_4(marks: Marks, text: &[u8], at: usize) -> usize
     requires { at + 4 ≤ length text.now }
     ensures { StandBefore (is_one_of (listed marks)) text.now at 4 result }
 {
-    let bytes = u8x4::from_slice(&text[at..]);
-    let found = (bytes.simd_eq(u8x4::splat(marks.first)) | bytes.simd_eq(u8x4::splat(marks.second)))
-        | (bytes.simd_eq(u8x4::splat(marks.third)) | bytes.simd_eq(u8x4::splat(marks.fourth)));
-    first_set(found.to_bitmask(), 4)
-}
-
-// Whether a text of less than 16 bytes holds no mark. Two loads that overlap cover it.
-#[inline(always)]
-fn is_short_free_of(marks: Marks, text: &[u8]) -> bool
-    requires { length text.now < 16 }
-    ensures { result ≡ list_all (λ b. not (is_one_of (listed marks) b)) text.now }
-{
-    let len = text.len();
-    if len >= 8 {
-        return run_of_8(marks, text, 0) == 8 && run_of_8(marks, text, len - 8) == 8;
-    }
-    if len >= 4 {
-        return run_of_4(marks, text, 0) == 4 && run_of_4(marks, text, len - 4) == 4;
-    }
-    text.iter().all(|byte| !is_mark(marks, *byte))
-}
-
-// Whether the text holds no mark. The last load may overlap the one before it.
-#[inline(always)]
-pub(crate) fn is_free_of(marks: Marks, text: &[u8]) -> bool
-    ensures { result ≡ list_all (λ b. not (is_one_of (listed marks) b)) text.now }
-{
-    let len = text.len();
-    if len < 16 {
-        return is_short_free_of(marks, text);
-    }
-    let mut at = 0;
-    while len - at > 16 {
-        if run_of_16(marks, text, at) < 16 {
-            return false;
-        }
-        at += 16;
-    }
-    run_of_16(marks, text, len - 16) == 16
+    first_set(mask_of_4(marks, text, at), 4)
 }
 
 // How many bytes of the text stand before the first mark, one by one.
@@ -155,41 +147,12 @@ pub(crate) fn before_first(marks: Marks, text: &[u8]) -> usize
     len - 16 + run_of_16(marks, text, len - 16)
 }
 
-// The mask of the marks among the 16 bytes from `at` on.
+// Whether the text holds no mark.
 #[inline(always)]
-fn mask_of_16(marks: Marks, text: &[u8], at: usize) -> u64
-    requires { at + 16 ≤ length text.now }
-    ensures { result ≡ mask_of (is_one_of (listed marks)) text.now at 16 }
+pub(crate) fn is_free_of(marks: Marks, text: &[u8]) -> bool
+    ensures { result ≡ list_all (λ b. not (is_one_of (listed marks) b)) text.now }
 {
-    let bytes = u8x16::from_slice(&text[at..]);
-    let found = (bytes.simd_eq(u8x16::splat(marks.first))
-        | bytes.simd_eq(u8x16::splat(marks.second)))
-        | (bytes.simd_eq(u8x16::splat(marks.third)) | bytes.simd_eq(u8x16::splat(marks.fourth)));
-    found.to_bitmask()
-}
-
-// The same of 8 bytes.
-#[inline(always)]
-fn mask_of_8(marks: Marks, text: &[u8], at: usize) -> u64
-    requires { at + 8 ≤ length text.now }
-    ensures { result ≡ mask_of (is_one_of (listed marks)) text.now at 8 }
-{
-    let bytes = u8x8::from_slice(&text[at..]);
-    let found = (bytes.simd_eq(u8x8::splat(marks.first)) | bytes.simd_eq(u8x8::splat(marks.second)))
-        | (bytes.simd_eq(u8x8::splat(marks.third)) | bytes.simd_eq(u8x8::splat(marks.fourth)));
-    found.to_bitmask()
-}
-
-// The same of 4 bytes.
-#[inline(always)]
-fn mask_of_4(marks: Marks, text: &[u8], at: usize) -> u64
-    requires { at + 4 ≤ length text.now }
-    ensures { result ≡ mask_of (is_one_of (listed marks)) text.now at 4 }
-{
-    let bytes = u8x4::from_slice(&text[at..]);
-    let found = (bytes.simd_eq(u8x4::splat(marks.first)) | bytes.simd_eq(u8x4::splat(marks.second)))
-        | (bytes.simd_eq(u8x4::splat(marks.third)) | bytes.simd_eq(u8x4::splat(marks.fourth)));
-    found.to_bitmask()
+    before_first(marks, text) == text.len()
 }
 
 // How many bytes of the text are marks, one by one.

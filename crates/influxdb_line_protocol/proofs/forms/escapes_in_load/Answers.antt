@@ -1,38 +1,35 @@
-use Rattle.std.proofs.Common.{◌≡◌, ◌+◌, sym, ap, ◌∙◌, arith, ◌/◌, ◌^◌, ◌-◌, refl}
-use Rattle.influxdb_line_protocol.specs.Escapes.{Walked}
-use Rattle.influxdb_line_protocol.specs.Forms.{is_end, stops_of, known_of}
+use Rattle.std.proofs.Common.{◌==◌, ℕ, ◌%◌, ◌^◌, ◌∙◌, ap, count_ones, arith}
+use Rattle.influxdb_line_protocol.specs.Forms.{known_of, stops_of}
 use Rattle.influxdb_line_protocol.specs.Lanes.{first_set}
 use Rattle.influxdb_line_protocol.proofs.FormLemmas.{backslash_goes_on}
-use Rattle.influxdb_line_protocol.proofs.MaskLemmas.{next_is}
-use Rattle.influxdb_line_protocol.proofs.WalkLemmas.{walk_load, walk_counted}
+use Rattle.influxdb_line_protocol.proofs.WalkMasks.{escapes_mask, load_stops, load_goes_on}
 use Rattle.influxdb_line_protocol.proofs.forms.escapes_in_load.Goals as goal
 
-pub loop-place-init : goal.loop-place-init
-loop-place-init c =
+pub returns-then-run-lt-WIDE : goal.returns-then-run-lt-WIDE
+returns-then-run-lt-WIDE c =
     let form = c.args.form in
     let bytes = c.args.bytes.now in
     let at = c.args.at in
-    let stops = stops_of form in
-    let known = known_of form in
-    let found = c.next_set-place.ensures ∙ ap (λ m. 0 + first_set (m / 2 ^ 0) 32) c.wide_end_mask-mask.ensures in
-    let run = next_is (is_end stops) bytes at 32 0 _ (omega (arith, c.requires.room)) (omega arith) refl in
-    let zero_on : at ≡ at + 0 = omega arith in
-    let load = walk_load known stops bytes at 32 0 _ c.next_set-place.result c.args.found (rw (← zero_on) c.requires.walked) (omega (arith, c.requires.room)) run found in
-    record { near = omega (arith, found, run.0); walked = load.0; stopped = load.1 }
+    let w = c.requires.walked in
+    let given = c.places_of-backslashes.ensures in
+    let stops = c.bare.ensures (stops_of form) bytes at (omega arith) w.bare given c.stops_in.ensures in
+    let slashes = c.bare-2.ensures (λ b. b == 92) bytes at (omega arith) w.bare given given in
+    let known = c.ones_below.ensures ∙ ap (λ (m : ℕ). count_ones (m % 2 ^ c.first_set-run.result)) (escapes_mask (known_of form) bytes at _ _ c.requires.room slashes c.known_in.ensures) in
+    let load = load_stops (known_of form) (stops_of form) bytes at c.args.found c.requires.room (backslash_goes_on form) w c.first_set-run.result
+    (c.first_set-run.ensures ∙ ap (λ (m : ℕ). first_set m 64) stops) c.ones_below.result known c.if-run-lt-WIDE.true in
+    record { walked = load.0; stops = λ _. load.1; further = omega arith }
 
-pub loop-place-preserved : goal.loop-place-preserved
-loop-place-preserved c =
+pub returns : goal.returns
+returns c =
     let form = c.args.form in
     let bytes = c.args.bytes.now in
     let at = c.args.at in
-    let place = c.loop-place.place in
-    let stops = stops_of form in
-    let known = known_of form in
-    let inv = c.loop-place.invariant in
-    let step = walk_counted known stops bytes (at + place) c.loop-place.known c.from-known.result c.is_known.result inv.walked (omega (arith, c.requires.room)) c.if-bytes-at-eq92.true (backslash_goes_on form) (sym c.is_known.ensures) c.from-known.ensures in
-    let two : at + place + 2 ≡ at + (place + 2) = omega arith in
-    let walked : Walked known stops bytes (at + (place + 2)) (c.loop-place.known + c.from-known.result) = rw (← two) step in
-    let found = c.next_set-place-in-loop-place.ensures ∙ ap (λ m. place + 2 + first_set (m / 2 ^ (place + 2)) (32 - (place + 2))) c.wide_end_mask-mask.ensures in
-    let run = next_is (is_end stops) bytes at 32 (place + 2) _ (omega (arith, c.requires.room)) (omega arith) refl in
-    let load = walk_load known stops bytes at 32 (place + 2) _ c.next_set-place-in-loop-place.result _ walked (omega (arith, c.requires.room)) run found in
-    record { near = omega (arith, found, run.0, c.loop-place-test.true); walked = load.0; stopped = load.1 }
+    let w = c.requires.walked in
+    let given = c.places_of-backslashes.ensures in
+    let stops = c.bare.ensures (stops_of form) bytes at (omega arith) w.bare given c.stops_in.ensures in
+    let slashes = c.bare-2.ensures (λ b. b == 92) bytes at (omega arith) w.bare given given in
+    let known = c.ones_below.ensures ∙ ap (λ (m : ℕ). count_ones (m % 2 ^ c.first_set-run.result)) (escapes_mask (known_of form) bytes at _ _ c.requires.room slashes c.known_in.ensures) in
+    let last = c.escapes_next.ensures bytes at (omega arith) w.bare given in
+    let walked = load_goes_on (known_of form) (stops_of form) bytes at c.args.found c.requires.room (backslash_goes_on form) w c.first_set-run.result
+    (c.first_set-run.ensures ∙ ap (λ (m : ℕ). first_set m 64) stops) c.ones_below.result known c.escapes_next.result c.if-run-lt-WIDE.false last in
+    record { walked = walked; stops = λ short. absurd (omega arith); further = omega arith }

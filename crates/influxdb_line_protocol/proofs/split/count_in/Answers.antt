@@ -1,19 +1,22 @@
 use Rattle.std.proofs.Common.{arith}
-use Rattle.influxdb_line_protocol.proofs.SplitCounts.{adds_one, count_ends, count_mark}
+use Rattle.std.specs.Prelude.{◌==◌}
+use Rattle.influxdb_line_protocol.proofs.SplitCounts.{counted_load}
 use Rattle.influxdb_line_protocol.proofs.split.count_in.Goals as goal
 
-pub returns-then-next-room-clause-counted : goal.returns-then-next-room-clause-counted
-returns-then-next-room-clause-counted c =
-    count_ends c.args.text.now c.args.end c.requires.within c.loop-run.equals c.loop-run.commas c.args.counts.at c.loop-run.run c.min-room.result
-    c.requires.room c.requires.early c.min-room.ensures c.loop-run-test.true c.loop-run.invariant.counted
-    _ c.marks_in-marks.ensures _ c.first_set.ensures c.if-next-room.true
-
-pub loop-run-preserved : goal.loop-run-preserved
-loop-run-preserved c = record {
-  within = omega (arith, adds_one _ _ c.from.ensures);
-  counted =
-      count_mark c.args.text.now c.args.end c.requires.within c.loop-run.equals c.loop-run.commas c.args.counts.at c.loop-run.run c.min-room.result
-      c.requires.room c.requires.early c.min-room.ensures c.loop-run-test.true c.loop-run.invariant.counted
-      _ c.marks_in-marks.ensures _ c.first_set.ensures c.if-next-room.false
-      _ _ _ c.from-equals.ensures c.from-commas.ensures c.from.ensures;
-}
+pub returns : goal.returns
+returns c =
+    let text = c.args.text.now in
+    let counts = c.args.counts in
+    let room = c.requires.room in
+    let bare = c.requires.counted.is_bare c.requires.early in
+    let given = c.places_of-backslashes.ensures in
+    let last = c.escapes_next.ensures text counts.at room bare given in
+    record {
+      counted =
+          rw (c.ones_below.ensures, c.ones_below-2.ensures)
+          (counted_load text c.args.end c.requires.within counts.equals counts.commas counts.at room c.requires.early c.requires.counted
+          c.min-room.result c.escapes_next.result c.min.result c.min-room.ensures last c.min.ensures _ _
+          (c.bare-equals.ensures (λ b. b == 61) text counts.at room bare given c.places_of.ensures)
+          (c.bare-commas.ensures (λ b. b == 44) text counts.at room bare given c.places_of-2.ensures));
+      further = omega (arith, c.min.ensures, c.min-room.ensures);
+    }

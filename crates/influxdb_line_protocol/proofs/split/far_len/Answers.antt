@@ -2,13 +2,7 @@ use Rattle.std.proofs.Common.{arith}
 use Rattle.std.proofs.lemmas.List.{take_rest}
 use Rattle.influxdb_line_protocol.specs.Stops.{is_stop, is_mark}
 use Rattle.influxdb_line_protocol.proofs.SplitJumps.{looks_for_two, passed_to_stop, search_stops, search_goes_on, search_ends}
-use Rattle.influxdb_line_protocol.proofs.SplitMasks.{quiet_load}
 use Rattle.influxdb_line_protocol.proofs.split.far_len.Goals as goal
-
-pub loop-quiet-preserved-then-marks-eq0 : goal.loop-quiet-preserved-then-marks-eq0
-loop-quiet-preserved-then-marks-eq0 c =
-    quiet_load c.args.stops c.args.text.now c.loop-quiet.at c.requires.escapes (omega arith) c.loop-quiet.invariant
-    _ c.marks_in-marks.ensures c.if-marks-eq0.true
 
 pub returns-then-run-lt-WIDE-clause-value : goal.returns-then-run-lt-WIDE-clause-value
 returns-then-run-lt-WIDE-clause-value c =

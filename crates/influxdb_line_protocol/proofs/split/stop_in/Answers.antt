@@ -1,39 +1,29 @@
-use Rattle.std.proofs.Common.{arith}
-use Rattle.influxdb_line_protocol.proofs.SplitMasks.{walk_ends, walk_next}
+use Rattle.std.proofs.Common.{ℕ, ◌∙◌, ap, arith}
+use Rattle.influxdb_line_protocol.specs.Lanes.{first_set}
+use Rattle.influxdb_line_protocol.specs.Stops.{is_stop}
+use Rattle.influxdb_line_protocol.proofs.BareMasks.{at_most_one, to_stop, to_next}
 use Rattle.influxdb_line_protocol.proofs.split.stop_in.Goals as goal
 
-pub returns-then-left-eq0-clause-passed : goal.returns-then-left-eq0-clause-passed
-returns-then-left-eq0-clause-passed c =
-    walk_ends c.args.stops c.args.text.now c.args.at c.loop-run.run c.requires.escapes c.requires.room
-    c.loop-run-test.true c.loop-run.invariant.passed _ c.requires.marked c.if-left-eq0.true
+pub returns-then-run-lt-WIDE : goal.returns-then-run-lt-WIDE
+returns-then-run-lt-WIDE c =
+    let stops = is_stop c.args.stops in
+    let text = c.args.text.now in
+    let p = c.requires.passed in
+    let mask = c.bare.ensures stops text c.args.at (omega arith) (p.is_bare (omega arith)) c.requires.given c.stops_in.ensures in
+    let stop = to_stop stops text c.args.at c.requires.room p c.first_set-run.result (c.first_set-run.ensures ∙ ap (λ (m : ℕ). first_set m 64) mask) c.if-run-lt-WIDE.true in
+    record { within = omega arith; passed = stop.0; stops = λ _. stop.1 }
 
-pub bounds-text-at : goal.bounds-text-at
-bounds-text-at c =
-    let next = walk_next c.args.stops c.args.text.now c.args.at c.loop-run.run c.requires.escapes c.requires.room
-    c.loop-run-test.true c.loop-run.invariant.passed _ c.requires.marked (omega arith) in
-    omega (arith, next.inside)
-
-pub returns-then-text-at-ne92-clause-within : goal.returns-then-text-at-ne92-clause-within
-returns-then-text-at-ne92-clause-within c =
-    let next = walk_next c.args.stops c.args.text.now c.args.at c.loop-run.run c.requires.escapes c.requires.room
-    c.loop-run-test.true c.loop-run.invariant.passed _ c.requires.marked (omega arith) in
-    omega (arith, next.inside)
-
-pub returns-then-text-at-ne92-clause-passed : goal.returns-then-text-at-ne92-clause-passed
-returns-then-text-at-ne92-clause-passed c =
-    (walk_next c.args.stops c.args.text.now c.args.at c.loop-run.run c.requires.escapes c.requires.room
-    c.loop-run-test.true c.loop-run.invariant.passed _ c.requires.marked (omega arith)).passed
-
-pub returns-then-text-at-ne92-clause-stops : goal.returns-then-text-at-ne92-clause-stops
-returns-then-text-at-ne92-clause-stops c short =
-    (walk_next c.args.stops c.args.text.now c.args.at c.loop-run.run c.requires.escapes c.requires.room
-    c.loop-run-test.true c.loop-run.invariant.passed _ c.requires.marked (omega arith)).stops c.if-text-at-ne92.true
-
-pub loop-run-preserved : goal.loop-run-preserved
-loop-run-preserved c =
-    let next = walk_next c.args.stops c.args.text.now c.args.at c.loop-run.run c.requires.escapes c.requires.room
-    c.loop-run-test.true c.loop-run.invariant.passed _ c.requires.marked (omega arith) in
+pub returns : goal.returns
+returns c =
+    let stops = is_stop c.args.stops in
+    let text = c.args.text.now in
+    let p = c.requires.passed in
+    let bare = p.is_bare (omega arith) in
+    let mask = c.bare.ensures stops text c.args.at (omega arith) bare c.requires.given c.stops_in.ensures in
+    let last = c.escapes_next.ensures text c.args.at (omega arith) bare c.requires.given in
     record {
-      within = omega (arith, next.inside);
-      passed = next.escape c.if-text-at-ne92.false;
+      within = omega (arith, at_most_one text c.args.at c.requires.room c.escapes_next.result last);
+      passed = to_next stops text c.args.at c.requires.room p c.first_set-run.result (c.first_set-run.ensures ∙ ap (λ (m : ℕ). first_set m 64) mask)
+          c.escapes_next.result c.if-run-lt-WIDE.false last;
+      stops = λ short. absurd (omega arith);
     }

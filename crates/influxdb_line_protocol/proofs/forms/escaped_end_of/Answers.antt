@@ -4,7 +4,7 @@ use Rattle.influxdb_line_protocol.specs.Forms.{stops_of, known_of}
 use Rattle.influxdb_line_protocol.proofs.EscapeLemmas.{is_one_of_front}
 use Rattle.influxdb_line_protocol.proofs.FormLemmas.{backslash_goes_on}
 use Rattle.influxdb_line_protocol.proofs.WalkLemmas.{walk_start, walk_run, walk_ends}
-use Rattle.influxdb_line_protocol.proofs.forms.escaped_end.Goals as goal
+use Rattle.influxdb_line_protocol.proofs.forms.escaped_end_of.Goals as goal
 
 pub loop-end-init : goal.loop-end-init
 loop-end-init c =

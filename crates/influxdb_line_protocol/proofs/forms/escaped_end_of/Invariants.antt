@@ -1,7 +1,7 @@
 use Rattle.std.proofs.Common.{◌-◌, ◌≤◌, length}
 use Rattle.influxdb_line_protocol.specs.Escapes.{Walked}
 use Rattle.influxdb_line_protocol.specs.Forms.{stops_of, known_of}
-use Rattle.influxdb_line_protocol.proofs.forms.escaped_end.Given as goal
+use Rattle.influxdb_line_protocol.proofs.forms.escaped_end_of.Given as goal
 
 -- the walk stands at a bare place, at the first backslash or behind it
 abbrev pub invariant-loop-end : goal.invariant-loop-end
