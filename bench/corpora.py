@@ -4,21 +4,24 @@
     bench/corpora.py --seed WORD --size BYTES --out FOLDER [NAME..]
 
 The same seed and size give the same bytes, whichever shapes are asked for: each shape has random
-numbers of its own. With no NAME all shapes are written, each to FOLDER/NAME.lp. `shapes.py` has those
-that are made line by line; a file of these ends with the line that reaches the size.
+numbers of its own. With no NAME all shapes are written, each to FOLDER/NAME.lp, whose path is printed.
+`shapes.py` has those that are made line by line; a file of these ends with the line that reaches the
+size.
 """
 
 import argparse
-from collections.abc import Callable, Iterator
+from collections.abc import Iterator
 from pathlib import Path
 
-from shapes import SHAPES, Dice
+from shapes import EVERYDAY, NARROW, Dice, Shape
+
+NAMES = (*EVERYDAY, "hostile", *NARROW)
 
 START = 1_700_000_000_000_000_000
 """The time of the first line, in nanoseconds."""
 
 
-def lines(shape: Callable[[Dice, int], str], dice: Dice, size: int) -> Iterator[bytes]:
+def lines(shape: Shape, dice: Dice, size: int) -> Iterator[bytes]:
     """Lines of a shape, with times that rise."""
     time = START
     while size > 0:
@@ -79,27 +82,26 @@ def corpus(name: str, seed: str, size: int) -> Iterator[bytes]:
     dice = Dice(f"{seed} {name}")
     if name == "hostile":
         return hostile(dice, size)
-    return lines(SHAPES[name], dice, size)
+    return lines((EVERYDAY | NARROW)[name], dice, size)
 
 
 def main() -> None:
-    names = [*SHAPES, "hostile"]
     parser = argparse.ArgumentParser(description="Writes the corpora of the bench.")
     parser.add_argument("--seed", required=True, metavar="WORD")
     parser.add_argument("--size", type=int, required=True, metavar="BYTES")
     parser.add_argument("--out", type=Path, required=True, metavar="FOLDER")
-    parser.add_argument("names", nargs="*", metavar="NAME", help=f"one of {', '.join(names)}")
+    parser.add_argument("names", nargs="*", metavar="NAME", help=f"one of {', '.join(NAMES)}")
     given = parser.parse_args()
-    unknown = set(given.names) - set(names)
+    unknown = set(given.names) - set(NAMES)
     if unknown:
         parser.error(f"no such shape: {', '.join(sorted(unknown))}")
     given.out.mkdir(parents=True, exist_ok=True)
-    for name in given.names or names:
+    for name in given.names or NAMES:
         # A file that was cut short by an interrupt is never taken for a whole one.
         part = given.out / f"{name}.part"
         with part.open("wb") as file:
             file.writelines(corpus(name, given.seed, given.size))
-        part.replace(given.out / f"{name}.lp")
+        print(part.replace(given.out / f"{name}.lp"))
 
 
 if __name__ == "__main__":

@@ -37,6 +37,9 @@ class Dice:
         return f"{sign}{self.number(0, most)}.{self.number(0, 10**places - 1):0{places}d}"
 
 
+Shape = Callable[[Dice, int], str]
+"""Gives a line with this time."""
+
 # --- telegraf: what an agent on a server sends ------------------------------------------------------
 
 SITES = ("ams1", "fra2", "iad3", "sjc1", "sin4", "syd2")
@@ -115,7 +118,7 @@ def iot(dice: Dice, time: int) -> str:
 
 # --- escapes: names and strings that need them ------------------------------------------------------
 
-WORDS = ("pump", "inlet", "north", "flow", "level", "Größe", "débit", "valve", "流量", "tank", "main", "outlet", "state")
+WORDS = ("pump", "inlet", "north", "flow", "level", "Größe", "débit", "valve", "流量", "tank", "outlet", "state")
 
 
 def phrase(dice: Dice, least: int, most: int, between: Sequence[str]) -> str:
@@ -158,14 +161,14 @@ def escapes(dice: Dice, time: int) -> str:
 
 # --- strings: the lines of logs ---------------------------------------------------------------------
 
-PAGES = ("/", "/cart", "/api/v1/items?sort=price&page=3", "/assets/main.7be1.css", "/account/settings", "/search?q=tea,pot")
+PAGES = ("/", "/cart", "/api/v1/items?sort=price&page=3", "/assets/7be1.css", "/account/settings", "/search?q=tea,pot")
 BROWSERS = (
-    "Mozilla/5.0 (Macintosh; Intel Mac OS X 10_15_7) AppleWebKit/605.1.15 (KHTML, like Gecko) Version/17.1 Safari/605.1.15",
+    "Mozilla/5.0 (Macintosh; Intel Mac OS X 10_15_7) AppleWebKit/605.1.15 (KHTML, like Gecko) Version/17.1",
     "Wget/1.21.4",
     "python-requests/2.31.0",
     "Mozilla/5.0 (X11; Ubuntu; Linux x86_64; rv:119.0) Gecko/20100101 Firefox/119.0",
 )
-CALLS = ("in Store.load (store.py:81)", "in Session.begin (session.py:204)", "in main (server.py:19)", "from pool-3-thread-12")
+CALLS = ("in Store.load (store.py:81)", "in Session.begin (session.py:204)", "in main (server.py:19)", "from worker 12")
 
 
 def message(dice: Dice) -> str:
@@ -175,7 +178,8 @@ def message(dice: Dice) -> str:
         address = ".".join(str(dice.number(1, 254)) for _ in range(4))
         request = f'\\"{dice.pick(("GET", "HEAD", "POST"))} {dice.pick(PAGES)} HTTP/2.0\\" {dice.number(200, 503)}'
         second = f"{dice.number(0, 59):02d}"
-        return f'{address} - - [14/Nov/2023:22:13:{second} +0000] {request} {dice.digits(6)} \\"-\\" \\"{dice.pick(BROWSERS)}\\"'
+        browser = f'\\"-\\" \\"{dice.pick(BROWSERS)}\\"'
+        return f"{address} - - [14/Nov/2023:22:13:{second} +0000] {request} {dice.digits(6)} {browser}"
     if kind < 10:
         words = " ".join(dice.pick(WORDS[:5]) for _ in range(dice.number(4, 30)))
         caller = f"{dice.pick(ROLES)}.go:{dice.number(10, 900)}"
@@ -275,11 +279,13 @@ def manystrings(dice: Dice, time: int) -> str:
     return f"states,plant=n{dice.number(0, 9)} {fields} {time}\n"
 
 
-SHAPES: dict[str, Callable[[Dice, int], str]] = {
-    shape.__name__: shape
-    for shape in (
-        telegraf, iot, escapes, strings, faulty,
-        short, fields50, u64, booleans, quotes, negatives, names1, manystrings,
-    )
-}  # fmt: skip
-"""The shapes by their names."""
+def named(*shapes: Shape) -> dict[str, Shape]:
+    """The shapes by their names."""
+    return {shape.__name__: shape for shape in shapes}
+
+
+EVERYDAY = named(telegraf, iot, escapes, strings, faulty)
+"""Shapes as they are sent."""
+
+NARROW = named(short, fields50, u64, booleans, quotes, negatives, names1, manystrings)
+"""Shapes of one kind each, which cost a reader much for their length."""
