@@ -1,14 +1,19 @@
 -- From the line that a call of `next_line` gives to the item of that line.
-use Rattle.std.proofs.Common.{◌≡◌, ℕ, ◌<◌, ◌^◌, List, length, true, subst, Result}
+use Rattle.std.proofs.Common.{◌≡◌, ℕ, ◌<◌, ◌≤◌, ◌^◌, List, length, true, subst, Option, Some, None, Result, Err, arith}
+use Rattle.std.specs.Prelude.{IfSome}
+use Rattle.std.specs.Option.{option_map}
+use Rattle.smallvec.specs.SmallVec.{SmallVec}
 use Rattle.influxdb_line_protocol.specs.declared.error.Error.{Error}
 use Rattle.influxdb_line_protocol.specs.declared.line.ParsedLine.{ParsedLine}
 use Rattle.influxdb_line_protocol.specs.Items.{line_answer}
-use Rattle.influxdb_line_protocol.specs.Light.{is_light}
+use Rattle.influxdb_line_protocol.specs.Light.{is_light, is_light_in}
 use Rattle.influxdb_line_protocol.specs.Outcomes.{HasMemory}
 use Rattle.influxdb_line_protocol.specs.Parsed.{Answers}
 use Rattle.influxdb_line_protocol.specs.ParseSteps.{IsItemOf, GaveItem, GaveLine}
 use Rattle.influxdb_line_protocol.specs.Pieces.{Left}
+use Rattle.influxdb_line_protocol.specs.ReadInto.{GaveInRoom}
 use Rattle.influxdb_line_protocol.proofs.ColumnsFit.{item_columns_fit}
+use Rattle.influxdb_line_protocol.proofs.LightLemmas.{more_room}
 use Rattle.influxdb_line_protocol.proofs.SomeTags.{item_has_tags}
 
 -- the item of the line that was given
@@ -31,3 +36,30 @@ gave_item before line item others g short answers light =
             columns_fit = item_columns_fit before.dialect line item short answers;
           });
     }
+
+-- the line that was given was read in this room
+pub gave_in_room : {X : Type 0} (tags fields more_tags more_fields : ℕ) (before : Left) (line : List ℕ) (answer : Result X Error) (others : List (List ℕ))
+    → tags ≤ more_tags → fields ≤ more_fields → GaveLine before line others
+    → (is_light_in more_tags more_fields before.dialect line ≡ true → HasMemory answer) → GaveInRoom tags fields before answer others
+gave_in_room tags fields more_tags more_fields before line answer others h k g light =
+    record {
+      line = line;
+      gave = g;
+      light = λ small. light (more_room before.dialect line tags fields more_tags more_fields h k small);
+    }
+
+-- less room is kept where more is
+pub less_room : {T : Type 0} (n m : ℕ) (set : Option (SmallVec T)) → n ≤ m → IfSome set (λ s. m ≤ s.capacity) → IfSome set (λ s. n ≤ s.capacity)
+less_room n m None h k = tt
+less_room n m (Some set) h k = omega arith
+
+-- room is kept where the capacity stays
+pub same_room : {T : Type 0} (n : ℕ) (old new : Option (SmallVec T)) → option_map (λ s. s.capacity) new ≡ option_map (λ s. s.capacity) old
+    → IfSome old (λ s. n ≤ s.capacity) → IfSome new (λ s. n ≤ s.capacity)
+same_room n old None e h = tt
+same_room n None (Some new) e h = absurd (cc)
+same_room n (Some old) (Some new) e h = let same : new.capacity ≡ old.capacity = cc in omega arith
+
+-- want of memory is not the item where it is not the answer
+pub same_want : {X Y : Type 0} (e : Error) → (let r : Result X Error = Err e in HasMemory r) → (let r : Result Y Error = Err e in HasMemory r)
+same_want e h = λ same. h (cc)

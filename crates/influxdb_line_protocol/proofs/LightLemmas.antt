@@ -1,10 +1,10 @@
--- A line with a reading that needs memory is not light.
-use Rattle.std.proofs.Common.{◌≡◌, ℕ, ◌<◌, List, [], ◌∷◌, length, take, drop, Bool, true, false, not, ◌&&◌, ◌||◌, inl, inr, ap, refl, arith}
+-- A line with a reading that needs memory is not light, whatever room there is for tags and fields.
+use Rattle.std.proofs.Common.{◌≡◌, ℕ, ◌<◌, ◌≤◌, List, [], ◌∷◌, length, take, drop, Bool, true, false, not, ◌&&◌, ◌||◌, inl, inr, ap, refl, arith}
 use Rattle.std.specs.Prelude.{ℤ, Option, Some, None, Result, Ok, Err, nat_le, ◌==◌}
 use Rattle.std.specs.List.{list_all}
 use Rattle.std.specs.Result.{IsErr}
 use Rattle.std.specs.Str.Parse.{signed_digits_value}
-use Rattle.std.proofs.lemmas.Bool.{cases_Bool, and_left, and_right}
+use Rattle.std.proofs.lemmas.Bool.{cases_Bool, and_left, and_parts, and_right, le-leb, leb-true}
 use Rattle.influxdb_line_protocol.specs.declared.split.Dialect.{Dialect}
 use Rattle.influxdb_line_protocol.specs.Bytes.{is_one_of}
 use Rattle.influxdb_line_protocol.specs.Readings.{Fault, Text, Read, Reading, miss, fatal, reads, field_set_missing, take_while1, timestamp_value_invalid, cannot_parse_entire_line, or_fault}
@@ -12,9 +12,9 @@ use Rattle.influxdb_line_protocol.specs.Names.{name, a_measurement}
 use Rattle.influxdb_line_protocol.specs.Values.{Value, fits_i64, integer_len, side_of}
 use Rattle.influxdb_line_protocol.specs.Points.{Pair}
 use Rattle.influxdb_line_protocol.specs.Lines.{Line, answer, byte, complete, field, field_set, front_before, joined, some_tags, spaces, tag, tag_set, timestamp, without_comma, ◌then◌}
-use Rattle.influxdb_line_protocol.specs.Light.{carries_no_text, fields_in, is_light, is_light_answer, is_single_field, is_single_line, is_single_tag, tags_in}
+use Rattle.influxdb_line_protocol.specs.Light.{carries_no_text, fields_in, is_light_answer, is_light_in, is_single_field, is_single_line, is_single_tag, tags_in}
 use Rattle.influxdb_line_protocol.specs.Memory.{NeedsMemory}
-use Rattle.influxdb_line_protocol.specs.Sets.{CopiesIn, FieldsNeedMemory, HasBackslash, TagsNeedMemory}
+use Rattle.influxdb_line_protocol.specs.Sets.{CopiesIn, HasBackslash, SetNeedsMemory, TagsNeedMemory}
 use Rattle.influxdb_line_protocol.proofs.ReadingLemmas.{EndsIn, EndsIn-drop, EndsIn-end, EndsIn-self, backslash_at_end, byte_ends, name_copied, name_ends, tag_read}
 use Rattle.influxdb_line_protocol.proofs.ManyLemmas.{joined_ends}
 
@@ -83,22 +83,33 @@ timestamp_carries text h =
     ]
 
 module _ (dialect : Dialect) (line : List ℕ) where
-  heavy_answer : is_light_answer line (answer dialect line) ≡ false → is_light dialect line ≡ false
-  unfolding is_light
-  heavy_answer h = third_copied (nat_le (tags_in line) 8) (nat_le (fields_in line) 4) (is_light_answer line (answer dialect line)) h
+  heavy_answer : (p q : ℕ) → is_light_answer line (answer dialect line) ≡ false → is_light_in p q dialect line ≡ false
+  unfolding is_light_in
+  heavy_answer p q h = third_copied (nat_le (tags_in line) p) (nat_le (fields_in line) q) (is_light_answer line (answer dialect line)) h
 
-  many_tags : nat_le (tags_in line) 8 ≡ false → is_light dialect line ≡ false
-  unfolding is_light
-  many_tags h = first_copied (nat_le (tags_in line) 8) (nat_le (fields_in line) 4) (is_light_answer line (answer dialect line)) h
+  many_tags : (p q : ℕ) → nat_le (tags_in line) p ≡ false → is_light_in p q dialect line ≡ false
+  unfolding is_light_in
+  many_tags p q h = first_copied (nat_le (tags_in line) p) (nat_le (fields_in line) q) (is_light_answer line (answer dialect line)) h
 
-  many_fields : nat_le (fields_in line) 4 ≡ false → is_light dialect line ≡ false
-  unfolding is_light
-  many_fields h = second_copied (nat_le (tags_in line) 8) (nat_le (fields_in line) 4) (is_light_answer line (answer dialect line)) h
+  many_fields : (p q : ℕ) → nat_le (fields_in line) q ≡ false → is_light_in p q dialect line ≡ false
+  unfolding is_light_in
+  many_fields p q h = second_copied (nat_le (tags_in line) p) (nat_le (fields_in line) q) (is_light_answer line (answer dialect line)) h
+
+  -- a line that needs no memory in some room needs none in more
+  pub more_room : (p q more_tags more_fields : ℕ) → p ≤ more_tags → q ≤ more_fields → is_light_in p q dialect line ≡ true
+      → is_light_in more_tags more_fields dialect line ≡ true
+  unfolding is_light_in
+  more_room p q more_tags more_fields h k light =
+      let parts = and_parts (nat_le (tags_in line) p && nat_le (fields_in line) q) (is_light_answer line (answer dialect line)) light in
+      let counts = and_parts (nat_le (tags_in line) p) (nat_le (fields_in line) q) parts.0 in
+      let tags : tags_in line ≤ p = leb-true (tags_in line) p counts.0 in
+      let fields : fields_in line ≤ q = leb-true (fields_in line) q counts.1 in
+      rw (le-leb (tags_in line) more_tags (omega arith), le-leb (fields_in line) more_fields (omega arith)) parts.1
 
   -- a line whose measurement needs memory is not light
-  pub measurement_needs : NeedsMemory (λ t. t.is_single) (name a_measurement line) → is_light dialect line ≡ false
+  pub measurement_needs : (p q : ℕ) → NeedsMemory (λ t. t.is_single) (name a_measurement line) → is_light_in p q dialect line ≡ false
   unfolding answer
-  measurement_needs needs = heavy_answer (go (name a_measurement line) refl needs)
+  measurement_needs p q needs = heavy_answer p q (go (name a_measurement line) refl needs)
     where
       go : (r : Reading Text) → name a_measurement line ≡ r → NeedsMemory (λ t. t.is_single) r → is_light_answer line (answer dialect line) ≡ false
       go miss e h = absurd h
@@ -114,10 +125,10 @@ module _ (dialect : Dialect) (line : List ℕ) where
           (first_copied m.is_single (list_all is_single_tag (some_tags tags.value)) (list_all is_single_field fields.value) h))))))
 
   -- a line whose tags need memory is not light
-  pub tags_need : (m : Text) (rest : List ℕ) → name a_measurement line ≡ reads m rest → TagsNeedMemory rest → is_light dialect line ≡ false
+  pub tags_need : (p q : ℕ) (m : Text) (rest : List ℕ) → name a_measurement line ≡ reads m rest → TagsNeedMemory p rest → is_light_in p q dialect line ≡ false
   unfolding answer tags_in
-  tags_need m rest e (behind, mark, inl over) = many_tags (rw (e, mark) over)
-  tags_need m rest e (behind, mark, inr copies) = heavy_answer (go (joined tag behind) refl copies)
+  tags_need p q m rest e (behind, mark, inl over) = many_tags p q (rw (e, mark) over)
+  tags_need p q m rest e (behind, mark, inr copies) = heavy_answer p q (go (joined tag behind) refl copies)
     where
       ends : EndsIn line behind
       ends = EndsIn-end line rest behind (name_ends a_measurement line m rest e) (byte_ends 44 rest 44 behind mark)
@@ -144,10 +155,10 @@ module _ (dialect : Dialect) (line : List ℕ) where
     fields_end = EndsIn-end line tags.rest (drop (spaces tags.rest) tags.rest) series_ends (EndsIn-drop (spaces tags.rest) tags.rest _ refl)
 
     -- a line whose fields need memory is not light
-    pub fields_need : FieldsNeedMemory (drop (spaces tags.rest) tags.rest) → is_light dialect line ≡ false
+    pub fields_need : (p q : ℕ) → SetNeedsMemory q is_single_field field (drop (spaces tags.rest) tags.rest) → is_light_in p q dialect line ≡ false
     unfolding answer fields_in
-    fields_need (inl over) = many_fields (rw (e, t, s) over)
-    fields_need (inr copies) = heavy_answer (go (joined field (drop (spaces tags.rest) tags.rest)) refl copies)
+    fields_need p q (inl over) = many_fields p q (rw (e, t, s) over)
+    fields_need p q (inr copies) = heavy_answer p q (go (joined field (drop (spaces tags.rest) tags.rest)) refl copies)
       where
         go : (r : Reading (List (Pair Text (Value Text)))) → joined field (drop (spaces tags.rest) tags.rest) ≡ r → CopiesIn is_single_field (drop (spaces tags.rest) tags.rest) r
             → is_light_answer line (answer dialect line) ≡ false
@@ -177,9 +188,9 @@ module _ (dialect : Dialect) (line : List ℕ) where
           left (b ∷ rest) some = refl
 
       -- a line whose timestamp is at fault is not light
-      pub timestamp_needs : (fault : Fault) → timestamp after ≡ Err fault → carries_no_text fault ≡ false → is_light dialect line ≡ false
-      timestamp_needs fault n h = heavy_answer (rw (timestamp_fault fault n) (and_right (not (is_one_of line 92)) (carries_no_text fault) h))
+      pub timestamp_needs : (p q : ℕ) (fault : Fault) → timestamp after ≡ Err fault → carries_no_text fault ≡ false → is_light_in p q dialect line ≡ false
+      timestamp_needs p q fault is h = heavy_answer p q (rw (timestamp_fault fault is) (and_right (not (is_one_of line 92)) (carries_no_text fault) h))
 
       -- a line of which something is left is not light
-      pub trailing_needs : (n : Read (Option ℤ)) → timestamp after ≡ Ok n → 0 < length n.rest → is_light dialect line ≡ false
-      trailing_needs n is some = heavy_answer (rw (trailing_fault n is some) (and_right (not (is_one_of line 92)) false refl))
+      pub trailing_needs : (p q : ℕ) (n : Read (Option ℤ)) → timestamp after ≡ Ok n → 0 < length n.rest → is_light_in p q dialect line ≡ false
+      trailing_needs p q n is some = heavy_answer p q (rw (trailing_fault n is some) (and_right (not (is_one_of line 92)) false refl))

@@ -21,6 +21,7 @@ pub mod Light
 pub mod Memory
 pub mod Sets
 pub mod ParseSteps
+pub mod ReadInto
 pub mod GivenItems
 pub mod Literals
 pub mod Built

@@ -76,7 +76,13 @@ fields_in line =
     count_then (tag_set rest) (λ behind.
     count_behind (byte space behind) (λ some. read_count field (drop (spaces behind) behind))))
 
+-- whether a trimmed text is answered without memory where there is room for so many tags and fields: no more are read,
+-- and the answer needs none
+unfoldable pub is_light_in : ℕ → ℕ → Dialect → List ℕ → Bool
+is_light_in tags fields dialect line =
+    nat_le (tags_in line) tags && nat_le (fields_in line) fields && is_light_answer line (answer dialect line)
+
 -- whether a trimmed text is light, that is, answered without memory: at most 8 tags and 4 fields are read, and the
 -- answer needs none
-unfoldable pub is_light : Dialect → List ℕ → Bool
-is_light dialect line = nat_le (tags_in line) 8 && nat_le (fields_in line) 4 && is_light_answer line (answer dialect line)
+abbrev pub is_light : Dialect → List ℕ → Bool
+is_light dialect line = is_light_in 8 4 dialect line

@@ -20,6 +20,11 @@ abbrev pub some_items : {T : Type 0} → Option (SmallVec T) → List T
 some_items None = []
 some_items (Some set) = set.items
 
+-- how many elements a set that may be missing holds without memory
+abbrev pub room_of : {T : Type 0} → Option (SmallVec T) → ℕ
+room_of None = 0
+room_of (Some set) = set.capacity
+
 -- how many columns a line has: one for the timestamp, and one for each field and each tag
 abbrev pub columns : ParsedLine → ℕ
 columns line = 1 + length line.field_set.items + length (some_items line.series.tag_set)

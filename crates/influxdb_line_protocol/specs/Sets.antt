@@ -8,8 +8,8 @@ use Rattle.influxdb_line_protocol.specs.Bytes.{backslash, comma, is_one_of}
 use Rattle.influxdb_line_protocol.specs.Readings.{Text, Reading, miss, fatal, reads}
 use Rattle.influxdb_line_protocol.specs.Values.{Value}
 use Rattle.influxdb_line_protocol.specs.Points.{Pair}
-use Rattle.influxdb_line_protocol.specs.Lines.{byte, field, joined, tag}
-use Rattle.influxdb_line_protocol.specs.Light.{carries_no_text, is_single_field, is_single_tag, read_count}
+use Rattle.influxdb_line_protocol.specs.Lines.{byte, joined, tag}
+use Rattle.influxdb_line_protocol.specs.Light.{carries_no_text, is_single_tag, read_count}
 use Rattle.influxdb_line_protocol.specs.Parsed.{field_of}
 
 -- the fields as they were read
@@ -32,10 +32,7 @@ abbrev pub SetNeedsMemory : {A : Type 0} → ℕ → (A → Bool) → (List ℕ 
 SetNeedsMemory room is_light one text =
     (nat_le (read_count one text) room ≡ false) ⊎ CopiesIn is_light text (joined one text)
 
--- reading the tags behind a measurement needs memory: a comma stands there, and those behind it do
-abbrev pub TagsNeedMemory : List ℕ → Type 0
-TagsNeedMemory text = (behind : List ℕ) × (byte comma text ≡ reads comma behind) × SetNeedsMemory 8 is_single_tag tag behind
-
--- reading fields needs memory
-abbrev pub FieldsNeedMemory : List ℕ → Type 0
-FieldsNeedMemory text = SetNeedsMemory 4 is_single_field field text
+-- reading the tags behind a measurement needs memory where there is room for so many: a comma stands there, and those
+-- behind it do
+abbrev pub TagsNeedMemory : ℕ → List ℕ → Type 0
+TagsNeedMemory room text = (behind : List ℕ) × (byte comma text ≡ reads comma behind) × SetNeedsMemory room is_single_tag tag behind

@@ -7,7 +7,7 @@ ghost use Rattle.influxdb_line_protocol.specs.Lines.{field, field_set, joined, w
 ghost use Rattle.influxdb_line_protocol.specs.Memory.{NeedsMemory};
 ghost use Rattle.influxdb_line_protocol.specs.Outcomes.{Gives};
 ghost use Rattle.influxdb_line_protocol.specs.Parsed.{field_of};
-ghost use Rattle.influxdb_line_protocol.specs.Sets.{FieldsNeedMemory, SetNeedsMemory, fields_of};
+ghost use Rattle.influxdb_line_protocol.specs.Sets.{SetNeedsMemory, fields_of};
 
 use crate::line::behind;
 use crate::names::{self, NameKind};
@@ -55,14 +55,14 @@ fn append<'a>(set: &mut FieldSet<'a>, next: Field<'a>) -> Result<()>
     Ok(())
 }
 
-// Fills the empty set with the fields in front of `text`, joined by commas, and gives the rest. Up to 4 take no memory
-// but for copies.
+// Fills the empty set with the fields in front of `text`, joined by commas, and gives the rest. As many as the set has
+// room for take no memory but for copies.
 #[inline(always)]
 fn fields<'a>(alloc: Global, text: &'a str, set: &mut FieldSet<'a>) -> Result<Option<&'a str>>
-    requires empty { set.old.items ≡ [] }
-    requires room { 4 ≤ set.old.capacity }
+    requires { set.old.items ≡ [] }
     ensures value { Fills (fields_of set.new) result (joined field text.now) }
-    ensures memory { result ≡ Err Error.OutOfMemory → SetNeedsMemory 4 is_single_field field text.now }
+    ensures memory { result ≡ Err Error.OutOfMemory → SetNeedsMemory set.old.capacity is_single_field field text.now }
+    ensures room { set.old.capacity ≤ set.new.capacity }
 {
     let mut rest = text;
     let mut place = text;
@@ -103,10 +103,10 @@ pub(crate) fn field_set<'a>(
     text: &'a str,
     set: &mut FieldSet<'a>,
 ) -> Result<Option<&'a str>>
-    requires empty { set.old.items ≡ [] }
-    requires room { 4 ≤ set.old.capacity }
+    requires { set.old.items ≡ [] }
     ensures value { Fills (fields_of set.new) result (field_set dialect text.now) }
-    ensures memory { result ≡ Err Error.OutOfMemory → FieldsNeedMemory text.now }
+    ensures memory { result ≡ Err Error.OutOfMemory → SetNeedsMemory set.old.capacity is_single_field field text.now }
+    ensures room { set.old.capacity ≤ set.new.capacity }
 {
     let Some(rest) = fields(alloc, text, set)? else {
         return Ok(None);

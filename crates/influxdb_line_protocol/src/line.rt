@@ -1,14 +1,17 @@
 //! Lines.
 
-ghost use Rattle.std.specs.Prelude.{◌≡◌, ◌<◌, ◌≤◌, ◌++◌, ◌^◌, ℕ, List, [], drop, length, slice_index, true, Err, None, Some, IfSome, MatchOption};
+ghost use Rattle.std.specs.Prelude.{◌≡◌, ◌<◌, ◌≤◌, ◌++◌, ◌^◌, ℕ, List, [], drop, length, max, slice_index, true, Err, None, Some, IfSome, MatchOption};
+ghost use Rattle.std.specs.Option.{option_map};
 ghost use Rattle.influxdb_line_protocol.specs.declared.split.Dialect.{Dialect};
 ghost use Rattle.influxdb_line_protocol.specs.Lines.{answer, byte, front_before, spaces};
 ghost use Rattle.influxdb_line_protocol.specs.Bytes.{space};
 ghost use Rattle.influxdb_line_protocol.specs.Outcomes.{HasMemory};
-ghost use Rattle.influxdb_line_protocol.specs.Light.{is_light};
+ghost use Rattle.influxdb_line_protocol.specs.Light.{is_light_in};
+ghost use Rattle.influxdb_line_protocol.specs.Lookups.{room_of};
 ghost use Rattle.influxdb_line_protocol.specs.Filled.{FillsLine};
 ghost use Rattle.influxdb_line_protocol.specs.Trimming.{trimmed};
 ghost use Rattle.influxdb_line_protocol.specs.Readings.{miss, reads};
+ghost use Rattle.influxdb_line_protocol.specs.ReadInto.{IsEmptyLine, KeepsTagRoom};
 
 use crate::names::{self, NameKind};
 use crate::split::{SplitLines, split_lines_in};
@@ -37,6 +40,24 @@ impl<'a> ParsedLine<'a> {
     ghost use Rattle.std.specs.Prelude.{◌^◌};
     ghost use Rattle.std.specs.Option.{option_copied};
     ghost use Rattle.influxdb_line_protocol.specs.Lookups.{columns, some_items, value_by_key};
+    ghost use Rattle.influxdb_line_protocol.specs.ReadInto.{IsEmptyLine};
+
+    /// A line that says nothing: what [`ParseLines::next_into`] reads into.
+    ///
+    /// It takes no memory.
+    pub fn new(alloc: Global) -> ParsedLine<'a>
+        ensures { IsEmptyLine result }
+    {
+        ParsedLine {
+            series: Series {
+                raw_input: "",
+                measurement: EscapedStr::SingleSlice(""),
+                tag_set: None,
+            },
+            field_set: SmallVec::new(alloc),
+            timestamp: None,
+        }
+    }
 
     /// One, and the number of fields, and the number of tags, where no tag set counts as none.
     ///
@@ -145,11 +166,12 @@ fn fill<'a>(
     line: &'a str,
     parsed: &mut ParsedLine<'a>,
 ) -> Result<()>
-    requires no_tags { MatchOption parsed.old.series.tag_set ⊥ (λ tags. (tags.items ≡ []) × (8 ≤ tags.capacity)) }
-    requires empty { parsed.old.field_set.items ≡ [] }
-    requires room { 4 ≤ parsed.old.field_set.capacity }
+    requires no_tags { MatchOption parsed.old.series.tag_set ⊥ (λ tags. tags.items ≡ []) }
+    requires no_fields { parsed.old.field_set.items ≡ [] }
     ensures value { FillsLine parsed.new result (answer dialect line.now) }
-    ensures light { is_light dialect line.now ≡ true → HasMemory result }
+    ensures light { is_light_in (room_of parsed.old.series.tag_set) parsed.old.field_set.capacity dialect line.now ≡ true → HasMemory result }
+    ensures tag_room { KeepsTagRoom parsed.old parsed.new }
+    ensures field_room { parsed.old.field_set.capacity ≤ parsed.new.field_set.capacity }
 {
     let Some((measurement, rest)) = names::name(alloc, NameKind::Measurement, line)? else {
         return Err(Error::MeasurementValueInvalid);
@@ -173,6 +195,42 @@ fn fill<'a>(
     }
     parsed.timestamp = timestamp;
     Ok(())
+}
+
+// Makes the sets of a line ready to be filled: it has both, they are empty, and they keep their room.
+#[inline(always)]
+fn clear_sets<'a>(alloc: Global, parsed: &mut ParsedLine<'a>)
+    ensures no_tags { MatchOption parsed.new.series.tag_set ⊥ (λ tags. tags.items ≡ []) }
+    ensures no_fields { parsed.new.field_set.items ≡ [] }
+    ensures tag_room { max 8 (room_of parsed.old.series.tag_set) ≤ room_of parsed.new.series.tag_set }
+    ensures field_room { parsed.new.field_set.capacity ≡ max 4 parsed.old.field_set.capacity }
+{
+    let _at_least_four = parsed.field_set.capacity();
+    parsed.field_set.clear();
+    match &mut parsed.series.tag_set {
+        Some(tags) => {
+            let _at_least_eight = tags.capacity();
+            tags.clear();
+        }
+        None => parsed.series.tag_set = Some(SmallVec::new(alloc)),
+    }
+}
+
+// Empties a line that is at fault; its sets keep their room.
+#[cold]
+#[inline(never)]
+fn empty(parsed: &mut ParsedLine<'_>)
+    ensures empty { IsEmptyLine parsed.new }
+    ensures tag_room { option_map (λ tags. tags.capacity) parsed.new.series.tag_set ≡ option_map (λ tags. tags.capacity) parsed.old.series.tag_set }
+    ensures field_room { parsed.new.field_set.capacity ≡ parsed.old.field_set.capacity }
+{
+    parsed.series.raw_input = "";
+    parsed.series.measurement = EscapedStr::SingleSlice("");
+    if let Some(tags) = &mut parsed.series.tag_set {
+        tags.clear();
+    }
+    parsed.field_set.clear();
+    parsed.timestamp = None;
 }
 
 // Makes the item of a line that is at fault. What was read of the line is dropped here, and nowhere else.
@@ -253,6 +311,41 @@ pub fn parse_lines_in(alloc: Global, dialect: Dialect, input: &str) -> ParseLine
     ParseLines {
         lines: split_lines_in(dialect, input),
         alloc,
+    }
+}
+
+impl<'a> ParseLines<'a> {
+    ghost use Rattle.std.specs.Prelude.{IfNone};
+    ghost use Rattle.influxdb_line_protocol.specs.ParseSteps.{GivesItem, most_items};
+    ghost use Rattle.influxdb_line_protocol.specs.ReadInto.{GivesInRoom, LeavesEmpty, item_in};
+
+    /// Reads the next item into a line that is used again.
+    ///
+    /// After `Some(Ok(()))` the line is what `next` would have given. After `Some(Err(..))`, the fault that `next` would
+    /// have given, it is empty. With `None`, which says that no item is left, it stays as it was.
+    ///
+    /// The sets of the line keep their room. So a line asks for no memory where its tags and fields fit them, or the
+    /// room that new sets have, and it needs none for copies and for the text of a fault.
+    #[inline(always)]
+    pub fn next_into(&mut self, line: &mut ParsedLine<'a>) -> Option<Result<()>>
+        ensures gives { GivesItem self.old (item_in line.new result) self.new }
+        ensures fewer { IfSome result (λ answer. most_items self.new.text < most_items self.old.text) }
+        ensures fault { LeavesEmpty line.new result }
+        ensures ended { IfNone result (line.new ≡ line.old) }
+        ensures tag_room { KeepsTagRoom line.old line.new }
+        ensures field_room { line.old.field_set.capacity ≤ line.new.field_set.capacity }
+        ensures memory { GivesInRoom (max 8 (room_of line.old.series.tag_set)) (max 4 line.old.field_set.capacity)
+            self.old result self.new }
+    {
+        let text = self.next_line()?;
+        clear_sets(self.alloc, line);
+        match fill(self.alloc, self.lines.dialect(), text, line) {
+            Ok(()) => Some(Ok(())),
+            Err(fault) => {
+                empty(line);
+                Some(Err(fault))
+            }
+        }
     }
 }
 

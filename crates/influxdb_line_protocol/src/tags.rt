@@ -1,10 +1,11 @@
 //! The tags of a line.
 
-ghost use Rattle.std.specs.Prelude.{◌≡◌, ◌<◌, ◌≤◌, [], length, IfOk, IfSome, MatchOption, Err};
+ghost use Rattle.std.specs.Prelude.{◌≡◌, ◌<◌, ◌≤◌, [], length, IfOk, IfSome, MatchOption, Err, None};
 ghost use Rattle.std.specs.Option.{option_map};
 ghost use Rattle.influxdb_line_protocol.specs.Filled.{Fills, FillsRead};
 ghost use Rattle.influxdb_line_protocol.specs.Light.{is_single_tag};
 ghost use Rattle.influxdb_line_protocol.specs.Lines.{joined, tag, tag_set};
+ghost use Rattle.influxdb_line_protocol.specs.Lookups.{room_of};
 ghost use Rattle.influxdb_line_protocol.specs.Memory.{NeedsMemory};
 ghost use Rattle.influxdb_line_protocol.specs.Outcomes.{Gives};
 ghost use Rattle.influxdb_line_protocol.specs.Parsed.{tag_of, tags_of};
@@ -40,14 +41,14 @@ fn tag<'a>(alloc: Global, text: &'a str) -> Result<Option<(Tag<'a>, &'a str)>>
     Ok(Some(((key, value), rest)))
 }
 
-// Fills the empty set with the tags in front of `text`, joined by commas, and gives the rest. Up to 8 take no memory
-// but for copies.
+// Fills the empty set with the tags in front of `text`, joined by commas, and gives the rest. As many as the set has
+// room for take no memory but for copies.
 #[inline(always)]
 fn tags<'a>(alloc: Global, text: &'a str, set: &mut TagSet<'a>) -> Result<Option<&'a str>>
-    requires empty { set.old.items ≡ [] }
-    requires room { 8 ≤ set.old.capacity }
+    requires { set.old.items ≡ [] }
     ensures value { Fills (tags_of set.new) result (joined tag text.now) }
-    ensures memory { result ≡ Err Error.OutOfMemory → SetNeedsMemory 8 is_single_tag tag text.now }
+    ensures memory { result ≡ Err Error.OutOfMemory → SetNeedsMemory set.old.capacity is_single_tag tag text.now }
+    ensures room { set.old.capacity ≤ set.new.capacity }
 {
     let mut rest = text;
     let mut place = text;
@@ -65,6 +66,18 @@ fn tags<'a>(alloc: Global, text: &'a str, set: &mut TagSet<'a>) -> Result<Option
     Ok(Some(rest))
 }
 
+// Makes a set `None`. One that holds no memory is forgotten: it is empty, and to drop it would visit each of its places.
+#[inline(always)]
+fn let_go<'a>(set: &mut Option<TagSet<'a>>)
+    ensures { set.new ≡ None }
+{
+    if set.as_ref().is_some_and(|tags| tags.spilled()) {
+        *set = None;
+    } else {
+        mem::forget(set.take());
+    }
+}
+
 /// Fills `set`, which is an empty one, with the tags behind the comma in front of `text`, and gives the rest.
 ///
 /// Where no comma stands there, it becomes `None`. Where no tag stands behind the comma, that is the line's fault.
@@ -74,13 +87,13 @@ pub(crate) fn tag_set<'a>(
     text: &'a str,
     set: &mut Option<TagSet<'a>>,
 ) -> Result<&'a str>
-    requires empty { MatchOption set.old ⊥ (λ tags. (tags.items ≡ []) × (8 ≤ tags.capacity)) }
+    requires { MatchOption set.old ⊥ (λ tags. tags.items ≡ []) }
     ensures value { FillsRead (option_map tags_of set.new) result (tag_set text.now) }
-    ensures memory { result ≡ Err Error.OutOfMemory → TagsNeedMemory text.now }
+    ensures memory { result ≡ Err Error.OutOfMemory → TagsNeedMemory (room_of set.old) text.now }
+    ensures room { IfSome set.new (λ tags. room_of set.old ≤ tags.capacity) }
 {
     let Some(rest) = behind(b',', text) else {
-        // An empty set holds no memory. To drop it would visit each of its places.
-        mem::forget(set.take());
+        let_go(set);
         return Ok(text);
     };
     let Some(empty) = set else { unreachable!() };

@@ -21,7 +21,7 @@ returns-in_err-next-clause-value c =
 pub returns-in_err-next-clause-memory : goal.returns-in_err-next-clause-memory
 returns-in_err-next-clause-memory c = λ refused.
     let same = passed_on c.from_residual.result c.in_err-next.field-0.0 c.from_residual.ensures.1 refused in
-    reached_needs is_single_field field field_read 4 c.args.text.now (map field_of c.loop-next.set.items) c.loop-next.rest.now c.loop-next.place.now c.loop-next.invariant.reached
+    reached_needs is_single_field field field_read c.args.set.now.capacity c.args.text.now (map field_of c.loop-next.set.items) c.loop-next.rest.now c.loop-next.place.now c.loop-next.invariant.reached
     (c.in_err-next.ensures.memory (ap Err same))
 
 pub returns-in_err-append-clause-memory : goal.returns-in_err-append-clause-memory
@@ -30,8 +30,8 @@ returns-in_err-append-clause-memory c = λ refused.
     (field_of c.in-Some.next) c.loop-next.invariant.reached
     (rw c.in-Some.is at c.in_ok-next.ensures.value) (rw c.in-Some.is at c.in_ok-next.ensures.less) in
     let room = c.loop-next.invariant.room in
-    let full : 4 ≤ length c.loop-next.set.items = omega (arith, c.in_err-append.ensures.full) in
-    more_than_room is_single_field field field_read 4 c.args.text.now (map field_of c.loop-next.set.items ++ field_of c.in-Some.next ∷ []) c.in-Some.after.now more
+    let full : c.args.set.now.capacity ≤ length c.loop-next.set.items = omega (arith, c.in_err-append.ensures.full) in
+    more_than_room is_single_field field field_read c.args.set.now.capacity c.args.text.now (map field_of c.loop-next.set.items ++ field_of c.in-Some.next ∷ []) c.in-Some.after.now more
     (simp (length-append, length-map) (omega arith))
 
 pub loop-next-preserved : goal.loop-next-preserved

@@ -3,6 +3,7 @@ use Rattle.std.specs.Option.{option_map}
 use Rattle.std.proofs.lemmas.Grind.{common_steps}
 use Rattle.std.proofs.lemmas.Result.{err_from_is_err_and}
 use Rattle.influxdb_line_protocol.specs.Lines.{answer, timestamp}
+use Rattle.influxdb_line_protocol.specs.Lookups.{room_of}
 use Rattle.influxdb_line_protocol.specs.Parsed.{tags_of}
 use Rattle.influxdb_line_protocol.specs.Sets.{fields_of}
 use Rattle.influxdb_line_protocol.specs.Texts.{read_of}
@@ -15,14 +16,16 @@ use Rattle.influxdb_line_protocol.proofs.line.fill.Goals as goal
 pub returns-in_err-measurement-clause-light : goal.returns-in_err-measurement-clause-light
 returns-in_err-measurement-clause-light c = λ light refused.
     let same = passed_on c.from_residual.result c.in_err-measurement.field-0.0 c.from_residual.ensures.1 refused in
-    let heavy = measurement_needs c.args.dialect c.args.line.now (c.in_err-measurement.ensures.memory (ap Err same)) in
+    let heavy = measurement_needs c.args.dialect c.args.line.now (room_of c.args.parsed.now.series.tag_set) c.args.parsed.now.field_set.capacity
+    (c.in_err-measurement.ensures.memory (ap Err same)) in
     cc
 
 pub returns-in_err-rest-clause-light : goal.returns-in_err-rest-clause-light
 returns-in_err-rest-clause-light c = λ light refused.
     let e = rw c.in-Some.is at c.in_ok-measurement.ensures.value in
     let same = passed_on c.from_residual-in_err-rest.result c.in_err-rest.field-0.0 c.from_residual-in_err-rest.ensures.1 refused in
-    let heavy = tags_need c.args.dialect c.args.line.now (read_of c.in-Some.measurement) c.in-Some.rest.now e (c.in_err-rest.ensures.memory (ap Err same)) in
+    let heavy = tags_need c.args.dialect c.args.line.now (room_of c.args.parsed.now.series.tag_set) c.args.parsed.now.field_set.capacity
+    (read_of c.in-Some.measurement) c.in-Some.rest.now e (c.in_err-rest.ensures.memory (ap Err same)) in
     cc
 
 pub front_before-parsed-requires-clause-ends : goal.front_before-parsed-requires-clause-ends
@@ -40,7 +43,8 @@ returns-in_err-rest-2-clause-light c = λ light refused.
     let same = passed_on c.from_residual-in_err-rest-2.result c.in_err-rest-2.field-0.0 c.from_residual-in_err-rest-2.ensures.1 refused in
     let needs = rw c.behind_spaces.ensures at (c.in_err-rest-2.ensures.memory (ap Err same)) in
     let heavy = fields_need c.args.dialect c.args.line.now (read_of c.in-Some.measurement) c.in-Some.rest.now
-    (record { value = option_map tags_of c.tag_set.new.set; rest = c.in_ok-rest.rest.now }) gap.0 e c.in_ok-rest.ensures.value gap.1 needs in
+    (record { value = option_map tags_of c.tag_set.new.set; rest = c.in_ok-rest.rest.now }) gap.0 e c.in_ok-rest.ensures.value gap.1
+    (room_of c.args.parsed.now.series.tag_set) c.args.parsed.now.field_set.capacity needs in
     cc
 
 pub returns-in_err-timestamp-clause-value : goal.returns-in_err-timestamp-clause-value
@@ -65,7 +69,8 @@ returns-in_err-timestamp-clause-light c = λ light refused.
     let needs = timestamp_carries c.in-Some-2.rest.now (c.in_err-timestamp.ensures.memory (ap Err same)) in
     let heavy = timestamp_needs c.args.dialect c.args.line.now (read_of c.in-Some.measurement) c.in-Some.rest.now
     (record { value = option_map tags_of c.tag_set.new.set; rest = c.in_ok-rest.rest.now }) gap.0 e c.in_ok-rest.ensures.value gap.1
-    (fields_of c.field_set.new.set) c.in-Some-2.rest.now f needs.0 needs.1 needs.2 in
+    (fields_of c.field_set.new.set) c.in-Some-2.rest.now f
+    (room_of c.args.parsed.now.series.tag_set) c.args.parsed.now.field_set.capacity needs.0 needs.1 needs.2 in
     cc
 
 pub returns-in_err-trailing_content-clause-light : goal.returns-in_err-trailing_content-clause-light
@@ -76,7 +81,8 @@ returns-in_err-trailing_content-clause-light c = λ light refused.
     let some : 0 < length c.in_ok-timestamp.rest.now = grind (arith, common_steps) in
     let heavy = trailing_needs c.args.dialect c.args.line.now (read_of c.in-Some.measurement) c.in-Some.rest.now
     (record { value = option_map tags_of c.tag_set.new.set; rest = c.in_ok-rest.rest.now }) gap.0 e c.in_ok-rest.ensures.value gap.1
-    (fields_of c.field_set.new.set) c.in-Some-2.rest.now f (record { value = c.in_ok-timestamp.timestamp; rest = c.in_ok-timestamp.rest.now }) c.in_ok-timestamp.ensures.value some in
+    (fields_of c.field_set.new.set) c.in-Some-2.rest.now f
+    (room_of c.args.parsed.now.series.tag_set) c.args.parsed.now.field_set.capacity (record { value = c.in_ok-timestamp.timestamp; rest = c.in_ok-timestamp.rest.now }) c.in_ok-timestamp.ensures.value some in
     cc
 
 pub returns-then-not-is_empty-clause-value : goal.returns-then-not-is_empty-clause-value

@@ -21,7 +21,7 @@ returns-in_err-next-clause-value c =
 pub returns-in_err-next-clause-memory : goal.returns-in_err-next-clause-memory
 returns-in_err-next-clause-memory c = λ refused.
     let same = passed_on c.from_residual.result c.in_err-next.field-0.0 c.from_residual.ensures.1 refused in
-    reached_needs is_single_tag tag tag_read 8 c.args.text.now (map tag_of c.loop-next.set.items) c.loop-next.rest.now c.loop-next.place.now c.loop-next.invariant.reached
+    reached_needs is_single_tag tag tag_read c.args.set.now.capacity c.args.text.now (map tag_of c.loop-next.set.items) c.loop-next.rest.now c.loop-next.place.now c.loop-next.invariant.reached
     (c.in_err-next.ensures.memory (ap Err same))
 
 pub returns-in_err-push-clause-memory : goal.returns-in_err-push-clause-memory
@@ -31,8 +31,8 @@ returns-in_err-push-clause-memory c = λ refused.
     (rw c.in-Some.is at c.in_ok-next.ensures.value) (rw c.in-Some.is at c.in_ok-next.ensures.less) in
     let no_room : length c.loop-next.set.items + 1 ≤ c.loop-next.set.capacity → ⊥ = (λ h. let no = c.in_err-push.ensures.succeeds h in cc) in
     let room = c.loop-next.invariant.room in
-    let full : 8 ≤ length c.loop-next.set.items = omega arith in
-    more_than_room is_single_tag tag tag_read 8 c.args.text.now (map tag_of c.loop-next.set.items ++ tag_of c.in-Some.next ∷ []) c.in-Some.after.now more
+    let full : c.args.set.now.capacity ≤ length c.loop-next.set.items = omega arith in
+    more_than_room is_single_tag tag tag_read c.args.set.now.capacity c.args.text.now (map tag_of c.loop-next.set.items ++ tag_of c.in-Some.next ∷ []) c.in-Some.after.now more
     (simp (length-append, length-map) (omega arith))
 
 pub loop-next-preserved : goal.loop-next-preserved

@@ -11,7 +11,7 @@ invariant-loop-next l = record {
   utf8_rest : shadow (Utf8 l.rest);
   utf8_place : shadow (Utf8 l.place);
   reached : Reached tag l.text (map tag_of l.set.items) l.rest l.place;
-  room : 8 ≤ l.set.capacity;
+  room : l.fn.set.capacity ≤ l.set.capacity;
 }
 
 abbrev pub decreases-loop-next : goal.decreases-loop-next
