@@ -12,6 +12,15 @@ import sys
 from pathlib import Path
 from typing import NamedTuple
 
+CALLS = {
+    "parse": "parse",
+    "next_into": "next_into",
+    "numbers": "parse, in numbers",
+    "split": "split",
+    "rebuild": "rebuild",
+}
+"""The calls over a corpus, and what they are called where figures are shown."""
+
 BESIDE = {"numbers": "parse", "next_into": "parse"}
 """The crate's call that stands beside a call of the library, where its name is another."""
 
