@@ -9,6 +9,7 @@
 
 bool lp_bench_is_utf8(const uint8_t *text, size_t len);
 uint64_t lp_bench_parse(const uint8_t *text, size_t len);
+uint64_t lp_bench_next_into(const uint8_t *text, size_t len);
 uint64_t lp_bench_numbers(const uint8_t *text, size_t len);
 uint64_t lp_bench_split(const uint8_t *text, size_t len);
 uint64_t lp_bench_rebuild(const uint8_t *text, size_t len);
@@ -93,6 +94,7 @@ int main(int argc, char **argv) {
         double utf8 = utf8_seconds(text, len);
         if (utf8 < 0) { fprintf(stderr, "%s: not UTF-8\n", argv[i]); return 2; }
         run("parse", lp_bench_parse, file, text, len, utf8);
+        run("next_into", lp_bench_next_into, file, text, len, utf8);
         run("numbers", lp_bench_numbers, file, text, len, utf8);
         run("split", lp_bench_split, file, text, len, utf8);
         run("rebuild", lp_bench_rebuild, file, text, len, utf8);

@@ -100,7 +100,26 @@ pub extern "C" fn lp_bench_parse(alloc: Global, text: &[u8]) -> u64 {
     sum
 }
 
-/// The same, with each float made a number.
+/// The same as `lp_bench_parse`, read into a line that is used again.
+#[unsafe(no_mangle)]
+pub extern "C" fn lp_bench_next_into(alloc: Global, text: &[u8]) -> u64 {
+    let Ok(text) = str::from_utf8(text) else {
+        return 0;
+    };
+    let mut items = parse_lines(alloc, text);
+    let mut line = ParsedLine::new(alloc);
+    let mut sum = 0u64;
+    while let Some(answer) = items.next_into(&mut line) {
+        let one = match answer {
+            Ok(()) => of_line(&line),
+            Err(_) => 1,
+        };
+        sum = sum.wrapping_add(one);
+    }
+    sum
+}
+
+/// The same as `lp_bench_parse`, with each float made a number.
 #[unsafe(no_mangle)]
 pub extern "C" fn lp_bench_numbers(alloc: Global, text: &[u8]) -> u64 {
     let Ok(text) = str::from_utf8(text) else {
