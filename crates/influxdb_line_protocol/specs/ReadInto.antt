@@ -17,11 +17,10 @@ pub record IsEmptyLine (line : ParsedLine) : Type 0 where
   pub fields : line.field_set.items ≡ []
   pub timestamp : line.timestamp ≡ None
 
--- the item that was answered, where a line that was read stands in this one
-abbrev pub item_in : {X : Type 0} → ParsedLine → Option (Result X Error) → Option (Result ParsedLine Error)
-item_in line None = None
-item_in line (Some (Ok done)) = Some (Ok line)
-item_in line (Some (Err e)) = Some (Err e)
+-- the item that an answer is, where a line that was read stands in this one
+abbrev pub item_in : {X : Type 0} → ParsedLine → Result X Error → Result ParsedLine Error
+item_in line (Ok done) = Ok line
+item_in line (Err e) = Err e
 
 -- where the answer is a fault, the line is empty
 abbrev pub LeavesEmpty : {X : Type 0} → ParsedLine → Option (Result X Error) → Type 0

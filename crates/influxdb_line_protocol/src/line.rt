@@ -16,7 +16,7 @@ ghost use Rattle.influxdb_line_protocol.specs.ReadInto.{IsEmptyLine, KeepsTagRoo
 use crate::names::{self, NameKind};
 use crate::split::{SplitLines, split_lines_in};
 use crate::{
-    Dialect, Error, ErrorKind, EscapedStr, FieldValue, Result, Series, fields, tags, values,
+    Dialect, Error, ErrorKind, EscapedStr, FieldValue, Result, Series, TagSet, fields, tags, values,
 };
 use smallvec::SmallVec;
 use std::alloc::Global;
@@ -158,6 +158,7 @@ fn front_before<'a>(line: &'a str, rest: &str) -> &'a str
 }
 
 // Fills the line `parsed`, which has empty sets, with what the trimmed text `line` says. At a fault it is filled in part.
+// A tag set that has grown is kept at `spare`, where that is given and the line has no tags.
 #[tactic(auto, unfolding(crate::specs::Lines::answer))]
 #[inline(never)]
 fn fill<'a>(
@@ -165,6 +166,7 @@ fn fill<'a>(
     dialect: Dialect,
     line: &'a str,
     parsed: &mut ParsedLine<'a>,
+    spare: Option<&mut Option<TagSet<'a>>>,
 ) -> Result<()>
     requires no_tags { MatchOption parsed.old.series.tag_set ⊥ (λ tags. tags.items ≡ []) }
     requires no_fields { parsed.old.field_set.items ≡ [] }
@@ -177,7 +179,7 @@ fn fill<'a>(
         return Err(Error::MeasurementValueInvalid);
     };
     parsed.series.measurement = measurement;
-    let rest = tags::tag_set(alloc, rest, &mut parsed.series.tag_set)?;
+    let rest = tags::tag_set(alloc, rest, &mut parsed.series.tag_set, spare)?;
     if behind(b' ', rest).is_none() {
         return Err(Error::GenericParsingError {
             kind: ErrorKind::TakeWhile1,
@@ -197,9 +199,28 @@ fn fill<'a>(
     Ok(())
 }
 
+// Makes the tag set of a line ready to be filled: it is there, empty, and keeps its room. Where there is none, it is
+// the one at `spare`, or a new one.
+#[inline(always)]
+fn clear_tags<'a>(alloc: Global, set: &mut Option<TagSet<'a>>, spare: &mut Option<TagSet<'a>>)
+    ensures empty { MatchOption set.new ⊥ (λ tags. tags.items ≡ []) }
+    ensures room { max 8 (room_of set.old) ≤ room_of set.new }
+{
+    if set.is_none() && spare.is_some() {
+        *set = spare.take();
+    }
+    match set {
+        Some(tags) => {
+            let _at_least_eight = tags.capacity();
+            tags.clear();
+        }
+        None => *set = Some(SmallVec::new(alloc)),
+    }
+}
+
 // Makes the sets of a line ready to be filled: it has both, they are empty, and they keep their room.
 #[inline(always)]
-fn clear_sets<'a>(alloc: Global, parsed: &mut ParsedLine<'a>)
+fn clear_sets<'a>(alloc: Global, parsed: &mut ParsedLine<'a>, spare: &mut Option<TagSet<'a>>)
     ensures no_tags { MatchOption parsed.new.series.tag_set ⊥ (λ tags. tags.items ≡ []) }
     ensures no_fields { parsed.new.field_set.items ≡ [] }
     ensures tag_room { max 8 (room_of parsed.old.series.tag_set) ≤ room_of parsed.new.series.tag_set }
@@ -207,13 +228,7 @@ fn clear_sets<'a>(alloc: Global, parsed: &mut ParsedLine<'a>)
 {
     let _at_least_four = parsed.field_set.capacity();
     parsed.field_set.clear();
-    match &mut parsed.series.tag_set {
-        Some(tags) => {
-            let _at_least_eight = tags.capacity();
-            tags.clear();
-        }
-        None => parsed.series.tag_set = Some(SmallVec::new(alloc)),
-    }
+    clear_tags(alloc, &mut parsed.series.tag_set, spare);
 }
 
 // Empties a line that is at fault; its sets keep their room.
@@ -251,6 +266,8 @@ fn refuse(item: &mut Result<ParsedLine<'_>>, fault: Error)
 #[derive(Drop)]
 pub struct ParseLines<'a> {
     lines: SplitLines<'a>,
+    // A tag set that has grown, of a line that has none now: the next line without one gets it.
+    spare: Option<TagSet<'a>>,
     alloc: Global,
 }
 
@@ -310,6 +327,7 @@ pub fn parse_lines_in(alloc: Global, dialect: Dialect, input: &str) -> ParseLine
 {
     ParseLines {
         lines: split_lines_in(dialect, input),
+        spare: None,
         alloc,
     }
 }
@@ -328,7 +346,7 @@ impl<'a> ParseLines<'a> {
     /// room that new sets have, and it needs none for copies and for the text of a fault.
     #[inline(always)]
     pub fn next_into(&mut self, line: &mut ParsedLine<'a>) -> Option<Result<()>>
-        ensures gives { GivesItem self.old (item_in line.new result) self.new }
+        ensures gives { GivesItem self.old (option_map (item_in line.new) result) self.new }
         ensures fewer { IfSome result (λ answer. most_items self.new.text < most_items self.old.text) }
         ensures fault { LeavesEmpty line.new result }
         ensures ended { IfNone result (line.new ≡ line.old) }
@@ -338,8 +356,14 @@ impl<'a> ParseLines<'a> {
             self.old result self.new }
     {
         let text = self.next_line()?;
-        clear_sets(self.alloc, line);
-        match fill(self.alloc, self.lines.dialect(), text, line) {
+        clear_sets(self.alloc, line, &mut self.spare);
+        match fill(
+            self.alloc,
+            self.lines.dialect(),
+            text,
+            line,
+            Some(&mut self.spare),
+        ) {
             Ok(()) => Some(Ok(())),
             Err(fault) => {
                 empty(line);
@@ -373,7 +397,7 @@ impl<'a> Iterator for ParseLines<'a> {
             timestamp: None,
         });
         if let Ok(parsed) = &mut item {
-            if let Err(fault) = fill(self.alloc, self.lines.dialect(), line, parsed) {
+            if let Err(fault) = fill(self.alloc, self.lines.dialect(), line, parsed, None) {
                 refuse(&mut item, fault);
             }
         }

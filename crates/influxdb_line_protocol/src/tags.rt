@@ -66,26 +66,32 @@ fn tags<'a>(alloc: Global, text: &'a str, set: &mut TagSet<'a>) -> Result<Option
     Ok(Some(rest))
 }
 
-// Makes a set `None`. One that holds no memory is forgotten: it is empty, and to drop it would visit each of its places.
+// Makes the empty set `set` `None`. One that has grown is kept at `spare`, where that is given. One that has not holds
+// no memory and is forgotten: to drop it would visit each of its places.
 #[inline(always)]
-fn let_go<'a>(set: &mut Option<TagSet<'a>>)
+fn let_go<'a>(set: &mut Option<TagSet<'a>>, spare: Option<&mut Option<TagSet<'a>>>)
     ensures { set.new ≡ None }
 {
-    if set.as_ref().is_some_and(|tags| tags.spilled()) {
-        *set = None;
-    } else {
+    if !set.as_ref().is_some_and(|tags| tags.spilled()) {
         mem::forget(set.take());
+        return;
+    }
+    let grown = set.take();
+    if let Some(place) = spare {
+        *place = grown;
     }
 }
 
 /// Fills `set`, which is an empty one, with the tags behind the comma in front of `text`, and gives the rest.
 ///
-/// Where no comma stands there, it becomes `None`. Where no tag stands behind the comma, that is the line's fault.
+/// Where no comma stands there, it becomes `None`, and is kept at `spare` where it has grown. Where no tag stands behind
+/// the comma, that is the line's fault.
 #[inline(always)]
 pub(crate) fn tag_set<'a>(
     alloc: Global,
     text: &'a str,
     set: &mut Option<TagSet<'a>>,
+    spare: Option<&mut Option<TagSet<'a>>>,
 ) -> Result<&'a str>
     requires { MatchOption set.old ⊥ (λ tags. tags.items ≡ []) }
     ensures value { FillsRead (option_map tags_of set.new) result (tag_set text.now) }
@@ -93,7 +99,7 @@ pub(crate) fn tag_set<'a>(
     ensures room { IfSome set.new (λ tags. room_of set.old ≤ tags.capacity) }
 {
     let Some(rest) = behind(b',', text) else {
-        let_go(set);
+        let_go(set, spare);
         return Ok(text);
     };
     let Some(empty) = set else { unreachable!() };

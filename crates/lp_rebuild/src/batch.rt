@@ -4,6 +4,7 @@ ghost use Rattle.influxdb_line_protocol.specs.Readings.{Fault};
 ghost use Rattle.influxdb_line_protocol.specs.Points.{built};
 ghost use Rattle.influxdb_line_protocol.specs.Lines.{Line};
 ghost use Rattle.influxdb_line_protocol.specs.Parsed.{line_read, parsed_point, Answers};
+ghost use Rattle.influxdb_line_protocol.specs.ReadInto.{item_in};
 ghost use Rattle.lp_rebuild.specs.Rebuilding.{Rebuilds, RebuildsIn, ReadsBack, ReadsBackIn};
 ghost use Rattle.lp_rebuild.specs.RebuildSteps.{Refuses, Takes};
 
@@ -94,22 +95,23 @@ fn take_fault(so_far: &mut Progress, error: &Error) -> Result<(), AllocError>
     }
 }
 
-// Takes the next item of a text.
+// Takes the next item of a text: an answer, and the line that was read where it is no fault.
 #[inline(always)]
 fn take(
     alloc: Global,
     so_far: &mut Progress,
-    item: &influxdb_line_protocol::Result<ParsedLine<'_>>,
+    answer: &influxdb_line_protocol::Result<()>,
+    line: &ParsedLine<'_>,
 ) -> Result<(), AllocError>
     requires room { so_far.old.carried + so_far.old.refused < usize.MAX }
-    requires some_field { IfOk item.now (λ line. 0 < length line.field_set.items) }
+    requires some_field { IfOk (item_in line.now answer.now) (λ read. 0 < length read.field_set.items) }
     ensures taken { OnOk result
-        ((answer : Result Line Fault) → Answers item.now answer → Takes so_far.old answer so_far.new) }
+        ((wanted : Result Line Fault) → Answers (item_in line.now answer.now) wanted → Takes so_far.old wanted so_far.new) }
     ensures counted { OnOk result
         (so_far.new.carried + so_far.new.refused ≡ so_far.old.carried + so_far.old.refused + 1) }
 {
-    match item {
-        Ok(line) => take_line(alloc, so_far, line),
+    match answer {
+        Ok(()) => take_line(alloc, so_far, line),
         Err(error) => take_fault(so_far, error),
     }
 }
@@ -156,10 +158,12 @@ pub fn rebuild_in(alloc: Global, dialect: Dialect, input: &str) -> Result<Rebuil
         carried: 0,
         refused: 0,
     };
-    for item in parse_lines_in(alloc, dialect, input) {
+    let mut lines = parse_lines_in(alloc, dialect, input);
+    let mut line = ParsedLine::new(alloc);
+    while let Some(answer) = lines.next_into(&mut line) {
         let taken = {
-            let item = item;
-            take(alloc, &mut so_far, &item)
+            let answer = answer;
+            take(alloc, &mut so_far, &answer, &line)
         };
         taken?;
     }

@@ -1,4 +1,4 @@
-use Rattle.std.proofs.Common.{rules, ◌≡◌, ◌≤◌, arith, max, true, Err, Ok}
+use Rattle.std.proofs.Common.{rules, ◌≡◌, ◌≤◌, ℕ, List, arith, max, true, Err, Ok}
 use Rattle.influxdb_line_protocol.specs.Items.{line_answer}
 use Rattle.influxdb_line_protocol.specs.Light.{is_light, is_light_in}
 use Rattle.influxdb_line_protocol.specs.Lines.{answer}
@@ -6,6 +6,8 @@ use Rattle.influxdb_line_protocol.specs.Lookups.{room_of}
 use Rattle.influxdb_line_protocol.specs.Filled.{FillsLine}
 use Rattle.influxdb_line_protocol.specs.Outcomes.{HasMemory}
 use Rattle.influxdb_line_protocol.specs.Parsed.{Answers}
+use Rattle.influxdb_line_protocol.specs.ParseSteps.{GaveLine}
+use Rattle.influxdb_line_protocol.specs.Pieces.{PiecesLeft}
 use Rattle.influxdb_line_protocol.proofs.GivenLines.{gave_in_room, gave_item, less_room, same_room, same_want}
 use Rattle.influxdb_line_protocol.proofs.LightLemmas.{more_room}
 use Rattle.influxdb_line_protocol.proofs.line.ParseLines.next_into.Goals as goal
@@ -15,7 +17,8 @@ pub returns-clause-gives : goal.returns-clause-gives
 returns-clause-gives c =
     let before = c.args.self.now in
     let text = c.in_ok-text.text.now in
-    let given = c.in_ok-text.ensures.gives in
+    let given : (c.self.inside.lines.dialect ≡ before.dialect) × ((others : List (List ℕ)) → PiecesLeft c.self.inside.lines others → GaveLine before text others) =
+    rw c.self.view_is c.in_ok-text.ensures.gives in
     let sets = c.clear_sets.new.parsed in
     let filled : FillsLine c.fill.new.parsed c.fill.result (answer before.dialect text) = search rules in
     let wants : is_light_in (room_of sets.series.tag_set) sets.field_set.capacity before.dialect text ≡ true → HasMemory c.fill.result = search rules in
@@ -47,7 +50,8 @@ pub returns-clause-memory : goal.returns-clause-memory
 returns-clause-memory c =
     let before = c.args.self.now in
     let text = c.in_ok-text.text.now in
-    let given = c.in_ok-text.ensures.gives in
+    let given : (c.self.inside.lines.dialect ≡ before.dialect) × ((others : List (List ℕ)) → PiecesLeft c.self.inside.lines others → GaveLine before text others) =
+    rw c.self.view_is c.in_ok-text.ensures.gives in
     let sets = c.clear_sets.new.parsed in
     let wants : is_light_in (room_of sets.series.tag_set) sets.field_set.capacity before.dialect text ≡ true → HasMemory c.fill.result = search rules in
     let more : (max 8 (room_of c.args.line.now.series.tag_set) ≤ room_of sets.series.tag_set) × (max 4 c.args.line.now.field_set.capacity ≤ sets.field_set.capacity) =
