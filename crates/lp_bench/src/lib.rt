@@ -1,9 +1,10 @@
 //! What is timed: the library's calls over byte slices, for a driver in C.
 //!
-//! Each text must be UTF-8, which `lp_bench_is_utf8` tells. No call keeps anything.
+//! Each call over a text tests first whether it is UTF-8, and gives 0 where it is not. `lp_bench_is_utf8`
+//! is that test alone, so that a driver can take its time off. No call keeps anything.
 #![tactic(auto)]
 
-ghost use Rattle.std.specs.Prelude.{IsUtf8};
+ghost use Rattle.std.specs.Prelude.{◌↔◌, IsTrue, IsUtf8};
 
 use influxdb_line_protocol::builder::BeforeMeasurement;
 use influxdb_line_protocol::{
@@ -11,10 +12,13 @@ use influxdb_line_protocol::{
 };
 use lp_rebuild::rebuild;
 use std::alloc::Global;
+use std::num::f64_to_bits_with_nan;
 
 /// Whether a text is UTF-8.
 #[unsafe(no_mangle)]
-pub extern "C" fn lp_bench_is_utf8(text: &[u8]) -> bool {
+pub extern "C" fn lp_bench_is_utf8(text: &[u8]) -> bool
+    ensures { IsTrue result ↔ IsUtf8 text.now }
+{
     str::from_utf8(text).is_ok()
 }
 
@@ -34,16 +38,24 @@ fn of_value(value: &FieldValue<'_>) -> u64 {
     }
 }
 
-// The sum of what a line holds.
-fn of_line(line: &ParsedLine<'_>) -> u64 {
+// What a value adds to a sum, with a float made a number.
+fn of_number(value: &FieldValue<'_>) -> u64 {
+    let FieldValue::F64(literal) = value else {
+        return of_value(value);
+    };
+    match literal.as_str().parse::<f64>() {
+        Ok(number) => f64_to_bits_with_nan(number),
+        Err(_) => 0,
+    }
+}
+
+// The sum of what a line holds beside its fields.
+fn of_head(line: &ParsedLine<'_>) -> u64 {
     let mut sum = of_text(&line.series.measurement);
     if let Some(tags) = &line.series.tag_set {
         for (key, value) in tags.as_slice() {
             sum = sum.wrapping_add(of_text(key)).wrapping_add(of_text(value));
         }
-    }
-    for (key, value) in line.field_set.as_slice() {
-        sum = sum.wrapping_add(of_text(key)).wrapping_add(of_value(value));
     }
     match line.timestamp {
         Some(timestamp) => sum.wrapping_add(timestamp.cast_unsigned()),
@@ -51,12 +63,32 @@ fn of_line(line: &ParsedLine<'_>) -> u64 {
     }
 }
 
+// The sum of what a line holds.
+fn of_line(line: &ParsedLine<'_>) -> u64 {
+    let mut sum = of_head(line);
+    for (key, value) in line.field_set.as_slice() {
+        sum = sum.wrapping_add(of_text(key)).wrapping_add(of_value(value));
+    }
+    sum
+}
+
+// The sum of what a line holds, with its floats made numbers.
+fn of_line_in_numbers(line: &ParsedLine<'_>) -> u64 {
+    let mut sum = of_head(line);
+    for (key, value) in line.field_set.as_slice() {
+        sum = sum
+            .wrapping_add(of_text(key))
+            .wrapping_add(of_number(value));
+    }
+    sum
+}
+
 /// Reads all items of a text, and sums what they hold: lengths of texts, and numbers. A fault counts 1.
 #[unsafe(no_mangle)]
-pub extern "C" fn lp_bench_parse(alloc: Global, text: &[u8]) -> u64
-    requires { IsUtf8 text.now }
-{
-    let text = unsafe { str::from_utf8_unchecked(text) };
+pub extern "C" fn lp_bench_parse(alloc: Global, text: &[u8]) -> u64 {
+    let Ok(text) = str::from_utf8(text) else {
+        return 0;
+    };
     let mut sum = 0u64;
     for item in parse_lines(alloc, text) {
         let one = match &item {
@@ -68,12 +100,48 @@ pub extern "C" fn lp_bench_parse(alloc: Global, text: &[u8]) -> u64
     sum
 }
 
+/// The same as `lp_bench_parse`, read into a line that is used again.
+#[unsafe(no_mangle)]
+pub extern "C" fn lp_bench_next_into(alloc: Global, text: &[u8]) -> u64 {
+    let Ok(text) = str::from_utf8(text) else {
+        return 0;
+    };
+    let mut items = parse_lines(alloc, text);
+    let mut line = ParsedLine::new(alloc);
+    let mut sum = 0u64;
+    while let Some(answer) = items.next_into(&mut line) {
+        let one = match answer {
+            Ok(()) => of_line(&line),
+            Err(_) => 1,
+        };
+        sum = sum.wrapping_add(one);
+    }
+    sum
+}
+
+/// The same as `lp_bench_parse`, with each float made a number.
+#[unsafe(no_mangle)]
+pub extern "C" fn lp_bench_numbers(alloc: Global, text: &[u8]) -> u64 {
+    let Ok(text) = str::from_utf8(text) else {
+        return 0;
+    };
+    let mut sum = 0u64;
+    for item in parse_lines(alloc, text) {
+        let one = match &item {
+            Ok(line) => of_line_in_numbers(line),
+            Err(_) => 1,
+        };
+        sum = sum.wrapping_add(one);
+    }
+    sum
+}
+
 /// Splits a text, and counts its pieces.
 #[unsafe(no_mangle)]
-pub extern "C" fn lp_bench_split(text: &[u8]) -> u64
-    requires { IsUtf8 text.now }
-{
-    let text = unsafe { str::from_utf8_unchecked(text) };
+pub extern "C" fn lp_bench_split(text: &[u8]) -> u64 {
+    let Ok(text) = str::from_utf8(text) else {
+        return 0;
+    };
     let mut count = 0u64;
     for _ in split_lines(text) {
         count = count.wrapping_add(1);
@@ -83,10 +151,10 @@ pub extern "C" fn lp_bench_split(text: &[u8]) -> u64
 
 /// Rebuilds a text into a buffer, and gives the number of bytes written; 0 where memory was refused.
 #[unsafe(no_mangle)]
-pub extern "C" fn lp_bench_rebuild(alloc: Global, text: &[u8]) -> u64
-    requires { IsUtf8 text.now }
-{
-    let text = unsafe { str::from_utf8_unchecked(text) };
+pub extern "C" fn lp_bench_rebuild(alloc: Global, text: &[u8]) -> u64 {
+    let Ok(text) = str::from_utf8(text) else {
+        return 0;
+    };
     match rebuild(alloc, text) {
         Ok(rebuilt) => rebuilt.batch.len() as u64,
         Err(_) => 0,
