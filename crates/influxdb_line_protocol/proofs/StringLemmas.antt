@@ -1,17 +1,26 @@
 -- Texts between quotes.
 use Rattle.std.proofs.Common.{◌≡◌, ◌≢◌, ℕ, ◌<◌, List, [], ◌∷◌, length, take, drop, get_or, slice_index, true, false, refl, ap, ◌∙◌, arith, zero-add}
 use Rattle.std.specs.Prelude.{◌==◌, nat_lt}
-use Rattle.std.proofs.lemmas.Bool.{and_parts, eqb-true, ne_eqb, lt-ltb, ltb-true, false_from_ne_true}
+use Rattle.std.proofs.lemmas.Bool.{and_parts, eq-eqb, eqb-true, ne_eqb, lt-ltb, ltb-true, false_from_ne_true}
 use Rattle.std.specs.List.{range_with_len}
 use Rattle.std.proofs.lemmas.List.{length-drop}
 use Rattle.std.proofs.lemmas.List.FromFn.{length-range_with_len, get_or-range_with_len}
 use Rattle.std.proofs.lemmas.List.Sums.{passes_at_first}
 use Rattle.influxdb_line_protocol.specs.Bytes.{quote}
 use Rattle.influxdb_line_protocol.specs.Escapes.{first_bare, is_bare_at}
+use Rattle.influxdb_line_protocol.specs.Lines.{byte}
 use Rattle.influxdb_line_protocol.specs.Names.{read_text}
 use Rattle.influxdb_line_protocol.specs.Readings.{miss, reads}
 use Rattle.influxdb_line_protocol.specs.Values.{quotable, body_len, string, string_at}
 use Rattle.influxdb_line_protocol.proofs.ValueLemmas.{byte_behind, behind_byte}
+
+-- where a byte misses, the text does not begin with it
+pub byte_missing : (b : ℕ) (text : List ℕ) → byte b text ≡ miss → (rest : List ℕ) → text ≢ b ∷ rest
+byte_missing b [] none rest e = cc
+byte_missing b (c ∷ cs) none rest e =
+    let same : c ≡ b = cc in
+    let found = rw (same, eq-eqb b b refl) at none in
+    cc
 
 -- the outcomes of a string
 pub string_misses : (text : List ℕ) → ((behind : List ℕ) → text ≢ 34 ∷ behind) → string_at text ≡ miss

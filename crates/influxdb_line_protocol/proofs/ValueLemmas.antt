@@ -1,20 +1,16 @@
 -- Numbers in front of a text.
-use Rattle.std.proofs.Common.{◌≡◌, ◌≢◌, ◌∙◌, ℕ, zero, suc, ◌+◌, ◌-◌, ◌^◌, ◌<◌, ◌≤◌, List, [], ◌∷◌, length, map, take, drop, get_or, Bool, None, eqb, slice_index, true, false, refl, sym, ap, subst, arith, inl, inr, add-zero, zero-add, one-add}
+use Rattle.std.proofs.Common.{◌≡◌, ◌≢◌, ℕ, zero, suc, ◌+◌, ◌-◌, ◌^◌, ◌<◌, ◌≤◌, List, [], ◌∷◌, length, take, drop, get_or, Bool, slice_index, true, false, refl, sym, ap, subst, arith, inl, inr, add-zero, zero-add, one-add}
 use Rattle.std.specs.Prelude.{◌==◌, if◌then◌else◌, IsUtf8, IsCharBoundary, ℤ, pos, negsuc, FitsSigned}
-use Rattle.std.specs.Bool.{MatchBool}
-use Rattle.std.specs.Borrow.{Bor}
-use Rattle.std.specs.List.{starts_with}
-use Rattle.std.specs.Str.Pattern.{HasPrefixMatch, FindsTextPrefix}
 use Rattle.std.specs.Char.{is_ascii_digit, digit_value}
 use Rattle.std.specs.Int.{w64}
 use Rattle.std.specs.Str.Parse.{AllDigits, IsNumeral, digits_value, signed_digits_value, without_leading_sign}
 use Rattle.std.proofs.lemmas.Bool.{cases_Bool, cases_eq, cases_lt, false_from_ne_true, and_parts, eqb-false, eqb-true, eq-eqb, ne_eqb, leb-true, ltb-true, lt-ltb, le-leb, and_from}
 use Rattle.std.specs.Prelude.{leb, nat_lt}
-use Rattle.std.proofs.lemmas.List.{drop-drop, drop_more, get_or-drop, get_or-map, length-map, get_or_past, length-drop, length-take, length-take-le}
-use Rattle.std.proofs.lemmas.List.Sums.{fold_more, prefix_len_passes, prefix_len-le-length}
+use Rattle.std.proofs.lemmas.List.{drop-drop, drop_more, get_or-drop, get_or_past, length-drop, length-take, length-take-le}
+use Rattle.std.proofs.lemmas.List.Sums.{prefix_len_passes, prefix_len-le-length}
 use Rattle.std.proofs.lemmas.Grind.{common_steps}
 use Rattle.std.proofs.lemmas.Str.{IsCharBoundary-after_ascii, IsCharBoundary-start, digit_value_digit}
-use Rattle.influxdb_line_protocol.specs.Values.{Value, digits_len, integer, integer_at, integer_len, side_of, fits_i64, boolean, boolean_at, longer_front, unsigned, unsigned_at, word_len}
+use Rattle.influxdb_line_protocol.specs.Values.{Value, digits_len, integer, integer_at, integer_len, side_of, fits_i64, boolean, boolean_at, unsigned, unsigned_at, word_len}
 use Rattle.influxdb_line_protocol.specs.Readings.{Reading, Text, ◌otherwise◌, above, miss, fatal, reads, integer_value_invalid, uinteger_value_invalid}
 
 -- a digit, by its test
@@ -229,31 +225,6 @@ unsigned_decides text other no_integer some mark =
       | inl small ↦ rw (no_integer, unsigned_reads text some mark small) refl
       | inr large ↦ rw (no_integer, unsigned_overflows text some mark large) refl
     ]
-
--- the longest of the words so far, and one more
-pub word_len_more : (words : List (Bor (List ℕ))) (i : ℕ) (none : Bor (List ℕ)) (text : List ℕ) → i < length words
-    → word_len (take (i + 1) (map (λ word. word.now) words)) text ≡ longer_front text (word_len (take i (map (λ word. word.now) words)) text) (get_or words i none).now
-word_len_more words i none text within =
-    let texts = map (λ (word : Bor (List ℕ)). word.now) words in
-    fold_more (λ n word. longer_front text n word) 0 texts i [] (omega (arith, length-map words (λ (word : Bor (List ℕ)). word.now)))
-    ∙ ap (longer_front text (word_len (take i texts) text)) (get_or-map (λ (word : Bor (List ℕ)). word.now) words i none [] within)
-
-pub longer_front_is : (text word : List ℕ) (n : ℕ) → n < length word → starts_with eqb text word ≡ true → longer_front text n word ≡ length word
-longer_front_is text word n longer found = rw (found, lt-ltb n (length word) longer) refl
-
-pub longer_front_other : (text word : List ℕ) (n : ℕ) → starts_with eqb text word ≡ false → longer_front text n word ≡ n
-longer_front_other text word n other = rw other refl
-
-pub longer_front_short : (text word : List ℕ) (n : ℕ) → length word ≤ n → longer_front text n word ≡ n
-longer_front_short text word n short =
-    let test : nat_lt n (length word) ≡ false = false_from_ne_true _ (λ t. absurd (omega (arith, ltb-true n (length word) t))) in
-    elim (cases_Bool (starts_with eqb text word)) [ inl found ↦ rw (found, test) refl | inr other ↦ rw other refl ]
-
--- behind a word in front a text may be cut
-pub word_boundary : (found : Bool) (word text : List ℕ) → MatchBool found (HasPrefixMatch (FindsTextPrefix word) text) (FindsTextPrefix word text None) → found ≡ true
-    → IsCharBoundary text (length word)
-word_boundary true word text match e = match.1.2
-word_boundary false word text match e = cc
 
 -- the outcomes of a Boolean
 pub boolean_misses : (b : Bool) (words : List (List ℕ)) (text : List ℕ) → word_len words text ≡ 0 → boolean_at b words text ≡ miss

@@ -1,6 +1,8 @@
 //! Values of fields.
 
-ghost use Rattle.std.specs.Prelude.{◌≡◌, ◌≤◌, ◌<◌, ◌==◌, ◌||◌, true, false, codes, drop, map, length, slice_index, IsCharBoundary, IfOk, IfSome, IsErr, IsOk, Ok, Err};
+ghost use Rattle.std.specs.Prelude.{◌≡◌, ◌≤◌, ◌<◌, ◌==◌, ◌||◌, ℕ, List, true, false, codes, drop, length, slice_index, IsCharBoundary, IfOk, IfSome, IsErr, IsOk, Ok, Err};
+ghost use Rattle.std.specs.List.{starts_with};
+ghost use Rattle.std.specs.Prelude.{eqb};
 ghost use Rattle.std.specs.Char.{is_ascii_digit};
 ghost use Rattle.influxdb_line_protocol.specs.declared.error.Error.{Error};
 ghost use Rattle.influxdb_line_protocol.specs.Bytes.{is_one_of, letter_i, letter_u, minus};
@@ -16,7 +18,7 @@ use crate::digits::{integer_value, unsigned_value};
 use crate::error::{Error, OutOfRange};
 use crate::escaped::EscapedStr;
 use crate::forms::{Form, escaped_str, front};
-use crate::line::behind_spaces;
+use crate::line::{behind, behind_spaces};
 use crate::literals::{FloatText, integer_len};
 use std::alloc::{AllocError, Global};
 
@@ -213,41 +215,41 @@ fn string<'a>(alloc: Global, text: &'a str) -> Result<Option<(FieldValue<'a>, &'
     ensures less { IfOk result (λ o. IfSome o (λ p. length p.1.now < length text.now)) }
     ensures memory { result ≡ Err Error.OutOfMemory → NeedsMemory is_single_value (string_at text.now) }
 {
-    let Some(behind) = text.strip_prefix('"') else {
+    let Some(opened) = behind(b'"', text) else {
         return Ok(None);
     };
-    let (body, closing) = front(Form::Quoted, behind);
-    let Some(rest) = closing.strip_prefix('"') else {
+    let (body, closing) = front(Form::Quoted, opened);
+    let Some(rest) = behind(b'"', closing) else {
         return Ok(None);
     };
     let spelled = escaped_str(alloc, body)?;
     Ok(Some((FieldValue::String(spelled), rest)))
 }
 
-// How many bytes of `text` the longest of these words takes in front.
-fn word_len(words: &[&str], text: &str) -> usize
-    ensures value { result ≡ word_len (map (λ word. word.now) words.now) text.now }
-    ensures boundary { IsCharBoundary text.now result }
+// Whether one of the long words for true stands in front of `bytes`.
+#[inline(always)]
+fn is_long_true(bytes: &[u8]) -> bool
+    ensures value { result ≡ (starts_with eqb bytes.now (codes "true") || starts_with eqb bytes.now (codes "True") || starts_with eqb bytes.now (codes "TRUE")) }
+    ensures last { result ≡ true → (3 < length bytes.now) × (slice_index bytes.now 3 < 128) }
 {
-    let mut len = 0;
-    for word in words {
-        if len < word.len() && text.starts_with(*word) {
-            len = word.len();
-        }
+    match bytes {
+        [b't' | b'T', b'r', b'u', b'e', ..] => true,
+        [b'T', b'R', b'U', b'E', ..] => true,
+        _ => false,
     }
-    len
 }
 
-// The longest word for this value in front of `text`, and the rest.
-fn boolean_by<'a>(value: bool, words: &[&str], text: &'a str) -> Option<(FieldValue<'a>, &'a str)>
-    ensures value { Gives value_of (Ok result) (boolean_at value (map (λ word. word.now) words.now) text.now) }
-    ensures less { IfSome result (λ p. length p.1.now < length text.now) }
+// Whether one of the long words for false stands in front of `bytes`.
+#[inline(always)]
+fn is_long_false(bytes: &[u8]) -> bool
+    ensures value { result ≡ (starts_with eqb bytes.now (codes "false") || starts_with eqb bytes.now (codes "False") || starts_with eqb bytes.now (codes "FALSE")) }
+    ensures last { result ≡ true → (4 < length bytes.now) × (slice_index bytes.now 4 < 128) }
 {
-    let (word, rest) = text.split_at(word_len(words, text));
-    if word.is_empty() {
-        return None;
+    match bytes {
+        [b'f' | b'F', b'a', b'l', b's', b'e', ..] => true,
+        [b'F', b'A', b'L', b'S', b'E', ..] => true,
+        _ => false,
     }
-    Some((FieldValue::Boolean(value), rest))
 }
 
 // Whether a word for true may begin with the first of `bytes`.
@@ -258,6 +260,54 @@ fn begins_true(bytes: &[u8]) -> bool
     matches!(bytes, [b't' | b'T', ..])
 }
 
+// Whether a word for false may begin with the first of `bytes`.
+#[inline(always)]
+fn begins_false(bytes: &[u8]) -> bool
+    ensures { result ≡ is_one_of (codes "fF") (slice_index bytes.now 0) }
+{
+    matches!(bytes, [b'f' | b'F', ..])
+}
+
+// How many bytes of `text` the longest word for true takes in front.
+#[inline(always)]
+fn true_len(text: &str) -> usize
+    ensures value { result ≡ word_len true_words text.now }
+    ensures boundary { IsCharBoundary text.now result }
+{
+    let bytes = text.as_bytes();
+    if is_long_true(bytes) {
+        return 4;
+    }
+    if begins_true(bytes) { 1 } else { 0 }
+}
+
+// How many bytes of `text` the longest word for false takes in front.
+#[inline(always)]
+fn false_len(text: &str) -> usize
+    ensures value { result ≡ word_len false_words text.now }
+    ensures boundary { IsCharBoundary text.now result }
+{
+    let bytes = text.as_bytes();
+    if is_long_false(bytes) {
+        return 5;
+    }
+    if begins_false(bytes) { 1 } else { 0 }
+}
+
+// This value and the rest, where the longest of the words for it takes `len` bytes of `text`.
+#[inline(always)]
+fn boolean_by<'a>(value: bool, len: usize, text: &'a str) -> Option<(FieldValue<'a>, &'a str)>
+    requires { IsCharBoundary text.now len }
+    ensures value { (words : List (List ℕ)) → len ≡ word_len words text.now → Gives value_of (Ok result) (boolean_at value words text.now) }
+    ensures less { IfSome result (λ p. length p.1.now < length text.now) }
+{
+    let (word, rest) = text.split_at(len);
+    if word.is_empty() {
+        return None;
+    }
+    Some((FieldValue::Boolean(value), rest))
+}
+
 // A Boolean in front of `text`, and the rest.
 #[inline(never)]
 fn boolean(text: &str) -> Option<(FieldValue<'_>, &str)>
@@ -265,9 +315,9 @@ fn boolean(text: &str) -> Option<(FieldValue<'_>, &str)>
     ensures less { IfSome result (λ p. length p.1.now < length text.now) }
 {
     if begins_true(text.as_bytes()) {
-        return boolean_by(true, &["true", "True", "TRUE", "t", "T"], text);
+        return boolean_by(true, true_len(text), text);
     }
-    boolean_by(false, &["false", "False", "FALSE", "f", "F"], text)
+    boolean_by(false, false_len(text), text)
 }
 
 /// A value in front of `text`, and the rest. `None` where none stands there.
