@@ -1,0 +1,19 @@
+//! Floats of the builder, which are texts.
+
+// [floats]
+ghost use Rattle.std.specs.Prelude.{◌≡◌, IfSome};
+ghost use Rattle.influxdb_line_protocol.specs.Values.{IsFloat};
+
+use influxdb_line_protocol::{FloatText, LineProtocolBuilder};
+use std::alloc::Global;
+
+/// The line of one float, or `None` where `degrees` is no float, as `inf`, or where memory was refused.
+pub fn float_line(alloc: Global, degrees: &str) -> Option<Vec<u8>>
+    ensures { IfSome result (λ _. IsFloat degrees.now) }
+{
+    let degrees = FloatText::new(degrees)?;
+    let line = LineProtocolBuilder::new(alloc).measurement("weather").ok()?;
+    let line = line.field("degrees", degrees).ok()?;
+    Some(line.close_line().ok()?.build())
+}
+// [end]

@@ -1,0 +1,19 @@
+//! Callers of the library, each small and proved, that the documents quote.
+//!
+//! What stands from `// [NAME]` to `// [end]` is the block NAME of a document.
+#![tactic(auto)]
+
+pub mod again;
+pub mod bases;
+pub mod buffers;
+pub mod build;
+pub mod floats;
+pub mod keys;
+pub mod numbers;
+pub mod print;
+pub mod rebuilt;
+pub mod refusals;
+pub mod strict;
+#[cfg(test)]
+mod tests;
+pub mod written;
