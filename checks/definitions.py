@@ -1,0 +1,299 @@
+#!/usr/bin/env python3
+"""The list of definitions, docs/DEFINITIONS.md, from specs/ of the library crates.
+
+    checks/definitions.py            whether the list says what specs/ says; status 1 where it does not
+    checks/definitions.py --write    writes the list
+    checks/definitions.py --bare     names the definitions without a comment
+"""
+
+import re
+import sys
+from dataclasses import dataclass, field
+from pathlib import Path
+
+TOP = Path(__file__).resolve().parent.parent
+LIST = TOP / "docs" / "DEFINITIONS.md"
+LIBRARIES = ["influxdb_line_protocol", "lp_rebuild"]
+
+HEAD = """\
+# Definitions
+
+What the contracts cite: each definition of `specs/`, by its own comment, in the order in which they stand on one
+another. [FORMAT.md](FORMAT.md) has the rules in plain words, with examples; a definition says the same thing exactly,
+and is read in the file that its subject links. [GLOSSARY.md](GLOSSARY.md) has the words of the comments. Where a
+definition has no comment, its type stands in its place.
+
+`checks/definitions.py --write` writes this page, and the test command compares it with `specs/`.
+"""
+
+PARTS = {
+    "format": ("The format", "They speak of texts alone, and of no type of the code but `Dialect`."),
+    "code": ("What the code holds, finds and returns", "They tie the code's types and searches to the format."),
+    "laws": ("Laws", "What the definitions say of one another, and the words of these statements."),
+    "program": ("Rebuilding and running", "The definitions of `lp_rebuild`."),
+}
+
+
+@dataclass
+class Member:
+    names: list
+    comment: str
+
+
+@dataclass
+class Definition:
+    kind: str  # 'data', 'record' or 'def'
+    name: str
+    comment: str
+    type: str
+    value: str
+    members: list = field(default_factory=list)
+
+
+@dataclass
+class Subject:
+    crate: str
+    file: str
+    title: str
+    uses: list
+    definitions: list
+
+
+def squeezed(lines):
+    return " ".join(" ".join(lines).split())
+
+
+DEFINITION = re.compile(r"^(?:(?:abbrev|unfoldable) )?pub (?:(data|record) )?(\S+)(.*)$")
+MEMBER = re.compile(r"^  (?:pub )?((?:[^\s:(){}]+ )+): ")
+
+
+def members_of(body):
+    """The members of a record or the forms of a data type, each with its comment."""
+    members, comment = [], []
+    for line in body:
+        text = line.strip()
+        if text.startswith("-- "):
+            comment.append(text[3:])
+            continue
+        found = MEMBER.match(line + " ")
+        if found:
+            members.append(Member(found.group(1).split(), squeezed(comment)))
+        comment = []
+    return members
+
+
+def value_of(name, line):
+    """What a definition without arguments is, where one short line says it."""
+    start = name + " = "
+    return line[len(start):] if line.startswith(start) and len(line) < 60 else ""
+
+
+def definition_at(lines, at, comment):
+    """The definition that begins at a line, and the line behind it."""
+    kind, name, rest = DEFINITION.match(lines[at]).groups()
+    end = at + 1
+    while end < len(lines) and lines[end].startswith(" "):
+        end += 1
+    body = lines[at + 1:end]
+    if kind:
+        head = re.sub(r" where$", "", rest.strip())
+        return Definition(kind, name, squeezed(comment), head, "", members_of(body)), end
+    type_of = squeezed([rest] + body).removeprefix(": ")
+    value = value_of(name, lines[end]) if end < len(lines) else ""
+    return Definition("def", name, squeezed(comment), type_of, value), end
+
+
+def subject_of(crate, path):
+    """What a file of specs/ defines."""
+    lines = path.read_text(encoding="utf-8").splitlines()
+    at = 0
+    title = []
+    while at < len(lines) and lines[at].startswith("-- "):
+        title.append(lines[at][3:])
+        at += 1
+    uses, comment, definitions = [], [], []
+    while at < len(lines):
+        line = lines[at]
+        if line.startswith("use "):
+            uses.append(line)
+        elif line.startswith("-- "):
+            comment.append(line[3:])
+            at += 1
+            continue
+        elif line.startswith("infix"):
+            at += 1
+            continue
+        elif DEFINITION.match(line):
+            made, at = definition_at(lines, at, comment)
+            definitions.append(made)
+            comment = []
+            continue
+        comment = []
+        at += 1
+    file = str(path.relative_to(TOP))
+    return Subject(crate, file, squeezed(title).rstrip("."), uses, definitions)
+
+
+def subjects():
+    """The subjects of all library crates, in the order of each crate's Lib.antt."""
+    found = []
+    for crate in LIBRARIES:
+        folder = TOP / "crates" / crate / "specs"
+        for line in (folder / "Lib.antt").read_text(encoding="utf-8").splitlines():
+            if line.startswith("pub mod "):
+                subject = subject_of(crate, folder / (line[8:].strip() + ".antt"))
+                if subject.definitions:
+                    found.append(subject)
+    return found
+
+
+def cited_statements():
+    """The names of the files of which module `laws` cites a statement."""
+    text = (TOP / "crates" / LIBRARIES[0] / "src" / "laws.rt").read_text(encoding="utf-8")
+    cited = re.findall(r"specs\.(\w+)\.\{([^}]*)\}", text)
+    return {name for name, words in cited if any(word.strip()[:1].isupper() for word in words.split(","))}
+
+
+def imports(subject):
+    """The names of the files that a file stands on."""
+    return {name for use in subject.uses for name in re.findall(r"\.specs\.(\w+)\.", use)}
+
+
+def laws_among(found):
+    """The names of the files of the laws: those of the statements, and those of texts that only these stand on."""
+    laws = cited_statements()
+    while True:
+        more = set()
+        for subject in found:
+            above = {stem(other) for other in found if stem(subject) in imports(other)}
+            if above and above <= laws and stem(subject) not in laws and not speaks_of_code(subject):
+                more.add(stem(subject))
+        if not more:
+            return laws
+        laws |= more
+
+
+def below(names, found):
+    """These files, and all that they stand on."""
+    reached = set(names)
+    while True:
+        more = {name for subject in found if stem(subject) in reached for name in imports(subject)} - reached
+        if not more:
+            return reached
+        reached |= more
+
+
+def stem(subject):
+    return Path(subject.file).stem
+
+
+def speaks_of_code(subject):
+    """Whether a file names a type of the code other than `Dialect`."""
+    return any(".specs.declared." in use and ".declared.split.Dialect." not in use for use in subject.uses)
+
+
+def chapters(found):
+    """The subjects of each part of the list."""
+    library = [subject for subject in found if subject.crate == LIBRARIES[0]]
+    laws = laws_among(library)
+    reached = below(laws, library)
+    made = {key: [] for key in PARTS}
+    for subject in found:
+        if subject.crate != LIBRARIES[0]:
+            made["program"].append(subject)
+        elif stem(subject) in laws:
+            made["laws"].append(subject)
+        elif speaks_of_code(subject) or stem(subject) not in reached:
+            made["code"].append(subject)
+        else:
+            made["format"].append(subject)
+    return made
+
+
+def members_text(definition):
+    """The lines of a definition's members: those that have a comment, or else all by their names."""
+    if any(member.comment for member in definition.members):
+        lines = []
+        for member in definition.members:
+            names = ", ".join(f"`{name}`" for name in member.names)
+            lines.append(f"  - {names}" + (f": {member.comment}" if member.comment else ""))
+        return lines
+    names = ", ".join(f"`{name}`" for member in definition.members for name in member.names)
+    if not names:
+        return []
+    word = "Forms" if definition.kind == "data" else "Parts"
+    return [f"  - {word}: {names}"]
+
+
+def definition_text(definition):
+    if definition.comment:
+        head = f"- **`{definition.name}`**: {definition.comment}"
+    elif definition.value:
+        head = f"- **`{definition.name}`** is `{definition.value}`"
+    else:
+        head = f"- **`{definition.name}`** : `{definition.type}`"
+    return [head] + members_text(definition)
+
+
+def subject_text(subject):
+    link = f"[`{subject.file}`](../{subject.file})"
+    lines = [f"### {stem(subject)}", "", f"{subject.title}. In {link}.", ""]
+    for definition in subject.definitions:
+        lines += definition_text(definition)
+    return lines + [""]
+
+
+def list_text():
+    """The whole page."""
+    made = chapters(subjects())
+    lines = HEAD.splitlines() + [""]
+    for key, (title, _) in PARTS.items():
+        lines += [f"| {title} | |", "|---|---|"]
+        lines += [f"| [{stem(s)}](#{stem(s).lower()}) | {s.title} |" for s in made[key]] + [""]
+    for key, (title, about) in PARTS.items():
+        lines += [f"## {title}", "", about, ""]
+        for subject in made[key]:
+            lines += subject_text(subject)
+    return "\n".join(lines).rstrip("\n") + "\n"
+
+
+def differ(wanted):
+    """Where the list that stands differs from the wanted one, in words; nothing where it does not."""
+    if not LIST.exists():
+        return "it is not there"
+    found = LIST.read_text(encoding="utf-8")
+    if found == wanted:
+        return ""
+    old, new = found.splitlines(), wanted.splitlines()
+    for number, (a, b) in enumerate(zip(old, new), 1):
+        if a != b:
+            return f"line {number} is\n    {a}\nand specs/ gives\n    {b}"
+    return f"it has {len(old)} lines, and specs/ gives {len(new)}"
+
+
+def main(words):
+    if words == ["--bare"]:
+        for subject in subjects():
+            for definition in subject.definitions:
+                if not definition.comment:
+                    print(f"{subject.file}: {definition.name}")
+        return 0
+    wanted = list_text()
+    if words == ["--write"]:
+        LIST.write_text(wanted, encoding="utf-8")
+        print(f"definitions: docs/DEFINITIONS.md is written, {wanted.count('- **`')} definitions")
+        return 0
+    if words:
+        print(__doc__, file=sys.stderr)
+        return 2
+    difference = differ(wanted)
+    if difference:
+        print(f"definitions: docs/DEFINITIONS.md is not what specs/ says: {difference}", file=sys.stderr)
+        print("definitions: run checks/definitions.py --write", file=sys.stderr)
+        return 1
+    print(f"definitions: docs/DEFINITIONS.md says what specs/ says, {wanted.count('- **`')} definitions")
+    return 0
+
+
+if __name__ == "__main__":
+    sys.exit(main(sys.argv[1:]))
