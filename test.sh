@@ -3,6 +3,7 @@
 set -eu
 cd "$(dirname "$0")"
 PATH=$PATH:/opt/rattle/bin
+checks/documents.sh
 misuses/check.sh
 checks/arguments.sh
 checks/refusals.sh

@@ -5,15 +5,19 @@
 
 pub mod again;
 pub mod bases;
-pub mod buffers;
+pub mod bounded;
 pub mod build;
 pub mod floats;
+pub mod given_back;
 pub mod keys;
 pub mod numbers;
+pub mod packets;
 pub mod print;
 pub mod rebuilt;
 pub mod refusals;
 pub mod strict;
 #[cfg(test)]
 mod tests;
+pub mod values;
+pub mod vectors;
 pub mod written;

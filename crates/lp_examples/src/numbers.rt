@@ -6,7 +6,6 @@ ghost use Rattle.influxdb_line_protocol.specs.Lookups.{value_by_key};
 ghost use Rattle.influxdb_line_protocol.specs.declared.values.FieldValue.TheVariants.{I64, U64};
 
 use influxdb_line_protocol::{FieldValue, ParsedLine};
-use std::num::{nearest_i64_to_f64, nearest_u64_to_f64};
 
 /// The whole number of a field, where it has one that an `i64` holds.
 pub fn whole_number(line: &ParsedLine<'_>, key: &str) -> Option<i64>
@@ -17,17 +16,6 @@ pub fn whole_number(line: &ParsedLine<'_>, key: &str) -> Option<i64>
         FieldValue::I64(number) => Some(*number),
         FieldValue::U64(number) => i64::try_from(*number).ok(),
         FieldValue::F64(_) | FieldValue::String(_) | FieldValue::Boolean(_) => None,
-    }
-}
-
-/// The number of a value, where it is one. A float is its text, so a caller that wants its number parses that.
-pub fn number(value: &FieldValue<'_>) -> Option<f64> {
-    match value {
-        FieldValue::I64(number) => Some(nearest_i64_to_f64(*number)),
-        FieldValue::U64(number) => Some(nearest_u64_to_f64(*number)),
-        FieldValue::F64(literal) => literal.as_str().parse::<f64>().ok(),
-        FieldValue::String(_) => None,
-        FieldValue::Boolean(_) => None,
     }
 }
 // [end]

@@ -2,15 +2,19 @@
 
 use crate::again::{Tally, tally_of};
 use crate::bases::lines_by_series;
-use crate::buffers::{Bounded, packet, two_readings};
+use crate::bounded::Bounded;
 use crate::build::reading;
 use crate::floats::float_line;
+use crate::given_back::begun;
 use crate::keys::{host, is_of_host};
-use crate::numbers::{number, whole_number};
+use crate::numbers::whole_number;
+use crate::packets::packet;
 use crate::print::print_lines;
 use crate::rebuilt::cleaned;
-use crate::refusals::{begun, with_tag_if_room};
+use crate::refusals::with_tag_if_room;
 use crate::strict::faults_in;
+use crate::values::{number, text};
+use crate::vectors::two_readings;
 use crate::written::write_again;
 use arrayvec::ArrayVec;
 use influxdb_line_protocol::builder::NoRoom;
@@ -51,6 +55,15 @@ fn numbers_are_told_by_their_variants(rt: HostRuntime) {
         let value = line.as_ref().and_then(|line| line.field_value("a"));
         assert_eq!(rt; value.and_then(number), wanted, "{text}");
     }
+}
+
+#[test]
+fn a_text_is_told_by_its_variant(rt: HostRuntime) {
+    let line = line_of(rt.alloc(), "m a=\"5 \\\" 6\",b=5i");
+    let value = line.as_ref().and_then(|line| line.field_value("a"));
+    assert_eq!(rt; value.and_then(text), Some("5 \" 6"));
+    let value = line.as_ref().and_then(|line| line.field_value("b"));
+    assert_eq!(rt; value.and_then(text), None);
 }
 
 #[test]

@@ -1,0 +1,132 @@
+#!/usr/bin/env python3
+"""The blocks of code in README.md and CALLING.md, from the proved callers in crates/lp_examples.
+
+    checks/blocks.py            whether each block is a copy of its stretch; status 1 where one is not
+    checks/blocks.py --write    writes the stretches into the documents
+
+In a document the line `<!-- block NAME -->` stands before a block. A stretch of a file of src/ stands from the line
+`// [NAME]` to `// [end]`. A NAME with a `/` is a whole file, from crates/lp_examples on.
+"""
+
+import re
+import sys
+from pathlib import Path
+
+TOP = Path(__file__).resolve().parent.parent
+EXAMPLES = TOP / "crates" / "lp_examples"
+DOCUMENTS = ["README.md", "CALLING.md"]
+LANGUAGES = ("rust", "antt")  # of the blocks that must be copies
+
+BEGIN = re.compile(r"^// \[(\w+)\]$")
+BLOCK = re.compile(r"^<!-- block (\S+) -->$")
+
+
+class Fault(Exception):
+    """What is wrong with a file, in words."""
+
+
+def stretches_of(path):
+    """The stretches of a file, by their names."""
+    found, name, lines = {}, None, []
+    for number, line in enumerate(path.read_text(encoding="utf-8").splitlines(), 1):
+        begin = BEGIN.match(line)
+        if line == "// [end]":
+            if name is None:
+                raise Fault(f"{path.name}:{number}: nothing ends here")
+            found[name] = "\n".join(lines).strip("\n").splitlines()
+            name, lines = None, []
+        elif begin:
+            if name or begin.group(1) in found:
+                raise Fault(f"{path.name}:{number}: `{begin.group(1)}` begins in another, or twice")
+            name = begin.group(1)
+        elif name:
+            lines.append(line)
+    if name:
+        raise Fault(f"{path.name}: `{name}` has no end")
+    return found
+
+
+def stretches():
+    """The stretches of all files, by their names."""
+    found = {}
+    for path in sorted((EXAMPLES / "src").glob("*.rt")):
+        for name, lines in stretches_of(path).items():
+            if name in found:
+                raise Fault(f"{path.name}: `{name}` stands in another file too")
+            found[name] = lines
+    return found
+
+
+def wanted(name, known, where):
+    """The lines that a block of this name must have."""
+    if "/" in name:
+        path = EXAMPLES / name
+        if not path.is_file():
+            raise Fault(f"{where}: crates/lp_examples has no file {name}")
+        return path.read_text(encoding="utf-8").rstrip("\n").splitlines()
+    if name not in known:
+        raise Fault(f"{where}: crates/lp_examples has no stretch `{name}`")
+    return known[name]
+
+
+def filled(document, known, quoted):
+    """The text of a document with each block as its stretch has it."""
+    lines = (TOP / document).read_text(encoding="utf-8").splitlines()
+    out, name, at = [], None, 0
+    while at < len(lines):
+        line, where = lines[at], f"{document}:{at + 1}"
+        out.append(line)
+        at += 1
+        if not line.startswith("```"):
+            mark = BLOCK.match(line)
+            name = mark.group(1) if mark else (name if not line.strip() else None)
+            continue
+        end = next((n for n in range(at, len(lines)) if lines[n] == "```"), None)
+        if end is None:
+            raise Fault(f"{where}: this block has no end")
+        if name is None and line[3:] in LANGUAGES:
+            raise Fault(f"{where}: this block has no line `<!-- block NAME -->` before it")
+        out += lines[at:end] if name is None else wanted(name, known, where)
+        out.append("```")
+        quoted.add(name)
+        name, at = None, end + 1
+    return "\n".join(out) + "\n"
+
+
+def first_difference(document, text):
+    """The place of the first line that differs, in words."""
+    old, new = (TOP / document).read_text(encoding="utf-8").splitlines(), text.splitlines()
+    for number, (a, b) in enumerate(zip(old, new), 1):
+        if a != b:
+            return f"{document}:{number} is\n    {a}\nand crates/lp_examples has\n    {b}"
+    return f"{document} has {len(old)} lines, and with the blocks of crates/lp_examples {len(new)}"
+
+
+def run(words):
+    known, quoted = stretches(), set()
+    texts = {document: filled(document, known, quoted) for document in DOCUMENTS}
+    unquoted = sorted(set(known) - quoted)
+    if unquoted:
+        raise Fault(f"no document has the stretch `{unquoted[0]}`")
+    for document, text in texts.items():
+        if words == ["--write"]:
+            (TOP / document).write_text(text, encoding="utf-8")
+        elif text != (TOP / document).read_text(encoding="utf-8"):
+            raise Fault(first_difference(document, text) + "\nrun checks/blocks.py --write")
+    print(f"blocks: {len(quoted - {None})} are as crates/lp_examples has them")
+
+
+def main(words):
+    if words not in ([], ["--write"]):
+        print(__doc__, file=sys.stderr)
+        return 2
+    try:
+        run(words)
+    except Fault as fault:
+        print(f"blocks: {fault}", file=sys.stderr)
+        return 1
+    return 0
+
+
+if __name__ == "__main__":
+    sys.exit(main(sys.argv[1:]))

@@ -1,0 +1,11 @@
+#!/usr/bin/env bash
+# Compares the documents with what they copy: docs/DEFINITIONS.md with specs/, and the blocks of code in README.md and
+# CALLING.md with crates/lp_examples. Needs Python 3.10, and no package.
+set -eu
+here=$(cd "$(dirname "$0")" && pwd)
+if ! python3 -c 'import sys; sys.exit(sys.version_info < (3, 10))' 2>/dev/null; then
+    echo "documents: there is no Python 3.10, so they are not compared"
+    exit 0
+fi
+python3 -B "$here/definitions.py"
+python3 -B "$here/blocks.py"

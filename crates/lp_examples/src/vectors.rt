@@ -1,0 +1,16 @@
+//! Lines in a `Vec`.
+
+// [vectors]
+use crate::build::reading;
+use influxdb_line_protocol::LineProtocolBuilder;
+use influxdb_line_protocol::builder::NoRoom;
+use std::alloc::Global;
+
+/// Two lines in a `Vec`, which grows: a refusal is want of memory, or a text that is too long.
+pub fn two_readings(alloc: Global, city: &str) -> Result<Vec<u8>, NoRoom> {
+    let lines = LineProtocolBuilder::new(alloc);
+    let lines = reading(lines, city, 21, 1_000)?;
+    let lines = reading(lines, city, 22, 2_000)?;
+    Ok(lines.build())
+}
+// [end]
