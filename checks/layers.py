@@ -1,0 +1,161 @@
+#!/usr/bin/env python3
+"""Whether the imports of the library's modules go down the layers of docs/ARCHITECTURE.md.
+
+    checks/layers.py            prints each import that goes up a layer or closes a cycle; status 1 where there is one
+    checks/layers.py --all      prints every import between modules, with what is imported
+
+A module is a file of crates/influxdb_line_protocol/src with the files in its folder. An import is a path from `crate`,
+in a `use` or in the code; what `lib.rt` hands on counts for the module that it is of. A ghost `use` is none.
+"""
+
+import re
+import sys
+from pathlib import Path
+
+TOP = Path(__file__).resolve().parent.parent
+CRATE = "influxdb_line_protocol"
+SOURCE = TOP / "crates" / CRATE / "src"
+MAP = TOP / "docs" / "ARCHITECTURE.md"
+
+
+class Fault(Exception):
+    """What is wrong with what was read, in words."""
+
+
+def code_of(path):
+    """A file without comments, attributes and ghost imports."""
+    lines = path.read_text(encoding="utf-8").splitlines()
+    kept = [line for line in lines if not re.match(r"\s*(//|ghost use|#\[|#!\[)", line)]
+    return "\n".join(kept)
+
+
+def named_in(tree):
+    """The paths that the tree of a `use` names, as lists of words."""
+    tree = " ".join(tree.split())
+    head, brace, rest = tree.partition("{")
+    if not brace:
+        return [[word.split(" as ")[0].strip() for word in tree.split("::")]]
+    front = [word for word in head.strip().rstrip(":").split("::") if word]
+    inner = rest[:rest.rindex("}")]
+    found = []
+    depth, part = 0, ""
+    for c in inner + ",":
+        depth += (c == "{") - (c == "}")
+        if c == "," and depth == 0:
+            if part.strip():
+                found += [front + path for path in named_in(part)]
+            part = ""
+        else:
+            part += c
+    return found
+
+
+def modules():
+    """The modules of the crate, and of each name that its root hands on, the module."""
+    root = code_of(SOURCE / "lib.rt")
+    names = re.findall(r"^(?:pub )?mod (\w+);", root, re.M)
+    handed = {}
+    for tree in re.findall(r"pub use ([^;]*);", root):
+        for path in named_in(tree):
+            handed[path[-1]] = path[0]
+    return names, handed
+
+
+def layers(names):
+    """The layer of each module, counted from the bottom of the map."""
+    rows, inside = [], False
+    for line in MAP.read_text(encoding="utf-8").splitlines():
+        if line.strip() == CRATE:
+            inside = True
+            continue
+        if not inside:
+            continue
+        if not line.startswith("    "):
+            break
+        cells = re.split(r"\s{2,}", line.strip())
+        row = [word for cell in cells if all(word in names for word in cell.split()) for word in cell.split()]
+        rows.append(row)
+    found = {name: len(rows) - at for at, row in enumerate(rows) for name in row}
+    missing = [name for name in names if name not in found]
+    if missing:
+        raise Fault(f"docs/ARCHITECTURE.md gives no layer to {', '.join(missing)}")
+    return found
+
+
+def imports_of(name, names, handed):
+    """The modules that a module imports from, each with what it imports."""
+    files = [SOURCE / f"{name}.rt"] + sorted((SOURCE / name).glob("*.rt"))
+    found = {}
+    for path in files:
+        code = code_of(path)
+        trees = re.findall(r"\buse (crate::[^;]*);", code)
+        paths = [path for tree in trees for path in named_in(tree)]
+        without = re.sub(r"\buse [^;]*;", "", code)
+        paths += [path.split("::") for path in re.findall(r"\bcrate(?:::\w+)+", without)]
+        for words in paths:
+            first = words[1]
+            home = first if first in names else handed.get(first)
+            if home and home != name:
+                item = "::".join(word for word in words[1:] if word not in (home, "self")) or home
+                found.setdefault(home, set()).add(item)
+    return found
+
+
+def cycles(graph):
+    """The sets of modules each of which reaches each other."""
+    def reached(start):
+        seen, left = set(), [start]
+        while left:
+            for name in graph[left.pop()]:
+                if name not in seen:
+                    seen.add(name)
+                    left.append(name)
+        return seen
+    reach = {name: reached(name) for name in graph}
+    found = []
+    for name in graph:
+        circle = sorted(other for other in reach[name] if name in reach[other])
+        if circle and circle not in found:
+            found.append(circle)
+    return found
+
+
+def report(graph, layer, circles, everything):
+    """Prints the imports that are wrong, and counts them."""
+    wrong = 0
+    for name in sorted(graph, key=lambda name: (layer[name], name)):
+        for other, items in sorted(graph[name].items()):
+            goes_up = layer[other] > layer[name]
+            in_circle = any(name in circle and other in circle for circle in circles)
+            what = ", ".join(sorted(items))
+            if goes_up:
+                print(f"up:    {name} (layer {layer[name]}) imports {what} of {other} (layer {layer[other]})")
+            elif in_circle and layer[other] == layer[name]:
+                print(f"cycle: {name} imports {what} of {other}, in one layer ({layer[name]})")
+            elif everything:
+                print(f"       {name} imports {what} of {other}" + (", in a cycle" if in_circle else ""))
+            wrong += goes_up or (in_circle and layer[other] == layer[name])
+    return wrong
+
+
+def main(words):
+    if words not in ([], ["--all"]):
+        print(__doc__, file=sys.stderr)
+        return 2
+    try:
+        names, handed = modules()
+        layer = layers(names)
+    except Fault as fault:
+        print(f"layers: {fault}", file=sys.stderr)
+        return 1
+    graph = {name: imports_of(name, names, handed) for name in names}
+    circles = cycles(graph)
+    wrong = report(graph, layer, circles, words == ["--all"])
+    for circle in circles:
+        print(f"each of these reaches each other: {' '.join(circle)}")
+    print(f"layers: {len(names)} modules, {wrong} imports that go up or close a cycle in one layer")
+    return 1 if wrong or circles else 0
+
+
+if __name__ == "__main__":
+    sys.exit(main(sys.argv[1:]))
