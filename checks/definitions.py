@@ -26,11 +26,12 @@ definition has no comment, its type stands in its place.
 `checks/definitions.py --write` writes this page, and the test command compares it with `specs/`.
 """
 
+# The rooms of specs/, and what stands in them.
 PARTS = {
     "format": ("The format", "They speak of texts alone, and of no type of the code but `Dialect`."),
     "code": ("What the code holds, finds and returns", "They tie the code's types and searches to the format."),
-    "laws": ("Laws", "What the definitions say of one another, and the words of these statements."),
-    "program": ("Rebuilding and running", "The definitions of `lp_rebuild`."),
+    "laws": ("The laws", "What the definitions say of one another, and the words of these statements."),
+    "program": ("The program", "The definitions of `lp_rebuild`."),
 }
 
 
@@ -55,7 +56,6 @@ class Subject:
     crate: str
     file: str
     title: str
-    uses: list
     definitions: list
 
 
@@ -111,12 +111,10 @@ def subject_of(crate, path):
     while at < len(lines) and lines[at].startswith("-- "):
         title.append(lines[at][3:])
         at += 1
-    uses, comment, definitions = [], [], []
+    comment, definitions = [], []
     while at < len(lines):
         line = lines[at]
-        if line.startswith("use "):
-            uses.append(line)
-        elif line.startswith("-- "):
+        if line.startswith("-- "):
             comment.append(line[3:])
             at += 1
             continue
@@ -131,82 +129,43 @@ def subject_of(crate, path):
         comment = []
         at += 1
     file = str(path.relative_to(TOP))
-    return Subject(crate, file, squeezed(title).rstrip("."), uses, definitions)
+    return Subject(crate, file, squeezed(title).rstrip("."), definitions)
 
 
-def subjects():
-    """The subjects of all library crates, in the order of each crate's Lib.antt."""
+def files_of(folder, module):
+    """The files that a file of modules names, in its order, with those of its rooms."""
     found = []
-    for crate in LIBRARIES:
-        folder = TOP / "crates" / crate / "specs"
-        for line in (folder / "Lib.antt").read_text(encoding="utf-8").splitlines():
-            if line.startswith("pub mod "):
-                subject = subject_of(crate, folder / (line[8:].strip() + ".antt"))
-                if subject.definitions:
-                    found.append(subject)
+    for line in module.read_text(encoding="utf-8").splitlines():
+        if not line.startswith("pub mod "):
+            continue
+        name = line[8:].strip()
+        path = folder / (name + ".antt")
+        room = folder / name
+        found += files_of(room, path) if room.is_dir() else [path]
     return found
 
 
-def cited_statements():
-    """The names of the files of which module `laws` cites a statement."""
-    text = (TOP / "crates" / LIBRARIES[0] / "src" / "laws.rt").read_text(encoding="utf-8")
-    cited = re.findall(r"specs\.(\w+)\.\{([^}]*)\}", text)
-    return {name for name, words in cited if any(word.strip()[:1].isupper() for word in words.split(","))}
-
-
-def imports(subject):
-    """The names of the files that a file stands on."""
-    return {name for use in subject.uses for name in re.findall(r"\.specs\.(\w+)\.", use)}
-
-
-def laws_among(found):
-    """The names of the files of the laws: those of the statements, and those of texts that only these stand on."""
-    laws = cited_statements()
-    while True:
-        more = set()
-        for subject in found:
-            above = {stem(other) for other in found if stem(subject) in imports(other)}
-            if above and above <= laws and stem(subject) not in laws and not speaks_of_code(subject):
-                more.add(stem(subject))
-        if not more:
-            return laws
-        laws |= more
-
-
-def below(names, found):
-    """These files, and all that they stand on."""
-    reached = set(names)
-    while True:
-        more = {name for subject in found if stem(subject) in reached for name in imports(subject)} - reached
-        if not more:
-            return reached
-        reached |= more
+def subjects():
+    """The subjects of all library crates, each crate's in the order of its modules."""
+    found = []
+    for crate in LIBRARIES:
+        folder = TOP / "crates" / crate / "specs"
+        made = [subject_of(crate, path) for path in files_of(folder, folder / "Lib.antt")]
+        found += [subject for subject in made if subject.definitions]
+    return found
 
 
 def stem(subject):
     return Path(subject.file).stem
 
 
-def speaks_of_code(subject):
-    """Whether a file names a type of the code other than `Dialect`."""
-    return any(".specs.declared." in use and ".declared.split.Dialect." not in use for use in subject.uses)
-
-
 def chapters(found):
-    """The subjects of each part of the list."""
-    library = [subject for subject in found if subject.crate == LIBRARIES[0]]
-    laws = laws_among(library)
-    reached = below(laws, library)
+    """The subjects of each part of the list: those of each room, and those of the crates above."""
     made = {key: [] for key in PARTS}
     for subject in found:
-        if subject.crate != LIBRARIES[0]:
-            made["program"].append(subject)
-        elif stem(subject) in laws:
-            made["laws"].append(subject)
-        elif speaks_of_code(subject) or stem(subject) not in reached:
-            made["code"].append(subject)
-        else:
-            made["format"].append(subject)
+        room = Path(subject.file).parent.name
+        key = room if room in PARTS else "program"
+        made[key].append(subject)
     return made
 
 
