@@ -52,11 +52,11 @@ fn a_line_as_wide_asks_for_no_memory(rt: HostRuntime) -> Result<(), Fault> {
         let hoard = Hoard::new(alloc)?;
         let last = lines.next_into(&mut line);
         drop(hoard);
-        assert!(rt; matches!(last, Some(Ok(()))), "behind {between}");
-        assert_eq!(rt; room(&line), wide_room, "behind {between}");
+        assert!(rt; matches!(last, Some(Ok(()))), "after {between}");
+        assert_eq!(rt; room(&line), wide_room, "after {between}");
         let told = told::line(alloc, &line)?;
         let wanted = told::items(alloc, wide.as_str())?;
-        assert_eq!(rt; told.as_str(), wanted.as_str(), "behind {between}");
+        assert_eq!(rt; told.as_str(), wanted.as_str(), "after {between}");
     }
     Ok(())
 }
