@@ -12,9 +12,10 @@ use Rattle.influxdb_line_protocol.specs.Readings.{Read, Reading, miss, fatal, re
 use Rattle.influxdb_line_protocol.specs.Names.{NameKind, a_measurement, a_tag_key, a_tag_value, ends_in_backslash, logical, name, spelled}
 use Rattle.influxdb_line_protocol.specs.Values.{Value, integer_len, fits_i64, side_of}
 use Rattle.influxdb_line_protocol.specs.Points.{Pair}
-use Rattle.influxdb_line_protocol.specs.Lines.{Line, byte, tag, field, joined, tag_set, without_comma, spaces, timestamp, front_before}
+use Rattle.influxdb_line_protocol.specs.Lines.{Line, byte, tag, field, separated_list, tag_set, without_comma, spaces}
+use Rattle.influxdb_line_protocol.specs.Lines.{timestamp, front_before}
 use Rattle.influxdb_line_protocol.specs.Lines.{answer}
-use Rattle.influxdb_line_protocol.specs.Meanings.{StandInFull, NextHasFault}
+use Rattle.influxdb_line_protocol.specs.Meanings.{WholeList, NextHasFault}
 use Rattle.influxdb_line_protocol.specs.MeaningsOfAnswers.{BeginsWith, after_spaces, ReadsSeries, ReadsSeries.alone, ReadsSeries.tagged}
 use Rattle.influxdb_line_protocol.specs.MeaningsOfAnswers.{ReadsFields, IsAnswer, IsAnswer.fatal_measurement, IsAnswer.no_measurement}
 use Rattle.influxdb_line_protocol.specs.MeaningsOfAnswers.{IsAnswer.fatal_tag, IsAnswer.no_tag, IsAnswer.no_space, IsAnswer.fatal_field}
@@ -69,8 +70,8 @@ tag_fault : (text : List ℕ) → FailsByBackslash (tag text)
 unfolding tag
 tag_fault text =
     fault_of_two (name a_tag_key text) _ (name_fault a_tag_key text) (λ key.
-    fault_of_two (byte equals key.rest) _ (byte_fault equals key.rest) (λ behind.
-    fault_of_two (name a_tag_value behind.rest) _ (name_fault a_tag_value behind.rest) (λ x.
+    fault_of_two (byte equals key.rest) _ (byte_fault equals key.rest) (λ after.
+    fault_of_two (name a_tag_value after.rest) _ (name_fault a_tag_value after.rest) (λ x.
     reads_fault (record { key = key.value; value = x.value }) x.rest)))
 
 -- so of the next tag
@@ -82,9 +83,9 @@ next_tag_fault (t ∷ tags) rest e h = (tag_fault h.0).holds e h.2
 stamp_fault : (text : List ℕ) (e : Fault) → timestamp text ≡ Err e → (side : Side) × (number : List ℕ)
     × (e ≡ timestamp_value_invalid side number)
 stamp_fault text e h =
-    let behind = drop (spaces text) text in
-    let number = take (integer_len behind) behind in
-    elim (cases_Bool (spaces text == 0 || integer_len behind == 0)) [
+    let after = drop (spaces text) text in
+    let number = take (integer_len after) after in
+    elim (cases_Bool (spaces text == 0 || integer_len after == 0)) [
       | inl none ↦ absurd (let m = rw none at h in cc)
       | inr some ↦ elim (cases_Bool (fits_i64 (signed_digits_value 10 number))) [
         | inl fits ↦ absurd (let m = rw (some, fits) at h in cc)
@@ -93,13 +94,13 @@ stamp_fault text e h =
     ]
 
 -- the tags that stand in full are what commas join
-tags_read : (text : List ℕ) (tags : List (Pair Text Text)) (rest : List ℕ) → StandInFull tag text tags rest
-    → joined tag text ≡ reads tags rest
+tags_read : (text : List ℕ) (tags : List (Pair Text Text)) (rest : List ℕ) → WholeList tag text tags rest
+    → separated_list tag text ≡ reads tags rest
 tags_read text tags rest h = (the_most_is_read tag (λ t. (tag_no_longer t).holds) text tags rest).1 h
 
 -- and so are the fields
-fields_read : (text : List ℕ) (fields : List (Pair Text (Value Text))) (rest : List ℕ) → StandInFull field text fields rest
-    → joined field text ≡ reads fields rest
+fields_read : (text : List ℕ) (fields : List (Pair Text (Value Text))) (rest : List ℕ) → WholeList field text fields rest
+    → separated_list field text ≡ reads fields rest
 fields_read text fields rest h = (the_most_is_read field (λ t. (field_no_longer t).holds) text fields rest).1 h
 
 -- no comma, no tag set
@@ -109,18 +110,18 @@ no_comma (c ∷ rest) h = elim (cases_Bool (c == 44)) [ inl e ↦ absurd (h (eqb
 
 -- what a series is read from
 record Series (text : List ℕ) (m : Text) (tags : Option (List (Pair Text Text))) (rest : List ℕ) : Type 0 where
-  behind : List ℕ
-  named : name a_measurement text ≡ reads m behind
-  set : tag_set behind ≡ Ok (record { value = tags; rest = rest })
+  after : List ℕ
+  named : name a_measurement text ≡ reads m after
+  set : tag_set after ≡ Ok (record { value = tags; rest = rest })
 
 -- each series that is read is such
 series_parts : {text : List ℕ} {m : Text} {tags : Option (List (Pair Text Text))} {rest : List ℕ} → ReadsSeries text m tags rest
     → Series text m tags rest
-series_parts (alone m rest named none) = record { behind = rest; named = named; set = no_comma rest none }
-series_parts (tagged m tags after rest named h) = record { behind = 44 ∷ after; named = named; set = rw (tags_read after tags rest h) refl }
+series_parts (alone m rest named none) = record { after = rest; named = named; set = no_comma rest none }
+series_parts (tagged m tags after rest named h) = record { after = 44 ∷ after; named = named; set = rw (tags_read after tags rest h) refl }
 
 -- a space at the start of a text
-space_here : (text : List ℕ) → BeginsWith space text → (behind : List ℕ) × (byte space text ≡ reads space behind)
+space_here : (text : List ℕ) → BeginsWith space text → (after : List ℕ) × (byte space text ≡ reads space after)
 space_here [] h = absurd h
 space_here (c ∷ rest) h = let e = eq-eqb c 32 h in (rest, rw e refl)
 
@@ -142,70 +143,71 @@ module _ (dialect : Dialect) (text : List ℕ) where
   row_2 e = rw e refl
 
   -- a tag set at fault
-  row_tags : (m : Text) (behind : List ℕ) (e : Fault) → name a_measurement text ≡ reads m behind → tag_set behind ≡ Err e
+  row_tags : (m : Text) (suffix : List ℕ) (e : Fault) → name a_measurement text ≡ reads m suffix → tag_set suffix ≡ Err e
       → answer dialect text ≡ Err e
   unfolding answer
-  row_tags m behind e named h = rw (named, h) refl
+  row_tags m suffix e named h = rw (named, h) refl
 
   -- a tag is fatal
-  row_3 : (m : Text) (after : List ℕ) → name a_measurement text ≡ reads m (comma ∷ after) → joined tag after ≡ fatal ends_with_backslash
+  row_3 : (m : Text) (after : List ℕ) → name a_measurement text ≡ reads m (comma ∷ after)
+      → separated_list tag after ≡ fatal ends_with_backslash
       → answer dialect text ≡ Err ends_with_backslash
   row_3 m after named h = row_tags m (comma ∷ after) ends_with_backslash named (rw h refl)
 
   -- the first tag misses
-  row_4 : (m : Text) (after : List ℕ) → name a_measurement text ≡ reads m (comma ∷ after) → joined tag after ≡ miss
+  row_4 : (m : Text) (after : List ℕ) → name a_measurement text ≡ reads m (comma ∷ after) → separated_list tag after ≡ miss
       → answer dialect text ≡ Err tag_set_malformed
   row_4 m after named h = row_tags m (comma ∷ after) tag_set_malformed named (rw h refl)
 
   -- no space follows the series
-  row_5 : (m : Text) (tags : Option (List (Pair Text Text))) (behind rest : List ℕ) → name a_measurement text ≡ reads m behind
-      → tag_set behind ≡ Ok (record { value = tags; rest = rest }) → byte space rest ≡ miss → answer dialect text ≡ Err take_while1
+  row_5 : (m : Text) (tags : Option (List (Pair Text Text))) (suffix rest : List ℕ) → name a_measurement text ≡ reads m suffix
+      → tag_set suffix ≡ Ok (record { value = tags; rest = rest }) → byte space rest ≡ miss → answer dialect text ≡ Err take_while1
   unfolding answer
-  row_5 m tags behind rest named set gap = rw (named, set, gap) refl
+  row_5 m tags suffix rest named set gap = rw (named, set, gap) refl
 
   -- a field is fatal
-  row_6 : (m : Text) (tags : Option (List (Pair Text Text))) (behind rest more : List ℕ) (e : Fault)
-      → name a_measurement text ≡ reads m behind
-      → tag_set behind ≡ Ok (record { value = tags; rest = rest }) → byte space rest ≡ reads space more
-      → joined field (after_spaces rest) ≡ fatal e → answer dialect text ≡ Err e
+  row_6 : (m : Text) (tags : Option (List (Pair Text Text))) (suffix rest more : List ℕ) (e : Fault)
+      → name a_measurement text ≡ reads m suffix
+      → tag_set suffix ≡ Ok (record { value = tags; rest = rest }) → byte space rest ≡ reads space more
+      → separated_list field (after_spaces rest) ≡ fatal e → answer dialect text ≡ Err e
   unfolding answer
-  row_6 m tags behind rest more e named set gap fields = rw (named, set, gap, fields) refl
+  row_6 m tags suffix rest more e named set gap fields = rw (named, set, gap, fields) refl
 
   -- the first field misses
-  row_7 : (m : Text) (tags : Option (List (Pair Text Text))) (behind rest more : List ℕ) → name a_measurement text ≡ reads m behind
-      → tag_set behind ≡ Ok (record { value = tags; rest = rest }) → byte space rest ≡ reads space more
-      → joined field (after_spaces rest) ≡ miss → answer dialect text ≡ Err field_set_missing
+  row_7 : (m : Text) (tags : Option (List (Pair Text Text))) (suffix rest more : List ℕ) → name a_measurement text ≡ reads m suffix
+      → tag_set suffix ≡ Ok (record { value = tags; rest = rest }) → byte space rest ≡ reads space more
+      → separated_list field (after_spaces rest) ≡ miss → answer dialect text ≡ Err field_set_missing
   unfolding answer
-  row_7 m tags behind rest more named set gap fields = rw (named, set, gap, fields) refl
+  row_7 m tags suffix rest more named set gap fields = rw (named, set, gap, fields) refl
 
   -- the timestamp is fatal
-  row_8 : (m : Text) (tags : Option (List (Pair Text Text))) (behind rest more after : List ℕ) (fields : List (Pair Text (Value Text)))
-      (e : Fault) → name a_measurement text ≡ reads m behind
-      → tag_set behind ≡ Ok (record { value = tags; rest = rest }) → byte space rest ≡ reads space more
-      → joined field (after_spaces rest) ≡ reads fields after
+  row_8 : (m : Text) (tags : Option (List (Pair Text Text))) (suffix rest more after : List ℕ) (fields : List (Pair Text (Value Text)))
+      (e : Fault) → name a_measurement text ≡ reads m suffix
+      → tag_set suffix ≡ Ok (record { value = tags; rest = rest }) → byte space rest ≡ reads space more
+      → separated_list field (after_spaces rest) ≡ reads fields after
       → timestamp (without_comma dialect fields after) ≡ Err e → answer dialect text ≡ Err e
   unfolding answer
-  row_8 m tags behind rest more after fields e named set gap h stamp = rw (named, set, gap, h, stamp) refl
+  row_8 m tags suffix rest more after fields e named set gap h stamp = rw (named, set, gap, h, stamp) refl
 
   -- something is left
-  row_9 : (m : Text) (tags : Option (List (Pair Text Text))) (behind rest more after : List ℕ) (fields : List (Pair Text (Value Text)))
+  row_9 : (m : Text) (tags : Option (List (Pair Text Text))) (suffix rest more after : List ℕ) (fields : List (Pair Text (Value Text)))
       (t : Option ℤ) (b : ℕ) (last : List ℕ)
-      → name a_measurement text ≡ reads m behind → tag_set behind ≡ Ok (record { value = tags; rest = rest })
-      → byte space rest ≡ reads space more → joined field (after_spaces rest) ≡ reads fields after
+      → name a_measurement text ≡ reads m suffix → tag_set suffix ≡ Ok (record { value = tags; rest = rest })
+      → byte space rest ≡ reads space more → separated_list field (after_spaces rest) ≡ reads fields after
       → timestamp (without_comma dialect fields after) ≡ Ok (record { value = t; rest = b ∷ last })
       → answer dialect text ≡ Err (cannot_parse_entire_line (b ∷ last))
   unfolding answer
-  row_9 m tags behind rest more after fields t b last named set gap h stamp = rw (named, set, gap, h, stamp) refl
+  row_9 m tags suffix rest more after fields t b last named set gap h stamp = rw (named, set, gap, h, stamp) refl
 
   -- all is read
-  row_10 : (line : Line) (behind rest more after : List ℕ)
-      → name a_measurement text ≡ reads line.measurement behind → tag_set behind ≡ Ok (record { value = line.tags; rest = rest })
+  row_10 : (line : Line) (suffix rest more after : List ℕ)
+      → name a_measurement text ≡ reads line.measurement suffix → tag_set suffix ≡ Ok (record { value = line.tags; rest = rest })
       → byte space rest ≡ reads space more
-      → joined field (after_spaces rest) ≡ reads line.fields after
+      → separated_list field (after_spaces rest) ≡ reads line.fields after
       → timestamp (without_comma dialect line.fields after) ≡ Ok (record { value = line.timestamp; rest = [] })
       → front_before text rest ≡ line.series → answer dialect text ≡ Ok line
   unfolding answer
-  row_10 line behind rest more after named set gap h stamp series = rw (named, set, gap, h, stamp, series) refl
+  row_10 line suffix rest more after named set gap h stamp series = rw (named, set, gap, h, stamp, series) refl
 
   -- each row gives its answer
   row_answers : {a : Result Line Fault} → IsAnswer dialect text a → answer dialect text ≡ a
@@ -217,31 +219,31 @@ module _ (dialect : Dialect) (text : List ℕ) where
   row_answers (no_tag m after named h) = row_4 m after named ((the_first_misses tag (λ t. (tag_no_longer t).holds) after).1 h)
   row_answers (no_space m tags rest series gap) =
       let s = series_parts series in
-      row_5 m tags s.behind rest s.named s.set (no_space_here rest gap)
+      row_5 m tags s.after rest s.named s.set (no_space_here rest gap)
   row_answers (fatal_field m tags after fields rest e series gap most next) =
       let s = series_parts series in
       let g = space_here after gap in
-      row_6 m tags s.behind after g.0 e s.named s.set g.1
+      row_6 m tags s.after after g.0 e s.named s.set g.1
       ((the_next_has_the_fault field (λ t. (field_no_longer t).holds) (after_spaces after) e).1 (fields, rest, most, next))
   row_answers (no_field m tags after series gap h) =
       let s = series_parts series in
       let g = space_here after gap in
-      row_7 m tags s.behind after g.0 s.named s.set g.1 ((the_first_misses field (λ t. (field_no_longer t).holds) (after_spaces after)).1 h)
+      row_7 m tags s.after after g.0 s.named s.set g.1 ((the_first_misses field (λ t. (field_no_longer t).holds) (after_spaces after)).1 h)
   row_answers (fatal_timestamp line rest side number r stamp) =
       let s = series_parts r.series_reads in
       let g = space_here r.after_series r.gap in
-      row_8 line.measurement line.tags s.behind r.after_series g.0 r.after_fields line.fields
+      row_8 line.measurement line.tags s.after r.after_series g.0 r.after_fields line.fields
       (timestamp_value_invalid side number) s.named s.set g.1
       (fields_read (after_spaces r.after_series) line.fields r.after_fields r.fields_read) (ap timestamp (sym r.rest_is) ∙ stamp)
   row_answers (left line rest b more r stamp) =
       let s = series_parts r.series_reads in
       let g = space_here r.after_series r.gap in
-      row_9 line.measurement line.tags s.behind r.after_series g.0 r.after_fields line.fields line.timestamp b more s.named s.set g.1
+      row_9 line.measurement line.tags s.after r.after_series g.0 r.after_fields line.fields line.timestamp b more s.named s.set g.1
       (fields_read (after_spaces r.after_series) line.fields r.after_fields r.fields_read) (ap timestamp (sym r.rest_is) ∙ stamp)
   row_answers (all_read line rest r stamp) =
       let s = series_parts r.series_reads in
       let g = space_here r.after_series r.gap in
-      row_10 line s.behind r.after_series g.0 r.after_fields s.named s.set g.1
+      row_10 line s.after r.after_series g.0 r.after_fields s.named s.set g.1
       (fields_read (after_spaces r.after_series) line.fields r.after_fields r.fields_read) (ap timestamp (sym r.rest_is) ∙ stamp)
       (front_is text line.series r.after_series r.series_is)
 
@@ -270,7 +272,7 @@ module _ (dialect : Dialect) (text : List ℕ) where
   -- once a series is read and a space follows it
   by_fields : (series : List ℕ) (m : Text) (tags : Option (List (Pair Text Text))) (after : List ℕ) → text ≡ series ++ after
       → ReadsSeries text m tags after → BeginsWith space after
-      → (r : Reading (List (Pair Text (Value Text)))) → joined field (after_spaces after) ≡ r → SomeRow
+      → (r : Reading (List (Pair Text (Value Text)))) → separated_list field (after_spaces after) ≡ r → SomeRow
   by_fields series m tags after is h gap miss e = (
     Err field_set_missing,
     no_field m tags after h gap
@@ -303,22 +305,22 @@ module _ (dialect : Dialect) (text : List ℕ) where
       parts = series_parts h
 
       ends : EndsIn text after
-      ends = EndsIn-end text parts.behind after (name_ends a_measurement text m parts.behind parts.named)
-          (tag_set_ends parts.behind (record { value = tags; rest = after }) parts.set)
+      ends = EndsIn-end text parts.after after (name_ends a_measurement text m parts.after parts.named)
+          (tag_set_ends parts.after (record { value = tags; rest = after }) parts.set)
 
       go : (rest : List ℕ) → rest ≡ after → SomeRow
       go [] e = (Err take_while1, no_space m tags after h (λ s. subst (BeginsWith space) (sym e) s))
       go (c ∷ rest) e = elim (cases_Bool (c == 32)) [
         | inl here ↦
             by_fields ends.front m tags after ends.is h (subst (BeginsWith space) e (eqb-true c 32 here))
-            (joined field (after_spaces after)) refl
+            (separated_list field (after_spaces after)) refl
         | inr other ↦
             (Err take_while1, no_space m tags after h (λ s. both_ways (c == 32) other (eq-eqb c 32 (subst (BeginsWith space) (sym e) s))))
       ]
 
   -- once a measurement and a comma are read
   by_tags : (m : Text) (after : List ℕ) → name a_measurement text ≡ reads m (comma ∷ after) → (r : Reading (List (Pair Text Text)))
-      → joined tag after ≡ r → SomeRow
+      → separated_list tag after ≡ r → SomeRow
   by_tags m after named miss e =
       (Err tag_set_malformed, no_tag m after named ((the_first_misses tag (λ t. (tag_no_longer t).holds) after).0 e))
   by_tags m after named (fatal d) e =
@@ -329,10 +331,10 @@ module _ (dialect : Dialect) (text : List ℕ) where
       (tagged m tags after rest named ((the_most_is_read tag (λ t. (tag_no_longer t).holds) after tags rest).0 e))
 
   -- once a measurement is read
-  by_comma : (m : Text) (behind : List ℕ) → name a_measurement text ≡ reads m behind → SomeRow
+  by_comma : (m : Text) (suffix : List ℕ) → name a_measurement text ≡ reads m suffix → SomeRow
   by_comma m [] named = by_series m None [] (alone m [] named (λ s. s))
   by_comma m (c ∷ rest) named = elim (cases_Bool (c == 44)) [
-    | inl here ↦ by_tags m rest (named ∙ ap (λ (b : ℕ). reads m (b ∷ rest)) (eqb-true c 44 here)) (joined tag rest) refl
+    | inl here ↦ by_tags m rest (named ∙ ap (λ (b : ℕ). reads m (b ∷ rest)) (eqb-true c 44 here)) (separated_list tag rest) refl
     | inr other ↦ by_series m None (c ∷ rest) (alone m (c ∷ rest) named (λ s. both_ways (c == 44) other (eq-eqb c 44 s)))
   ]
 
@@ -340,7 +342,7 @@ module _ (dialect : Dialect) (text : List ℕ) where
   by_name : (r : Reading Text) → name a_measurement text ≡ r → SomeRow
   by_name miss e = (Err measurement_value_invalid, no_measurement e)
   by_name (fatal d) e = (Err ends_with_backslash, fatal_measurement d e)
-  by_name (reads m behind) e = by_comma m behind e
+  by_name (reads m suffix) e = by_comma m suffix e
 
 -- the rows give the answer of each text
 pub answer_is_by_rows : AnswerIsByRows

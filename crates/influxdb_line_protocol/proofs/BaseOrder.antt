@@ -8,7 +8,9 @@ use Rattle.std.specs.List.{fold, list_any}
 use Rattle.std.specs.List.Sorted.{IsPermutation}
 use Rattle.std.specs.Ordering.{is_eq, match_ordering, nat_cmp}
 use Rattle.std.specs.Str.{bytes_eq}
-use Rattle.std.proofs.lemmas.List.Sorted.{IsPermutation-refl, IsPermutation-cons, IsPermutation-trans, IsPermutation-middle, IsPermutation-sym, IsPermutation-to_front, list_any-IsPermutation}
+use Rattle.std.proofs.lemmas.List.Sorted.{IsPermutation-refl, IsPermutation-cons, IsPermutation-trans}
+use Rattle.std.proofs.lemmas.List.Sorted.{IsPermutation-middle, IsPermutation-sym, IsPermutation-to_front}
+use Rattle.std.proofs.lemmas.List.Sorted.{list_any-IsPermutation}
 use Rattle.std.proofs.lemmas.Map.Text.{is_eq-slice_cmp}
 use Rattle.std.proofs.lemmas.Bool.{false≢true}
 use Rattle.influxdb_line_protocol.specs.Bases.{by_key, in_order}
@@ -36,9 +38,10 @@ pub insert_moves : (es : List (List ℕ × List ℕ)) (k v : List ℕ) → list_
 insert_moves [] k v absent = IsPermutation-refl ((k, v) ∷ [])
 insert_moves (e ∷ es) k v absent =
     let apart = both_fail (bytes_eq k e.0) (list_any (λ e. bytes_eq k e.0) es) absent in
-    at_place (slice_cmp nat_cmp k e.0) k v e es (insert_entry (slice_cmp nat_cmp) es k v) (is_eq-slice_cmp k e.0 ∙ apart.0) (insert_moves es k v apart.1)
+    at_place (slice_cmp nat_cmp k e.0) k v e es (insert_entry (slice_cmp nat_cmp) es k v)
+    (is_eq-slice_cmp k e.0 ∙ apart.0) (insert_moves es k v apart.1)
 
--- no key of the tags behind stands before
+-- no key of the tags after comes before
 abbrev pub AreNew : List (List ℕ × List ℕ) → List (Pair Text Text) → Type 0
 AreNew before [] = Unit {0}
 AreNew before (t ∷ tags) =
@@ -46,7 +49,8 @@ AreNew before (t ∷ tags) =
 
 -- tags of new keys go in, in some order
 tags_move : (before es : List (List ℕ × List ℕ)) (tags : List (Pair Text Text)) → IsPermutation before es → AreNew before tags
-    → IsPermutation (before ++ in_order tags) (fold (λ entries t. insert_entry (slice_cmp nat_cmp) entries t.key.bytes t.value.bytes) es tags)
+    → IsPermutation (before ++ in_order tags)
+    (fold (λ entries t. insert_entry (slice_cmp nat_cmp) entries t.key.bytes t.value.bytes) es tags)
 tags_move before es [] same new = rw (append-nil before) same
 tags_move before es (t ∷ tags) same new =
     let k = t.key.bytes in
@@ -54,9 +58,11 @@ tags_move before es (t ∷ tags) same new =
     let absent : list_any (λ e. bytes_eq k e.0) es ≡ false = sym (list_any-IsPermutation (λ e. bytes_eq k e.0) before es same) ∙ new.0 in
     let one : IsPermutation (before ++ (k, v) ∷ []) (insert_entry (slice_cmp nat_cmp) es k v) =
     IsPermutation-trans (before ++ (k, v) ∷ []) ((k, v) ∷ es) (insert_entry (slice_cmp nat_cmp) es k v)
-    (IsPermutation-trans (before ++ (k, v) ∷ []) ((k, v) ∷ before) ((k, v) ∷ es) (IsPermutation-to_front before (k, v)) (IsPermutation-cons (k, v) before es same))
+    (IsPermutation-trans (before ++ (k, v) ∷ []) ((k, v) ∷ before) ((k, v) ∷ es)
+    (IsPermutation-to_front before (k, v)) (IsPermutation-cons (k, v) before es same))
     (insert_moves es k v absent) in
-    rw (← append_assoc before ((k, v) ∷ []) (in_order tags)) (tags_move (before ++ (k, v) ∷ []) (insert_entry (slice_cmp nat_cmp) es k v) tags one new.1)
+    rw (← append_assoc before ((k, v) ∷ []) (in_order tags))
+    (tags_move (before ++ (k, v) ∷ []) (insert_entry (slice_cmp nat_cmp) es k v) tags one new.1)
 
 -- where no key is repeated, the tags by their keys are the tags, in another order
 pub by_key_moves : (tags : List (Pair Text Text)) → AreNew [] tags → IsPermutation (in_order tags) (by_key tags)

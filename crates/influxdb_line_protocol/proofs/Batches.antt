@@ -20,7 +20,8 @@ abbrev pub piece_answers : (List ℕ → Result Line Fault) → List ℕ → Lis
 piece_answers answer piece = if length (trimmed piece) == 0 then [] else answer (trimmed piece) ∷ []
 
 -- the answers for a text, by the answer for a trimmed text
-pub record HasAnswersBy (dialect : Dialect) (answer : List ℕ → Result Line Fault) (text : List ℕ) (answers : List (Result Line Fault)) : Type 0 where
+pub record HasAnswersBy (dialect : Dialect) (answer : List ℕ → Result Line Fault) (text : List ℕ)
+    (answers : List (Result Line Fault)) : Type 0 where
   pub pieces : List (List ℕ)
   pub are : Pieces dialect text pieces
   pub answered : answers ≡ flat_map (piece_answers answer) pieces
@@ -41,7 +42,7 @@ module _ (dialect : Dialect) (answer : List ℕ → Result Line Fault) where
       let some : length (line_of p) ≢ 0 = λ e. absurd (omega (arith, h.some)) in
       rw (h.untrimmed, ne_eqb (length (line_of p)) 0 some, h.answered) refl
 
-  -- such a batch and a text behind it
+  -- such a batch and a text after it
   pub batch_joins : (points : List Point) (t : List ℕ) (answers : List (Result Line Fault))
       → AllByRecursion (ReadsBack dialect answer) points → HasAnswersBy dialect answer t answers
       → (lines : List Line) × (map point_of lines ≡ points) × HasAnswersBy dialect answer (built_all points ++ t) (map Ok lines ++ answers)
@@ -56,7 +57,8 @@ module _ (dialect : Dialect) (answer : List ℕ → Result Line Fault) where
         rw (first.is, more.1) refl,
         record {
           pieces = line_of p ∷ pieces;
-          are = subst (λ x. Pieces dialect x (line_of p ∷ pieces)) regrouped (cut (line_of p) (built_all points ++ t) pieces first.is_piece more.2.are);
+          are = subst (λ x. Pieces dialect x (line_of p ∷ pieces)) regrouped
+              (cut (line_of p) (built_all points ++ t) pieces first.is_piece more.2.are);
           answered = rw (line_answers p first) (ap (λ xs. Ok first.line ∷ xs) more.2.answered);
         },
       )
@@ -66,13 +68,15 @@ no_pieces : (dialect : Dialect) {text : List ℕ} → Pieces dialect text [] →
 no_pieces dialect h = elim h [ ]
 
 -- pieces are the text that they are pieces of
-pub pieces_are_text : (dialect : Dialect) {text : List ℕ} {pieces : List (List ℕ)} → Pieces dialect text pieces → join_with_byte newline pieces ≡ text
+pub pieces_are_text : (dialect : Dialect) {text : List ℕ} {pieces : List (List ℕ)} → Pieces dialect text pieces
+    → join_with_byte newline pieces ≡ text
 pieces_are_text dialect (last piece h) = refl
-pieces_are_text dialect (cut piece text pieces c h) = joined pieces h (pieces_are_text dialect h)
+pieces_are_text dialect (cut piece text pieces c h) = separated_list pieces h (pieces_are_text dialect h)
   where
-    joined : {text : List ℕ} (pieces : List (List ℕ)) → Pieces dialect text pieces → join_with_byte newline pieces ≡ text → join_with_byte newline (piece ∷ pieces) ≡ piece ++ newline ∷ text
-    joined [] h e = absurd (no_pieces dialect h)
-    joined (q ∷ pieces) h e = ap (λ (xs : List ℕ). piece ++ newline ∷ xs) e
+    separated_list : {text : List ℕ} (pieces : List (List ℕ)) → Pieces dialect text pieces
+        → join_with_byte newline pieces ≡ text → join_with_byte newline (piece ∷ pieces) ≡ piece ++ newline ∷ text
+    separated_list [] h e = absurd (no_pieces dialect h)
+    separated_list (q ∷ pieces) h e = ap (λ (xs : List ℕ). piece ++ newline ∷ xs) e
 
 -- the answers for two texts with a newline between them
 pub answers_join : (dialect : Dialect) (u t : List ℕ) (before : List (List ℕ)) (piece : List ℕ) (first others : List (Result Line Fault))

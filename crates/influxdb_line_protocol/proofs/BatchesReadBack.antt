@@ -17,28 +17,34 @@ abbrev Answered : Dialect → List ℕ → List (Result Line Fault) → Type 0
 Answered dialect text answers = HasAnswersBy dialect (line_answer dialect) text answers
 
 -- from the one to the other
-answered_by : (dialect : Dialect) (text : List ℕ) (answers : List (Result Line Fault)) → HasAnswers dialect text answers → Answered dialect text answers
+answered_by : (dialect : Dialect) (text : List ℕ) (answers : List (Result Line Fault))
+    → HasAnswers dialect text answers → Answered dialect text answers
 unfolding answers_of_piece
 answered_by dialect text answers h = record { pieces = h.pieces; are = h.are; answered = h.answered }
 
 -- and back
-by_answered : (dialect : Dialect) (text : List ℕ) (answers : List (Result Line Fault)) → Answered dialect text answers → HasAnswers dialect text answers
+by_answered : (dialect : Dialect) (text : List ℕ) (answers : List (Result Line Fault))
+    → Answered dialect text answers → HasAnswers dialect text answers
 unfolding answers_of_piece
 by_answered dialect text answers h = record { pieces = h.pieces; are = h.are; answered = h.answered }
 
 -- what holds of each point of a kind holds of all points of a list
-all_read_back : {IsKind Other : Point → Type 0} → ((p : Point) → IsKind p → Other p) → (points : List Point) → AllByRecursion IsKind points → AllByRecursion Other points
+all_read_back : {IsKind Other : Point → Type 0} → ((p : Point) → IsKind p → Other p) → (points : List Point)
+    → AllByRecursion IsKind points → AllByRecursion Other points
 all_read_back one [] all = tt
 all_read_back one (p ∷ points) all = (one p all.0, all_read_back one points all.1)
 
 -- batches of points of which each reads back
-batches_read_back : (IsKind : Point → Type 0) → ((dialect : Dialect) (p : Point) → IsKind p → ReadsBack dialect (line_answer dialect) p) → BatchesReadBack IsKind
+batches_read_back : (IsKind : Point → Type 0)
+    → ((dialect : Dialect) (p : Point) → IsKind p → ReadsBack dialect (line_answer dialect) p) → BatchesReadBack IsKind
 batches_read_back IsKind one dialect points t answers all h =
-    let joined = batch_joins dialect (line_answer dialect) points t answers (all_read_back (one dialect) points all) (answered_by dialect t answers h) in
-    (joined.0, joined.1, by_answered dialect _ _ joined.2)
+    let separated_list = batch_joins dialect (line_answer dialect) points t answers
+    (all_read_back (one dialect) points all) (answered_by dialect t answers h) in
+    (separated_list.0, separated_list.1, by_answered dialect _ _ separated_list.2)
 
 -- an admitted point reads back where its line is answered with it
-reads_back : (dialect : Dialect) (given : List ℕ → Result Line Fault) (p : Point) → IsAdmitted p → given (line_of p) ≡ Ok (read_line p) → ReadsBack dialect given p
+reads_back : (dialect : Dialect) (given : List ℕ → Result Line Fault) (p : Point) → IsAdmitted p
+    → given (line_of p) ≡ Ok (read_line p) → ReadsBack dialect given p
 reads_back dialect given p ok answered =
     record {
       line = read_line p;

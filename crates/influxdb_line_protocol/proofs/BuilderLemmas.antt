@@ -1,6 +1,8 @@
--- Escaped texts: how long they are, and what stands before and behind the first byte with a backslash.
+-- Escaped texts: how long they are, and what comes before and after the first byte with a backslash.
 -- And how many digits a number has.
-use Rattle.std.proofs.Common.{◌≡◌, ℕ, suc, zero, ◌+◌, ◌<◌, Bool, true, false, cond, List, [], ◌∷◌, ◌++◌, length, take, drop, get_or, arith, ap, refl, sym, ◌-◌, subst, not, zero-add, add-one, length-drop, length-append, ◌∙◌, ◌≤◌, ◌^◌, ◌*◌, ◌/◌}
+use Rattle.std.proofs.Common.{◌≡◌, ℕ, suc, zero, ◌+◌, ◌<◌, Bool, true, false, cond, List, [], ◌∷◌, ◌++◌, length, take}
+use Rattle.std.proofs.Common.{drop, get_or, arith, ap, refl, sym, ◌-◌, subst, not, zero-add, add-one, length-drop}
+use Rattle.std.proofs.Common.{length-append, ◌∙◌, ◌≤◌, ◌^◌, ◌*◌, ◌/◌}
 use Rattle.std.proofs.lemmas.List.{take_all}
 use Rattle.std.specs.List.{list_all}
 use Rattle.std.specs.Fmt.{decimal}
@@ -79,7 +81,7 @@ escaped_at bytes (b ∷ text) (suc at) within here before =
 rest_of : (text : List ℕ) (n : ℕ) → take (length text - n) (drop n text) ≡ drop n text
 rest_of text n = take_all (length text - n) (drop n text) (omega (arith, length-drop n text))
 
--- the same, as the code finds the byte and slices behind it
+-- the same, as the code finds the byte and slices after it
 pub escaped_first : (bytes text : List ℕ) (mark : ℕ → Bool) (at : ℕ)
     → ((b : ℕ) → mark b ≡ is_one_of bytes b) → StandBefore mark text 0 (length text) at → at < length text
     → escaped bytes text

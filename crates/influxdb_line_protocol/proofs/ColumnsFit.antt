@@ -12,10 +12,10 @@ use Rattle.influxdb_line_protocol.specs.Readings.{Text, Reading, reads}
 use Rattle.influxdb_line_protocol.specs.Names.{a_measurement}
 use Rattle.influxdb_line_protocol.specs.Values.{Value}
 use Rattle.influxdb_line_protocol.specs.Points.{Pair}
-use Rattle.influxdb_line_protocol.specs.Lines.{Line, tag, field, joined, field_set, without_comma, some_tags, spaces, answer}
+use Rattle.influxdb_line_protocol.specs.Lines.{Line, tag, field, separated_list, field_set, without_comma, some_tags, spaces, answer}
 use Rattle.influxdb_line_protocol.specs.Items.{line_answer}
 use Rattle.influxdb_line_protocol.specs.Lookups.{some_items}
-use Rattle.influxdb_line_protocol.specs.Meanings.{Stand, StandBehind}
+use Rattle.influxdb_line_protocol.specs.Meanings.{SeparatedBy, SeparatedAfterComma}
 use Rattle.influxdb_line_protocol.specs.Parsed.{Answers, field_of, line_read, tag_of, tags_of}
 use Rattle.influxdb_line_protocol.specs.ParseSteps.{CanCountColumns}
 use Rattle.influxdb_line_protocol.proofs.BasesTellSeries.{set_stands}
@@ -26,44 +26,44 @@ use Rattle.influxdb_line_protocol.proofs.ShorterRests.{tag_no_longer, field_no_l
 
 module _ {A : Type 0} (one : List ℕ → Reading A)
     (no_longer : (text : List ℕ) (x : A) (rest : List ℕ) → one text ≡ reads x rest → length rest ≤ length text) where
-  -- values that stand after commas are no more than the bytes before the rest
-  room_behind : (xs : List A) (text rest : List ℕ) → StandBehind one xs text rest → length xs + length rest ≤ length text
-  room_behind [] text rest h = omega (arith, ap length h)
-  room_behind (x ∷ xs) text rest h =
-      let more = room_behind xs h.1 rest h.4 in
+  -- values that come after commas are no more than the bytes before the rest
+  room_after : (xs : List A) (text rest : List ℕ) → SeparatedAfterComma one xs text rest → length xs + length rest ≤ length text
+  room_after [] text rest h = omega (arith, ap length h)
+  room_after (x ∷ xs) text rest h =
+      let more = room_after xs h.1 rest h.4 in
       omega (arith, ap length h.2, no_longer h.0 x h.1 h.3)
 
   -- with a first one they are at most one more
-  room_of : (xs : List A) (text rest : List ℕ) → Stand one xs text rest → length xs ≤ length text + 1
+  room_of : (xs : List A) (text rest : List ℕ) → SeparatedBy one xs text rest → length xs ≤ length text + 1
   room_of [] text rest h = omega arith
   room_of (x ∷ xs) text rest h =
-      let more = room_behind xs h.0 rest h.2 in
+      let more = room_after xs h.0 rest h.2 in
       omega (arith, no_longer text x h.0 h.1)
 
 -- the fields of a text
 field_room : (dialect : Dialect) (text rest : List ℕ) (fs : List (Pair Text (Value Text))) → field_set dialect text ≡ reads fs rest
     → length fs ≤ length text + 1
 field_room dialect text rest fs h =
-    let parts = bound (joined field text) (λ xs. reads xs.value (without_comma dialect xs.value xs.rest)) fs rest h in
+    let parts = bound (separated_list field text) (λ xs. reads xs.value (without_comma dialect xs.value xs.rest)) fs rest h in
     let same : parts.value ≡ fs = cc (parts.second) in
-    let full = (the_most_is_read field (λ t. (field_no_longer t).holds) text parts.value parts.behind).0 parts.first in
-    omega (arith, ap length same, room_of field (λ t. (field_no_longer t).holds) parts.value text parts.behind full.stand_most.stand)
+    let full = (the_most_is_read field (λ t. (field_no_longer t).holds) text parts.value parts.after).0 parts.first in
+    omega (arith, ap length same, room_of field (λ t. (field_no_longer t).holds) parts.value text parts.after full.stand_most.stand)
 
 -- the tags and the fields of a line
 line_room : (dialect : Dialect) (text : List ℕ) (l : Line) → answer dialect text ≡ Ok l
     → length (some_tags l.tags) + length l.fields ≤ length text + 1
 line_room dialect text l h =
     let parts = answer_parts dialect text l h in
-    let front = name_ends a_measurement text l.measurement parts.behind_measurement parts.measurement in
-    let stand = set_stands parts.behind_measurement parts.behind_tags l.tags parts.tags in
-    let tags = room_behind tag (λ t. (tag_no_longer t).holds) (some_tags l.tags) parts.behind_measurement parts.behind_tags stand in
-    let fields = field_room dialect (drop (spaces parts.behind_tags) parts.behind_tags) parts.behind_fields l.fields parts.fields in
+    let front = name_ends a_measurement text l.measurement parts.measurement_rest parts.measurement in
+    let stand = set_stands parts.measurement_rest parts.tags_rest l.tags parts.tags in
+    let tags = room_after tag (λ t. (tag_no_longer t).holds) (some_tags l.tags) parts.measurement_rest parts.tags_rest stand in
+    let fields = field_room dialect (drop (spaces parts.tags_rest) parts.tags_rest) parts.fields_rest l.fields parts.fields in
     omega (
       arith,
       ap length front.is,
-      length-append front.front parts.behind_measurement,
+      length-append front.front parts.measurement_rest,
       length-drop
-          (spaces parts.behind_tags) parts.behind_tags,
+          (spaces parts.tags_rest) parts.tags_rest,
     )
 
 -- as many tags as were read

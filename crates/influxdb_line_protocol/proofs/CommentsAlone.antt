@@ -1,5 +1,6 @@
 -- A comment has no answer, so that another one in its place changes no answer.
-use Rattle.std.proofs.Common.{◌≡◌, ◌≢◌, ℕ, ◌==◌, ◌&&◌, ◌||◌, Bool, true, false, List, [], ◌∷◌, ◌++◌, Result, refl, sym, ap, ◌∙◌, arith, inl, inr}
+use Rattle.std.proofs.Common.{◌≡◌, ◌≢◌, ℕ, ◌==◌, ◌&&◌, ◌||◌, Bool, true, false, List, [], ◌∷◌, ◌++◌, Result, refl, sym}
+use Rattle.std.proofs.Common.{ap, ◌∙◌, arith, inl, inr}
 use Rattle.std.specs.List.{All}
 use Rattle.std.proofs.lemmas.Bool.{cases_Bool, false≢true, ne_eqb}
 use Rattle.std.proofs.lemmas.Grind.{common_steps, flat_map-append}
@@ -56,7 +57,8 @@ comment_answers piece h =
     rw none refl
 
 -- a piece without answers adds none to those of the pieces around it
-answers_without : (dialect : Dialect) (before : List (List ℕ)) (piece : List ℕ) (after : List (List ℕ)) → answers_of_piece dialect piece ≡ []
+answers_without : (dialect : Dialect) (before : List (List ℕ)) (piece : List ℕ) (after : List (List ℕ))
+    → answers_of_piece dialect piece ≡ []
     → answers_of dialect (before ++ piece ∷ after) ≡ answers_of dialect before ++ answers_of dialect after
 answers_without dialect before piece after none =
     flat_map-append (answers_of_piece dialect) before (piece ∷ after)

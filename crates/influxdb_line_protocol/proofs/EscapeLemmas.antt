@@ -1,5 +1,6 @@
 -- Escaped places from left to right, as a scan meets them.
-use Rattle.std.proofs.Common.{◌≡◌, ℕ, ◌+◌, ◌<◌, ◌≤◌, List, [], ◌∷◌, ◌++◌, length, take, get_or, slice_index, Bool, true, false, not, ◌&&◌, cond, refl, ◌∙◌, zero-add, arith}
+use Rattle.std.proofs.Common.{◌≡◌, ℕ, ◌+◌, ◌<◌, ◌≤◌, List, [], ◌∷◌, ◌++◌, length, take, get_or, slice_index, Bool}
+use Rattle.std.proofs.Common.{true, false, not, ◌&&◌, cond, refl, ◌∙◌, zero-add, arith}
 use Rattle.std.specs.Prelude.{◌==◌}
 use Rattle.std.specs.List.{range_with_len}
 use Rattle.std.proofs.lemmas.List.{take_more, get_or-take, length-take}
@@ -9,7 +10,7 @@ use Rattle.influxdb_line_protocol.proofs.SplitBare.{is_escaped-push}
 use Rattle.std.proofs.lemmas.List.FromFn.{length-range_with_len, get_or-range_with_len}
 use Rattle.std.proofs.lemmas.List.Sums.{position_or_len_is}
 use Rattle.influxdb_line_protocol.specs.Bytes.{backslash, is_one_of}
-use Rattle.influxdb_line_protocol.specs.Escapes.{is_escaped_behind, is_bare_at, first_bare}
+use Rattle.influxdb_line_protocol.specs.Escapes.{is_escaped_after, is_bare_at, first_bare}
 
 -- the tests in either order
 in_either_order : (f t : Bool) → cond t (not f) false ≡ (not f && t)
@@ -19,12 +20,12 @@ in_either_order false true = refl
 in_either_order false false = refl
 
 -- one byte more
-pub is_escaped_push : (before : List ℕ) (b : ℕ) → is_escaped_behind (before ++ b ∷ []) ≡ (not (is_escaped_behind before) && b == backslash)
-is_escaped_push before b = is_escaped-push before b ∙ in_either_order (is_escaped_behind before) (b == backslash)
+pub is_escaped_push : (before : List ℕ) (b : ℕ) → is_escaped_after (before ++ b ∷ []) ≡ (not (is_escaped_after before) && b == backslash)
+is_escaped_push before b = is_escaped-push before b ∙ in_either_order (is_escaped_after before) (b == backslash)
 
 -- the same along a text
 pub is_escaped_more : (text : List ℕ) (i : ℕ) → i < length text
-    → is_escaped_behind (take (i + 1) text) ≡ (not (is_escaped_behind (take i text)) && slice_index text i == backslash)
+    → is_escaped_after (take (i + 1) text) ≡ (not (is_escaped_after (take i text)) && slice_index text i == backslash)
 is_escaped_more text i h = rw (take_more text i 0 h) (is_escaped_push (take i text) (slice_index text i))
 
 -- what fixes the first bare byte

@@ -1,5 +1,7 @@
 -- Which bytes of a load are escaped, by the borrow of one subtraction.
-use Rattle.std.proofs.Common.{◌≡◌, ℕ, zero, suc, ◌+◌, ◌-◌, ◌*◌, ◌%◌, ◌^◌, ◌<◌, ◌≤◌, Bool, true, false, cond, not, ◌&&◌, ◌||◌, List, [], ◌∷◌, map, length, take, get_or, slice_index, bit_or, bit_xor, refl, sym, ap, ap₂, ◌∙◌, subst, arith}
+use Rattle.std.proofs.Common.{◌≡◌, ℕ, zero, suc, ◌+◌, ◌-◌, ◌*◌, ◌%◌, ◌^◌, ◌<◌, ◌≤◌, Bool, true, false, cond, not, ◌&&◌}
+use Rattle.std.proofs.Common.{◌||◌, List, [], ◌∷◌, map, length, take, get_or, slice_index, bit_or, bit_xor, refl, sym}
+use Rattle.std.proofs.Common.{ap, ap₂, ◌∙◌, subst, arith}
 use native.Mathlib.Nat.{pow-suc}
 use Rattle.std.specs.Prelude.{◌==◌}
 use Rattle.std.specs.List.{range_with_len}
@@ -8,14 +10,14 @@ use Rattle.std.proofs.lemmas.List.{length-map}
 use Rattle.std.proofs.lemmas.List.FromFn.{length-range_with_len}
 use Rattle.std.proofs.lemmas.Simd.{map-map, mask_l-lt, length-zip2, pick_l-range_with_len}
 use lib.Lanes.{zip2, mask_l}
-use Rattle.influxdb_line_protocol.specs.Escapes.{is_escaped_behind}
+use Rattle.influxdb_line_protocol.specs.Escapes.{is_escaped_after}
 use Rattle.influxdb_line_protocol.specs.Lanes.{mask_of}
 use Rattle.influxdb_line_protocol.specs.Scan.{mask_at, TellsEscaped}
 use Rattle.influxdb_line_protocol.proofs.EscapeLemmas.{is_escaped_more}
 use Rattle.influxdb_line_protocol.proofs.MaskBits.{differs, mask_or, mask_xor}
 
 -- In what follows `ms` are the backslashes from a place on, `odd` says whether that place is an odd one, `after` whether a
--- backslash stands before it, and `e` whether it is escaped.
+-- backslash comes before it, and `e` whether it is escaped.
 
 -- the places that are escaped
 abbrev pub escapes : Bool → List Bool → List Bool
@@ -53,7 +55,8 @@ borrowed odd after e (m ∷ ms) = borrowed (not odd) m (not e && m) ms
 
 -- one place of the subtraction, where only a place after a backslash is escaped
 one_place : (odd after e m : Bool) → (e && not after) ≡ false
-    → cond (after || odd) 1 0 + 2 * cond (borrow (not odd) m (not e && m)) 1 0 ≡ cond (differs (differs e odd) m) 1 0 + cond m 1 0 + cond (borrow odd after e) 1 0
+    → cond (after || odd) 1 0 + 2 * cond (borrow (not odd) m (not e && m)) 1 0 ≡ cond (differs (differs e odd) m) 1
+    0 + cond m 1 0 + cond (borrow odd after e) 1 0
 one_place true true true true h = refl
 one_place true true true false h = refl
 one_place true true false true h = refl
@@ -77,20 +80,22 @@ after_it false false = refl
 
 -- the subtraction: what is left, and the backslashes
 subtracted : (odd after e : Bool) (ms : List Bool) → (e && not after) ≡ false
-    → mask_l (minuend odd after ms) + 2 ^ length ms * borrowed odd after e ms ≡ mask_l (difference odd e ms) + mask_l ms + cond (borrow odd after e) 1 0
+    → mask_l (minuend odd after ms) + 2 ^ length ms * borrowed odd after e ms ≡ mask_l (difference odd e ms) +
+    mask_l ms + cond (borrow odd after e) 1 0
 subtracted odd after e [] h = omega arith
 subtracted odd after e (m ∷ ms) h =
     let rest = subtracted (not odd) m (not e && m) ms (after_it e m) in
     let here = one_place odd after e m h in
     rw (pow-suc 2 (length ms)) (omega (arith, rest, here))
 
--- the last of the lanes that stand after a first one
+-- the last of the lanes that come after a first one
 abbrev last_of : Bool → List Bool → Bool
 last_of after [] = after
 last_of after (m ∷ ms) = last_of m ms
 
 -- the mask of the backslashes, one place further
-shifted : (after : Bool) (ms : List Bool) → mask_l (afters after ms) + 2 ^ length ms * cond (last_of after ms) 1 0 ≡ cond after 1 0 + 2 * mask_l ms
+shifted : (after : Bool) (ms : List Bool)
+    → mask_l (afters after ms) + 2 ^ length ms * cond (last_of after ms) 1 0 ≡ cond after 1 0 + 2 * mask_l ms
 shifted after [] = omega arith
 shifted after (m ∷ ms) = rw (pow-suc 2 (length ms)) (omega (arith, shifted m ms))
 
@@ -147,12 +152,15 @@ module _ (ms : List Bool) (long : length ms ≡ 64) where
       ∙ mask_or (afters false ms) (odds false (length ms)) (long_afters false ms ∙ sym (long_odds false (length ms)))
 
   long_minuend : length (minuend false false ms) ≡ length ms
-  long_minuend = length-zip2 (λ a b. a || b) (afters false ms) (odds false (length ms)) (long_afters false ms ∙ sym (long_odds false (length ms))) ∙ long_afters false ms
+  long_minuend = length-zip2 (λ a b. a || b) (afters false ms) (odds false (length ms))
+      (long_afters false ms ∙ sym (long_odds false (length ms))) ∙ long_afters false ms
 
   left_is : (bit_or (mask_l ms * 2 % 2 ^ 64) odd_places + (2 ^ 64 - mask_l ms)) % 2 ^ 64 ≡ mask_l (difference false false ms)
   left_is =
-      let whole : mask_l (minuend false false ms) + 2 ^ 64 * borrowed false false false ms ≡ mask_l (difference false false ms) + mask_l ms + 0 =
-      subst (λ (n : ℕ). mask_l (minuend false false ms) + 2 ^ n * borrowed false false false ms ≡ mask_l (difference false false ms) + mask_l ms + 0)
+      let whole : mask_l (minuend false false ms) + 2 ^ 64 * borrowed false false false ms ≡ mask_l
+      (difference false false ms) + mask_l ms + 0 =
+      subst (λ (n : ℕ). mask_l (minuend false false ms) + 2 ^ n * borrowed false false false ms ≡ mask_l
+      (difference false false ms) + mask_l ms + 0)
       long (subtracted false false false ms refl) in
       let from = fits (minuend false false ms) long_minuend in
       let rest = fits (difference false false ms) (long_difference false false ms) in
@@ -160,7 +168,9 @@ module _ (ms : List Bool) (long : length ms ≡ 64) where
       ap (λ (n : ℕ). (n + (2 ^ 64 - mask_l ms)) % 2 ^ 64) minuend_is ∙ omega arith
 
   -- what the subtraction tells, where the first place is bare
-  pub escapes_are : bit_xor (bit_xor ((bit_or (mask_l ms * 2 % 2 ^ 64) odd_places + (2 ^ 64 - mask_l ms)) % 2 ^ 64) odd_places) (mask_l ms) ≡ mask_l (escapes false ms)
+  pub escapes_are : bit_xor
+      (bit_xor ((bit_or (mask_l ms * 2 % 2 ^ 64) odd_places + (2 ^ 64 - mask_l ms)) % 2 ^ 64) odd_places)
+      (mask_l ms) ≡ mask_l (escapes false ms)
   escapes_are =
       let odd = odds false (length ms) in
       let diff = difference false false ms in
@@ -173,22 +183,26 @@ module _ (ms : List Bool) (long : length ms ≡ 64) where
 -- the places of a text from one on
 module _ (text : List ℕ) where
   -- which of them are escaped
-  escaped_places : (n at : ℕ) (e : Bool) → at + n ≤ length text → is_escaped_behind (take at text) ≡ e
-      → escapes e (map (λ k. slice_index text k == 92) (range_with_len at n)) ≡ map (λ k. is_escaped_behind (take k text)) (range_with_len at n)
+  escaped_places : (n at : ℕ) (e : Bool) → at + n ≤ length text → is_escaped_after (take at text) ≡ e
+      → escapes e (map (λ k. slice_index text k == 92) (range_with_len at n)) ≡ map
+      (λ k. is_escaped_after (take k text)) (range_with_len at n)
   escaped_places zero at e room is = refl
   escaped_places (suc n) at e room is =
-      let next : is_escaped_behind (take (at + 1) text) ≡ (not e && slice_index text at == 92) =
+      let next : is_escaped_after (take (at + 1) text) ≡ (not e && slice_index text at == 92) =
       is_escaped_more text at (omega arith) ∙ ap (λ (f : Bool). not f && slice_index text at == 92) is in
-      ap₂ (λ (b : Bool) (bs : List Bool). b ∷ bs) (sym is) (escaped_places n (at + 1) (not e && slice_index text at == 92) (omega arith) next)
+      ap₂ (λ (b : Bool) (bs : List Bool). b ∷ bs) (sym is)
+      (escaped_places n (at + 1) (not e && slice_index text at == 92) (omega arith) next)
 
   -- a mask of bytes is one of their places
-  pub of_places : (test : ℕ → Bool) (at n : ℕ) → at + n ≤ length text → mask_of test text at n ≡ mask_at (λ k. test (slice_index text k)) at n
+  pub of_places : (test : ℕ → Bool) (at n : ℕ) → at + n ≤ length text
+      → mask_of test text at n ≡ mask_at (λ k. test (slice_index text k)) at n
   of_places test at n room =
       ap (λ (v : List ℕ). mask_l (map test v)) (sym (pick_l-range_with_len 0 text at n room))
       ∙ ap mask_l (map-map test (λ k. get_or text k 0) (range_with_len at n))
 
 -- what the subtraction tells of a load that begins at a bare place
-pub tells_escaped : (m r : ℕ) → r ≡ bit_xor (bit_xor ((bit_or (m * 2 % 2 ^ 64) odd_places + (2 ^ 64 - m)) % 2 ^ 64) odd_places) m → TellsEscaped m r
+pub tells_escaped : (m r : ℕ)
+    → r ≡ bit_xor (bit_xor ((bit_or (m * 2 % 2 ^ 64) odd_places + (2 ^ 64 - m)) % 2 ^ 64) odd_places) m → TellsEscaped m r
 tells_escaped m r made text at room bare is =
     let ms = map (λ k. slice_index text k == 92) (range_with_len at 64) in
     let places : m ≡ mask_l ms = is ∙ of_places text (λ b. b == 92) at 64 room in

@@ -27,7 +27,8 @@ known_is_ascii TagValue b h = grind (arith, common_steps)
 known_is_ascii Quoted b h = grind (arith, common_steps)
 
 -- two texts with the same bytes and the same variant
-same_text : (a b : List ℕ) (s t : Bool) → a ≡ b → s ≡ t → let x : Text = record { bytes = a; is_single = s } in x ≡ record { bytes = b; is_single = t }
+same_text : (a b : List ℕ) (s t : Bool) → a ≡ b → s ≡ t → let x : Text = record { bytes = a; is_single = s } in
+    x ≡ record { bytes = b; is_single = t }
 same_text a b s t e f = cc
 
 -- a known escape alone stands for its second byte
@@ -50,5 +51,6 @@ read_escape known text part one e =
 pub read_plain : (known text part : List ℕ) → is_one_of text 92 ≡ false → part ≡ text
     → let x : Text = record { bytes = part; is_single = true } in x ≡ read_text known text
 read_plain known text part none e =
-    same_text part (without_escapes known text) true (is_shared known text) (e ∙ sym (without_escapes_same known text (no_backslash text none)))
+    same_text part (without_escapes known text) true (is_shared known text)
+    (e ∙ sym (without_escapes_same known text (no_backslash text none)))
     (sym (rw none (or_right (is_one_escape known text) true refl)))

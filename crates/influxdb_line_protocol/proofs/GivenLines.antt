@@ -7,7 +7,7 @@ use Rattle.influxdb_line_protocol.specs.declared.error.Error.{Error}
 use Rattle.influxdb_line_protocol.specs.declared.line.ParsedLine.{ParsedLine}
 use Rattle.influxdb_line_protocol.specs.Items.{line_answer}
 use Rattle.influxdb_line_protocol.specs.Light.{is_light, is_light_in}
-use Rattle.influxdb_line_protocol.specs.Outcomes.{HasMemory}
+use Rattle.influxdb_line_protocol.specs.Outcomes.{IsNotOutOfMemory}
 use Rattle.influxdb_line_protocol.specs.Parsed.{Answers}
 use Rattle.influxdb_line_protocol.specs.ParseSteps.{IsItemOf, GaveItem, GaveLine}
 use Rattle.influxdb_line_protocol.specs.Pieces.{Left}
@@ -18,7 +18,7 @@ use Rattle.influxdb_line_protocol.proofs.SomeTags.{item_has_tags}
 
 -- the item of the line that was given
 pub gave_item : (before : Left) (line : List ℕ) (item : Result ParsedLine Error) (others : List (List ℕ)) → GaveLine before line others
-    → length line < 2 ^ 63 → Answers item (line_answer before.dialect line) → (is_light before.dialect line ≡ true → HasMemory item)
+    → length line < 2 ^ 63 → Answers item (line_answer before.dialect line) → (is_light before.dialect line ≡ true → IsNotOutOfMemory item)
     → GaveItem before item others
 gave_item before line item others g short answers light =
     record {
@@ -38,9 +38,10 @@ gave_item before line item others g short answers light =
     }
 
 -- the line that was given was read in this room
-pub gave_in_room : {X : Type 0} (tags fields more_tags more_fields : ℕ) (before : Left) (line : List ℕ) (answer : Result X Error) (others : List (List ℕ))
+pub gave_in_room : {X : Type 0} (tags fields more_tags more_fields : ℕ) (before : Left) (line : List ℕ)
+    (answer : Result X Error) (others : List (List ℕ))
     → tags ≤ more_tags → fields ≤ more_fields → GaveLine before line others
-    → (is_light_in more_tags more_fields before.dialect line ≡ true → HasMemory answer) → GaveInRoom tags fields before answer others
+    → (is_light_in more_tags more_fields before.dialect line ≡ true → IsNotOutOfMemory answer) → GaveInRoom tags fields before answer others
 gave_in_room tags fields more_tags more_fields before line answer others h k g light =
     record {
       line = line;
@@ -49,7 +50,8 @@ gave_in_room tags fields more_tags more_fields before line answer others h k g l
     }
 
 -- less room is kept where more is
-pub less_room : {T : Type 0} (n m : ℕ) (set : Option (SmallVec T)) → n ≤ m → IfSome set (λ s. m ≤ s.capacity) → IfSome set (λ s. n ≤ s.capacity)
+pub less_room : {T : Type 0} (n m : ℕ) (set : Option (SmallVec T)) → n ≤ m → IfSome set (λ s. m ≤ s.capacity)
+    → IfSome set (λ s. n ≤ s.capacity)
 less_room n m None h k = tt
 less_room n m (Some set) h k = omega arith
 
@@ -60,6 +62,7 @@ same_room n old None e h = tt
 same_room n None (Some new) e h = absurd (cc)
 same_room n (Some old) (Some new) e h = let same : new.capacity ≡ old.capacity = cc in omega arith
 
--- want of memory is not the item where it is not the answer
-pub same_want : {X Y : Type 0} (e : Error) → (let r : Result X Error = Err e in HasMemory r) → (let r : Result Y Error = Err e in HasMemory r)
+-- `OutOfMemory` is not the item where it is not the answer
+pub same_want : {X Y : Type 0} (e : Error) → (let r : Result X Error = Err e in IsNotOutOfMemory r)
+    → (let r : Result Y Error = Err e in IsNotOutOfMemory r)
 same_want e h = λ same. h (cc)

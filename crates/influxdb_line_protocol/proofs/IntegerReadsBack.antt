@@ -24,7 +24,7 @@ pub digits_before : (ds tail : List ℕ) → AllDigits 10 ds → digits_len tail
 digits_before [] tail all ends = ends
 digits_before (d ∷ ds) tail all ends = rw (digit_passes d all.0, digits_before ds tail all.1 ends, one-add) refl
 
--- digits have no sign in front
+-- digits have no sign at the start
 pub unsigned_len : (ds tail : List ℕ) → IsNumeral 10 ds → digits_len tail ≡ 0 → integer_len (ds ++ tail) ≡ length ds
 unsigned_len [] tail numeral ends = absurd (omega arith)
 unsigned_len (d ∷ ds) tail numeral ends =
@@ -48,14 +48,14 @@ unsigned_value (d ∷ ds) numeral =
     let no_plus : (d == 43) ≡ false = ne_eqb d 43 (λ e. absurd (omega arith)) in
     rw (no_minus, no_plus) refl
 
--- an integer in range, as it is written: its length before what is no digit, its value, and that no space stands in front
+-- an integer in range, as it is written: its length before what is no digit, its value, and that no space is at the start
 pub record Written (z : ℤ) : Type 0 where
   pub some : 0 < length (signed_decimal z)
   pub len : (tail : List ℕ) → digits_len tail ≡ 0 → integer_len (signed_decimal z ++ tail) ≡ length (signed_decimal z)
   pub value : signed_digits_value 10 (signed_decimal z) ≡ z
   pub no_space : spaces (signed_decimal z) ≡ 0
 
--- no space stands before digits
+-- no space comes before digits
 no_space_first : (ds : List ℕ) → IsNumeral 10 ds → spaces ds ≡ 0
 no_space_first [] numeral = refl
 no_space_first (d ∷ ds) numeral =

@@ -8,7 +8,7 @@ use Rattle.std.proofs.lemmas.Str.{IsCharBoundary-after_ascii, IsCharBoundary-sta
 use Rattle.influxdb_line_protocol.specs.Lines.{byte, spaces}
 use Rattle.influxdb_line_protocol.specs.Readings.{miss, reads}
 
--- a byte in front, by what the text is
+-- a byte at the start, by what the text is
 pub byte_reads : (b : ℕ) (text rest : List ℕ) → text ≡ b ∷ rest → byte b text ≡ reads b rest
 byte_reads b text rest e = rw (e, eq-eqb b b refl) refl
 
@@ -18,7 +18,7 @@ byte_misses b (c ∷ rest) none =
     let other : c ≡ b → ⊥ = λ e. none rest (ap (λ (x : ℕ). x ∷ rest) e) in
     rw (ne_eqb c b other) refl
 
--- behind spaces a text may be cut
+-- after spaces a text may be cut
 pub spaces_boundary : (text : List ℕ) (n : ℕ) → IsUtf8 text → n ≡ spaces text → IsCharBoundary text n
 spaces_boundary text zero utf8 e = IsCharBoundary-start text utf8
 spaces_boundary text (suc n) utf8 e =
@@ -28,21 +28,23 @@ spaces_boundary text (suc n) utf8 e =
     rw (← add-one n) (IsCharBoundary-after_ascii text n utf8 (omega arith) (omega arith))
 
 -- the same, of what a prefix's removal gives
-pub byte_stripped : (b : ℕ) (text : List ℕ) (r : Option (Bor (List ℕ))) → MatchOption r ((rest : List ℕ) → text ≢ b ∷ rest) (λ x. text ≡ b ∷ x.now)
+pub byte_stripped : (b : ℕ) (text : List ℕ) (r : Option (Bor (List ℕ)))
+    → MatchOption r ((rest : List ℕ) → text ≢ b ∷ rest) (λ x. text ≡ b ∷ x.now)
     → MatchOption r (byte b text ≡ miss) (λ x. byte b text ≡ reads b x.now)
 byte_stripped b text None none = byte_misses b text none
 byte_stripped b text (Some x) e = byte_reads b text x.now e
 
--- where something is behind a byte, the byte stands in front
-pub byte_there : (b : ℕ) (text : List ℕ) (r : Option (Bor (List ℕ))) → MatchOption r (byte b text ≡ miss) (λ x. byte b text ≡ reads b x.now) → is_some r ≡ true
-    → (behind : List ℕ) × (byte b text ≡ reads b behind)
+-- where something is after a byte, the byte is at the start
+pub byte_there : (b : ℕ) (text : List ℕ) (r : Option (Bor (List ℕ)))
+    → MatchOption r (byte b text ≡ miss) (λ x. byte b text ≡ reads b x.now) → is_some r ≡ true
+    → (after : List ℕ) × (byte b text ≡ reads b after)
 byte_there b text None h some = absurd (cc)
 byte_there b text (Some x) h some = (x.now, h)
 
--- the byte that stands in front
-pub byte_first : (b : ℕ) (text behind : List ℕ) → byte b text ≡ reads b behind → get_or text 0 0 ≡ b
-byte_first b [] behind e = absurd (cc)
-byte_first b (c ∷ rest) behind e =
+-- the byte that is at the start
+pub byte_first : (b : ℕ) (text after : List ℕ) → byte b text ≡ reads b after → get_or text 0 0 ≡ b
+byte_first b [] after e = absurd (cc)
+byte_first b (c ∷ rest) after e =
     elim (cases_Bool (c == b)) [
       | inl same ↦ eqb-true c b same
       | inr other ↦ absurd (let m = rw other at e in cc)

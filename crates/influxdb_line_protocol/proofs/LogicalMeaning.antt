@@ -24,7 +24,8 @@ unfolding without_escapes
 without_escapes_empty known = refl
 
 -- a text stands for no text but that without escapes
-pub logical_is_unique : (known : List ℕ) (spelled logical : List ℕ) → IsLogical known spelled logical → logical ≡ without_escapes known spelled
+pub logical_is_unique : (known : List ℕ) (spelled logical : List ℕ) → IsLogical known spelled logical
+    → logical ≡ without_escapes known spelled
 logical_is_unique known _ _ empty = sym (without_escapes_empty known)
 logical_is_unique known _ _ (plain b s l differs more) =
     ap (λ (xs : List ℕ). b ∷ xs) (logical_is_unique known s l more) ∙ sym (without_escapes_plain_byte known b s differs)

@@ -1,5 +1,6 @@
 -- From the mask of one load to the bytes that are marks, and from loads to a whole text.
-use Rattle.std.proofs.Common.{◌≡◌, ℕ, ◌+◌, ◌-◌, ◌/◌, ◌%◌, ◌^◌, ◌<◌, ◌≤◌, eqb, Bool, true, false, cond, not, ◌||◌, List, map, length, drop, get_or, replicate, bit_or, refl, sym, ap, ◌∙◌, subst, arith, inl, inr}
+use Rattle.std.proofs.Common.{◌≡◌, ℕ, ◌+◌, ◌-◌, ◌/◌, ◌%◌, ◌^◌, ◌<◌, ◌≤◌, eqb, Bool, true, false, cond, not, ◌||◌, List}
+use Rattle.std.proofs.Common.{map, length, drop, get_or, replicate, bit_or, refl, sym, ap, ◌∙◌, subst, arith, inl, inr}
 use Rattle.std.proofs.lemmas.Bool.{cases_eq, eq-eqb, ne_eqb}
 use Rattle.std.proofs.lemmas.Simd.{length-chunk, run_in_chunk_le, run_in_chunk_fails, run_in_chunk_stops, chunk-drop}
 use Rattle.std.proofs.lemmas.List.{take_rest}
@@ -64,15 +65,18 @@ pub mask_of_load : (m : Marks) (d : List ℕ) (i n : ℕ) → i + n ≤ length d
     → (let v = chunk i n d in
     mask_l (map (top 7) (zip2 bit_or
     (zip2 bit_or (zip2 equal_lane v (replicate n m.first)) (zip2 equal_lane v (replicate n m.second)))
-    (zip2 bit_or (zip2 equal_lane v (replicate n m.third)) (zip2 equal_lane v (replicate n m.fourth))))) % 2 ^ 64) ≡ mask_of (is_one_of (listed m)) d i n
+    (zip2 bit_or (zip2 equal_lane v (replicate n m.third)) (zip2 equal_lane v (replicate n m.fourth))))) % 2 ^ 64) ≡
+    mask_of (is_one_of (listed m)) d i n
 mask_of_load m d i n room few =
     let v = chunk i n d in
     let long = length-chunk i n d room in
     mask_by_lanes (is_one_of (listed m)) d i n room few (compared m) (mark_lane m) _
-    (lanes_or _ _ v (lanes_or _ _ v (lanes_of v m.first long) (lanes_of v m.second long)) (lanes_or _ _ v (lanes_of v m.third long) (lanes_of v m.fourth long)))
+    (lanes_or _ _ v (lanes_or _ _ v (lanes_of v m.first long) (lanes_of v m.second long))
+    (lanes_or _ _ v (lanes_of v m.third long) (lanes_of v m.fourth long)))
 
--- its lowest bit tells how many of the bytes stand before the first mark
-pub stand_before : (q : ℕ → Bool) (d : List ℕ) (i n r : ℕ) → i + n ≤ length d → n ≤ 64 → r ≡ first_set (mask_of q d i n) n → StandBefore q d i n r
+-- its lowest bit tells how many of the bytes come before the first mark
+pub stand_before : (q : ℕ → Bool) (d : List ℕ) (i n r : ℕ) → i + n ≤ length d → n ≤ 64
+    → r ≡ first_set (mask_of q d i n) n → StandBefore q d i n r
 stand_before q d i n r room few found =
     let counted = found ∙ lowest q d i n room few in
     record {
@@ -81,11 +85,11 @@ stand_before q d i n r room few found =
       here = run_in_chunk_stops q d i n r 0 room counted;
     }
 
--- what a text counts is what a load counts, and what stands behind it
-pub count_behind : (q : ℕ → Bool) (d : List ℕ) (at n : ℕ) → count_by q (drop at d) ≡ count_by q (chunk at n d) + count_by q (drop (at + n) d)
-count_behind q d at n = ap (count_by q) (chunk-drop at n d) ∙ sum_by-append (λ b. cond (q b) 1 0) (chunk at n d) (drop (at + n) d)
+-- what a text counts is what a load counts, and what comes after it
+pub count_after : (q : ℕ → Bool) (d : List ℕ) (at n : ℕ) → count_by q (drop at d) ≡ count_by q (chunk at n d) + count_by q (drop (at + n) d)
+count_after q d at n = ap (count_by q) (chunk-drop at n d) ∙ sum_by-append (λ b. cond (q b) 1 0) (chunk at n d) (drop (at + n) d)
 
--- of a load at the end, the bits behind what was seen count the rest
+-- of a load at the end, the bits after what was seen count the rest
 pub count_last : (q : ℕ → Bool) (d : List ℕ) (seen n : ℕ) → n ≤ length d → seen ≤ length d → length d - n ≤ seen
     → count_ones (mask_of q d (length d - n) n / 2 ^ (n - (length d - seen))) ≡ count_by q (drop seen d)
 count_last q d seen n room within overlaps =
@@ -102,16 +106,16 @@ count_last q d seen n room within overlaps =
 pub count_overlapping : (q : ℕ → Bool) (d : List ℕ) (n first last : ℕ) → n ≤ length d → length d < n + n
     → first ≡ mask_of q d 0 n → last ≡ mask_of q d (length d - n) n
     → count_ones first + count_ones (last / 2 ^ (n + n - length d)) ≡ count_by q d
-count_overlapping q d n first last room few front behind =
+count_overlapping q d n first last room few front after =
     let shift : n + n - length d ≡ n - (length d - n) = omega arith in
     let from : n ≡ 0 + n = omega arith in
     let seen = ap count_ones front ∙ ones q d 0 n in
     let rest =
     ap (λ (k : ℕ). count_ones (last / 2 ^ k)) shift
-    ∙ ap (λ (m : ℕ). count_ones (m / 2 ^ (n - (length d - n)))) behind
+    ∙ ap (λ (m : ℕ). count_ones (m / 2 ^ (n - (length d - n)))) after
     ∙ count_last q d n n room room (omega arith)
     ∙ ap (λ (k : ℕ). count_by q (drop k d)) from in
-    omega (arith, seen, rest, count_behind q d 0 n)
+    omega (arith, seen, rest, count_after q d 0 n)
 
 -- a text in which no byte passes the test
 free_whole : (q : ℕ → Bool) (d : List ℕ) → ((k : ℕ) → k < length d → q (get_or d k 0) ≡ false)

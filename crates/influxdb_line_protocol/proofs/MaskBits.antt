@@ -1,5 +1,7 @@
 -- Masks of lists of lanes under the operations on bits.
-use Rattle.std.proofs.Common.{◌≡◌, ℕ, ◌+◌, ◌*◌, ◌/◌, ◌%◌, ◌^◌, min, max, Bool, true, false, cond, not, ◌&&◌, ◌||◌, List, [], ◌∷◌, map, length, bit_and, bit_or, bit_xor, refl, sym, ap, ap₂, ◌∙◌, arith, ◌<◌, ◌≤◌, ◌-◌, suc}
+use Rattle.std.proofs.Common.{◌≡◌, ℕ, ◌+◌, ◌*◌, ◌/◌, ◌%◌, ◌^◌, min, max, Bool, true, false, cond, not, ◌&&◌, ◌||◌}
+use Rattle.std.proofs.Common.{List, [], ◌∷◌, map, length, bit_and, bit_or, bit_xor, refl, sym, ap, ap₂, ◌∙◌, arith}
+use Rattle.std.proofs.Common.{◌<◌, ◌≤◌, ◌-◌, suc}
 use native.Mathlib.Nat.{pow-suc}
 use Rattle.std.specs.Int.{w64, bit_not}
 use Rattle.std.proofs.lemmas.List.{length-map}
@@ -82,7 +84,8 @@ module _ {V : Type 0} (f g : V → Bool) (vs : List V) where
   and_of_maps = mask_and (map f vs) (map g vs) same_length ∙ ap mask_l (zip2_of_maps (λ a b. a && b) f g vs refl refl)
 
 -- the places that do not pass, of 64
-pub not_of_map : {V : Type 0} (f : V → Bool) (vs : List V) → length vs ≡ 64 → bit_not w64 (mask_l (map f vs)) ≡ mask_l (map (λ v. not (f v)) vs)
+pub not_of_map : {V : Type 0} (f : V → Bool) (vs : List V) → length vs ≡ 64
+    → bit_not w64 (mask_l (map f vs)) ≡ mask_l (map (λ v. not (f v)) vs)
 not_of_map f vs long =
     let whole : mask_l (map not (map f vs)) + mask_l (map f vs) + 1 ≡ 2 ^ 64 =
     mask_not (map f vs) ∙ ap (λ (n : ℕ). 2 ^ n) (length-map vs f ∙ long) in

@@ -1,7 +1,10 @@
 -- Masks of loads: what is left of one without its lowest bits, and what its bits tell.
-use Rattle.std.proofs.Common.{◌≡◌, ℕ, zero, suc, ◌+◌, ◌-◌, ◌*◌, ◌/◌, ◌^◌, ◌<◌, ◌≤◌, Bool, true, false, cond, not, List, [], ◌∷◌, map, length, take, drop, sym, ap, ◌∙◌, arith, ◌%◌, ◌++◌, get_or, refl, inl, inr, take-append-drop}
+use Rattle.std.proofs.Common.{◌≡◌, ℕ, zero, suc, ◌+◌, ◌-◌, ◌*◌, ◌/◌, ◌^◌, ◌<◌, ◌≤◌, Bool, true, false, cond, not, List}
+use Rattle.std.proofs.Common.{[], ◌∷◌, map, length, take, drop, sym, ap, ◌∙◌, arith, ◌%◌, ◌++◌, get_or, refl, inl, inr}
+use Rattle.std.proofs.Common.{take-append-drop}
 use native.Mathlib.Nat.{pow-suc, mul_comm, zero-div, div-one, div-div-eq-div-mul, add-mul-mod_self_right}
-use Rattle.std.proofs.lemmas.Simd.{ones-mask_l, length-chunk, first_set_mask_l, run_in_chunk_le, run_in_chunk_fails, run_in_chunk_stops, mask_l-lt, map-map, mask_l-mod, get_or-chunk}
+use Rattle.std.proofs.lemmas.Simd.{ones-mask_l, length-chunk, first_set_mask_l, run_in_chunk_le, run_in_chunk_fails}
+use Rattle.std.proofs.lemmas.Simd.{run_in_chunk_stops, mask_l-lt, map-map, mask_l-mod, get_or-chunk}
 use Rattle.std.proofs.lemmas.List.{drop-drop, drop-take, drop-map, drop_all, length-map, length-take, get_or_past, map-append}
 use Rattle.std.specs.List.{count_by, prefix_len}
 use Rattle.std.specs.Prelude.{count_ones}
@@ -16,7 +19,7 @@ half : (b : Bool) (n : ℕ) → (cond b 1 0 + 2 * n) / 2 ≡ n
 half true n = omega arith
 half false n = omega arith
 
--- a mask without its lowest bits is the mask of the lanes behind them
+-- a mask without its lowest bits is the mask of the lanes after them
 pub mask_l-drop : (ms : List Bool) (k : ℕ) → mask_l ms / 2 ^ k ≡ mask_l (drop k ms)
 mask_l-drop [] zero = zero-div (2 ^ 0)
 mask_l-drop [] (suc k) = zero-div (2 ^ suc k)
@@ -28,7 +31,7 @@ mask_l-drop (m ∷ ms) (suc k) =
     ∙ mask_l-drop ms k
 
 module _ (test : ℕ → Bool) (bytes : List ℕ) (at n : ℕ) where
-  -- shifted, the mask of a load is that of the bytes behind
+  -- shifted, the mask of a load is that of the bytes after
   pub shifted : (k : ℕ) → k ≤ n → mask_of test bytes at n / 2 ^ k ≡ mask_of test bytes (at + k) (n - k)
   shifted k within =
       mask_l-drop (map test (chunk at n bytes)) k
@@ -76,10 +79,12 @@ module _ (test : ℕ → Bool) (bytes : List ℕ) (at n : ℕ) (room : at + n �
       ∙ mask_l-mod (map test v) 64 (omega (arith, length-map v test, length-chunk at n bytes room))
 
   -- the same, where each byte is compared with bytes that are not known
-  pub mask_by_lanes : (f : ℕ → ℕ) → ((x : ℕ) → top 7 (f x) ≡ test x) → (z : List ℕ) → z ≡ map f (chunk at n bytes) → mask_l (map (top 7) z) % 2 ^ 64 ≡ mask_of test bytes at n
+  pub mask_by_lanes : (f : ℕ → ℕ) → ((x : ℕ) → top 7 (f x) ≡ test x) → (z : List ℕ) → z ≡ map f (chunk at n bytes)
+      → mask_l (map (top 7) z) % 2 ^ 64 ≡ mask_of test bytes at n
   mask_by_lanes f same z lanes =
       let v = chunk at n bytes in
-      ap (λ (l : List Bool). mask_l l % 2 ^ 64) (ap (map (top 7)) lanes ∙ map-map (top 7) f v ∙ ap (λ (g : ℕ → Bool). map g v) (λ j x. same x j))
+      ap (λ (l : List Bool). mask_l l % 2 ^ 64)
+      (ap (map (top 7)) lanes ∙ map-map (top 7) f v ∙ ap (λ (g : ℕ → Bool). map g v) (λ j x. same x j))
       ∙ mask_l-mod (map test v) 64 (omega (arith, length-map v test, length-chunk at n bytes room))
 
   -- the lowest bit of a mask tells how far the bytes go that fail the test
@@ -91,9 +96,9 @@ module _ (test : ℕ → Bool) (bytes : List ℕ) (at n : ℕ) (room : at + n �
         λ short. ap not (run_in_chunk_stops test bytes at n r 0 room counted short),
       )
 
--- no bit of a mask stands behind its load
-behind : (test : ℕ → Bool) (bytes : List ℕ) (at n k : ℕ) → at + n ≤ length bytes → n ≤ k → mask_of test bytes at n / 2 ^ k ≡ 0
-behind test bytes at n k room past =
+-- no bit of a mask comes after its load
+after : (test : ℕ → Bool) (bytes : List ℕ) (at n k : ℕ) → at + n ≤ length bytes → n ≤ k → mask_of test bytes at n / 2 ^ k ≡ 0
+after test bytes at n k room past =
     mask_l-drop (map test (chunk at n bytes)) k
     ∙ ap mask_l (drop_all k (map test (chunk at n bytes)) (omega (arith, length-map (chunk at n bytes) test, length-chunk at n bytes room)))
 
@@ -103,7 +108,7 @@ pub next_is : (test : ℕ → Bool) (bytes : List ℕ) (at n k r : ℕ) → at +
 next_is test bytes at n k r room few found =
     elim (cases_lt n k) [
       | inl past ↦
-          let none : r ≡ 0 = found ∙ ap (λ m. first_set m (n - k)) (behind test bytes at n k room (omega arith)) ∙ omega arith in
+          let none : r ≡ 0 = found ∙ ap (λ m. first_set m (n - k)) (after test bytes at n k room (omega arith)) ∙ omega arith in
           (omega arith, λ j from to. absurd (omega arith), λ short. absurd (omega arith))
       | inr inside ↦
           run_is test bytes (at + k) (n - k) (omega arith) (omega arith) r
@@ -122,14 +127,15 @@ pub mask_mod : (ms : List Bool) (k : ℕ) → k ≤ length ms → mask_l ms % 2 
 mask_mod ms k within =
     let long : length (take k ms) ≡ k = length-take k ms ∙ omega arith in
     let whole : mask_l ms ≡ mask_l (take k ms) + mask_l (drop k ms) * 2 ^ k =
-    ap mask_l (sym (take-append-drop k ms)) ∙ mask_l-append (take k ms) (drop k ms) ∙ ap (λ (n : ℕ). mask_l (take k ms) + mask_l (drop k ms) * 2 ^ n) long in
+    ap mask_l (sym (take-append-drop k ms)) ∙ mask_l-append (take k ms) (drop k ms)
+    ∙ ap (λ (n : ℕ). mask_l (take k ms) + mask_l (drop k ms) * 2 ^ n) long in
     ap (λ (n : ℕ). n % 2 ^ k) whole ∙ add-mul-mod_self_right (mask_l (take k ms)) (mask_l (drop k ms)) (2 ^ k)
     ∙ mask_l-mod (take k ms) k (omega (arith, long))
 
 module _ (test : ℕ → Bool) (bytes : List ℕ) (at n m : ℕ) (room : at + n + m ≤ length bytes) where
-  -- the mask of one load and that of the bytes behind it
-  joined : mask_of test bytes at (n + m) ≡ mask_of test bytes at n + mask_of test bytes (at + n) m * 2 ^ n
-  joined =
+  -- the mask of one load and that of the bytes after it
+  separated_list : mask_of test bytes at (n + m) ≡ mask_of test bytes at n + mask_of test bytes (at + n) m * 2 ^ n
+  separated_list =
       let front = map test (chunk at n bytes) in
       let back = map test (chunk (at + n) m bytes) in
       let long : length front ≡ n = length-map (chunk at n bytes) test ∙ length-chunk at n bytes (omega arith) in
@@ -152,22 +158,24 @@ module _ (test : ℕ → Bool) (bytes : List ℕ) (at n m : ℕ) (room : at + n 
   pub added : (s r : ℕ) → n + m ≤ 64 → s ≡ mask_of test bytes at n → r ≡ mask_of test bytes (at + n) m
       → (s + r * 2 ^ n % 2 ^ 64 ≡ mask_of test bytes at (n + m)) × (s + r * 2 ^ n % 2 ^ 64 < 2 ^ 64)
   added s r few first second =
-      let whole : s + r * 2 ^ n ≡ mask_of test bytes at (n + m) = rw (first, second) (sym joined) in
+      let whole : s + r * 2 ^ n ≡ mask_of test bytes at (n + m) = rw (first, second) (sym separated_list) in
       let under = small few in
       let same : r * 2 ^ n % 2 ^ 64 ≡ r * 2 ^ n = mod-eq_of_lt (omega (arith, whole, under)) in
       (rw same whole, rw same (omega (arith, whole, under)))
 
 -- a load at the end, which overlaps what was seen, gives the mask of the bytes that were not
-pub last_added : (test : ℕ → Bool) (bytes : List ℕ) (seen n s r : ℕ) → n ≤ length bytes → length bytes ≤ 64 → seen ≤ length bytes → length bytes - seen ≤ n
+pub last_added : (test : ℕ → Bool) (bytes : List ℕ) (seen n s r : ℕ) → n ≤ length bytes → length bytes ≤ 64
+    → seen ≤ length bytes → length bytes - seen ≤ n
     → s ≡ mask_of test bytes 0 seen → r ≡ mask_of test bytes (length bytes - n) n
-    → let more = r / 2 ^ (n - (length bytes - seen)) * 2 ^ seen % 2 ^ 64 in (s + more ≡ mask_of test bytes 0 (length bytes)) × (s + more < 2 ^ 64)
+    → let more = r / 2 ^ (n - (length bytes - seen)) * 2 ^ seen % 2 ^ 64 in
+    (s + more ≡ mask_of test bytes 0 (length bytes)) × (s + more < 2 ^ 64)
 last_added test bytes seen n s r fits few within overlaps first second =
     let over = n - (length bytes - seen) in
     let place : length bytes - n + over ≡ seen = omega arith in
     let rest : n - over ≡ length bytes - seen = omega arith in
-    let behind : r / 2 ^ over ≡ mask_of test bytes (0 + seen) (length bytes - seen) =
+    let after : r / 2 ^ over ≡ mask_of test bytes (0 + seen) (length bytes - seen) =
     ap (λ x. x / 2 ^ over) second ∙ shifted test bytes (length bytes - n) n over (omega arith)
     ∙ ap (λ x. mask_of test bytes x (n - over)) (omega arith) ∙ ap (mask_of test bytes (0 + seen)) rest in
     let whole : seen + (length bytes - seen) ≡ length bytes = omega arith in
-    let sum = added test bytes 0 seen (length bytes - seen) (omega arith) s (r / 2 ^ over) (omega arith) first behind in
+    let sum = added test bytes 0 seen (length bytes - seen) (omega arith) s (r / 2 ^ over) (omega arith) first after in
     (sum.0 ∙ ap (mask_of test bytes 0) whole, sum.1)

@@ -1,5 +1,6 @@
 -- How a spelling is read from left to right.
-use Rattle.std.proofs.Common.{◌≡◌, ◌≢◌, ℕ, suc, zero, ◌-◌, ◌<◌, List, [], ◌∷◌, length, drop, get_or, true, false, refl, sym, ap, ◌∙◌, arith, inl, inr}
+use Rattle.std.proofs.Common.{◌≡◌, ◌≢◌, ℕ, suc, zero, ◌-◌, ◌<◌, List, [], ◌∷◌, length, drop, get_or, true, false, refl}
+use Rattle.std.proofs.Common.{sym, ap, ◌∙◌, arith, inl, inr}
 use Rattle.std.specs.Prelude.{◌==◌}
 use Rattle.std.proofs.lemmas.Bool.{cases_Bool, or_parts, eqb-false, eq-eqb, ne_eqb}
 use Rattle.influxdb_line_protocol.specs.Bytes.{is_one_of}
@@ -10,13 +11,15 @@ use Rattle.influxdb_line_protocol.specs.Names.{ends_in_backslash, escapable, is_
 use Rattle.influxdb_line_protocol.specs.Readings.{miss, fatal, reads, ends_with_backslash}
 
 -- a byte that is no backslash stays
-pub without_escapes_plain_byte : (known : List ℕ) (b : ℕ) (rest : List ℕ) → b ≢ 92 → without_escapes known (b ∷ rest) ≡ b ∷ without_escapes known rest
+pub without_escapes_plain_byte : (known : List ℕ) (b : ℕ) (rest : List ℕ) → b ≢ 92
+    → without_escapes known (b ∷ rest) ≡ b ∷ without_escapes known rest
 unfolding without_escapes
 without_escapes_plain_byte known b [] h = refl
 without_escapes_plain_byte known b (c ∷ rest) h = rw (ne_eqb b 92 h) refl
 
 -- a known escape gives its second byte
-pub without_escapes_known : (known : List ℕ) (c : ℕ) (rest : List ℕ) → is_one_of known c ≡ true → without_escapes known (92 ∷ c ∷ rest) ≡ c ∷ without_escapes known rest
+pub without_escapes_known : (known : List ℕ) (c : ℕ) (rest : List ℕ) → is_one_of known c ≡ true
+    → without_escapes known (92 ∷ c ∷ rest) ≡ c ∷ without_escapes known rest
 unfolding without_escapes
 without_escapes_known known c rest h = rw h refl
 
@@ -73,7 +76,8 @@ logical_ends kind (b ∷ c ∷ rest) =
       | inl e ↦
           elim (cases_Bool (is_escapable kind c)) [
             | inl k ↦ rw (e, k) (logical_ends_cons kind c rest (logical_ends kind rest) ∙ sym (ends_cons b (c ∷ rest) (omega arith)))
-            | inr k ↦ rw (e, k) (ends_cons b (c ∷ logical kind rest) (omega arith) ∙ logical_ends_cons kind c rest (logical_ends kind rest) ∙ sym (ends_cons b (c ∷ rest) (omega arith)))
+            | inr k ↦ rw (e, k) (ends_cons b (c ∷ logical kind rest) (omega arith)
+                ∙ logical_ends_cons kind c rest (logical_ends kind rest) ∙ sym (ends_cons b (c ∷ rest) (omega arith)))
           ]
       | inr e ↦ rw e (logical_ends_cons kind b (c ∷ rest) (logical_ends kind (c ∷ rest)))
     ]

@@ -1,5 +1,6 @@
 -- A name that is admitted reads back as it was spelled.
-use Rattle.std.proofs.Common.{◌≡◌, ◌≢◌, ℕ, ◌<◌, List, [], ◌∷◌, ◌++◌, length, drop, Bool, true, false, not, refl, sym, ap, ◌∙◌, arith, inl, inr}
+use Rattle.std.proofs.Common.{◌≡◌, ◌≢◌, ℕ, ◌<◌, List, [], ◌∷◌, ◌++◌, length, drop, Bool, true, false, not, refl, sym}
+use Rattle.std.proofs.Common.{ap, ◌∙◌, arith, inl, inr}
 use Rattle.std.specs.Prelude.{◌==◌}
 use Rattle.std.specs.List.{list_all}
 use Rattle.std.proofs.lemmas.Bool.{cases_Bool, and_parts, and_right, eqb-false, not-true}
@@ -9,9 +10,11 @@ use Rattle.influxdb_line_protocol.specs.Bytes.{is_one_of}
 use Rattle.influxdb_line_protocol.specs.Names.{NameKind, a_measurement, a_tag_key, a_tag_value, a_field_key}
 use Rattle.influxdb_line_protocol.specs.Readings.{Text, reads}
 use Rattle.influxdb_line_protocol.specs.Escapes.{escaped, without_escapes}
-use Rattle.influxdb_line_protocol.specs.Names.{ends_in_backslash, escapable, is_escapable, is_stop, logical, name, read_text, spelled, spelled_len}
+use Rattle.influxdb_line_protocol.specs.Names.{ends_in_backslash, escapable, is_escapable, is_stop, logical, name}
+use Rattle.influxdb_line_protocol.specs.Names.{read_text, spelled, spelled_len}
 use Rattle.influxdb_line_protocol.specs.Points.{is_admitted_name, never_in, spelling}
-use Rattle.influxdb_line_protocol.proofs.NameLemmas.{escapable_backslash, without_escapes_same, without_escapes_known, without_escapes_plain_byte, logical_ends, name_reads}
+use Rattle.influxdb_line_protocol.proofs.NameLemmas.{escapable_backslash, without_escapes_same, without_escapes_known}
+use Rattle.influxdb_line_protocol.proofs.NameLemmas.{without_escapes_plain_byte, logical_ends, name_reads}
 use Rattle.influxdb_line_protocol.proofs.ScanLemmas.{bare_len, first_bare_len}
 
 -- a byte that may stand in a name
@@ -56,7 +59,7 @@ pub escaped_plain : (known text : List ℕ) (b : ℕ) → is_one_of known b ≡ 
 unfolding escaped
 escaped_plain known text b plain = rw plain refl
 
--- the spelling ends at the stop byte behind it
+-- the spelling ends at the stop byte after it
 spelling_len : (kind : NameKind) (n rest : List ℕ) (stop : ℕ) → list_all (may_stand kind) n ≡ true → is_stop kind stop ≡ true
     → bare_len (is_stop kind) false (spelling kind n ++ stop ∷ rest) ≡ length (spelling kind n)
 unfolding escaped
@@ -126,11 +129,13 @@ pub name_reads_back : (kind : NameKind) (n rest : List ℕ) (stop : ℕ) → is_
 name_reads_back kind n rest stop admitted ends =
     let parts = admitted_parts kind n admitted in
     let text = spelling kind n ++ stop ∷ rest in
-    let len : spelled_len kind text ≡ length (spelling kind n) = first_bare_len (is_stop kind) text ∙ spelling_len kind n rest stop parts.may ends in
+    let len : spelled_len kind text ≡ length (spelling kind n) = first_bare_len (is_stop kind) text
+    ∙ spelling_len kind n rest stop parts.may ends in
     let front : spelled kind text ≡ spelling kind n = rw len (take_at (spelling kind n) (stop ∷ rest) (length (spelling kind n)) refl) in
-    let behind : drop (spelled_len kind text) text ≡ stop ∷ rest = rw len (drop_at (spelling kind n) (stop ∷ rest) (length (spelling kind n)) refl) in
+    let after : drop (spelled_len kind text) text ≡ stop ∷ rest = rw len
+    (drop_at (spelling kind n) (stop ∷ rest) (length (spelling kind n)) refl) in
     let last : ends_in_backslash (spelling kind n) ≡ false =
     sym (logical_ends kind (spelling kind n)) ∙ ap ends_in_backslash (logical_spelling kind n) ∙ parts.ends in
     let read = name_reads kind text (rw front (spelling_nonempty kind n parts.some)) (rw front last) in
-    let whole = rw (front, behind) at read in
+    let whole = rw (front, after) at read in
     whole

@@ -1,20 +1,29 @@
 -- Which names lines can have, and that they can have each of them.
-use Rattle.std.proofs.Common.{◌≡◌, ◌≢◌, ◌⊎◌, ℕ, zero, suc, ◌-◌, ◌<◌, List, [], ◌∷◌, ◌++◌, length, take, drop, map, slice_index, Bool, true, false, not, ◌&&◌, ◌||◌, refl, sym, ap, ◌∙◌, subst, arith, inl, inr, Option, Some, None, Ok, Err, Result}
+use Rattle.std.proofs.Common.{◌≡◌, ◌≢◌, ◌⊎◌, ℕ, zero, suc, ◌-◌, ◌<◌, List, [], ◌∷◌, ◌++◌, length, take, drop, map}
+use Rattle.std.proofs.Common.{slice_index, Bool, true, false, not, ◌&&◌, ◌||◌, refl, sym, ap, ◌∙◌, subst, arith, inl}
+use Rattle.std.proofs.Common.{inr, Option, Some, None, Ok, Err, Result}
 use Rattle.std.specs.Prelude.{◌==◌, ℤ}
 use Rattle.std.specs.List.{AllByRecursion, Contains}
-use Rattle.std.proofs.lemmas.Bool.{cases_Bool, false≢true, and_parts, and_from, or_left, or_right, or_cases, or_parts, eqb-false, not_from_true, not_from_false, eq-eqb, eqb-true}
+use Rattle.std.proofs.lemmas.Bool.{cases_Bool, false≢true, and_parts, and_from, or_left, or_right, or_cases, or_parts}
+use Rattle.std.proofs.lemmas.Bool.{eqb-false, not_from_true, not_from_false, eq-eqb, eqb-true}
 use Rattle.std.proofs.lemmas.Grind.{common_steps}
 use Rattle.std.proofs.lemmas.List.Elements.{Contains-append_cases, Contains-push_cases}
 use Rattle.influxdb_line_protocol.specs.declared.split.Dialect.{Dialect}
 use Rattle.influxdb_line_protocol.specs.declared.split.Dialect.TheVariants.{Strict}
 use Rattle.influxdb_line_protocol.specs.Bytes.{space, comma, equals, is_one_of}
 use Rattle.influxdb_line_protocol.specs.Escapes.{without_escapes}
-use Rattle.influxdb_line_protocol.specs.Readings.{Fault, measurement_value_invalid, field_set_missing, take_while1, Text, Read, Reading, miss, fatal, reads, ◌>>=◌, or_fault}
-use Rattle.influxdb_line_protocol.specs.Names.{NameKind, a_measurement, a_tag_key, a_tag_value, a_field_key, ends_in_backslash, escapable, is_escapable, is_stop, logical, name, read_text, spelled, spelled_len}
+use Rattle.influxdb_line_protocol.specs.Readings.{Fault, measurement_value_invalid, field_set_missing, take_while1}
+use Rattle.influxdb_line_protocol.specs.Readings.{Text, Read, Reading, miss, fatal, reads, ◌>>=◌, or_fault}
+use Rattle.influxdb_line_protocol.specs.Names.{NameKind, a_measurement, a_tag_key, a_tag_value, a_field_key}
+use Rattle.influxdb_line_protocol.specs.Names.{ends_in_backslash, escapable, is_escapable, is_stop, logical, name}
+use Rattle.influxdb_line_protocol.specs.Names.{read_text, spelled, spelled_len}
 use Rattle.influxdb_line_protocol.specs.Values.{Value, value}
 use Rattle.influxdb_line_protocol.specs.Points.{Pair, Point, never_in}
 use Rattle.influxdb_line_protocol.specs.Trimming.{trimmed}
-use Rattle.influxdb_line_protocol.specs.Lines.{Line, point_of, logical_tag, logical_field, some_tags, byte, tag, field, behind_comma, onto, one_and_more, many, joined, tag_set, field_set, without_comma, spaces, timestamp, complete, front_before, answer, ◌then◌}
+use Rattle.influxdb_line_protocol.specs.Lines.{Line, point_of, logical_tag, logical_field, some_tags, byte, tag, field}
+use Rattle.influxdb_line_protocol.specs.Lines.{after_comma, prepend, one_and_more, many, separated_list, tag_set}
+use Rattle.influxdb_line_protocol.specs.Lines.{field_set, without_comma, spaces, timestamp, complete, front_before}
+use Rattle.influxdb_line_protocol.specs.Lines.{answer, ◌then◌}
 use Rattle.influxdb_line_protocol.specs.Items.{HasAnswers, answers_of_piece, answers_of}
 use Rattle.influxdb_line_protocol.specs.NamesOfLines.{names_of, IsParsedName, BeginsNoComment, IsNothingOrSpaced}
 use Rattle.influxdb_line_protocol.specs.Laws.{NamesAreParsed, StrictFieldsEnd}
@@ -23,10 +32,10 @@ use Rattle.influxdb_line_protocol.proofs.NameReadsBack.{may_stand}
 use Rattle.influxdb_line_protocol.proofs.ScanLemmas.{bare_len, first_bare_len}
 use Rattle.influxdb_line_protocol.proofs.TrimLemmas.{is_blank, left_of, trimmed_is}
 
--- whether each byte that may only stand behind a backslash does, from whether a backslash stands before the text
+-- whether each byte that may only come after a backslash does, from whether a backslash comes before the text
 abbrev pub is_kept : NameKind → Bool → List ℕ → Bool
-is_kept kind behind [] = true
-is_kept kind behind (b ∷ n) = (may_stand kind b || behind) && is_kept kind (b == 92) n
+is_kept kind after [] = true
+is_kept kind after (b ∷ n) = (may_stand kind b || after) && is_kept kind (b == 92) n
 
 -- whether each stop byte of a text is escaped, from whether the place before it is
 abbrev is_closed : NameKind → Bool → List ℕ → Bool
@@ -58,81 +67,92 @@ no_stop : (s : Bool) → (not s || false) ≡ true → s ≡ false
 no_stop true h = absurd (false≢true h)
 no_stop false h = refl
 
--- what stands before the first bare stop holds none
-before_stop_closed : (kind : NameKind) (escaped : Bool) (text : List ℕ) → is_closed kind escaped (take (bare_len (is_stop kind) escaped text) text) ≡ true
+-- what comes before the first bare stop holds none
+before_stop_closed : (kind : NameKind) (escaped : Bool) (text : List ℕ)
+    → is_closed kind escaped (take (bare_len (is_stop kind) escaped text) text) ≡ true
 before_stop_closed kind escaped [] = refl
 before_stop_closed kind escaped (b ∷ text) =
     elim (cases_Bool (is_stop kind b && not escaped)) [
       | inl stop ↦ rw stop refl
-      | inr on ↦ rw on (and_from (not (is_stop kind b) || escaped) _ (no_bare_stop (is_stop kind b) escaped on) (before_stop_closed kind (not escaped && b == 92) text))
+      | inr on ↦ rw on (and_from (not (is_stop kind b) || escaped) _ (no_bare_stop (is_stop kind b) escaped on)
+          (before_stop_closed kind (not escaped && b == 92) text))
     ]
 
 -- a spelling stands for a text whose bytes are kept
-logical_kept : (kind : NameKind) (behind : Bool) (text : List ℕ) → is_closed kind false text ≡ true → is_kept kind behind (logical kind text) ≡ true
+logical_kept : (kind : NameKind) (after : Bool) (text : List ℕ) → is_closed kind false text ≡ true
+    → is_kept kind after (logical kind text) ≡ true
 unfolding without_escapes
-logical_kept kind behind [] h = refl
-logical_kept kind behind (b ∷ []) h =
+logical_kept kind after [] h = refl
+logical_kept kind after (b ∷ []) h =
     let may = unstopped_may kind b (no_stop (is_stop kind b) (and_parts (not (is_stop kind b) || false) true h).0) in
-    and_from (may_stand kind b || behind) true (or_left (may_stand kind b) behind may) refl
-logical_kept kind behind (b ∷ c ∷ rest) h =
+    and_from (may_stand kind b || after) true (or_left (may_stand kind b) after may) refl
+logical_kept kind after (b ∷ c ∷ rest) h =
     let parts = and_parts (not (is_stop kind b) || false) (is_closed kind (b == 92) (c ∷ rest)) h in
     let may : may_stand kind b ≡ true = unstopped_may kind b (no_stop (is_stop kind b) parts.0) in
-    let first : (may_stand kind b || behind) ≡ true = or_left (may_stand kind b) behind may in
+    let first : (may_stand kind b || after) ≡ true = or_left (may_stand kind b) after may in
     elim (cases_Bool (b == 92)) [
       | inl e ↦
           let more : is_closed kind true (c ∷ rest) ≡ true = rw e at parts.1 in
           let closed : is_closed kind false rest ≡ true = (and_parts (not (is_stop kind c) || true) (is_closed kind false rest) more).1 in
           elim (cases_Bool (is_escapable kind c)) [
-            | inl known ↦ rw (e, known) (and_from (may_stand kind c || behind) _ (or_left (may_stand kind c) behind (escapable_may kind c known)) (logical_kept kind (c == 92) rest closed))
-            | inr unknown ↦ rw (e, unknown) (and_from (may_stand kind b || behind) _ first (and_from (may_stand kind c || (b == 92)) _ (or_right (may_stand kind c) (b == 92) e) (logical_kept kind (c == 92) rest closed)))
+            | inl known ↦ rw (e, known)
+                (and_from (may_stand kind c || after) _
+                (or_left (may_stand kind c) after (escapable_may kind c known)) (logical_kept kind (c == 92) rest closed))
+            | inr unknown ↦ rw (e, unknown)
+                (and_from (may_stand kind b || after) _ first
+                (and_from (may_stand kind c || (b == 92)) _ (or_right (may_stand kind c) (b == 92) e)
+                (logical_kept kind (c == 92) rest closed)))
           ]
       | inr e ↦
           let more : is_closed kind false (c ∷ rest) ≡ true = rw e at parts.1 in
-          rw e (and_from (may_stand kind b || behind) _ first (logical_kept kind (b == 92) (c ∷ rest) more))
+          rw e (and_from (may_stand kind b || after) _ first (logical_kept kind (b == 92) (c ∷ rest) more))
     ]
 
 -- whether a text ends in a backslash, or, where it is empty, what is said of the place before it
-abbrev ends_behind : Bool → List ℕ → Bool
-ends_behind behind [] = behind
-ends_behind behind (b ∷ text) = ends_behind (b == 92) text
+abbrev ends_after : Bool → List ℕ → Bool
+ends_after after [] = after
+ends_after after (b ∷ text) = ends_after (b == 92) text
 
 -- the same, from the last byte
-ends_behind_is : (b : ℕ) (text : List ℕ) → ends_behind (b == 92) text ≡ ends_in_backslash (b ∷ text)
-ends_behind_is b [] = refl
-ends_behind_is b (c ∷ text) =
+ends_after_is : (b : ℕ) (text : List ℕ) → ends_after (b == 92) text ≡ ends_in_backslash (b ∷ text)
+ends_after_is b [] = refl
+ends_after_is b (c ∷ text) =
     let e : length (b ∷ c ∷ text) - 1 ≡ suc (length (c ∷ text) - 1) = omega arith in
-    rw e (ends_behind_is c text)
+    rw e (ends_after_is c text)
 
 -- with nothing before it
-ends_from_start : (text : List ℕ) → ends_behind false text ≡ ends_in_backslash text
+ends_from_start : (text : List ℕ) → ends_after false text ≡ ends_in_backslash text
 ends_from_start [] = refl
-ends_from_start (b ∷ text) = ends_behind_is b text
+ends_from_start (b ∷ text) = ends_after_is b text
 
 -- a byte of a text whose bytes are kept
-kept_place : (kind : NameKind) (behind : Bool) (front back : List ℕ) (b : ℕ) → is_kept kind behind (front ++ b ∷ back) ≡ true → is_one_of (never_in kind) b ≡ true
-    → ends_behind behind front ≡ true
-kept_place kind behind [] back b h never =
-    elim (or_cases (may_stand kind b) behind (and_parts (may_stand kind b || behind) _ h).0) [
+kept_place : (kind : NameKind) (suffix : Bool) (front back : List ℕ) (b : ℕ)
+    → is_kept kind suffix (front ++ b ∷ back) ≡ true → is_one_of (never_in kind) b ≡ true
+    → ends_after suffix front ≡ true
+kept_place kind suffix [] back b h never =
+    elim (or_cases (may_stand kind b) suffix (and_parts (may_stand kind b || suffix) _ h).0) [
       | inl may ↦ absurd (false≢true (sym (not_from_true _ never) ∙ may))
       | inr after ↦ after
     ]
-kept_place kind behind (x ∷ front) back b h never = kept_place kind (x == 92) front back b (and_parts (may_stand kind x || behind) _ h).1 never
+kept_place kind suffix (x ∷ front) back b h never = kept_place kind (x == 92) front back b
+    (and_parts (may_stand kind x || suffix) _ h).1 never
 
 -- and from all such bytes
-kept_from : (kind : NameKind) (behind : Bool) (n : List ℕ)
-    → ((front back : List ℕ) (b : ℕ) → n ≡ front ++ b ∷ back → is_one_of (never_in kind) b ≡ true → ends_behind behind front ≡ true)
-    → is_kept kind behind n ≡ true
-kept_from kind behind [] h = refl
-kept_from kind behind (b ∷ n) h =
-    let first : (may_stand kind b || behind) ≡ true = elim (cases_Bool (is_one_of (never_in kind) b)) [
-      | inl never ↦ or_right (may_stand kind b) behind (h [] n b refl never)
-      | inr other ↦ or_left (may_stand kind b) behind (not_from_false _ other)
+kept_from : (kind : NameKind) (after : Bool) (n : List ℕ)
+    → ((front back : List ℕ) (b : ℕ) → n ≡ front ++ b ∷ back → is_one_of (never_in kind) b ≡ true → ends_after after front ≡ true)
+    → is_kept kind after n ≡ true
+kept_from kind after [] h = refl
+kept_from kind after (b ∷ n) h =
+    let first : (may_stand kind b || after) ≡ true = elim (cases_Bool (is_one_of (never_in kind) b)) [
+      | inl never ↦ or_right (may_stand kind b) after (h [] n b refl never)
+      | inr other ↦ or_left (may_stand kind b) after (not_from_false _ other)
     ] in
-    and_from (may_stand kind b || behind) _ first (kept_from kind (b == 92) n (λ front back c e never. h (b ∷ front) back c (ap (λ (xs : List ℕ). b ∷ xs) e) never))
+    and_from (may_stand kind b || after) _ first
+    (kept_from kind (b == 92) n (λ front back c e never. h (b ∷ front) back c (ap (λ (xs : List ℕ). b ∷ xs) e) never))
 
 -- a parsed name, by the test of its bytes
 pub name_kept : (kind : NameKind) (n : List ℕ) → IsParsedName kind n → is_kept kind false n ≡ true
-name_kept kind n h = kept_from kind false n (λ front back b e never. ends_from_start front ∙ h.behind_backslash front back b e never)
+name_kept kind n h = kept_from kind false n (λ front back b e never. ends_from_start front ∙ h.after_backslash front back b e never)
 
 -- a spelling begins as the text does
 front_begins : (n : ℕ) (text : List ℕ) → slice_index text 0 ≢ 35 → slice_index (take n text) 0 ≢ 35
@@ -142,7 +162,8 @@ front_begins (suc n) (b ∷ text) h = h
 
 -- no escape makes a `#`
 hash_unescapable : (b : ℕ) → is_escapable a_measurement b ≡ true → b ≢ 35
-hash_unescapable b h = λ e. let other : is_escapable a_measurement b ≡ false = ap (is_escapable a_measurement) e in false≢true (sym other ∙ h)
+hash_unescapable b h = λ e. let other : is_escapable a_measurement b ≡ false = ap (is_escapable a_measurement) e in
+    false≢true (sym other ∙ h)
 
 -- a measurement begins with `#` only where its spelling does
 logical_begins : (text : List ℕ) → slice_index text 0 ≢ 35 → slice_index (logical a_measurement text) 0 ≢ 35
@@ -151,7 +172,8 @@ logical_begins [] h = omega arith
 logical_begins (b ∷ []) h = h
 logical_begins (b ∷ c ∷ rest) h =
     elim (cases_Bool (b == 92)) [
-      | inl e ↦ elim (cases_Bool (is_escapable a_measurement c)) [ inl known ↦ rw (e, known) (hash_unescapable c known) | inr unknown ↦ rw (e, unknown) h ]
+      | inl e ↦ elim (cases_Bool (is_escapable a_measurement c))
+          [ inl known ↦ rw (e, known) (hash_unescapable c known) | inr unknown ↦ rw (e, unknown) h ]
       | inr e ↦ rw e h
     ]
 
@@ -169,27 +191,31 @@ logical_some kind [] h = absurd (h refl)
 logical_some kind (b ∷ []) h = omega arith
 logical_some kind (b ∷ c ∷ rest) h =
     elim (cases_Bool (b == 92)) [
-      | inl e ↦ elim (cases_Bool (is_escapable kind c)) [ inl known ↦ rw (e, known) (omega arith) | inr unknown ↦ rw (e, unknown) (omega arith) ]
+      | inl e ↦ elim (cases_Bool (is_escapable kind c))
+          [ inl known ↦ rw (e, known) (omega arith) | inr unknown ↦ rw (e, unknown) (omega arith) ]
       | inr e ↦ rw e (omega arith)
     ]
 
 -- what a spelling stands for is a parsed name, unless it is empty or ends in a backslash
-spelled_is_parsed : (kind : NameKind) (text : List ℕ) → length (spelled kind text) ≢ 0 → ends_in_backslash (spelled kind text) ≡ false → BeginsNoComment kind text
+spelled_is_parsed : (kind : NameKind) (text : List ℕ) → length (spelled kind text) ≢ 0
+    → ends_in_backslash (spelled kind text) ≡ false → BeginsNoComment kind text
     → IsParsedName kind (logical kind (spelled kind text))
 spelled_is_parsed kind text some ends begins =
     let closed : is_closed kind false (spelled kind text) ≡ true =
-    subst (λ n. is_closed kind false (take n text) ≡ true) (sym (first_bare_len (is_stop kind) text)) (before_stop_closed kind false text) in
+    subst (λ n. is_closed kind false (take n text) ≡ true) (sym (first_bare_len (is_stop kind) text))
+    (before_stop_closed kind false text) in
     let kept = logical_kept kind false (spelled kind text) closed in
     record {
       some = logical_some kind (spelled kind text) some;
       ends = logical_ends kind (spelled kind text) ∙ ends;
       begins = name_begins kind text begins;
-      behind_backslash = λ front back b e never.
+      after_backslash = λ front back b e never.
           sym (ends_from_start front) ∙ kept_place kind false front back b (subst (λ n. is_kept kind false n ≡ true) e kept) never;
     }
 
 -- each name that is read is a parsed name
-name_parsed : (kind : NameKind) (text rest : List ℕ) (x : Text) → name kind text ≡ reads x rest → BeginsNoComment kind text → IsParsedName kind x.bytes
+name_parsed : (kind : NameKind) (text rest : List ℕ) (x : Text) → name kind text ≡ reads x rest
+    → BeginsNoComment kind text → IsParsedName kind x.bytes
 name_parsed kind text rest x h begins =
     elim (cases_Bool (length (spelled kind text) == 0)) [
       | inl none ↦ let e = name_misses kind text (eqb-true _ 0 none) in absurd (cc)
@@ -207,15 +233,15 @@ name_parsed kind text rest x h begins =
 -- what was read in two steps
 pub record Bound {A B : Type 0} (r : Reading A) (f : Read A → Reading B) (y : B) (rest : List ℕ) : Type 0 where
   pub value : A
-  pub behind : List ℕ
-  pub first : r ≡ reads value behind
-  pub second : f (record { value = value; rest = behind }) ≡ reads y rest
+  pub after : List ℕ
+  pub first : r ≡ reads value after
+  pub second : f (record { value = value; rest = after }) ≡ reads y rest
 
 -- each reading of two steps is such
 pub bound : {A B : Type 0} (r : Reading A) (f : Read A → Reading B) (y : B) (rest : List ℕ) → (r >>= f) ≡ reads y rest → Bound r f y rest
 bound miss f y rest h = absurd (cc)
 bound (fatal e) f y rest h = absurd (cc)
-bound (reads x behind) f y rest h = record { value = x; behind = behind; first = refl; second = h }
+bound (reads x after) f y rest h = record { value = x; after = after; first = refl; second = h }
 
 -- what was added to
 pub record Onto {A : Type 0} (xs : List A) (r : Reading (List A)) (zs : List A) (rest : List ℕ) : Type 0 where
@@ -224,15 +250,17 @@ pub record Onto {A : Type 0} (xs : List A) (r : Reading (List A)) (zs : List A) 
   pub all : xs ++ more ≡ zs
 
 -- each list that was added to is such
-pub onto_parts : {A : Type 0} (xs : List A) (r : Reading (List A)) (zs : List A) (rest : List ℕ) → onto xs r ≡ reads zs rest → Onto xs r zs rest
-onto_parts xs miss zs rest h = absurd (cc)
-onto_parts xs (fatal e) zs rest h = absurd (cc)
-onto_parts xs (reads more behind) zs rest h =
-    let same : behind ≡ rest = cc in
+pub prepend_parts : {A : Type 0} (xs : List A) (r : Reading (List A)) (zs : List A) (rest : List ℕ)
+    → prepend xs r ≡ reads zs rest → Onto xs r zs rest
+prepend_parts xs miss zs rest h = absurd (cc)
+prepend_parts xs (fatal e) zs rest h = absurd (cc)
+prepend_parts xs (reads more after) zs rest h =
+    let same : after ≡ rest = cc in
     let all : xs ++ more ≡ zs = cc in
     record { more = more; are = ap (reads more) same; all = all }
 
-module _ {A : Type 0} (P : A → Type 0) (one : List ℕ → Reading A) (each : (line : List ℕ) (x : A) (rest : List ℕ) → one line ≡ reads x rest → P x) where
+module _ {A : Type 0} (P : A → Type 0) (one : List ℕ → Reading A)
+    (each : (line : List ℕ) (x : A) (rest : List ℕ) → one line ≡ reads x rest → P x) where
   -- nothing was read, so it holds of each
   none_of : (line rest : List ℕ) (xs : List A) → (let none : List A = [] in reads none line) ≡ reads xs rest → AllByRecursion P xs
   none_of line rest [] h = tt
@@ -240,33 +268,39 @@ module _ {A : Type 0} (P : A → Type 0) (one : List ℕ → Reading A) (each : 
 
   -- one was read, and then others
   one_more_of : (line rest : List ℕ) (xs : List A) (r : Reading A) (more : List ℕ → Reading (List A)) → one line ≡ r
-      → ((behind : List ℕ) (ys : List A) → more behind ≡ reads ys rest → AllByRecursion P ys) → one_and_more r line more ≡ reads xs rest → AllByRecursion P xs
+      → ((after : List ℕ) (ys : List A) → more after ≡ reads ys rest → AllByRecursion P ys)
+      → one_and_more r line more ≡ reads xs rest → AllByRecursion P xs
   one_more_of line rest xs miss more e others h = none_of line rest xs h
   one_more_of line rest xs (fatal d) more e others h = absurd (cc)
-  one_more_of line rest xs (reads x behind) more e others h =
-      let parts = onto_parts (x ∷ []) (more behind) xs rest h in
-      subst (AllByRecursion P) parts.all (each line x behind e, others behind parts.more parts.are)
+  one_more_of line rest xs (reads x after) more e others h =
+      let parts = prepend_parts (x ∷ []) (more after) xs rest h in
+      subst (AllByRecursion P) parts.all (each line x after e, others after parts.more parts.are)
 
   -- each of as many as were read
   many_of : (n : ℕ) (line rest : List ℕ) (xs : List A) → many one n line ≡ reads xs rest → AllByRecursion P xs
   many_of zero line rest xs h = none_of line rest xs h
-  many_of (suc n) line rest xs h = one_more_of line rest xs (one line) (λ behind. many one n behind) refl (λ behind ys. many_of n behind rest ys) h
+  many_of (suc n) line rest xs h = one_more_of line rest xs (one line) (λ after. many one n after) refl
+      (λ after ys. many_of n after rest ys) h
 
--- what is read behind a comma is read
-behind_comma_of : {A : Type 0} (P : A → Type 0) (one : List ℕ → Reading A) → ((line : List ℕ) (x : A) (rest : List ℕ) → one line ≡ reads x rest → P x)
-    → (line : List ℕ) (x : A) (rest : List ℕ) → behind_comma one line ≡ reads x rest → P x
-behind_comma_of P one each line x rest h =
-    let parts = bound (byte comma line) (λ behind. one behind.rest) x rest h in
-    each parts.behind x rest parts.second
+-- what is read after a comma is read
+after_comma_of : {A : Type 0} (P : A → Type 0) (one : List ℕ → Reading A)
+    → ((line : List ℕ) (x : A) (rest : List ℕ) → one line ≡ reads x rest → P x)
+    → (line : List ℕ) (x : A) (rest : List ℕ) → after_comma one line ≡ reads x rest → P x
+after_comma_of P one each line x rest h =
+    let parts = bound (byte comma line) (λ after. one after.rest) x rest h in
+    each parts.after x rest parts.second
 
 -- each of those that are joined by commas
-pub joined_of : {A : Type 0} (P : A → Type 0) (one : List ℕ → Reading A) → ((line : List ℕ) (x : A) (rest : List ℕ) → one line ≡ reads x rest → P x)
-    → (line rest : List ℕ) (xs : List A) → joined one line ≡ reads xs rest → AllByRecursion P xs
+pub joined_of : {A : Type 0} (P : A → Type 0) (one : List ℕ → Reading A)
+    → ((line : List ℕ) (x : A) (rest : List ℕ) → one line ≡ reads x rest → P x)
+    → (line rest : List ℕ) (xs : List A) → separated_list one line ≡ reads xs rest → AllByRecursion P xs
 joined_of P one each line rest xs h =
-    let parts = bound (one line) (λ x. onto (x.value ∷ []) (many (behind_comma one) (length x.rest) x.rest)) xs rest h in
-    let more = onto_parts (parts.value ∷ []) (many (behind_comma one) (length parts.behind) parts.behind) xs rest parts.second in
-    subst (AllByRecursion P) more.all
-    (each line parts.value parts.behind parts.first, many_of P (behind_comma one) (behind_comma_of P one each) (length parts.behind) parts.behind rest more.more more.are)
+    let parts = bound (one line) (λ x. prepend (x.value ∷ []) (many (after_comma one) (length x.rest) x.rest)) xs rest h in
+    let more = prepend_parts (parts.value ∷ []) (many (after_comma one) (length parts.after) parts.after) xs rest parts.second in
+    subst (AllByRecursion P) more.all (
+      each line parts.value parts.after parts.first,
+      many_of P (after_comma one) (after_comma_of P one each) (length parts.after) parts.after rest more.more more.are,
+    )
 
 -- the names of a tag, and that of a field
 abbrev ParsedTag : Pair Text Text → Type 0
@@ -281,82 +315,97 @@ tag_parsed : (line : List ℕ) (t : Pair Text Text) (rest : List ℕ) → tag li
 unfolding tag
 tag_parsed line t rest h =
     let last : Text → Read Text → Reading (Pair Text Text) = λ k x. reads (record { key = k; value = x.value }) x.rest in
-    let key = bound (name a_tag_key line) (λ k. byte equals k.rest >>= λ behind. name a_tag_value behind.rest >>= last k.value) t rest h in
-    let sign = bound (byte equals key.behind) (λ behind. name a_tag_value behind.rest >>= last key.value) t rest key.second in
-    let x = bound (name a_tag_value sign.behind) (last key.value) t rest sign.second in
+    let key = bound (name a_tag_key line) (λ k. byte equals k.rest >>= λ after. name a_tag_value after.rest >>= last k.value) t rest h in
+    let sign = bound (byte equals key.after) (λ after. name a_tag_value after.rest >>= last key.value) t rest key.second in
+    let x = bound (name a_tag_value sign.after) (last key.value) t rest sign.second in
     let same : record { key = key.value; value = x.value } ≡ t = cc (x.second) in
-    subst ParsedTag same (name_parsed a_tag_key line key.behind key.value key.first tt, name_parsed a_tag_value sign.behind x.behind x.value x.first tt)
+    subst ParsedTag same (
+      name_parsed a_tag_key line key.after key.value key.first tt,
+      name_parsed a_tag_value sign.after x.after x.value x.first tt,
+    )
 
 -- the key of each field that is read
 field_parsed : (line : List ℕ) (f : Pair Text (Value Text)) (rest : List ℕ) → field line ≡ reads f rest → ParsedField f
 unfolding field
 field_parsed line f rest h =
     let last : Text → Read (Value Text) → Reading (Pair Text (Value Text)) = λ k x. reads (record { key = k; value = x.value }) x.rest in
-    let key = bound (name a_field_key line) (λ k. byte equals k.rest >>= λ behind. value behind.rest >>= last k.value) f rest h in
-    let sign = bound (byte equals key.behind) (λ behind. value behind.rest >>= last key.value) f rest key.second in
-    let x = bound (value sign.behind) (last key.value) f rest sign.second in
+    let key = bound (name a_field_key line) (λ k. byte equals k.rest >>= λ after. value after.rest >>= last k.value) f rest h in
+    let sign = bound (byte equals key.after) (λ after. value after.rest >>= last key.value) f rest key.second in
+    let x = bound (value sign.after) (last key.value) f rest sign.second in
     let same : record { key = key.value; value = x.value } ≡ f = cc (x.second) in
-    subst ParsedField same (name_parsed a_field_key line key.behind key.value key.first tt)
+    subst ParsedField same (name_parsed a_field_key line key.after key.value key.first tt)
 
 -- two parts that are read are the same where their results are
 pub ok_same : {A : Type 0} (x y : A) → (let f : Result A Fault = Ok x in f) ≡ Ok y → x ≡ y
 ok_same x y h = cc
 
 -- the tags that a set has
-no_tags : (rest behind : List ℕ) (ts : Option (List (Pair Text Text))) → (let r : Result (Read (Option (List (Pair Text Text)))) Fault = Ok (record { value = None; rest = behind }) in r) ≡ Ok (record { value = ts; rest = rest })
+no_tags : (rest after : List ℕ) (ts : Option (List (Pair Text Text)))
+    → (let r : Result (Read (Option (List (Pair Text Text)))) Fault = Ok (record { value = None; rest = after }) in
+    r) ≡ Ok (record { value = ts; rest = rest })
     → AllByRecursion ParsedTag (some_tags ts)
-no_tags rest behind ts h =
-    let same : None ≡ ts = ap (λ r. r.value) (ok_same (record { value = None; rest = behind }) (record { value = ts; rest = rest }) h) in
+no_tags rest after ts h =
+    let same : None ≡ ts = ap (λ r. r.value) (ok_same (record { value = None; rest = after }) (record { value = ts; rest = rest }) h) in
     subst (λ us. AllByRecursion ParsedTag (some_tags us)) same tt
 
 -- the tags of a set
-tag_set_parsed : (line rest : List ℕ) (ts : Option (List (Pair Text Text))) → tag_set line ≡ Ok (record { value = ts; rest = rest }) → AllByRecursion ParsedTag (some_tags ts)
+tag_set_parsed : (line rest : List ℕ) (ts : Option (List (Pair Text Text)))
+    → tag_set line ≡ Ok (record { value = ts; rest = rest }) → AllByRecursion ParsedTag (some_tags ts)
 tag_set_parsed [] rest ts h = no_tags rest [] ts h
 tag_set_parsed (c ∷ line) rest ts h =
     elim (cases_Bool (c == 44)) [
-      | inl sign ↦ with_tags (joined tag line) refl (rw sign at h)
+      | inl sign ↦ with_tags (separated_list tag line) refl (rw sign at h)
       | inr other ↦ no_tags rest (c ∷ line) ts (rw other at h)
     ]
   where
-    with_tags : (r : Reading (List (Pair Text Text))) → joined tag line ≡ r → tag_set (44 ∷ line) ≡ Ok (record { value = ts; rest = rest }) → AllByRecursion ParsedTag (some_tags ts)
+    with_tags : (r : Reading (List (Pair Text Text))) → separated_list tag line ≡ r
+        → tag_set (44 ∷ line) ≡ Ok (record { value = ts; rest = rest }) → AllByRecursion ParsedTag (some_tags ts)
     with_tags miss e h = let wrong = rw e at h in absurd (cc)
     with_tags (fatal d) e h = let wrong = rw e at h in absurd (cc)
-    with_tags (reads us behind) e h =
+    with_tags (reads us after) e h =
         let found = rw e at h in
-        let same : Some us ≡ ts = ap (λ r. r.value) (ok_same (record { value = Some us; rest = behind }) (record { value = ts; rest = rest }) found) in
-        subst (λ us. AllByRecursion ParsedTag (some_tags us)) same (joined_of ParsedTag tag tag_parsed line behind us e)
+        let same : Some us ≡ ts = ap (λ r. r.value)
+        (ok_same (record { value = Some us; rest = after }) (record { value = ts; rest = rest }) found) in
+        subst (λ us. AllByRecursion ParsedTag (some_tags us)) same (joined_of ParsedTag tag tag_parsed line after us e)
 
 -- the fields
-field_set_parsed : (dialect : Dialect) (line rest : List ℕ) (fs : List (Pair Text (Value Text))) → field_set dialect line ≡ reads fs rest → AllByRecursion ParsedField fs
+field_set_parsed : (dialect : Dialect) (line rest : List ℕ) (fs : List (Pair Text (Value Text)))
+    → field_set dialect line ≡ reads fs rest → AllByRecursion ParsedField fs
 field_set_parsed dialect line rest fs h =
-    let parts = bound (joined field line) (λ xs. reads xs.value (without_comma dialect xs.value xs.rest)) fs rest h in
+    let parts = bound (separated_list field line) (λ xs. reads xs.value (without_comma dialect xs.value xs.rest)) fs rest h in
     let same : parts.value ≡ fs = cc (parts.second) in
-    subst (AllByRecursion ParsedField) same (joined_of ParsedField field field_parsed line parts.behind parts.value parts.first)
+    subst (AllByRecursion ParsedField) same (joined_of ParsedField field field_parsed line parts.after parts.value parts.first)
 
 -- what the parts of an answer were read from
 pub record Parts (dialect : Dialect) (line : List ℕ) (l : Line) : Type 0 where
-  pub behind_measurement : List ℕ
-  pub behind_tags : List ℕ
-  pub behind_fields : List ℕ
-  pub series : l.series ≡ front_before line behind_tags
-  pub measurement : name a_measurement line ≡ reads l.measurement behind_measurement
-  pub tags : tag_set behind_measurement ≡ Ok (record { value = l.tags; rest = behind_tags })
-  pub fields : field_set dialect (drop (spaces behind_tags) behind_tags) ≡ reads l.fields behind_fields
-  pub stamp : timestamp behind_fields ≡ Ok (record { value = l.timestamp; rest = [] })
+  pub measurement_rest : List ℕ
+  pub tags_rest : List ℕ
+  pub fields_rest : List ℕ
+  pub series : l.series ≡ front_before line tags_rest
+  pub measurement : name a_measurement line ≡ reads l.measurement measurement_rest
+  pub tags : tag_set measurement_rest ≡ Ok (record { value = l.tags; rest = tags_rest })
+  pub fields : field_set dialect (drop (spaces tags_rest) tags_rest) ≡ reads l.fields fields_rest
+  pub stamp : timestamp fields_rest ≡ Ok (record { value = l.timestamp; rest = [] })
 
 -- the parts of an answer, one after another
 after_fields : List ℕ → Text → Read (Option (List (Pair Text Text))) → Read (List (Pair Text (Value Text))) → Result Line Fault
 after_fields line m tags fields =
     timestamp fields.rest then λ t.
-    complete (record { series = front_before line tags.rest; measurement = m; tags = tags.value; fields = fields.value; timestamp = t.value }) t.rest
+    complete (record {
+      series = front_before line tags.rest;
+      measurement = m;
+      tags = tags.value;
+      fields = fields.value;
+      timestamp = t.value;
+    }) t.rest
 
--- from what stands behind the tags on
+-- from what comes after the tags on
 after_tags : Dialect → List ℕ → Text → Read (Option (List (Pair Text Text))) → Result Line Fault
 after_tags dialect line m tags =
     or_fault take_while1 (byte space tags.rest) then λ gap.
     or_fault field_set_missing (field_set dialect (drop (spaces tags.rest) tags.rest)) then after_fields line m tags
 
--- and from what stands behind the measurement on
+-- and from what comes after the measurement on
 after_measurement : Dialect → List ℕ → Read Text → Result Line Fault
 after_measurement dialect line m = tag_set m.rest then after_tags dialect line m.value
 
@@ -377,7 +426,7 @@ must_read e miss x h = absurd (cc)
 must_read e (fatal d) x h = absurd (cc)
 must_read {A = A} e (reads y rest) x h = ap (λ (z : Read A). reads z.value z.rest) (ok_same (record { value = y; rest = rest }) x h)
 
--- nothing is left behind what is complete
+-- nothing is left after what is complete
 completed : (r l : Line) (rest : List ℕ) → complete r rest ≡ Ok l → (r ≡ l) × (rest ≡ [])
 completed r l [] h = (ok_same r l h, refl)
 completed r l (b ∷ rest) h = absurd (cc)
@@ -388,15 +437,31 @@ unfolding answer after_measurement after_tags after_fields
 answer_parts dialect line l h =
     let m = then_parts (or_fault measurement_value_invalid (name a_measurement line)) (after_measurement dialect line) l h in
     let ts = then_parts (tag_set m.read.rest) (after_tags dialect line m.read.value) l m.second in
-    let gap = then_parts (or_fault take_while1 (byte space ts.read.rest)) (λ gap. or_fault field_set_missing (field_set dialect (drop (spaces ts.read.rest) ts.read.rest)) then after_fields line m.read.value ts.read) l ts.second in
-    let fs = then_parts (or_fault field_set_missing (field_set dialect (drop (spaces ts.read.rest) ts.read.rest))) (after_fields line m.read.value ts.read) l gap.second in
-    let t = then_parts (timestamp fs.read.rest) (λ t. complete (record { series = front_before line ts.read.rest; measurement = m.read.value; tags = ts.read.value; fields = fs.read.value; timestamp = t.value }) t.rest) l fs.second in
-    let whole = completed (record { series = front_before line ts.read.rest; measurement = m.read.value; tags = ts.read.value; fields = fs.read.value; timestamp = t.read.value }) l t.read.rest t.second in
+    let gap = then_parts (or_fault take_while1 (byte space ts.read.rest))
+    (λ gap. or_fault field_set_missing
+    (field_set dialect (drop (spaces ts.read.rest) ts.read.rest)) then after_fields line m.read.value ts.read) l ts.second in
+    let fs = then_parts (or_fault field_set_missing (field_set dialect (drop (spaces ts.read.rest) ts.read.rest)))
+    (after_fields line m.read.value ts.read) l gap.second in
+    let t = then_parts (timestamp fs.read.rest)
+    (λ t. complete (record {
+      series = front_before line ts.read.rest;
+      measurement = m.read.value;
+      tags = ts.read.value;
+      fields = fs.read.value;
+      timestamp = t.value;
+    }) t.rest) l fs.second in
+    let whole = completed (record {
+      series = front_before line ts.read.rest;
+      measurement = m.read.value;
+      tags = ts.read.value;
+      fields = fs.read.value;
+      timestamp = t.read.value;
+    }) l t.read.rest t.second in
     subst (Parts dialect line) whole.0
     (record {
-      behind_measurement = m.read.rest;
-      behind_tags = ts.read.rest;
-      behind_fields = fs.read.rest;
+      measurement_rest = m.read.rest;
+      tags_rest = ts.read.rest;
+      fields_rest = fs.read.rest;
       series = refl;
       measurement = must_read measurement_value_invalid (name a_measurement line) m.read m.first;
       tags = ts.first;
@@ -412,7 +477,8 @@ stamp_begins (b ∷ text) t h =
       | inl e ↦ inr (text, ap (λ (x : ℕ). x ∷ text) (eqb-true b 32 e))
       | inr other ↦
           let none = rw other at h in
-          let left : b ∷ text ≡ [] = ap (λ r. r.rest) (ok_same (record { value = None; rest = b ∷ text }) (record { value = t; rest = [] }) none) in
+          let left : b ∷ text ≡ [] = ap (λ r. r.rest)
+          (ok_same (record { value = None; rest = b ∷ text }) (record { value = t; rest = [] }) none) in
           absurd (cc)
     ]
 
@@ -421,13 +487,13 @@ pub strict_fields_end : StrictFieldsEnd
 strict_fields_end text line h =
     let parts = answer_parts Strict text line h in
     record {
-      behind_measurement = parts.behind_measurement;
-      behind_tags = parts.behind_tags;
-      behind_fields = parts.behind_fields;
+      measurement_rest = parts.measurement_rest;
+      tags_rest = parts.tags_rest;
+      fields_rest = parts.fields_rest;
       measurement = parts.measurement;
       tags = parts.tags;
       fields = parts.fields;
-      ends = stamp_begins parts.behind_fields line.timestamp parts.stamp;
+      ends = stamp_begins parts.fields_rest line.timestamp parts.stamp;
     }
 
 -- what is left of a text does not begin with `#`
@@ -469,7 +535,8 @@ all_of P [] x all h = absurd (nothing_in_nil x h)
 all_of P (y ∷ xs) x all h = elim (first_or_later y x xs h) [ inl same ↦ subst P same all.0 | inr later ↦ all_of P xs x all.1 later ]
 
 -- what holds of each made element
-all_made : {X Y : Type 0} (P : Y → Type 0) (make : X → Y) (xs : List X) → AllByRecursion (λ x. P (make x)) xs → AllByRecursion P (map make xs)
+all_made : {X Y : Type 0} (P : Y → Type 0) (make : X → Y) (xs : List X) → AllByRecursion (λ x. P (make x)) xs
+    → AllByRecursion P (map make xs)
 all_made P make [] all = tt
 all_made P make (x ∷ xs) all = (all.0, all_made P make xs all.1)
 
@@ -485,17 +552,18 @@ pub record ParsedPoint (p : Point) : Type 0 where
   pub fields : AllByRecursion (λ f. IsParsedName a_field_key f.key) p.fields
 
 -- the point of each line that is answered
-pub line_parsed : (dialect : Dialect) (text : List ℕ) (line : Line) → slice_index text 0 ≢ 35 → answer dialect text ≡ Ok line → ParsedPoint (point_of line)
+pub line_parsed : (dialect : Dialect) (text : List ℕ) (line : Line) → slice_index text 0 ≢ 35
+    → answer dialect text ≡ Ok line → ParsedPoint (point_of line)
 line_parsed dialect text line begins h =
     let parts = answer_parts dialect text line h in
     record {
-      measurement = name_parsed a_measurement text parts.behind_measurement line.measurement parts.measurement begins;
+      measurement = name_parsed a_measurement text parts.measurement_rest line.measurement parts.measurement begins;
       tags =
           all_made (λ t. IsParsedName a_tag_key t.key × IsParsedName a_tag_value t.value) logical_tag (some_tags line.tags)
-          (tag_set_parsed parts.behind_measurement parts.behind_tags line.tags parts.tags);
+          (tag_set_parsed parts.measurement_rest parts.tags_rest line.tags parts.tags);
       fields =
           all_made (λ f. IsParsedName a_field_key f.key) logical_field line.fields
-          (field_set_parsed dialect (drop (spaces parts.behind_tags) parts.behind_tags) parts.behind_fields line.fields parts.fields);
+          (field_set_parsed dialect (drop (spaces parts.tags_rest) parts.tags_rest) parts.fields_rest line.fields parts.fields);
     }
 
 -- the names of such a point
@@ -503,10 +571,12 @@ point_names : (kind : NameKind) (p : Point) → ParsedPoint p → AllByRecursion
 point_names a_measurement p h = (h.measurement, tt)
 point_names a_tag_key p h =
     all_made (IsParsedName a_tag_key) (λ t. t.key) p.tags
-    (all_parts (λ t. IsParsedName a_tag_key t.key × IsParsedName a_tag_value t.value) (λ t. IsParsedName a_tag_key t.key) (λ t both. both.0) p.tags h.tags)
+    (all_parts (λ t. IsParsedName a_tag_key t.key × IsParsedName a_tag_value t.value)
+    (λ t. IsParsedName a_tag_key t.key) (λ t both. both.0) p.tags h.tags)
 point_names a_tag_value p h =
     all_made (IsParsedName a_tag_value) (λ t. t.value) p.tags
-    (all_parts (λ t. IsParsedName a_tag_key t.key × IsParsedName a_tag_value t.value) (λ t. IsParsedName a_tag_value t.value) (λ t both. both.1) p.tags h.tags)
+    (all_parts (λ t. IsParsedName a_tag_key t.key × IsParsedName a_tag_value t.value)
+    (λ t. IsParsedName a_tag_value t.value) (λ t both. both.1) p.tags h.tags)
 point_names a_field_key p h = all_made (IsParsedName a_field_key) (λ f. f.key) p.fields h.fields
 
 -- the piece that an answer is given for
@@ -516,7 +586,8 @@ pub record Answered (dialect : Dialect) (line : Line) : Type 0 where
   pub answered : answer dialect text ≡ Ok line
 
 -- a line that is answered for a piece
-piece_answered : (dialect : Dialect) (piece : List ℕ) (line : Line) → Contains (answers_of_piece dialect piece) (Ok line) → Answered dialect line
+piece_answered : (dialect : Dialect) (piece : List ℕ) (line : Line)
+    → Contains (answers_of_piece dialect piece) (Ok line) → Answered dialect line
 unfolding answers_of_piece
 piece_answered dialect piece line h =
     elim (cases_Bool (length (trimmed piece) == 0)) [
@@ -529,7 +600,8 @@ piece_answered dialect piece line h =
     ]
 
 -- a line that is answered for pieces
-answered_in : (dialect : Dialect) (pieces : List (List ℕ)) (line : Line) → Contains (answers_of dialect pieces) (Ok line) → Answered dialect line
+answered_in : (dialect : Dialect) (pieces : List (List ℕ)) (line : Line)
+    → Contains (answers_of dialect pieces) (Ok line) → Answered dialect line
 answered_in dialect [] line h = absurd (nothing_in_nil (Ok line) h)
 answered_in dialect (piece ∷ pieces) line h =
     elim (Contains-append_cases (answers_of_piece dialect piece) (answers_of dialect pieces) (Ok line) h) [
@@ -538,7 +610,8 @@ answered_in dialect (piece ∷ pieces) line h =
     ]
 
 -- the point of each line that is answered for a text
-pub answers_parsed : (dialect : Dialect) (text : List ℕ) (answers : List (Result Line Fault)) (line : Line) → HasAnswers dialect text answers → Contains answers (Ok line)
+pub answers_parsed : (dialect : Dialect) (text : List ℕ) (answers : List (Result Line Fault)) (line : Line)
+    → HasAnswers dialect text answers → Contains answers (Ok line)
     → ParsedPoint (point_of line)
 answers_parsed dialect text answers line has here =
     let piece = answered_in dialect has.pieces line (subst (λ xs. Contains xs (Ok line)) has.answered here) in
@@ -547,4 +620,5 @@ answers_parsed dialect text answers line has here =
 -- and its names
 pub names_are_parsed : NamesAreParsed
 names_are_parsed dialect text answers line kind n has here named =
-    all_of (IsParsedName kind) (names_of kind (point_of line)) n (point_names kind (point_of line) (answers_parsed dialect text answers line has here)) named
+    all_of (IsParsedName kind) (names_of kind (point_of line)) n
+    (point_names kind (point_of line) (answers_parsed dialect text answers line has here)) named

@@ -1,13 +1,15 @@
 -- The series of each line that is read is a parsed one.
-use Rattle.std.proofs.Common.{◌≡◌, ℕ, zero, suc, ◌-◌, ◌≤◌, Bool, List, [], ◌∷◌, ◌++◌, length, drop, refl, sym, ap, ◌∙◌, subst, inl, inr, arith, append_assoc, length-append, Option, Some, None, Ok}
+use Rattle.std.proofs.Common.{◌≡◌, ℕ, zero, suc, ◌-◌, ◌≤◌, Bool, List, [], ◌∷◌, ◌++◌, length, drop, refl, sym, ap, ◌∙◌}
+use Rattle.std.proofs.Common.{subst, inl, inr, arith, append_assoc, length-append, Option, Some, None, Ok}
 use Rattle.std.specs.Prelude.{◌==◌}
 use Rattle.std.proofs.Math.Seq.{take-append_seam}
 use Rattle.std.proofs.lemmas.Bool.{cases_Bool}
 use Rattle.std.proofs.lemmas.List.{append_cancel_left, take-append-drop}
 use Rattle.influxdb_line_protocol.specs.BaseLaws.{IsParsedSeries, ReadSeriesAreParsed}
-use Rattle.influxdb_line_protocol.specs.Lines.{behind_comma, byte, front_before, many, some_tags, tag, tag_set}
-use Rattle.influxdb_line_protocol.specs.Meanings.{IsAtStop, StandBehind}
-use Rattle.influxdb_line_protocol.specs.Names.{NameKind, a_measurement, a_tag_key, a_tag_value, ends_in_backslash, escapable, is_stop, logical, name, read_text, spelled, spelled_len}
+use Rattle.influxdb_line_protocol.specs.Lines.{after_comma, byte, front_before, many, some_tags, tag, tag_set}
+use Rattle.influxdb_line_protocol.specs.Meanings.{IsAtStop, SeparatedAfterComma}
+use Rattle.influxdb_line_protocol.specs.Names.{NameKind, a_measurement, a_tag_key, a_tag_value, ends_in_backslash}
+use Rattle.influxdb_line_protocol.specs.Names.{escapable, is_stop, logical, name, read_text, spelled, spelled_len}
 use Rattle.influxdb_line_protocol.specs.Points.{Pair}
 use Rattle.influxdb_line_protocol.specs.Readings.{Reading, Text, reads}
 use Rattle.influxdb_line_protocol.proofs.BasesTellSeries.{set_stands}
@@ -16,25 +18,28 @@ use Rattle.influxdb_line_protocol.proofs.ReadingLemmas.{bind_reads, byte_parts, 
 use Rattle.influxdb_line_protocol.proofs.ShorterRests.{tag_no_longer}
 use Rattle.influxdb_line_protocol.proofs.StopMeaning.{before_stop}
 
--- a front of the text was read, and it reads the same wherever the text behind it is cut
+-- a front of the text was read, and it reads the same wherever the text after it is cut
 record ReadsCut {A : Type 0} (one : List ℕ → Reading A) (text : List ℕ) (x : A) (rest : List ℕ) : Type 0 where
   front : List ℕ
   is : text ≡ front ++ rest
   again : (kept lost : List ℕ) → rest ≡ kept ++ lost → one (front ++ kept) ≡ reads x kept
 
--- a stop stays one where the text behind it is cut
+-- a stop stays one where the text after it is cut
 stop_cut : (passes : ℕ → Bool) (front kept lost : List ℕ) → IsAtStop passes front (kept ++ lost) → IsAtStop passes front kept
 stop_cut passes front [] lost at = tt
 stop_cut passes front (b ∷ kept) lost at = at
 
 -- so a name is spelled as it was
-spelled_cut : (kind : NameKind) (front kept lost : List ℕ) → spelled kind (front ++ (kept ++ lost)) ≡ front → spelled kind (front ++ kept) ≡ front
+spelled_cut : (kind : NameKind) (front kept lost : List ℕ) → spelled kind (front ++ (kept ++ lost)) ≡ front
+    → spelled kind (front ++ kept) ≡ front
 spelled_cut kind front kept lost h =
     let before = (before_stop (is_stop kind) front (kept ++ lost)).0 h in
-    (before_stop (is_stop kind) front kept).1 (record { none = before.none; at_stop = stop_cut (is_stop kind) front kept lost before.at_stop })
+    (before_stop (is_stop kind) front kept).1
+    (record { none = before.none; at_stop = stop_cut (is_stop kind) front kept lost before.at_stop })
 
 -- two texts that spell one name read to it
-name_same : (kind : NameKind) (text other : List ℕ) (t : Text) (rest : List ℕ) → name kind text ≡ reads t rest → spelled kind other ≡ spelled kind text
+name_same : (kind : NameKind) (text other : List ℕ) (t : Text) (rest : List ℕ) → name kind text ≡ reads t rest
+    → spelled kind other ≡ spelled kind text
     → name kind other ≡ reads t (drop (spelled_len kind other) other)
 unfolding name
 name_same kind text other t rest e same =
@@ -43,7 +48,8 @@ name_same kind text other t rest e same =
       | inr some ↦ elim (cases_Bool (ends_in_backslash (logical kind (spelled kind text)))) [
         | inl bad ↦ absurd (let m = rw (some, bad) at e in cc)
         | inr good ↦
-            let parts = reads_parts (read_text (escapable kind) (spelled kind text)) t (drop (spelled_len kind text) text) rest (rw (some, good) at e) in
+            let parts = reads_parts (read_text (escapable kind) (spelled kind text)) t
+            (drop (spelled_len kind text) text) rest (rw (some, good) at e) in
             rw (same, some, good) (ap (λ (x : Text). reads x (drop (spelled_len kind other) other)) parts.0)
       ]
     ]
@@ -56,24 +62,25 @@ name_kept kind text t rest e is kept lost at =
     let whole : front ++ (kept ++ lost) ≡ text = sym (is ∙ ap (λ (r : List ℕ). front ++ r) at) in
     let same = spelled_cut kind front kept lost (ap (spelled kind) whole) in
     let n = spelled_len kind (front ++ kept) in
-    let behind = ap (λ (r : List ℕ). r ++ drop n (front ++ kept)) (sym same) ∙ take-append-drop n (front ++ kept) in
-    name_same kind text (front ++ kept) t rest e same ∙ ap (λ (r : List ℕ). reads t r) (append_cancel_left front (drop n (front ++ kept)) kept behind)
+    let after = ap (λ (r : List ℕ). r ++ drop n (front ++ kept)) (sym same) ∙ take-append-drop n (front ++ kept) in
+    name_same kind text (front ++ kept) t rest e same
+    ∙ ap (λ (r : List ℕ). reads t r) (append_cancel_left front (drop n (front ++ kept)) kept after)
 
--- a name reads the same wherever the text behind it is cut
+-- a name reads the same wherever the text after it is cut
 name_cut : (kind : NameKind) (text : List ℕ) (t : Text) (rest : List ℕ) → name kind text ≡ reads t rest → ReadsCut (name kind) text t rest
 name_cut kind text t rest e =
-    let behind = (name_parts kind text t rest e).1 in
+    let after = (name_parts kind text t rest e).1 in
     let is : text ≡ spelled kind text ++ rest =
-    sym (take-append-drop (spelled_len kind text) text) ∙ ap (λ (r : List ℕ). spelled kind text ++ r) (sym behind) in
+    sym (take-append-drop (spelled_len kind text) text) ∙ ap (λ (r : List ℕ). spelled kind text ++ r) (sym after) in
     record { front = spelled kind text; is = is; again = λ kept lost at. name_kept kind text t rest e is kept lost at }
 
 -- a tag by its names
-tag_by : (line behind rest : List ℕ) (k v : Text) → name a_tag_key line ≡ reads k (61 ∷ behind) → name a_tag_value behind ≡ reads v rest
+tag_by : (line after rest : List ℕ) (k v : Text) → name a_tag_key line ≡ reads k (61 ∷ after) → name a_tag_value after ≡ reads v rest
     → tag line ≡ reads (record { key = k; value = v }) rest
 unfolding tag
-tag_by line behind rest k v e f = rw (e, f) refl
+tag_by line after rest k v e f = rw (e, f) refl
 
--- a tag reads the same wherever the text behind it is cut
+-- a tag reads the same wherever the text after it is cut
 tag_cut : (text : List ℕ) (x : Pair Text Text) (rest : List ℕ) → tag text ≡ reads x rest → ReadsCut tag text x rest
 unfolding tag
 tag_cut text x rest e =
@@ -85,7 +92,8 @@ tag_cut text x rest e =
     let equal = (byte_parts 61 k.mid mark.first mark.mid mark.was).1 in
     let key = name_cut a_tag_key text k.first k.mid k.was in
     let value = name_cut a_tag_value mark.mid v.first v.mid v.was in
-    let left : k.mid ≡ (61 ∷ value.front) ++ rest = equal ∙ ap (λ (r : List ℕ). 61 ∷ r) (value.is ∙ ap (λ (r : List ℕ). value.front ++ r) parts.1) in
+    let left : k.mid ≡ (61 ∷ value.front) ++ rest = equal
+    ∙ ap (λ (r : List ℕ). 61 ∷ r) (value.is ∙ ap (λ (r : List ℕ). value.front ++ r) parts.1) in
     record {
       front = key.front ++ 61 ∷ value.front;
       is = key.is ∙ ap (λ (r : List ℕ). key.front ++ r) left ∙ sym (append_assoc key.front (61 ∷ value.front) rest);
@@ -98,14 +106,14 @@ tag_cut text x rest e =
           ∙ ap (λ (p : Pair Text Text). reads p kept) parts.0;
     }
 
--- a front of the text where these tags stand, each behind a comma, and nothing behind them
+-- a front of the text where these tags stand, each after a comma, and nothing after them
 record StandCut (tags : List (Pair Text Text)) (text rest : List ℕ) : Type 0 where
   front : List ℕ
   is : text ≡ front ++ rest
-  stand : StandBehind tag tags front []
+  stand : SeparatedAfterComma tag tags front []
 
 -- tags stand in such a front
-stand_cut : (tags : List (Pair Text Text)) (text rest : List ℕ) → StandBehind tag tags text rest → StandCut tags text rest
+stand_cut : (tags : List (Pair Text Text)) (text rest : List ℕ) → SeparatedAfterComma tag tags text rest → StandCut tags text rest
 stand_cut [] text rest h = record { front = []; is = h; stand = refl }
 stand_cut (t ∷ tags) text rest h =
     let first = tag_cut h.0 t h.1 h.3 in
@@ -118,8 +126,8 @@ stand_cut (t ∷ tags) text rest h =
       stand = (first.front ++ more.front, more.front, refl, first.again more.front rest more.is, more.stand);
     }
 
--- no fewer bytes stand there than tags
-stand_room : (tags : List (Pair Text Text)) (text rest : List ℕ) → StandBehind tag tags text rest → length tags ≤ length text
+-- no fewer bytes are there than tags
+stand_room : (tags : List (Pair Text Text)) (text rest : List ℕ) → SeparatedAfterComma tag tags text rest → length tags ≤ length text
 stand_room [] text rest h = omega arith
 stand_room (t ∷ tags) text rest h =
     let less = (tag_no_longer h.0).holds t h.1 h.3 in
@@ -127,8 +135,8 @@ stand_room (t ∷ tags) text rest h =
     omega (arith, ap length h.2)
 
 -- tags that stand up to the end of the text are read
-many_read : (n : ℕ) (tags : List (Pair Text Text)) (text : List ℕ) → StandBehind tag tags text [] → length tags ≤ n
-    → many (behind_comma tag) n text ≡ reads tags []
+many_read : (n : ℕ) (tags : List (Pair Text Text)) (text : List ℕ) → SeparatedAfterComma tag tags text [] → length tags ≤ n
+    → many (after_comma tag) n text ≡ reads tags []
 many_read zero [] text h room = ap (λ (r : List ℕ). reads [] r) h
 many_read zero (t ∷ tags) text h room = absurd (omega arith)
 many_read (suc n) [] text h room = rw h refl
@@ -145,7 +153,8 @@ set_tags [] = refl
 set_tags (t ∷ tags) = refl
 
 -- they are read as a set
-set_read : (tags : List (Pair Text Text)) (text : List ℕ) → StandBehind tag tags text [] → tag_set text ≡ Ok (record { value = set_of tags; rest = [] })
+set_read : (tags : List (Pair Text Text)) (text : List ℕ) → SeparatedAfterComma tag tags text []
+    → tag_set text ≡ Ok (record { value = set_of tags; rest = [] })
 set_read [] text h = rw h refl
 set_read (t ∷ tags) text h = rw (h.2, h.3, many_read (length h.1) tags h.1 h.4 (stand_room tags h.1 [] h.4)) refl
 
@@ -159,18 +168,18 @@ pub read_series_are_parsed : ReadSeriesAreParsed
 read_series_are_parsed dialect line l e =
     let parts = answer_parts dialect line l e in
     let tags = some_tags l.tags in
-    let m = name_cut a_measurement line l.measurement parts.behind_measurement parts.measurement in
-    let set = stand_cut tags parts.behind_measurement parts.behind_tags (set_stands parts.behind_measurement parts.behind_tags l.tags parts.tags) in
-    let whole : line ≡ (m.front ++ set.front) ++ parts.behind_tags =
-    m.is ∙ ap (λ (r : List ℕ). m.front ++ r) set.is ∙ sym (append_assoc m.front set.front parts.behind_tags) in
-    let series : l.series ≡ m.front ++ set.front = parts.series ∙ front_is line (m.front ++ set.front) parts.behind_tags whole in
+    let m = name_cut a_measurement line l.measurement parts.measurement_rest parts.measurement in
+    let set = stand_cut tags parts.measurement_rest parts.tags_rest (set_stands parts.measurement_rest parts.tags_rest l.tags parts.tags) in
+    let whole : line ≡ (m.front ++ set.front) ++ parts.tags_rest =
+    m.is ∙ ap (λ (r : List ℕ). m.front ++ r) set.is ∙ sym (append_assoc m.front set.front parts.tags_rest) in
+    let series : l.series ≡ m.front ++ set.front = parts.series ∙ front_is line (m.front ++ set.front) parts.tags_rest whole in
     let parsed : IsParsedSeries (m.front ++ set.front) l.measurement tags = record {
-      behind = set.front;
+      after = set.front;
       set = set_of tags;
-      measurement_is = m.again set.front parts.behind_tags set.is;
+      measurement_is = m.again set.front parts.tags_rest set.is;
       set_is = set_read tags set.front set.stand;
       tags_are = set_tags tags;
     } in (
       subst (λ (s : List ℕ). IsParsedSeries s l.measurement tags) (sym series) parsed,
-      (parts.behind_tags, whole ∙ ap (λ (s : List ℕ). s ++ parts.behind_tags) (sym series)),
+      (parts.tags_rest, whole ∙ ap (λ (s : List ℕ). s ++ parts.tags_rest) (sym series)),
     )

@@ -1,23 +1,24 @@
 -- The first bare byte, found from left to right.
-use Rattle.std.proofs.Common.{◌≡◌, ℕ, zero, suc, ◌<◌, ◌≤◌, List, [], ◌∷◌, ◌++◌, length, take, get_or, Bool, true, false, not, ◌&&◌, cond, sym, ap, ◌∙◌, arith, inl, inr}
+use Rattle.std.proofs.Common.{◌≡◌, ℕ, zero, suc, ◌<◌, ◌≤◌, List, [], ◌∷◌, ◌++◌, length, take, get_or, Bool, true}
+use Rattle.std.proofs.Common.{false, not, ◌&&◌, cond, sym, ap, ◌∙◌, arith, inl, inr}
 use Rattle.std.specs.Prelude.{◌==◌}
 use Rattle.std.proofs.lemmas.Bool.{cases_Bool}
 use Rattle.std.proofs.lemmas.List.{append_assoc, append-nil}
 use Rattle.influxdb_line_protocol.specs.Bytes.{backslash}
-use Rattle.influxdb_line_protocol.specs.Escapes.{is_escaped_behind, first_bare}
+use Rattle.influxdb_line_protocol.specs.Escapes.{is_escaped_after, first_bare}
 use Rattle.influxdb_line_protocol.proofs.EscapeLemmas.{is_escaped_push, first_bare_is}
 
--- whether the place behind these bytes is escaped, from whether the place before them is
-abbrev pub escaped_behind : Bool → List ℕ → Bool
-escaped_behind escaped [] = escaped
-escaped_behind escaped (b ∷ bytes) = escaped_behind (not escaped && b == backslash) bytes
+-- whether the place after these bytes is escaped, from whether the place before them is
+abbrev pub escaped_from : Bool → List ℕ → Bool
+escaped_from escaped [] = escaped
+escaped_from escaped (b ∷ bytes) = escaped_from (not escaped && b == backslash) bytes
 
--- the flag behind bytes, from the flag before them
-escaped_after : (before bytes : List ℕ) → is_escaped_behind (before ++ bytes) ≡ escaped_behind (is_escaped_behind before) bytes
-escaped_after before [] = ap is_escaped_behind (append-nil before)
+-- the flag after bytes, from the flag before them
+escaped_after : (before bytes : List ℕ) → is_escaped_after (before ++ bytes) ≡ escaped_from (is_escaped_after before) bytes
+escaped_after before [] = ap is_escaped_after (append-nil before)
 escaped_after before (b ∷ bytes) =
-    ap is_escaped_behind (sym (append_assoc before (b ∷ []) bytes)) ∙ escaped_after (before ++ b ∷ []) bytes
-    ∙ ap (λ (e : Bool). escaped_behind e bytes) (is_escaped_push before b)
+    ap is_escaped_after (sym (append_assoc before (b ∷ []) bytes)) ∙ escaped_after (before ++ b ∷ []) bytes
+    ∙ ap (λ (e : Bool). escaped_from e bytes) (is_escaped_push before b)
 
 -- how far the first bare byte is that passes, from whether the place before the text is escaped
 abbrev pub bare_len : (ℕ → Bool) → Bool → List ℕ → ℕ
@@ -34,7 +35,7 @@ module _ (passes : ℕ → Bool) where
       ]
 
   bare_len_before : (escaped : Bool) (text : List ℕ) (k : ℕ) → k < bare_len passes escaped text
-      → (passes (get_or text k 0) && not (escaped_behind escaped (take k text))) ≡ false
+      → (passes (get_or text k 0) && not (escaped_from escaped (take k text))) ≡ false
   bare_len_before escaped [] k h = absurd (omega arith)
   bare_len_before escaped (b ∷ text) zero h =
       elim (cases_Bool (passes b && not escaped)) [
@@ -49,7 +50,8 @@ module _ (passes : ℕ → Bool) where
       ]
 
   bare_len_at : (escaped : Bool) (text : List ℕ) → bare_len passes escaped text < length text
-      → (passes (get_or text (bare_len passes escaped text) 0) && not (escaped_behind escaped (take (bare_len passes escaped text) text))) ≡ true
+      → (passes (get_or text (bare_len passes escaped text) 0) && not
+      (escaped_from escaped (take (bare_len passes escaped text) text))) ≡ true
   bare_len_at escaped [] h = absurd (omega arith)
   bare_len_at escaped (b ∷ text) h =
       elim (cases_Bool (passes b && not escaped)) [
@@ -60,7 +62,7 @@ module _ (passes : ℕ → Bool) where
 
   -- the two agree
   pub first_bare_len : (text : List ℕ) → first_bare passes text ≡ bare_len passes false text
-  unfolding is_escaped_behind
+  unfolding is_escaped_after
   first_bare_len text =
       first_bare_is passes text (bare_len passes false text) (bare_len_fits false text)
       (λ k h. rw (escaped_after [] (take k text)) (bare_len_before false text k h))

@@ -1,8 +1,9 @@
--- What is left behind what was read is no longer than the text.
+-- What is left after what was read is no longer than the text.
 use Rattle.std.proofs.Common.{◌≡◌, ℕ, ◌+◌, ◌≤◌, List, [], ◌∷◌, length, drop, Bool, true, false, cond, refl, ap, arith, length-drop}
 use Rattle.influxdb_line_protocol.specs.Readings.{Fault, Read, Reading, miss, fatal, reads, ◌>>=◌, ◌otherwise◌}
 use Rattle.influxdb_line_protocol.specs.Names.{NameKind, a_tag_key, a_tag_value, a_field_key, name}
-use Rattle.influxdb_line_protocol.specs.Values.{value, integer_at, unsigned_at, float_at, string_at, boolean_at, body_len, true_words, false_words}
+use Rattle.influxdb_line_protocol.specs.Values.{value, integer_at, unsigned_at, float_at, string_at, boolean_at}
+use Rattle.influxdb_line_protocol.specs.Values.{body_len, true_words, false_words}
 use Rattle.influxdb_line_protocol.specs.Lines.{byte, field, tag}
 
 -- what the reading leaves is no longer than the text
@@ -19,7 +20,7 @@ fault_left text f = record { holds = λ x rest e. absurd (cc) }
 
 -- a reading by what it leaves
 some_left : {A : Type 0} (text : List ℕ) (x : A) (rest : List ℕ) → length rest ≤ length text → IsNoLonger text (reads x rest)
-some_left text x rest h = record { holds = λ y behind e. let same : rest ≡ behind = cc in omega (arith, ap length same) }
+some_left text x rest h = record { holds = λ y after e. let same : rest ≡ after = cc in omega (arith, ap length same) }
 
 -- a part of the text is dropped
 dropped : {A : Type 0} (text : List ℕ) (n : ℕ) (x : A) → IsNoLonger text (reads x (drop n text))
@@ -36,15 +37,15 @@ one_of_two text miss s h k = k
 one_of_two text (fatal e) s h k = h
 one_of_two text (reads x rest) s h k = h
 
--- one behind another
+-- one after another
 and_then : {A B : Type 0} (text : List ℕ) (r : Reading A) (f : Read A → Reading B) → IsNoLonger text r
     → ((x : Read A) → IsNoLonger x.rest (f x)) → IsNoLonger text (r >>= f)
 and_then text miss f h k = none_left text
 and_then text (fatal e) f h k = fault_left text e
 and_then text (reads x rest) f h k =
     record {
-      holds = λ y behind e.
-          let near = (k (record { value = x; rest = rest })).holds y behind e in
+      holds = λ y after e.
+          let near = (k (record { value = x; rest = rest })).holds y after e in
           let far = h.holds x rest refl in
           omega arith;
     }
@@ -78,8 +79,8 @@ float_no_longer text = either text _ _ _ (none_left text) (dropped text _ _)
 string_no_longer : (text : List ℕ) → IsNoLonger text (string_at text)
 unfolding string_at
 string_no_longer [] = none_left []
-string_no_longer (b ∷ behind) =
-    either (b ∷ behind) _ _ _ (some_left (b ∷ behind) _ _ (omega (arith, length-drop (body_len behind + 1) behind))) (none_left (b ∷ behind))
+string_no_longer (b ∷ after) =
+    either (b ∷ after) _ _ _ (some_left (b ∷ after) _ _ (omega (arith, length-drop (body_len after + 1) after))) (none_left (b ∷ after))
 
 -- a boolean
 boolean_no_longer : (b : Bool) (words : List (List ℕ)) (text : List ℕ) → IsNoLonger text (boolean_at b words text)
@@ -96,20 +97,20 @@ value_no_longer text =
     let five = one_of_two text _ (boolean_at true true_words text) four (boolean_no_longer true true_words text) in
     one_of_two text _ (boolean_at false false_words text) five (boolean_no_longer false false_words text)
 
--- the rest behind a tag
+-- the rest after a tag
 pub tag_no_longer : (text : List ℕ) → IsNoLonger text (tag text)
 unfolding tag
 tag_no_longer text =
     and_then text (name a_tag_key text) _ (name_no_longer a_tag_key text) λ key.
-    and_then key.rest (byte 61 key.rest) _ (byte_no_longer 61 key.rest) λ behind.
-    and_then behind.rest (name a_tag_value behind.rest) _ (name_no_longer a_tag_value behind.rest) λ x.
+    and_then key.rest (byte 61 key.rest) _ (byte_no_longer 61 key.rest) λ after.
+    and_then after.rest (name a_tag_value after.rest) _ (name_no_longer a_tag_value after.rest) λ x.
     some_left x.rest _ x.rest (omega arith)
 
--- the rest behind a field
+-- the rest after a field
 pub field_no_longer : (text : List ℕ) → IsNoLonger text (field text)
 unfolding field
 field_no_longer text =
     and_then text (name a_field_key text) _ (name_no_longer a_field_key text) λ key.
-    and_then key.rest (byte 61 key.rest) _ (byte_no_longer 61 key.rest) λ behind.
-    and_then behind.rest (value behind.rest) _ (value_no_longer behind.rest) λ x.
+    and_then key.rest (byte 61 key.rest) _ (byte_no_longer 61 key.rest) λ after.
+    and_then after.rest (value after.rest) _ (value_no_longer after.rest) λ x.
     some_left x.rest _ x.rest (omega arith)

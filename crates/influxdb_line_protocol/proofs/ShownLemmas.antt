@@ -1,5 +1,6 @@
 -- Texts as they are shown: what one byte more and one item more add.
-use Rattle.std.proofs.Common.{◌≡◌, ℕ, ◌+◌, ◌<◌, ◌≤◌, List, [], ◌∷◌, ◌++◌, length, take, drop, get_or, slice_index, length-drop, arith, ap, refl, ◌-◌, ◌∙◌, append_assoc, append-nil, true, false}
+use Rattle.std.proofs.Common.{◌≡◌, ℕ, ◌+◌, ◌<◌, ◌≤◌, List, [], ◌∷◌, ◌++◌, length, take, drop, get_or, slice_index}
+use Rattle.std.proofs.Common.{length-drop, arith, ap, refl, ◌-◌, ◌∙◌, append_assoc, append-nil, true, false}
 use Rattle.std.proofs.lemmas.Grind.{common_steps, flat_map-append}
 use Rattle.std.proofs.lemmas.List.{take_more}
 use Rattle.std.proofs.Math.Nat.{sub_self}
@@ -20,7 +21,8 @@ pub escaped_more : (bytes text : List ℕ) (i : ℕ) → i < length text
 unfolding escaped
 escaped_more bytes text i h =
     rw (take_more text i 0 h)
-    (flat_map-append (escaped_byte bytes) (take i text) (slice_index text i ∷ []) ∙ ap (λ (xs : List ℕ). escaped bytes (take i text) ++ xs) (append-nil _))
+    (flat_map-append (escaped_byte bytes) (take i text) (slice_index text i ∷ [])
+    ∙ ap (λ (xs : List ℕ). escaped bytes (take i text) ++ xs) (append-nil _))
 
 -- the run that is not yet written, with one byte more
 run_more : (text : List ℕ) (start at : ℕ) → start ≤ at → at < length text
@@ -37,7 +39,7 @@ pub keep_byte : (bytes text done : List ℕ) (start at : ℕ) → start ≤ at �
 keep_byte bytes text done start at low within plain whole =
     rw (run_more text start at low within, escaped_more bytes text at within, plain, ← whole) (simp append_assoc)
 
--- a byte with a backslash begins a new run, behind the old one and the backslash
+-- a byte with a backslash begins a new run, after the old one and the backslash
 pub escape_byte : (bytes text done : List ℕ) (start at : ℕ) → at < length text → is_one_of bytes (slice_index text at) ≡ true
     → done ++ take (at - start) (drop start text) ≡ escaped bytes (take at text)
     → (done ++ (take (at - start) (drop start text) ++ 92 ∷ [])) ++ take (at + 1 - at) (drop at text) ≡ escaped bytes (take (at + 1) text)

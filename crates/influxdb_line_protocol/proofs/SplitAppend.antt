@@ -1,29 +1,33 @@
--- A plain stretch behind a plain stretch is one, and so a builder can lengthen a piece by whole names.
-use Rattle.std.proofs.Common.{◌≡◌, ◌≢◌, ℕ, false, cond, not, ◌⊎◌, inl, inr, eqb, List, [], ◌∷◌, ◌++◌, sym, ◌∙◌, ap, refl, arith, append_assoc, append-nil}
+-- A plain stretch after a plain stretch is one, and so a builder can lengthen a piece by whole names.
+use Rattle.std.proofs.Common.{◌≡◌, ◌≢◌, ℕ, false, cond, not, ◌⊎◌, inl, inr, eqb, List, [], ◌∷◌, ◌++◌, sym, ◌∙◌, ap}
+use Rattle.std.proofs.Common.{refl, arith, append_assoc, append-nil}
 use Rattle.std.proofs.lemmas.List.Elements.{All-append}
-use Rattle.influxdb_line_protocol.specs.Escapes.{is_escaped_behind, bare_behind, bare, IsBareBehind}
+use Rattle.influxdb_line_protocol.specs.Escapes.{is_escaped_after, bare_after, bare, IsBareAfter}
 use Rattle.influxdb_line_protocol.specs.Piece.{IsPlain, EndsPlain, EndsPlain.first, EndsPlain.later}
 use Rattle.influxdb_line_protocol.proofs.SplitBare.{is_escaped-nil, is_escaped-push}
 use Rattle.influxdb_line_protocol.proofs.SplitShape.{last_place, EndsPlain-same}
 
--- of what stands before, only whether it escapes matters
-same_bare : (front other text : List ℕ) → is_escaped_behind front ≡ is_escaped_behind other → bare_behind front text ≡ bare_behind other text
+-- of what comes before, only whether it escapes matters
+same_bare : (front other text : List ℕ) → is_escaped_after front ≡ is_escaped_after other → bare_after front text ≡ bare_after other text
 same_bare front other [] e = refl
 same_bare front other (b ∷ text) e =
     let f = is_escaped-push front b ∙ ap (λ t. cond (eqb b 92) (not t) false) e ∙ sym (is_escaped-push other b) in
-    ap (λ t. cond t [] (b ∷ []) ++ bare_behind (front ++ b ∷ []) text) e
-    ∙ ap (λ xs. cond (is_escaped_behind other) [] (b ∷ []) ++ xs) (same_bare (front ++ b ∷ []) (other ++ b ∷ []) text f)
+    ap (λ t. cond t [] (b ∷ []) ++ bare_after (front ++ b ∷ []) text) e
+    ∙ ap (λ xs. cond (is_escaped_after other) [] (b ∷ []) ++ xs) (same_bare (front ++ b ∷ []) (other ++ b ∷ []) text f)
 
-bare_behind-append : (front xs ys : List ℕ) → bare_behind front (xs ++ ys) ≡ bare_behind front xs ++ bare_behind (front ++ xs) ys
-bare_behind-append front [] ys = ap (λ t. bare_behind t ys) (sym (append-nil front))
-bare_behind-append front (x ∷ xs) ys =
-    rw (bare_behind-append (front ++ x ∷ []) xs ys, append_assoc front (x ∷ []) xs) (sym (append_assoc (cond (is_escaped_behind front) [] (x ∷ [])) (bare_behind (front ++ x ∷ []) xs) (bare_behind (front ++ x ∷ xs) ys)))
+bare_after-append : (front xs ys : List ℕ) → bare_after front (xs ++ ys) ≡ bare_after front xs ++ bare_after (front ++ xs) ys
+bare_after-append front [] ys = ap (λ t. bare_after t ys) (sym (append-nil front))
+bare_after-append front (x ∷ xs) ys =
+    rw (bare_after-append (front ++ x ∷ []) xs ys, append_assoc front (x ∷ []) xs)
+    (sym (append_assoc (cond (is_escaped_after front) [] (x ∷ [])) (bare_after (front ++ x ∷ []) xs)
+    (bare_after (front ++ x ∷ xs) ys)))
 
-pub bare-append : (xs ys : List ℕ) → IsBareBehind xs → bare (xs ++ ys) ≡ bare xs ++ bare ys
-bare-append xs ys h = bare_behind-append [] xs ys ∙ ap (λ t. bare xs ++ t) (same_bare xs [] ys (h ∙ sym is_escaped-nil))
+pub bare-append : (xs ys : List ℕ) → IsBareAfter xs → bare (xs ++ ys) ≡ bare xs ++ bare ys
+bare-append xs ys h = bare_after-append [] xs ys ∙ ap (λ t. bare xs ++ t) (same_bare xs [] ys (h ∙ sym is_escaped-nil))
 
 -- a place in joined lists is in one of them
-place_in_append : (xs ys : List ℕ) (c : ℕ) (before after : List ℕ) → xs ++ ys ≡ before ++ c ∷ after → ((rest : List ℕ) × (xs ≡ before ++ c ∷ rest)) ⊎ ((front : List ℕ) × (before ≡ xs ++ front) × (ys ≡ front ++ c ∷ after))
+place_in_append : (xs ys : List ℕ) (c : ℕ) (before after : List ℕ) → xs ++ ys ≡ before ++ c ∷ after
+    → ((rest : List ℕ) × (xs ≡ before ++ c ∷ rest)) ⊎ ((front : List ℕ) × (before ≡ xs ++ front) × (ys ≡ front ++ c ∷ after))
 place_in_append [] ys c before after e = inr (before, refl, e)
 place_in_append (x ∷ xs) ys c [] after e =
     let h : x ≡ c = cc in
@@ -36,7 +40,8 @@ place_in_append (x ∷ xs) ys c (y ∷ before) after e =
       | inr w ↦ let k = w.1 in inr (w.0, cc, w.2)
     ]
 
-IsPlain-append : (counted xs ys : List ℕ) → IsBareBehind xs → IsPlain counted xs → IsPlain (counted ++ bare xs) ys → IsPlain counted (xs ++ ys)
+IsPlain-append : (counted xs ys : List ℕ) → IsBareAfter xs → IsPlain counted xs → IsPlain (counted ++ bare xs) ys
+    → IsPlain counted (xs ++ ys)
 IsPlain-append counted xs ys e h k =
     let more = bare-append xs ys e in
     record {
@@ -47,10 +52,14 @@ IsPlain-append counted xs ys e h k =
       ];
     }
 
-pub EndsPlain-append : {piece counted : List ℕ} (text : List ℕ) → EndsPlain piece counted → IsBareBehind piece → IsPlain counted text → EndsPlain (piece ++ text) (counted ++ bare text)
+pub EndsPlain-append : {piece counted : List ℕ} (text : List ℕ) → EndsPlain piece counted → IsBareAfter piece
+    → IsPlain counted text → EndsPlain (piece ++ text) (counted ++ bare text)
 EndsPlain-append text (first head plain h i p) e k =
-    let f : IsBareBehind (32 ∷ plain) = last_place [] plain 32 (omega arith) ∙ sym (last_place head plain 32 (omega arith)) ∙ e in
-    EndsPlain-same (sym (append_assoc head (32 ∷ plain) text)) (bare-append (32 ∷ plain) text f) (first head (plain ++ text) h i (IsPlain-append [] (32 ∷ plain) text f p k))
+    let f : IsBareAfter (32 ∷ plain) = last_place [] plain 32 (omega arith) ∙ sym (last_place head plain 32 (omega arith)) ∙ e in
+    EndsPlain-same (sym (append_assoc head (32 ∷ plain) text)) (bare-append (32 ∷ plain) text f)
+    (first head (plain ++ text) h i (IsPlain-append [] (32 ∷ plain) text f p k))
 EndsPlain-append text (later piece counted quoted plain h o q i p) e k =
-    let f : IsBareBehind plain = sym (last_place (piece ++ 34 ∷ quoted) plain 34 (omega arith)) ∙ e in
-    EndsPlain-same (sym (append_assoc (piece ++ 34 ∷ quoted) (34 ∷ plain) text)) (ap (λ s. counted ++ s) (bare-append plain text f) ∙ sym (append_assoc counted (bare plain) (bare text))) (later piece counted quoted (plain ++ text) h o q i (IsPlain-append counted plain text f p k))
+    let f : IsBareAfter plain = sym (last_place (piece ++ 34 ∷ quoted) plain 34 (omega arith)) ∙ e in
+    EndsPlain-same (sym (append_assoc (piece ++ 34 ∷ quoted) (34 ∷ plain) text))
+    (ap (λ s. counted ++ s) (bare-append plain text f) ∙ sym (append_assoc counted (bare plain) (bare text)))
+    (later piece counted quoted (plain ++ text) h o q i (IsPlain-append counted plain text f p k))

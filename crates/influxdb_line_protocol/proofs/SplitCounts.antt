@@ -1,5 +1,6 @@
 -- The walk that counts the bare equals signs and commas of a stretch, from mark to mark.
-use Rattle.std.proofs.Common.{◌≡◌, ℕ, zero, suc, ◌+◌, ◌-◌, ◌%◌, ◌^◌, ◌<◌, ◌≤◌, List, length, take, slice_index, min, Bool, true, false, cond, not, ◌&&◌, count_ones, refl, sym, ap, ap₂, ◌∙◌, inl, inr, arith}
+use Rattle.std.proofs.Common.{◌≡◌, ℕ, zero, suc, ◌+◌, ◌-◌, ◌%◌, ◌^◌, ◌<◌, ◌≤◌, List, length, take, slice_index, min}
+use Rattle.std.proofs.Common.{Bool, true, false, cond, not, ◌&&◌, count_ones, refl, sym, ap, ap₂, ◌∙◌, inl, inr, arith}
 use Rattle.std.specs.Prelude.{◌==◌}
 use Rattle.std.specs.List.{count_by, range_with_len}
 use Rattle.std.proofs.lemmas.Bool.{cases_lt}
@@ -8,7 +9,7 @@ use Rattle.std.proofs.lemmas.List.Sums.{count_by-le-length, sum_by-cons}
 use mir.Val.{bool_byte}
 use Rattle.influxdb_line_protocol.specs.declared.split.Counts.{Counts}
 use Rattle.influxdb_line_protocol.specs.Counts.{IsCounted}
-use Rattle.influxdb_line_protocol.specs.Escapes.{bare, is_bare_at, is_escaped_behind}
+use Rattle.influxdb_line_protocol.specs.Escapes.{bare, is_bare_at, is_escaped_after}
 use Rattle.influxdb_line_protocol.specs.Scan.{mask_at}
 use Rattle.influxdb_line_protocol.proofs.BareMasks.{at_most_one, one_escaped, next_bare, ones_low}
 use Rattle.influxdb_line_protocol.proofs.SplitBare.{is_escaped-nil}
@@ -44,10 +45,11 @@ bare_number false true = refl
 bare_number false false = refl
 
 -- the bare bytes that pass a test, one byte further
-pub count_byte : (p : ℕ → Bool) (text : List ℕ) (at count n : ℕ) (e : Bool) → at < length text → e ≡ is_escaped_behind (take at text)
-    → count ≡ count_by p (bare (take at text)) → n ≡ bool_byte (not e && p (slice_index text at)) → count + n ≡ count_by p (bare (take (at + 1) text))
+pub count_byte : (p : ℕ → Bool) (text : List ℕ) (at count n : ℕ) (e : Bool) → at < length text → e ≡ is_escaped_after (take at text)
+    → count ≡ count_by p (bare (take at text)) → n ≡ bool_byte (not e && p (slice_index text at))
+    → count + n ≡ count_by p (bare (take (at + 1) text))
 count_byte p text at count n e within is counted n_is =
-    let here : n ≡ cond (is_escaped_behind (take at text)) 0 (cond (p (slice_index text at)) 1 0) =
+    let here : n ≡ cond (is_escaped_after (take at text)) 0 (cond (p (slice_index text at)) 1 0) =
     n_is ∙ bare_number e (p (slice_index text at)) ∙ ap (λ (f : Bool). cond f 0 (cond (p (slice_index text at)) 1 0)) is in
     ap₂ (λ (a b : ℕ). a + b) counted here ∙ sym (count_bare_more p text at within)
 
@@ -64,9 +66,10 @@ count_along p text zero at room =
     ap (λ (k : ℕ). count_by p (bare (take k text))) place ∙ omega arith
 count_along p text (suc n) at room =
     let one = count_bare_more p text at (omega arith) in
-    let here = as_bare (is_escaped_behind (take at text)) (p (slice_index text at)) in
+    let here = as_bare (is_escaped_after (take at text)) (p (slice_index text at)) in
     let place : at + suc n ≡ at + 1 + n = omega arith in
-    let more : count_by (is_bare_at p text) (range_with_len at (suc n)) ≡ cond (is_bare_at p text at) 1 0 + count_by (is_bare_at p text) (range_with_len (at + 1) n) =
+    let more : count_by (is_bare_at p text) (range_with_len at (suc n)) ≡ cond (is_bare_at p text at) 1 0 + count_by
+    (is_bare_at p text) (range_with_len (at + 1) n) =
     sum_by-cons (λ k. cond (is_bare_at p text k) 1 0) at (range_with_len (at + 1) n) in
     ap (λ (k : ℕ). count_by p (bare (take k text))) place ∙ omega (arith, count_along p text n (at + 1) (omega arith), one, here)
 
@@ -75,7 +78,9 @@ module _ (text : List ℕ) (end : ℕ) (fits : end ≤ length text) (e c at : �
     (counted : IsCounted text end (counts_at e c at)) (near last next : ℕ) (near_is : near ≡ min 64 (end - at))
     (last_is : last ≡ cond (is_bare_at (λ b. b == 92) text (at + 63)) 1 0) (to : next ≡ min (at + (near + last)) end) where
   -- the escaped byte after the load, where there is one, is not counted
-  count_to : (p : ℕ → Bool) → count_by p (bare (take next text)) ≡ count_by p (bare (take at text)) + count_by (is_bare_at p text) (range_with_len at near)
+  count_to : (p : ℕ → Bool)
+      → count_by p (bare (take next text)) ≡ count_by p (bare (take at text)) + count_by (is_bare_at p text)
+      (range_with_len at near)
   count_to p =
       let along = count_along p text near at (omega arith) in
       elim (cases_lt (at + near) next) [
@@ -86,8 +91,10 @@ module _ (text : List ℕ) (end : ℕ) (fits : end ≤ length text) (e c at : �
             let escaped = one_escaped text at inside last last_is (omega arith) in
             let same : count_by p (bare (take (at + 64 + 1) text)) ≡ count_by p (bare (take (at + 64) text)) =
             count_bare_more p text (at + 64) inside
-            ∙ ap (λ (f : Bool). count_by p (bare (take (at + 64) text)) + cond f 0 (cond (p (slice_index text (at + 64))) 1 0)) escaped ∙ omega arith in
-            ap (λ (k : ℕ). count_by p (bare (take k text))) place ∙ same ∙ ap (λ (k : ℕ). count_by p (bare (take (at + k) text))) (sym whole) ∙ along
+            ∙ ap (λ (f : Bool). count_by p (bare (take (at + 64) text)) + cond f 0
+            (cond (p (slice_index text (at + 64))) 1 0)) escaped ∙ omega arith in
+            ap (λ (k : ℕ). count_by p (bare (take k text))) place ∙ same
+            ∙ ap (λ (k : ℕ). count_by p (bare (take (at + k) text))) (sym whole) ∙ along
         | inr there ↦
             let place : next ≡ at + near = omega arith in
             ap (λ (k : ℕ). count_by p (bare (take k text))) place ∙ along
@@ -106,9 +113,21 @@ module _ (text : List ℕ) (end : ℕ) (fits : end ≤ length text) (e c at : �
         is_bare = λ more.
             let inside : at + 64 < length text = omega arith in
             let place : next ≡ at + (64 + last) = omega arith in
-            ap (λ (k : ℕ). is_escaped_behind (take k text)) place ∙ next_bare text at inside last last_is;
+            ap (λ (k : ℕ). is_escaped_after (take k text)) place ∙ next_bare text at inside last last_is;
         equals_are = ap₂ (λ (a b : ℕ). a + b) counted.equals_are equals_low ∙ sym (count_to (λ b. b == 61));
         commas_are = ap₂ (λ (a b : ℕ). a + b) counted.commas_are commas_low ∙ sym (count_to (λ b. b == 44));
-        few_equals = omega (arith, counted.few_equals, equals_low, long, count_by-le-length (is_bare_at (λ b. b == 61) text) (range_with_len at near));
-        few_commas = omega (arith, counted.few_commas, commas_low, long, count_by-le-length (is_bare_at (λ b. b == 44) text) (range_with_len at near));
+        few_equals = omega (
+          arith,
+          counted.few_equals,
+          equals_low,
+          long,
+          count_by-le-length (is_bare_at (λ b. b == 61) text) (range_with_len at near),
+        );
+        few_commas = omega (
+          arith,
+          counted.few_commas,
+          commas_low,
+          long,
+          count_by-le-length (is_bare_at (λ b. b == 44) text) (range_with_len at near),
+        );
       }

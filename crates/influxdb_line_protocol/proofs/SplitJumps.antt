@@ -1,11 +1,13 @@
 -- A search that jumps from backslash to backslash finds the first bare byte that passes a test.
-use Rattle.std.proofs.Common.{◌≡◌, ◌≢◌, ℕ, zero, suc, ◌+◌, ◌-◌, ◌<◌, ◌≤◌, List, length, take, drop, slice_index, min, Bool, true, false, ◌&&◌, ◌||◌, Some, None, length-drop, refl, sym, ap, ◌∙◌, subst, inl, inr, arith}
+use Rattle.std.proofs.Common.{◌≡◌, ◌≢◌, ℕ, zero, suc, ◌+◌, ◌-◌, ◌<◌, ◌≤◌, List, length, take, drop, slice_index, min}
+use Rattle.std.proofs.Common.{Bool, true, false, ◌&&◌, ◌||◌, Some, None, length-drop, refl, sym, ap, ◌∙◌, subst, inl}
+use Rattle.std.proofs.Common.{inr, arith}
 use Rattle.std.specs.Prelude.{◌==◌}
 use Rattle.std.proofs.lemmas.Bool.{cases_Bool, eqb-true, eqb-false, ne_eqb}
 use Rattle.std.proofs.lemmas.Bool.Decides.{nat_tests}
 use Rattle.std.proofs.lemmas.List.{get_or-drop}
 use Rattle.memchr.specs.Find.{Nowhere, Passes, IsFirstByte}
-use Rattle.influxdb_line_protocol.specs.Escapes.{is_escaped_behind, is_bare_at, first_bare, IsBareBehind, IsPassed}
+use Rattle.influxdb_line_protocol.specs.Escapes.{is_escaped_after, is_bare_at, first_bare, IsBareAfter, IsPassed}
 use Rattle.influxdb_line_protocol.proofs.EscapeLemmas.{is_escaped_more, first_bare_is}
 use Rattle.influxdb_line_protocol.proofs.SplitBare.{is_escaped-nil}
 
@@ -34,7 +36,7 @@ module _ (passes : ℕ → Bool) (text : List ℕ) where
   fails_at at h = rw h refl
 
   -- an escaped byte
-  escaped_at : (at : ℕ) → is_escaped_behind (take at text) ≡ true → is_bare_at passes text at ≡ false
+  escaped_at : (at : ℕ) → is_escaped_after (take at text) ≡ true → is_bare_at passes text at ≡ false
   escaped_at at h = rw h (and_false (passes (slice_index text at)))
     where
       and_false : (t : Bool) → (t && false) ≡ false
@@ -61,7 +63,7 @@ module _ (passes : ℕ → Bool) (text : List ℕ) where
       let here = none n (omega arith) in
       subst (IsPassed passes text) (omega arith) (passed_byte (at + n) (omega arith) here.0 here.1 before)
 
-  -- the bytes before the first one that a search behind `at` finds
+  -- the bytes before the first one that a search after `at` finds
   passed_search : (test : ℕ → Bool) → LooksFor test passes → (rest : List ℕ) (at n : ℕ) → rest ≡ drop at text
       → at + n ≤ length text → Nowhere (Passes test rest) 0 n → IsPassed passes text at → IsPassed passes text (at + n)
   passed_search test search rest at n same h none p =
@@ -74,11 +76,11 @@ module _ (passes : ℕ → Bool) (text : List ℕ) where
       ])
       p
 
-  -- a backslash and the byte behind it
+  -- a backslash and the byte after it
   pub passed_escape : (at : ℕ) → at < length text → slice_index text at ≡ 92 → passes 92 ≡ false
       → IsPassed passes text at → IsPassed passes text (min (at + 2) (length text))
   passed_escape at h here fails p =
-      let flag : is_escaped_behind (take (at + 1) text) ≡ true = rw (is_escaped_more text at h, p.is_bare h, here) refl in
+      let flag : is_escaped_after (take (at + 1) text) ≡ true = rw (is_escaped_more text at h, p.is_bare h, here) refl in
       let before = passed_more at p.passed (fails_at at (rw here fails)) in
       let both = passed_more (at + 1) before (escaped_at (at + 1) flag) in
       record {
@@ -86,39 +88,43 @@ module _ (passes : ℕ → Bool) (text : List ℕ) where
         is_bare = λ l.
             let there : at + 1 < length text = omega arith in
             let to : (at + 1) + 1 ≡ min (at + 2) (length text) = omega arith in
-            subst (λ (n : ℕ). IsBareBehind (take n text)) to (rw (is_escaped_more text (at + 1) there, flag) refl);
+            subst (λ (n : ℕ). IsBareAfter (take n text)) to (rw (is_escaped_more text (at + 1) there, flag) refl);
         passed = λ k l. both k (omega arith);
       }
 
   -- a bare byte that passes is the first
-  pub passed_to_stop : (at : ℕ) → at < length text → passes (slice_index text at) ≡ true → IsPassed passes text at → at ≡ first_bare passes text
+  pub passed_to_stop : (at : ℕ) → at < length text → passes (slice_index text at) ≡ true → IsPassed passes text at
+      → at ≡ first_bare passes text
   passed_to_stop at h stops p = sym (first_bare_is passes text at (omega arith) p.passed (λ l. rw (stops, p.is_bare l) refl))
 
   -- the end of the text
   passed_to_end : (at : ℕ) → length text ≤ at → IsPassed passes text at → length text ≡ first_bare passes text
-  passed_to_end at h p = sym (first_bare_is passes text (length text) (omega arith) (λ k l. p.passed k (omega arith)) (λ l. absurd (omega arith)))
+  passed_to_end at h p = sym (first_bare_is passes text (length text) (omega arith)
+      (λ k l. p.passed k (omega arith)) (λ l. absurd (omega arith)))
 
--- what a search behind `at` gives
-module _ (test passes : ℕ → Bool) (search : LooksFor test passes) (text rest : List ℕ) (at : ℕ) (same : rest ≡ drop at text) (p : IsPassed passes text at) where
+-- what a search after `at` gives
+module _ (test passes : ℕ → Bool) (search : LooksFor test passes) (text rest : List ℕ) (at : ℕ)
+    (same : rest ≡ drop at text) (p : IsPassed passes text at) where
   -- the bytes before a place that it finds are passed
-  found_behind : (n : ℕ) → IsFirstByte test rest (Some n) → IsPassed passes text (at + n) × (at + n < length text)
-  found_behind n found =
+  found_after : (n : ℕ) → IsFirstByte test rest (Some n) → IsPassed passes text (at + n) × (at + n < length text)
+  found_after n found =
       let fits : at + n < length text = omega (arith, found.0.high, ap length same, length-drop at text, p.within) in
       (passed_search passes text test search rest at n same (omega arith) found.0.before p, fits)
 
   -- it finds a byte that passes
   pub search_stops : (n : ℕ) → IsFirstByte test rest (Some n) → slice_index text (at + n) ≢ 92 → at + n ≡ first_bare passes text
   search_stops n found other =
-      let behind = found_behind n found in
+      let after = found_after n found in
       let here : slice_index rest n ≡ slice_index text (at + n) = ap (λ (t : List ℕ). slice_index t n) same ∙ get_or-drop at text n 0 in
       let stops = search.stops (slice_index text (at + n)) (subst (λ (b : ℕ). test b ≡ true) here found.1) other in
-      passed_to_stop passes text (at + n) behind.1 stops behind.0
+      passed_to_stop passes text (at + n) after.1 stops after.0
 
   -- it finds a backslash
-  pub search_goes_on : (n next : ℕ) → IsFirstByte test rest (Some n) → slice_index text (at + n) ≡ 92 → next ≡ min ((at + n) + 2) (length text) → IsPassed passes text next
+  pub search_goes_on : (n next : ℕ) → IsFirstByte test rest (Some n) → slice_index text (at + n) ≡ 92
+      → next ≡ min ((at + n) + 2) (length text) → IsPassed passes text next
   search_goes_on n next found here to =
-      let behind = found_behind n found in
-      subst (IsPassed passes text) (sym to) (passed_escape passes text (at + n) behind.1 here search.escapes behind.0)
+      let after = found_after n found in
+      subst (IsPassed passes text) (sym to) (passed_escape passes text (at + n) after.1 here search.escapes after.0)
 
   -- it finds nothing
   pub search_ends : IsFirstByte test rest None → length text ≡ first_bare passes text

@@ -1,15 +1,20 @@
 -- Each text has exactly one list of pieces, and the pieces of joined texts are joined.
-use Rattle.std.proofs.Common.{◌≡◌, ◌≢◌, ℕ, ◌+◌, ◌<◌, Bool, true, false, ◌&&◌, ◌||◌, ◌⊎◌, inl, inr, eqb, List, [], ◌∷◌, ◌++◌, length, get_or, take, drop, Option, Some, None, MatchOption, slice_range, sym, ◌∙◌, ap, refl, subst, arith, append_assoc, append-nil}
+use Rattle.std.proofs.Common.{◌≡◌, ◌≢◌, ℕ, ◌+◌, ◌<◌, Bool, true, false, ◌&&◌, ◌||◌, ◌⊎◌, inl, inr, eqb, List, [], ◌∷◌}
+use Rattle.std.proofs.Common.{◌++◌, length, get_or, take, drop, Option, Some, None, MatchOption, slice_range, sym, ◌∙◌}
+use Rattle.std.proofs.Common.{ap, refl, subst, arith, append_assoc, append-nil}
 use Rattle.std.specs.List.{All, count_by}
 use Rattle.std.proofs.lemmas.List.{append_cancel_left, take_at, drop_more, take-append-drop}
 use Rattle.std.proofs.lemmas.List.Elements.{All-head, All-tail, All-nil, All-cons, All-push, All-take, All-append}
 use Rattle.std.proofs.lemmas.Bool.{cases_lt, cases_eq, cases_Bool, false≢true, both_ways}
 use Rattle.influxdb_line_protocol.specs.declared.split.Dialect.{Dialect}
 use Rattle.influxdb_line_protocol.specs.declared.split.Dialect.TheVariants.{Crate, Strict}
-use Rattle.influxdb_line_protocol.specs.Escapes.{is_escaped_behind}
+use Rattle.influxdb_line_protocol.specs.Escapes.{is_escaped_after}
 use Rattle.influxdb_line_protocol.specs.Piece.{IsHead, EndsPlain, EndsQuoted}
-use Rattle.influxdb_line_protocol.specs.Pieces.{begins_comment, IsComment, IsCutPiece, IsLastPiece, IsFirstCut, Pieces, Pieces.last, Pieces.cut}
-use Rattle.influxdb_line_protocol.proofs.SplitShape.{IsHead-escaped, IsHead-bare, EndsPlain-escaped, EndsPlain-bare, EndsPlain-start, EndsQuoted-escaped, EndsQuoted-bare, EndsQuoted-start, EndsQuoted-close}
+use Rattle.influxdb_line_protocol.specs.Pieces.{begins_comment, IsComment, IsCutPiece, IsLastPiece, IsFirstCut, Pieces}
+use Rattle.influxdb_line_protocol.specs.Pieces.{Pieces.last, Pieces.cut}
+use Rattle.influxdb_line_protocol.proofs.SplitShape.{IsHead-escaped, IsHead-bare, EndsPlain-escaped, EndsPlain-bare}
+use Rattle.influxdb_line_protocol.proofs.SplitShape.{EndsPlain-start, EndsQuoted-escaped, EndsQuoted-bare}
+use Rattle.influxdb_line_protocol.proofs.SplitShape.{EndsQuoted-start, EndsQuoted-close}
 use Rattle.influxdb_line_protocol.proofs.SplitMachine.{cut_not_within}
 
 -- a byte more is a cut, or lengthens the piece
@@ -17,7 +22,7 @@ abbrev GoesOn : Dialect → List ℕ → ℕ → Type 0
 GoesOn dialect front b = ((b ≡ 10) × IsCutPiece dialect front) ⊎ IsLastPiece dialect (front ++ b ∷ [])
 
 head_goes_on : (front : List ℕ) (b : ℕ) → IsHead front → GoesOn Crate front b
-head_goes_on front b h = elim (cases_Bool (is_escaped_behind front)) [
+head_goes_on front b h = elim (cases_Bool (is_escaped_after front)) [
   | inl e ↦ inr (inl (inl (IsHead-escaped front b h e)))
   | inr e ↦ elim (cases_eq b 10) [
     | inl n ↦ inl (n, (inl h, e))
@@ -29,7 +34,7 @@ head_goes_on front b h = elim (cases_Bool (is_escaped_behind front)) [
 ]
 
 plain_goes_on : (front counted : List ℕ) (b : ℕ) → EndsPlain front counted → GoesOn Crate front b
-plain_goes_on front counted b h = elim (cases_Bool (is_escaped_behind front)) [
+plain_goes_on front counted b h = elim (cases_Bool (is_escaped_after front)) [
   | inl e ↦ inr (inl (inr (counted, EndsPlain-escaped b h e)))
   | inr e ↦ elim (cases_eq b 10) [
     | inl n ↦ inl (n, (inr (counted, h), e))
@@ -44,7 +49,7 @@ plain_goes_on front counted b h = elim (cases_Bool (is_escaped_behind front)) [
 ]
 
 quoted_goes_on : (front counted : List ℕ) (b : ℕ) → EndsQuoted front counted → GoesOn Crate front b
-quoted_goes_on front counted b h = elim (cases_Bool (is_escaped_behind front)) [
+quoted_goes_on front counted b h = elim (cases_Bool (is_escaped_after front)) [
   | inl e ↦ inr (inr (counted, EndsQuoted-escaped b h e))
   | inr e ↦ elim (cases_eq b 34) [
     | inl q ↦ inr (inl (inr (counted, rw q (EndsQuoted-close h e))))
@@ -62,18 +67,22 @@ pub begins_comment-append : (front more : List ℕ) → begins_comment front ≡
 begins_comment-append [] more e = absurd (false≢true e)
 begins_comment-append (b ∷ front) more e = go (eqb b 35) (eqb b 32 || eqb b 9) e (begins_comment-append front more)
   where
-    go : (h s : Bool) → (h || s && begins_comment front) ≡ true → (begins_comment front ≡ true → begins_comment (front ++ more) ≡ true) → (h || s && begins_comment (front ++ more)) ≡ true
+    go : (h s : Bool) → (h || s && begins_comment front) ≡ true
+        → (begins_comment front ≡ true → begins_comment (front ++ more) ≡ true)
+        → (h || s && begins_comment (front ++ more)) ≡ true
     go true s e k = refl
     go false true e k = k e
     go false false e k = e
 
--- the byte behind blanks and no `#` that makes a comment is no newline, nor are the blanks
-becomes_comment : (front : List ℕ) (b : ℕ) → begins_comment front ≡ false → begins_comment (front ++ b ∷ []) ≡ true → All (λ c. c ≢ 10) (front ++ b ∷ [])
+-- the byte after blanks and no `#` that makes a comment is no newline, nor are the blanks
+becomes_comment : (front : List ℕ) (b : ℕ) → begins_comment front ≡ false → begins_comment (front ++ b ∷ []) ≡ true
+    → All (λ c. c ≢ 10) (front ++ b ∷ [])
 becomes_comment [] b e f =
     All-cons (λ c. c ≢ 10) b [] (λ i. false≢true (subst (λ c. begins_comment (c ∷ []) ≡ true) i f)) (All-nil (λ c. c ≢ 10))
 becomes_comment (x ∷ front) b e f =
     let w = go (eqb x 35) (eqb x 32 || eqb x 9) (begins_comment front) (begins_comment (front ++ b ∷ [])) e f in
-    All-cons (λ c. c ≢ 10) x (front ++ b ∷ []) (λ i. false≢true (subst (λ c. begins_comment (c ∷ front ++ b ∷ []) ≡ true) i f)) (becomes_comment front b w.0 w.1)
+    All-cons (λ c. c ≢ 10) x (front ++ b ∷ [])
+    (λ i. false≢true (subst (λ c. begins_comment (c ∷ front ++ b ∷ []) ≡ true) i f)) (becomes_comment front b w.0 w.1)
   where
     go : (h s p q : Bool) → (h || s && p) ≡ false → (h || s && q) ≡ true → (p ≡ false) × (q ≡ true)
     go true s p q e f = absurd (false≢true (sym e))
@@ -153,11 +162,13 @@ abbrev Cuts : Dialect → List ℕ → List ℕ → List (List ℕ) → Type 0
 Cuts dialect text piece pieces =
     (rest : List ℕ) × (text ≡ piece ++ 10 ∷ rest) × IsCutPiece dialect piece × Pieces dialect rest pieces
 
-uncons : (dialect : Dialect) {text piece : List ℕ} {pieces : List (List ℕ)} → Pieces dialect text (piece ∷ pieces) → ((pieces ≡ []) × (text ≡ piece) × IsLastPiece dialect piece) ⊎ Cuts dialect text piece pieces
+uncons : (dialect : Dialect) {text piece : List ℕ} {pieces : List (List ℕ)} → Pieces dialect text (piece ∷ pieces)
+    → ((pieces ≡ []) × (text ≡ piece) × IsLastPiece dialect piece) ⊎ Cuts dialect text piece pieces
 uncons dialect (last piece h) = inl (refl, refl, h)
 uncons dialect (cut piece text pieces c h) = inr (text, refl, c, h)
 
-same_split : (p t q s : List ℕ) → p ++ 10 ∷ t ≡ q ++ 10 ∷ s → ((p ≡ q) × (t ≡ s)) ⊎ (((x : List ℕ) × (p ≡ q ++ 10 ∷ x)) ⊎ ((x : List ℕ) × (q ≡ p ++ 10 ∷ x)))
+same_split : (p t q s : List ℕ) → p ++ 10 ∷ t ≡ q ++ 10 ∷ s → ((p ≡ q) × (t ≡ s))
+    ⊎ (((x : List ℕ) × (p ≡ q ++ 10 ∷ x)) ⊎ ((x : List ℕ) × (q ≡ p ++ 10 ∷ x)))
 same_split [] t [] s e = inl (refl, cc)
 same_split [] t (y ∷ q) s e = let h : 10 ≡ y = cc in inr (inr (q, ap (λ c. c ∷ q) (sym h)))
 same_split (x ∷ p) t [] s e = let h : x ≡ 10 = cc in inr (inl (p, ap (λ c. c ∷ p) h))
@@ -190,17 +201,22 @@ abbrev HasText : List (List ℕ) → Type 0
 HasText pieces = (text : List ℕ) × Pieces Strict text pieces
 
 -- the last piece of u before a newline
-pub join_from_cut : (dialect : Dialect) (u t : List ℕ) (before : List (List ℕ)) (piece : List ℕ) (after : List (List ℕ)) → Pieces dialect u (before ++ piece ∷ []) → Pieces dialect t after → IsCutPiece dialect piece → Pieces dialect (u ++ 10 ∷ t) (before ++ piece ∷ after)
+pub join_from_cut : (dialect : Dialect) (u t : List ℕ) (before : List (List ℕ)) (piece : List ℕ)
+    (after : List (List ℕ)) → Pieces dialect u (before ++ piece ∷ []) → Pieces dialect t after
+    → IsCutPiece dialect piece → Pieces dialect (u ++ 10 ∷ t) (before ++ piece ∷ after)
 join_from_cut dialect u t [] piece after h k c = elim (uncons dialect h) [
   | inl w ↦ rw w.1 (cut piece t after c k)
   | inr w ↦ absurd (Pieces-nil dialect w.0 w.3)
 ]
 join_from_cut dialect u t (p ∷ before) piece after h k c = elim (uncons dialect h) [
   | inl w ↦ absurd (push_is_not_nil before piece [] w.0)
-  | inr w ↦ rw (w.1, append_assoc) (cut p (w.0 ++ 10 ∷ t) (before ++ piece ∷ after) w.2 (join_from_cut dialect w.0 t before piece after w.3 k c))
+  | inr w ↦ rw (w.1, append_assoc)
+      (cut p (w.0 ++ 10 ∷ t) (before ++ piece ∷ after) w.2 (join_from_cut dialect w.0 t before piece after w.3 k c))
 ]
 
-pub cut_from_join : (dialect : Dialect) (u t : List ℕ) (before : List (List ℕ)) (piece : List ℕ) (after : List (List ℕ)) → Pieces dialect u (before ++ piece ∷ []) → Pieces dialect t after → Pieces dialect (u ++ 10 ∷ t) (before ++ piece ∷ after) → IsCutPiece dialect piece
+pub cut_from_join : (dialect : Dialect) (u t : List ℕ) (before : List (List ℕ)) (piece : List ℕ)
+    (after : List (List ℕ)) → Pieces dialect u (before ++ piece ∷ []) → Pieces dialect t after
+    → Pieces dialect (u ++ 10 ∷ t) (before ++ piece ∷ after) → IsCutPiece dialect piece
 cut_from_join dialect u t [] piece after h k j = elim (uncons dialect j) [
   | inl w ↦ absurd (Pieces-nil dialect t (subst (Pieces dialect t) w.0 k))
   | inr w ↦ w.2
@@ -210,23 +226,30 @@ cut_from_join dialect u t (p ∷ before) piece after h k j = elim (uncons dialec
   | inr w ↦ elim (uncons dialect j) [
     | inl v ↦ absurd (push_is_not_nil before piece after v.0)
     | inr v ↦
-        let e : 10 ∷ (w.0 ++ 10 ∷ t) ≡ 10 ∷ v.0 = append_cancel_left p (10 ∷ (w.0 ++ 10 ∷ t)) (10 ∷ v.0) (sym (append_assoc p (10 ∷ w.0) (10 ∷ t)) ∙ ap (λ x. x ++ 10 ∷ t) (sym w.1) ∙ v.1) in
+        let e : 10 ∷ (w.0 ++ 10 ∷ t) ≡ 10 ∷ v.0 = append_cancel_left p (10 ∷ (w.0 ++ 10 ∷ t)) (10 ∷ v.0)
+        (sym (append_assoc p (10 ∷ w.0) (10 ∷ t)) ∙ ap (λ x. x ++ 10 ∷ t) (sym w.1) ∙ v.1) in
         let f : v.0 ≡ w.0 ++ 10 ∷ t = cc in
         cut_from_join dialect w.0 t before piece after w.3 k (subst (λ x. Pieces dialect x (before ++ piece ∷ after)) f v.3)
   ]
 ]
 
 -- what stands in a comment
-another_comment : (front old new : List ℕ) → begins_comment front ≡ true → All (λ b. b ≢ 10) new → IsLastPiece Strict (front ++ old) → IsComment (front ++ new)
+another_comment : (front old new : List ℕ) → begins_comment front ≡ true → All (λ b. b ≢ 10) new
+    → IsLastPiece Strict (front ++ old) → IsComment (front ++ new)
 another_comment front old new f n (inl h) =
     let q : All (λ b. b ≢ 10) front = rw take_at at (All-take (λ b. b ≢ 10) (length front) (front ++ old) h.1) in
     (begins_comment-append front new f, All-append (λ b. b ≢ 10) front new q n)
 another_comment front old new f n (inr h) = absurd (both_ways (begins_comment (front ++ old)) h.0 (begins_comment-append front old f))
 
-pub comment_replaced : (before : List (List ℕ)) (front old new : List ℕ) (after : List (List ℕ)) (text : List ℕ) → begins_comment front ≡ true → All (λ b. b ≢ 10) new → Pieces Strict text (before ++ (front ++ old) ∷ after) → HasText (before ++ (front ++ new) ∷ after)
+pub comment_replaced : (before : List (List ℕ)) (front old new : List ℕ) (after : List (List ℕ)) (text : List ℕ)
+    → begins_comment front ≡ true → All (λ b. b ≢ 10) new → Pieces Strict text (before ++ (front ++ old) ∷ after)
+    → HasText (before ++ (front ++ new) ∷ after)
 comment_replaced [] front old new after text f n h = elim (uncons Strict h) [
   | inl w ↦ (front ++ new, rw w.0 (last (front ++ new) (inl (another_comment front old new f n w.2))))
-  | inr w ↦ ((front ++ new) ++ 10 ∷ w.0, cut (front ++ new) w.0 after (inl (another_comment front old new f n (IsLastPiece-cut Strict (front ++ old) w.2))) w.3)
+  | inr w ↦ (
+    (front ++ new) ++ 10 ∷ w.0,
+    cut (front ++ new) w.0 after (inl (another_comment front old new f n (IsLastPiece-cut Strict (front ++ old) w.2))) w.3,
+  )
 ]
 comment_replaced (p ∷ before) front old new after text f n h = elim (uncons Strict h) [
   | inl w ↦ absurd (push_is_not_nil before (front ++ old) after w.0)
@@ -241,7 +264,8 @@ last_is_comment piece f (inl h) = h
 last_is_comment piece f (inr h) = absurd (both_ways (begins_comment piece) h.0 f)
 
 -- so is each piece of a text that begins as one
-pub piece_is_comment : (before : List (List ℕ)) (piece : List ℕ) (after : List (List ℕ)) (text : List ℕ) → begins_comment piece ≡ true → Pieces Strict text (before ++ piece ∷ after) → IsComment piece
+pub piece_is_comment : (before : List (List ℕ)) (piece : List ℕ) (after : List (List ℕ)) (text : List ℕ)
+    → begins_comment piece ≡ true → Pieces Strict text (before ++ piece ∷ after) → IsComment piece
 piece_is_comment [] piece after text f h = elim (uncons Strict h) [
   | inl w ↦ last_is_comment piece f w.2
   | inr w ↦ last_is_comment piece f (IsLastPiece-cut Strict piece w.2)
@@ -251,12 +275,15 @@ piece_is_comment (p ∷ before) piece after text f h = elim (uncons Strict h) [
   | inr w ↦ piece_is_comment before piece after w.0 f w.3
 ]
 
--- a text up to a place, and behind it
+-- a text up to a place, and after it
 split_at : (text : List ℕ) (i : ℕ) → i < length text → get_or text i 0 ≡ 10 → text ≡ take i text ++ 10 ∷ drop (i + 1) text
-split_at text i l e = sym (ap (λ x. take i text ++ x ∷ drop (i + 1) text) (sym e) ∙ ap (λ t. take i text ++ t) (sym (drop_more text i 0 l)) ∙ take-append-drop i text)
+split_at text i l e = sym (ap (λ x. take i text ++ x ∷ drop (i + 1) text) (sym e)
+    ∙ ap (λ t. take i text ++ t) (sym (drop_more text i 0 l)) ∙ take-append-drop i text)
 
 -- the first newline ends a comment
-pub cut_of_comment : (text : List ℕ) (place : Option ℕ) → begins_comment text ≡ true → MatchOption place (All (λ b. b ≢ 10) text) (λ i. (i < length text) × (get_or text i 0 ≡ 10) × All (λ b. b ≢ 10) (take i text)) → IsFirstCut Strict text place
+pub cut_of_comment : (text : List ℕ) (place : Option ℕ) → begins_comment text ≡ true
+    → MatchOption place (All (λ b. b ≢ 10) text)
+    (λ i. (i < length text) × (get_or text i 0 ≡ 10) × All (λ b. b ≢ 10) (take i text)) → IsFirstCut Strict text place
 cut_of_comment text None e h = inl (e, h)
 cut_of_comment text (Some i) e h = (
   h.0,
@@ -264,21 +291,24 @@ cut_of_comment text (Some i) e h = (
   inl (
     elim (cases_Bool (begins_comment (take i text))) [
       | inl f ↦ f
-      | inr f ↦ absurd (both_ways (begins_comment text) (ap begins_comment (split_at text i h.0 h.1) ∙ begins_comment-newline (take i text) (drop (i + 1) text) f) e)
+      | inr f ↦ absurd (both_ways (begins_comment text)
+          (ap begins_comment (split_at text i h.0 h.1) ∙ begins_comment-newline (take i text) (drop (i + 1) text) f) e)
     ],
     h.2,
   ),
 )
 
 -- the rest is as in the other dialect
-pub cut_of_other : (text : List ℕ) (place : Option ℕ) → begins_comment text ≡ false → IsFirstCut Crate text place → IsFirstCut Strict text place
+pub cut_of_other : (text : List ℕ) (place : Option ℕ) → begins_comment text ≡ false → IsFirstCut Crate text place
+    → IsFirstCut Strict text place
 cut_of_other text None e h = inr (e, h)
 cut_of_other text (Some i) e h = (
   h.0,
   h.1,
   inr (
     elim (cases_Bool (begins_comment (take i text))) [
-      | inl f ↦ absurd (both_ways (begins_comment text) e (ap begins_comment (sym (take-append-drop i text)) ∙ begins_comment-append (take i text) (drop i text) f))
+      | inl f ↦ absurd (both_ways (begins_comment text) e
+          (ap begins_comment (sym (take-append-drop i text)) ∙ begins_comment-append (take i text) (drop i text) f))
       | inr f ↦ f
     ],
     h.2.0,
@@ -287,12 +317,15 @@ cut_of_other text (Some i) e h = (
 )
 
 -- what a call of `next` gives, by the bytes that it searched
-pub Pieces-cut_at : (dialect : Dialect) (bytes text piece rest : List ℕ) (i : ℕ) (others : List (List ℕ)) → bytes ≡ text → (i < length bytes) × (get_or bytes i 0 ≡ 10) × IsCutPiece dialect (take i bytes) → piece ≡ slice_range text 0 i → rest ≡ drop (i + 1) text → Pieces dialect rest others → Pieces dialect text (piece ∷ others)
+pub Pieces-cut_at : (dialect : Dialect) (bytes text piece rest : List ℕ) (i : ℕ) (others : List (List ℕ))
+    → bytes ≡ text → (i < length bytes) × (get_or bytes i 0 ≡ 10) × IsCutPiece dialect (take i bytes)
+    → piece ≡ slice_range text 0 i → rest ≡ drop (i + 1) text → Pieces dialect rest others → Pieces dialect text (piece ∷ others)
 Pieces-cut_at dialect bytes text piece rest i others same h p r left =
     let first : take i bytes ≡ piece = ap (take i) same ∙ sym (p ∙ from_start text i) in
-    let behind : rest ≡ drop (i + 1) bytes = r ∙ ap (drop (i + 1)) (sym same) in
-    let made = cut (take i bytes) (drop (i + 1) bytes) others h.2 (subst (λ t. Pieces dialect t others) behind left) in
-    subst (λ t. Pieces dialect t (piece ∷ others)) (sym (split_at bytes i h.0 h.1) ∙ same) (subst (λ q. Pieces dialect (take i bytes ++ 10 ∷ drop (i + 1) bytes) (q ∷ others)) first made)
+    let after : rest ≡ drop (i + 1) bytes = r ∙ ap (drop (i + 1)) (sym same) in
+    let made = cut (take i bytes) (drop (i + 1) bytes) others h.2 (subst (λ t. Pieces dialect t others) after left) in
+    subst (λ t. Pieces dialect t (piece ∷ others)) (sym (split_at bytes i h.0 h.1) ∙ same)
+    (subst (λ q. Pieces dialect (take i bytes ++ 10 ∷ drop (i + 1) bytes) (q ∷ others)) first made)
   where
     from_start : (xs : List ℕ) (n : ℕ) → slice_range xs 0 n ≡ take n xs
     from_start xs n = grind arith

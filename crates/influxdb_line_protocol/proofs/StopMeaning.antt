@@ -1,11 +1,12 @@
 -- The front before the first bare byte that passes a test.
-use Rattle.std.proofs.Common.{◌≡◌, ◌↔◌, ℕ, suc, ◌≤◌, List, [], ◌∷◌, ◌++◌, length, take, Bool, true, false, not, ◌&&◌, cond, refl, sym, ap, ◌∙◌, subst, inl, inr, arith, length-take, append_assoc, append-nil}
+use Rattle.std.proofs.Common.{◌≡◌, ◌↔◌, ℕ, suc, ◌≤◌, List, [], ◌∷◌, ◌++◌, length, take, Bool, true, false, not, ◌&&◌}
+use Rattle.std.proofs.Common.{cond, refl, sym, ap, ◌∙◌, subst, inl, inr, arith, length-take, append_assoc, append-nil}
 use Rattle.std.specs.List.{All, range_with_len}
 use Rattle.std.proofs.lemmas.Bool.{cases_Bool, and_parts}
 use Rattle.std.proofs.lemmas.List.Sums.{prefix_len-le-length}
 use Rattle.std.proofs.lemmas.List.FromFn.{length-range_with_len}
 use Rattle.std.proofs.lemmas.List.Elements.{All-cons, All-nil}
-use Rattle.influxdb_line_protocol.specs.Escapes.{bare_behind, first_bare, is_bare_at, is_escaped_behind}
+use Rattle.influxdb_line_protocol.specs.Escapes.{bare_after, first_bare, is_bare_at, is_escaped_after}
 use Rattle.influxdb_line_protocol.specs.Meanings.{IsAtStop, IsBeforeStop}
 use Rattle.influxdb_line_protocol.proofs.EscapeLemmas.{is_escaped_push}
 use Rattle.influxdb_line_protocol.proofs.ScanLemmas.{bare_len, first_bare_len}
@@ -45,66 +46,66 @@ module _ (passes : ℕ → Bool) where
       and_true false m = refl
 
   -- one byte before the stop
-  len_more : (p : List ℕ) (b : ℕ) (rest : List ℕ) → (passes b && not (is_escaped_behind p)) ≡ false
-      → bare_len passes (is_escaped_behind p) (b ∷ rest) ≡ suc (bare_len passes (is_escaped_behind (p ++ b ∷ [])) rest)
+  len_more : (p : List ℕ) (b : ℕ) (rest : List ℕ) → (passes b && not (is_escaped_after p)) ≡ false
+      → bare_len passes (is_escaped_after p) (b ∷ rest) ≡ suc (bare_len passes (is_escaped_after (p ++ b ∷ [])) rest)
   len_more p b rest h = rw h (ap (λ (e : Bool). suc (bare_len passes e rest)) (sym (is_escaped_push p b)))
 
   -- the front before the stop is as long as the bytes before it
-  stop_len : (p front behind : List ℕ) → AllFail (bare_behind p front) → IsAtStop passes (p ++ front) behind
-      → bare_len passes (is_escaped_behind p) (front ++ behind) ≡ length front
+  stop_len : (p front after : List ℕ) → AllFail (bare_after p front) → IsAtStop passes (p ++ front) after
+      → bare_len passes (is_escaped_after p) (front ++ after) ≡ length front
   stop_len p [] [] none at = refl
-  stop_len p [] (b ∷ behind) none at =
-      let bare_here : is_escaped_behind p ≡ false = ap is_escaped_behind (sym (append-nil p)) ∙ at.0 in
+  stop_len p [] (b ∷ after) none at =
+      let bare_here : is_escaped_after p ≡ false = ap is_escaped_after (sym (append-nil p)) ∙ at.0 in
       rw (bare_here, at.1) refl
-  stop_len p (b ∷ front) behind none at =
-      let here = first_fails (is_escaped_behind p) b (bare_behind (p ++ b ∷ []) front) none in
-      let others = others_fail (is_escaped_behind p) b (bare_behind (p ++ b ∷ []) front) none in
-      let there = subst (λ (t : List ℕ). IsAtStop passes t behind) (sym (append_assoc p (b ∷ []) front)) at in
-      len_more p b (front ++ behind) here ∙ ap suc (stop_len (p ++ b ∷ []) front behind others there)
+  stop_len p (b ∷ front) after none at =
+      let here = first_fails (is_escaped_after p) b (bare_after (p ++ b ∷ []) front) none in
+      let others = others_fail (is_escaped_after p) b (bare_after (p ++ b ∷ []) front) none in
+      let there = subst (λ (t : List ℕ). IsAtStop passes t after) (sym (append_assoc p (b ∷ []) front)) at in
+      len_more p b (front ++ after) here ∙ ap suc (stop_len (p ++ b ∷ []) front after others there)
 
   -- and the other way round
-  record Before (p front behind : List ℕ) : Type 0 where
-    none : AllFail (bare_behind p front)
-    at_stop : IsAtStop passes (p ++ front) behind
+  record Before (p front after : List ℕ) : Type 0 where
+    none : AllFail (bare_after p front)
+    at_stop : IsAtStop passes (p ++ front) after
 
   -- where the stop comes at once
-  stop_at : (p : List ℕ) (behind : List ℕ) → bare_len passes (is_escaped_behind p) behind ≡ 0 → IsAtStop passes p behind
+  stop_at : (p : List ℕ) (after : List ℕ) → bare_len passes (is_escaped_after p) after ≡ 0 → IsAtStop passes p after
   stop_at p [] h = tt
-  stop_at p (b ∷ behind) h =
-      elim (cases_Bool (passes b && not (is_escaped_behind p))) [
+  stop_at p (b ∷ after) h =
+      elim (cases_Bool (passes b && not (is_escaped_after p))) [
         | inl stop ↦
-            let parts = and_parts (passes b) (not (is_escaped_behind p)) stop in
-            (bare_of_no (is_escaped_behind p) parts.1, parts.0)
-        | inr on ↦ let more = sym (len_more p b behind on) ∙ h in absurd (omega arith)
+            let parts = and_parts (passes b) (not (is_escaped_after p)) stop in
+            (bare_of_no (is_escaped_after p) parts.1, parts.0)
+        | inr on ↦ let more = sym (len_more p b after on) ∙ h in absurd (omega arith)
       ]
 
   -- what the length of the front says of it
-  before_by : (p front behind : List ℕ) → bare_len passes (is_escaped_behind p) (front ++ behind) ≡ length front → Before p front behind
-  before_by p [] behind h =
+  before_by : (p front after : List ℕ) → bare_len passes (is_escaped_after p) (front ++ after) ≡ length front → Before p front after
+  before_by p [] after h =
       record {
         none = All-nil (λ (c : ℕ). passes c ≡ false);
-        at_stop = subst (λ (t : List ℕ). IsAtStop passes t behind) (sym (append-nil p)) (stop_at p behind h);
+        at_stop = subst (λ (t : List ℕ). IsAtStop passes t after) (sym (append-nil p)) (stop_at p after h);
       }
-  before_by p (b ∷ front) behind h =
-      elim (cases_Bool (passes b && not (is_escaped_behind p))) [
+  before_by p (b ∷ front) after h =
+      elim (cases_Bool (passes b && not (is_escaped_after p))) [
         | inl stop ↦ let none : 0 ≡ suc (length front) = rw stop at h in absurd (omega arith)
         | inr on ↦
-            let more = sym (len_more p b (front ++ behind) on) ∙ h in
-            let rest = before_by (p ++ b ∷ []) front behind (omega arith) in
+            let more = sym (len_more p b (front ++ after) on) ∙ h in
+            let rest = before_by (p ++ b ∷ []) front after (omega arith) in
             record {
-              none = all_fail (is_escaped_behind p) b (bare_behind (p ++ b ∷ []) front) on rest.none;
-              at_stop = subst (λ (t : List ℕ). IsAtStop passes t behind) (append_assoc p (b ∷ []) front) rest.at_stop;
+              none = all_fail (is_escaped_after p) b (bare_after (p ++ b ∷ []) front) on rest.none;
+              at_stop = subst (λ (t : List ℕ). IsAtStop passes t after) (append_assoc p (b ∷ []) front) rest.at_stop;
             }
       ]
 
   -- the length of the front, by what it is
-  first_len : (text : List ℕ) → first_bare passes text ≡ bare_len passes (is_escaped_behind []) text
+  first_len : (text : List ℕ) → first_bare passes text ≡ bare_len passes (is_escaped_after []) text
   first_len text = first_bare_len passes text ∙ ap (λ (e : Bool). bare_len passes e text) (sym is_escaped-nil)
 
   -- the front of a text is taken by its length
-  front_taken : (front behind : List ℕ) → take (length front) (front ++ behind) ≡ front
-  front_taken [] behind = refl
-  front_taken (b ∷ front) behind = ap (λ (t : List ℕ). b ∷ t) (front_taken front behind)
+  front_taken : (front after : List ℕ) → take (length front) (front ++ after) ≡ front
+  front_taken [] after = refl
+  front_taken (b ∷ front) after = ap (λ (t : List ℕ). b ∷ t) (front_taken front after)
 
   -- the first stop is in the text or at its end
   first_fits : (text : List ℕ) → first_bare passes text ≤ length text
@@ -114,14 +115,16 @@ module _ (passes : ℕ → Bool) where
       omega (arith, fits, length-range_with_len 0 (length text))
 
   -- the front before the first stop
-  pub before_stop : (front behind : List ℕ) → (take (first_bare passes (front ++ behind)) (front ++ behind) ≡ front) ↔ IsBeforeStop passes front behind
-  before_stop front behind = (
+  pub before_stop : (front after : List ℕ) → (take (first_bare passes (front ++ after)) (front ++ after) ≡ front)
+      ↔ IsBeforeStop passes front after
+  before_stop front after = (
     (λ h.
-        let fits = first_fits (front ++ behind) in
-        let len : first_bare passes (front ++ behind) ≡ length front = omega (arith, ap length h, length-take (first_bare passes (front ++ behind)) (front ++ behind)) in
-        let b = before_by [] front behind (sym (first_len (front ++ behind)) ∙ len) in
+        let fits = first_fits (front ++ after) in
+        let len : first_bare passes (front ++ after) ≡ length front = omega
+        (arith, ap length h, length-take (first_bare passes (front ++ after)) (front ++ after)) in
+        let b = before_by [] front after (sym (first_len (front ++ after)) ∙ len) in
         record { none = b.none; at_stop = b.at_stop }),
     (λ h.
-        ap (λ (n : ℕ). take n (front ++ behind)) (first_len (front ++ behind) ∙ stop_len [] front behind h.none h.at_stop)
-        ∙ front_taken front behind),
+        ap (λ (n : ℕ). take n (front ++ after)) (first_len (front ++ after) ∙ stop_len [] front after h.none h.at_stop)
+        ∙ front_taken front after),
   )

@@ -1,5 +1,6 @@
 -- Trimming from left to right.
-use Rattle.std.proofs.Common.{◌≡◌, ◌≢◌, ℕ, ◌+◌, ◌<◌, ◌≤◌, List, [], ◌∷◌, length, drop, slice_index, Bool, true, false, ◌||◌, refl, sym, ap, ◌∙◌, arith, inl, inr, one-add}
+use Rattle.std.proofs.Common.{◌≡◌, ◌≢◌, ℕ, ◌+◌, ◌<◌, ◌≤◌, List, [], ◌∷◌, length, drop, slice_index, Bool, true, false}
+use Rattle.std.proofs.Common.{◌||◌, refl, sym, ap, ◌∙◌, arith, inl, inr, one-add}
 use Rattle.std.specs.Prelude.{◌==◌, if◌then◌else◌}
 use Rattle.std.specs.List.{join_with_byte, slice_split}
 use Rattle.std.proofs.lemmas.Bool.{cases_Bool, eqb-true, ne_eqb, or_right}
@@ -43,7 +44,7 @@ join_first b l [] = refl
 join_first b l (m ∷ ls) = refl
 
 module _ (b : ℕ) (l : List ℕ) (ls : List (List ℕ)) where
-  -- a blank in front changes nothing
+  -- a blank at the start changes nothing
   blank_first : is_blank b ≡ true → from_lines ((b ∷ l) ∷ ls) ≡ from_lines (l ∷ ls)
   blank_first h =
       let same : is_skipped (b ∷ l) ≡ is_skipped l = ap is_comment_or_empty (front_yes is_blank b l h) in
@@ -95,7 +96,8 @@ record Left (text : List ℕ) : Type 0 where
 newline_left : (b : ℕ) (text : List ℕ) → (b == 10) ≡ true → Left text → Left (b ∷ text)
 newline_left b text cut more =
     record {
-      outside = rw cut (ap (λ (ls : List (List ℕ)). without_blanks (join_with_byte newline ls)) (front_yes is_skipped [] (lines_of text) refl) ∙ more.outside);
+      outside = rw cut (ap (λ (ls : List (List ℕ)). without_blanks (join_with_byte newline ls))
+          (front_yes is_skipped [] (lines_of text) refl) ∙ more.outside);
       inside = rw cut more.outside;
     }
 
@@ -105,19 +107,20 @@ other_left b text on more =
     let ls = (has_lines text).others in
     let are = (has_lines text).are in
     let split = first_more b text on in
-    let behind : from_lines ls ≡ left_of true text = sym (ap (λ (ls : List (List ℕ)). from_lines (drop 1 ls)) are) ∙ more.inside in
-    let joined : join_with_byte newline (l ∷ ls) ≡ text = ap (λ (ls : List (List ℕ)). join_with_byte newline ls) (sym are) ∙ join_with_byte-slice_split 10 text in
+    let after : from_lines ls ≡ left_of true text = sym (ap (λ (ls : List (List ℕ)). from_lines (drop 1 ls)) are) ∙ more.inside in
+    let separated_list : join_with_byte newline
+    (l ∷ ls) ≡ text = ap (λ (ls : List (List ℕ)). join_with_byte newline ls) (sym are) ∙ join_with_byte-slice_split 10 text in
     record {
       outside = ap from_lines split ∙
           elim (cases_Bool (b == 35)) [
-            | inl sharp ↦ comment_first b l ls (eqb-true b 35 sharp) ∙ behind ∙ rw (on, sharp) refl
+            | inl sharp ↦ comment_first b l ls (eqb-true b 35 sharp) ∙ after ∙ rw (on, sharp) refl
             | inr plain ↦
                 elim (cases_Bool (is_blank b)) [
                   | inl blank ↦ blank_first b l ls blank ∙ ap from_lines (sym are) ∙ more.outside ∙ rw (on, plain, blank) refl
-                  | inr kept ↦ kept_first b l ls kept plain ∙ ap (λ (xs : List ℕ). b ∷ xs) joined ∙ rw (on, plain, kept) refl
+                  | inr kept ↦ kept_first b l ls kept plain ∙ ap (λ (xs : List ℕ). b ∷ xs) separated_list ∙ rw (on, plain, kept) refl
                 ]
           ];
-      inside = ap (λ (ls : List (List ℕ)). from_lines (drop 1 ls)) split ∙ behind ∙ rw on refl;
+      inside = ap (λ (ls : List (List ℕ)). from_lines (drop 1 ls)) split ∙ after ∙ rw on refl;
     }
 
 left_is : (text : List ℕ) → Left text
@@ -133,28 +136,33 @@ unfolding trimmed
 trimmed_is text = (left_is text).outside
 
 -- one byte more
-pub left_newline : (in_comment : Bool) (text : List ℕ) (i : ℕ) → i < length text → slice_index text i ≡ 10 → left_of in_comment (drop i text) ≡ left_of false (drop (i + 1) text)
+pub left_newline : (in_comment : Bool) (text : List ℕ) (i : ℕ) → i < length text → slice_index text i ≡ 10
+    → left_of in_comment (drop i text) ≡ left_of false (drop (i + 1) text)
 left_newline in_comment text i lt e = rw (drop_more text i 0 lt, e) refl
 
-pub left_hash : (in_comment : Bool) (text : List ℕ) (i : ℕ) → i < length text → slice_index text i ≡ 35 → left_of in_comment (drop i text) ≡ left_of true (drop (i + 1) text)
+pub left_hash : (in_comment : Bool) (text : List ℕ) (i : ℕ) → i < length text → slice_index text i ≡ 35
+    → left_of in_comment (drop i text) ≡ left_of true (drop (i + 1) text)
 left_hash in_comment text i lt e = rw (drop_more text i 0 lt, e, or_right in_comment true refl) refl
 
-pub left_inside : (text : List ℕ) (i : ℕ) → i < length text → slice_index text i ≢ 10 → left_of true (drop i text) ≡ left_of true (drop (i + 1) text)
+pub left_inside : (text : List ℕ) (i : ℕ) → i < length text → slice_index text i ≢ 10
+    → left_of true (drop i text) ≡ left_of true (drop (i + 1) text)
 left_inside text i lt other = rw (drop_more text i 0 lt, ne_eqb (slice_index text i) 10 other) refl
 
-pub left_blank : (in_comment : Bool) (text : List ℕ) (i : ℕ) → i < length text → is_blank (slice_index text i) ≡ true → left_of in_comment (drop i text) ≡ left_of in_comment (drop (i + 1) text)
+pub left_blank : (in_comment : Bool) (text : List ℕ) (i : ℕ) → i < length text
+    → is_blank (slice_index text i) ≡ true → left_of in_comment (drop i text) ≡ left_of in_comment (drop (i + 1) text)
 left_blank true text i lt e = left_inside text i lt (λ n. grind (arith, common_steps))
 left_blank false text i lt e =
     let no_newline : (slice_index text i == 10) ≡ false = grind (arith, common_steps) in
     let no_hash : (slice_index text i == 35) ≡ false = grind (arith, common_steps) in
     rw (drop_more text i 0 lt, no_newline, no_hash, e) refl
 
-pub left_kept : (text : List ℕ) (i : ℕ) → i < length text → slice_index text i ≢ 10 → slice_index text i ≢ 35 → slice_index text i ≢ 32 → slice_index text i ≢ 9
+pub left_kept : (text : List ℕ) (i : ℕ) → i < length text → slice_index text i ≢ 10 → slice_index text i ≢ 35
+    → slice_index text i ≢ 32 → slice_index text i ≢ 9
     → left_of false (drop i text) ≡ drop i text
 left_kept text i lt a b c d =
     let no_blank : is_blank (slice_index text i) ≡ false = grind (arith, common_steps) in
     rw (drop_more text i 0 lt, ne_eqb (slice_index text i) 10 a, ne_eqb (slice_index text i) 35 b, no_blank) refl
 
--- nothing is left behind the last byte
+-- nothing is left after the last byte
 pub left_end : (in_comment : Bool) (text : List ℕ) (i : ℕ) → length text ≤ i → left_of in_comment (drop i text) ≡ []
 left_end in_comment text i past = rw (drop_all i text past) refl

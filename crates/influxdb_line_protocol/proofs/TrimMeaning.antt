@@ -1,5 +1,6 @@
 -- The trimmed text is what follows the longest front of blanks and comments.
-use Rattle.std.proofs.Common.{◌≡◌, ◌≢◌, ℕ, suc, ◌≤◌, List, [], ◌∷◌, ◌++◌, length, Bool, true, false, ◌||◌, cond, refl, sym, ap, ◌∙◌, subst, inl, inr, arith, length-append, append_assoc}
+use Rattle.std.proofs.Common.{◌≡◌, ◌≢◌, ℕ, suc, ◌≤◌, List, [], ◌∷◌, ◌++◌, length, Bool, true, false, ◌||◌, cond, refl}
+use Rattle.std.proofs.Common.{sym, ap, ◌∙◌, subst, inl, inr, arith, length-append, append_assoc}
 use Rattle.std.specs.Prelude.{◌==◌}
 use Rattle.std.specs.List.{All}
 use Rattle.std.proofs.lemmas.List.Elements.{All-cons, All-nil}
@@ -43,7 +44,8 @@ left_inside : (b : ℕ) (text : List ℕ) → (b == 10) ≡ false → left_of tr
 left_inside b text h = rw h refl
 
 -- a space or a tab goes
-left_blank : (b : ℕ) (text : List ℕ) → (b == 10) ≡ false → (b == 35) ≡ false → is_blank b ≡ true → left_of false (b ∷ text) ≡ left_of false text
+left_blank : (b : ℕ) (text : List ℕ) → (b == 10) ≡ false → (b == 35) ≡ false → is_blank b ≡ true
+    → left_of false (b ∷ text) ≡ left_of false text
 left_blank b text h k m = rw (h, k, m) refl
 
 -- any other byte stays, with what follows it
@@ -51,7 +53,8 @@ left_kept : (b : ℕ) (text : List ℕ) → (b == 10) ≡ false → (b == 35) �
 left_kept b text h k m = rw (h, k, m) refl
 
 -- a blank and such a front
-front_blank : (b : ℕ) (text : List ℕ) → is_one_of (32 ∷ 9 ∷ 10 ∷ []) b ≡ true → left_of false (b ∷ text) ≡ left_of false text → Front text → Front (b ∷ text)
+front_blank : (b : ℕ) (text : List ℕ) → is_one_of (32 ∷ 9 ∷ 10 ∷ []) b ≡ true
+    → left_of false (b ∷ text) ≡ left_of false text → Front text → Front (b ∷ text)
 front_blank b text h e f =
     record {
       front = b ∷ f.front;
@@ -65,17 +68,19 @@ front_comment b text h e f =
     record {
       front = 35 ∷ f.end ++ f.front;
       is =
-          ap (λ (c : ℕ). c ∷ text) h ∙ ap (λ (t : List ℕ). 35 ∷ t) f.is ∙ sym (ap (λ (t : List ℕ). 35 ∷ t) (append_assoc f.end f.front (left_of true text)))
+          ap (λ (c : ℕ). c ∷ text) h ∙ ap (λ (t : List ℕ). 35 ∷ t) f.is
+          ∙ sym (ap (λ (t : List ℕ). 35 ∷ t) (append_assoc f.end f.front (left_of true text)))
           ∙ ap (λ (t : List ℕ). 35 ∷ ((f.end ++ f.front) ++ t)) (sym e);
       fits = subst (IsBlankFront (35 ∷ f.end ++ f.front)) (sym e) (comment f.end f.front (left_of true text) f.plain f.stops f.fits);
     }
 
--- nothing in front
+-- nothing at the start
 front_none : (text : List ℕ) → left_of false text ≡ text → Front text
 front_none text e = record { front = []; is = sym e; fits = empty (left_of false text) }
 
 -- a comment ends before a newline
-comment_ends : (b : ℕ) (text : List ℕ) → b ≡ 10 → left_of true (b ∷ text) ≡ left_of false (b ∷ text) → Front (b ∷ text) → InComment (b ∷ text)
+comment_ends : (b : ℕ) (text : List ℕ) → b ≡ 10 → left_of true (b ∷ text) ≡ left_of false (b ∷ text)
+    → Front (b ∷ text) → InComment (b ∷ text)
 comment_ends b text h e f =
     record {
       end = [];
@@ -98,7 +103,7 @@ comment_more b text h e f =
       fits = subst (IsBlankFront f.front) (sym e) f.fits;
     }
 
--- the fronts behind a newline
+-- the fronts after a newline
 fronts_newline : (b : ℕ) (text : List ℕ) → (b == 10) ≡ true → Fronts text → Fronts (b ∷ text)
 fronts_newline b text h f =
     let b_is : b ≡ 10 = eqb-true b 10 h in
@@ -110,7 +115,7 @@ fronts_newline b text h f =
 blank_known : (b : ℕ) → is_blank b ≡ true → is_one_of (32 ∷ 9 ∷ 10 ∷ []) b ≡ true
 blank_known b h = grind (arith, common_steps)
 
--- the fronts behind another byte
+-- the fronts after another byte
 fronts_other : (b : ℕ) (text : List ℕ) → (b == 10) ≡ false → Fronts text → Fronts (b ∷ text)
 fronts_other b text h f =
     record {
@@ -139,9 +144,9 @@ fronts_are (b ∷ text) =
       | inr h ↦ fronts_other b text h (fronts_are text)
     ]
 
--- the trimmed text is behind such a front
-pub trimmed_is_behind : (piece : List ℕ) → (front : List ℕ) × (piece ≡ front ++ trimmed piece) × IsBlankFront front (trimmed piece)
-trimmed_is_behind piece =
+-- the trimmed text is after such a front
+pub trimmed_is_after : (piece : List ℕ) → (front : List ℕ) × (piece ≡ front ++ trimmed piece) × IsBlankFront front (trimmed piece)
+trimmed_is_after piece =
     let f = (fronts_are piece).outside in
     subst (λ (t : List ℕ). (front : List ℕ) × (piece ≡ front ++ t) × IsBlankFront front t) (sym (trimmed_is piece)) (f.front, f.is, f.fits)
 
@@ -173,12 +178,12 @@ blank_skipped b text h =
     ]
 
 -- a front of blanks and comments is skipped
-front_skipped : (front behind : List ℕ) → IsBlankFront front behind → left_of false (front ++ behind) ≡ left_of false behind
-front_skipped _ _ (empty behind) = refl
-front_skipped _ _ (blank b front behind h more) = blank_skipped b (front ++ behind) h ∙ front_skipped front behind more
-front_skipped _ _ (comment text front behind plain stops more) =
-    ap (left_of true) (append_assoc text front behind) ∙ skip_comment text (front ++ behind) plain ∙ at_line_end (front ++ behind) stops
-    ∙ front_skipped front behind more
+front_skipped : (front after : List ℕ) → IsBlankFront front after → left_of false (front ++ after) ≡ left_of false after
+front_skipped _ _ (empty after) = refl
+front_skipped _ _ (blank b front after h more) = blank_skipped b (front ++ after) h ∙ front_skipped front after more
+front_skipped _ _ (comment text front after plain stops more) =
+    ap (left_of true) (append_assoc text front after) ∙ skip_comment text (front ++ after) plain ∙ at_line_end (front ++ after) stops
+    ∙ front_skipped front after more
 
 -- either of two that are not too long
 cond_no_longer : (b : Bool) (xs ys : List ℕ) (n : ℕ) → length xs ≤ n → length ys ≤ suc n → length (cond b xs ys) ≤ suc n
@@ -194,9 +199,10 @@ left_no_longer c (b ∷ text) =
     (cond_no_longer (is_blank b) _ _ (length text) (left_no_longer false text) (omega arith)))
 
 -- no such front is longer
-pub trimmed_is_longest : (piece front other behind : List ℕ) → piece ≡ front ++ trimmed piece → piece ≡ other ++ behind → IsBlankFront other behind
+pub trimmed_is_longest : (piece front other after : List ℕ) → piece ≡ front ++ trimmed piece
+    → piece ≡ other ++ after → IsBlankFront other after
     → length other ≤ length front
-trimmed_is_longest piece front other behind e d h =
-    let same : trimmed piece ≡ left_of false behind = trimmed_is piece ∙ ap (left_of false) d ∙ front_skipped other behind h in
-    let less = left_no_longer false behind in
-    omega (arith, ap length e, ap length d, ap length same, length-append front (trimmed piece), length-append other behind)
+trimmed_is_longest piece front other after e d h =
+    let same : trimmed piece ≡ left_of false after = trimmed_is piece ∙ ap (left_of false) d ∙ front_skipped other after h in
+    let less = left_no_longer false after in
+    omega (arith, ap length e, ap length d, ap length same, length-append front (trimmed piece), length-append other after)

@@ -24,7 +24,7 @@ parsed_is_readable : {kind : NameKind} {n : List ℕ} → IsParsedName kind n �
 parsed_is_readable h (empty kind) = absurd (omega (arith, h.some))
 parsed_is_readable h (ends kind n e) = both_ways (ends_in_backslash n) h.ends e
 parsed_is_readable h (begins n e) = h.begins e
-parsed_is_readable h (alone kind front back b never e) = both_ways (ends_in_backslash front) e (h.behind_backslash front back b refl never)
+parsed_is_readable h (alone kind front back b never e) = both_ways (ends_in_backslash front) e (h.after_backslash front back b refl never)
 
 -- a name that is not unreadable is not empty
 readable_some : (kind : NameKind) (n : List ℕ) → ¬ IsUnreadable kind n → 0 < length n
@@ -45,7 +45,7 @@ readable_is_parsed kind n h =
       some = readable_some kind n h;
       ends = elim (cases_Bool (ends_in_backslash n)) [ inl e ↦ absurd (h (ends kind n e)) | inr e ↦ e ];
       begins = readable_begins kind n h;
-      behind_backslash = λ front back b is never. elim (cases_Bool (ends_in_backslash front)) [
+      after_backslash = λ front back b is never. elim (cases_Bool (ends_in_backslash front)) [
         | inl e ↦ e
         | inr e ↦ absurd (h (subst (IsUnreadable kind) (sym is) (alone kind front back b never e)))
       ];
@@ -119,18 +119,18 @@ point_answered : (dialect : Dialect) (p : Point) (u : List ℕ) (answers : List 
     → HasAnswers dialect (built p ++ u) answers → (others : List (Result Line Fault)) × (answers ≡ Err ends_with_backslash ∷ others)
 point_answered dialect p u answers is_point bad names h =
     let f = point_fails p is_point (readable_point p names) bad in
-    let is : built p ++ u ≡ f.front ++ f.stop ∷ (f.behind ++ 10 ∷ u) =
-    append_assoc (line_of p) (10 ∷ []) u ∙ ap (λ (xs : List ℕ). xs ++ 10 ∷ u) f.is ∙ append_assoc f.front (f.stop ∷ f.behind) (10 ∷ u) in
-    let fails = first_fails dialect (line_of p) f (f.behind ++ 10 ∷ u) is h.are in
+    let is : built p ++ u ≡ f.front ++ f.stop ∷ (f.after ++ 10 ∷ u) =
+    append_assoc (line_of p) (10 ∷ []) u ∙ ap (λ (xs : List ℕ). xs ++ 10 ∷ u) f.is ∙ append_assoc f.front (f.stop ∷ f.after) (10 ∷ u) in
+    let fails = first_fails dialect (line_of p) f (f.after ++ 10 ∷ u) is h.are in
     (fails.0, h.answered ∙ fails.1)
 
 -- the first point that is not admitted is answered in its place
 pub other_points_end_with_backslash : OtherPointsEndWithBackslash
 other_points_end_with_backslash dialect before p after t answers ok is_point bad names h =
     let u = built_all (p ∷ after) ++ t in
-    let behind = pieces_exist dialect u in
-    let more = answers_of dialect behind.0 in
-    let alone : HasAnswers dialect u more = record { pieces = behind.0; are = behind.1; answered = refl } in
+    let suffix = pieces_exist dialect u in
+    let more = answers_of dialect suffix.0 in
+    let alone : HasAnswers dialect u more = record { pieces = suffix.0; are = suffix.1; answered = refl } in
     let batch = admitted_batches_read_back dialect before u more ok alone in
     let same : answers ≡ map Ok batch.0 ++ more =
     same_answers dialect (built_all (before ++ p ∷ after) ++ t) answers (map Ok batch.0 ++ more) h

@@ -12,7 +12,7 @@ use Rattle.influxdb_line_protocol.specs.Names.{NameKind, a_measurement, a_tag_ke
 use Rattle.influxdb_line_protocol.specs.Points.{never_in}
 use Rattle.influxdb_line_protocol.proofs.Spellings.{SpelledAs, SpelledAs.done, SpelledAs.escape, SpelledAs.plain, SpelledAs.pair}
 
--- what stands before an ASCII byte of a text that is UTF-8 is UTF-8, and so is what follows it
+-- what comes before an ASCII byte of a text that is UTF-8 is UTF-8, and so is what follows it
 utf8_around : (front rest : List ℕ) (b : ℕ) → IsUtf8 (front ++ b ∷ rest) → b < 128 → IsUtf8 front × IsUtf8 rest
 utf8_around front rest b u ascii =
     let whole = front ++ b ∷ rest in

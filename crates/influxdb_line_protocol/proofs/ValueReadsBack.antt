@@ -1,5 +1,6 @@
 -- A value reads back as it was written.
-use Rattle.std.proofs.Common.{◌≡◌, ℕ, ◌+◌, ◌^◌, ◌<◌, List, [], ◌∷◌, ◌++◌, length, take, drop, slice_index, Bool, true, false, refl, sym, ap, ◌∙◌, arith, inl, inr}
+use Rattle.std.proofs.Common.{◌≡◌, ℕ, ◌+◌, ◌^◌, ◌<◌, List, [], ◌∷◌, ◌++◌, length, take, drop, slice_index, Bool, true}
+use Rattle.std.proofs.Common.{false, refl, sym, ap, ◌∙◌, arith, inl, inr}
 use Rattle.std.specs.Prelude.{◌==◌, ℤ, decimal, nat_lt, codes}
 use Rattle.std.specs.Fmt.{signed_decimal}
 use Rattle.std.proofs.lemmas.Bool.{cases_Bool, and_right, ne_eqb, lt-ltb}
@@ -10,14 +11,16 @@ use Rattle.influxdb_line_protocol.specs.Bytes.{is_one_of, quote}
 use Rattle.influxdb_line_protocol.specs.Readings.{reads}
 use Rattle.influxdb_line_protocol.specs.Points.{IsValue, built_value}
 use Rattle.influxdb_line_protocol.specs.Escapes.{escaped}
-use Rattle.influxdb_line_protocol.specs.Values.{Value, value, integer, unsigned, float, string, boolean, integer_at, unsigned_at, float_at, string_at, boolean_at, body_len, digits_len, integer_len, fits_i64, quotable}
+use Rattle.influxdb_line_protocol.specs.Values.{Value, value, integer, unsigned, float, string, boolean, integer_at}
+use Rattle.influxdb_line_protocol.specs.Values.{unsigned_at, float_at, string_at, boolean_at, body_len, digits_len}
+use Rattle.influxdb_line_protocol.specs.Values.{integer_len, fits_i64, quotable}
 use Rattle.influxdb_line_protocol.proofs.ReadLines.{read_value}
 use Rattle.influxdb_line_protocol.proofs.ScanLemmas.{bare_len, first_bare_len}
 use Rattle.influxdb_line_protocol.proofs.ValueLemmas.{integer_unmarked}
 use Rattle.influxdb_line_protocol.proofs.FloatReadsBack.{Ends, float_reads_back}
 use Rattle.influxdb_line_protocol.proofs.IntegerReadsBack.{digits_before, unsigned_len, integer_reads_back}
 
--- the body of a string ends at the quote behind it
+-- the body of a string ends at the quote after it
 body_ends : (s rest : List ℕ) → bare_len (λ b. b == quote) false (escaped quotable s ++ 34 ∷ rest) ≡ length (escaped quotable s)
 unfolding escaped
 body_ends [] rest = refl
@@ -34,13 +37,14 @@ body_ends (b ∷ s) rest =
 pub string_reads_back : (s rest : List ℕ) → string_at (34 ∷ (escaped quotable s ++ 34 ∷ rest)) ≡ reads (read_value (string s)) rest
 unfolding string_at
 string_reads_back s rest =
-    let behind = escaped quotable s ++ 34 ∷ rest in
-    let len : body_len behind ≡ length (escaped quotable s) = first_bare_len (λ b. b == quote) behind ∙ body_ends s rest in
-    let closed : nat_lt (body_len behind) (length behind) ≡ true =
+    let suffix = escaped quotable s ++ 34 ∷ rest in
+    let len : body_len suffix ≡ length (escaped quotable s) = first_bare_len (λ b. b == quote) suffix ∙ body_ends s rest in
+    let closed : nat_lt (body_len suffix) (length suffix) ≡ true =
     rw len (lt-ltb _ _ (omega (arith, length-append (escaped quotable s) (34 ∷ rest)))) in
-    let body : take (body_len behind) behind ≡ escaped quotable s = rw len (take_at (escaped quotable s) (34 ∷ rest) _ refl) in
-    let after : drop (body_len behind) behind ≡ 34 ∷ rest = rw len (drop_at (escaped quotable s) (34 ∷ rest) _ refl) in
-    let last : drop (body_len behind + 1) behind ≡ rest = sym (drop-drop 1 (body_len behind) behind) ∙ ap (λ (xs : List ℕ). drop 1 xs) after in
+    let body : take (body_len suffix) suffix ≡ escaped quotable s = rw len (take_at (escaped quotable s) (34 ∷ rest) _ refl) in
+    let after : drop (body_len suffix) suffix ≡ 34 ∷ rest = rw len (drop_at (escaped quotable s) (34 ∷ rest) _ refl) in
+    let last : drop (body_len suffix + 1) suffix ≡ rest = sym (drop-drop 1 (body_len suffix) suffix)
+    ∙ ap (λ (xs : List ℕ). drop 1 xs) after in
     rw (closed, body, last) refl
 
 -- an unsigned number and its mark
@@ -57,7 +61,8 @@ unsigned_reads_back n rest fits =
     let some : (length (decimal n) == 0) ≡ false = ne_eqb _ 0 (λ e. absurd (omega (arith, written.0.0))) in
     let front : take (length (decimal n)) text ≡ decimal n = take_at (decimal n) (117 ∷ rest) _ refl in
     let after : drop (length (decimal n)) text ≡ 117 ∷ rest = drop_at (decimal n) (117 ∷ rest) _ refl in
-    let last : drop (length (decimal n) + 1) text ≡ rest = sym (drop-drop 1 (length (decimal n)) text) ∙ ap (λ (xs : List ℕ). drop 1 xs) after in
+    let last : drop (length (decimal n) + 1) text ≡ rest = sym (drop-drop 1 (length (decimal n)) text)
+    ∙ ap (λ (xs : List ℕ). drop 1 xs) after in
     rw (whole, no_integer, digits, some, mark, front, written.1, lt-ltb n (2 ^ 64) fits, last) refl
 
 -- the first case of a value
@@ -77,7 +82,8 @@ boolean_value_reads true rest = refl
 boolean_value_reads false rest = refl
 
 -- a value reads back before the end, a comma or a space
-pub value_reads_back : (v : Value (List ℕ)) (rest : List ℕ) → IsValue v → Ends rest → value (built_value v ++ rest) ≡ reads (read_value v) rest
+pub value_reads_back : (v : Value (List ℕ)) (rest : List ℕ) → IsValue v → Ends rest
+    → value (built_value v ++ rest) ≡ reads (read_value v) rest
 value_reads_back (integer z) rest fits ends = integer_value_reads z rest fits
 value_reads_back (unsigned n) rest fits ends = unsigned_reads_back n rest fits
 value_reads_back (float t) rest parts ends = float_reads_back t rest parts ends

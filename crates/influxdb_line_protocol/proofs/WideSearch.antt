@@ -1,5 +1,6 @@
--- A search by wide loads, and then in what is left behind them, finds the first byte of a test in the whole text.
-use Rattle.std.proofs.Common.{◌≡◌, ℕ, ◌+◌, ◌-◌, ◌≤◌, List, length, drop, slice_index, Bool, not, Some, None, length-drop, sym, ap, ◌∙◌, inl, inr, arith}
+-- A search by wide loads, and then in what is left after them, finds the first byte of a test in the whole text.
+use Rattle.std.proofs.Common.{◌≡◌, ℕ, ◌+◌, ◌-◌, ◌≤◌, List, length, drop, slice_index, Bool, not, Some, None}
+use Rattle.std.proofs.Common.{length-drop, sym, ap, ◌∙◌, inl, inr, arith}
 use Rattle.std.proofs.lemmas.Bool.{cases_lt, not-true, false≢true}
 use Rattle.std.proofs.lemmas.List.{get_or-drop}
 use Rattle.memchr.specs.Find.{Nowhere, Passes, IsFirstByte}
@@ -7,15 +8,15 @@ use Rattle.influxdb_line_protocol.specs.Lanes.{AllPassBetween}
 
 module _ (test : ℕ → Bool) (text rest : List ℕ) (at : ℕ) (within : at ≤ length text) (same : rest ≡ drop at text)
     (quiet : AllPassBetween (λ b. not (test b)) text 0 at) where
-  -- the byte at a place behind the loads
+  -- the byte at a place after the loads
   here : (k : ℕ) → slice_index rest k ≡ slice_index text (at + k)
   here k = ap (λ (t : List ℕ). slice_index t k) same ∙ get_or-drop at text k 0
 
-  -- what is left is as long as the text behind the loads
+  -- what is left is as long as the text after the loads
   left : length rest ≡ length text - at
   left = ap length same ∙ length-drop at text
 
-  -- nothing is found before a place behind the loads, where nothing is found before it in what is left
+  -- nothing is found before a place after the loads, where nothing is found before it in what is left
   none_before : (n : ℕ) → Nowhere (Passes test rest) 0 n → Nowhere (Passes test text) 0 (at + n)
   none_before n none k from to found =
       elim (cases_lt k at) [
@@ -27,12 +28,12 @@ module _ (test : ℕ → Bool) (text rest : List ℕ) (at : ℕ) (within : at �
       ]
 
   -- what is found in what is left is found in the text
-  pub found_behind : (n : ℕ) → IsFirstByte test rest (Some n) → IsFirstByte test text (Some (at + n))
-  found_behind n found = (
+  pub found_after : (n : ℕ) → IsFirstByte test rest (Some n) → IsFirstByte test text (Some (at + n))
+  found_after n found = (
     record { low = omega arith; high = omega (arith, found.0.high, left); before = none_before n found.0.before },
     ap test (sym (here n)) ∙ found.1,
   )
 
   -- where nothing is found in what is left, nothing is found in the text
-  pub none_behind : IsFirstByte test rest None → IsFirstByte test text None
-  none_behind none k from to found = none_before (length rest) none k from (omega (arith, left)) found
+  pub none_after : IsFirstByte test rest None → IsFirstByte test text None
+  none_after none k from to found = none_before (length rest) none k from (omega (arith, left)) found

@@ -1,4 +1,4 @@
--- The word that is taken at the start of a text is the longest of the words that stand there.
+-- The word that is taken at the start of a text is the longest of the words that are there.
 use Rattle.std.proofs.Common.{◌≡◌, ◌⊎◌, ℕ, ◌≤◌, List, [], ◌∷◌, ◌++◌, length, take, drop, true, false, eqb}
 use Rattle.std.proofs.Common.{refl, sym, ap, ◌∙◌, subst, inl, inr, arith}
 use Rattle.std.specs.Prelude.{nat_lt}

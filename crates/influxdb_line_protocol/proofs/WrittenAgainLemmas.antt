@@ -13,11 +13,11 @@ use Rattle.influxdb_line_protocol.specs.Parsed.{tag_of, tags_of, field_of, parse
 use Rattle.influxdb_line_protocol.specs.Texts.{text_of}
 use Rattle.influxdb_line_protocol.specs.WrittenAgain.{point_tag, point_field, tag_text, fields_text, parts_text}
 
--- what stands before the first field is one byte, whichever it is
-pub length_fields_behind : (fields : List (EscapedStr × FieldValue))
+-- what comes before the first field is one byte, whichever it is
+pub length_fields_after : (fields : List (EscapedStr × FieldValue))
     → length (fields_text space fields) ≡ length (fields_text comma fields)
-length_fields_behind [] = refl
-length_fields_behind (f ∷ fields) = refl
+length_fields_after [] = refl
+length_fields_after (f ∷ fields) = refl
 
 -- the tags of the point, by the parsed ones
 pub tags_text_is : (tags : List (EscapedStr × EscapedStr))

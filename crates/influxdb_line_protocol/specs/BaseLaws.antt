@@ -5,7 +5,8 @@ use Rattle.std.specs.List.{list_any}
 use Rattle.std.specs.List.Sorted.{IsPermutation}
 use Rattle.std.specs.Option.{is_some}
 use Rattle.influxdb_line_protocol.specs.declared.split.Dialect.{Dialect}
-use Rattle.influxdb_line_protocol.specs.Bases.{Base, part, own, repeats, base_of, by_key, first_repeated, in_order, keys_of, rises}
+use Rattle.influxdb_line_protocol.specs.Bases.{Base, borrowed, owned, duplicate_key, base_of, by_key, first_repeated}
+use Rattle.influxdb_line_protocol.specs.Bases.{in_order, keys_of, is_strictly_sorted}
 use Rattle.influxdb_line_protocol.specs.Bytes.{backslash, comma, equals, is_one_of}
 use Rattle.influxdb_line_protocol.specs.Lines.{Line, answer, some_tags, tag_set}
 use Rattle.influxdb_line_protocol.specs.Names.{a_measurement, a_tag_key, a_tag_value, escapable, is_one_escape, name, spelled, spelled_len}
@@ -14,13 +15,13 @@ use Rattle.influxdb_line_protocol.specs.Readings.{Text, reads}
 
 -- a series as it is parsed: its raw text reads to its measurement and its tags, and nothing is left
 pub record IsParsedSeries (raw : List ℕ) (measurement : Text) (tags : List (Pair Text Text)) : Type 0 where
-  pub behind : List ℕ
+  pub after : List ℕ
   pub set : Option (List (Pair Text Text))
-  pub measurement_is : name a_measurement raw ≡ reads measurement behind
-  pub set_is : tag_set behind ≡ Ok (record { value = set; rest = [] })
+  pub measurement_is : name a_measurement raw ≡ reads measurement after
+  pub set_is : tag_set after ≡ Ok (record { value = set; rest = [] })
   pub tags_are : some_tags set ≡ tags
 
--- how the names of this many tags are spelled, where each tag stands behind a comma
+-- how the names of this many tags are spelled, where each tag comes after a comma
 abbrev pub spelled_tags : ℕ → List ℕ → List (List ℕ × List ℕ)
 spelled_tags zero text = []
 spelled_tags (suc n) text =
@@ -59,9 +60,9 @@ pub record IsSameSeries (measurement other : Text) (tags others : List (Pair Tex
 
 -- the text of a base, and none where there is no base
 abbrev pub base_bytes : Base → Option (List ℕ)
-base_bytes (part text) = Some text
-base_bytes (own text) = Some text
-base_bytes (repeats key) = None
+base_bytes (borrowed text) = Some text
+base_bytes (owned text) = Some text
+base_bytes (duplicate_key key) = None
 
 -- A clear series has a base.
 abbrev pub ClearSeriesHaveBases : Type 0
@@ -106,4 +107,4 @@ entry_keys entries = map (λ e. e.0) entries
 abbrev pub TagsByKeyAreSorted : Type 0
 TagsByKeyAreSorted =
     (tags : List (Pair Text Text)) (entries : List (List ℕ × List ℕ)) → first_repeated (keys_of tags) ≡ length tags
-    → (entries ≡ by_key tags) ↔ ((rises (entry_keys entries) ≡ true) × IsPermutation (in_order tags) entries)
+    → (entries ≡ by_key tags) ↔ ((is_strictly_sorted (entry_keys entries) ≡ true) × IsPermutation (in_order tags) entries)

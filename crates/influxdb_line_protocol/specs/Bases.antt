@@ -1,5 +1,6 @@
 -- The base of a series: the text that tells it from other series.
-use Rattle.std.specs.Prelude.{◌≡◌, ℕ, ◌<◌, ◌==◌, ◌&&◌, Bool, true, false, List, [], ◌∷◌, ◌++◌, length, take, map, slice_index_or, if◌then◌else◌, Result, Ok, Err, String, string_bytes}
+use Rattle.std.specs.Prelude.{◌≡◌, ℕ, ◌<◌, ◌==◌, ◌&&◌, Bool, true, false, List, [], ◌∷◌, ◌++◌, length, take, map}
+use Rattle.std.specs.Prelude.{slice_index_or, if◌then◌else◌, Result, Ok, Err, String, string_bytes}
 use Rattle.std.specs.BTreeMap.{BTreeMap, insert_entry}
 use Rattle.std.specs.Borrow.{Bor}
 use Rattle.std.specs.Cmp.Lexicographic.{slice_cmp}
@@ -16,13 +17,13 @@ use Rattle.influxdb_line_protocol.specs.Points.{Pair}
 
 -- a base is a part of the input or a text of its own, and there is none where this key is repeated
 pub data Base : Type 0 where
-  part own repeats : List ℕ → Base
+  borrowed owned duplicate_key : List ℕ → Base
 
 -- whether each text is greater than the one before it, by bytes
-abbrev pub rises : List (List ℕ) → Bool
-rises [] = true
-rises (k ∷ []) = true
-rises (k ∷ l ∷ keys) = is_lt (slice_cmp nat_cmp k l) && rises (l ∷ keys)
+abbrev pub is_strictly_sorted : List (List ℕ) → Bool
+is_strictly_sorted [] = true
+is_strictly_sorted (k ∷ []) = true
+is_strictly_sorted (k ∷ l ∷ keys) = is_lt (slice_cmp nat_cmp k l) && is_strictly_sorted (l ∷ keys)
 
 -- the keys, in order
 abbrev pub keys_of : List (Pair Text Text) → List (List ℕ)
@@ -59,38 +60,38 @@ is_single_tag t = t.key.is_single && t.value.is_single
 -- the base where the keys do not rise: by the order of the keys, unless one is repeated
 unfoldable pub base_by_key : List ℕ → List (Pair Text Text) → Base
 base_by_key measurement tags =
-    if first_repeated (keys_of tags) == length tags then own (base_text measurement (by_key tags))
-    else repeats (slice_index_or (keys_of tags) (first_repeated (keys_of tags)) [])
+    if first_repeated (keys_of tags) == length tags then owned (base_text measurement (by_key tags))
+    else duplicate_key (slice_index_or (keys_of tags) (first_repeated (keys_of tags)) [])
 
 -- the base of a series with this raw text, measurement and tags
 unfoldable pub base_of : List ℕ → Text → List (Pair Text Text) → Base
 base_of raw measurement tags =
-    if rises (keys_of tags) then
-    if measurement.is_single && list_all is_single_tag tags then part raw
-    else own (base_text measurement.bytes (in_order tags))
+    if is_strictly_sorted (keys_of tags) then
+    if measurement.is_single && list_all is_single_tag tags then borrowed raw
+    else owned (base_text measurement.bytes (in_order tags))
     else base_by_key measurement.bytes tags
 
--- the code fails so for this base: it is a repeated key; want of memory may stand in the place of each
+-- the code fails so for this base: it is a repeated key; `OutOfMemory` may stand in the place of each
 abbrev pub FailsForBase : Error → Base → Type 0
-FailsForBase (DuplicateTag key) base = base ≡ repeats (string_bytes key)
+FailsForBase (DuplicateTag key) base = base ≡ duplicate_key (string_bytes key)
 FailsForBase OutOfMemory base = Unit {0}
 FailsForBase e base = ⊥
 
 -- what the code answered is this base, and borrowed exactly where that is a part of the input
 abbrev pub GivesBase : {A : Type 0} → Result (CowStr A) Error → Base → Type 0
-GivesBase (Ok (Borrowed text)) base = base ≡ part text.now
-GivesBase (Ok (Owned text)) base = base ≡ own (string_bytes text)
+GivesBase (Ok (Borrowed text)) base = base ≡ borrowed text.now
+GivesBase (Ok (Owned text)) base = base ≡ owned (string_bytes text)
 GivesBase (Err e) base = FailsForBase e base
 
 -- whether a base is a part of the input
-abbrev pub is_part : Base → Bool
-is_part (part text) = true
-is_part base = false
+abbrev pub is_borrowed : Base → Bool
+is_borrowed (borrowed text) = true
+is_borrowed base = false
 
 -- the code made a text of its own
-abbrev pub GivesOwn : {A : Type 0} → Result (String A) Error → Base → Type 0
-GivesOwn (Ok text) base = base ≡ own (string_bytes text)
-GivesOwn (Err e) base = FailsForBase e base
+abbrev pub GivesOwned : {A : Type 0} → Result (String A) Error → Base → Type 0
+GivesOwned (Ok text) base = base ≡ owned (string_bytes text)
+GivesOwned (Err e) base = FailsForBase e base
 
 -- the bytes of an entry
 abbrev pub entry_bytes : Bor (List ℕ) × Bor (List ℕ) → List ℕ × List ℕ

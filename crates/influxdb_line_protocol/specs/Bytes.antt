@@ -32,11 +32,11 @@ equals = 61
 abbrev pub backslash : ℕ
 backslash = 92
 
--- the letter behind an integer
+-- the letter after an integer
 abbrev pub letter_i : ℕ
 letter_i = 105
 
--- the letter behind an unsigned integer
+-- the letter after an unsigned integer
 abbrev pub letter_u : ℕ
 letter_u = 117
 

@@ -1,29 +1,30 @@
--- What a backslash does to the byte behind it, and what a text with backslashes stands for.
-use Rattle.std.specs.Prelude.{◌≡◌, ℕ, ◌+◌, ◌<◌, ◌≤◌, ◌%◌, ◌==◌, ◌&&◌, Bool, false, not, List, [], ◌∷◌, ◌++◌, length, take, slice_index, if◌then◌else◌}
+-- What a backslash does to the byte after it, and what a text with backslashes stands for.
+use Rattle.std.specs.Prelude.{◌≡◌, ℕ, ◌+◌, ◌<◌, ◌≤◌, ◌%◌, ◌==◌, ◌&&◌, Bool, false, not, List, [], ◌∷◌, ◌++◌, length}
+use Rattle.std.specs.Prelude.{take, slice_index, if◌then◌else◌}
 use Rattle.std.specs.List.{position_or_len, range_with_len, suffix_len, flat_map}
 use Rattle.influxdb_line_protocol.specs.Bytes.{backslash, is_one_of}
 
--- what stands behind `front` is escaped: `front` ends in a run of backslashes of odd length
-unfoldable pub is_escaped_behind : List ℕ → Bool
-is_escaped_behind front = suffix_len (λ b. b == backslash) front % 2 == 1
+-- what comes after `front` is escaped: `front` ends in a run of backslashes of odd length
+unfoldable pub is_escaped_after : List ℕ → Bool
+is_escaped_after front = suffix_len (λ b. b == backslash) front % 2 == 1
 
--- what stands behind `front` is bare
-abbrev pub IsBareBehind : List ℕ → Type 0
-IsBareBehind front = is_escaped_behind front ≡ false
+-- what comes after `front` is bare
+abbrev pub IsBareAfter : List ℕ → Type 0
+IsBareAfter front = is_escaped_after front ≡ false
 
--- the bare bytes of what stands behind `front`, in order
-abbrev pub bare_behind : List ℕ → List ℕ → List ℕ
-bare_behind front [] = []
-bare_behind front (b ∷ bs) =
-    (if is_escaped_behind front then [] else b ∷ []) ++ bare_behind (front ++ b ∷ []) bs
+-- the bare bytes of what comes after `front`, in order
+abbrev pub bare_after : List ℕ → List ℕ → List ℕ
+bare_after front [] = []
+bare_after front (b ∷ bs) =
+    (if is_escaped_after front then [] else b ∷ []) ++ bare_after (front ++ b ∷ []) bs
 
 -- the bare bytes of a text, in order
 abbrev pub bare : List ℕ → List ℕ
-bare text = bare_behind [] text
+bare text = bare_after [] text
 
 -- whether a bare byte that passes the test stands at this place of the text
 abbrev pub is_bare_at : (ℕ → Bool) → List ℕ → ℕ → Bool
-is_bare_at passes text place = passes (slice_index text place) && not (is_escaped_behind (take place text))
+is_bare_at passes text place = passes (slice_index text place) && not (is_escaped_after (take place text))
 
 -- the first place of the text where a bare byte passes the test, or its length
 unfoldable pub first_bare : (ℕ → Bool) → List ℕ → ℕ
@@ -32,7 +33,7 @@ first_bare passes text = position_or_len (is_bare_at passes text) (range_with_le
 -- no bare byte before a place of the text passes the test, and that place is bare, unless the text ends there
 pub record IsPassed (passes : ℕ → Bool) (text : List ℕ) (at : ℕ) : Type 0 where
   pub within : at ≤ length text
-  pub is_bare : at < length text → IsBareBehind (take at text)
+  pub is_bare : at < length text → IsBareAfter (take at text)
   pub passed : (k : ℕ) → k < at → is_bare_at passes text k ≡ false
 
 -- what a text stands for: a backslash before one of the known bytes goes, every other byte stays
@@ -53,8 +54,8 @@ unfoldable pub escaped : List ℕ → List ℕ → List ℕ
 escaped bytes text = flat_map (escaped_byte bytes) text
 
 -- a walk that stands at a bare place: no stop is bare before it, and so many of the escapes before it are known
-pub record Walked (known : List ℕ) (stops : ℕ → Bool) (text : List ℕ) (at found : ℕ) : Type 0 where
+pub record EscapeScan (known : List ℕ) (stops : ℕ → Bool) (text : List ℕ) (at found : ℕ) : Type 0 where
   pub within : at ≤ length text
-  pub bare : is_escaped_behind (take at text) ≡ false
+  pub bare : is_escaped_after (take at text) ≡ false
   pub passed : (k : ℕ) → k < at → is_bare_at stops text k ≡ false
   pub counted : length (without_escapes known (take at text)) + found ≡ at

@@ -2,7 +2,10 @@
 use Rattle.std.specs.Prelude.{ℕ, List, ◌++◌, codes, string_bytes}
 use Rattle.influxdb_line_protocol.specs.declared.error.Error.{Error}
 use Rattle.influxdb_line_protocol.specs.declared.error.Error.TheVariants as error
-use Rattle.influxdb_line_protocol.specs.Readings.{Fault, measurement_value_invalid, field_set_missing, ends_with_backslash, tag_set_malformed, take_while1, integer_value_invalid, uinteger_value_invalid, timestamp_value_invalid, cannot_parse_entire_line}
+use Rattle.influxdb_line_protocol.specs.Readings.{Fault, measurement_value_invalid, field_set_missing}
+use Rattle.influxdb_line_protocol.specs.Readings.{ends_with_backslash, tag_set_malformed, take_while1}
+use Rattle.influxdb_line_protocol.specs.Readings.{integer_value_invalid, uinteger_value_invalid}
+use Rattle.influxdb_line_protocol.specs.Readings.{timestamp_value_invalid, cannot_parse_entire_line}
 
 -- the text of a fault of a line
 abbrev pub fault_text : Fault → List ℕ
@@ -25,7 +28,8 @@ error_text (error.IntegerValueInvalid source value) = codes "Unable to parse int
 error_text (error.UIntegerValueInvalid source value) = codes "Unable to parse unsigned integer value '" ++ string_bytes value ++ codes "'"
 error_text (error.TimestampValueInvalid source value) = codes "Unable to parse timestamp value '" ++ string_bytes value ++ codes "'"
 error_text error.EndsWithBackslash = codes "Measurements, tag keys and values, and field keys may not end with a backslash"
-error_text (error.CannotParseEntireLine rest) = codes "Could not parse entire line. Found trailing content: '" ++ string_bytes rest ++ codes "'"
+error_text (error.CannotParseEntireLine rest) = codes "Could not parse entire line. Found trailing content: '" ++
+    string_bytes rest ++ codes "'"
 error_text error.TagSetMalformed = codes "Tag Set Malformed"
 error_text (error.GenericParsingError kind) = codes "A generic parsing error occurred: TakeWhile1"
 error_text error.OutOfMemory = codes "out of memory"

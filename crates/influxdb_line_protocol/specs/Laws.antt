@@ -19,8 +19,8 @@ pub record IsAdmittedPoint (p : Point) : Type 0 where
   pub is_point : IsPoint p
   pub names_are : is_admitted_point p ≡ true
 
--- The lines that are built for points, with any text behind them, are answered first, each with its point; the
--- answers behind them are those of that text alone. So it is in both dialects.
+-- The lines that are built for points, with any text after them, are answered first, each with its point; the
+-- answers after them are those of that text alone. So it is in both dialects.
 abbrev pub BatchesReadBack : (Point → Type 0) → Type 0
 BatchesReadBack IsKind =
     (dialect : Dialect) (points : List Point) (t : List ℕ) (answers : List (Result Line Fault))
@@ -32,9 +32,9 @@ BatchesReadBack IsKind =
 abbrev pub AdmittedBatchesReadBack : Type 0
 AdmittedBatchesReadBack = BatchesReadBack IsAdmittedPoint
 
--- Batches with another name do not: what is answered is not their points and then the items of the text behind them.
-abbrev pub OtherBatchesDoNot : Type 0
-OtherBatchesDoNot =
+-- Batches with another name do not: what is answered is not their points and then the items of the text after them.
+abbrev pub OtherBatchesDoNotReadBack : Type 0
+OtherBatchesDoNotReadBack =
     (dialect : Dialect) (points : List Point) (t : List ℕ) (items others : List (Result Point Fault))
     → AllByRecursion IsPoint points → list_all is_admitted_point points ≡ false
     → HasItems dialect (built_all points ++ t) items → HasItems dialect t others → items ≢ map Ok points ++ others

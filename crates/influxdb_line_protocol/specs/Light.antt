@@ -3,11 +3,13 @@ use Rattle.std.specs.Prelude.{ℕ, zero, suc, ◌&&◌, Bool, true, false, not, 
 use Rattle.std.specs.List.{list_all}
 use Rattle.influxdb_line_protocol.specs.declared.split.Dialect.{Dialect}
 use Rattle.influxdb_line_protocol.specs.Bytes.{backslash, comma, space, is_one_of}
-use Rattle.influxdb_line_protocol.specs.Readings.{Text, Fault, measurement_value_invalid, field_set_missing, ends_with_backslash, tag_set_malformed, take_while1, Read, Reading, reads}
+use Rattle.influxdb_line_protocol.specs.Readings.{Text, Fault, measurement_value_invalid, field_set_missing}
+use Rattle.influxdb_line_protocol.specs.Readings.{ends_with_backslash, tag_set_malformed, take_while1, Read, Reading}
+use Rattle.influxdb_line_protocol.specs.Readings.{reads}
 use Rattle.influxdb_line_protocol.specs.Names.{a_measurement, name}
 use Rattle.influxdb_line_protocol.specs.Values.{Value, string}
 use Rattle.influxdb_line_protocol.specs.Points.{Pair}
-use Rattle.influxdb_line_protocol.specs.Lines.{Line, some_tags, byte, tag, field, behind_comma, tag_set, spaces, answer}
+use Rattle.influxdb_line_protocol.specs.Lines.{Line, some_tags, byte, tag, field, after_comma, tag_set, spaces, answer}
 
 -- whether a fault carries no text
 abbrev pub carries_no_text : Fault → Bool
@@ -41,40 +43,40 @@ abbrev pub is_light_answer : List ℕ → Result Line Fault → Bool
 is_light_answer line (Ok l) = is_single_line l
 is_light_answer line (Err fault) = not (is_one_of line backslash) && carries_no_text fault
 
--- this many behind what a reading reads, and none where it does not read
-abbrev pub count_behind : {A : Type 0} → Reading A → (List ℕ → ℕ) → ℕ
-count_behind (reads x rest) count = count rest
-count_behind other count = 0
+-- this many after what a reading reads, and none where it does not read
+abbrev pub count_after : {A : Type 0} → Reading A → (List ℕ → ℕ) → ℕ
+count_after (reads x rest) count = count rest
+count_after other count = 0
 
--- one, and as many as are counted behind it, or none where it does not read
-abbrev pub one_and_behind : {A : Type 0} → Reading A → (List ℕ → ℕ) → ℕ
-one_and_behind (reads x rest) count = suc (count rest)
-one_and_behind other count = 0
+-- one, and as many as are counted after it, or none where it does not read
+abbrev pub one_and_after : {A : Type 0} → Reading A → (List ℕ → ℕ) → ℕ
+one_and_after (reads x rest) count = suc (count rest)
+one_and_after other count = 0
 
--- how many stand in front one after another, at most n, whatever follows them
+-- how many are at the start one after another, at most n, whatever follows them
 abbrev pub many_count : {A : Type 0} → (List ℕ → Reading A) → ℕ → List ℕ → ℕ
 many_count one zero line = 0
-many_count one (suc n) line = one_and_behind (one line) (λ rest. many_count one n rest)
+many_count one (suc n) line = one_and_after (one line) (λ rest. many_count one n rest)
 
--- how many stand in front, joined by commas, whatever follows them, also a fatal one
+-- how many are at the start, joined by commas, whatever follows them, also a fatal one
 abbrev pub read_count : {A : Type 0} → (List ℕ → Reading A) → List ℕ → ℕ
-read_count one line = one_and_behind (one line) (λ rest. many_count (behind_comma one) (length rest) rest)
+read_count one line = one_and_after (one line) (λ rest. many_count (after_comma one) (length rest) rest)
 
--- how many tags are read: those behind the measurement and a comma
+-- how many tags are read: those after the measurement and a comma
 unfoldable pub tags_in : List ℕ → ℕ
-tags_in line = count_behind (name a_measurement line) (λ rest. count_behind (byte comma rest) (λ behind. read_count tag behind))
+tags_in line = count_after (name a_measurement line) (λ rest. count_after (byte comma rest) (λ after. read_count tag after))
 
--- this many behind a part, and none where it is at fault
+-- this many after a part, and none where it is at fault
 abbrev pub count_then : {A : Type 0} → Result (Read A) Fault → (List ℕ → ℕ) → ℕ
 count_then (Ok r) count = count r.rest
 count_then (Err fault) count = 0
 
--- how many fields are read: those behind the measurement, the tags and the spaces
+-- how many fields are read: those after the measurement, the tags and the spaces
 unfoldable pub fields_in : List ℕ → ℕ
 fields_in line =
-    count_behind (name a_measurement line) (λ rest.
-    count_then (tag_set rest) (λ behind.
-    count_behind (byte space behind) (λ some. read_count field (drop (spaces behind) behind))))
+    count_after (name a_measurement line) (λ rest.
+    count_then (tag_set rest) (λ after.
+    count_after (byte space after) (λ some. read_count field (drop (spaces after) after))))
 
 -- whether a trimmed text is answered without memory where there is room for so many tags and fields: no more are read,
 -- and the answer needs none

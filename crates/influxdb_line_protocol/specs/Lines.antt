@@ -1,11 +1,15 @@
 -- The answer for a line.
-use Rattle.std.specs.Prelude.{ℕ, zero, suc, ℤ, ◌-◌, ◌==◌, ◌||◌, List, [], ◌∷◌, ◌++◌, length, take, drop, map, if◌then◌else◌, Option, Some, None, Result, Ok, Err}
+use Rattle.std.specs.Prelude.{ℕ, zero, suc, ℤ, ◌-◌, ◌==◌, ◌||◌, List, [], ◌∷◌, ◌++◌, length, take, drop, map}
+use Rattle.std.specs.Prelude.{if◌then◌else◌, Option, Some, None, Result, Ok, Err}
 use Rattle.std.specs.List.{prefix_len}
 use Rattle.std.specs.Str.Parse.{signed_digits_value}
 use Rattle.influxdb_line_protocol.specs.declared.split.Dialect.{Dialect}
 use Rattle.influxdb_line_protocol.specs.declared.split.Dialect.TheVariants.{Crate}
 use Rattle.influxdb_line_protocol.specs.Bytes.{space, comma, equals}
-use Rattle.influxdb_line_protocol.specs.Readings.{Fault, measurement_value_invalid, field_set_missing, tag_set_malformed, take_while1, timestamp_value_invalid, cannot_parse_entire_line, Text, Read, Reading, miss, fatal, reads, ◌>>=◌, or_fault}
+use Rattle.influxdb_line_protocol.specs.Readings.{Fault, measurement_value_invalid, field_set_missing}
+use Rattle.influxdb_line_protocol.specs.Readings.{tag_set_malformed, take_while1, timestamp_value_invalid}
+use Rattle.influxdb_line_protocol.specs.Readings.{cannot_parse_entire_line, Text, Read, Reading, miss, fatal, reads}
+use Rattle.influxdb_line_protocol.specs.Readings.{◌>>=◌, or_fault}
 use Rattle.influxdb_line_protocol.specs.Names.{a_measurement, a_tag_key, a_tag_value, a_field_key, name}
 use Rattle.influxdb_line_protocol.specs.Values.{Value, integer, unsigned, float, string, boolean, value, integer_len, fits_i64, side_of}
 use Rattle.influxdb_line_protocol.specs.Points.{Pair, Point}
@@ -56,75 +60,75 @@ byte b (c ∷ rest) = if c == b then reads b rest else miss
 unfoldable pub tag : List ℕ → Reading (Pair Text Text)
 tag line = do
   key ← name a_tag_key line
-  behind ← byte equals key.rest
-  x ← name a_tag_value behind.rest
+  after ← byte equals key.rest
+  x ← name a_tag_value after.rest
   reads (record { key = key.value; value = x.value }) x.rest
 
 -- a field
 unfoldable pub field : List ℕ → Reading (Pair Text (Value Text))
 field line = do
   key ← name a_field_key line
-  behind ← byte equals key.rest
-  x ← value behind.rest
+  after ← byte equals key.rest
+  x ← value after.rest
   reads (record { key = key.value; value = x.value }) x.rest
 
--- a comma, and what stands behind it
-abbrev pub behind_comma : {A : Type 0} → (List ℕ → Reading A) → List ℕ → Reading A
-behind_comma one line = byte comma line >>= λ behind. one behind.rest
+-- a comma, and what comes after it
+abbrev pub after_comma : {A : Type 0} → (List ℕ → Reading A) → List ℕ → Reading A
+after_comma one line = byte comma line >>= λ after. one after.rest
 
 -- these, and then those that are read
-abbrev pub onto : {A : Type 0} → List A → Reading (List A) → Reading (List A)
-onto xs miss = miss
-onto xs (fatal e) = fatal e
-onto xs (reads more rest) = reads (xs ++ more) rest
+abbrev pub prepend : {A : Type 0} → List A → Reading (List A) → Reading (List A)
+prepend xs miss = miss
+prepend xs (fatal e) = fatal e
+prepend xs (reads more rest) = reads (xs ++ more) rest
 
--- nothing where one does not read, and else that one and what is read behind it
+-- nothing where one does not read, and else that one and what is read after it
 abbrev pub one_and_more : {A : Type 0} → Reading A → List ℕ → (List ℕ → Reading (List A)) → Reading (List A)
 one_and_more miss line more = reads [] line
 one_and_more (fatal e) line more = fatal e
-one_and_more (reads x rest) line more = onto (x ∷ []) (more rest)
+one_and_more (reads x rest) line more = prepend (x ∷ []) (more rest)
 
--- as many as stand in front, and at most n
+-- as many as are at the start, and at most n
 abbrev pub many : {A : Type 0} → (List ℕ → Reading A) → ℕ → List ℕ → Reading (List A)
 many one zero line = reads [] line
 many one (suc n) line = one_and_more (one line) line (λ rest. many one n rest)
 
--- one, and as many more as stand behind it, joined by commas: a comma is taken only together with what reads behind it
-abbrev pub joined : {A : Type 0} → (List ℕ → Reading A) → List ℕ → Reading (List A)
-joined one line = one line >>= λ x. onto (x.value ∷ []) (many (behind_comma one) (length x.rest) x.rest)
+-- one, and as many more as come after it, joined by commas: a comma is taken only together with what reads after it
+abbrev pub separated_list : {A : Type 0} → (List ℕ → Reading A) → List ℕ → Reading (List A)
+separated_list one line = one line >>= λ x. prepend (x.value ∷ []) (many (after_comma one) (length x.rest) x.rest)
 
--- the tags behind a comma: where the comma stands, a tag must follow
+-- the tags after a comma: where the comma stands, a tag must follow
 abbrev pub tag_set : List ℕ → Result (Read (Option (List (Pair Text Text)))) Fault
-tag_set line = tags_behind (byte comma line) line
+tag_set line = tags_after (byte comma line) line
   where
     some : Result (Read (List (Pair Text Text))) Fault → Result (Read (Option (List (Pair Text Text)))) Fault
     some (Ok r) = Ok (record { value = Some r.value; rest = r.rest })
     some (Err e) = Err e
 
-    tags_behind : Reading ℕ → List ℕ → Result (Read (Option (List (Pair Text Text)))) Fault
-    tags_behind (reads c behind) whole = some (or_fault tag_set_malformed (joined tag behind))
-    tags_behind other whole = Ok (record { value = None; rest = whole })
+    tags_after : Reading ℕ → List ℕ → Result (Read (Option (List (Pair Text Text)))) Fault
+    tags_after (reads c after) whole = some (or_fault tag_set_malformed (separated_list tag after))
+    tags_after other whole = Ok (record { value = None; rest = whole })
 
--- the comma behind a first field that is the only one is taken in the dialect of the crate
+-- the comma after a first field that is the only one is taken in the dialect of the crate
 abbrev pub without_comma : Dialect → List (Pair Text (Value Text)) → List ℕ → List ℕ
 without_comma Crate (f ∷ []) (b ∷ rest) = if b == comma then rest else b ∷ rest
 without_comma dialect fields rest = rest
 
 abbrev pub field_set : Dialect → List ℕ → Reading (List (Pair Text (Value Text)))
 field_set dialect line =
-    joined field line >>= λ fs. reads fs.value (without_comma dialect fs.value fs.rest)
+    separated_list field line >>= λ fs. reads fs.value (without_comma dialect fs.value fs.rest)
 
--- how many spaces stand in front
+-- how many spaces are at the start
 abbrev pub spaces : List ℕ → ℕ
 spaces line = prefix_len (λ b. b == space) line
 
--- spaces and a number: the timestamp, and all spaces behind it
+-- spaces and a number: the timestamp, and all spaces after it
 abbrev pub timestamp : List ℕ → Result (Read (Option ℤ)) Fault
 timestamp line =
-    let behind = drop (spaces line) line in
-    let number = take (integer_len behind) behind in
-    let rest = drop (integer_len behind) behind in
-    if spaces line == 0 || integer_len behind == 0 then Ok (record { value = None; rest = line })
+    let after = drop (spaces line) line in
+    let number = take (integer_len after) after in
+    let rest = drop (integer_len after) after in
+    if spaces line == 0 || integer_len after == 0 then Ok (record { value = None; rest = line })
     else if fits_i64 (signed_digits_value 10 number)
     then Ok (record { value = Some (signed_digits_value 10 number); rest = drop (spaces rest) rest })
     else Err (timestamp_value_invalid (side_of number) number)
@@ -152,4 +156,10 @@ answer dialect line =
     or_fault take_while1 (byte space tags.rest) then λ gap.
     or_fault field_set_missing (field_set dialect (drop (spaces tags.rest) tags.rest)) then λ fields.
     timestamp fields.rest then λ t.
-    complete (record { series = front_before line tags.rest; measurement = m.value; tags = tags.value; fields = fields.value; timestamp = t.value }) t.rest
+    complete (record {
+      series = front_before line tags.rest;
+      measurement = m.value;
+      tags = tags.value;
+      fields = fields.value;
+      timestamp = t.value;
+    }) t.rest

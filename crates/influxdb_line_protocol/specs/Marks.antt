@@ -6,7 +6,7 @@ use Rattle.influxdb_line_protocol.specs.declared.builder.marks.Marks.{Marks}
 abbrev pub listed : Marks → List ℕ
 listed m = m.first ∷ m.second ∷ m.third ∷ m.fourth ∷ []
 
--- of the `n` bytes of the text from `at` on, `run` stand before the first that passes the test
+-- of the `n` bytes of the text from `at` on, `run` come before the first that passes the test
 pub record StandBefore (test : ℕ → Bool) (text : List ℕ) (at n run : ℕ) : Type 0 where
   -- no more than there are
   pub within : run ≤ n

@@ -2,13 +2,13 @@
 use Rattle.std.specs.Prelude.{◌≡◌, ◌≢◌, ◌↔◌, ℕ, ◌<◌, ◌≤◌, ◌==◌, Bool, false, true, List, [], ◌∷◌, ◌++◌, length, take}
 use Rattle.std.specs.List.{All, Contains}
 use Rattle.influxdb_line_protocol.specs.Bytes.{tab, newline, space, quote, hash, comma, backslash, is_one_of}
-use Rattle.influxdb_line_protocol.specs.Escapes.{bare, without_escapes, IsBareBehind}
+use Rattle.influxdb_line_protocol.specs.Escapes.{bare, without_escapes, IsBareAfter}
 use Rattle.influxdb_line_protocol.specs.Names.{NameKind, is_stop, spelled}
 use Rattle.influxdb_line_protocol.specs.Values.{body_len}
 use Rattle.influxdb_line_protocol.specs.Readings.{Fault, Reading, miss, fatal, reads}
 use Rattle.influxdb_line_protocol.specs.Values.{IsFloat, float_len, word_len}
 use Rattle.influxdb_line_protocol.specs.Trimming.{trimmed}
-use Rattle.influxdb_line_protocol.specs.Lines.{joined}
+use Rattle.influxdb_line_protocol.specs.Lines.{separated_list}
 use Rattle.influxdb_line_protocol.specs.Light.{read_count}
 
 -- what a text stands for, where a backslash may escape the known bytes
@@ -32,105 +32,105 @@ abbrev pub LogicalIsWithoutEscapes : Type 0
 LogicalIsWithoutEscapes =
     (known spelled logical : List ℕ) → IsLogical known spelled logical ↔ (logical ≡ without_escapes known spelled)
 
--- these, each behind a comma, stand in front of the text, and this is the rest
-abbrev pub StandBehind : {A : Type 0} → (List ℕ → Reading A) → List A → List ℕ → List ℕ → Type 0
-StandBehind one [] text rest = text ≡ rest
-StandBehind one (x ∷ xs) text rest =
-    (behind after : List ℕ) × (text ≡ comma ∷ behind) × (one behind ≡ reads x after) × StandBehind one xs after rest
+-- these, each after a comma, are at the start of the text, and this is the rest
+abbrev pub SeparatedAfterComma : {A : Type 0} → (List ℕ → Reading A) → List A → List ℕ → List ℕ → Type 0
+SeparatedAfterComma one [] text rest = text ≡ rest
+SeparatedAfterComma one (x ∷ xs) text rest =
+    (suffix after : List ℕ) × (text ≡ comma ∷ suffix) × (one suffix ≡ reads x after) × SeparatedAfterComma one xs after rest
 
--- these, joined by commas, stand in front of the text, and this is the rest
-abbrev pub Stand : {A : Type 0} → (List ℕ → Reading A) → List A → List ℕ → List ℕ → Type 0
-Stand one [] text rest = text ≡ rest
-Stand one (x ∷ xs) text rest = (after : List ℕ) × (one text ≡ reads x after) × StandBehind one xs after rest
+-- these, joined by commas, are at the start of the text, and this is the rest
+abbrev pub SeparatedBy : {A : Type 0} → (List ℕ → Reading A) → List A → List ℕ → List ℕ → Type 0
+SeparatedBy one [] text rest = text ≡ rest
+SeparatedBy one (x ∷ xs) text rest = (after : List ℕ) × (one text ≡ reads x after) × SeparatedAfterComma one xs after rest
 
--- they stand there, and no greater number of them does
-pub record StandMost {A : Type 0} (one : List ℕ → Reading A) (text : List ℕ) (xs : List A) (rest : List ℕ) : Type 0 where
-  pub stand : Stand one xs text rest
-  pub most : (others : List A) (behind : List ℕ) → Stand one others text behind → length others ≤ length xs
+-- they are there, and no greater number of them is
+pub record LongestList {A : Type 0} (one : List ℕ → Reading A) (text : List ℕ) (xs : List A) (rest : List ℕ) : Type 0 where
+  pub stand : SeparatedBy one xs text rest
+  pub most : (others : List A) (after : List ℕ) → SeparatedBy one others text after → length others ≤ length xs
 
--- one more has this fault: at the front where none stands there, and else behind a comma
+-- one more has this fault: at the front where none is there, and else after a comma
 abbrev pub NextHasFault : {A : Type 0} → (List ℕ → Reading A) → List A → List ℕ → Fault → Type 0
 NextHasFault one [] rest e = one rest ≡ fatal e
-NextHasFault one (x ∷ xs) rest e = (behind : List ℕ) × (rest ≡ comma ∷ behind) × (one behind ≡ fatal e)
+NextHasFault one (x ∷ xs) rest e = (after : List ℕ) × (rest ≡ comma ∷ after) × (one after ≡ fatal e)
 
--- they are one or more, the most that stand in front of the text, and one more has no fault
-pub record StandInFull {A : Type 0} (one : List ℕ → Reading A) (text : List ℕ) (xs : List A) (rest : List ℕ) : Type 0 where
+-- they are one or more, the most that are at the start of the text, and one more has no fault
+pub record WholeList {A : Type 0} (one : List ℕ → Reading A) (text : List ℕ) (xs : List A) (rest : List ℕ) : Type 0 where
   pub some : 0 < length xs
-  pub stand_most : StandMost one text xs rest
+  pub stand_most : LongestList one text xs rest
   pub no_fault : (e : Fault) → ¬ NextHasFault one xs rest e
 
--- Values are read exactly where they are the most that stand in front of the text, one or more, joined by commas,
--- and one more behind them has no fault.
+-- Values are read exactly where they are the most that are at the start of the text, one or more, joined by commas,
+-- and one more after them has no fault.
 abbrev pub TheMostIsRead : {A : Type 0} → (List ℕ → Reading A) → Type 0
 TheMostIsRead {A} one =
-    (text : List ℕ) (xs : List A) (rest : List ℕ) → (joined one text ≡ reads xs rest) ↔ StandInFull one text xs rest
+    (text : List ℕ) (xs : List A) (rest : List ℕ) → (separated_list one text ≡ reads xs rest) ↔ WholeList one text xs rest
 
--- A fault is given exactly where, behind the most values that stand in front of the text, one more has that fault.
+-- A fault is given exactly where, after the most values that are at the start of the text, one more has that fault.
 abbrev pub TheNextHasTheFault : {A : Type 0} → (List ℕ → Reading A) → Type 0
 TheNextHasTheFault {A} one =
     (text : List ℕ) (e : Fault)
-    → (joined one text ≡ fatal e) ↔ ((xs : List A) × (rest : List ℕ) × StandMost one text xs rest × NextHasFault one xs rest e)
+    → (separated_list one text ≡ fatal e) ↔ ((xs : List A) × (rest : List ℕ) × LongestList one text xs rest × NextHasFault one xs rest e)
 
 -- Nothing is read, and no fault is given, exactly where the first value misses.
 abbrev pub TheFirstMisses : {A : Type 0} → (List ℕ → Reading A) → Type 0
-TheFirstMisses one = (text : List ℕ) → (joined one text ≡ miss) ↔ (one text ≡ miss)
+TheFirstMisses one = (text : List ℕ) → (separated_list one text ≡ miss) ↔ (one text ≡ miss)
 
 -- As many are counted as the most that stand at the start of the text, whatever follows them.
 abbrev pub CountIsOfTheMost : {A : Type 0} → (List ℕ → Reading A) → Type 0
 CountIsOfTheMost {A} one =
-    (text : List ℕ) → (xs : List A) × (rest : List ℕ) × StandMost one text xs rest × (read_count one text ≡ length xs)
+    (text : List ℕ) → (xs : List A) × (rest : List ℕ) × LongestList one text xs rest × (read_count one text ≡ length xs)
 
 -- nothing, or what begins with a newline
 abbrev pub IsLineEnd : List ℕ → Type 0
 IsLineEnd [] = Unit {0}
 IsLineEnd (b ∷ rest) = b ≡ newline
 
--- a front of blanks and comments, before this text behind it: each comment takes all of its line
+-- a front of blanks and comments, before this text after it: each comment takes all of its line
 pub data IsBlankFront : List ℕ → List ℕ → Type 0 where
   -- the empty front
-  empty : (behind : List ℕ) → IsBlankFront [] behind
+  empty : (after : List ℕ) → IsBlankFront [] after
   -- a space, a tab or a newline, and such a front
-  blank : (b : ℕ) (front behind : List ℕ) → is_one_of (space ∷ tab ∷ newline ∷ []) b ≡ true
-      → IsBlankFront front behind → IsBlankFront (b ∷ front) behind
+  blank : (b : ℕ) (front after : List ℕ) → is_one_of (space ∷ tab ∷ newline ∷ []) b ≡ true
+      → IsBlankFront front after → IsBlankFront (b ∷ front) after
   -- a comment up to the end of its line, and such a front
-  comment : (text front behind : List ℕ) → All (λ b. b ≢ newline) text → IsLineEnd (front ++ behind)
-      → IsBlankFront front behind → IsBlankFront (hash ∷ text ++ front) behind
+  comment : (text front after : List ℕ) → All (λ b. b ≢ newline) text → IsLineEnd (front ++ after)
+      → IsBlankFront front after → IsBlankFront (hash ∷ text ++ front) after
 
--- The trimmed text of a piece stands behind a front of blanks and comments.
-abbrev pub TrimmedIsBehindBlanks : Type 0
-TrimmedIsBehindBlanks =
+-- The trimmed text of a piece comes after a front of blanks and comments.
+abbrev pub TrimmedIsAfterBlanks : Type 0
+TrimmedIsAfterBlanks =
     (piece : List ℕ) → (front : List ℕ) × (piece ≡ front ++ trimmed piece) × IsBlankFront front (trimmed piece)
 
 -- No such front of the piece is longer than the one before its trimmed text.
 abbrev pub TrimmedFrontIsLongest : Type 0
 TrimmedFrontIsLongest =
-    (piece front other behind : List ℕ)
-    → piece ≡ front ++ trimmed piece → piece ≡ other ++ behind → IsBlankFront other behind → length other ≤ length front
+    (piece front other after : List ℕ)
+    → piece ≡ front ++ trimmed piece → piece ≡ other ++ after → IsBlankFront other after → length other ≤ length front
 
--- behind the front a bare byte stands that passes, or nothing
+-- after the front a bare byte stands that passes, or nothing
 abbrev pub IsAtStop : (ℕ → Bool) → List ℕ → List ℕ → Type 0
 IsAtStop passes front [] = Unit {0}
-IsAtStop passes front (b ∷ rest) = IsBareBehind front × (passes b ≡ true)
+IsAtStop passes front (b ∷ rest) = IsBareAfter front × (passes b ≡ true)
 
 -- the front before the first bare byte that passes, or all where there is none
-pub record IsBeforeStop (passes : ℕ → Bool) (front behind : List ℕ) : Type 0 where
+pub record IsBeforeStop (passes : ℕ → Bool) (front after : List ℕ) : Type 0 where
   pub none : All (λ b. passes b ≡ false) (bare front)
-  pub at_stop : IsAtStop passes front behind
+  pub at_stop : IsAtStop passes front after
 
 -- A front spells the name of a text exactly where it ends before the first bare byte that ends such a name, or is
 -- the whole text where there is none.
 abbrev pub NameEndsBeforeStop : Type 0
 NameEndsBeforeStop =
-    (kind : NameKind) (front behind : List ℕ)
-    → (spelled kind (front ++ behind) ≡ front) ↔ IsBeforeStop (is_stop kind) front behind
+    (kind : NameKind) (front after : List ℕ)
+    → (spelled kind (front ++ after) ≡ front) ↔ IsBeforeStop (is_stop kind) front after
 
--- The body of a string is so before the first bare quote behind its opening one.
+-- The body of a string is so before the first bare quote after its opening one.
 abbrev pub BodyEndsBeforeQuote : Type 0
 BodyEndsBeforeQuote =
-    (front behind : List ℕ)
-    → (take (body_len (front ++ behind)) (front ++ behind) ≡ front) ↔ IsBeforeStop (λ b. b == quote) front behind
+    (front after : List ℕ)
+    → (take (body_len (front ++ after)) (front ++ after) ≡ front) ↔ IsBeforeStop (λ b. b == quote) front after
 
--- The bytes that a float takes in front of a text are a float.
+-- The bytes that a float takes at the start of a text are a float.
 abbrev pub FloatFrontIsFloat : Type 0
 FloatFrontIsFloat = (text : List ℕ) → 0 < float_len text → IsFloat (take (float_len text) text)
 

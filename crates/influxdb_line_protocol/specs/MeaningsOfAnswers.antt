@@ -9,7 +9,7 @@ use Rattle.influxdb_line_protocol.specs.Names.{a_measurement, name}
 use Rattle.influxdb_line_protocol.specs.Values.{Value}
 use Rattle.influxdb_line_protocol.specs.Points.{Pair}
 use Rattle.influxdb_line_protocol.specs.Lines.{Line, tag, field, without_comma, spaces, timestamp, answer}
-use Rattle.influxdb_line_protocol.specs.Meanings.{StandMost, StandInFull, NextHasFault}
+use Rattle.influxdb_line_protocol.specs.Meanings.{LongestList, WholeList, NextHasFault}
 
 -- the text begins with this byte
 abbrev pub BeginsWith : ℕ → List ℕ → Type 0
@@ -26,7 +26,7 @@ pub data ReadsSeries (text : List ℕ) : Text → Option (List (Pair Text Text))
   alone : (m : Text) (rest : List ℕ) → name a_measurement text ≡ reads m rest → ¬ BeginsWith comma rest → ReadsSeries text m None rest
   -- a comma follows it, and then at least one tag
   tagged : (m : Text) (tags : List (Pair Text Text)) (after rest : List ℕ)
-      → name a_measurement text ≡ reads m (comma ∷ after) → StandInFull tag after tags rest → ReadsSeries text m (Some tags) rest
+      → name a_measurement text ≡ reads m (comma ∷ after) → WholeList tag after tags rest → ReadsSeries text m (Some tags) rest
 
 -- a series is read, a space follows it, and after all spaces these fields are read
 pub record ReadsFields (dialect : Dialect) (text : List ℕ) (line : Line) (rest : List ℕ) : Type 0 where
@@ -35,7 +35,7 @@ pub record ReadsFields (dialect : Dialect) (text : List ℕ) (line : Line) (rest
   pub series_reads : ReadsSeries text line.measurement line.tags after_series
   pub gap : BeginsWith space after_series
   pub after_fields : List ℕ
-  pub fields_read : StandInFull field (after_spaces after_series) line.fields after_fields
+  pub fields_read : WholeList field (after_spaces after_series) line.fields after_fields
   pub rest_is : rest ≡ without_comma dialect line.fields after_fields
 
 -- what a text is answered with, by the rows of the table; each row says too that none before it holds
@@ -46,7 +46,7 @@ pub data IsAnswer (dialect : Dialect) (text : List ℕ) : Result Line Fault → 
   no_measurement : name a_measurement text ≡ miss → IsAnswer dialect text (Err measurement_value_invalid)
   -- a comma follows the measurement, and a tag is fatal
   fatal_tag : (m : Text) (after : List ℕ) (tags : List (Pair Text Text)) (rest : List ℕ) (e : Fault)
-      → name a_measurement text ≡ reads m (comma ∷ after) → StandMost tag after tags rest → NextHasFault tag tags rest e
+      → name a_measurement text ≡ reads m (comma ∷ after) → LongestList tag after tags rest → NextHasFault tag tags rest e
       → IsAnswer dialect text (Err ends_with_backslash)
   -- a comma follows the measurement, and the first tag misses
   no_tag : (m : Text) (after : List ℕ) → name a_measurement text ≡ reads m (comma ∷ after) → tag after ≡ miss
@@ -57,7 +57,7 @@ pub data IsAnswer (dialect : Dialect) (text : List ℕ) : Result Line Fault → 
   -- after all spaces, a field is fatal
   fatal_field : (m : Text) (tags : Option (List (Pair Text Text))) (after : List ℕ) (fields : List (Pair Text (Value Text)))
       (rest : List ℕ) (e : Fault)
-      → ReadsSeries text m tags after → BeginsWith space after → StandMost field (after_spaces after) fields rest
+      → ReadsSeries text m tags after → BeginsWith space after → LongestList field (after_spaces after) fields rest
       → NextHasFault field fields rest e → IsAnswer dialect text (Err e)
   -- the first field misses
   no_field : (m : Text) (tags : Option (List (Pair Text Text))) (after : List ℕ)

@@ -28,11 +28,11 @@ is_stop kind b = is_one_of (stops kind) b
 abbrev pub is_escapable : NameKind → ℕ → Bool
 is_escapable kind b = is_one_of (escapable kind) b
 
--- how many bytes of the text spell the name in front: all before the first bare byte that ends it
+-- how many bytes of the text spell the name at the start: all before the first bare byte that ends it
 abbrev pub spelled_len : NameKind → List ℕ → ℕ
 spelled_len kind text = first_bare (is_stop kind) text
 
--- the spelled text of the name in front
+-- the spelled text of the name at the start
 abbrev pub spelled : NameKind → List ℕ → List ℕ
 spelled kind text = take (spelled_len kind text) text
 
@@ -57,7 +57,7 @@ is_shared known spelling = is_one_escape known spelling || not (is_one_of spelli
 abbrev pub read_text : List ℕ → List ℕ → Text
 read_text known spelling = record { bytes = without_escapes known spelling; is_single = is_shared known spelling }
 
--- the name in front of a text: an empty one misses, one that ends in a backslash is fatal
+-- the name at the start of a text: an empty one misses, one that ends in a backslash is fatal
 unfoldable pub name : NameKind → List ℕ → Reading Text
 name kind text =
     if length (spelled kind text) == 0 then miss

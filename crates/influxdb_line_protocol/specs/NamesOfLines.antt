@@ -29,8 +29,9 @@ pub record IsParsedName (kind : NameKind) (n : List ℕ) : Type 0 where
   pub ends : ends_in_backslash n ≡ false
   -- a measurement does not begin with `#`
   pub begins : BeginsNoComment kind n
-  -- a tab or a newline stands directly behind a backslash, and so does a NUL in a measurement
-  pub behind_backslash : (front back : List ℕ) (b : ℕ) → n ≡ front ++ b ∷ back → is_one_of (never_in kind) b ≡ true → ends_in_backslash front ≡ true
+  -- a tab or a newline comes directly after a backslash, and so does a NUL in a measurement
+  pub after_backslash : (front back : List ℕ) (b : ℕ) → n ≡ front ++ b ∷ back → is_one_of (never_in kind) b ≡ true
+      → ends_in_backslash front ≡ true
 
 -- nothing, or a text that begins with a space
 abbrev pub IsNothingOrSpaced : List ℕ → Type 0
@@ -38,10 +39,10 @@ IsNothingOrSpaced text = (text ≡ []) ⊎ ((rest : List ℕ) × (text ≡ space
 
 -- nothing follows the fields that were read of a text in the strict dialect, or a space does
 pub record EndsItsFields (text : List ℕ) (line : Line) : Type 0 where
-  pub behind_measurement : List ℕ
-  pub behind_tags : List ℕ
-  pub behind_fields : List ℕ
-  pub measurement : name a_measurement text ≡ reads line.measurement behind_measurement
-  pub tags : tag_set behind_measurement ≡ Ok (record { value = line.tags; rest = behind_tags })
-  pub fields : field_set Strict (drop (spaces behind_tags) behind_tags) ≡ reads line.fields behind_fields
-  pub ends : IsNothingOrSpaced behind_fields
+  pub measurement_rest : List ℕ
+  pub tags_rest : List ℕ
+  pub fields_rest : List ℕ
+  pub measurement : name a_measurement text ≡ reads line.measurement measurement_rest
+  pub tags : tag_set measurement_rest ≡ Ok (record { value = line.tags; rest = tags_rest })
+  pub fields : field_set Strict (drop (spaces tags_rest) tags_rest) ≡ reads line.fields fields_rest
+  pub ends : IsNothingOrSpaced fields_rest

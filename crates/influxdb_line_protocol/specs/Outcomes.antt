@@ -8,7 +8,11 @@ use Rattle.influxdb_line_protocol.specs.declared.error.OutOfRange.TheVariants.{A
 use Rattle.influxdb_line_protocol.specs.declared.names.NameKind.{NameKind}
 use Rattle.influxdb_line_protocol.specs.declared.names.NameKind.TheVariants.{Measurement, TagKey, TagValue, FieldKey}
 use Rattle.influxdb_line_protocol.specs.Names as names
-use Rattle.influxdb_line_protocol.specs.Readings.{Side, above, below, Fault, integer_value_invalid, uinteger_value_invalid, timestamp_value_invalid, measurement_value_invalid, field_set_missing, ends_with_backslash, tag_set_malformed, take_while1, cannot_parse_entire_line, Read, Reading, miss, fatal, reads}
+use Rattle.influxdb_line_protocol.specs.Readings.{Side, above, below, Fault, integer_value_invalid}
+use Rattle.influxdb_line_protocol.specs.Readings.{uinteger_value_invalid, timestamp_value_invalid}
+use Rattle.influxdb_line_protocol.specs.Readings.{measurement_value_invalid, field_set_missing, ends_with_backslash}
+use Rattle.influxdb_line_protocol.specs.Readings.{tag_set_malformed, take_while1, cannot_parse_entire_line, Read}
+use Rattle.influxdb_line_protocol.specs.Readings.{Reading, miss, fatal, reads}
 
 -- the kind that the code's word names
 abbrev pub kind_of : NameKind → names.NameKind
@@ -22,7 +26,7 @@ abbrev pub side : OutOfRange → Side
 side Above = above
 side Below = below
 
--- the error is this fault; want of memory may stand in its place; no line fails with a repeated key
+-- the error is this fault; `OutOfMemory` may stand in its place; no line fails with a repeated key
 abbrev pub IsFault : Error → (Fault → Type 0) → Type 0
 IsFault (error.DuplicateTag key) Is = ⊥
 IsFault error.MeasurementValueInvalid Is = Is measurement_value_invalid
@@ -51,6 +55,6 @@ abbrev pub GivesRead : {X A : Type 0} → (X → A) → Result (X × Bor (List �
 GivesRead view (Ok p) wanted = wanted ≡ Ok (record { value = view p.0; rest = p.1.now })
 GivesRead view (Err e) wanted = IsFault e (λ fault. wanted ≡ Err fault)
 
--- the code did not want for memory
-abbrev pub HasMemory : {X : Type 0} → Result X Error → Type 0
-HasMemory result = result ≢ Err error.OutOfMemory
+-- the code did not answer `OutOfMemory`
+abbrev pub IsNotOutOfMemory : {X : Type 0} → Result X Error → Type 0
+IsNotOutOfMemory result = result ≢ Err error.OutOfMemory

@@ -10,7 +10,7 @@ use Rattle.influxdb_line_protocol.specs.Trimming.{trimmed}
 use Rattle.influxdb_line_protocol.specs.Items.{line_answer}
 use Rattle.influxdb_line_protocol.specs.Light.{is_light}
 use Rattle.influxdb_line_protocol.specs.Lookups.{columns}
-use Rattle.influxdb_line_protocol.specs.Outcomes.{HasMemory}
+use Rattle.influxdb_line_protocol.specs.Outcomes.{IsNotOutOfMemory}
 use Rattle.influxdb_line_protocol.specs.Parsed.{Answers}
 
 -- nothing is left of the piece when it is trimmed
@@ -25,11 +25,11 @@ HasNoEmptyTagSet item = IfOk item (λ line. IfSome line.series.tag_set (λ tags.
 abbrev pub CanCountColumns : Result ParsedLine Error → Type 0
 CanCountColumns item = IfOk item (λ line. columns line < 2 ^ 64)
 
--- the item is the answer for a trimmed text, or want of memory in its place, but never where the text is light; the tag
+-- the item is the answer for a trimmed text, or `OutOfMemory` in its place, but never where the text is light; the tag
 -- set of a line that was read is not empty, and its columns can be counted
 pub record IsItemOf (dialect : Dialect) (line : List ℕ) (item : Result ParsedLine Error) : Type 0 where
   pub answers : Answers item (line_answer dialect line)
-  pub light : is_light dialect line ≡ true → HasMemory item
+  pub light : is_light dialect line ≡ true → IsNotOutOfMemory item
   pub tags : HasNoEmptyTagSet item
   pub columns_fit : CanCountColumns item
 
@@ -57,14 +57,14 @@ pub record HadBlankPieces (before : Left) : Type 0 where
   pub left : PiecesLeft before skipped
   pub blank : All IsBlankPiece skipped
 
--- a call gives the item of the first piece that is not blank and leaves the pieces behind it, whatever the item is;
+-- a call gives the item of the first piece that is not blank and leaves the pieces after it, whatever the item is;
 -- or `None` where only blank pieces are left, and then none is left
 abbrev pub GivesItem : Left → Option (Result ParsedLine Error) → Left → Type 0
 GivesItem before None after = HadBlankPieces before × PiecesLeft after []
 GivesItem before (Some item) after =
     (after.dialect ≡ before.dialect) × ((others : List (List ℕ)) → PiecesLeft after others → GaveItem before item others)
 
--- the line of the first piece that is not blank is given, and the pieces behind it are left; or `None` where only blank
+-- the line of the first piece that is not blank is given, and the pieces after it are left; or `None` where only blank
 -- pieces are left, and then none is left
 abbrev pub GivesLine : Left → Option (Bor (List ℕ)) → Left → Type 0
 GivesLine before None after = HadBlankPieces before × PiecesLeft after []

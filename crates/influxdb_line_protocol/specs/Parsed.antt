@@ -56,7 +56,7 @@ line_read l =
 abbrev pub parsed_point : ParsedLine → Point
 parsed_point l = point_of (line_read l)
 
--- what the code answered is this answer, but want of memory may stand in its place
+-- what the code answered is this answer, but `OutOfMemory` may stand in its place
 abbrev pub Answers : Result ParsedLine Error → Result Line Fault → Type 0
 Answers (Ok line) answer = answer ≡ Ok (line_read line)
 Answers (Err e) answer = IsFault e (λ fault. answer ≡ Err fault)

@@ -1,11 +1,12 @@
 -- The pieces of a text.
-use Rattle.std.specs.Prelude.{◌≡◌, ◌≢◌, ℕ, ◌+◌, ◌<◌, ◌⊎◌, ◌||◌, ◌&&◌, Bool, false, IsTrue, List, [], ◌∷◌, ◌++◌, ◌==◌, length, take, slice_index, Option, Some, None}
+use Rattle.std.specs.Prelude.{◌≡◌, ◌≢◌, ℕ, ◌+◌, ◌<◌, ◌⊎◌, ◌||◌, ◌&&◌, Bool, false, IsTrue, List, [], ◌∷◌, ◌++◌, ◌==◌}
+use Rattle.std.specs.Prelude.{length, take, slice_index, Option, Some, None}
 use Rattle.std.specs.List.{All}
 use Rattle.std.specs.Borrow.{Bor}
 use Rattle.influxdb_line_protocol.specs.declared.split.Dialect.{Dialect}
 use Rattle.influxdb_line_protocol.specs.declared.split.Dialect.TheVariants.{Crate, Strict}
 use Rattle.influxdb_line_protocol.specs.Bytes.{tab, newline, space, hash}
-use Rattle.influxdb_line_protocol.specs.Escapes.{IsBareBehind}
+use Rattle.influxdb_line_protocol.specs.Escapes.{IsBareAfter}
 use Rattle.influxdb_line_protocol.specs.Piece.{IsClosed, IsOpen}
 
 -- spaces and tabs, and then `#`
@@ -19,9 +20,9 @@ IsComment text = IsTrue (begins_comment text) × All (λ b. b ≢ newline) text
 
 -- a piece that a newline ends: it is closed, and that newline is bare; or it is a comment
 abbrev pub IsCutPiece : Dialect → List ℕ → Type 0
-IsCutPiece Crate piece = IsClosed piece × IsBareBehind piece
+IsCutPiece Crate piece = IsClosed piece × IsBareAfter piece
 IsCutPiece Strict piece =
-    IsComment piece ⊎ ((begins_comment piece ≡ false) × IsClosed piece × IsBareBehind piece)
+    IsComment piece ⊎ ((begins_comment piece ≡ false) × IsClosed piece × IsBareAfter piece)
 
 -- a piece that the text's end ends: closed or open; or a comment
 abbrev pub IsLastPiece : Dialect → List ℕ → Type 0
@@ -38,9 +39,10 @@ IsFirstCut dialect text (Some i) =
 -- the pieces of a text: joined by newlines they are the text, each but the last is one that a newline ends
 pub data Pieces (dialect : Dialect) : List ℕ → List (List ℕ) → Type 0 where
   last : (piece : List ℕ) → IsLastPiece dialect piece → Pieces dialect piece (piece ∷ [])
-  cut : (piece text : List ℕ) (pieces : List (List ℕ)) → IsCutPiece dialect piece → Pieces dialect text pieces → Pieces dialect (piece ++ newline ∷ text) (piece ∷ pieces)
+  cut : (piece text : List ℕ) (pieces : List (List ℕ)) → IsCutPiece dialect piece → Pieces dialect text pieces
+      → Pieces dialect (piece ++ newline ∷ text) (piece ∷ pieces)
 
--- what a splitter has left: the text behind the last cut, unless the last piece was given
+-- what a splitter has left: the text after the last cut, unless the last piece was given
 pub record Left : Type 0 where
   pub dialect : Dialect
   pub text : Option (List ℕ)

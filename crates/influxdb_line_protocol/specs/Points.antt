@@ -1,5 +1,6 @@
 -- Points, which of them are admitted, and the lines that the builder writes for them.
-use Rattle.std.specs.Prelude.{ℕ, ◌<◌, ℤ, ◌≡◌, ◌==◌, ◌&&◌, ◌^◌, Bool, true, false, not, List, [], ◌∷◌, ◌++◌, length, slice_index, codes, Option, Some, None, decimal, IfSome}
+use Rattle.std.specs.Prelude.{ℕ, ◌<◌, ℤ, ◌≡◌, ◌==◌, ◌&&◌, ◌^◌, Bool, true, false, not, List, [], ◌∷◌, ◌++◌, length}
+use Rattle.std.specs.Prelude.{slice_index, codes, Option, Some, None, decimal, IfSome}
 use Rattle.std.specs.List.{list_all, flat_map, AllByRecursion}
 use Rattle.std.specs.Fmt.{signed_decimal}
 use Rattle.influxdb_line_protocol.specs.Bytes.{nul, tab, newline, space, quote, hash, comma, equals, letter_i, letter_u, is_one_of}
@@ -7,7 +8,7 @@ use Rattle.influxdb_line_protocol.specs.Escapes.{escaped}
 use Rattle.influxdb_line_protocol.specs.Names.{NameKind, a_measurement, a_tag_key, a_tag_value, a_field_key, escapable, ends_in_backslash}
 use Rattle.influxdb_line_protocol.specs.Values.{IsFloat, Value, integer, unsigned, float, string, boolean, quotable, fits_i64}
 
--- a key and what it stands for: a tag, or a field
+-- a key and the logical text of it: a tag, or a field
 pub record Pair (K A : Type 0) : Type 0 where
   pub key : K
   pub value : A
@@ -87,14 +88,14 @@ built_value (boolean false) = codes "false"
 abbrev pub built_tag : Tag → List ℕ
 built_tag t = comma ∷ spelling a_tag_key t.key ++ equals ∷ spelling a_tag_value t.value
 
--- a field whose value has this text, without what divides it from what stands before
+-- a field whose value has this text, without what divides it from what comes before
 abbrev pub field_text : List ℕ → List ℕ → List ℕ
 field_text key value = spelling a_field_key key ++ equals ∷ value
 
 abbrev pub built_field : Field → List ℕ
 built_field f = field_text f.key (built_value f.value)
 
--- the fields, the first behind this byte and each other behind a comma
+-- the fields, the first after this byte and each other after a comma
 abbrev pub built_fields : ℕ → List Field → List ℕ
 built_fields before [] = []
 built_fields before (f ∷ fields) = before ∷ built_field f ++ built_fields comma fields

@@ -4,7 +4,7 @@ use Rattle.influxdb_line_protocol.specs.declared.error.Error.{Error}
 use Rattle.influxdb_line_protocol.specs.declared.line.ParsedLine.{ParsedLine}
 use Rattle.influxdb_line_protocol.specs.Light.{is_light_in}
 use Rattle.influxdb_line_protocol.specs.Lookups.{room_of, some_items}
-use Rattle.influxdb_line_protocol.specs.Outcomes.{HasMemory}
+use Rattle.influxdb_line_protocol.specs.Outcomes.{IsNotOutOfMemory}
 use Rattle.influxdb_line_protocol.specs.Texts.{text_of}
 use Rattle.influxdb_line_protocol.specs.ParseSteps.{GaveLine}
 use Rattle.influxdb_line_protocol.specs.Pieces.{Left, PiecesLeft}
@@ -31,11 +31,11 @@ abbrev pub KeepsTagRoom : ParsedLine → ParsedLine → Type 0
 KeepsTagRoom old new = IfSome new.series.tag_set (λ tags. room_of old.series.tag_set ≤ tags.capacity)
 
 -- the line of the first piece that is not blank was read into sets with room for so many tags and fields: it is not
--- answered with want of memory where none is needed in that room
+-- answered with `OutOfMemory` where none is needed in that room
 pub record GaveInRoom {X : Type 0} (tags fields : ℕ) (before : Left) (answer : Result X Error) (others : List (List ℕ)) : Type 0 where
   pub line : List ℕ
   pub gave : GaveLine before line others
-  pub light : is_light_in tags fields before.dialect line ≡ true → HasMemory answer
+  pub light : is_light_in tags fields before.dialect line ≡ true → IsNotOutOfMemory answer
 
 -- so it is with a call, where it answers
 abbrev pub GivesInRoom : {X : Type 0} → ℕ → ℕ → Left → Option (Result X Error) → Left → Type 0

@@ -27,7 +27,7 @@ pub data Reading (A : Type 0) : Type 0 where
   fatal : Fault → Reading A
   reads : A → List ℕ → Reading A
 
--- then: what is behind the front is read too
+-- then: what is after the front is read too
 infixl 10 ◌>>=◌
 abbrev pub ◌>>=◌ : {A B : Type 0} → Reading A → (Read A → Reading B) → Reading B
 miss >>= f = miss

@@ -8,7 +8,7 @@ use Rattle.influxdb_line_protocol.specs.Bytes.{backslash, comma, is_one_of}
 use Rattle.influxdb_line_protocol.specs.Readings.{Text, Reading, miss, fatal, reads}
 use Rattle.influxdb_line_protocol.specs.Values.{Value}
 use Rattle.influxdb_line_protocol.specs.Points.{Pair}
-use Rattle.influxdb_line_protocol.specs.Lines.{byte, joined, tag}
+use Rattle.influxdb_line_protocol.specs.Lines.{byte, separated_list, tag}
 use Rattle.influxdb_line_protocol.specs.Light.{carries_no_text, is_single_tag, read_count}
 use Rattle.influxdb_line_protocol.specs.Parsed.{field_of}
 
@@ -20,7 +20,7 @@ fields_of fields = map field_of fields.items
 abbrev pub HasBackslash : List ℕ → Type 0
 HasBackslash text = is_one_of text backslash ≡ true
 
--- reading a set in front of a text needs memory: the fault carries a text or the text holds a backslash, or the text
+-- reading a set at the start of a text needs memory: the fault carries a text or the text holds a backslash, or the text
 -- holds one, and what is read is not light
 abbrev pub CopiesIn : {A : Type 0} → (A → Bool) → List ℕ → Reading (List A) → Type 0
 CopiesIn is_light text miss = ⊥
@@ -30,9 +30,9 @@ CopiesIn is_light text (reads xs rest) = HasBackslash text × (list_all is_light
 -- reading those that are joined by commas needs memory: there are more than so many, or for one of them
 abbrev pub SetNeedsMemory : {A : Type 0} → ℕ → (A → Bool) → (List ℕ → Reading A) → List ℕ → Type 0
 SetNeedsMemory room is_light one text =
-    (nat_le (read_count one text) room ≡ false) ⊎ CopiesIn is_light text (joined one text)
+    (nat_le (read_count one text) room ≡ false) ⊎ CopiesIn is_light text (separated_list one text)
 
--- reading the tags behind a measurement needs memory where there is room for so many: a comma stands there, and those
--- behind it do
+-- reading the tags after a measurement needs memory where there is room for so many: a comma is there, and those
+-- after it do
 abbrev pub TagsNeedMemory : ℕ → List ℕ → Type 0
-TagsNeedMemory room text = (behind : List ℕ) × (byte comma text ≡ reads comma behind) × SetNeedsMemory room is_single_tag tag behind
+TagsNeedMemory room text = (after : List ℕ) × (byte comma text ≡ reads comma after) × SetNeedsMemory room is_single_tag tag after

@@ -36,7 +36,7 @@ shown_tag t = shown_key t.key ++ equals ∷ shown_key t.value
 abbrev pub shown_field : Pair Text (Value Text) → List ℕ
 shown_field f = shown_key f.key ++ equals ∷ shown_value f.value
 
--- what stands before the item at this place in a list with commas
+-- what comes before the item at this place in a list with commas
 abbrev pub comma_before : ℕ → List ℕ
 comma_before zero = []
 comma_before (suc place) = comma ∷ []

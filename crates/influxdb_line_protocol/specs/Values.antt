@@ -1,12 +1,15 @@
 -- Values of fields.
-use Rattle.std.specs.Prelude.{◌≡◌, ◌⊎◌, ◌++◌, ℕ, ℤ, pos, negsuc, ◌+◌, ◌-◌, ◌^◌, ◌==◌, ◌&&◌, Bool, true, false, not, List, [], ◌∷◌, length, take, drop, slice_index, codes, if◌then◌else◌, nat_lt, int_le, int_lt}
+use Rattle.std.specs.Prelude.{◌≡◌, ◌⊎◌, ◌++◌, ℕ, ℤ, pos, negsuc, ◌+◌, ◌-◌, ◌^◌, ◌==◌, ◌&&◌, Bool, true, false, not}
+use Rattle.std.specs.Prelude.{List, [], ◌∷◌, length, take, drop, slice_index, codes, if◌then◌else◌, nat_lt, int_le}
+use Rattle.std.specs.Prelude.{int_lt}
 use Rattle.std.specs.List.{fold, prefix_len, starts_with}
 use Rattle.std.specs.Char.{is_ascii_digit}
 use Rattle.std.specs.Str.Parse.{IsNumeral, digits_value, signed_digits_value}
 use Rattle.influxdb_line_protocol.specs.Bytes.{quote, minus, backslash, letter_i, letter_u, is_one_of}
 use Rattle.influxdb_line_protocol.specs.Escapes.{first_bare}
 use Rattle.influxdb_line_protocol.specs.Names.{read_text}
-use Rattle.influxdb_line_protocol.specs.Readings.{Side, above, below, integer_value_invalid, uinteger_value_invalid, Text, Reading, miss, fatal, reads, ◌otherwise◌}
+use Rattle.influxdb_line_protocol.specs.Readings.{Side, above, below, integer_value_invalid, uinteger_value_invalid}
+use Rattle.influxdb_line_protocol.specs.Readings.{Text, Reading, miss, fatal, reads, ◌otherwise◌}
 
 -- a value whose strings are of this type, without where it lies in memory
 pub data Value (T : Type 0) : Type 0 where
@@ -16,15 +19,15 @@ pub data Value (T : Type 0) : Type 0 where
   string : T → Value T
   boolean : Bool → Value T
 
--- how many digits stand in front
+-- how many digits are at the start
 abbrev pub digits_len : List ℕ → ℕ
 digits_len text = prefix_len is_ascii_digit text
 
--- how many bytes one of these signs takes in front
+-- how many bytes one of these signs takes at the start
 abbrev pub sign_len : List ℕ → List ℕ → ℕ
 sign_len signs text = if is_one_of signs (slice_index text 0) then 1 else 0
 
--- how many bytes a number takes in front, with one of these signs or none, and 0 where none stands there
+-- how many bytes a number takes at the start, with one of these signs or none, and 0 where none is there
 abbrev pub number_len : List ℕ → List ℕ → ℕ
 number_len signs text =
     let sign = sign_len signs text in
@@ -34,7 +37,7 @@ number_len signs text =
 abbrev pub integer_len : List ℕ → ℕ
 integer_len text = number_len (codes "-") text
 
--- how many bytes one of these marks takes with the part behind it, and 0 where either does not stand there
+-- how many bytes one of these marks takes with the part after it, and 0 where either is not there
 abbrev pub marked_len : List ℕ → (List ℕ → ℕ) → List ℕ → ℕ
 marked_len marks part text =
     if is_one_of marks (slice_index text 0) && nat_lt 0 (part (drop 1 text)) then 1 + part (drop 1 text) else 0
@@ -52,7 +55,7 @@ float_len text =
     let fraction = fraction_len (drop whole text) in
     if whole == 0 then 0 else whole + fraction + exponent_len (drop (whole + fraction) text)
 
--- digits behind one of these signs or none
+-- digits after one of these signs or none
 abbrev pub IsSigned : List ℕ → List ℕ → Type 0
 IsSigned signs [] = ⊥
 IsSigned signs (b ∷ digits) = ((is_one_of signs b ≡ true) × IsNumeral 10 digits) ⊎ IsNumeral 10 (b ∷ digits)
@@ -104,23 +107,23 @@ float_at text = if float_len text == 0 then miss else reads (float (take (float_
 abbrev pub quotable : List ℕ
 quotable = quote ∷ backslash ∷ []
 
--- how many bytes stand before the quote that closes a string
+-- how many bytes come before the quote that closes a string
 abbrev pub body_len : List ℕ → ℕ
-body_len behind = first_bare (λ b. b == quote) behind
+body_len after = first_bare (λ b. b == quote) after
 
 -- a quote, a body and the next quote that is bare in the body
 unfoldable pub string_at : List ℕ → Reading (Value Text)
 string_at [] = miss
-string_at (b ∷ behind) =
-    if b == quote && nat_lt (body_len behind) (length behind)
-    then reads (string (read_text quotable (take (body_len behind) behind))) (drop (body_len behind + 1) behind)
+string_at (b ∷ after) =
+    if b == quote && nat_lt (body_len after) (length after)
+    then reads (string (read_text quotable (take (body_len after) after))) (drop (body_len after + 1) after)
     else miss
 
 -- the longer of two fronts
 abbrev pub longer_front : List ℕ → ℕ → List ℕ → ℕ
 longer_front text n word = if starts_with (λ a b. a == b) text word && nat_lt n (length word) then length word else n
 
--- how many bytes the longest of these words takes in front
+-- how many bytes the longest of these words takes at the start
 abbrev pub word_len : List (List ℕ) → List ℕ → ℕ
 word_len words text = fold (λ n word. longer_front text n word) 0 words
 
@@ -135,7 +138,7 @@ unfoldable pub boolean_at : Bool → List (List ℕ) → List ℕ → Reading (V
 boolean_at b words text =
     if word_len words text == 0 then miss else reads (boolean b) (drop (word_len words text) text)
 
--- the value in front of a text, by the first case that does not miss
+-- the value at the start of a text, by the first case that does not miss
 unfoldable pub value : List ℕ → Reading (Value Text)
 value text =
     integer_at text otherwise unsigned_at text otherwise float_at text otherwise string_at text

@@ -30,7 +30,7 @@ point_field f = logical_field (field_of f)
 abbrev pub tag_text : EscapedStr × EscapedStr → List ℕ
 tag_text t = built_tag (point_tag t)
 
--- the texts of the fields, the first behind this byte and each other behind a comma
+-- the texts of the fields, the first after this byte and each other after a comma
 abbrev pub fields_text : ℕ → List (EscapedStr × FieldValue) → List ℕ
 fields_text before fields = built_fields before (map logical_field (map field_of fields))
 

@@ -1,10 +1,11 @@
 //! Writes lines, in typed states.
 //!
 //! A [`LineProtocolBuilder`] begins before a measurement. Its type says what may come next, so a
-//! line without a field, a tag behind a field or a second timestamp does not compile, and
+//! line without a field, a tag after a field or a second timestamp does not compile, and
 //! [`LineProtocolBuilder::build`] gives the buffer back between two lines alone.
 
-ghost use Rattle.std.specs.Prelude.{◌≡◌, ◌≢◌, ◌+◌, ◌-◌, ◌<◌, ◌≤◌, ◌^◌, ◌↔◌, List, [], ◌∷◌, ◌++◌, ℕ, true, length, IfOk, IfErr, IfNone, IfSome, OnOk, OnErr, IsOk, IsErr, vec_len, vec_capacity};
+ghost use Rattle.std.specs.Prelude.{◌≡◌, ◌≢◌, ◌+◌, ◌-◌, ◌<◌, ◌≤◌, ◌^◌, ◌↔◌, List, [], ◌∷◌, ◌++◌, ℕ, true, length, IfOk};
+ghost use Rattle.std.specs.Prelude.{IfErr, IfNone, IfSome, OnOk, OnErr, IsOk, IsErr, vec_len, vec_capacity};
 ghost use Rattle.std.specs.List.{count_by};
 ghost use Rattle.std.specs.Option.{SomeIff};
 ghost use Rattle.std.specs.Fmt.{decimal, signed_decimal};
@@ -74,7 +75,7 @@ pub trait BufMut: Drop {
         ensures room { room self.old ≤ room self.new + length s.now };
 }
 
-/// A `Vec` grows, so its room is what its capacity leaves free, and it refuses for want of memory
+/// A `Vec` grows, so its room is what its capacity leaves free, and it refuses for `OutOfMemory`
 /// alone.
 impl<A: Allocator> BufMut for Vec<u8, A> {
     ghost bytes = { λ v. v.items };
@@ -192,7 +193,7 @@ fn escaped_len(escapes: Escapes, text: &[u8]) -> usize
     text.len() + backslashes(escapes, text)
 }
 
-// The first byte of `text` that gets a backslash: what stands before it, the byte, and what follows.
+// The first byte of `text` that gets a backslash: what comes before it, the byte, and what follows.
 #[inline(always)]
 fn next_escape(escapes: Escapes, text: &[u8]) -> Option<(&[u8], u8, &[u8])>
     ensures some { IfSome result (λ p. escaped (bytes_of escapes) text.now
@@ -626,7 +627,7 @@ impl<B: BufMut> LineProtocolBuilder<B, AfterMeasurement> {
 }
 
 impl<B: BufMut> LineProtocolBuilder<B, AfterField> {
-    /// Appends a field behind the first: a comma, and then as there.
+    /// Appends a field after the first: a comma, and then as there.
     ///
     /// # Errors
     ///

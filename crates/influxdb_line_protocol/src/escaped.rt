@@ -26,7 +26,7 @@ pub enum EscapedStr<'a> {
     CopiedValue(String),
 }
 
-/// The name in front of a line.
+/// The name at the start of a line.
 pub type Measurement<'a> = EscapedStr<'a>;
 
 /// The empty text.

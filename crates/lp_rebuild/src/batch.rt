@@ -40,7 +40,7 @@ struct Progress {
 // What is wrong with a line that has a name that is not admitted.
 const NOT_ADMITTED: &str = "a name cannot be written again";
 
-// Writes the line again, behind `batch`.
+// Writes the line again, after `batch`.
 fn carry(batch: Vec<u8>, line: &ParsedLine<'_>) -> Result<Vec<u8>, AllocError>
     requires { 0 < length line.now.field_set.items }
     ensures { IfOk result (λ longer. longer.items ≡ batch.items ++ built (parsed_point line.now)) }
@@ -119,7 +119,7 @@ fn take(
 /// Writes again each line of a text whose names are all admitted, and refuses every other item.
 ///
 /// [`is_admitted`] says which lines these are. For every other item `faults` gains `item N: TEXT` and
-/// a newline, where TEXT is the error, or `a name cannot be written again`. With any text behind it,
+/// a newline, where TEXT is the error, or `a name cannot be written again`. With any text after it,
 /// `batch` reads back as the lines that were written, and then as that text alone.
 ///
 /// The text is read once. A carried line takes no memory but for the growth of `batch`.

@@ -8,11 +8,15 @@ ghost use Rattle.influxdb_line_protocol.specs.Bytes.{is_one_of, space};
 ghost use Rattle.influxdb_line_protocol.specs.Lines.{some_tags};
 ghost use Rattle.influxdb_line_protocol.specs.Outcomes.{kind_of};
 ghost use Rattle.influxdb_line_protocol.specs.Parsed.{parsed_point, tag_of, tags_of};
-ghost use Rattle.influxdb_line_protocol.specs.Points.{built, built_timestamp, built_value, field_text, is_admitted_field, is_admitted_name, is_admitted_point, is_admitted_tag, never_in, spelling};
+ghost use Rattle.influxdb_line_protocol.specs.Points.{built, built_timestamp, built_value, field_text};
+ghost use Rattle.influxdb_line_protocol.specs.Points.{is_admitted_field, is_admitted_name, is_admitted_point};
+ghost use Rattle.influxdb_line_protocol.specs.Points.{is_admitted_tag, never_in, spelling};
 ghost use Rattle.influxdb_line_protocol.specs.Values.{float};
 ghost use Rattle.influxdb_line_protocol.specs.Literals.{literal_of};
 ghost use Rattle.influxdb_line_protocol.specs.Texts.{text_of};
-ghost use Rattle.influxdb_line_protocol.specs.WrittenAgain.{ArePlainParts, IsPlainField, IsPlainTag, IsPlainValue, fields_text, parts_text, point_field, point_tag, tag_text, value_text};
+ghost use Rattle.influxdb_line_protocol.specs.WrittenAgain.{ArePlainParts, IsPlainField, IsPlainTag, IsPlainValue};
+ghost use Rattle.influxdb_line_protocol.specs.WrittenAgain.{fields_text, parts_text, point_field, point_tag, tag_text};
+ghost use Rattle.influxdb_line_protocol.specs.WrittenAgain.{value_text};
 ghost use Rattle.influxdb_line_protocol.specs.Marks.{listed};
 ghost use Rattle.influxdb_line_protocol.specs.Built.{Writes, buffer_of};
 
@@ -244,7 +248,7 @@ fn measure_value(value: &values::FieldValue<'_>) -> Option<Extent>
 }
 
 // The length of the fields, each with the byte before it, where a `usize` holds it, and whether none gets a backslash.
-#[tactic(auto, using(crate::proofs::WrittenAgainLemmas::length_fields_behind))]
+#[tactic(auto, using(crate::proofs::WrittenAgainLemmas::length_fields_after))]
 fn measure_fields(fields: &[(EscapedStr<'_>, values::FieldValue<'_>)]) -> Option<Extent>
     ensures len { let text = fields_text space fields.now in
         SomeIff (option_map (λ m. m.len) result) (length text < 2 ^ 64) (length text) }

@@ -1,4 +1,5 @@
-use Rattle.std.proofs.Common.{◌≡◌, ◌+◌, length, drop, slice_index, true, false, sym, ap, ◌∙◌, arith, string_bytes, length-append, append_assoc, ℕ, List, ◌<◌}
+use Rattle.std.proofs.Common.{◌≡◌, ◌+◌, length, drop, slice_index, true, false, sym, ap, ◌∙◌, arith, string_bytes}
+use Rattle.std.proofs.Common.{length-append, append_assoc, ℕ, List, ◌<◌}
 use Rattle.std.proofs.lemmas.Bool.{not-false, eqb-true}
 use Rattle.std.proofs.lemmas.Str.{IsCharBoundary-start, IsCharBoundary-before_ascii}
 use Rattle.influxdb_line_protocol.specs.Bytes.{is_one_of}
@@ -70,22 +71,39 @@ pub returns-in_err-push_str-2-clause-has_room : goal.returns-in_err-push_str-2-c
 returns-in_err-push_str-2-clause-has_room c =
     let bytes = c.as_bytes-bytes.result.now in
     let inv = c.loop-at.invariant in
-    let whole = whole_last (known_of c.args.form) bytes (string_bytes c.loop-at.to) _ c.loop-at.from c.loop-at.at inv.ordered inv.within c.loop-at-test.false inv.whole in
+    let whole = whole_last (known_of c.args.form) bytes (string_bytes c.loop-at.to) _ c.loop-at.from
+    c.loop-at.at inv.ordered inv.within c.loop-at-test.false inv.whole in
     let rest : c.range_from.result.now ≡ drop c.loop-at.from bytes = rw c.as_bytes-bytes.ensures.value c.range_from.ensures.value in
-    absurd (omega (arith, c.in_err-push_str-2.ensures.full, ap length whole, length-append (string_bytes c.loop-at.to) (drop c.loop-at.from bytes), ap length rest, inv.room))
+    absurd (omega (
+      arith,
+      c.in_err-push_str-2.ensures.full,
+      ap length whole,
+      length-append (string_bytes c.loop-at.to) (drop c.loop-at.from bytes),
+      ap length rest,
+      inv.room,
+    ))
 
 pub returns-in_err-push_str-2-clause-text : goal.returns-in_err-push_str-2-clause-text
 returns-in_err-push_str-2-clause-text c =
     let bytes = c.as_bytes-bytes.result.now in
     let inv = c.loop-at.invariant in
-    let whole = whole_last (known_of c.args.form) bytes (string_bytes c.loop-at.to) _ c.loop-at.from c.loop-at.at inv.ordered inv.within c.loop-at-test.false inv.whole in
+    let whole = whole_last (known_of c.args.form) bytes (string_bytes c.loop-at.to) _ c.loop-at.from
+    c.loop-at.at inv.ordered inv.within c.loop-at-test.false inv.whole in
     let rest : c.range_from.result.now ≡ drop c.loop-at.from bytes = rw c.as_bytes-bytes.ensures.value c.range_from.ensures.value in
-    absurd (omega (arith, c.in_err-push_str-2.ensures.full, ap length whole, length-append (string_bytes c.loop-at.to) (drop c.loop-at.from bytes), ap length rest, inv.room))
+    absurd (omega (
+      arith,
+      c.in_err-push_str-2.ensures.full,
+      ap length whole,
+      length-append (string_bytes c.loop-at.to) (drop c.loop-at.from bytes),
+      ap length rest,
+      inv.room,
+    ))
 
 pub returns-clause-text : goal.returns-clause-text
 returns-clause-text c =
     let bytes = c.as_bytes-bytes.result.now in
     let inv = c.loop-at.invariant in
-    let whole = whole_last (known_of c.args.form) bytes (string_bytes c.loop-at.to) _ c.loop-at.from c.loop-at.at inv.ordered inv.within c.loop-at-test.false inv.whole in
+    let whole = whole_last (known_of c.args.form) bytes (string_bytes c.loop-at.to) _ c.loop-at.from
+    c.loop-at.at inv.ordered inv.within c.loop-at-test.false inv.whole in
     let rest : c.range_from.result.now ≡ drop c.loop-at.from bytes = rw c.as_bytes-bytes.ensures.value c.range_from.ensures.value in
     c.in_ok-push_str-2.ensures.bytes ∙ rw (rest, ← c.as_bytes-bytes.ensures.value) whole

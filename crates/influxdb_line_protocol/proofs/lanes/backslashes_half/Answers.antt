@@ -11,4 +11,5 @@ pub returns : goal.returns
 returns c =
     let v = chunk c.args.at 8 c.args.bytes.now in
     let long = length-chunk c.args.at 8 c.args.bytes.now c.requires in
-    mask_is (is_end (λ b. false)) c.args.bytes.now c.args.at 8 c.requires (omega arith) _ _ (lanes_of v 92 long) (λ k. (c.type_inv.bytes k).fits) refl
+    mask_is (is_end (λ b. false)) c.args.bytes.now c.args.at 8 c.requires (omega arith) _ _ (lanes_of v 92 long)
+    (λ k. (c.type_inv.bytes k).fits) refl

@@ -4,4 +4,5 @@ use Rattle.influxdb_line_protocol.specs.Bases.{base_text, based_tag, entry_bytes
 use Rattle.influxdb_line_protocol.proofs.series.base_of_map.Given as goal
 
 abbrev pub invariant-loop-key : goal.invariant-loop-key
-invariant-loop-key l = string_bytes l.base ++ flat_map based_tag (map entry_bytes l.key-iterator) ≡ base_text l.fn.measurement (map entry_bytes l.tags.entries)
+invariant-loop-key l = string_bytes l.base ++ flat_map based_tag (map entry_bytes l.key-iterator) ≡ base_text
+    l.fn.measurement (map entry_bytes l.tags.entries)

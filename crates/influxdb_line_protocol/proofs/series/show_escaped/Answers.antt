@@ -31,7 +31,8 @@ loop-at-preserved g c =
                 let so_far = wrote plain in
                 let one = w.write_str.ensures.writes so_far.plain (search rules) in
                 let two = w.write_str-then-escapes.ensures.writes one.plain (search rules) in
-                has_written_of_eq _ _ _ _ _ (grind (arith, common_steps, append_assoc)) (has_written_append _ _ _ _ _ _ (has_written_append _ _ _ _ _ _ so_far one) two),
+                has_written_of_eq _ _ _ _ _ (grind (arith, common_steps, append_assoc))
+                (has_written_append _ _ _ _ _ _ (has_written_append _ _ _ _ _ _ so_far one) two),
           )
       | else-escapes w ↦
           let plain : is_one_of bytes (get_or text l.at 0) ≡ false = grind (arith, common_steps) in

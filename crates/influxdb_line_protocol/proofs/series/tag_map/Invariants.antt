@@ -12,6 +12,7 @@ use Rattle.influxdb_line_protocol.proofs.series.tag_map.Given as goal
 abbrev pub invariant-loop-key : goal.invariant-loop-key
 invariant-loop-key l = record {
   entries : map entry_bytes l.map.entries ≡ by_key (map tag_of (take l.key-index l.tags));
-  has : (q : List ℕ) → is_some (get_by (λ k. slice_cmp nat_cmp q k.now) l.map) ≡ list_any (bytes_eq q) (take l.key-index (keys_of (map tag_of l.tags)));
+  has : (q : List ℕ) → is_some (get_by (λ k. slice_cmp nat_cmp q k.now) l.map) ≡ list_any (bytes_eq q)
+      (take l.key-index (keys_of (map tag_of l.tags)));
   passed : (k : ℕ) → k < l.key-index → is_repeated_at (keys_of (map tag_of l.tags)) k ≡ false;
 }

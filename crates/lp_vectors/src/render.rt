@@ -28,30 +28,30 @@ pub fn value(alloc: Global, value: &FieldValue<'_>) -> Result<String, AllocError
 
 /// What was read of a line.
 pub fn line(alloc: Global, line: &ParsedLine<'_>) -> Result<String, AllocError> {
-    let mut told = name(alloc, &line.series.measurement)?;
+    let mut rendered = name(alloc, &line.series.measurement)?;
     if let Some(tags) = &line.series.tag_set {
         for (key, tag_value) in tags.as_slice() {
             let key = name(alloc, key)?;
             let tag_value = name(alloc, tag_value)?;
-            told.push_str(",")?;
-            told.push_str(key.as_str())?;
-            told.push_str("=")?;
-            told.push_str(tag_value.as_str())?;
+            rendered.push_str(",")?;
+            rendered.push_str(key.as_str())?;
+            rendered.push_str("=")?;
+            rendered.push_str(tag_value.as_str())?;
         }
     }
     for (key, field_value) in line.field_set.as_slice() {
         let key = name(alloc, key)?;
         let field_value = value(alloc, field_value)?;
-        told.push_str(" ")?;
-        told.push_str(key.as_str())?;
-        told.push_str("=")?;
-        told.push_str(field_value.as_str())?;
+        rendered.push_str(" ")?;
+        rendered.push_str(key.as_str())?;
+        rendered.push_str("=")?;
+        rendered.push_str(field_value.as_str())?;
     }
     if let Some(timestamp) = line.timestamp {
         let timestamp = format!(in alloc; " at {timestamp}")?;
-        told.push_str(timestamp.as_str())?;
+        rendered.push_str(timestamp.as_str())?;
     }
-    Ok(told)
+    Ok(rendered)
 }
 
 /// A fault.
@@ -87,38 +87,38 @@ pub fn items(alloc: Global, input: &str) -> Result<String, AllocError> {
 /// The same, by the rules of a dialect. They are read twice, each by itself and all into one line: where the two differ,
 /// both are told.
 pub fn items_in(alloc: Global, dialect: Dialect, input: &str) -> Result<String, AllocError> {
-    let told = items_by_themselves(alloc, dialect, input)?;
+    let rendered = items_by_next(alloc, dialect, input)?;
     let again = items_into_one(alloc, dialect, input)?;
-    if told.as_str() != again.as_str() {
-        return format!(in alloc; "{told}, but into one line {again}");
+    if rendered.as_str() != again.as_str() {
+        return format!(in alloc; "{rendered}, but into one line {again}");
     }
-    Ok(told)
+    Ok(rendered)
 }
 
 // One more item.
-fn push_item(told: &mut String, item: &str) -> Result<(), AllocError> {
-    if !told.is_empty() {
-        told.push_str("|")?;
+fn push_item(rendered: &mut String, item: &str) -> Result<(), AllocError> {
+    if !rendered.is_empty() {
+        rendered.push_str("|")?;
     }
-    told.push_str(item)
+    rendered.push_str(item)
 }
 
 // The items of a text, by `next`.
-fn items_by_themselves(alloc: Global, dialect: Dialect, input: &str) -> Result<String, AllocError> {
-    let mut told = String::new(alloc);
+fn items_by_next(alloc: Global, dialect: Dialect, input: &str) -> Result<String, AllocError> {
+    let mut rendered = String::new(alloc);
     for item in parse_lines_in(alloc, dialect, input) {
         let one = match &item {
             Ok(parsed) => line(alloc, parsed)?,
             Err(error) => fault(alloc, error)?,
         };
-        push_item(&mut told, one.as_str())?;
+        push_item(&mut rendered, one.as_str())?;
     }
-    Ok(told)
+    Ok(rendered)
 }
 
 // The items of a text, by `next_into`.
 fn items_into_one(alloc: Global, dialect: Dialect, input: &str) -> Result<String, AllocError> {
-    let mut told = String::new(alloc);
+    let mut rendered = String::new(alloc);
     let mut lines = parse_lines_in(alloc, dialect, input);
     let mut parsed = ParsedLine::new(alloc);
     while let Some(answer) = lines.next_into(&mut parsed) {
@@ -126,9 +126,9 @@ fn items_into_one(alloc: Global, dialect: Dialect, input: &str) -> Result<String
             Ok(()) => line(alloc, &parsed)?,
             Err(error) => fault(alloc, error)?,
         };
-        push_item(&mut told, one.as_str())?;
+        push_item(&mut rendered, one.as_str())?;
     }
-    Ok(told)
+    Ok(rendered)
 }
 
 /// The pieces of a text, each between `<` and `>`.
@@ -138,11 +138,11 @@ pub fn pieces(alloc: Global, input: &str) -> Result<String, AllocError> {
 
 /// The same, by the rules of a dialect.
 pub fn pieces_in(alloc: Global, dialect: Dialect, input: &str) -> Result<String, AllocError> {
-    let mut told = String::new(alloc);
+    let mut rendered = String::new(alloc);
     for piece in split_lines_in(dialect, input) {
-        told.push_str("<")?;
-        told.push_str(piece)?;
-        told.push_str(">")?;
+        rendered.push_str("<")?;
+        rendered.push_str(piece)?;
+        rendered.push_str(">")?;
     }
-    Ok(told)
+    Ok(rendered)
 }

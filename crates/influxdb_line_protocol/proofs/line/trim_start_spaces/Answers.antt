@@ -1,7 +1,7 @@
 use Rattle.std.proofs.Common.{◌≡◌}
 use Rattle.influxdb_line_protocol.specs.Lines.{spaces}
 use Rattle.influxdb_line_protocol.proofs.LineLemmas.{spaces_boundary}
-use Rattle.influxdb_line_protocol.proofs.line.behind_spaces.Goals as goal
+use Rattle.influxdb_line_protocol.proofs.line.trim_start_spaces.Goals as goal
 
 pub range_from-requires : goal.range_from-requires
 range_from-requires c =

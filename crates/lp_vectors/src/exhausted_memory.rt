@@ -6,7 +6,7 @@ use std::alloc::{AllocError, Global};
 
 /// All the memory that the process could get, in blocks.
 #[derive(Drop)]
-pub struct Hoard {
+pub struct ExhaustedMemory {
     blocks: Vec<Vec<u8>>,
     left: Vec<Vec<u8>>,
 }
@@ -22,9 +22,9 @@ fn take_all(alloc: Global, size: usize, blocks: &mut Vec<Vec<u8>>) -> Result<(),
     Ok(())
 }
 
-impl Hoard {
+impl ExhaustedMemory {
     /// Takes blocks, the largest first, until 16 bytes are refused.
-    pub fn new(alloc: Global) -> Result<Hoard, AllocError> {
+    pub fn new(alloc: Global) -> Result<ExhaustedMemory, AllocError> {
         let mut blocks = Vec::with_capacity(alloc, 65_536)?;
         let mut size = 1usize << 46;
         for _ in 0..36 {
@@ -36,11 +36,11 @@ impl Hoard {
             take_all(alloc, 1_032 - 16 * step, &mut blocks)?;
         }
         let left = Vec::new(alloc);
-        Ok(Hoard { blocks, left })
+        Ok(ExhaustedMemory { blocks, left })
     }
 
     /// The same, but one request for each of these sizes is granted, where it is for a new block. Up to 1,032 bytes each.
-    pub fn leaving(alloc: Global, sizes: &[usize]) -> Result<Hoard, AllocError> {
+    pub fn leaving(alloc: Global, sizes: &[usize]) -> Result<ExhaustedMemory, AllocError> {
         let mut left = Vec::with_capacity(alloc, sizes.len())?;
         for size in sizes {
             let block = Vec::with_capacity(alloc, *size)?;
@@ -48,22 +48,22 @@ impl Hoard {
                 return Err(AllocError);
             }
         }
-        let mut hoard = Hoard::new(alloc)?;
+        let mut exhausted = ExhaustedMemory::new(alloc)?;
         left.clear();
-        hoard.left = left;
-        Ok(hoard)
+        exhausted.left = left;
+        Ok(exhausted)
     }
 
     /// The same, but about so many bytes are granted, in requests of any size.
-    pub fn leaving_bytes(alloc: Global, bytes: usize) -> Result<Hoard, AllocError>
+    pub fn leaving_bytes(alloc: Global, bytes: usize) -> Result<ExhaustedMemory, AllocError>
         requires { bytes < 4096 }
     {
         let room: Vec<u8> = Vec::with_capacity(alloc, 4_096)?;
-        let mut hoard = Hoard::new(alloc)?;
+        let mut exhausted = ExhaustedMemory::new(alloc)?;
         drop(room);
         let rest = Vec::with_capacity(alloc, 4_096 - bytes)?;
-        hoard.blocks.push(rest)?;
-        Ok(hoard)
+        exhausted.blocks.push(rest)?;
+        Ok(exhausted)
     }
 
     /// How many blocks were taken.

@@ -63,11 +63,11 @@ fn is_split_so(text: &str) -> bool {
     let mut left = Some(text.as_bytes());
     for piece in split_lines(text) {
         let Some(here) = left else { return false };
-        let (first, behind) = first_piece(here);
+        let (first, after) = first_piece(here);
         if piece.as_bytes() != first {
             return false;
         }
-        left = behind;
+        left = after;
     }
     left.is_none()
 }
