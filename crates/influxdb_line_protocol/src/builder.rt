@@ -12,13 +12,13 @@ ghost use Rattle.std.specs.Fmt.{decimal, signed_decimal};
 ghost use Rattle.arrayvec.specs.ArrayVec.{array_vec_len};
 ghost use Rattle.influxdb_line_protocol.specs.declared.builder.NoRoom.{NoRoom};
 ghost use Rattle.influxdb_line_protocol.specs.declared.builder.NoRoom.TheVariants.{OutOfMemory, Full, TooLong};
-ghost use Rattle.influxdb_line_protocol.specs.Bytes.{backslash, is_one_of, newline, space, comma};
-ghost use Rattle.influxdb_line_protocol.specs.Escapes.{escaped};
-ghost use Rattle.influxdb_line_protocol.specs.Names.{a_measurement};
-ghost use Rattle.influxdb_line_protocol.specs.Values.{integer, unsigned, string, boolean};
-ghost use Rattle.influxdb_line_protocol.specs.Points.{built_tag, built_value, field_text, spelling};
-ghost use Rattle.influxdb_line_protocol.specs.Marks.{listed};
-ghost use Rattle.influxdb_line_protocol.specs.Built.{IsPlainText, Writes, buffer_of, bytes_of};
+ghost use Rattle.influxdb_line_protocol.specs.format.Bytes.{backslash, is_one_of, newline, space, comma};
+ghost use Rattle.influxdb_line_protocol.specs.format.Escapes.{escaped};
+ghost use Rattle.influxdb_line_protocol.specs.format.Names.{a_measurement};
+ghost use Rattle.influxdb_line_protocol.specs.format.Values.{integer, unsigned, string, boolean};
+ghost use Rattle.influxdb_line_protocol.specs.format.Points.{built_tag, built_value, field_text, spelling};
+ghost use Rattle.influxdb_line_protocol.specs.code.Marks.{listed};
+ghost use Rattle.influxdb_line_protocol.specs.code.Built.{IsPlainText, Writes, buffer_of, bytes_of};
 ghost use Rattle.influxdb_line_protocol.specs.declared.builder.Escapes.TheVariants.{OfKey, OfString};
 
 use arrayvec::ArrayVec;
@@ -172,7 +172,7 @@ struct Extent {
 
 // The length of `text` with its backslashes, and whether it has none.
 #[inline(always)]
-#[tactic(auto, using(crate::proofs::BuilderLemmas::escaped_as_long))]
+#[tactic(auto, using(crate::proofs::lemmas::builder::BuilderLemmas::escaped_as_long))]
 fn measure(escapes: Escapes, text: &[u8]) -> Extent
     ensures len { result.len ≡ length (escaped (bytes_of escapes) text.now) }
     ensures plain { result.is_plain ≡ true → IsPlainText (bytes_of escapes) text.now }
@@ -186,7 +186,7 @@ fn measure(escapes: Escapes, text: &[u8]) -> Extent
 
 // The length of `text` with its backslashes. A text takes at most half of what a `usize` holds.
 #[inline(always)]
-#[tactic(auto, using(crate::proofs::BuilderLemmas::length_escaped))]
+#[tactic(auto, using(crate::proofs::lemmas::builder::BuilderLemmas::length_escaped))]
 fn escaped_len(escapes: Escapes, text: &[u8]) -> usize
     ensures { result ≡ length (escaped (bytes_of escapes) text.now) }
 {
@@ -279,7 +279,7 @@ pub trait FieldValue: Drop {
 }
 
 // How many digits the number has.
-#[tactic(auto, using(crate::proofs::BuilderLemmas::length_decimal, crate::proofs::BuilderLemmas::length_digit))]
+#[tactic(auto, using(crate::proofs::lemmas::builder::BuilderLemmas::length_decimal, crate::proofs::lemmas::builder::BuilderLemmas::length_digit))]
 fn decimal_len(n: u64) -> usize
     ensures value { result ≡ length (decimal n) }
     ensures few { result ≤ 20 }

@@ -2,7 +2,7 @@
 
 ghost use Rattle.std.specs.Prelude.{◌≡◌, ◌≤◌, ◌<◌, ◌^◌, if◌then◌else◌, MatchOption, codes, false, length, neg_ℤ, pos, take, true};
 ghost use Rattle.std.specs.Str.Parse.{AllDigits, IsNumeral, digits_value, digits_value_after, signed_digits_value, without_leading_sign};
-ghost use Rattle.influxdb_line_protocol.specs.Values.{IsSigned, digits_len, fits_i64};
+ghost use Rattle.influxdb_line_protocol.specs.format.Values.{IsSigned, digits_len, fits_i64};
 
 use crate::lanes::{LANES, first_set};
 use std::simd::prelude::*;

@@ -52,7 +52,7 @@ pub enum Error {
 
 impl fmt::Display for Error {
     ghost use Rattle.std.specs.Prelude.{Some};
-    ghost use Rattle.influxdb_line_protocol.specs.Faults.{error_text};
+    ghost use Rattle.influxdb_line_protocol.specs.code.Faults.{error_text};
 
     ghost output = { λ e. Some (error_text e) };
 

@@ -1,13 +1,13 @@
 //! The fields of a line.
 
 ghost use Rattle.std.specs.Prelude.{◌≡◌, ◌<◌, ◌≤◌, [], ◌∷◌, ◌++◌, length, IfErr, IfOk, IfSome, OnErr, OnOk, Err};
-ghost use Rattle.influxdb_line_protocol.specs.Filled.{Fills};
-ghost use Rattle.influxdb_line_protocol.specs.Light.{is_single_field};
-ghost use Rattle.influxdb_line_protocol.specs.Lines.{field, field_set, separated_list, without_comma};
-ghost use Rattle.influxdb_line_protocol.specs.Memory.{NeedsMemory};
-ghost use Rattle.influxdb_line_protocol.specs.Outcomes.{Gives};
-ghost use Rattle.influxdb_line_protocol.specs.Parsed.{field_of};
-ghost use Rattle.influxdb_line_protocol.specs.Sets.{SetNeedsMemory, fields_of};
+ghost use Rattle.influxdb_line_protocol.specs.code.Filled.{Fills};
+ghost use Rattle.influxdb_line_protocol.specs.code.Light.{is_single_field};
+ghost use Rattle.influxdb_line_protocol.specs.format.Lines.{field, field_set, separated_list, without_comma};
+ghost use Rattle.influxdb_line_protocol.specs.code.Memory.{NeedsMemory};
+ghost use Rattle.influxdb_line_protocol.specs.code.Outcomes.{Gives};
+ghost use Rattle.influxdb_line_protocol.specs.code.Parsed.{field_of};
+ghost use Rattle.influxdb_line_protocol.specs.code.Sets.{SetNeedsMemory, fields_of};
 
 use crate::line::strip_byte;
 use crate::names::{self, NameKind};
@@ -17,7 +17,7 @@ use std::alloc::Global;
 type Field<'a> = (EscapedStr<'a>, FieldValue<'a>);
 
 // A field at the start of `text`, and the rest. The copy of the key comes last: where no field stands, the key takes no memory.
-#[tactic(auto, unfolding(crate::specs::Lines::field))]
+#[tactic(auto, unfolding(crate::specs::format::Lines::field))]
 #[inline(always)]
 fn field<'a>(alloc: Global, text: &'a str) -> Result<Option<(Field<'a>, &'a str)>>
     ensures value { Gives field_of result (field text.now) }

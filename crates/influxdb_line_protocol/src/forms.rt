@@ -3,12 +3,12 @@
 ghost use Rattle.std.specs.Prelude.{◌≡◌, ◌+◌, ◌<◌, ◌≤◌, [], true, false, not, length, take, drop, slice_index};
 ghost use Rattle.std.specs.Prelude.{string_bytes, IsCharBoundary, IfOk, IsOk};
 ghost use Rattle.std.specs.String.{string_capacity};
-ghost use Rattle.influxdb_line_protocol.specs.Bytes.{backslash, is_one_of};
-ghost use Rattle.influxdb_line_protocol.specs.Escapes.{EscapeScan, first_bare, without_escapes};
-ghost use Rattle.influxdb_line_protocol.specs.Forms.{stops_of, known_of, is_end, is_plain};
-ghost use Rattle.influxdb_line_protocol.specs.Lanes.{IsRunAt, mask_of};
-ghost use Rattle.influxdb_line_protocol.specs.Names.{ends_in_backslash, is_one_escape, is_shared, read_text};
-ghost use Rattle.influxdb_line_protocol.specs.Texts.{read_of};
+ghost use Rattle.influxdb_line_protocol.specs.format.Bytes.{backslash, is_one_of};
+ghost use Rattle.influxdb_line_protocol.specs.format.Escapes.{EscapeScan, first_bare, without_escapes};
+ghost use Rattle.influxdb_line_protocol.specs.code.Forms.{stops_of, known_of, is_end, is_plain};
+ghost use Rattle.influxdb_line_protocol.specs.code.Lanes.{IsRunAt, mask_of};
+ghost use Rattle.influxdb_line_protocol.specs.format.Names.{ends_in_backslash, is_one_escape, is_shared, read_text};
+ghost use Rattle.influxdb_line_protocol.specs.code.Texts.{read_of};
 
 use crate::escaped::EscapedStr;
 use crate::lanes::{

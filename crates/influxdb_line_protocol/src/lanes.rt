@@ -1,8 +1,8 @@
 //! How many bytes of one load, from the first, go on a spelling, or hold no backslash.
 ghost use Rattle.std.specs.Prelude.{◌≡◌, ◌+◌, ◌<◌, ◌≤◌, bit_and, false, length, map, slice_index};
-ghost use Rattle.influxdb_line_protocol.specs.Bytes.{is_one_of};
-ghost use Rattle.influxdb_line_protocol.specs.Forms.{is_end, is_plain, known_of, stops_of};
-ghost use Rattle.influxdb_line_protocol.specs.Lanes.{IsRunIn, first_set, mask_of};
+ghost use Rattle.influxdb_line_protocol.specs.format.Bytes.{is_one_of};
+ghost use Rattle.influxdb_line_protocol.specs.code.Forms.{is_end, is_plain, known_of, stops_of};
+ghost use Rattle.influxdb_line_protocol.specs.code.Lanes.{IsRunIn, first_set, mask_of};
 
 use crate::forms::Form;
 use crate::scan::WIDE;

@@ -1,22 +1,22 @@
 //! Laws of the definitions, each the contract of a function that does nothing.
 
-ghost use Rattle.influxdb_line_protocol.specs.Laws.{AdmittedBatchesReadBack, OtherBatchesDoNotReadBack};
-ghost use Rattle.influxdb_line_protocol.specs.Laws.{ItemsHaveReadableNames, OtherPointsEndWithBackslash};
-ghost use Rattle.influxdb_line_protocol.specs.Laws.{NamesAreParsed, ParsedNamesStandInLines, StrictFieldsEnd};
-ghost use Rattle.influxdb_line_protocol.specs.Laws.{PiecesExist, PiecesAreUnique, PiecesAreTheText, PiecesJoin};
-ghost use Rattle.influxdb_line_protocol.specs.Laws.{AnswersJoin, CommentsStandAlone};
-ghost use Rattle.influxdb_line_protocol.specs.PointsOfLines.{LinesArePoints};
-ghost use Rattle.influxdb_line_protocol.specs.GivenItems.{ItemsAreOfPieces, ItemsAreAnswers, ItemsSoFar};
-ghost use Rattle.influxdb_line_protocol.specs.BaseLaws.{ClearSeriesHaveBases, SameSeriesHaveOneBase, TagsByKeyAreSorted};
-ghost use Rattle.influxdb_line_protocol.specs.BaseLaws.{OneBaseIsOneSeries, PlainSeriesAreClear, ReadSeriesAreParsed};
-ghost use Rattle.influxdb_line_protocol.specs.Meanings.{LogicalIsWithoutEscapes};
-ghost use Rattle.influxdb_line_protocol.specs.Meanings.{TheMostIsRead, TheNextHasTheFault, TheFirstMisses, CountIsOfTheMost};
-ghost use Rattle.influxdb_line_protocol.specs.Meanings.{FloatFrontIsFloat, FloatFrontIsLongest};
-ghost use Rattle.influxdb_line_protocol.specs.Meanings.{WordFrontIsWord, WordFrontIsLongest};
-ghost use Rattle.influxdb_line_protocol.specs.Meanings.{TrimmedIsAfterBlanks, TrimmedFrontIsLongest};
-ghost use Rattle.influxdb_line_protocol.specs.Meanings.{NameEndsBeforeStop, BodyEndsBeforeQuote};
-ghost use Rattle.influxdb_line_protocol.specs.MeaningsOfAnswers.{AnswerIsByRows};
-ghost use Rattle.influxdb_line_protocol.specs.Lines.{tag, field};
+ghost use Rattle.influxdb_line_protocol.specs.laws.Laws.{AdmittedBatchesReadBack, OtherBatchesDoNotReadBack};
+ghost use Rattle.influxdb_line_protocol.specs.laws.Laws.{ItemsHaveReadableNames, OtherPointsEndWithBackslash};
+ghost use Rattle.influxdb_line_protocol.specs.laws.Laws.{NamesAreParsed, ParsedNamesStandInLines, StrictFieldsEnd};
+ghost use Rattle.influxdb_line_protocol.specs.laws.Laws.{PiecesExist, PiecesAreUnique, PiecesAreTheText, PiecesJoin};
+ghost use Rattle.influxdb_line_protocol.specs.laws.Laws.{AnswersJoin, CommentsStandAlone};
+ghost use Rattle.influxdb_line_protocol.specs.laws.PointsOfLines.{LinesArePoints};
+ghost use Rattle.influxdb_line_protocol.specs.laws.GivenItems.{ItemsAreOfPieces, ItemsAreAnswers, ItemsSoFar};
+ghost use Rattle.influxdb_line_protocol.specs.laws.BaseLaws.{ClearSeriesHaveBases, SameSeriesHaveOneBase, TagsByKeyAreSorted};
+ghost use Rattle.influxdb_line_protocol.specs.laws.BaseLaws.{OneBaseIsOneSeries, PlainSeriesAreClear, ReadSeriesAreParsed};
+ghost use Rattle.influxdb_line_protocol.specs.laws.Meanings.{LogicalIsWithoutEscapes};
+ghost use Rattle.influxdb_line_protocol.specs.laws.Meanings.{TheMostIsRead, TheNextHasTheFault, TheFirstMisses, CountIsOfTheMost};
+ghost use Rattle.influxdb_line_protocol.specs.laws.Meanings.{FloatFrontIsFloat, FloatFrontIsLongest};
+ghost use Rattle.influxdb_line_protocol.specs.laws.Meanings.{WordFrontIsWord, WordFrontIsLongest};
+ghost use Rattle.influxdb_line_protocol.specs.laws.Meanings.{TrimmedIsAfterBlanks, TrimmedFrontIsLongest};
+ghost use Rattle.influxdb_line_protocol.specs.laws.Meanings.{NameEndsBeforeStop, BodyEndsBeforeQuote};
+ghost use Rattle.influxdb_line_protocol.specs.laws.MeaningsOfAnswers.{AnswerIsByRows};
+ghost use Rattle.influxdb_line_protocol.specs.format.Lines.{tag, field};
 
 /// Where memory and room suffice, a batch built from points, followed by any text, parses to exactly
 /// those points in order and then to what that text alone gives, if and only if every name is

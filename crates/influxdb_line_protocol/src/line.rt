@@ -4,15 +4,15 @@ ghost use Rattle.std.specs.Prelude.{◌≡◌, ◌<◌, ◌≤◌, ◌++◌, ◌
 ghost use Rattle.std.specs.Prelude.{None, Some, IfSome, MatchOption};
 ghost use Rattle.std.specs.Option.{option_map};
 ghost use Rattle.influxdb_line_protocol.specs.declared.split.Dialect.{Dialect};
-ghost use Rattle.influxdb_line_protocol.specs.Lines.{answer, byte, front_before, spaces};
-ghost use Rattle.influxdb_line_protocol.specs.Bytes.{space};
-ghost use Rattle.influxdb_line_protocol.specs.Outcomes.{IsNotOutOfMemory};
-ghost use Rattle.influxdb_line_protocol.specs.Light.{is_light_in};
-ghost use Rattle.influxdb_line_protocol.specs.Lookups.{room_of};
-ghost use Rattle.influxdb_line_protocol.specs.Filled.{FillsLine};
-ghost use Rattle.influxdb_line_protocol.specs.Trimming.{trimmed};
-ghost use Rattle.influxdb_line_protocol.specs.Readings.{miss, reads};
-ghost use Rattle.influxdb_line_protocol.specs.ReadInto.{IsEmptyLine, KeepsTagRoom};
+ghost use Rattle.influxdb_line_protocol.specs.format.Lines.{answer, byte, front_before, spaces};
+ghost use Rattle.influxdb_line_protocol.specs.format.Bytes.{space};
+ghost use Rattle.influxdb_line_protocol.specs.code.Outcomes.{IsNotOutOfMemory};
+ghost use Rattle.influxdb_line_protocol.specs.code.Light.{is_light_in};
+ghost use Rattle.influxdb_line_protocol.specs.code.Lookups.{room_of};
+ghost use Rattle.influxdb_line_protocol.specs.code.Filled.{FillsLine};
+ghost use Rattle.influxdb_line_protocol.specs.format.Trimming.{trimmed};
+ghost use Rattle.influxdb_line_protocol.specs.format.Readings.{miss, reads};
+ghost use Rattle.influxdb_line_protocol.specs.code.ReadInto.{IsEmptyLine, KeepsTagRoom};
 
 use crate::names::{self, NameKind};
 use crate::split::{SplitLines, split_lines_in};
@@ -40,8 +40,8 @@ pub struct ParsedLine<'a> {
 impl<'a> ParsedLine<'a> {
     ghost use Rattle.std.specs.Prelude.{◌^◌};
     ghost use Rattle.std.specs.Option.{option_copied};
-    ghost use Rattle.influxdb_line_protocol.specs.Lookups.{columns, some_items, value_by_key};
-    ghost use Rattle.influxdb_line_protocol.specs.ReadInto.{IsEmptyLine};
+    ghost use Rattle.influxdb_line_protocol.specs.code.Lookups.{columns, some_items, value_by_key};
+    ghost use Rattle.influxdb_line_protocol.specs.code.ReadInto.{IsEmptyLine};
 
     /// A line that says nothing: what [`ParseLines::next_into`] reads into.
     ///
@@ -160,7 +160,7 @@ fn front_before<'a>(line: &'a str, rest: &str) -> &'a str
 
 // Fills the line `parsed`, which has empty sets, with what the trimmed text `line` says. At a fault it is filled in part.
 // A tag set that has grown is kept at `spare`, where that is given and the line has no tags.
-#[tactic(auto, unfolding(crate::specs::Lines::answer))]
+#[tactic(auto, unfolding(crate::specs::format::Lines::answer))]
 #[inline(never)]
 fn fill<'a>(
     alloc: Global,
@@ -280,7 +280,7 @@ pub struct ParseLines<'a> {
 }
 
 impl<'a> Model for ParseLines<'a> {
-    ghost use Rattle.influxdb_line_protocol.specs.Pieces.{Left};
+    ghost use Rattle.influxdb_line_protocol.specs.format.Pieces.{Left};
 
     ghost Value = { Left };
 
@@ -288,7 +288,7 @@ impl<'a> Model for ParseLines<'a> {
 }
 
 impl<'a> ParseLines<'a> {
-    ghost use Rattle.influxdb_line_protocol.specs.ParseSteps.{GivesLine, most_items};
+    ghost use Rattle.influxdb_line_protocol.specs.code.ParseSteps.{GivesLine, most_items};
 
     // The next piece that holds more than blanks and comments, without those before it.
     #[inline(always)]
@@ -342,8 +342,8 @@ pub fn parse_lines_in(alloc: Global, dialect: Dialect, input: &str) -> ParseLine
 
 impl<'a> ParseLines<'a> {
     ghost use Rattle.std.specs.Prelude.{IfNone};
-    ghost use Rattle.influxdb_line_protocol.specs.ParseSteps.{GivesItem, most_items};
-    ghost use Rattle.influxdb_line_protocol.specs.ReadInto.{GivesInRoom, LeavesEmpty, item_in};
+    ghost use Rattle.influxdb_line_protocol.specs.code.ParseSteps.{GivesItem, most_items};
+    ghost use Rattle.influxdb_line_protocol.specs.code.ReadInto.{GivesInRoom, LeavesEmpty, item_in};
 
     /// Reads the next item into a line that is used again.
     ///
@@ -385,7 +385,7 @@ impl<'a> Iterator for ParseLines<'a> {
     type Item = Result<ParsedLine<'a>>;
 
     ghost use Rattle.std.specs.Iterator.{at_most};
-    ghost use Rattle.influxdb_line_protocol.specs.ParseSteps.{GivesItem, most_items};
+    ghost use Rattle.influxdb_line_protocol.specs.code.ParseSteps.{GivesItem, most_items};
 
     ghost next_gives = { GivesItem };
 

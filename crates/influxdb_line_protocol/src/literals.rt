@@ -1,7 +1,7 @@
 //! Numbers by their texts.
 
 ghost use Rattle.std.specs.Prelude.{◌≡◌, ◌≤◌, ◌<◌, ◌+◌, ◌==◌, if◌then◌else◌, IsCharBoundary, codes, length};
-ghost use Rattle.influxdb_line_protocol.specs.Values.{IsFloat, digits_len, exponent_len, float_len, fraction_len, integer_len, number_len};
+ghost use Rattle.influxdb_line_protocol.specs.format.Values.{IsFloat, digits_len, exponent_len, float_len, fraction_len, integer_len, number_len};
 
 use crate::digits::digits_len;
 use std::fmt;
@@ -93,9 +93,9 @@ fn float_len(text: &str, whole: usize) -> usize
 
 impl<'a> FloatText<'a> {
     ghost use Rattle.std.specs.Prelude.{MatchOption, IfSome};
-    ghost use Rattle.influxdb_line_protocol.specs.Literals.{literal_of};
-    ghost use Rattle.influxdb_line_protocol.specs.Readings.{miss, reads};
-    ghost use Rattle.influxdb_line_protocol.specs.Values.{float, float_at};
+    ghost use Rattle.influxdb_line_protocol.specs.code.Literals.{literal_of};
+    ghost use Rattle.influxdb_line_protocol.specs.format.Readings.{miss, reads};
+    ghost use Rattle.influxdb_line_protocol.specs.format.Values.{float, float_at};
 
     /// A float of this text: `Some` exactly where the whole text is one.
     pub fn new(text: &'a str) -> Option<Self>
@@ -134,7 +134,7 @@ impl<'a> PartialEq for FloatText<'a> {
     ghost use Rattle.std.specs.Prelude.{nat_eq};
     ghost use Rattle.std.specs.Cmp.{on_per, partial_equiv_from_equiv};
     ghost use Rattle.std.specs.Cmp.Lexicographic.{pointwise, nat_list_eq_equiv};
-    ghost use Rattle.influxdb_line_protocol.specs.Literals.{literal_of};
+    ghost use Rattle.influxdb_line_protocol.specs.code.Literals.{literal_of};
 
     ghost eq = { λ x y. pointwise nat_eq (literal_of x) (literal_of y) };
 
@@ -148,14 +148,14 @@ impl<'a> PartialEq for FloatText<'a> {
 impl<'a> Eq for FloatText<'a> {
     ghost use Rattle.std.specs.Cmp.{on_equiv};
     ghost use Rattle.std.specs.Cmp.Lexicographic.{nat_list_eq_equiv};
-    ghost use Rattle.influxdb_line_protocol.specs.Literals.{literal_of};
+    ghost use Rattle.influxdb_line_protocol.specs.code.Literals.{literal_of};
 
     ghost laws = { on_equiv literal_of nat_list_eq_equiv };
 }
 
 impl<'a> fmt::Display for FloatText<'a> {
     ghost use Rattle.std.specs.Prelude.{Some};
-    ghost use Rattle.influxdb_line_protocol.specs.Literals.{literal_of};
+    ghost use Rattle.influxdb_line_protocol.specs.code.Literals.{literal_of};
 
     ghost output = { λ f. Some (literal_of f) };
 

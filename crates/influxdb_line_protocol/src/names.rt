@@ -1,11 +1,11 @@
 //! Names: measurements, keys and tag values.
 
 ghost use Rattle.std.specs.Prelude.{◌≡◌, ◌≤◌, length, IfOk, IfSome, Err};
-ghost use Rattle.influxdb_line_protocol.specs.Forms.{stops_of, known_of};
-ghost use Rattle.influxdb_line_protocol.specs.Memory.{NeedsMemory};
-ghost use Rattle.influxdb_line_protocol.specs.Names.{escapable, is_stop, name, read_text};
-ghost use Rattle.influxdb_line_protocol.specs.Outcomes.{Gives, IsNotOutOfMemory, kind_of};
-ghost use Rattle.influxdb_line_protocol.specs.Texts.{read_of};
+ghost use Rattle.influxdb_line_protocol.specs.code.Forms.{stops_of, known_of};
+ghost use Rattle.influxdb_line_protocol.specs.code.Memory.{NeedsMemory};
+ghost use Rattle.influxdb_line_protocol.specs.format.Names.{escapable, is_stop, name, read_text};
+ghost use Rattle.influxdb_line_protocol.specs.code.Outcomes.{Gives, IsNotOutOfMemory, kind_of};
+ghost use Rattle.influxdb_line_protocol.specs.code.Texts.{read_of};
 
 use crate::error::Error;
 use crate::escaped::EscapedStr;

@@ -4,16 +4,16 @@ ghost use Rattle.std.specs.Prelude.{◌≡◌, ◌&&◌, ◌-◌, ◌^◌, ◌�
 ghost use Rattle.std.specs.Fmt.{DisplaysOnOk};
 ghost use Rattle.std.specs.List.{join_by, list_all};
 ghost use Rattle.std.specs.Option.{option_map};
-ghost use Rattle.influxdb_line_protocol.specs.Bases.{GivesBase, GivesMap, GivesOwned, base_by_key, base_of, base_text};
-ghost use Rattle.influxdb_line_protocol.specs.Bases.{based_tag, entry_bytes, in_order, is_borrowed, is_single_tag};
-ghost use Rattle.influxdb_line_protocol.specs.Bases.{keys_of, is_strictly_sorted};
-ghost use Rattle.influxdb_line_protocol.specs.Bytes.{comma, is_one_of};
-ghost use Rattle.influxdb_line_protocol.specs.Escapes.{escaped};
-ghost use Rattle.influxdb_line_protocol.specs.Lines.{some_tags};
-ghost use Rattle.influxdb_line_protocol.specs.Outcomes.{IsNotOutOfMemory};
-ghost use Rattle.influxdb_line_protocol.specs.Parsed.{field_of, tag_of, tags_of};
-ghost use Rattle.influxdb_line_protocol.specs.Shown.{comma_before, shown_escapes, shown_field, shown_tag, shown_timestamp};
-ghost use Rattle.influxdb_line_protocol.specs.Texts.{is_single_slice, read_of};
+ghost use Rattle.influxdb_line_protocol.specs.code.Bases.{GivesBase, GivesMap, GivesOwned, base_by_key, base_of, base_text};
+ghost use Rattle.influxdb_line_protocol.specs.code.Bases.{based_tag, entry_bytes, in_order, is_borrowed, is_single_tag};
+ghost use Rattle.influxdb_line_protocol.specs.code.Bases.{keys_of, is_strictly_sorted};
+ghost use Rattle.influxdb_line_protocol.specs.format.Bytes.{comma, is_one_of};
+ghost use Rattle.influxdb_line_protocol.specs.format.Escapes.{escaped};
+ghost use Rattle.influxdb_line_protocol.specs.format.Lines.{some_tags};
+ghost use Rattle.influxdb_line_protocol.specs.code.Outcomes.{IsNotOutOfMemory};
+ghost use Rattle.influxdb_line_protocol.specs.code.Parsed.{field_of, tag_of, tags_of};
+ghost use Rattle.influxdb_line_protocol.specs.code.Shown.{comma_before, shown_escapes, shown_field, shown_tag, shown_timestamp};
+ghost use Rattle.influxdb_line_protocol.specs.code.Texts.{is_single_slice, read_of};
 
 use crate::{Error, EscapedStr, FieldValue, Measurement, ParsedLine, Result};
 use smallvec::SmallVec;
@@ -124,7 +124,7 @@ fn are_single<'a>(tags: &[(EscapedStr<'a>, EscapedStr<'a>)]) -> bool
 }
 
 // Whether the measurement and all keys and values are parts of the input.
-#[tactic(auto, using(crate::proofs::BaseLemmas::all_single))]
+#[tactic(auto, using(crate::proofs::lemmas::series::BaseLemmas::all_single))]
 fn is_all_single<'a>(
     measurement: &EscapedStr<'a>,
     tags: &[(EscapedStr<'a>, EscapedStr<'a>)],
@@ -210,7 +210,7 @@ fn base_of_map(
 }
 
 // The base with the tags in the order of their keys.
-#[tactic(auto, unfolding(crate::specs::Bases::base_by_key))]
+#[tactic(auto, unfolding(crate::specs::code::Bases::base_by_key))]
 fn base_by_key<'a>(
     alloc: Global,
     measurement: &str,
@@ -323,8 +323,8 @@ fn show_fields<'a, W: fmt::Write>(
 
 impl<'a> fmt::Display for FieldValue<'a> {
     ghost use Rattle.std.specs.Prelude.{Some};
-    ghost use Rattle.influxdb_line_protocol.specs.Parsed.{value_of};
-    ghost use Rattle.influxdb_line_protocol.specs.Shown.{shown_value};
+    ghost use Rattle.influxdb_line_protocol.specs.code.Parsed.{value_of};
+    ghost use Rattle.influxdb_line_protocol.specs.code.Shown.{shown_value};
 
     ghost output = { λ v. Some (shown_value (value_of v)) };
 
@@ -342,9 +342,9 @@ impl<'a> fmt::Display for FieldValue<'a> {
 impl<'a> fmt::Display for Series<'a> {
     ghost use Rattle.std.specs.Prelude.{Some};
     ghost use Rattle.std.specs.Option.{option_map};
-    ghost use Rattle.influxdb_line_protocol.specs.Parsed.{tags_of};
-    ghost use Rattle.influxdb_line_protocol.specs.Texts.{read_of};
-    ghost use Rattle.influxdb_line_protocol.specs.Shown.{shown_series};
+    ghost use Rattle.influxdb_line_protocol.specs.code.Parsed.{tags_of};
+    ghost use Rattle.influxdb_line_protocol.specs.code.Texts.{read_of};
+    ghost use Rattle.influxdb_line_protocol.specs.code.Shown.{shown_series};
 
     ghost output = { λ s. Some (shown_series (read_of s.measurement) (option_map tags_of s.tag_set)) };
 
@@ -372,8 +372,8 @@ fn show_timestamp<W: fmt::Write>(timestamp: Option<i64>, f: &mut fmt::Formatter<
 
 impl<'a> fmt::Display for ParsedLine<'a> {
     ghost use Rattle.std.specs.Prelude.{Some};
-    ghost use Rattle.influxdb_line_protocol.specs.Parsed.{line_read};
-    ghost use Rattle.influxdb_line_protocol.specs.Shown.{shown_line};
+    ghost use Rattle.influxdb_line_protocol.specs.code.Parsed.{line_read};
+    ghost use Rattle.influxdb_line_protocol.specs.code.Shown.{shown_line};
 
     ghost output = { λ l. Some (shown_line (line_read l)) };
 

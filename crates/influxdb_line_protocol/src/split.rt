@@ -3,13 +3,13 @@
 ghost use Rattle.std.specs.Prelude.{◌≡◌, ◌≢◌, ◌+◌, ◌<◌, ◌≤◌, ◌==◌, ◌||◌, length, take, slice_index, MatchOption, true, false};
 ghost use Rattle.std.specs.Iterator.{at_most};
 ghost use Rattle.std.specs.List.{All, count_by};
-ghost use Rattle.influxdb_line_protocol.specs.Bytes.{backslash, newline, space, quote, comma, equals};
+ghost use Rattle.influxdb_line_protocol.specs.format.Bytes.{backslash, newline, space, quote, comma, equals};
 ghost use Rattle.memchr.specs.Find.{IsFirstByte, is_byte3};
-ghost use Rattle.influxdb_line_protocol.specs.Lanes.{IsRunIn, is_quiet, mask_of};
-ghost use Rattle.influxdb_line_protocol.specs.Escapes.{bare, first_bare, IsPassed};
-ghost use Rattle.influxdb_line_protocol.specs.Stops.{is_stop, is_mark};
-ghost use Rattle.influxdb_line_protocol.specs.Counts.{IsCounted};
-ghost use Rattle.influxdb_line_protocol.specs.Pieces.{begins_comment, IsFirstCut, GivesPiece, most_pieces};
+ghost use Rattle.influxdb_line_protocol.specs.code.Lanes.{IsRunIn, is_quiet, mask_of};
+ghost use Rattle.influxdb_line_protocol.specs.format.Escapes.{bare, first_bare, IsPassed};
+ghost use Rattle.influxdb_line_protocol.specs.code.Stops.{is_stop, is_mark};
+ghost use Rattle.influxdb_line_protocol.specs.code.Counts.{IsCounted};
+ghost use Rattle.influxdb_line_protocol.specs.format.Pieces.{begins_comment, IsFirstCut, GivesPiece, most_pieces};
 ghost use Rattle.influxdb_line_protocol.specs.declared.split.Dialect.{Dialect};
 
 use crate::lanes::first_set;
@@ -349,7 +349,7 @@ pub struct SplitLines<'a> {
 
 impl<'a> Model for SplitLines<'a> {
     ghost use Rattle.std.specs.Prelude.{option_map};
-    ghost use Rattle.influxdb_line_protocol.specs.Pieces.{Left};
+    ghost use Rattle.influxdb_line_protocol.specs.format.Pieces.{Left};
 
     ghost Value = { Left };
 

@@ -2,14 +2,14 @@
 
 ghost use Rattle.std.specs.Prelude.{◌≡◌, ◌<◌, ◌≤◌, [], length, IfOk, IfSome, MatchOption, Err, None};
 ghost use Rattle.std.specs.Option.{option_map};
-ghost use Rattle.influxdb_line_protocol.specs.Filled.{Fills, FillsRead};
-ghost use Rattle.influxdb_line_protocol.specs.Light.{is_single_tag};
-ghost use Rattle.influxdb_line_protocol.specs.Lines.{separated_list, tag, tag_set};
-ghost use Rattle.influxdb_line_protocol.specs.Lookups.{room_of};
-ghost use Rattle.influxdb_line_protocol.specs.Memory.{NeedsMemory};
-ghost use Rattle.influxdb_line_protocol.specs.Outcomes.{Gives};
-ghost use Rattle.influxdb_line_protocol.specs.Parsed.{tag_of, tags_of};
-ghost use Rattle.influxdb_line_protocol.specs.Sets.{SetNeedsMemory, TagsNeedMemory};
+ghost use Rattle.influxdb_line_protocol.specs.code.Filled.{Fills, FillsRead};
+ghost use Rattle.influxdb_line_protocol.specs.code.Light.{is_single_tag};
+ghost use Rattle.influxdb_line_protocol.specs.format.Lines.{separated_list, tag, tag_set};
+ghost use Rattle.influxdb_line_protocol.specs.code.Lookups.{room_of};
+ghost use Rattle.influxdb_line_protocol.specs.code.Memory.{NeedsMemory};
+ghost use Rattle.influxdb_line_protocol.specs.code.Outcomes.{Gives};
+ghost use Rattle.influxdb_line_protocol.specs.code.Parsed.{tag_of, tags_of};
+ghost use Rattle.influxdb_line_protocol.specs.code.Sets.{SetNeedsMemory, TagsNeedMemory};
 
 use crate::line::strip_byte;
 use crate::names::{self, NameKind};
@@ -20,7 +20,7 @@ use std::mem;
 type Tag<'a> = (EscapedStr<'a>, EscapedStr<'a>);
 
 // A tag at the start of `text`, and the rest. The copies come last: where no tag stands, it takes no memory.
-#[tactic(auto, unfolding(crate::specs::Lines::tag))]
+#[tactic(auto, unfolding(crate::specs::format::Lines::tag))]
 #[inline(always)]
 fn tag<'a>(alloc: Global, text: &'a str) -> Result<Option<(Tag<'a>, &'a str)>>
     ensures value { Gives tag_of result (tag text.now) }

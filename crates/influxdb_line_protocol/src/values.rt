@@ -6,17 +6,17 @@ ghost use Rattle.std.specs.List.{starts_with};
 ghost use Rattle.std.specs.Prelude.{eqb};
 ghost use Rattle.std.specs.Char.{is_ascii_digit};
 ghost use Rattle.influxdb_line_protocol.specs.declared.error.Error.{Error};
-ghost use Rattle.influxdb_line_protocol.specs.Bytes.{is_one_of, letter_i, letter_u, minus};
-ghost use Rattle.influxdb_line_protocol.specs.Light.{is_single_value};
-ghost use Rattle.influxdb_line_protocol.specs.Lines.{timestamp};
-ghost use Rattle.influxdb_line_protocol.specs.Memory.{NeedsMemory};
-ghost use Rattle.influxdb_line_protocol.specs.Outcomes.{Gives, GivesRead, IsFault, side};
-ghost use Rattle.influxdb_line_protocol.specs.Parsed.{is_same_variant, value_of};
-ghost use Rattle.influxdb_line_protocol.specs.Readings.{◌otherwise◌, above, integer_value_invalid};
-ghost use Rattle.influxdb_line_protocol.specs.Readings.{timestamp_value_invalid, uinteger_value_invalid};
-ghost use Rattle.influxdb_line_protocol.specs.Values.{digits_len, integer_len, integer_at, unsigned_at, float_at};
-ghost use Rattle.influxdb_line_protocol.specs.Values.{string_at, boolean_at, value, side_of, word_len, true_words};
-ghost use Rattle.influxdb_line_protocol.specs.Values.{false_words};
+ghost use Rattle.influxdb_line_protocol.specs.format.Bytes.{is_one_of, letter_i, letter_u, minus};
+ghost use Rattle.influxdb_line_protocol.specs.code.Light.{is_single_value};
+ghost use Rattle.influxdb_line_protocol.specs.format.Lines.{timestamp};
+ghost use Rattle.influxdb_line_protocol.specs.code.Memory.{NeedsMemory};
+ghost use Rattle.influxdb_line_protocol.specs.code.Outcomes.{Gives, GivesRead, IsFault, side};
+ghost use Rattle.influxdb_line_protocol.specs.code.Parsed.{is_same_variant, value_of};
+ghost use Rattle.influxdb_line_protocol.specs.format.Readings.{◌otherwise◌, above, integer_value_invalid};
+ghost use Rattle.influxdb_line_protocol.specs.format.Readings.{timestamp_value_invalid, uinteger_value_invalid};
+ghost use Rattle.influxdb_line_protocol.specs.format.Values.{digits_len, integer_len, integer_at, unsigned_at, float_at};
+ghost use Rattle.influxdb_line_protocol.specs.format.Values.{string_at, boolean_at, value, side_of, word_len, true_words};
+ghost use Rattle.influxdb_line_protocol.specs.format.Values.{false_words};
 
 use crate::digits::{integer_value, unsigned_value};
 use crate::error::{Error, OutOfRange};
@@ -44,8 +44,8 @@ pub enum FieldValue<'a> {
 /// The integer 0.
 impl<'a> Default for FieldValue<'a> {
     ghost use Rattle.std.specs.Prelude.{◌≡◌, pos};
-    ghost use Rattle.influxdb_line_protocol.specs.Parsed.{value_of};
-    ghost use Rattle.influxdb_line_protocol.specs.Values.{integer};
+    ghost use Rattle.influxdb_line_protocol.specs.code.Parsed.{value_of};
+    ghost use Rattle.influxdb_line_protocol.specs.format.Values.{integer};
 
     ghost is_default = { λ v. value_of v ≡ integer (pos 0) };
 

@@ -9,16 +9,16 @@ use Rattle.influxdb_line_protocol.specs.declared.error.Error.{Error}
 use Rattle.influxdb_line_protocol.specs.declared.escaped.EscapedStr.{EscapedStr}
 use Rattle.influxdb_line_protocol.specs.declared.values.FieldValue.{FieldValue}
 use Rattle.influxdb_line_protocol.specs.declared.line.ParsedLine.{ParsedLine}
-use Rattle.influxdb_line_protocol.specs.Readings.{Fault}
-use Rattle.influxdb_line_protocol.specs.Points.{is_admitted_point, built_all}
-use Rattle.influxdb_line_protocol.specs.Lines.{Line, point_of, answer, logical_field}
-use Rattle.influxdb_line_protocol.specs.Parsed.{field_of, line_read}
-use Rattle.influxdb_line_protocol.specs.Trimming.{trimmed}
-use Rattle.influxdb_line_protocol.specs.Pieces.{Left, PiecesLeft}
-use Rattle.influxdb_line_protocol.specs.ParseSteps.{GaveItem}
-use Rattle.influxdb_line_protocol.specs.Items.{HasAnswers, answers_of, answers_of_piece}
-use Rattle.influxdb_line_protocol.specs.Laws.{IsAdmittedPoint, AdmittedBatchesReadBack, PiecesExist, PiecesAreUnique}
-use Rattle.influxdb_line_protocol.specs.PointsOfLines.{LinesArePoints}
+use Rattle.influxdb_line_protocol.specs.format.Readings.{Fault}
+use Rattle.influxdb_line_protocol.specs.format.Points.{is_admitted_point, built_all}
+use Rattle.influxdb_line_protocol.specs.format.Lines.{Line, point_of, answer, logical_field}
+use Rattle.influxdb_line_protocol.specs.code.Parsed.{field_of, line_read}
+use Rattle.influxdb_line_protocol.specs.format.Trimming.{trimmed}
+use Rattle.influxdb_line_protocol.specs.format.Pieces.{Left, PiecesLeft}
+use Rattle.influxdb_line_protocol.specs.code.ParseSteps.{GaveItem}
+use Rattle.influxdb_line_protocol.specs.format.Items.{HasAnswers, answers_of, answers_of_piece}
+use Rattle.influxdb_line_protocol.specs.laws.Laws.{IsAdmittedPoint, AdmittedBatchesReadBack, PiecesExist, PiecesAreUnique}
+use Rattle.influxdb_line_protocol.specs.laws.PointsOfLines.{LinesArePoints}
 use Rattle.lp_rebuild.specs.declared.batch.Rebuilt.{Rebuilt}
 use Rattle.lp_rebuild.specs.Rebuilding.{RebuildsIn, ReadsBackIn, carried_point, batch_of}
 

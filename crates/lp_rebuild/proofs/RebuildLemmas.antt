@@ -13,19 +13,19 @@ use Rattle.influxdb_line_protocol.specs.declared.error.Error.TheVariants as erro
 use Rattle.influxdb_line_protocol.specs.declared.line.ParsedLine.{ParsedLine}
 use Rattle.lp_rebuild.specs.declared.batch.Progress.{Progress}
 use Rattle.lp_rebuild.specs.declared.batch.Rebuilt.{Rebuilt}
-use Rattle.influxdb_line_protocol.specs.Outcomes.{side, IsFault}
-use Rattle.influxdb_line_protocol.specs.Readings.{Fault, integer_value_invalid, uinteger_value_invalid}
-use Rattle.influxdb_line_protocol.specs.Readings.{timestamp_value_invalid, tag_set_malformed}
-use Rattle.influxdb_line_protocol.specs.Readings.{measurement_value_invalid, field_set_missing, ends_with_backslash}
-use Rattle.influxdb_line_protocol.specs.Readings.{take_while1, cannot_parse_entire_line}
-use Rattle.influxdb_line_protocol.specs.Points.{Point, built, built_all}
-use Rattle.influxdb_line_protocol.specs.Lines.{Line, point_of}
-use Rattle.influxdb_line_protocol.specs.Parsed.{Answers, line_read, parsed_point}
-use Rattle.influxdb_line_protocol.specs.Faults.{error_text, fault_text}
-use Rattle.influxdb_line_protocol.specs.Trimming.{trimmed}
-use Rattle.influxdb_line_protocol.specs.Pieces.{Left, Pieces, PiecesLeft}
-use Rattle.influxdb_line_protocol.specs.ParseSteps.{IsBlankPiece, GaveItem}
-use Rattle.influxdb_line_protocol.specs.Items.{line_answer, answers_of, answers_of_piece}
+use Rattle.influxdb_line_protocol.specs.code.Outcomes.{side, IsFault}
+use Rattle.influxdb_line_protocol.specs.format.Readings.{Fault, integer_value_invalid, uinteger_value_invalid}
+use Rattle.influxdb_line_protocol.specs.format.Readings.{timestamp_value_invalid, tag_set_malformed}
+use Rattle.influxdb_line_protocol.specs.format.Readings.{measurement_value_invalid, field_set_missing, ends_with_backslash}
+use Rattle.influxdb_line_protocol.specs.format.Readings.{take_while1, cannot_parse_entire_line}
+use Rattle.influxdb_line_protocol.specs.format.Points.{Point, built, built_all}
+use Rattle.influxdb_line_protocol.specs.format.Lines.{Line, point_of}
+use Rattle.influxdb_line_protocol.specs.code.Parsed.{Answers, line_read, parsed_point}
+use Rattle.influxdb_line_protocol.specs.code.Faults.{error_text, fault_text}
+use Rattle.influxdb_line_protocol.specs.format.Trimming.{trimmed}
+use Rattle.influxdb_line_protocol.specs.format.Pieces.{Left, Pieces, PiecesLeft}
+use Rattle.influxdb_line_protocol.specs.code.ParseSteps.{IsBlankPiece, GaveItem}
+use Rattle.influxdb_line_protocol.specs.format.Items.{line_answer, answers_of, answers_of_piece}
 use Rattle.lp_rebuild.specs.Rebuilding.{RebuildsIn, batch_of, carried_point, faults_from, fault_of, carried_of}
 use Rattle.lp_rebuild.specs.Rebuilding.{refused_of, is_carried, is_carried_answer, refusal_text}
 use Rattle.lp_rebuild.specs.RebuildSteps.{Refuses, Takes}

@@ -1,10 +1,10 @@
 //! The lines of a text, written again.
 ghost use Rattle.std.specs.Prelude.{◌≡◌, ◌+◌, ◌<◌, ◌++◌, length, IfOk, IfSome, OnOk, Result, Ok, Err};
-ghost use Rattle.influxdb_line_protocol.specs.Readings.{Fault};
-ghost use Rattle.influxdb_line_protocol.specs.Points.{built};
-ghost use Rattle.influxdb_line_protocol.specs.Lines.{Line};
-ghost use Rattle.influxdb_line_protocol.specs.Parsed.{line_read, parsed_point, Answers};
-ghost use Rattle.influxdb_line_protocol.specs.ReadInto.{item_in};
+ghost use Rattle.influxdb_line_protocol.specs.format.Readings.{Fault};
+ghost use Rattle.influxdb_line_protocol.specs.format.Points.{built};
+ghost use Rattle.influxdb_line_protocol.specs.format.Lines.{Line};
+ghost use Rattle.influxdb_line_protocol.specs.code.Parsed.{line_read, parsed_point, Answers};
+ghost use Rattle.influxdb_line_protocol.specs.code.ReadInto.{item_in};
 ghost use Rattle.lp_rebuild.specs.Rebuilding.{Rebuilds, RebuildsIn, ReadsBack, ReadsBackIn};
 ghost use Rattle.lp_rebuild.specs.RebuildSteps.{Refuses, Takes};
 

@@ -1,9 +1,9 @@
 //! Searches of a text for one of a few bytes, many of its bytes at a time.
 ghost use Rattle.std.specs.Prelude.{◌≡◌, ◌+◌, ◌<◌, ◌≤◌, length, not};
 ghost use Rattle.std.specs.List.{count_by, list_all};
-ghost use Rattle.influxdb_line_protocol.specs.Bytes.{is_one_of};
-ghost use Rattle.influxdb_line_protocol.specs.Lanes.{mask_of};
-ghost use Rattle.influxdb_line_protocol.specs.Marks.{StandBefore, listed};
+ghost use Rattle.influxdb_line_protocol.specs.format.Bytes.{is_one_of};
+ghost use Rattle.influxdb_line_protocol.specs.code.Lanes.{mask_of};
+ghost use Rattle.influxdb_line_protocol.specs.code.Marks.{StandBefore, listed};
 
 use crate::lanes::first_set;
 use std::simd::prelude::*;

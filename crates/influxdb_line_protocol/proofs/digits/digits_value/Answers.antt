@@ -1,6 +1,6 @@
 use Rattle.std.proofs.Common.{arith, ◌∙◌}
 use Rattle.std.proofs.lemmas.List.{take_rest}
-use Rattle.influxdb_line_protocol.proofs.DigitLemmas.{few_fit, four_fit, four_more}
+use Rattle.influxdb_line_protocol.proofs.lemmas.digits.DigitLemmas.{few_fit, four_fit, four_more}
 use Rattle.influxdb_line_protocol.proofs.digits.digits_value.Goals as goal
 
 pub overflow_mul-value : goal.overflow_mul-value

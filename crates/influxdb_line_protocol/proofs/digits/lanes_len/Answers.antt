@@ -1,7 +1,7 @@
 use Rattle.std.proofs.Common.{ℕ, leb, cond, take, refl, arith}
 use Rattle.std.proofs.lemmas.Simd.{zip2_splat}
 use Rattle.std.proofs.lemmas.List.{length-take-le, get_or-take}
-use Rattle.influxdb_line_protocol.proofs.DigitLemmas.{separated_list, splat_is, lanes_count}
+use Rattle.influxdb_line_protocol.proofs.lemmas.digits.DigitLemmas.{separated_list, splat_is, lanes_count}
 use Rattle.influxdb_line_protocol.proofs.digits.lanes_len.Goals as goal
 
 pub returns : goal.returns

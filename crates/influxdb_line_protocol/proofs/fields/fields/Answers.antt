@@ -2,12 +2,12 @@ use Rattle.std.proofs.Common.{◌<◌, ◌≤◌, ◌∷◌, [], ◌++◌, lengt
 use Rattle.std.proofs.lemmas.Grind.{common_steps}
 use Rattle.std.proofs.lemmas.List.{map_push, length-map}
 use Rattle.std.proofs.lemmas.Result.{err_from_is_err_and}
-use Rattle.influxdb_line_protocol.specs.Light.{is_single_field}
-use Rattle.influxdb_line_protocol.specs.Lines.{separated_list, field}
-use Rattle.influxdb_line_protocol.specs.Parsed.{field_of}
-use Rattle.influxdb_line_protocol.proofs.ManyLemmas.{SoFar, fails_too, last_read, more_than_room, reached_all}
-use Rattle.influxdb_line_protocol.proofs.ManyLemmas.{reached_fatal, reached_more, reached_needs}
-use Rattle.influxdb_line_protocol.proofs.ReadingLemmas.{field_read, passed_on}
+use Rattle.influxdb_line_protocol.specs.code.Light.{is_single_field}
+use Rattle.influxdb_line_protocol.specs.format.Lines.{separated_list, field}
+use Rattle.influxdb_line_protocol.specs.code.Parsed.{field_of}
+use Rattle.influxdb_line_protocol.proofs.lemmas.fields.ManyLemmas.{SoFar, fails_too, last_read, more_than_room, reached_all}
+use Rattle.influxdb_line_protocol.proofs.lemmas.fields.ManyLemmas.{reached_fatal, reached_more, reached_needs}
+use Rattle.influxdb_line_protocol.proofs.lemmas.fields.ReadingLemmas.{field_read, passed_on}
 use Rattle.influxdb_line_protocol.proofs.fields.fields.Goals as goal
 
 pub returns-in_err-next-clause-value : goal.returns-in_err-next-clause-value

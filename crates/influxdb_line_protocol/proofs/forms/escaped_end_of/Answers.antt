@@ -1,9 +1,9 @@
 use Rattle.std.proofs.Common.{◌≡◌, ◌≢◌, ◌<◌, length, slice_index, true, ◌∙◌, sym, ap, arith, inl, inr}
 use Rattle.std.proofs.lemmas.Bool.{false≢true, cases_eq}
-use Rattle.influxdb_line_protocol.specs.Forms.{stops_of, known_of}
-use Rattle.influxdb_line_protocol.proofs.EscapeLemmas.{is_one_of_front}
-use Rattle.influxdb_line_protocol.proofs.FormLemmas.{backslash_goes_on}
-use Rattle.influxdb_line_protocol.proofs.WalkLemmas.{walk_start, walk_run, walk_ends}
+use Rattle.influxdb_line_protocol.specs.code.Forms.{stops_of, known_of}
+use Rattle.influxdb_line_protocol.proofs.lemmas.forms.EscapeLemmas.{is_one_of_front}
+use Rattle.influxdb_line_protocol.proofs.lemmas.forms.FormLemmas.{backslash_goes_on}
+use Rattle.influxdb_line_protocol.proofs.lemmas.forms.WalkLemmas.{walk_start, walk_run, walk_ends}
 use Rattle.influxdb_line_protocol.proofs.forms.escaped_end_of.Goals as goal
 
 pub loop-end-init : goal.loop-end-init

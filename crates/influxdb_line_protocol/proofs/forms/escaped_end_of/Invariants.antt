@@ -1,6 +1,6 @@
 use Rattle.std.proofs.Common.{◌-◌, ◌≤◌, length}
-use Rattle.influxdb_line_protocol.specs.Escapes.{EscapeScan}
-use Rattle.influxdb_line_protocol.specs.Forms.{stops_of, known_of}
+use Rattle.influxdb_line_protocol.specs.format.Escapes.{EscapeScan}
+use Rattle.influxdb_line_protocol.specs.code.Forms.{stops_of, known_of}
 use Rattle.influxdb_line_protocol.proofs.forms.escaped_end_of.Given as goal
 
 -- the walk stands at a bare place, at the first backslash or after it

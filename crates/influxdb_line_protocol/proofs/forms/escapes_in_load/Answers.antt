@@ -1,8 +1,8 @@
 use Rattle.std.proofs.Common.{◌==◌, ℕ, ◌%◌, ◌^◌, ◌∙◌, ap, count_ones, arith}
-use Rattle.influxdb_line_protocol.specs.Forms.{known_of, stops_of}
-use Rattle.influxdb_line_protocol.specs.Lanes.{first_set}
-use Rattle.influxdb_line_protocol.proofs.FormLemmas.{backslash_goes_on}
-use Rattle.influxdb_line_protocol.proofs.WalkMasks.{escapes_mask, load_stops, load_goes_on}
+use Rattle.influxdb_line_protocol.specs.code.Forms.{known_of, stops_of}
+use Rattle.influxdb_line_protocol.specs.code.Lanes.{first_set}
+use Rattle.influxdb_line_protocol.proofs.lemmas.forms.FormLemmas.{backslash_goes_on}
+use Rattle.influxdb_line_protocol.proofs.lemmas.forms.WalkMasks.{escapes_mask, load_stops, load_goes_on}
 use Rattle.influxdb_line_protocol.proofs.forms.escapes_in_load.Goals as goal
 
 pub returns-then-run-lt-WIDE : goal.returns-then-run-lt-WIDE

@@ -1,7 +1,7 @@
 use Rattle.std.proofs.Common.{◌≡◌, ◌+◌, ◌<◌, length, slice_index, sym, arith, true}
-use Rattle.influxdb_line_protocol.specs.Forms.{stops_of, known_of}
-use Rattle.influxdb_line_protocol.proofs.FormLemmas.{backslash_goes_on}
-use Rattle.influxdb_line_protocol.proofs.WalkLemmas.{walk_run, walk_counted, walk_ends, walk_ends_after, is_stop_then}
+use Rattle.influxdb_line_protocol.specs.code.Forms.{stops_of, known_of}
+use Rattle.influxdb_line_protocol.proofs.lemmas.forms.FormLemmas.{backslash_goes_on}
+use Rattle.influxdb_line_protocol.proofs.lemmas.forms.WalkLemmas.{walk_run, walk_counted, walk_ends, walk_ends_after, is_stop_then}
 use Rattle.influxdb_line_protocol.proofs.forms.escapes_to_end.Goals as goal
 
 pub loop-end-init : goal.loop-end-init

@@ -1,6 +1,6 @@
 use Rattle.std.proofs.Common.{◌-◌, ◌<◌, ◌≤◌, ◌≡◌, length, slice_index, false}
-use Rattle.influxdb_line_protocol.specs.Forms.{is_plain, stops_of, known_of}
-use Rattle.influxdb_line_protocol.specs.Escapes.{EscapeScan}
+use Rattle.influxdb_line_protocol.specs.code.Forms.{is_plain, stops_of, known_of}
+use Rattle.influxdb_line_protocol.specs.format.Escapes.{EscapeScan}
 use Rattle.influxdb_line_protocol.proofs.forms.escapes_to_end.Given as goal
 
 -- the walk stands at a bare place after plain bytes, and has met the first backslash or is there

@@ -2,11 +2,11 @@ use Rattle.std.proofs.Common.{◌≡◌, ◌+◌, length, drop, slice_index, tru
 use Rattle.std.proofs.Common.{length-append, append_assoc, ℕ, List, ◌<◌}
 use Rattle.std.proofs.lemmas.Bool.{not-false, eqb-true}
 use Rattle.std.proofs.lemmas.Str.{IsCharBoundary-start, IsCharBoundary-before_ascii}
-use Rattle.influxdb_line_protocol.specs.Bytes.{is_one_of}
-use Rattle.influxdb_line_protocol.specs.Forms.{is_plain, known_of}
-use Rattle.influxdb_line_protocol.specs.Lanes.{IsRunAt}
-use Rattle.influxdb_line_protocol.proofs.CopyLemmas.{stretch, left_run, left_known, left_unknown, whole_last}
-use Rattle.influxdb_line_protocol.proofs.FormLemmas.{known_is_ascii}
+use Rattle.influxdb_line_protocol.specs.format.Bytes.{is_one_of}
+use Rattle.influxdb_line_protocol.specs.code.Forms.{is_plain, known_of}
+use Rattle.influxdb_line_protocol.specs.code.Lanes.{IsRunAt}
+use Rattle.influxdb_line_protocol.proofs.lemmas.forms.CopyLemmas.{stretch, left_run, left_known, left_unknown, whole_last}
+use Rattle.influxdb_line_protocol.proofs.lemmas.forms.FormLemmas.{known_is_ascii}
 use Rattle.influxdb_line_protocol.proofs.forms.put.Goals as goal
 use Rattle.influxdb_line_protocol.proofs.forms.put.Goals.{then-is_known+in_ok-push_str, else-is_known}
 

@@ -1,6 +1,6 @@
 use Rattle.std.proofs.Common.{◌≡◌, ◌-◌, length, false, arith}
-use Rattle.influxdb_line_protocol.specs.Forms.{is_end}
-use Rattle.influxdb_line_protocol.proofs.MaskLemmas.{last_added}
+use Rattle.influxdb_line_protocol.specs.code.Forms.{is_end}
+use Rattle.influxdb_line_protocol.proofs.lemmas.lanes.MaskLemmas.{last_added}
 use Rattle.influxdb_line_protocol.proofs.lanes.backslashes_by_halves.Goals as goal
 
 pub returns : goal.returns

@@ -1,6 +1,6 @@
 use Rattle.std.proofs.Common.{◌≡◌, ◌+◌, false, arith}
-use Rattle.influxdb_line_protocol.specs.Forms.{is_end}
-use Rattle.influxdb_line_protocol.proofs.MaskLemmas.{added, last_added}
+use Rattle.influxdb_line_protocol.specs.code.Forms.{is_end}
+use Rattle.influxdb_line_protocol.proofs.lemmas.lanes.MaskLemmas.{added, last_added}
 use Rattle.influxdb_line_protocol.proofs.lanes.backslashes_by_loads.Goals as goal
 
 pub overflow_add-mask : goal.overflow_add-mask

@@ -2,10 +2,10 @@
 use Rattle.std.proofs.Common.{refl, arith}
 use Rattle.std.proofs.lemmas.Simd.{length-chunk}
 use lib.Lanes.{chunk}
-use Rattle.influxdb_line_protocol.specs.Forms.{is_end, stops_of}
+use Rattle.influxdb_line_protocol.specs.code.Forms.{is_end, stops_of}
 use Rattle.influxdb_line_protocol.specs.declared.forms.Form.TheVariants.{Measurement, Key, TagValue, Quoted}
-use Rattle.influxdb_line_protocol.proofs.LaneLemmas.{lanes_looked, lanes_of, lanes_or}
-use Rattle.influxdb_line_protocol.proofs.MaskLemmas.{mask_is}
+use Rattle.influxdb_line_protocol.proofs.lemmas.lanes.LaneLemmas.{lanes_looked, lanes_of, lanes_or}
+use Rattle.influxdb_line_protocol.proofs.lemmas.lanes.MaskLemmas.{mask_is}
 use Rattle.influxdb_line_protocol.proofs.lanes.end_mask.Goals as goal
 
 pub returns-in-Measurement : goal.returns-in-Measurement

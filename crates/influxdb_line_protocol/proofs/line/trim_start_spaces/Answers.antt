@@ -1,6 +1,6 @@
 use Rattle.std.proofs.Common.{◌≡◌}
-use Rattle.influxdb_line_protocol.specs.Lines.{spaces}
-use Rattle.influxdb_line_protocol.proofs.LineLemmas.{spaces_boundary}
+use Rattle.influxdb_line_protocol.specs.format.Lines.{spaces}
+use Rattle.influxdb_line_protocol.proofs.lemmas.line.LineLemmas.{spaces_boundary}
 use Rattle.influxdb_line_protocol.proofs.line.trim_start_spaces.Goals as goal
 
 pub range_from-requires : goal.range_from-requires

@@ -1,8 +1,8 @@
 use Rattle.std.proofs.Common.{◌≡◌, ◌≤◌, ◌+◌, length, arith, rules}
 use Rattle.std.proofs.lemmas.Grind.{common_steps}
 use Rattle.std.proofs.lemmas.Str.{IsCharBoundary-start}
-use Rattle.influxdb_line_protocol.specs.Values.{float_len}
-use Rattle.influxdb_line_protocol.proofs.FloatLemmas.{float_boundary, integer_len_fits}
+use Rattle.influxdb_line_protocol.specs.format.Values.{float_len}
+use Rattle.influxdb_line_protocol.proofs.lemmas.literals.FloatLemmas.{float_boundary, integer_len_fits}
 use Rattle.influxdb_line_protocol.proofs.literals.float_len.Goals as goal
 
 pub returns-then-whole-eq0-clause-boundary : goal.returns-then-whole-eq0-clause-boundary

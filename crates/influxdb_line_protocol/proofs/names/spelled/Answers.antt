@@ -1,8 +1,8 @@
 use Rattle.std.proofs.Common.{◌≡◌, arith}
 use Rattle.std.proofs.lemmas.Grind.{common_steps}
-use Rattle.influxdb_line_protocol.specs.Outcomes.{kind_of}
-use Rattle.influxdb_line_protocol.specs.Names.{spelled}
-use Rattle.influxdb_line_protocol.proofs.NameLemmas.{name_misses, name_fatal, name_reads}
+use Rattle.influxdb_line_protocol.specs.code.Outcomes.{kind_of}
+use Rattle.influxdb_line_protocol.specs.format.Names.{spelled}
+use Rattle.influxdb_line_protocol.proofs.lemmas.names.NameLemmas.{name_misses, name_fatal, name_reads}
 use Rattle.influxdb_line_protocol.proofs.names.spelled.Goals as goal
 
 pub returns-then-is_empty-clause-value : goal.returns-then-is_empty-clause-value

@@ -1,8 +1,8 @@
 use Rattle.std.proofs.Common.{◌≡◌, true, false, map, sym, ◌∙◌, ap}
-use Rattle.influxdb_line_protocol.specs.Bases.{owned, keys_of, is_strictly_sorted}
-use Rattle.influxdb_line_protocol.specs.Parsed.{tag_of}
-use Rattle.influxdb_line_protocol.specs.Texts.{read_of}
-use Rattle.influxdb_line_protocol.proofs.BaseLemmas.{base_fails, base_falls, base_owned, base_part, by_key_is_no_part}
+use Rattle.influxdb_line_protocol.specs.code.Bases.{owned, keys_of, is_strictly_sorted}
+use Rattle.influxdb_line_protocol.specs.code.Parsed.{tag_of}
+use Rattle.influxdb_line_protocol.specs.code.Texts.{read_of}
+use Rattle.influxdb_line_protocol.proofs.lemmas.series.BaseLemmas.{base_fails, base_falls, base_owned, base_part, by_key_is_no_part}
 use Rattle.influxdb_line_protocol.proofs.series.base.Goals as goal
 
 pub returns-in_err-base-clause-value : goal.returns-in_err-base-clause-value

@@ -1,6 +1,6 @@
 use Rattle.std.proofs.Common.{◌≡◌, ◌++◌, map, string_bytes}
 use Rattle.std.specs.List.{flat_map}
-use Rattle.influxdb_line_protocol.specs.Bases.{base_text, based_tag, entry_bytes}
+use Rattle.influxdb_line_protocol.specs.code.Bases.{base_text, based_tag, entry_bytes}
 use Rattle.influxdb_line_protocol.proofs.series.base_of_map.Given as goal
 
 abbrev pub invariant-loop-key : goal.invariant-loop-key

@@ -1,6 +1,6 @@
 use Rattle.std.proofs.Common.{◌≡◌, ◌-◌, drop, map}
-use Rattle.influxdb_line_protocol.specs.Bases.{keys_of, is_strictly_sorted}
-use Rattle.influxdb_line_protocol.specs.Parsed.{tag_of}
+use Rattle.influxdb_line_protocol.specs.code.Bases.{keys_of, is_strictly_sorted}
+use Rattle.influxdb_line_protocol.specs.code.Parsed.{tag_of}
 use Rattle.influxdb_line_protocol.proofs.series.keys_rise.Given as goal
 
 -- the keys rise if those from the last one on that was looked at do

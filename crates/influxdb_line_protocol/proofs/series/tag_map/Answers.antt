@@ -1,10 +1,10 @@
 use Rattle.std.proofs.Common.{◌≡◌, ◌<◌, true, false, length, map, get_or, [], refl, sym, ◌∙◌, arith}
 use borrow.Author.Count.{below_more}
 use Rattle.std.proofs.lemmas.List.{take_all}
-use Rattle.influxdb_line_protocol.specs.Bases.{first_repeated, is_repeated_at, keys_of}
-use Rattle.influxdb_line_protocol.specs.Parsed.{tag_of}
-use Rattle.influxdb_line_protocol.proofs.BaseLemmas.{by_key_nil, entries_more, first_repeated_is, has_more, key_is}
-use Rattle.influxdb_line_protocol.proofs.BaseLemmas.{length_keys, length_tags}
+use Rattle.influxdb_line_protocol.specs.code.Bases.{first_repeated, is_repeated_at, keys_of}
+use Rattle.influxdb_line_protocol.specs.code.Parsed.{tag_of}
+use Rattle.influxdb_line_protocol.proofs.lemmas.series.BaseLemmas.{by_key_nil, entries_more, first_repeated_is, has_more, key_is}
+use Rattle.influxdb_line_protocol.proofs.lemmas.series.BaseLemmas.{length_keys, length_tags}
 use Rattle.influxdb_line_protocol.proofs.series.tag_map.Goals as goal
 
 pub loop-key-init : goal.loop-key-init

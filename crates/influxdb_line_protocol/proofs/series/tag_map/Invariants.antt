@@ -5,8 +5,8 @@ use Rattle.std.specs.List.{list_any}
 use Rattle.std.specs.Option.{is_some}
 use Rattle.std.specs.Ordering.{nat_cmp}
 use Rattle.std.specs.Str.{bytes_eq}
-use Rattle.influxdb_line_protocol.specs.Bases.{by_key, entry_bytes, is_repeated_at, keys_of}
-use Rattle.influxdb_line_protocol.specs.Parsed.{tag_of}
+use Rattle.influxdb_line_protocol.specs.code.Bases.{by_key, entry_bytes, is_repeated_at, keys_of}
+use Rattle.influxdb_line_protocol.specs.code.Parsed.{tag_of}
 use Rattle.influxdb_line_protocol.proofs.series.tag_map.Given as goal
 
 abbrev pub invariant-loop-key : goal.invariant-loop-key

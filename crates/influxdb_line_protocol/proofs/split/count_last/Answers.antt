@@ -1,7 +1,7 @@
 use Rattle.std.proofs.Common.{◌<◌, Bool, not, ◌&&◌, length, slice_index, sym, ap, ◌∙◌, arith}
 use Rattle.std.specs.Prelude.{◌==◌}
-use Rattle.influxdb_line_protocol.proofs.EscapeLemmas.{is_escaped_more}
-use Rattle.influxdb_line_protocol.proofs.SplitCounts.{count_byte, one_at_most}
+use Rattle.influxdb_line_protocol.proofs.lemmas.forms.EscapeLemmas.{is_escaped_more}
+use Rattle.influxdb_line_protocol.proofs.lemmas.split.SplitCounts.{count_byte, one_at_most}
 use Rattle.influxdb_line_protocol.proofs.split.count_last.Goals as goal
 
 pub loop-at-init : goal.loop-at-init

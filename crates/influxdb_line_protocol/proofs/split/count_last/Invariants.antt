@@ -1,8 +1,8 @@
 use Rattle.std.proofs.Common.{◌≡◌, ◌<◌, ◌≤◌, take}
 use Rattle.std.specs.Prelude.{◌==◌}
 use Rattle.std.specs.List.{count_by}
-use Rattle.influxdb_line_protocol.specs.Bytes.{comma, equals}
-use Rattle.influxdb_line_protocol.specs.Escapes.{bare, is_escaped_after}
+use Rattle.influxdb_line_protocol.specs.format.Bytes.{comma, equals}
+use Rattle.influxdb_line_protocol.specs.format.Escapes.{bare, is_escaped_after}
 use Rattle.influxdb_line_protocol.proofs.split.count_last.Given as goal
 
 -- what was walked over is counted

@@ -1,6 +1,6 @@
 use Rattle.std.proofs.Common.{◌∙◌, sym}
-use Rattle.influxdb_line_protocol.proofs.QuietCuts.{cut_at_newline, no_cut}
-use Rattle.influxdb_line_protocol.proofs.SplitPieces.{cut_of_comment, cut_of_other}
+use Rattle.influxdb_line_protocol.proofs.lemmas.split.QuietCuts.{cut_at_newline, no_cut}
+use Rattle.influxdb_line_protocol.proofs.lemmas.split.SplitPieces.{cut_of_comment, cut_of_other}
 use Rattle.influxdb_line_protocol.proofs.split.first_cut.Goals as goal
 
 pub returns-in_err-found : goal.returns-in_err-found

@@ -1,7 +1,7 @@
 use Rattle.std.proofs.Common.{arith}
 use Rattle.std.proofs.lemmas.List.{take_rest}
 use Rattle.memchr.specs.Find.{is_byte3}
-use Rattle.influxdb_line_protocol.proofs.WideSearch.{found_after, none_after}
+use Rattle.influxdb_line_protocol.proofs.lemmas.split.WideSearch.{found_after, none_after}
 use Rattle.influxdb_line_protocol.proofs.split.first_mark.Goals as goal
 
 pub returns-in_err-last : goal.returns-in_err-last

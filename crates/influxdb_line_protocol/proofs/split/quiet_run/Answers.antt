@@ -3,9 +3,9 @@ use Rattle.std.proofs.Common.{ℕ, ap, ◌∙◌, refl, arith}
 use Rattle.std.proofs.lemmas.Simd.{length-chunk}
 use Rattle.memchr.specs.Find.{is_byte3}
 use lib.Lanes.{chunk}
-use Rattle.influxdb_line_protocol.specs.Lanes.{first_set}
-use Rattle.influxdb_line_protocol.proofs.LaneLemmas.{lanes_of, lanes_or}
-use Rattle.influxdb_line_protocol.proofs.MaskLemmas.{mask_is, run_is}
+use Rattle.influxdb_line_protocol.specs.code.Lanes.{first_set}
+use Rattle.influxdb_line_protocol.proofs.lemmas.lanes.LaneLemmas.{lanes_of, lanes_or}
+use Rattle.influxdb_line_protocol.proofs.lemmas.lanes.MaskLemmas.{mask_is, run_is}
 use Rattle.influxdb_line_protocol.proofs.split.quiet_run.Goals as goal
 
 pub returns : goal.returns

@@ -1,7 +1,7 @@
 use Rattle.std.proofs.Common.{ℕ, ◌∙◌, ap, arith}
-use Rattle.influxdb_line_protocol.specs.Lanes.{first_set}
-use Rattle.influxdb_line_protocol.specs.Stops.{is_stop}
-use Rattle.influxdb_line_protocol.proofs.BareMasks.{at_most_one, to_stop, to_next}
+use Rattle.influxdb_line_protocol.specs.code.Lanes.{first_set}
+use Rattle.influxdb_line_protocol.specs.code.Stops.{is_stop}
+use Rattle.influxdb_line_protocol.proofs.lemmas.scan.BareMasks.{at_most_one, to_stop, to_next}
 use Rattle.influxdb_line_protocol.proofs.split.stop_in.Goals as goal
 
 pub returns-then-run-lt-WIDE : goal.returns-then-run-lt-WIDE

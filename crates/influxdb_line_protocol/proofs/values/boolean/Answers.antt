@@ -1,6 +1,6 @@
 use Rattle.std.proofs.Common.{◌∙◌, sym}
-use Rattle.influxdb_line_protocol.specs.Values.{false_words, true_words}
-use Rattle.influxdb_line_protocol.proofs.ValueForms.{true_form, false_form}
+use Rattle.influxdb_line_protocol.specs.format.Values.{false_words, true_words}
+use Rattle.influxdb_line_protocol.proofs.lemmas.values.ValueForms.{true_form, false_form}
 use Rattle.influxdb_line_protocol.proofs.values.boolean.Goals as goal
 
 pub returns-then-begins_true-clause-value : goal.returns-then-begins_true-clause-value

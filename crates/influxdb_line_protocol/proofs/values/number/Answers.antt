@@ -1,8 +1,8 @@
 use Rattle.std.proofs.Common.{◌≡◌, ◌≢◌, ◌⊎◌, ◌<◌, ◌∙◌, arith, inl, inr, slice_index, sym}
 use Rattle.std.proofs.lemmas.Bool.{eqb-true, eqb-false}
-use Rattle.influxdb_line_protocol.specs.Values.{integer_len, float_at, unsigned_at}
-use Rattle.influxdb_line_protocol.proofs.ValueForms.{no_number, float_stands}
-use Rattle.influxdb_line_protocol.proofs.ValueLemmas.{digits_of_plain, integer_decides, integer_unmarked, unsigned_decides}
+use Rattle.influxdb_line_protocol.specs.format.Values.{integer_len, float_at, unsigned_at}
+use Rattle.influxdb_line_protocol.proofs.lemmas.values.ValueForms.{no_number, float_stands}
+use Rattle.influxdb_line_protocol.proofs.lemmas.values.ValueLemmas.{digits_of_plain, integer_decides, integer_unmarked, unsigned_decides}
 use Rattle.influxdb_line_protocol.proofs.values.number.Goals as goal
 use Rattle.influxdb_line_protocol.proofs.values.number.Goals.{else-stands_at-2-via-then-stands_at-2+else-not-stands_at}
 use Rattle.influxdb_line_protocol.proofs.values.number.Goals.{else-stands_at-2-via-else-stands_at-2}

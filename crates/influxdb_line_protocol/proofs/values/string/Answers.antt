@@ -1,9 +1,9 @@
 use Rattle.std.proofs.Common.{◌≡◌, take, false, sym, ◌∙◌, inl, inr}
 use Rattle.std.proofs.lemmas.Bool.{cases_Bool}
-use Rattle.influxdb_line_protocol.specs.Names.{is_shared}
-use Rattle.influxdb_line_protocol.specs.Values.{quotable, body_len}
-use Rattle.influxdb_line_protocol.proofs.ReadingLemmas.{byte_parts}
-use Rattle.influxdb_line_protocol.proofs.StringLemmas.{byte_missing, string_misses, string_open, string_reads}
+use Rattle.influxdb_line_protocol.specs.format.Names.{is_shared}
+use Rattle.influxdb_line_protocol.specs.format.Values.{quotable, body_len}
+use Rattle.influxdb_line_protocol.proofs.lemmas.fields.ReadingLemmas.{byte_parts}
+use Rattle.influxdb_line_protocol.proofs.lemmas.values.StringLemmas.{byte_missing, string_misses, string_open, string_reads}
 use Rattle.influxdb_line_protocol.proofs.values.string.Goals as goal
 
 pub returns-in_default-clause-value : goal.returns-in_default-clause-value

@@ -2,8 +2,8 @@ use Rattle.std.proofs.Common.{◌<◌, length, arith, ap}
 use Rattle.std.specs.Prelude.{codes}
 use Rattle.std.proofs.lemmas.List.{length-take}
 use Rattle.std.proofs.lemmas.Grind.{common_steps}
-use Rattle.influxdb_line_protocol.specs.Values.{integer_len}
-use Rattle.influxdb_line_protocol.proofs.FloatLemmas.{signed_front}
+use Rattle.influxdb_line_protocol.specs.format.Values.{integer_len}
+use Rattle.influxdb_line_protocol.proofs.lemmas.literals.FloatLemmas.{signed_front}
 use Rattle.influxdb_line_protocol.proofs.values.timestamp.Goals as goal
 
 pub integer_value-requires : goal.integer_value-requires

@@ -2,7 +2,7 @@ use Rattle.std.proofs.Common.{◌≡◌, ◌≢◌, ◌∙◌, false, slice_inde
 use Rattle.std.specs.Prelude.{◌==◌, ◌||◌}
 use Rattle.std.specs.Char.{is_ascii_digit}
 use Rattle.std.proofs.lemmas.Bool.{eqb-true, eqb-false}
-use Rattle.influxdb_line_protocol.proofs.ValueForms.{number_form, string_form, boolean_form}
+use Rattle.influxdb_line_protocol.proofs.lemmas.values.ValueForms.{number_form, string_form, boolean_form}
 use Rattle.influxdb_line_protocol.proofs.values.value.Goals as goal
 
 pub returns-then-begins_number-clause-value : goal.returns-then-begins_number-clause-value

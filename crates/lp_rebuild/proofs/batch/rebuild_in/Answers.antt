@@ -1,5 +1,5 @@
 use Rattle.std.proofs.Common.{arith, ap, refl, ◌∙◌}
-use Rattle.influxdb_line_protocol.specs.ReadInto.{item_in}
+use Rattle.influxdb_line_protocol.specs.code.ReadInto.{item_in}
 use Rattle.lp_rebuild.proofs.RebuildLemmas.{SoFar-item, SoFar-end}
 use Rattle.lp_rebuild.proofs.BatchLemmas.{item_has_field, batch_reads_back}
 use Rattle.lp_rebuild.proofs.batch.rebuild_in.Goals as goal

@@ -1,7 +1,7 @@
 use Rattle.std.proofs.Common.{arith}
-use Rattle.influxdb_line_protocol.specs.Bytes.{is_one_of}
-use Rattle.influxdb_line_protocol.specs.Marks.{listed}
-use Rattle.influxdb_line_protocol.proofs.MarkLemmas.{count_overlapping}
+use Rattle.influxdb_line_protocol.specs.format.Bytes.{is_one_of}
+use Rattle.influxdb_line_protocol.specs.code.Marks.{listed}
+use Rattle.influxdb_line_protocol.proofs.lemmas.builder.MarkLemmas.{count_overlapping}
 use Rattle.influxdb_line_protocol.proofs.builder.marks.short_count.Goals as goal
 
 pub returns-then-len-ge8 : goal.returns-then-len-ge8

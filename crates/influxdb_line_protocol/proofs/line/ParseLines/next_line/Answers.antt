@@ -1,7 +1,7 @@
 use Rattle.std.proofs.Common.{◌≡◌, ◌<◌, length, sym, ◌∙◌, ap, arith}
 use Rattle.std.proofs.lemmas.Bool.{eqb-true}
 use Rattle.std.proofs.lemmas.Bool.Decides.{nat_tests}
-use Rattle.influxdb_line_protocol.proofs.ParseStepsLemmas.{Skipped-more, items_less}
+use Rattle.influxdb_line_protocol.proofs.lemmas.line.ParseStepsLemmas.{Skipped-more, items_less}
 use Rattle.influxdb_line_protocol.proofs.line.ParseLines.next_line.Goals as goal
 
 pub returns-then-not-is_empty-clause-gives : goal.returns-then-not-is_empty-clause-gives

@@ -1,9 +1,9 @@
 use Rattle.std.proofs.Common.{rules, ◌≡◌, true}
-use Rattle.influxdb_line_protocol.specs.Items.{line_answer}
-use Rattle.influxdb_line_protocol.specs.Light.{is_light}
-use Rattle.influxdb_line_protocol.specs.Outcomes.{IsNotOutOfMemory}
-use Rattle.influxdb_line_protocol.specs.Parsed.{Answers}
-use Rattle.influxdb_line_protocol.proofs.GivenLines.{gave_item}
+use Rattle.influxdb_line_protocol.specs.format.Items.{line_answer}
+use Rattle.influxdb_line_protocol.specs.code.Light.{is_light}
+use Rattle.influxdb_line_protocol.specs.code.Outcomes.{IsNotOutOfMemory}
+use Rattle.influxdb_line_protocol.specs.code.Parsed.{Answers}
+use Rattle.influxdb_line_protocol.proofs.lemmas.line.GivenLines.{gave_item}
 use Rattle.influxdb_line_protocol.proofs.line.ParseLinesIterator.next.Goals as goal
 
 pub returns-clause-steps : goal.returns-clause-steps

@@ -1,8 +1,8 @@
 use Rattle.std.proofs.Common.{◌+◌, subst, arith}
 use Rattle.std.proofs.lemmas.Str.{IsCharBoundary-after_ascii}
 use Rattle.std.specs.Str.{IsCharBoundary}
-use Rattle.influxdb_line_protocol.specs.Pieces.{IsLastPiece, Pieces.last}
-use Rattle.influxdb_line_protocol.proofs.SplitPieces.{Pieces-cut_at}
+use Rattle.influxdb_line_protocol.specs.format.Pieces.{IsLastPiece, Pieces.last}
+use Rattle.influxdb_line_protocol.proofs.lemmas.split.SplitPieces.{Pieces-cut_at}
 use Rattle.influxdb_line_protocol.proofs.split.SplitLinesIterator.next.Goals as goal
 
 pub range_from-requires : goal.range_from-requires
