@@ -11,7 +11,8 @@ use Rattle.influxdb_line_protocol.specs.format.Readings.{tag_set_malformed, take
 use Rattle.influxdb_line_protocol.specs.format.Readings.{cannot_parse_entire_line, Text, Read, Reading, miss, fatal, reads}
 use Rattle.influxdb_line_protocol.specs.format.Readings.{◌>>=◌, or_fault}
 use Rattle.influxdb_line_protocol.specs.format.Names.{a_measurement, a_tag_key, a_tag_value, a_field_key, name}
-use Rattle.influxdb_line_protocol.specs.format.Values.{Value, integer, unsigned, float, string, boolean, value, integer_len, fits_i64, side_of}
+use Rattle.influxdb_line_protocol.specs.format.Values.{Value, integer, unsigned, float, string, boolean, value}
+use Rattle.influxdb_line_protocol.specs.format.Values.{integer_len, fits_i64, side_of}
 use Rattle.influxdb_line_protocol.specs.format.Points.{Pair, Point}
 
 -- what was read of a line: `series` is the front that was read as measurement and tags

@@ -5,7 +5,8 @@ use Rattle.std.specs.List.{list_all, flat_map, AllByRecursion}
 use Rattle.std.specs.Fmt.{signed_decimal}
 use Rattle.influxdb_line_protocol.specs.format.Bytes.{nul, tab, newline, space, quote, hash, comma, equals, letter_i, letter_u, is_one_of}
 use Rattle.influxdb_line_protocol.specs.format.Escapes.{escaped}
-use Rattle.influxdb_line_protocol.specs.format.Names.{NameKind, a_measurement, a_tag_key, a_tag_value, a_field_key, escapable, ends_in_backslash}
+use Rattle.influxdb_line_protocol.specs.format.Names.{NameKind, a_measurement, a_tag_key, a_tag_value, a_field_key}
+use Rattle.influxdb_line_protocol.specs.format.Names.{escapable, ends_in_backslash}
 use Rattle.influxdb_line_protocol.specs.format.Values.{IsFloat, Value, integer, unsigned, float, string, boolean, quotable, fits_i64}
 
 -- a key and the logical text of it: a tag, or a field

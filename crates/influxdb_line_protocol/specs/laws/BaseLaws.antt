@@ -9,7 +9,8 @@ use Rattle.influxdb_line_protocol.specs.code.Bases.{Base, borrowed, owned, dupli
 use Rattle.influxdb_line_protocol.specs.code.Bases.{in_order, keys_of, is_strictly_sorted}
 use Rattle.influxdb_line_protocol.specs.format.Bytes.{backslash, comma, equals, is_one_of}
 use Rattle.influxdb_line_protocol.specs.format.Lines.{Line, answer, some_tags, tag_set}
-use Rattle.influxdb_line_protocol.specs.format.Names.{a_measurement, a_tag_key, a_tag_value, escapable, is_one_escape, name, spelled, spelled_len}
+use Rattle.influxdb_line_protocol.specs.format.Names.{a_measurement, a_tag_key, a_tag_value, escapable, is_one_escape}
+use Rattle.influxdb_line_protocol.specs.format.Names.{name, spelled, spelled_len}
 use Rattle.influxdb_line_protocol.specs.format.Points.{Pair}
 use Rattle.influxdb_line_protocol.specs.format.Readings.{Text, reads}
 

@@ -7,7 +7,8 @@ use Rattle.influxdb_line_protocol.specs.format.Bytes.{is_one_of}
 use Rattle.influxdb_line_protocol.specs.format.Names.{NameKind}
 use Rattle.influxdb_line_protocol.specs.format.Names.{a_measurement, a_tag_key, a_tag_value, a_field_key}
 use Rattle.influxdb_line_protocol.specs.format.Escapes.{without_escapes}
-use Rattle.influxdb_line_protocol.specs.format.Names.{ends_in_backslash, escapable, is_escapable, read_text, logical, name, spelled, spelled_len}
+use Rattle.influxdb_line_protocol.specs.format.Names.{ends_in_backslash, escapable, is_escapable, read_text, logical}
+use Rattle.influxdb_line_protocol.specs.format.Names.{name, spelled, spelled_len}
 use Rattle.influxdb_line_protocol.specs.format.Readings.{miss, fatal, reads, ends_with_backslash}
 
 -- a byte that is no backslash stays

@@ -15,7 +15,8 @@ use Rattle.influxdb_line_protocol.specs.laws.Meanings.{IsAtStop, IsBeforeStop}
 use Rattle.influxdb_line_protocol.specs.format.Piece.{IsHead, IsPlain, IsQuoted, EndsPlain, EndsQuoted, EndsQuoted.opened, IsClosed}
 use Rattle.influxdb_line_protocol.specs.format.Pieces.{IsLastPiece, IsFirstCut}
 use Rattle.influxdb_line_protocol.proofs.lemmas.split.SplitBare.{is_escaped-nil, is_escaped-append, is_escaped-push_other, flag_after}
-use Rattle.influxdb_line_protocol.proofs.lemmas.split.SplitShape.{last_place, IsHead-bare, EndsPlain-start, EndsPlain-bare, EndsQuoted-close}
+use Rattle.influxdb_line_protocol.proofs.lemmas.split.SplitShape.{last_place, IsHead-bare, EndsPlain-start}
+use Rattle.influxdb_line_protocol.proofs.lemmas.split.SplitShape.{EndsPlain-bare, EndsQuoted-close}
 use Rattle.influxdb_line_protocol.proofs.lemmas.split.SplitAppend.{EndsPlain-append}
 use Rattle.influxdb_line_protocol.proofs.lemmas.split.SplitWalk.{IsCountOf-append, IsIn, Plain, Head-space, Plain-other, HasMoreEquals-from}
 use Rattle.influxdb_line_protocol.proofs.lemmas.laws.meanings.StopMeaning.{before_stop}

@@ -21,7 +21,8 @@ use Rattle.influxdb_line_protocol.proofs.lemmas.names.NameLemmas.{without_escape
 use Rattle.influxdb_line_protocol.proofs.lemmas.fields.ReadingLemmas.{name_parts}
 use Rattle.influxdb_line_protocol.proofs.lemmas.scan.ScanLemmas.{bare_len, first_bare_len}
 use Rattle.influxdb_line_protocol.proofs.lemmas.laws.bases_tell_series.SortedTags.{by_key_permutes}
-use Rattle.influxdb_line_protocol.proofs.lemmas.laws.bases_tell_series.BasesTellSeries.{base_is, holds_none, tag_parts, tags_stand, value_part}
+use Rattle.influxdb_line_protocol.proofs.lemmas.laws.bases_tell_series.BasesTellSeries.{base_is, holds_none, tag_parts}
+use Rattle.influxdb_line_protocol.proofs.lemmas.laws.bases_tell_series.BasesTellSeries.{tags_stand, value_part}
 
 -- nothing, or a text that begins with this byte
 abbrev Begins : ℕ → List ℕ → Type 0

@@ -12,11 +12,14 @@ use Rattle.influxdb_line_protocol.specs.format.Values.{Value, fits_i64}
 use Rattle.influxdb_line_protocol.specs.format.Points.{Pair, Point, Tag, Field, built_value, built_field, built_fields}
 use Rattle.influxdb_line_protocol.specs.format.Points.{built_tag, built_timestamp, line_of, is_admitted_name, spelling}
 use Rattle.influxdb_line_protocol.specs.format.Lines.{answer, field_set, front_before, spaces, tag_set, timestamp}
-use Rattle.influxdb_line_protocol.proofs.lemmas.laws.batch_reads_back.NameReadsBack.{admitted_parts, name_reads_back, read_name, escaped_found}
+use Rattle.influxdb_line_protocol.proofs.lemmas.laws.batch_reads_back.NameReadsBack.{admitted_parts, name_reads_back}
+use Rattle.influxdb_line_protocol.proofs.lemmas.laws.batch_reads_back.NameReadsBack.{read_name, escaped_found}
 use Rattle.influxdb_line_protocol.proofs.lemmas.laws.batch_reads_back.NameReadsBack.{escaped_plain, space_escapable}
 use Rattle.influxdb_line_protocol.proofs.lemmas.laws.batch_reads_back.ReadLines.{read_line, read_tags, read_field}
 use Rattle.influxdb_line_protocol.proofs.lemmas.laws.batch_reads_back.LinePieces.{AdmittedTag, AdmittedField, IsAdmitted, line_parts}
-use Rattle.influxdb_line_protocol.proofs.lemmas.laws.batch_reads_back.PartsReadBack.{tag_text, tag_set_reads_back, field_set_reads_back, timestamp_reads_back}
+use Rattle.influxdb_line_protocol.proofs.lemmas.laws.batch_reads_back.PartsReadBack.{tag_text, tag_set_reads_back}
+use Rattle.influxdb_line_protocol.proofs.lemmas.laws.batch_reads_back.PartsReadBack.{field_set_reads_back}
+use Rattle.influxdb_line_protocol.proofs.lemmas.laws.batch_reads_back.PartsReadBack.{timestamp_reads_back}
 
 -- no space is at the start of a spelling
 pub spaces_before : (kind : NameKind) (n rest : List ℕ) → length n ≢ 0 → spaces (spelling kind n ++ rest) ≡ 0

@@ -29,11 +29,15 @@ use Rattle.influxdb_line_protocol.specs.laws.Laws.{IsAdmittedPoint, OtherBatches
 use Rattle.influxdb_line_protocol.proofs.lemmas.split.SplitPieces.{pieces_exist, same_pieces}
 use Rattle.influxdb_line_protocol.proofs.lemmas.split.SplitBare.{is_escaped-push_other}
 use Rattle.influxdb_line_protocol.proofs.lemmas.split.SplitWalk.{Plain-comma}
-use Rattle.influxdb_line_protocol.proofs.lemmas.laws.batch_reads_back.NameReadsBack.{may_stand, admitted_parts, begins_otherwise, name_reads_back}
+use Rattle.influxdb_line_protocol.proofs.lemmas.laws.batch_reads_back.NameReadsBack.{may_stand, admitted_parts}
+use Rattle.influxdb_line_protocol.proofs.lemmas.laws.batch_reads_back.NameReadsBack.{begins_otherwise, name_reads_back}
 use Rattle.influxdb_line_protocol.proofs.lemmas.laws.batch_reads_back.NameReadsBack.{read_name, escaped_plain}
 use Rattle.influxdb_line_protocol.proofs.lemmas.laws.batch_reads_back.ReadLines.{read_tag, read_tags, read_field}
-use Rattle.influxdb_line_protocol.proofs.lemmas.laws.batch_reads_back.PartsReadBack.{tag_text, tag_reads_back, tag_set_reads_back, field_reads_back}
-use Rattle.influxdb_line_protocol.proofs.lemmas.laws.batch_reads_back.LinePieces.{Reaches, reaches_start, reaches_tags, reaches_name, reaches_field}
+use Rattle.influxdb_line_protocol.proofs.lemmas.laws.batch_reads_back.PartsReadBack.{tag_text, tag_reads_back}
+use Rattle.influxdb_line_protocol.proofs.lemmas.laws.batch_reads_back.PartsReadBack.{tag_set_reads_back}
+use Rattle.influxdb_line_protocol.proofs.lemmas.laws.batch_reads_back.PartsReadBack.{field_reads_back}
+use Rattle.influxdb_line_protocol.proofs.lemmas.laws.batch_reads_back.LinePieces.{Reaches, reaches_start, reaches_tags}
+use Rattle.influxdb_line_protocol.proofs.lemmas.laws.batch_reads_back.LinePieces.{reaches_name, reaches_field}
 use Rattle.influxdb_line_protocol.proofs.lemmas.laws.batch_reads_back.LinePieces.{AdmittedTag, AdmittedField, admitted_tags, line_parts}
 use Rattle.influxdb_line_protocol.proofs.lemmas.laws.batch_reads_back.LineReadsBack.{measurement_reads_back, spaces_before}
 use Rattle.influxdb_line_protocol.proofs.lemmas.laws.batch_reads_back.BatchesReadBack.{admitted_batches_read_back}

@@ -16,7 +16,8 @@ use Rattle.influxdb_line_protocol.specs.laws.UnreadableNames.{IsUnreadable.alone
 use Rattle.influxdb_line_protocol.specs.laws.Laws.{ItemsHaveReadableNames, OtherPointsEndWithBackslash}
 use Rattle.influxdb_line_protocol.proofs.lemmas.split.SplitPieces.{pieces_exist}
 use Rattle.influxdb_line_protocol.proofs.lemmas.laws.batch_reads_back.BatchesReadBack.{admitted_batches_read_back}
-use Rattle.influxdb_line_protocol.proofs.lemmas.laws.parsed_names.ParsedNames.{ParsedPoint, names_are_parsed, first_or_later, nothing_in_nil}
+use Rattle.influxdb_line_protocol.proofs.lemmas.laws.parsed_names.ParsedNames.{ParsedPoint, names_are_parsed}
+use Rattle.influxdb_line_protocol.proofs.lemmas.laws.parsed_names.ParsedNames.{first_or_later, nothing_in_nil}
 use Rattle.influxdb_line_protocol.proofs.lemmas.laws.batch_reads_back.RefusedBatches.{first_fails, point_fails, same_answers}
 
 -- a name as a line can have it is not unreadable

@@ -7,19 +7,24 @@ use Rattle.std.proofs.lemmas.Bool.{cases_Bool, eqb-true, eq-eqb, both_ways}
 use Rattle.influxdb_line_protocol.specs.declared.split.Dialect.{Dialect}
 use Rattle.influxdb_line_protocol.specs.format.Bytes.{comma, equals, space}
 use Rattle.influxdb_line_protocol.specs.format.Readings.{Side, Fault, measurement_value_invalid, field_set_missing, ends_with_backslash}
-use Rattle.influxdb_line_protocol.specs.format.Readings.{tag_set_malformed, take_while1, timestamp_value_invalid, cannot_parse_entire_line, Text}
+use Rattle.influxdb_line_protocol.specs.format.Readings.{tag_set_malformed, take_while1, timestamp_value_invalid}
+use Rattle.influxdb_line_protocol.specs.format.Readings.{cannot_parse_entire_line, Text}
 use Rattle.influxdb_line_protocol.specs.format.Readings.{Read, Reading, miss, fatal, reads, ◌>>=◌}
-use Rattle.influxdb_line_protocol.specs.format.Names.{NameKind, a_measurement, a_tag_key, a_tag_value, ends_in_backslash, logical, name, spelled}
+use Rattle.influxdb_line_protocol.specs.format.Names.{NameKind, a_measurement, a_tag_key, a_tag_value}
+use Rattle.influxdb_line_protocol.specs.format.Names.{ends_in_backslash, logical, name, spelled}
 use Rattle.influxdb_line_protocol.specs.format.Values.{Value, integer_len, fits_i64, side_of}
 use Rattle.influxdb_line_protocol.specs.format.Points.{Pair}
 use Rattle.influxdb_line_protocol.specs.format.Lines.{Line, byte, tag, field, separated_list, tag_set, without_comma, spaces}
 use Rattle.influxdb_line_protocol.specs.format.Lines.{timestamp, front_before}
 use Rattle.influxdb_line_protocol.specs.format.Lines.{answer}
 use Rattle.influxdb_line_protocol.specs.laws.Meanings.{WholeList, NextHasFault}
-use Rattle.influxdb_line_protocol.specs.laws.MeaningsOfAnswers.{BeginsWith, after_spaces, ReadsSeries, ReadsSeries.alone, ReadsSeries.tagged}
+use Rattle.influxdb_line_protocol.specs.laws.MeaningsOfAnswers.{BeginsWith, after_spaces, ReadsSeries}
+use Rattle.influxdb_line_protocol.specs.laws.MeaningsOfAnswers.{ReadsSeries.alone, ReadsSeries.tagged}
 use Rattle.influxdb_line_protocol.specs.laws.MeaningsOfAnswers.{ReadsFields, IsAnswer, IsAnswer.fatal_measurement, IsAnswer.no_measurement}
-use Rattle.influxdb_line_protocol.specs.laws.MeaningsOfAnswers.{IsAnswer.fatal_tag, IsAnswer.no_tag, IsAnswer.no_space, IsAnswer.fatal_field}
-use Rattle.influxdb_line_protocol.specs.laws.MeaningsOfAnswers.{IsAnswer.no_field, IsAnswer.fatal_timestamp, IsAnswer.left, IsAnswer.all_read}
+use Rattle.influxdb_line_protocol.specs.laws.MeaningsOfAnswers.{IsAnswer.fatal_tag, IsAnswer.no_tag, IsAnswer.no_space}
+use Rattle.influxdb_line_protocol.specs.laws.MeaningsOfAnswers.{IsAnswer.fatal_field}
+use Rattle.influxdb_line_protocol.specs.laws.MeaningsOfAnswers.{IsAnswer.no_field, IsAnswer.fatal_timestamp}
+use Rattle.influxdb_line_protocol.specs.laws.MeaningsOfAnswers.{IsAnswer.left, IsAnswer.all_read}
 use Rattle.influxdb_line_protocol.specs.laws.MeaningsOfAnswers.{AnswerIsByRows}
 use Rattle.influxdb_line_protocol.proofs.lemmas.laws.meanings.JoinedMeaning.{the_most_is_read, the_next_has_the_fault, the_first_misses}
 use Rattle.influxdb_line_protocol.proofs.lemmas.line.LightLemmas.{tag_set_ends}

@@ -26,7 +26,8 @@ use Rattle.influxdb_line_protocol.proofs.lemmas.laws.parsed_names.ParsedNames.{n
 use Rattle.influxdb_line_protocol.proofs.lemmas.laws.parsed_names.Utf8Spellings.{utf8_push, spelling_utf8}
 use Rattle.influxdb_line_protocol.proofs.lemmas.laws.parsed_names.Spellings.{SpelledAs, SpelledAs.done, SpelledAs.plain, spelled_as}
 use Rattle.influxdb_line_protocol.proofs.lemmas.laws.parsed_names.Spellings.{spelled_logical, spelled_reads, spelled_begins, spelled_spaces}
-use Rattle.influxdb_line_protocol.proofs.lemmas.laws.parsed_names.Spellings.{BeginsLine, line_no_comment, line_trimmed, line_some, reaches_head}
+use Rattle.influxdb_line_protocol.proofs.lemmas.laws.parsed_names.Spellings.{BeginsLine, line_no_comment, line_trimmed}
+use Rattle.influxdb_line_protocol.proofs.lemmas.laws.parsed_names.Spellings.{line_some, reaches_head}
 use Rattle.influxdb_line_protocol.proofs.lemmas.laws.parsed_names.Spellings.{reaches_other, reaches_gap, reaches_field_key}
 
 -- a name that is not empty and does not end in a backslash, with a spelling

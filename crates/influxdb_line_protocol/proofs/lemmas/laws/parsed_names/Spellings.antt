@@ -24,7 +24,9 @@ use Rattle.influxdb_line_protocol.proofs.lemmas.laws.batch_reads_back.NameReadsB
 use Rattle.influxdb_line_protocol.proofs.lemmas.laws.batch_reads_back.NameReadsBack.{backslash_no_stop, escaped_found, escaped_plain}
 use Rattle.influxdb_line_protocol.proofs.lemmas.scan.ScanLemmas.{bare_len, first_bare_len}
 use Rattle.influxdb_line_protocol.proofs.lemmas.line.TrimLemmas.{is_blank, trimmed_is}
-use Rattle.influxdb_line_protocol.proofs.lemmas.laws.batch_reads_back.LinePieces.{Reaches, ChangesNothing, reaches_pair, reaches_byte, no_backslash}
+use Rattle.influxdb_line_protocol.proofs.lemmas.laws.batch_reads_back.LinePieces.{Reaches, ChangesNothing}
+use Rattle.influxdb_line_protocol.proofs.lemmas.laws.batch_reads_back.LinePieces.{reaches_pair, reaches_byte}
+use Rattle.influxdb_line_protocol.proofs.lemmas.laws.batch_reads_back.LinePieces.{no_backslash}
 use Rattle.influxdb_line_protocol.proofs.lemmas.laws.batch_reads_back.LinePieces.{no_newline, no_space}
 use Rattle.influxdb_line_protocol.proofs.lemmas.split.SplitBare.{is_escaped-push_other}
 use Rattle.influxdb_line_protocol.proofs.lemmas.split.SplitWalk.{Head-other, Head-space, Plain-other}
