@@ -1,23 +1,24 @@
 //! Writes lines, in typed states.
 //!
 //! A [`LineProtocolBuilder`] begins before a measurement. Its type says what may come next, so a
-//! line without a field, a tag behind a field or a second timestamp does not compile, and
+//! line without a field, a tag after a field or a second timestamp does not compile, and
 //! [`LineProtocolBuilder::build`] gives the buffer back between two lines alone.
 
-ghost use Rattle.std.specs.Prelude.{◌≡◌, ◌≢◌, ◌+◌, ◌-◌, ◌<◌, ◌≤◌, ◌^◌, ◌↔◌, List, [], ◌∷◌, ◌++◌, ℕ, true, length, IfOk, IfErr, IfNone, IfSome, OnOk, OnErr, IsOk, IsErr, vec_len, vec_capacity};
+ghost use Rattle.std.specs.Prelude.{◌≡◌, ◌≢◌, ◌+◌, ◌-◌, ◌<◌, ◌≤◌, ◌^◌, ◌↔◌, List, [], ◌∷◌, ◌++◌, ℕ, true, length, IfOk};
+ghost use Rattle.std.specs.Prelude.{IfErr, IfNone, IfSome, OnOk, OnErr, IsOk, IsErr, vec_len, vec_capacity};
 ghost use Rattle.std.specs.List.{count_by};
 ghost use Rattle.std.specs.Option.{SomeIff};
 ghost use Rattle.std.specs.Fmt.{decimal, signed_decimal};
 ghost use Rattle.arrayvec.specs.ArrayVec.{array_vec_len};
 ghost use Rattle.influxdb_line_protocol.specs.declared.builder.NoRoom.{NoRoom};
 ghost use Rattle.influxdb_line_protocol.specs.declared.builder.NoRoom.TheVariants.{OutOfMemory, Full, TooLong};
-ghost use Rattle.influxdb_line_protocol.specs.Bytes.{backslash, is_one_of, newline, space, comma};
-ghost use Rattle.influxdb_line_protocol.specs.Escapes.{escaped};
-ghost use Rattle.influxdb_line_protocol.specs.Names.{a_measurement};
-ghost use Rattle.influxdb_line_protocol.specs.Values.{integer, unsigned, string, boolean};
-ghost use Rattle.influxdb_line_protocol.specs.Points.{built_tag, built_value, field_text, spelling};
-ghost use Rattle.influxdb_line_protocol.specs.Marks.{listed};
-ghost use Rattle.influxdb_line_protocol.specs.Built.{IsPlainText, Writes, buffer_of, bytes_of};
+ghost use Rattle.influxdb_line_protocol.specs.format.Bytes.{backslash, is_one_of, newline, space, comma};
+ghost use Rattle.influxdb_line_protocol.specs.format.Escapes.{escaped};
+ghost use Rattle.influxdb_line_protocol.specs.format.Names.{a_measurement};
+ghost use Rattle.influxdb_line_protocol.specs.format.Values.{integer, unsigned, string, boolean};
+ghost use Rattle.influxdb_line_protocol.specs.format.Points.{built_tag, built_value, field_text, spelling};
+ghost use Rattle.influxdb_line_protocol.specs.code.Marks.{listed};
+ghost use Rattle.influxdb_line_protocol.specs.code.Built.{IsPlainText, Writes, buffer_of, bytes_of};
 ghost use Rattle.influxdb_line_protocol.specs.declared.builder.Escapes.TheVariants.{OfKey, OfString};
 
 use arrayvec::ArrayVec;
@@ -74,7 +75,7 @@ pub trait BufMut: Drop {
         ensures room { room self.old ≤ room self.new + length s.now };
 }
 
-/// A `Vec` grows, so its room is what its capacity leaves free, and it refuses for want of memory
+/// A `Vec` grows, so its room is what its capacity leaves free, and it refuses for `OutOfMemory`
 /// alone.
 impl<A: Allocator> BufMut for Vec<u8, A> {
     ghost bytes = { λ v. v.items };
@@ -171,7 +172,7 @@ struct Extent {
 
 // The length of `text` with its backslashes, and whether it has none.
 #[inline(always)]
-#[tactic(auto, using(crate::proofs::BuilderLemmas::escaped_as_long))]
+#[tactic(auto, using(crate::proofs::lemmas::builder::BuilderLemmas::escaped_as_long))]
 fn measure(escapes: Escapes, text: &[u8]) -> Extent
     ensures len { result.len ≡ length (escaped (bytes_of escapes) text.now) }
     ensures plain { result.is_plain ≡ true → IsPlainText (bytes_of escapes) text.now }
@@ -185,14 +186,14 @@ fn measure(escapes: Escapes, text: &[u8]) -> Extent
 
 // The length of `text` with its backslashes. A text takes at most half of what a `usize` holds.
 #[inline(always)]
-#[tactic(auto, using(crate::proofs::BuilderLemmas::length_escaped))]
+#[tactic(auto, using(crate::proofs::lemmas::builder::BuilderLemmas::length_escaped))]
 fn escaped_len(escapes: Escapes, text: &[u8]) -> usize
     ensures { result ≡ length (escaped (bytes_of escapes) text.now) }
 {
     text.len() + backslashes(escapes, text)
 }
 
-// The first byte of `text` that gets a backslash: what stands before it, the byte, and what follows.
+// The first byte of `text` that gets a backslash: what comes before it, the byte, and what follows.
 #[inline(always)]
 fn next_escape(escapes: Escapes, text: &[u8]) -> Option<(&[u8], u8, &[u8])>
     ensures some { IfSome result (λ p. escaped (bytes_of escapes) text.now
@@ -278,7 +279,7 @@ pub trait FieldValue: Drop {
 }
 
 // How many digits the number has.
-#[tactic(auto, using(crate::proofs::BuilderLemmas::length_decimal, crate::proofs::BuilderLemmas::length_digit))]
+#[tactic(auto, using(crate::proofs::lemmas::builder::BuilderLemmas::length_decimal, crate::proofs::lemmas::builder::BuilderLemmas::length_digit))]
 fn decimal_len(n: u64) -> usize
     ensures value { result ≡ length (decimal n) }
     ensures few { result ≤ 20 }
@@ -626,7 +627,7 @@ impl<B: BufMut> LineProtocolBuilder<B, AfterMeasurement> {
 }
 
 impl<B: BufMut> LineProtocolBuilder<B, AfterField> {
-    /// Appends a field behind the first: a comma, and then as there.
+    /// Appends a field after the first: a comma, and then as there.
     ///
     /// # Errors
     ///

@@ -1,8 +1,8 @@
-//! Digits in front of a text, and the numbers that they write.
+//! Digits at the start of a text, and the numbers that they write.
 
 ghost use Rattle.std.specs.Prelude.{◌≡◌, ◌≤◌, ◌<◌, ◌^◌, if◌then◌else◌, MatchOption, codes, false, length, neg_ℤ, pos, take, true};
 ghost use Rattle.std.specs.Str.Parse.{AllDigits, IsNumeral, digits_value, digits_value_after, signed_digits_value, without_leading_sign};
-ghost use Rattle.influxdb_line_protocol.specs.Values.{IsSigned, digits_len, fits_i64};
+ghost use Rattle.influxdb_line_protocol.specs.format.Values.{IsSigned, digits_len, fits_i64};
 
 use crate::lanes::{LANES, first_set};
 use std::simd::prelude::*;
@@ -10,7 +10,7 @@ use std::simd::prelude::*;
 // So many digits write a number that a u64 holds.
 const MOST_DIGITS: usize = 19;
 
-// How many digits stand in front of `bytes`, by one byte after another.
+// How many digits are at the start of `bytes`, by one byte after another.
 #[inline(always)]
 fn walked_len(bytes: &[u8]) -> usize
     ensures value { result ≡ digits_len bytes.now }
@@ -33,7 +33,7 @@ fn lanes_len(bytes: &[u8]) -> usize
     first_set(others.to_bitmask(), LANES)
 }
 
-/// How many digits stand in front of `bytes`.
+/// How many digits are at the start of `bytes`.
 #[inline(always)]
 pub(crate) fn digits_len(bytes: &[u8]) -> usize
     ensures value { result ≡ digits_len bytes.now }
@@ -50,7 +50,7 @@ pub(crate) fn digits_len(bytes: &[u8]) -> usize
     }
 }
 
-// The number that `digits` write behind the digits of `before`.
+// The number that `digits` write after the digits of `before`.
 #[inline(always)]
 fn value_after(before: u64, digits: &[u8]) -> u64
     requires digits { AllDigits 10 digits.now }
@@ -84,12 +84,13 @@ fn digits_value(digits: &[u8]) -> u64
     value_after(value, left)
 }
 
-// Whether `number` has `-` in front, and its digits.
+// Whether `number` has `-` at the start, and its digits.
 #[inline(always)]
 fn sign_and_digits(number: &str) -> (bool, &[u8])
     requires { IsSigned (codes "-") number.now }
     ensures digits { AllDigits 10 result.1.now }
-    ensures value { signed_digits_value 10 number.now ≡ if result.0 then neg_ℤ (pos (digits_value 10 result.1.now)) else pos (digits_value 10 result.1.now) }
+    ensures value { signed_digits_value 10 number.now ≡ if result.0 then neg_ℤ
+        (pos (digits_value 10 result.1.now)) else pos (digits_value 10 result.1.now) }
 {
     match number.as_bytes() {
         [b'-', digits @ ..] => (true, digits),
@@ -102,7 +103,8 @@ fn sign_and_digits(number: &str) -> (bool, &[u8])
 #[inline(never)]
 fn parsed_integer(number: &str) -> Option<i64>
     requires { IsNumeral 10 (without_leading_sign number.now) }
-    ensures { MatchOption result (fits_i64 (signed_digits_value 10 number.now) ≡ false) (λ value. (fits_i64 (signed_digits_value 10 number.now) ≡ true) × (value ≡ signed_digits_value 10 number.now)) }
+    ensures { MatchOption result (fits_i64 (signed_digits_value 10 number.now) ≡ false)
+        (λ value. (fits_i64 (signed_digits_value 10 number.now) ≡ true) × (value ≡ signed_digits_value 10 number.now)) }
 {
     number.parse::<i64>().ok()
 }
@@ -120,11 +122,12 @@ pub(crate) fn unsigned_value(number: &str) -> Option<u64>
     number.parse::<u64>().ok()
 }
 
-/// The integer that `number` writes, with `-` in front or not; `None` where no i64 holds it.
+/// The integer that `number` writes, with `-` at the start or not; `None` where no i64 holds it.
 #[inline(always)]
 pub(crate) fn integer_value(number: &str) -> Option<i64>
     requires { IsSigned (codes "-") number.now }
-    ensures { MatchOption result (fits_i64 (signed_digits_value 10 number.now) ≡ false) (λ value. (fits_i64 (signed_digits_value 10 number.now) ≡ true) × (value ≡ signed_digits_value 10 number.now)) }
+    ensures { MatchOption result (fits_i64 (signed_digits_value 10 number.now) ≡ false)
+        (λ value. (fits_i64 (signed_digits_value 10 number.now) ≡ true) × (value ≡ signed_digits_value 10 number.now)) }
 {
     let (is_negative, digits) = sign_and_digits(number);
     if digits.len() <= MOST_DIGITS {

@@ -22,7 +22,7 @@ pub enum ErrorKind {
     TakeWhile1,
 }
 
-/// The fault of a line or of a series, or want of memory.
+/// The fault of a line or of a series, or `OutOfMemory`.
 #[derive(Debug, Drop)]
 pub enum Error {
     /// A series has no base: `tag_key` is the first key, in the order of the line, that stands at
@@ -40,11 +40,11 @@ pub enum Error {
     TimestampValueInvalid { source: OutOfRange, value: String },
     /// A name ends in a backslash.
     EndsWithBackslash,
-    /// Something is left behind the last part that could be read.
+    /// Something is left after the last part that could be read.
     CannotParseEntireLine { trailing_content: String },
-    /// A comma stands behind the measurement, and no tag behind it.
+    /// A comma comes after the measurement, and no tag after it.
     TagSetMalformed,
-    /// No space stands behind the measurement.
+    /// No space comes after the measurement.
     GenericParsingError { kind: ErrorKind },
     /// A request for memory was refused.
     OutOfMemory,
@@ -52,7 +52,7 @@ pub enum Error {
 
 impl fmt::Display for Error {
     ghost use Rattle.std.specs.Prelude.{Some};
-    ghost use Rattle.influxdb_line_protocol.specs.Faults.{error_text};
+    ghost use Rattle.influxdb_line_protocol.specs.code.Faults.{error_text};
 
     ghost output = { λ e. Some (error_text e) };
 

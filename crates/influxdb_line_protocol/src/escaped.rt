@@ -7,7 +7,7 @@ ghost use Rattle.std.specs.Hash as fed;
 ghost use Rattle.std.specs.Cmp.Lexicographic.{pointwise, slice_cmp, nat_list_eq_equiv, nat_list_cmp_total, texts_ties, texts_po};
 ghost use Rattle.std.specs.Cmp.{on_equiv, on_total, on_per, on_po, partial_equiv_from_equiv};
 ghost use Rattle.std.specs.Cmp.Rules.{hashing};
-ghost use Rattle.influxdb_line_protocol.specs.Texts.{text_of, is_single_slice, read_of};
+ghost use Rattle.influxdb_line_protocol.specs.code.Texts.{text_of, is_single_slice, read_of};
 
 use std::alloc::{AllocError, Global};
 use std::cmp::Ordering;
@@ -26,13 +26,13 @@ pub enum EscapedStr<'a> {
     CopiedValue(String),
 }
 
-/// The name in front of a line.
+/// The name at the start of a line.
 pub type Measurement<'a> = EscapedStr<'a>;
 
 /// The empty text.
 impl<'a> Default for EscapedStr<'a> {
     ghost use Rattle.std.specs.Prelude.{◌≡◌, [], true};
-    ghost use Rattle.influxdb_line_protocol.specs.Texts.{read_of};
+    ghost use Rattle.influxdb_line_protocol.specs.code.Texts.{read_of};
 
     ghost is_default = { λ e. read_of e ≡ record { bytes = []; is_single = true } };
 

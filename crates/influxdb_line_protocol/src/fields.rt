@@ -1,23 +1,23 @@
 //! The fields of a line.
 
 ghost use Rattle.std.specs.Prelude.{◌≡◌, ◌<◌, ◌≤◌, [], ◌∷◌, ◌++◌, length, IfErr, IfOk, IfSome, OnErr, OnOk, Err};
-ghost use Rattle.influxdb_line_protocol.specs.Filled.{Fills};
-ghost use Rattle.influxdb_line_protocol.specs.Light.{is_single_field};
-ghost use Rattle.influxdb_line_protocol.specs.Lines.{field, field_set, joined, without_comma};
-ghost use Rattle.influxdb_line_protocol.specs.Memory.{NeedsMemory};
-ghost use Rattle.influxdb_line_protocol.specs.Outcomes.{Gives};
-ghost use Rattle.influxdb_line_protocol.specs.Parsed.{field_of};
-ghost use Rattle.influxdb_line_protocol.specs.Sets.{SetNeedsMemory, fields_of};
+ghost use Rattle.influxdb_line_protocol.specs.code.Filled.{Fills};
+ghost use Rattle.influxdb_line_protocol.specs.code.Light.{is_single_field};
+ghost use Rattle.influxdb_line_protocol.specs.format.Lines.{field, field_set, separated_list, without_comma};
+ghost use Rattle.influxdb_line_protocol.specs.code.Memory.{NeedsMemory};
+ghost use Rattle.influxdb_line_protocol.specs.code.Outcomes.{Gives};
+ghost use Rattle.influxdb_line_protocol.specs.code.Parsed.{field_of};
+ghost use Rattle.influxdb_line_protocol.specs.code.Sets.{SetNeedsMemory, fields_of};
 
-use crate::line::behind;
+use crate::line::strip_byte;
 use crate::names::{self, NameKind};
 use crate::{Dialect, Error, EscapedStr, FieldSet, FieldValue, Result, values};
 use std::alloc::Global;
 
 type Field<'a> = (EscapedStr<'a>, FieldValue<'a>);
 
-// A field in front of `text`, and the rest. The copy of the key comes last: where no field stands, the key takes no memory.
-#[tactic(auto, unfolding(crate::specs::Lines::field))]
+// A field at the start of `text`, and the rest. The copy of the key comes last: where no field stands, the key takes no memory.
+#[tactic(auto, unfolding(crate::specs::format::Lines::field))]
 #[inline(always)]
 fn field<'a>(alloc: Global, text: &'a str) -> Result<Option<(Field<'a>, &'a str)>>
     ensures value { Gives field_of result (field text.now) }
@@ -27,7 +27,7 @@ fn field<'a>(alloc: Global, text: &'a str) -> Result<Option<(Field<'a>, &'a str)
     let Some((key, rest)) = names::spelled(NameKind::FieldKey, text)? else {
         return Ok(None);
     };
-    let Some(rest) = behind(b'=', rest) else {
+    let Some(rest) = strip_byte(b'=', rest) else {
         return Ok(None);
     };
     let Some((value, rest)) = values::value(alloc, rest)? else {
@@ -55,12 +55,12 @@ fn append<'a>(set: &mut FieldSet<'a>, next: Field<'a>) -> Result<()>
     Ok(())
 }
 
-// Fills the empty set with the fields in front of `text`, joined by commas, and gives the rest. As many as the set has
+// Fills the empty set with the fields at the start of `text`, joined by commas, and gives the rest. As many as the set has
 // room for take no memory but for copies.
 #[inline(always)]
 fn fields<'a>(alloc: Global, text: &'a str, set: &mut FieldSet<'a>) -> Result<Option<&'a str>>
     requires { set.old.items ≡ [] }
-    ensures value { Fills (fields_of set.new) result (joined field text.now) }
+    ensures value { Fills (fields_of set.new) result (separated_list field text.now) }
     ensures memory { result ≡ Err Error.OutOfMemory → SetNeedsMemory set.old.capacity is_single_field field text.now }
     ensures room { set.old.capacity ≤ set.new.capacity }
 {
@@ -69,8 +69,8 @@ fn fields<'a>(alloc: Global, text: &'a str, set: &mut FieldSet<'a>) -> Result<Op
     while let Some((next, after)) = field(alloc, place)? {
         append(set, next)?;
         rest = after;
-        match behind(b',', rest) {
-            Some(behind) => place = behind,
+        match strip_byte(b',', rest) {
+            Some(suffix) => place = suffix,
             None => return Ok(Some(rest)),
         }
     }
@@ -80,22 +80,22 @@ fn fields<'a>(alloc: Global, text: &'a str, set: &mut FieldSet<'a>) -> Result<Op
     Ok(Some(rest))
 }
 
-// What follows the fields, where `rest` stands behind them: in the crate's dialect without the comma behind a first
+// What follows the fields, where `rest` comes after them: in the crate's dialect without the comma after a first
 // field that is the only one.
 #[inline(always)]
-fn behind_fields<'a>(dialect: Dialect, fields: &FieldSet<'_>, rest: &'a str) -> &'a str
+fn without_comma<'a>(dialect: Dialect, fields: &FieldSet<'_>, rest: &'a str) -> &'a str
     ensures { result.now ≡ without_comma dialect (fields_of fields.now) rest.now }
 {
     match dialect {
-        Dialect::Crate if fields.len() == 1 => behind(b',', rest).unwrap_or(rest),
+        Dialect::Crate if fields.len() == 1 => strip_byte(b',', rest).unwrap_or(rest),
         _ => rest,
     }
 }
 
-/// Fills the empty `set` with the fields in front of `text`, joined by commas, and gives the rest.
+/// Fills the empty `set` with the fields at the start of `text`, joined by commas, and gives the rest.
 ///
-/// `None` where no field stands there. In the crate's dialect the comma behind a first field is taken, also where no
-/// field stands behind it.
+/// `None` where no field is there. In the crate's dialect the comma after a first field is taken, also where no
+/// field comes after it.
 #[inline(always)]
 pub(crate) fn field_set<'a>(
     alloc: Global,
@@ -111,6 +111,6 @@ pub(crate) fn field_set<'a>(
     let Some(rest) = fields(alloc, text, set)? else {
         return Ok(None);
     };
-    let rest = behind_fields(dialect, set, rest);
+    let rest = without_comma(dialect, set, rest);
     Ok(Some(rest))
 }

@@ -1,13 +1,14 @@
 //! Names and texts between quotes: how far they are spelled, and what their spellings stand for.
 
-ghost use Rattle.std.specs.Prelude.{◌≡◌, ◌+◌, ◌<◌, ◌≤◌, [], true, false, not, length, take, drop, slice_index, string_bytes, IsCharBoundary, IfOk, IsOk};
+ghost use Rattle.std.specs.Prelude.{◌≡◌, ◌+◌, ◌<◌, ◌≤◌, [], true, false, not, length, take, drop, slice_index};
+ghost use Rattle.std.specs.Prelude.{string_bytes, IsCharBoundary, IfOk, IsOk};
 ghost use Rattle.std.specs.String.{string_capacity};
-ghost use Rattle.influxdb_line_protocol.specs.Bytes.{backslash, is_one_of};
-ghost use Rattle.influxdb_line_protocol.specs.Escapes.{Walked, first_bare, without_escapes};
-ghost use Rattle.influxdb_line_protocol.specs.Forms.{stops_of, known_of, is_end, is_plain};
-ghost use Rattle.influxdb_line_protocol.specs.Lanes.{IsRunAt, mask_of};
-ghost use Rattle.influxdb_line_protocol.specs.Names.{ends_in_backslash, is_one_escape, is_shared, read_text};
-ghost use Rattle.influxdb_line_protocol.specs.Texts.{read_of};
+ghost use Rattle.influxdb_line_protocol.specs.format.Bytes.{backslash, is_one_of};
+ghost use Rattle.influxdb_line_protocol.specs.format.Escapes.{EscapeScan, first_bare, without_escapes};
+ghost use Rattle.influxdb_line_protocol.specs.code.Forms.{stops_of, known_of, is_end, is_plain};
+ghost use Rattle.influxdb_line_protocol.specs.code.Lanes.{IsRunAt, mask_of};
+ghost use Rattle.influxdb_line_protocol.specs.format.Names.{ends_in_backslash, is_one_escape, is_shared, read_text};
+ghost use Rattle.influxdb_line_protocol.specs.code.Texts.{read_of};
 
 use crate::escaped::EscapedStr;
 use crate::lanes::{
@@ -110,9 +111,9 @@ fn plain_end(form: Form, bytes: &[u8], at: usize) -> usize
 // and how many of the escapes before it are known.
 #[inline(always)]
 fn escapes_in_load(form: Form, bytes: &[u8], at: usize, found: usize) -> (usize, usize)
-    requires walked { Walked (known_of form) (stops_of form) bytes.now at found }
+    requires walked { EscapeScan (known_of form) (stops_of form) bytes.now at found }
     requires room { at + WIDE < length bytes.now }
-    ensures walked { Walked (known_of form) (stops_of form) bytes.now result.0 result.1 }
+    ensures walked { EscapeScan (known_of form) (stops_of form) bytes.now result.0 result.1 }
     ensures stops { result.0 < at + WIDE → stops_of form (slice_index bytes.now result.0) ≡ true }
     ensures further { at ≤ result.0 }
 {
@@ -131,7 +132,7 @@ fn escapes_in_load(form: Form, bytes: &[u8], at: usize, found: usize) -> (usize,
 // many of the escapes before it are known.
 #[inline(never)]
 fn escapes_to_end(form: Form, bytes: &[u8], at: usize, found: usize) -> (usize, usize)
-    requires walked { Walked (known_of form) (stops_of form) bytes.now at found }
+    requires walked { EscapeScan (known_of form) (stops_of form) bytes.now at found }
     ensures value { result.0 ≡ first_bare (stops_of form) bytes.now }
     ensures within { result.0 ≤ length bytes.now }
     ensures stops { result.0 < length bytes.now → stops_of form (slice_index bytes.now result.0) ≡ true }
@@ -215,7 +216,7 @@ fn extent(form: Form, text: &str) -> (usize, bool, usize)
     (end, true, end)
 }
 
-/// The spelled text in front of `text`, also an empty one, and the rest.
+/// The spelled text at the start of `text`, also an empty one, and the rest.
 #[inline(always)]
 pub(crate) fn front(form: Form, text: &str) -> (Spelling<'_>, &str)
     ensures form { result.0.form ≡ form }
@@ -281,7 +282,8 @@ fn backslash_at(bytes: &[u8], at: usize) -> usize
 // The mask of the backslashes of a text of 8 to 63 bytes, and 0 for any other.
 #[inline(always)]
 fn text_mask(bytes: &[u8]) -> u64
-    ensures { HALF_LANES ≤ length bytes.now → length bytes.now < MASKED → result ≡ mask_of (is_end (λ b. false)) bytes.now 0 (length bytes.now) }
+    ensures { HALF_LANES ≤ length bytes.now → length bytes.now < MASKED
+        → result ≡ mask_of (is_end (λ b. false)) bytes.now 0 (length bytes.now) }
 {
     if bytes.len() < HALF_LANES || bytes.len() >= MASKED {
         return 0;
@@ -293,7 +295,8 @@ fn text_mask(bytes: &[u8]) -> u64
 #[inline(always)]
 fn next_backslash(bytes: &[u8], mask: u64, at: usize) -> usize
     requires within { at ≤ length bytes.now }
-    requires mask { HALF_LANES ≤ length bytes.now → length bytes.now < MASKED → mask ≡ mask_of (is_end (λ b. false)) bytes.now 0 (length bytes.now) }
+    requires mask { HALF_LANES ≤ length bytes.now → length bytes.now < MASKED
+        → mask ≡ mask_of (is_end (λ b. false)) bytes.now 0 (length bytes.now) }
     ensures { IsRunAt (is_plain (λ b. false)) bytes.now at result }
 {
     if bytes.len() < HALF_LANES || bytes.len() >= MASKED {
@@ -302,7 +305,7 @@ fn next_backslash(bytes: &[u8], mask: u64, at: usize) -> usize
     at + first_set(mask >> at, bytes.len() - at)
 }
 
-// Puts behind `to`, which has room for it, what `spelled` stands for. It asks for no memory.
+// Puts after `to`, which has room for it, the logical text of `spelled`. It asks for no memory.
 #[inline(always)]
 fn put(form: Form, spelled: &str, to: &mut String) -> Result<(), AllocError>
     requires empty { string_bytes to.old ≡ [] }
@@ -325,7 +328,7 @@ fn put(form: Form, spelled: &str, to: &mut String) -> Result<(), AllocError>
     Ok(())
 }
 
-// A copy of what `spelled` stands for, which takes `len` bytes. It asks for memory once.
+// A copy of the logical text of `spelled`, which takes `len` bytes. It asks for memory once.
 #[inline(never)]
 fn copy(alloc: Global, form: Form, spelled: &str, len: usize) -> Result<String, AllocError>
     requires { len ≡ length (without_escapes (known_of form) spelled.now) }

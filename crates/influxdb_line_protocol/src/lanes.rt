@@ -1,8 +1,8 @@
 //! How many bytes of one load, from the first, go on a spelling, or hold no backslash.
 ghost use Rattle.std.specs.Prelude.{◌≡◌, ◌+◌, ◌<◌, ◌≤◌, bit_and, false, length, map, slice_index};
-ghost use Rattle.influxdb_line_protocol.specs.Bytes.{is_one_of};
-ghost use Rattle.influxdb_line_protocol.specs.Forms.{is_end, is_plain, known_of, stops_of};
-ghost use Rattle.influxdb_line_protocol.specs.Lanes.{IsRunIn, first_set, mask_of};
+ghost use Rattle.influxdb_line_protocol.specs.format.Bytes.{is_one_of};
+ghost use Rattle.influxdb_line_protocol.specs.code.Forms.{is_end, is_plain, known_of, stops_of};
+ghost use Rattle.influxdb_line_protocol.specs.code.Lanes.{IsRunIn, first_set, mask_of};
 
 use crate::forms::Form;
 use crate::scan::WIDE;
@@ -109,7 +109,7 @@ pub(crate) fn known_in(form: Form, bytes: &[u8], at: usize) -> u64
     }
 }
 
-/// How many of the 16 bytes from `at` on stand before the first that ends a spelling of this form or is a backslash.
+/// How many of the 16 bytes from `at` on come before the first that ends a spelling of this form or is a backslash.
 #[inline(always)]
 pub(crate) fn plain_run(form: Form, bytes: &[u8], at: usize) -> usize
     requires { at + LANES ≤ length bytes.now }
@@ -138,7 +138,7 @@ fn backslashes_half(bytes: &[u8], at: usize) -> u64
     lanes.to_bitmask()
 }
 
-/// How many of the 16 bytes from `at` on stand before the first backslash.
+/// How many of the 16 bytes from `at` on come before the first backslash.
 #[inline(always)]
 pub(crate) fn backslash_run(bytes: &[u8], at: usize) -> usize
     requires { at + LANES ≤ length bytes.now }

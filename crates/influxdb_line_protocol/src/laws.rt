@@ -1,22 +1,22 @@
 //! Laws of the definitions, each the contract of a function that does nothing.
 
-ghost use Rattle.influxdb_line_protocol.specs.Laws.{AdmittedBatchesReadBack, OtherBatchesDoNot};
-ghost use Rattle.influxdb_line_protocol.specs.Laws.{ItemsHaveReadableNames, OtherPointsEndWithBackslash};
-ghost use Rattle.influxdb_line_protocol.specs.Laws.{NamesAreParsed, ParsedNamesStandInLines, StrictFieldsEnd};
-ghost use Rattle.influxdb_line_protocol.specs.Laws.{PiecesExist, PiecesAreUnique, PiecesAreTheText, PiecesJoin};
-ghost use Rattle.influxdb_line_protocol.specs.Laws.{AnswersJoin, CommentsStandAlone};
-ghost use Rattle.influxdb_line_protocol.specs.PointsOfLines.{LinesArePoints};
-ghost use Rattle.influxdb_line_protocol.specs.GivenItems.{ItemsAreOfPieces, ItemsAreAnswers, ItemsSoFar};
-ghost use Rattle.influxdb_line_protocol.specs.BaseLaws.{ClearSeriesHaveBases, SameSeriesHaveOneBase, TagsByKeyAreSorted};
-ghost use Rattle.influxdb_line_protocol.specs.BaseLaws.{OneBaseIsOneSeries, PlainSeriesAreClear, ReadSeriesAreParsed};
-ghost use Rattle.influxdb_line_protocol.specs.Meanings.{LogicalIsWithoutEscapes};
-ghost use Rattle.influxdb_line_protocol.specs.Meanings.{TheMostIsRead, TheNextHasTheFault, TheFirstMisses, CountIsOfTheMost};
-ghost use Rattle.influxdb_line_protocol.specs.Meanings.{FloatFrontIsFloat, FloatFrontIsLongest};
-ghost use Rattle.influxdb_line_protocol.specs.Meanings.{WordFrontIsWord, WordFrontIsLongest};
-ghost use Rattle.influxdb_line_protocol.specs.Meanings.{TrimmedIsBehindBlanks, TrimmedFrontIsLongest};
-ghost use Rattle.influxdb_line_protocol.specs.Meanings.{NameEndsBeforeStop, BodyEndsBeforeQuote};
-ghost use Rattle.influxdb_line_protocol.specs.MeaningsOfAnswers.{AnswerIsByRows};
-ghost use Rattle.influxdb_line_protocol.specs.Lines.{tag, field};
+ghost use Rattle.influxdb_line_protocol.specs.laws.Laws.{AdmittedBatchesReadBack, OtherBatchesDoNotReadBack};
+ghost use Rattle.influxdb_line_protocol.specs.laws.Laws.{ItemsHaveReadableNames, OtherPointsEndWithBackslash};
+ghost use Rattle.influxdb_line_protocol.specs.laws.Laws.{NamesAreParsed, ParsedNamesStandInLines, StrictFieldsEnd};
+ghost use Rattle.influxdb_line_protocol.specs.laws.Laws.{PiecesExist, PiecesAreUnique, PiecesAreTheText, PiecesJoin};
+ghost use Rattle.influxdb_line_protocol.specs.laws.Laws.{AnswersJoin, CommentsStandAlone};
+ghost use Rattle.influxdb_line_protocol.specs.laws.PointsOfLines.{LinesArePoints};
+ghost use Rattle.influxdb_line_protocol.specs.laws.GivenItems.{ItemsAreOfPieces, ItemsAreAnswers, ItemsSoFar};
+ghost use Rattle.influxdb_line_protocol.specs.laws.BaseLaws.{ClearSeriesHaveBases, SameSeriesHaveOneBase, TagsByKeyAreSorted};
+ghost use Rattle.influxdb_line_protocol.specs.laws.BaseLaws.{OneBaseIsOneSeries, PlainSeriesAreClear, ReadSeriesAreParsed};
+ghost use Rattle.influxdb_line_protocol.specs.laws.Meanings.{LogicalIsWithoutEscapes};
+ghost use Rattle.influxdb_line_protocol.specs.laws.Meanings.{TheMostIsRead, TheNextHasTheFault, TheFirstMisses, CountIsOfTheMost};
+ghost use Rattle.influxdb_line_protocol.specs.laws.Meanings.{FloatFrontIsFloat, FloatFrontIsLongest};
+ghost use Rattle.influxdb_line_protocol.specs.laws.Meanings.{WordFrontIsWord, WordFrontIsLongest};
+ghost use Rattle.influxdb_line_protocol.specs.laws.Meanings.{TrimmedIsAfterBlanks, TrimmedFrontIsLongest};
+ghost use Rattle.influxdb_line_protocol.specs.laws.Meanings.{NameEndsBeforeStop, BodyEndsBeforeQuote};
+ghost use Rattle.influxdb_line_protocol.specs.laws.MeaningsOfAnswers.{AnswerIsByRows};
+ghost use Rattle.influxdb_line_protocol.specs.format.Lines.{tag, field};
 
 /// Where memory and room suffice, a batch built from points, followed by any text, parses to exactly
 /// those points in order and then to what that text alone gives, if and only if every name is
@@ -28,13 +28,13 @@ ghost use Rattle.influxdb_line_protocol.specs.Lines.{tag, field};
 /// the point's place.
 pub fn batch_reads_back()
     ensures admitted { AdmittedBatchesReadBack }
-    ensures refused { OtherBatchesDoNot }
+    ensures refused { OtherBatchesDoNotReadBack }
     ensures unreadable { ItemsHaveReadableNames }
     ensures in_place { OtherPointsEndWithBackslash }
 {}
 
 /// No name of a line that was read is empty or ends in a backslash, no measurement begins with `#`,
-/// and a tab or a newline in a name stands directly behind a backslash, as does a NUL in a
+/// and a tab or a newline in a name comes directly after a backslash, as does a NUL in a
 /// measurement. Each text that these rules allow for a kind of name is a name of that kind in some
 /// line, whose text is UTF-8 where the name is. In the strict dialect, nothing follows the last field
 /// of a line, or a space does.
@@ -79,9 +79,9 @@ pub fn logical_text_is_unique()
     ensures { LogicalIsWithoutEscapes }
 {}
 
-/// Tags and fields that commas join are read as the greatest number that stands in front of a text.
-/// Where one more behind them has a fault, all have that fault, and where the first one misses, all
-/// miss. As many are counted as the greatest number that stands there, also where one more has a fault.
+/// Tags and fields that commas join are read as the greatest number that is at the start of a text.
+/// Where one more after them has a fault, all have that fault, and where the first one misses, all
+/// miss. As many are counted as the greatest number that is there, also where one more has a fault.
 pub fn most_are_read()
     ensures tags { TheMostIsRead tag }
     ensures tag_fault { TheNextHasTheFault tag }
@@ -102,7 +102,7 @@ pub fn answers_are_by_rows()
 /// What is left of a piece once it is trimmed is what follows its longest front of blanks and
 /// comments: spaces, tabs and newlines, and each `#` with the rest of its line.
 pub fn longest_blank_front_is_trimmed()
-    ensures blanks { TrimmedIsBehindBlanks }
+    ensures blanks { TrimmedIsAfterBlanks }
     ensures longest { TrimmedFrontIsLongest }
 {}
 

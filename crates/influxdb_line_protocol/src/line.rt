@@ -1,17 +1,18 @@
 //! Lines.
 
-ghost use Rattle.std.specs.Prelude.{◌≡◌, ◌<◌, ◌≤◌, ◌++◌, ◌^◌, ℕ, List, [], drop, length, max, slice_index, true, Err, None, Some, IfSome, MatchOption};
+ghost use Rattle.std.specs.Prelude.{◌≡◌, ◌<◌, ◌≤◌, ◌++◌, ◌^◌, ℕ, List, [], drop, length, max, slice_index, true, Err};
+ghost use Rattle.std.specs.Prelude.{None, Some, IfSome, MatchOption};
 ghost use Rattle.std.specs.Option.{option_map};
 ghost use Rattle.influxdb_line_protocol.specs.declared.split.Dialect.{Dialect};
-ghost use Rattle.influxdb_line_protocol.specs.Lines.{answer, byte, front_before, spaces};
-ghost use Rattle.influxdb_line_protocol.specs.Bytes.{space};
-ghost use Rattle.influxdb_line_protocol.specs.Outcomes.{HasMemory};
-ghost use Rattle.influxdb_line_protocol.specs.Light.{is_light_in};
-ghost use Rattle.influxdb_line_protocol.specs.Lookups.{room_of};
-ghost use Rattle.influxdb_line_protocol.specs.Filled.{FillsLine};
-ghost use Rattle.influxdb_line_protocol.specs.Trimming.{trimmed};
-ghost use Rattle.influxdb_line_protocol.specs.Readings.{miss, reads};
-ghost use Rattle.influxdb_line_protocol.specs.ReadInto.{IsEmptyLine, KeepsTagRoom};
+ghost use Rattle.influxdb_line_protocol.specs.format.Lines.{answer, byte, front_before, spaces};
+ghost use Rattle.influxdb_line_protocol.specs.format.Bytes.{space};
+ghost use Rattle.influxdb_line_protocol.specs.code.Outcomes.{IsNotOutOfMemory};
+ghost use Rattle.influxdb_line_protocol.specs.code.Light.{is_light_in};
+ghost use Rattle.influxdb_line_protocol.specs.code.Lookups.{room_of};
+ghost use Rattle.influxdb_line_protocol.specs.code.Filled.{FillsLine};
+ghost use Rattle.influxdb_line_protocol.specs.format.Trimming.{trimmed};
+ghost use Rattle.influxdb_line_protocol.specs.format.Readings.{miss, reads};
+ghost use Rattle.influxdb_line_protocol.specs.code.ReadInto.{IsEmptyLine, KeepsTagRoom};
 
 use crate::names::{self, NameKind};
 use crate::split::{SplitLines, split_lines_in};
@@ -39,8 +40,8 @@ pub struct ParsedLine<'a> {
 impl<'a> ParsedLine<'a> {
     ghost use Rattle.std.specs.Prelude.{◌^◌};
     ghost use Rattle.std.specs.Option.{option_copied};
-    ghost use Rattle.influxdb_line_protocol.specs.Lookups.{columns, some_items, value_by_key};
-    ghost use Rattle.influxdb_line_protocol.specs.ReadInto.{IsEmptyLine};
+    ghost use Rattle.influxdb_line_protocol.specs.code.Lookups.{columns, some_items, value_by_key};
+    ghost use Rattle.influxdb_line_protocol.specs.code.ReadInto.{IsEmptyLine};
 
     /// A line that says nothing: what [`ParseLines::next_into`] reads into.
     ///
@@ -99,7 +100,7 @@ impl<'a> ParsedLine<'a> {
     }
 }
 
-// `text` without the blanks and comments in front of it.
+// `text` without the blanks and comments at the start of it.
 #[inline(always)]
 fn trimmed(text: &str) -> &str
     ensures { result.now ≡ trimmed text.now }
@@ -118,9 +119,9 @@ fn trimmed(text: &str) -> &str
     &text[text.len()..]
 }
 
-/// What follows `mark`, where it stands in front of `text`.
+/// What follows `mark`, where it is at the start of `text`.
 #[inline(always)]
-pub(crate) fn behind(mark: u8, text: &str) -> Option<&str>
+pub(crate) fn strip_byte(mark: u8, text: &str) -> Option<&str>
     requires { mark < 128 }
     ensures value { MatchOption result (byte mark text.now ≡ miss) (λ rest. byte mark text.now ≡ reads mark rest.now) }
     ensures less { IfSome result (λ rest. length rest.now < length text.now) }
@@ -131,7 +132,7 @@ pub(crate) fn behind(mark: u8, text: &str) -> Option<&str>
     }
 }
 
-// How many spaces stand in front of `bytes`.
+// How many spaces are at the start of `bytes`.
 #[inline(always)]
 fn spaces_len(bytes: &[u8]) -> usize
     ensures { result ≡ spaces bytes.now }
@@ -139,15 +140,15 @@ fn spaces_len(bytes: &[u8]) -> usize
     bytes.iter().take_while(|byte| **byte == b' ').count()
 }
 
-/// What follows the spaces in front of `text`.
+/// What follows the spaces at the start of `text`.
 #[inline(always)]
-pub(crate) fn behind_spaces(text: &str) -> &str
+pub(crate) fn trim_start_spaces(text: &str) -> &str
     ensures { result.now ≡ drop (spaces text.now) text.now }
 {
     &text[spaces_len(text.as_bytes())..]
 }
 
-// What stands before `rest`, which ends `line` and begins with a space.
+// What comes before `rest`, which ends `line` and begins with a space.
 #[inline(always)]
 fn front_before<'a>(line: &'a str, rest: &str) -> &'a str
     requires ends { (front : List ℕ) × (line.now ≡ front ++ rest.now) }
@@ -159,7 +160,7 @@ fn front_before<'a>(line: &'a str, rest: &str) -> &'a str
 
 // Fills the line `parsed`, which has empty sets, with what the trimmed text `line` says. At a fault it is filled in part.
 // A tag set that has grown is kept at `spare`, where that is given and the line has no tags.
-#[tactic(auto, unfolding(crate::specs::Lines::answer))]
+#[tactic(auto, unfolding(crate::specs::format::Lines::answer))]
 #[inline(never)]
 fn fill<'a>(
     alloc: Global,
@@ -171,7 +172,8 @@ fn fill<'a>(
     requires no_tags { MatchOption parsed.old.series.tag_set ⊥ (λ tags. tags.items ≡ []) }
     requires no_fields { parsed.old.field_set.items ≡ [] }
     ensures value { FillsLine parsed.new result (answer dialect line.now) }
-    ensures light { is_light_in (room_of parsed.old.series.tag_set) parsed.old.field_set.capacity dialect line.now ≡ true → HasMemory result }
+    ensures light { is_light_in (room_of parsed.old.series.tag_set) parsed.old.field_set.capacity dialect
+        line.now ≡ true → IsNotOutOfMemory result }
     ensures tag_room { KeepsTagRoom parsed.old parsed.new }
     ensures field_room { parsed.old.field_set.capacity ≤ parsed.new.field_set.capacity }
 {
@@ -180,13 +182,18 @@ fn fill<'a>(
     };
     parsed.series.measurement = measurement;
     let rest = tags::tag_set(alloc, rest, &mut parsed.series.tag_set, spare)?;
-    if behind(b' ', rest).is_none() {
+    if strip_byte(b' ', rest).is_none() {
         return Err(Error::GenericParsingError {
             kind: ErrorKind::TakeWhile1,
         });
     }
     parsed.series.raw_input = front_before(line, rest);
-    let Some(rest) = fields::field_set(alloc, dialect, behind_spaces(rest), &mut parsed.field_set)?
+    let Some(rest) = fields::field_set(
+        alloc,
+        dialect,
+        trim_start_spaces(rest),
+        &mut parsed.field_set,
+    )?
     else {
         return Err(Error::FieldSetMissing);
     };
@@ -236,7 +243,8 @@ fn clear_sets<'a>(alloc: Global, parsed: &mut ParsedLine<'a>, spare: &mut Option
 #[inline(never)]
 fn empty(parsed: &mut ParsedLine<'_>)
     ensures empty { IsEmptyLine parsed.new }
-    ensures tag_room { option_map (λ tags. tags.capacity) parsed.new.series.tag_set ≡ option_map (λ tags. tags.capacity) parsed.old.series.tag_set }
+    ensures tag_room { option_map (λ tags. tags.capacity) parsed.new.series.tag_set ≡ option_map
+        (λ tags. tags.capacity) parsed.old.series.tag_set }
     ensures field_room { parsed.new.field_set.capacity ≡ parsed.old.field_set.capacity }
 {
     parsed.series.raw_input = "";
@@ -261,7 +269,7 @@ fn refuse(item: &mut Result<ParsedLine<'_>>, fault: Error)
 ///
 /// Each item is the answer for one piece that holds more than blanks and comments: what its line
 /// says, or its one fault. Where a line has a tag set, that holds at least one tag. Whatever an item
-/// is, the next ones are those of the pieces behind it. There are at most `input.len()` items, and it
+/// is, the next ones are those of the pieces after it. There are at most `input.len()` items, and it
 /// stays ended.
 #[derive(Drop)]
 pub struct ParseLines<'a> {
@@ -272,7 +280,7 @@ pub struct ParseLines<'a> {
 }
 
 impl<'a> Model for ParseLines<'a> {
-    ghost use Rattle.influxdb_line_protocol.specs.Pieces.{Left};
+    ghost use Rattle.influxdb_line_protocol.specs.format.Pieces.{Left};
 
     ghost Value = { Left };
 
@@ -280,9 +288,9 @@ impl<'a> Model for ParseLines<'a> {
 }
 
 impl<'a> ParseLines<'a> {
-    ghost use Rattle.influxdb_line_protocol.specs.ParseSteps.{GivesLine, most_items};
+    ghost use Rattle.influxdb_line_protocol.specs.code.ParseSteps.{GivesLine, most_items};
 
-    // The next piece that holds more than blanks and comments, without those in front of it.
+    // The next piece that holds more than blanks and comments, without those before it.
     #[inline(always)]
     fn next_line(&mut self) -> Option<&'a str>
         ensures gives { GivesLine self.old result self.new }
@@ -334,8 +342,8 @@ pub fn parse_lines_in(alloc: Global, dialect: Dialect, input: &str) -> ParseLine
 
 impl<'a> ParseLines<'a> {
     ghost use Rattle.std.specs.Prelude.{IfNone};
-    ghost use Rattle.influxdb_line_protocol.specs.ParseSteps.{GivesItem, most_items};
-    ghost use Rattle.influxdb_line_protocol.specs.ReadInto.{GivesInRoom, LeavesEmpty, item_in};
+    ghost use Rattle.influxdb_line_protocol.specs.code.ParseSteps.{GivesItem, most_items};
+    ghost use Rattle.influxdb_line_protocol.specs.code.ReadInto.{GivesInRoom, LeavesEmpty, item_in};
 
     /// Reads the next item into a line that is used again.
     ///
@@ -377,7 +385,7 @@ impl<'a> Iterator for ParseLines<'a> {
     type Item = Result<ParsedLine<'a>>;
 
     ghost use Rattle.std.specs.Iterator.{at_most};
-    ghost use Rattle.influxdb_line_protocol.specs.ParseSteps.{GivesItem, most_items};
+    ghost use Rattle.influxdb_line_protocol.specs.code.ParseSteps.{GivesItem, most_items};
 
     ghost next_gives = { GivesItem };
 

@@ -1,12 +1,13 @@
 //! Numbers by their texts.
 
 ghost use Rattle.std.specs.Prelude.{◌≡◌, ◌≤◌, ◌<◌, ◌+◌, ◌==◌, if◌then◌else◌, IsCharBoundary, codes, length};
-ghost use Rattle.influxdb_line_protocol.specs.Values.{IsFloat, digits_len, exponent_len, float_len, fraction_len, integer_len, number_len};
+ghost use Rattle.influxdb_line_protocol.specs.format.Values.{IsFloat, digits_len, exponent_len, float_len};
+ghost use Rattle.influxdb_line_protocol.specs.format.Values.{fraction_len, integer_len, number_len};
 
 use crate::digits::digits_len;
 use std::fmt;
 
-/// The text of a float: digits with `-` in front or not, then a point and digits or not, then `e` or
+/// The text of a float: digits with `-` at the start or not, then a point and digits or not, then `e` or
 /// `E` and digits, with `+` or `-` before them or not, or no such exponent.
 #[derive(Clone, Copy, Debug)]
 pub struct FloatText<'a> {
@@ -14,7 +15,7 @@ pub struct FloatText<'a> {
     ghost is_literal: { ∥ IsFloat text.now ∥₁ },
 }
 
-// How many bytes `-` and the digits behind it take: none, where no digit stands there. Few numbers have a sign, and a
+// How many bytes `-` and the digits after it take: none, where no digit is there. Few numbers have a sign, and a
 // branch takes it out of the way of the others.
 #[inline(never)]
 fn negative_len(digits: &[u8]) -> usize
@@ -24,7 +25,7 @@ fn negative_len(digits: &[u8]) -> usize
     if len == 0 { 0 } else { 1 + len }
 }
 
-// How many bytes of `text` an integer takes in front: none, where none stands there.
+// How many bytes of `text` an integer takes at the start: none, where none is there.
 #[inline(always)]
 pub(crate) fn integer_len(text: &str) -> usize
     ensures value { result ≡ integer_len text.now }
@@ -36,47 +37,47 @@ pub(crate) fn integer_len(text: &str) -> usize
     }
 }
 
-// How many bytes a point and digits take in front of `bytes`: none, where they do not stand there.
+// How many bytes a point and digits take at the start of `bytes`: none, where they are not there.
 #[inline(always)]
 fn fraction_len(bytes: &[u8]) -> usize
     ensures value { result ≡ fraction_len bytes.now }
     ensures fits { result ≤ length bytes.now }
 {
-    let [b'.', behind @ ..] = bytes else {
+    let [b'.', after @ ..] = bytes else {
         return 0;
     };
-    let digits = digits_len(behind);
+    let digits = digits_len(after);
     if digits == 0 { 0 } else { 1 + digits }
 }
 
-// How many bytes digits, with a sign or none, take in front of `bytes`.
+// How many bytes digits, with a sign or none, take at the start of `bytes`.
 #[cold]
 #[inline(never)]
 fn power_len(bytes: &[u8]) -> usize
     ensures value { result ≡ number_len (codes "+-") bytes.now }
     ensures fits { result ≤ length bytes.now }
 {
-    let [b'+' | b'-', behind @ ..] = bytes else {
+    let [b'+' | b'-', after @ ..] = bytes else {
         return digits_len(bytes);
     };
-    let digits = digits_len(behind);
+    let digits = digits_len(after);
     if digits == 0 { 0 } else { 1 + digits }
 }
 
-// How many bytes an exponent takes in front of `bytes`: none, where none stands there.
+// How many bytes an exponent takes at the start of `bytes`: none, where none is there.
 #[inline(always)]
 fn exponent_len(bytes: &[u8]) -> usize
     ensures value { result ≡ exponent_len bytes.now }
     ensures fits { result ≤ length bytes.now }
 {
-    let [b'e' | b'E', behind @ ..] = bytes else {
+    let [b'e' | b'E', after @ ..] = bytes else {
         return 0;
     };
-    let power = power_len(behind);
+    let power = power_len(after);
     if power == 0 { 0 } else { 1 + power }
 }
 
-// How many bytes of `text` the longest float in front takes, where an integer takes `whole`.
+// How many bytes of `text` the longest float at the start takes, where an integer takes `whole`.
 #[inline(always)]
 fn float_len(text: &str, whole: usize) -> usize
     requires { whole ≡ integer_len text.now }
@@ -86,16 +87,16 @@ fn float_len(text: &str, whole: usize) -> usize
     if whole == 0 {
         return 0;
     }
-    let behind = &text.as_bytes()[whole..];
-    let fraction = fraction_len(behind);
-    whole + fraction + exponent_len(&behind[fraction..])
+    let after = &text.as_bytes()[whole..];
+    let fraction = fraction_len(after);
+    whole + fraction + exponent_len(&after[fraction..])
 }
 
 impl<'a> FloatText<'a> {
     ghost use Rattle.std.specs.Prelude.{MatchOption, IfSome};
-    ghost use Rattle.influxdb_line_protocol.specs.Literals.{literal_of};
-    ghost use Rattle.influxdb_line_protocol.specs.Readings.{miss, reads};
-    ghost use Rattle.influxdb_line_protocol.specs.Values.{float, float_at};
+    ghost use Rattle.influxdb_line_protocol.specs.code.Literals.{literal_of};
+    ghost use Rattle.influxdb_line_protocol.specs.format.Readings.{miss, reads};
+    ghost use Rattle.influxdb_line_protocol.specs.format.Values.{float, float_at};
 
     /// A float of this text: `Some` exactly where the whole text is one.
     pub fn new(text: &'a str) -> Option<Self>
@@ -115,7 +116,7 @@ impl<'a> FloatText<'a> {
         self.text
     }
 
-    // The longest float in front of `text`, and the rest, where an integer takes `whole` bytes.
+    // The longest float at the start of `text`, and the rest, where an integer takes `whole` bytes.
     #[inline(always)]
     pub(crate) fn front(text: &'a str, whole: usize) -> Option<(Self, &'a str)>
         requires { whole ≡ integer_len text.now }
@@ -134,7 +135,7 @@ impl<'a> PartialEq for FloatText<'a> {
     ghost use Rattle.std.specs.Prelude.{nat_eq};
     ghost use Rattle.std.specs.Cmp.{on_per, partial_equiv_from_equiv};
     ghost use Rattle.std.specs.Cmp.Lexicographic.{pointwise, nat_list_eq_equiv};
-    ghost use Rattle.influxdb_line_protocol.specs.Literals.{literal_of};
+    ghost use Rattle.influxdb_line_protocol.specs.code.Literals.{literal_of};
 
     ghost eq = { λ x y. pointwise nat_eq (literal_of x) (literal_of y) };
 
@@ -148,14 +149,14 @@ impl<'a> PartialEq for FloatText<'a> {
 impl<'a> Eq for FloatText<'a> {
     ghost use Rattle.std.specs.Cmp.{on_equiv};
     ghost use Rattle.std.specs.Cmp.Lexicographic.{nat_list_eq_equiv};
-    ghost use Rattle.influxdb_line_protocol.specs.Literals.{literal_of};
+    ghost use Rattle.influxdb_line_protocol.specs.code.Literals.{literal_of};
 
     ghost laws = { on_equiv literal_of nat_list_eq_equiv };
 }
 
 impl<'a> fmt::Display for FloatText<'a> {
     ghost use Rattle.std.specs.Prelude.{Some};
-    ghost use Rattle.influxdb_line_protocol.specs.Literals.{literal_of};
+    ghost use Rattle.influxdb_line_protocol.specs.code.Literals.{literal_of};
 
     ghost output = { λ f. Some (literal_of f) };
 

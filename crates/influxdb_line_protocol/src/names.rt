@@ -1,11 +1,11 @@
 //! Names: measurements, keys and tag values.
 
 ghost use Rattle.std.specs.Prelude.{◌≡◌, ◌≤◌, length, IfOk, IfSome, Err};
-ghost use Rattle.influxdb_line_protocol.specs.Forms.{stops_of, known_of};
-ghost use Rattle.influxdb_line_protocol.specs.Memory.{NeedsMemory};
-ghost use Rattle.influxdb_line_protocol.specs.Names.{escapable, is_stop, name, read_text};
-ghost use Rattle.influxdb_line_protocol.specs.Outcomes.{Gives, HasMemory, kind_of};
-ghost use Rattle.influxdb_line_protocol.specs.Texts.{read_of};
+ghost use Rattle.influxdb_line_protocol.specs.code.Forms.{stops_of, known_of};
+ghost use Rattle.influxdb_line_protocol.specs.code.Memory.{NeedsMemory};
+ghost use Rattle.influxdb_line_protocol.specs.format.Names.{escapable, is_stop, name, read_text};
+ghost use Rattle.influxdb_line_protocol.specs.code.Outcomes.{Gives, IsNotOutOfMemory, kind_of};
+ghost use Rattle.influxdb_line_protocol.specs.code.Texts.{read_of};
 
 use crate::error::Error;
 use crate::escaped::EscapedStr;
@@ -36,13 +36,13 @@ impl NameKind {
     }
 }
 
-/// The spelled text of a name in front of `text`, and the rest. `None` where no name stands there.
+/// The spelled text of a name at the start of `text`, and the rest. `None` where no name is there.
 /// It takes no memory.
 #[inline(always)]
 pub(crate) fn spelled(kind: NameKind, text: &str) -> Result<Option<(Spelling<'_>, &str)>, Error>
     ensures value { Gives (λ s. read_text (known_of s.form) s.text.now) result (name (kind_of kind) text.now) }
     ensures tail { IfOk result (λ o. IfSome o (λ p. length p.1.now ≤ length text.now)) }
-    ensures memory { HasMemory result }
+    ensures memory { IsNotOutOfMemory result }
 {
     let (spelled, rest) = front(kind.form(), text);
     if spelled.text.is_empty() {
@@ -54,7 +54,7 @@ pub(crate) fn spelled(kind: NameKind, text: &str) -> Result<Option<(Spelling<'_>
     Ok(Some((spelled, rest)))
 }
 
-/// A name in front of `text`, and the rest. `None` where no name stands there.
+/// A name at the start of `text`, and the rest. `None` where no name is there.
 #[inline(always)]
 pub(crate) fn name<'a>(
     alloc: Global,

@@ -1,7 +1,7 @@
 //! Masks of 64 bytes of a text, and which of those bytes are escaped.
 ghost use Rattle.std.specs.Prelude.{◌≡◌, ◌+◌, ◌%◌, ◌^◌, ◌≤◌, ◌==◌, count_ones, length};
-ghost use Rattle.influxdb_line_protocol.specs.Lanes.{mask_of};
-ghost use Rattle.influxdb_line_protocol.specs.Scan.{TellsBare, TellsEscaped, TellsEscapesNext};
+ghost use Rattle.influxdb_line_protocol.specs.code.Lanes.{mask_of};
+ghost use Rattle.influxdb_line_protocol.specs.code.Scan.{TellsBare, TellsEscaped, TellsEscapesNext};
 
 use std::simd::prelude::*;
 

@@ -4,14 +4,16 @@ ghost use Rattle.std.specs.Prelude.{◌≡◌, ◌&&◌, ◌-◌, ◌^◌, ◌�
 ghost use Rattle.std.specs.Fmt.{DisplaysOnOk};
 ghost use Rattle.std.specs.List.{join_by, list_all};
 ghost use Rattle.std.specs.Option.{option_map};
-ghost use Rattle.influxdb_line_protocol.specs.Bases.{GivesBase, GivesMap, GivesOwn, base_by_key, base_of, base_text, based_tag, entry_bytes, in_order, is_part, is_single_tag, keys_of, rises};
-ghost use Rattle.influxdb_line_protocol.specs.Bytes.{comma, is_one_of};
-ghost use Rattle.influxdb_line_protocol.specs.Escapes.{escaped};
-ghost use Rattle.influxdb_line_protocol.specs.Lines.{some_tags};
-ghost use Rattle.influxdb_line_protocol.specs.Outcomes.{HasMemory};
-ghost use Rattle.influxdb_line_protocol.specs.Parsed.{field_of, tag_of, tags_of};
-ghost use Rattle.influxdb_line_protocol.specs.Shown.{comma_before, shown_escapes, shown_field, shown_tag, shown_timestamp};
-ghost use Rattle.influxdb_line_protocol.specs.Texts.{is_single_slice, read_of};
+ghost use Rattle.influxdb_line_protocol.specs.code.Bases.{GivesBase, GivesMap, GivesOwned, base_by_key, base_of, base_text};
+ghost use Rattle.influxdb_line_protocol.specs.code.Bases.{based_tag, entry_bytes, in_order, is_borrowed, is_single_tag};
+ghost use Rattle.influxdb_line_protocol.specs.code.Bases.{keys_of, is_strictly_sorted};
+ghost use Rattle.influxdb_line_protocol.specs.format.Bytes.{comma, is_one_of};
+ghost use Rattle.influxdb_line_protocol.specs.format.Escapes.{escaped};
+ghost use Rattle.influxdb_line_protocol.specs.format.Lines.{some_tags};
+ghost use Rattle.influxdb_line_protocol.specs.code.Outcomes.{IsNotOutOfMemory};
+ghost use Rattle.influxdb_line_protocol.specs.code.Parsed.{field_of, tag_of, tags_of};
+ghost use Rattle.influxdb_line_protocol.specs.code.Shown.{comma_before, shown_escapes, shown_field, shown_tag, shown_timestamp};
+ghost use Rattle.influxdb_line_protocol.specs.code.Texts.{is_single_slice, read_of};
 
 use crate::{Error, EscapedStr, FieldValue, Measurement, ParsedLine, Result};
 use smallvec::SmallVec;
@@ -30,7 +32,7 @@ pub struct Series<'a> {
     pub raw_input: &'a str,
     /// The measurement.
     pub measurement: Measurement<'a>,
-    /// The tags, or `None` where no comma stands behind the measurement.
+    /// The tags, or `None` where no comma comes after the measurement.
     pub tag_set: Option<TagSet<'a>>,
 }
 
@@ -51,8 +53,8 @@ impl<'a> Series<'a> {
     pub fn generate_base(self, alloc: Global) -> Result<CowStr<'a>>
         ensures value { GivesBase result (base_of self.entry.raw_input.now (read_of self.entry.measurement)
             (some_tags (option_map tags_of self.entry.tag_set))) }
-        ensures memory { is_part (base_of self.entry.raw_input.now (read_of self.entry.measurement)
-            (some_tags (option_map tags_of self.entry.tag_set))) ≡ true → HasMemory result }
+        ensures memory { is_borrowed (base_of self.entry.raw_input.now (read_of self.entry.measurement)
+            (some_tags (option_map tags_of self.entry.tag_set))) ≡ true → IsNotOutOfMemory result }
     {
         base(
             alloc,
@@ -71,7 +73,7 @@ fn base<'a>(
     tags: &[(EscapedStr<'a>, EscapedStr<'a>)],
 ) -> Result<CowStr<'a>>
     ensures value { GivesBase result (base_of raw_input.now (read_of measurement.now) (map tag_of tags.now)) }
-    ensures memory { is_part (base_of raw_input.now (read_of measurement.now) (map tag_of tags.now)) ≡ true → HasMemory result }
+    ensures memory { is_borrowed (base_of raw_input.now (read_of measurement.now) (map tag_of tags.now)) ≡ true → IsNotOutOfMemory result }
 {
     if !keys_rise(tags) {
         let base = base_by_key(alloc, measurement.as_str(), tags)?;
@@ -96,7 +98,7 @@ fn tags_in<'t, 'a>(tag_set: &'t Option<TagSet<'a>>) -> &'t [(EscapedStr<'a>, Esc
 
 // Whether each key is greater than the one before it.
 fn keys_rise<'a>(tags: &[(EscapedStr<'a>, EscapedStr<'a>)]) -> bool
-    ensures { result ≡ rises (keys_of (map tag_of tags.now)) }
+    ensures { result ≡ is_strictly_sorted (keys_of (map tag_of tags.now)) }
 {
     for at in 1..tags.len() {
         if tags[at - 1].0 >= tags[at].0 {
@@ -122,7 +124,7 @@ fn are_single<'a>(tags: &[(EscapedStr<'a>, EscapedStr<'a>)]) -> bool
 }
 
 // Whether the measurement and all keys and values are parts of the input.
-#[tactic(auto, using(crate::proofs::BaseLemmas::all_single))]
+#[tactic(auto, using(crate::proofs::lemmas::series::BaseLemmas::all_single))]
 fn is_all_single<'a>(
     measurement: &EscapedStr<'a>,
     tags: &[(EscapedStr<'a>, EscapedStr<'a>)],
@@ -208,13 +210,13 @@ fn base_of_map(
 }
 
 // The base with the tags in the order of their keys.
-#[tactic(auto, unfolding(crate::specs::Bases::base_by_key))]
+#[tactic(auto, unfolding(crate::specs::code::Bases::base_by_key))]
 fn base_by_key<'a>(
     alloc: Global,
     measurement: &str,
     tags: &[(EscapedStr<'a>, EscapedStr<'a>)],
 ) -> Result<String>
-    ensures { GivesOwn result (base_by_key measurement.now (map tag_of tags.now)) }
+    ensures { GivesOwned result (base_by_key measurement.now (map tag_of tags.now)) }
 {
     let map = tag_map(alloc, tags)?;
     let len = base_len(measurement, tags);
@@ -321,8 +323,8 @@ fn show_fields<'a, W: fmt::Write>(
 
 impl<'a> fmt::Display for FieldValue<'a> {
     ghost use Rattle.std.specs.Prelude.{Some};
-    ghost use Rattle.influxdb_line_protocol.specs.Parsed.{value_of};
-    ghost use Rattle.influxdb_line_protocol.specs.Shown.{shown_value};
+    ghost use Rattle.influxdb_line_protocol.specs.code.Parsed.{value_of};
+    ghost use Rattle.influxdb_line_protocol.specs.code.Shown.{shown_value};
 
     ghost output = { λ v. Some (shown_value (value_of v)) };
 
@@ -340,9 +342,9 @@ impl<'a> fmt::Display for FieldValue<'a> {
 impl<'a> fmt::Display for Series<'a> {
     ghost use Rattle.std.specs.Prelude.{Some};
     ghost use Rattle.std.specs.Option.{option_map};
-    ghost use Rattle.influxdb_line_protocol.specs.Parsed.{tags_of};
-    ghost use Rattle.influxdb_line_protocol.specs.Texts.{read_of};
-    ghost use Rattle.influxdb_line_protocol.specs.Shown.{shown_series};
+    ghost use Rattle.influxdb_line_protocol.specs.code.Parsed.{tags_of};
+    ghost use Rattle.influxdb_line_protocol.specs.code.Texts.{read_of};
+    ghost use Rattle.influxdb_line_protocol.specs.code.Shown.{shown_series};
 
     ghost output = { λ s. Some (shown_series (read_of s.measurement) (option_map tags_of s.tag_set)) };
 
@@ -370,8 +372,8 @@ fn show_timestamp<W: fmt::Write>(timestamp: Option<i64>, f: &mut fmt::Formatter<
 
 impl<'a> fmt::Display for ParsedLine<'a> {
     ghost use Rattle.std.specs.Prelude.{Some};
-    ghost use Rattle.influxdb_line_protocol.specs.Parsed.{line_read};
-    ghost use Rattle.influxdb_line_protocol.specs.Shown.{shown_line};
+    ghost use Rattle.influxdb_line_protocol.specs.code.Parsed.{line_read};
+    ghost use Rattle.influxdb_line_protocol.specs.code.Shown.{shown_line};
 
     ghost output = { λ l. Some (shown_line (line_read l)) };
 

@@ -3,13 +3,13 @@
 ghost use Rattle.std.specs.Prelude.{◌≡◌, ◌≢◌, ◌+◌, ◌<◌, ◌≤◌, ◌==◌, ◌||◌, length, take, slice_index, MatchOption, true, false};
 ghost use Rattle.std.specs.Iterator.{at_most};
 ghost use Rattle.std.specs.List.{All, count_by};
-ghost use Rattle.influxdb_line_protocol.specs.Bytes.{backslash, newline, space, quote, comma, equals};
+ghost use Rattle.influxdb_line_protocol.specs.format.Bytes.{backslash, newline, space, quote, comma, equals};
 ghost use Rattle.memchr.specs.Find.{IsFirstByte, is_byte3};
-ghost use Rattle.influxdb_line_protocol.specs.Lanes.{IsRunIn, is_quiet, mask_of};
-ghost use Rattle.influxdb_line_protocol.specs.Escapes.{bare, first_bare, IsPassed};
-ghost use Rattle.influxdb_line_protocol.specs.Stops.{is_stop, is_mark};
-ghost use Rattle.influxdb_line_protocol.specs.Counts.{IsCounted};
-ghost use Rattle.influxdb_line_protocol.specs.Pieces.{begins_comment, IsFirstCut, GivesPiece, most_pieces};
+ghost use Rattle.influxdb_line_protocol.specs.code.Lanes.{IsRunIn, is_quiet, mask_of};
+ghost use Rattle.influxdb_line_protocol.specs.format.Escapes.{bare, first_bare, IsPassed};
+ghost use Rattle.influxdb_line_protocol.specs.code.Stops.{is_stop, is_mark};
+ghost use Rattle.influxdb_line_protocol.specs.code.Counts.{IsCounted};
+ghost use Rattle.influxdb_line_protocol.specs.format.Pieces.{begins_comment, IsFirstCut, GivesPiece, most_pieces};
 ghost use Rattle.influxdb_line_protocol.specs.declared.split.Dialect.{Dialect};
 
 use crate::lanes::first_set;
@@ -50,7 +50,7 @@ fn stops_in(stops: Stops, text: &[u8], at: usize) -> u64
     (v.simd_eq(u8x64::splat(stops.first)) | v.simd_eq(u8x64::splat(stops.second))).to_bitmask()
 }
 
-// How many of the 64 bytes from `at` on stand before the first bare one that ends a stretch; where
+// How many of the 64 bytes from `at` on come before the first bare one that ends a stretch; where
 // there is none 64, or 65 if the last one is a bare backslash. The backslashes among them are given.
 #[inline(always)]
 fn stop_in(stops: Stops, text: &[u8], at: usize, backslashes: u64) -> usize
@@ -80,7 +80,7 @@ fn next_mark(stops: Stops, text: &[u8]) -> Option<usize>
     memchr3(b'\\', stops.first, stops.second, text)
 }
 
-// How many bytes stand before the first bare one that ends a stretch, or all of them, where there
+// How many bytes come before the first bare one that ends a stretch, or all of them, where there
 // is none before `from`. Wide loads go on as long as they show something near.
 #[inline(never)]
 fn far_len(stops: Stops, text: &[u8], from: usize) -> usize
@@ -114,7 +114,7 @@ fn far_len(stops: Stops, text: &[u8], from: usize) -> usize
     }
 }
 
-// How many bytes stand before the first bare one that ends a stretch, or all of them: the near ones
+// How many bytes come before the first bare one that ends a stretch, or all of them: the near ones
 // are searched by wide loads, the far ones by `memchr`.
 #[inline(always)]
 fn stretch_len(stops: Stops, text: &[u8]) -> usize
@@ -133,7 +133,7 @@ fn stretch_len(stops: Stops, text: &[u8]) -> usize
     far_len(stops, text, at)
 }
 
-/// How many bytes stand before the first bare space or newline, or all of them.
+/// How many bytes come before the first bare space or newline, or all of them.
 fn head_len(text: &[u8]) -> usize
     ensures within { result ≤ length text.now }
     ensures value { result ≡ first_bare (λ b. b == space || b == newline) text.now }
@@ -145,7 +145,7 @@ fn head_len(text: &[u8]) -> usize
     stretch_len(stops, text)
 }
 
-/// How many bytes stand before the first bare newline or quote, or all of them.
+/// How many bytes come before the first bare newline or quote, or all of them.
 fn plain_len(text: &[u8]) -> usize
     ensures within { result ≤ length text.now }
     ensures value { result ≡ first_bare (λ b. b == newline || b == quote) text.now }
@@ -157,7 +157,7 @@ fn plain_len(text: &[u8]) -> usize
     stretch_len(stops, text)
 }
 
-/// How many bytes stand before the first bare quote, or all of them.
+/// How many bytes come before the first bare quote, or all of them.
 fn quoted_len(text: &[u8]) -> usize
     ensures within { result ≤ length text.now }
     ensures value { result ≡ first_bare (λ b. b == quote) text.now }
@@ -169,7 +169,7 @@ fn quoted_len(text: &[u8]) -> usize
     stretch_len(stops, text)
 }
 
-// How many bare `=` and how many bare `,` stand before a place.
+// How many bare `=` and how many bare `,` come before a place.
 #[derive(Clone, Copy)]
 struct Counts {
     equals: usize,
@@ -177,7 +177,7 @@ struct Counts {
     at: usize,
 }
 
-// Counts on, from one load of 64 bytes, as far as these stand before `end`.
+// Counts on, from one load of 64 bytes, as far as these come before `end`.
 #[inline(always)]
 fn count_in(text: &[u8], end: usize, counts: Counts) -> Counts
     requires room { counts.at + WIDE ≤ length text.now }
@@ -218,7 +218,7 @@ fn count_last(text: &[u8], end: usize, counts: Counts) -> (usize, usize)
     (equals, commas)
 }
 
-// How many bare `=` and how many bare `,` stand before `end`.
+// How many bare `=` and how many bare `,` come before `end`.
 #[inline(always)]
 fn count_bare(text: &[u8], end: usize) -> (usize, usize)
     requires { end ≤ length text.now }
@@ -269,7 +269,7 @@ fn cut_by_stretches(text: &[u8]) -> Option<usize>
     }
 }
 
-/// How many of the 64 bytes from `at` on stand before the first newline, quote or backslash.
+/// How many of the 64 bytes from `at` on come before the first newline, quote or backslash.
 #[inline(always)]
 fn quiet_run(text: &[u8], at: usize) -> usize
     requires { at + WIDE ≤ length text.now }
@@ -314,7 +314,8 @@ fn is_comment(text: &[u8]) -> bool
 
 /// The place of the first newline.
 fn first_newline(text: &[u8]) -> Option<usize>
-    ensures { MatchOption result (All (λ b. b ≢ newline) text.now) (λ i. (i < length text.now) × (slice_index text.now i ≡ newline) × All (λ b. b ≢ newline) (take i text.now)) }
+    ensures { MatchOption result (All (λ b. b ≢ newline) text.now)
+        (λ i. (i < length text.now) × (slice_index text.now i ≡ newline) × All (λ b. b ≢ newline) (take i text.now)) }
 {
     memchr(b'\n', text)
 }
@@ -348,7 +349,7 @@ pub struct SplitLines<'a> {
 
 impl<'a> Model for SplitLines<'a> {
     ghost use Rattle.std.specs.Prelude.{option_map};
-    ghost use Rattle.influxdb_line_protocol.specs.Pieces.{Left};
+    ghost use Rattle.influxdb_line_protocol.specs.format.Pieces.{Left};
 
     ghost Value = { Left };
 
@@ -357,7 +358,7 @@ impl<'a> Model for SplitLines<'a> {
 
 /// Splits a text into its pieces, at each newline that ends a line.
 ///
-/// A newline behind a backslash, or between the quotes of a string value, ends no line. Joined by
+/// A newline after a backslash, or between the quotes of a string value, ends no line. Joined by
 /// newlines, the pieces are the text. Each piece borrows from the input; no memory is taken.
 ///
 /// ```text

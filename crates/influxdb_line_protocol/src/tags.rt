@@ -2,16 +2,16 @@
 
 ghost use Rattle.std.specs.Prelude.{◌≡◌, ◌<◌, ◌≤◌, [], length, IfOk, IfSome, MatchOption, Err, None};
 ghost use Rattle.std.specs.Option.{option_map};
-ghost use Rattle.influxdb_line_protocol.specs.Filled.{Fills, FillsRead};
-ghost use Rattle.influxdb_line_protocol.specs.Light.{is_single_tag};
-ghost use Rattle.influxdb_line_protocol.specs.Lines.{joined, tag, tag_set};
-ghost use Rattle.influxdb_line_protocol.specs.Lookups.{room_of};
-ghost use Rattle.influxdb_line_protocol.specs.Memory.{NeedsMemory};
-ghost use Rattle.influxdb_line_protocol.specs.Outcomes.{Gives};
-ghost use Rattle.influxdb_line_protocol.specs.Parsed.{tag_of, tags_of};
-ghost use Rattle.influxdb_line_protocol.specs.Sets.{SetNeedsMemory, TagsNeedMemory};
+ghost use Rattle.influxdb_line_protocol.specs.code.Filled.{Fills, FillsRead};
+ghost use Rattle.influxdb_line_protocol.specs.code.Light.{is_single_tag};
+ghost use Rattle.influxdb_line_protocol.specs.format.Lines.{separated_list, tag, tag_set};
+ghost use Rattle.influxdb_line_protocol.specs.code.Lookups.{room_of};
+ghost use Rattle.influxdb_line_protocol.specs.code.Memory.{NeedsMemory};
+ghost use Rattle.influxdb_line_protocol.specs.code.Outcomes.{Gives};
+ghost use Rattle.influxdb_line_protocol.specs.code.Parsed.{tag_of, tags_of};
+ghost use Rattle.influxdb_line_protocol.specs.code.Sets.{SetNeedsMemory, TagsNeedMemory};
 
-use crate::line::behind;
+use crate::line::strip_byte;
 use crate::names::{self, NameKind};
 use crate::{Error, EscapedStr, Result, TagSet};
 use std::alloc::Global;
@@ -19,8 +19,8 @@ use std::mem;
 
 type Tag<'a> = (EscapedStr<'a>, EscapedStr<'a>);
 
-// A tag in front of `text`, and the rest. The copies come last: where no tag stands, it takes no memory.
-#[tactic(auto, unfolding(crate::specs::Lines::tag))]
+// A tag at the start of `text`, and the rest. The copies come last: where no tag stands, it takes no memory.
+#[tactic(auto, unfolding(crate::specs::format::Lines::tag))]
 #[inline(always)]
 fn tag<'a>(alloc: Global, text: &'a str) -> Result<Option<(Tag<'a>, &'a str)>>
     ensures value { Gives tag_of result (tag text.now) }
@@ -30,7 +30,7 @@ fn tag<'a>(alloc: Global, text: &'a str) -> Result<Option<(Tag<'a>, &'a str)>>
     let Some((key, rest)) = names::spelled(NameKind::TagKey, text)? else {
         return Ok(None);
     };
-    let Some(rest) = behind(b'=', rest) else {
+    let Some(rest) = strip_byte(b'=', rest) else {
         return Ok(None);
     };
     let Some((value, rest)) = names::spelled(NameKind::TagValue, rest)? else {
@@ -41,12 +41,12 @@ fn tag<'a>(alloc: Global, text: &'a str) -> Result<Option<(Tag<'a>, &'a str)>>
     Ok(Some(((key, value), rest)))
 }
 
-// Fills the empty set with the tags in front of `text`, joined by commas, and gives the rest. As many as the set has
+// Fills the empty set with the tags at the start of `text`, joined by commas, and gives the rest. As many as the set has
 // room for take no memory but for copies.
 #[inline(always)]
 fn tags<'a>(alloc: Global, text: &'a str, set: &mut TagSet<'a>) -> Result<Option<&'a str>>
     requires { set.old.items ≡ [] }
-    ensures value { Fills (tags_of set.new) result (joined tag text.now) }
+    ensures value { Fills (tags_of set.new) result (separated_list tag text.now) }
     ensures memory { result ≡ Err Error.OutOfMemory → SetNeedsMemory set.old.capacity is_single_tag tag text.now }
     ensures room { set.old.capacity ≤ set.new.capacity }
 {
@@ -55,8 +55,8 @@ fn tags<'a>(alloc: Global, text: &'a str, set: &mut TagSet<'a>) -> Result<Option
     while let Some((next, after)) = tag(alloc, place)? {
         set.push(next)?;
         rest = after;
-        match behind(b',', rest) {
-            Some(behind) => place = behind,
+        match strip_byte(b',', rest) {
+            Some(suffix) => place = suffix,
             None => return Ok(Some(rest)),
         }
     }
@@ -82,9 +82,9 @@ fn let_go<'a>(set: &mut Option<TagSet<'a>>, spare: Option<&mut Option<TagSet<'a>
     }
 }
 
-/// Fills `set`, which is an empty one, with the tags behind the comma in front of `text`, and gives the rest.
+/// Fills `set`, which is an empty one, with the tags after the comma at the start of `text`, and gives the rest.
 ///
-/// Where no comma stands there, it becomes `None`, and is kept at `spare` where it has grown. Where no tag stands behind
+/// Where no comma is there, it becomes `None`, and is kept at `spare` where it has grown. Where no tag comes after
 /// the comma, that is the line's fault.
 #[inline(always)]
 pub(crate) fn tag_set<'a>(
@@ -98,7 +98,7 @@ pub(crate) fn tag_set<'a>(
     ensures memory { result ≡ Err Error.OutOfMemory → TagsNeedMemory (room_of set.old) text.now }
     ensures room { IfSome set.new (λ tags. room_of set.old ≤ tags.capacity) }
 {
-    let Some(rest) = behind(b',', text) else {
+    let Some(rest) = strip_byte(b',', text) else {
         let_go(set, spare);
         return Ok(text);
     };

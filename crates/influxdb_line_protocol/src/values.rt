@@ -1,24 +1,28 @@
 //! Values of fields.
 
-ghost use Rattle.std.specs.Prelude.{◌≡◌, ◌≤◌, ◌<◌, ◌==◌, ◌||◌, ℕ, List, true, false, codes, drop, length, slice_index, IsCharBoundary, IfOk, IfSome, IsErr, IsOk, Ok, Err};
+ghost use Rattle.std.specs.Prelude.{◌≡◌, ◌≤◌, ◌<◌, ◌==◌, ◌||◌, ℕ, List, true, false, codes, drop, length, slice_index};
+ghost use Rattle.std.specs.Prelude.{IsCharBoundary, IfOk, IfSome, IsErr, IsOk, Ok, Err};
 ghost use Rattle.std.specs.List.{starts_with};
 ghost use Rattle.std.specs.Prelude.{eqb};
 ghost use Rattle.std.specs.Char.{is_ascii_digit};
 ghost use Rattle.influxdb_line_protocol.specs.declared.error.Error.{Error};
-ghost use Rattle.influxdb_line_protocol.specs.Bytes.{is_one_of, letter_i, letter_u, minus};
-ghost use Rattle.influxdb_line_protocol.specs.Light.{is_single_value};
-ghost use Rattle.influxdb_line_protocol.specs.Lines.{timestamp};
-ghost use Rattle.influxdb_line_protocol.specs.Memory.{NeedsMemory};
-ghost use Rattle.influxdb_line_protocol.specs.Outcomes.{Gives, GivesRead, IsFault, side};
-ghost use Rattle.influxdb_line_protocol.specs.Parsed.{is_same_variant, value_of};
-ghost use Rattle.influxdb_line_protocol.specs.Readings.{◌otherwise◌, above, integer_value_invalid, timestamp_value_invalid, uinteger_value_invalid};
-ghost use Rattle.influxdb_line_protocol.specs.Values.{digits_len, integer_len, integer_at, unsigned_at, float_at, string_at, boolean_at, value, side_of, word_len, true_words, false_words};
+ghost use Rattle.influxdb_line_protocol.specs.format.Bytes.{is_one_of, letter_i, letter_u, minus};
+ghost use Rattle.influxdb_line_protocol.specs.code.Light.{is_single_value};
+ghost use Rattle.influxdb_line_protocol.specs.format.Lines.{timestamp};
+ghost use Rattle.influxdb_line_protocol.specs.code.Memory.{NeedsMemory};
+ghost use Rattle.influxdb_line_protocol.specs.code.Outcomes.{Gives, GivesRead, IsFault, side};
+ghost use Rattle.influxdb_line_protocol.specs.code.Parsed.{is_same_variant, value_of};
+ghost use Rattle.influxdb_line_protocol.specs.format.Readings.{◌otherwise◌, above, integer_value_invalid};
+ghost use Rattle.influxdb_line_protocol.specs.format.Readings.{timestamp_value_invalid, uinteger_value_invalid};
+ghost use Rattle.influxdb_line_protocol.specs.format.Values.{digits_len, integer_len, integer_at, unsigned_at, float_at};
+ghost use Rattle.influxdb_line_protocol.specs.format.Values.{string_at, boolean_at, value, side_of, word_len, true_words};
+ghost use Rattle.influxdb_line_protocol.specs.format.Values.{false_words};
 
 use crate::digits::{integer_value, unsigned_value};
 use crate::error::{Error, OutOfRange};
 use crate::escaped::EscapedStr;
 use crate::forms::{Form, escaped_str, front};
-use crate::line::{behind, behind_spaces};
+use crate::line::{strip_byte, trim_start_spaces};
 use crate::literals::{FloatText, integer_len};
 use std::alloc::{AllocError, Global};
 
@@ -40,8 +44,8 @@ pub enum FieldValue<'a> {
 /// The integer 0.
 impl<'a> Default for FieldValue<'a> {
     ghost use Rattle.std.specs.Prelude.{◌≡◌, pos};
-    ghost use Rattle.influxdb_line_protocol.specs.Parsed.{value_of};
-    ghost use Rattle.influxdb_line_protocol.specs.Values.{integer};
+    ghost use Rattle.influxdb_line_protocol.specs.code.Parsed.{value_of};
+    ghost use Rattle.influxdb_line_protocol.specs.format.Values.{integer};
 
     ghost is_default = { λ v. value_of v ≡ integer (pos 0) };
 
@@ -91,7 +95,7 @@ fn side_of(number: &str) -> OutOfRange
     }
 }
 
-// An integer out of range, or want of memory for its text.
+// An integer out of range, or `OutOfMemory` for its text.
 #[cold]
 #[inline(never)]
 fn integer_fault(alloc: Global, number: &str) -> Error
@@ -104,7 +108,7 @@ fn integer_fault(alloc: Global, number: &str) -> Error
     }
 }
 
-// An integer and `i` in front of `text`, and the rest, where the integer takes `whole` bytes.
+// An integer and `i` at the start of `text`, and the rest, where the integer takes `whole` bytes.
 #[inline(always)]
 fn integer<'a>(
     alloc: Global,
@@ -125,7 +129,7 @@ fn integer<'a>(
     }
 }
 
-// An unsigned integer out of range, or want of memory for its text.
+// An unsigned integer out of range, or `OutOfMemory` for its text.
 #[cold]
 #[inline(never)]
 fn unsigned_fault(alloc: Global, number: &str) -> Error
@@ -138,7 +142,7 @@ fn unsigned_fault(alloc: Global, number: &str) -> Error
     }
 }
 
-// Digits and `u` in front of `text`, and the rest, where the digits take `whole` bytes.
+// Digits and `u` at the start of `text`, and the rest, where the digits take `whole` bytes.
 #[inline(never)]
 fn unsigned<'a>(
     alloc: Global,
@@ -159,7 +163,7 @@ fn unsigned<'a>(
     }
 }
 
-// The longest float in front of `text`, and the rest, where an integer takes `whole` bytes.
+// The longest float at the start of `text`, and the rest, where an integer takes `whole` bytes.
 #[inline(always)]
 fn float(text: &str, whole: usize) -> Option<(FieldValue<'_>, &str)>
     requires { whole ≡ integer_len text.now }
@@ -187,12 +191,13 @@ fn begins_number(bytes: &[u8]) -> bool
     matches!(bytes, [b'0'..=b'9' | b'-', ..])
 }
 
-// A number in front of `text`, by the byte behind its integer, and the rest.
+// A number at the start of `text`, by the byte after its integer, and the rest.
 #[inline(always)]
 fn number<'a>(alloc: Global, text: &'a str) -> Result<Option<(FieldValue<'a>, &'a str)>, Error>
     ensures value { Gives value_of result (integer_at text.now otherwise unsigned_at text.now otherwise float_at text.now) }
     ensures less { IfOk result (λ o. IfSome o (λ p. length p.1.now < length text.now)) }
-    ensures memory { result ≡ Err Error.OutOfMemory → NeedsMemory is_single_value (integer_at text.now otherwise unsigned_at text.now otherwise float_at text.now) }
+    ensures memory { result ≡ Err Error.OutOfMemory
+        → NeedsMemory is_single_value (integer_at text.now otherwise unsigned_at text.now otherwise float_at text.now) }
 {
     let whole = integer_len(text);
     if whole == 0 {
@@ -208,28 +213,29 @@ fn number<'a>(alloc: Global, text: &'a str) -> Result<Option<(FieldValue<'a>, &'
     Ok(float(text, whole))
 }
 
-// A text between quotes in front of `text`, and the rest.
+// A text between quotes at the start of `text`, and the rest.
 #[inline(always)]
 fn string<'a>(alloc: Global, text: &'a str) -> Result<Option<(FieldValue<'a>, &'a str)>, Error>
     ensures value { Gives value_of result (string_at text.now) }
     ensures less { IfOk result (λ o. IfSome o (λ p. length p.1.now < length text.now)) }
     ensures memory { result ≡ Err Error.OutOfMemory → NeedsMemory is_single_value (string_at text.now) }
 {
-    let Some(opened) = behind(b'"', text) else {
+    let Some(opened) = strip_byte(b'"', text) else {
         return Ok(None);
     };
     let (body, closing) = front(Form::Quoted, opened);
-    let Some(rest) = behind(b'"', closing) else {
+    let Some(rest) = strip_byte(b'"', closing) else {
         return Ok(None);
     };
     let spelled = escaped_str(alloc, body)?;
     Ok(Some((FieldValue::String(spelled), rest)))
 }
 
-// Whether one of the long words for true stands in front of `bytes`.
+// Whether one of the long words for true is at the start of `bytes`.
 #[inline(always)]
 fn is_long_true(bytes: &[u8]) -> bool
-    ensures value { result ≡ (starts_with eqb bytes.now (codes "true") || starts_with eqb bytes.now (codes "True") || starts_with eqb bytes.now (codes "TRUE")) }
+    ensures value { result ≡ (starts_with eqb bytes.now (codes "true") || starts_with eqb bytes.now (codes "True")
+        || starts_with eqb bytes.now (codes "TRUE")) }
     ensures last { result ≡ true → (3 < length bytes.now) × (slice_index bytes.now 3 < 128) }
 {
     match bytes {
@@ -239,10 +245,11 @@ fn is_long_true(bytes: &[u8]) -> bool
     }
 }
 
-// Whether one of the long words for false stands in front of `bytes`.
+// Whether one of the long words for false is at the start of `bytes`.
 #[inline(always)]
 fn is_long_false(bytes: &[u8]) -> bool
-    ensures value { result ≡ (starts_with eqb bytes.now (codes "false") || starts_with eqb bytes.now (codes "False") || starts_with eqb bytes.now (codes "FALSE")) }
+    ensures value { result ≡ (starts_with eqb bytes.now (codes "false") || starts_with eqb bytes.now (codes "False")
+        || starts_with eqb bytes.now (codes "FALSE")) }
     ensures last { result ≡ true → (4 < length bytes.now) × (slice_index bytes.now 4 < 128) }
 {
     match bytes {
@@ -268,7 +275,7 @@ fn begins_false(bytes: &[u8]) -> bool
     matches!(bytes, [b'f' | b'F', ..])
 }
 
-// How many bytes of `text` the longest word for true takes in front.
+// How many bytes of `text` the longest word for true takes at the start.
 #[inline(always)]
 fn true_len(text: &str) -> usize
     ensures value { result ≡ word_len true_words text.now }
@@ -281,7 +288,7 @@ fn true_len(text: &str) -> usize
     if begins_true(bytes) { 1 } else { 0 }
 }
 
-// How many bytes of `text` the longest word for false takes in front.
+// How many bytes of `text` the longest word for false takes at the start.
 #[inline(always)]
 fn false_len(text: &str) -> usize
     ensures value { result ≡ word_len false_words text.now }
@@ -308,7 +315,7 @@ fn boolean_by<'a>(value: bool, len: usize, text: &'a str) -> Option<(FieldValue<
     Some((FieldValue::Boolean(value), rest))
 }
 
-// A Boolean in front of `text`, and the rest.
+// A Boolean at the start of `text`, and the rest.
 #[inline(never)]
 fn boolean(text: &str) -> Option<(FieldValue<'_>, &str)>
     ensures value { Gives value_of (Ok result) (boolean_at true true_words text.now otherwise boolean_at false false_words text.now) }
@@ -320,7 +327,7 @@ fn boolean(text: &str) -> Option<(FieldValue<'_>, &str)>
     boolean_by(false, false_len(text), text)
 }
 
-/// A value in front of `text`, and the rest. `None` where none stands there.
+/// A value at the start of `text`, and the rest. `None` where none is there.
 ///
 /// Its first byte says whether it is a number, a text or a Boolean, and what follows the integer in
 /// front of a number, which number. One out of range is the line's fault.
@@ -343,7 +350,7 @@ pub(crate) fn value<'a>(
     Ok(boolean(text))
 }
 
-// A timestamp out of range, or want of memory for its text.
+// A timestamp out of range, or `OutOfMemory` for its text.
 #[cold]
 #[inline(never)]
 fn timestamp_fault(alloc: Global, number: &str) -> Error
@@ -356,21 +363,21 @@ fn timestamp_fault(alloc: Global, number: &str) -> Error
     }
 }
 
-/// The timestamp in front of `text`, if spaces and a number stand there, and the rest.
+/// The timestamp at the start of `text`, if spaces and a number are there, and the rest.
 ///
-/// The spaces behind the number are taken too. A number out of range is the line's fault.
+/// The spaces after the number are taken too. A number out of range is the line's fault.
 #[inline(always)]
 pub(crate) fn timestamp(alloc: Global, text: &str) -> Result<(Option<i64>, &str), Error>
     ensures value { GivesRead (λ t. t) result (timestamp text.now) }
     ensures memory { result ≡ Err Error.OutOfMemory → IsErr (timestamp text.now) }
 {
-    let behind = behind_spaces(text);
-    let (number, rest) = behind.split_at(integer_len(behind));
-    if number.is_empty() || behind.len() == text.len() {
+    let after = trim_start_spaces(text);
+    let (number, rest) = after.split_at(integer_len(after));
+    if number.is_empty() || after.len() == text.len() {
         return Ok((None, text));
     }
     match integer_value(number) {
-        Some(timestamp) => Ok((Some(timestamp), behind_spaces(rest))),
+        Some(timestamp) => Ok((Some(timestamp), trim_start_spaces(rest))),
         None => Err(timestamp_fault(alloc, number)),
     }
 }

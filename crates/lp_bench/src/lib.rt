@@ -161,7 +161,7 @@ pub extern "C" fn lp_bench_rebuild(alloc: Global, text: &[u8]) -> u64 {
     }
 }
 
-// One point of a fixed shape behind `lines`: three tags, four fields of different kinds, and a
+// One point of a fixed shape after `lines`: three tags, four fields of different kinds, and a
 // timestamp that rises with the number.
 fn build_line(
     lines: LineProtocolBuilder<Vec<u8>, BeforeMeasurement>,

@@ -2,9 +2,9 @@
 use Rattle.std.proofs.Common.{◌≡◌, List, ℕ, ℤ, [], ◌∷◌, ◌++◌, Some}
 use Rattle.std.proofs.lemmas.List.{append_assoc, append-nil}
 use Rattle.std.specs.Fmt.{signed_decimal}
-use Rattle.influxdb_line_protocol.specs.Bytes.{comma, newline, space}
-use Rattle.influxdb_line_protocol.specs.Names.{a_measurement}
-use Rattle.influxdb_line_protocol.specs.Points.{Tag, Field, built, built_field, built_tag, line_of, spelling}
+use Rattle.influxdb_line_protocol.specs.format.Bytes.{comma, newline, space}
+use Rattle.influxdb_line_protocol.specs.format.Names.{a_measurement}
+use Rattle.influxdb_line_protocol.specs.format.Points.{Tag, Field, built, built_field, built_tag, line_of, spelling}
 
 -- texts that are appended one after another are appended as a whole
 pub six_appended : (start m t f h n end : List ℕ)

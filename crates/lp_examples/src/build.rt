@@ -2,9 +2,9 @@
 
 // [build]
 ghost use Rattle.std.specs.Prelude.{◌≡◌, ◌++◌, [], ◌∷◌, Some, IfOk, codes, true};
-ghost use Rattle.influxdb_line_protocol.specs.Built.{buffer_of};
-ghost use Rattle.influxdb_line_protocol.specs.Points.{Point, built};
-ghost use Rattle.influxdb_line_protocol.specs.Values.{integer, boolean};
+ghost use Rattle.influxdb_line_protocol.specs.code.Built.{buffer_of};
+ghost use Rattle.influxdb_line_protocol.specs.format.Points.{Point, built};
+ghost use Rattle.influxdb_line_protocol.specs.format.Values.{integer, boolean};
 
 use influxdb_line_protocol::LineProtocolBuilder;
 use influxdb_line_protocol::builder::{BeforeMeasurement, BufMut, NoRoom};

@@ -2,7 +2,7 @@
 
 // [floats]
 ghost use Rattle.std.specs.Prelude.{◌≡◌, IfSome};
-ghost use Rattle.influxdb_line_protocol.specs.Values.{IsFloat};
+ghost use Rattle.influxdb_line_protocol.specs.format.Values.{IsFloat};
 
 use influxdb_line_protocol::{FloatText, LineProtocolBuilder};
 use std::alloc::Global;

@@ -2,7 +2,7 @@
 
 // [given_back]
 ghost use Rattle.std.specs.Prelude.{◌≡◌, IfErr};
-ghost use Rattle.influxdb_line_protocol.specs.Built.{buffer_of};
+ghost use Rattle.influxdb_line_protocol.specs.code.Built.{buffer_of};
 
 use influxdb_line_protocol::LineProtocolBuilder;
 use influxdb_line_protocol::builder::{AfterMeasurement, BeforeMeasurement, NoRoom};

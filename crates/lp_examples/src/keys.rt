@@ -3,7 +3,7 @@
 // [keys]
 ghost use Rattle.std.specs.Prelude.{◌≡◌, codes};
 ghost use Rattle.std.specs.Option.{option_copied};
-ghost use Rattle.influxdb_line_protocol.specs.Lookups.{some_items, value_by_key};
+ghost use Rattle.influxdb_line_protocol.specs.code.Lookups.{some_items, value_by_key};
 
 use influxdb_line_protocol::{EscapedStr, ParsedLine};
 

@@ -2,8 +2,8 @@
 
 // [refusals]
 ghost use Rattle.std.specs.Prelude.{◌≡◌, ◌++◌, ◌⊎◌};
-ghost use Rattle.influxdb_line_protocol.specs.Built.{buffer_of};
-ghost use Rattle.influxdb_line_protocol.specs.Points.{built_tag};
+ghost use Rattle.influxdb_line_protocol.specs.code.Built.{buffer_of};
+ghost use Rattle.influxdb_line_protocol.specs.format.Points.{built_tag};
 
 use influxdb_line_protocol::LineProtocolBuilder;
 use influxdb_line_protocol::builder::{AfterMeasurement, BufMut};

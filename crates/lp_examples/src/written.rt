@@ -2,9 +2,9 @@
 
 // [written]
 ghost use Rattle.std.specs.Prelude.{◌≡◌, ◌<◌, ◌++◌, length, IfOk, if◌then◌else◌};
-ghost use Rattle.influxdb_line_protocol.specs.Built.{buffer_of};
-ghost use Rattle.influxdb_line_protocol.specs.Parsed.{parsed_point};
-ghost use Rattle.influxdb_line_protocol.specs.Points.{built, is_admitted_point};
+ghost use Rattle.influxdb_line_protocol.specs.code.Built.{buffer_of};
+ghost use Rattle.influxdb_line_protocol.specs.code.Parsed.{parsed_point};
+ghost use Rattle.influxdb_line_protocol.specs.format.Points.{built, is_admitted_point};
 
 use influxdb_line_protocol::builder::{BeforeMeasurement, NoRoom};
 use influxdb_line_protocol::{LineProtocolBuilder, ParsedLine, is_admitted, write_line};

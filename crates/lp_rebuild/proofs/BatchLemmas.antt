@@ -1,5 +1,6 @@
 -- What is carried: lines with a field, and points that are admitted, so that the batch reads back.
-use Rattle.std.proofs.Common.{◌≡◌, ℕ, ◌==◌, ◌<◌, List, [], ◌∷◌, ◌++◌, length, map, Option, Some, None, Result, Ok, Err, refl, sym, ap, subst, ◌∙◌, arith, inl, inr}
+use Rattle.std.proofs.Common.{◌≡◌, ℕ, ◌==◌, ◌<◌, List, [], ◌∷◌, ◌++◌, length, map, Option, Some, None, Result, Ok, Err}
+use Rattle.std.proofs.Common.{refl, sym, ap, subst, ◌∙◌, arith, inl, inr}
 use Rattle.std.specs.Prelude.{IfOk}
 use Rattle.std.specs.List.{flat_map, AllByRecursion}
 use Rattle.std.proofs.lemmas.Bool.{cases_Bool}
@@ -8,16 +9,16 @@ use Rattle.influxdb_line_protocol.specs.declared.error.Error.{Error}
 use Rattle.influxdb_line_protocol.specs.declared.escaped.EscapedStr.{EscapedStr}
 use Rattle.influxdb_line_protocol.specs.declared.values.FieldValue.{FieldValue}
 use Rattle.influxdb_line_protocol.specs.declared.line.ParsedLine.{ParsedLine}
-use Rattle.influxdb_line_protocol.specs.Readings.{Fault}
-use Rattle.influxdb_line_protocol.specs.Points.{is_admitted_point, built_all}
-use Rattle.influxdb_line_protocol.specs.Lines.{Line, point_of, answer, logical_field}
-use Rattle.influxdb_line_protocol.specs.Parsed.{field_of, line_read}
-use Rattle.influxdb_line_protocol.specs.Trimming.{trimmed}
-use Rattle.influxdb_line_protocol.specs.Pieces.{Left, PiecesLeft}
-use Rattle.influxdb_line_protocol.specs.ParseSteps.{GaveItem}
-use Rattle.influxdb_line_protocol.specs.Items.{HasAnswers, answers_of, answers_of_piece}
-use Rattle.influxdb_line_protocol.specs.Laws.{IsAdmittedPoint, AdmittedBatchesReadBack, PiecesExist, PiecesAreUnique}
-use Rattle.influxdb_line_protocol.specs.PointsOfLines.{LinesArePoints}
+use Rattle.influxdb_line_protocol.specs.format.Readings.{Fault}
+use Rattle.influxdb_line_protocol.specs.format.Points.{is_admitted_point, built_all}
+use Rattle.influxdb_line_protocol.specs.format.Lines.{Line, point_of, answer, logical_field}
+use Rattle.influxdb_line_protocol.specs.code.Parsed.{field_of, line_read}
+use Rattle.influxdb_line_protocol.specs.format.Trimming.{trimmed}
+use Rattle.influxdb_line_protocol.specs.format.Pieces.{Left, PiecesLeft}
+use Rattle.influxdb_line_protocol.specs.code.ParseSteps.{GaveItem}
+use Rattle.influxdb_line_protocol.specs.format.Items.{HasAnswers, answers_of, answers_of_piece}
+use Rattle.influxdb_line_protocol.specs.laws.Laws.{IsAdmittedPoint, AdmittedBatchesReadBack, PiecesExist, PiecesAreUnique}
+use Rattle.influxdb_line_protocol.specs.laws.PointsOfLines.{LinesArePoints}
 use Rattle.lp_rebuild.specs.declared.batch.Rebuilt.{Rebuilt}
 use Rattle.lp_rebuild.specs.Rebuilding.{RebuildsIn, ReadsBackIn, carried_point, batch_of}
 
@@ -27,13 +28,16 @@ some_fields [] h = h
 some_fields (f ∷ fs) h = omega arith
 
 -- what is left has pieces
-left_pieces : PiecesExist → (dialect : Dialect) (text : Option (List ℕ)) → (pieces : List (List ℕ)) × PiecesLeft (record { dialect = dialect; text = text }) pieces
+left_pieces : PiecesExist → (dialect : Dialect) (text : Option (List ℕ)) → (pieces : List (List ℕ))
+    × PiecesLeft (record { dialect = dialect; text = text }) pieces
 left_pieces exist dialect None = ([], refl)
 left_pieces exist dialect (Some text) = exist dialect text
 
 -- a line that is given has a field
-pub item_has_field : LinesArePoints → PiecesExist → (before : Left) (dialect : Dialect) (text : Option (List ℕ)) (item : Result ParsedLine Error)
-    → ((others : List (List ℕ)) → PiecesLeft (record { dialect = dialect; text = text }) others → GaveItem before item others) → IfOk item (λ line. 0 < length line.field_set.items)
+pub item_has_field : LinesArePoints → PiecesExist
+    → (before : Left) (dialect : Dialect) (text : Option (List ℕ)) (item : Result ParsedLine Error)
+    → ((others : List (List ℕ)) → PiecesLeft (record { dialect = dialect; text = text }) others
+    → GaveItem before item others) → IfOk item (λ line. 0 < length line.field_set.items)
 item_has_field are exist before dialect text (Err e) gives = tt
 item_has_field are exist before dialect text (Ok line) gives =
     let left = left_pieces exist dialect text in
@@ -46,7 +50,8 @@ all_joined P [] ys first second = second
 all_joined P (x ∷ xs) ys first second = (first.0, all_joined P xs ys first.1 second)
 
 -- the point of an answer that is carried is admitted
-answer_admitted : LinesArePoints → (dialect : Dialect) (text : List ℕ) (a : Result Line Fault) → answer dialect text ≡ a → AllByRecursion IsAdmittedPoint (carried_point a)
+answer_admitted : LinesArePoints → (dialect : Dialect) (text : List ℕ) (a : Result Line Fault)
+    → answer dialect text ≡ a → AllByRecursion IsAdmittedPoint (carried_point a)
 answer_admitted are dialect text (Err e) h = tt
 answer_admitted are dialect text (Ok line) h =
     elim (cases_Bool (is_admitted_point (point_of line))) [
@@ -57,7 +62,8 @@ answer_admitted are dialect text (Ok line) h =
     ]
 
 -- so are all points that are carried
-points_admitted : LinesArePoints → (dialect : Dialect) (pieces : List (List ℕ)) → AllByRecursion IsAdmittedPoint (flat_map carried_point (answers_of dialect pieces))
+points_admitted : LinesArePoints → (dialect : Dialect) (pieces : List (List ℕ))
+    → AllByRecursion IsAdmittedPoint (flat_map carried_point (answers_of dialect pieces))
 unfolding answers_of_piece
 points_admitted are dialect [] = tt
 points_admitted are dialect (piece ∷ pieces) =
@@ -78,13 +84,15 @@ answers_are unique dialect text answers others first second =
     first.answered ∙ ap (answers_of dialect) (unique dialect text first.pieces second.pieces first.are second.are) ∙ sym second.answered
 
 -- the batch of a rebuild reads back
-pub batch_reads_back : AdmittedBatchesReadBack → LinesArePoints → PiecesAreUnique → (from : Dialect) (text : List ℕ) (r : Rebuilt) → RebuildsIn from text r → ReadsBackIn from text r
-batch_reads_back law are unique from text r h items has dialect t answers behind =
+pub batch_reads_back : AdmittedBatchesReadBack → LinesArePoints → PiecesAreUnique
+    → (from : Dialect) (text : List ℕ) (r : Rebuilt) → RebuildsIn from text r → ReadsBackIn from text r
+batch_reads_back law are unique from text r h items has dialect t answers after =
     let points = flat_map carried_point items in
     let admitted : AllByRecursion IsAdmittedPoint points =
-    subst (λ (l : List (Result Line Fault)). AllByRecursion IsAdmittedPoint (flat_map carried_point l)) (sym has.answered) (points_admitted are from has.pieces) in
+    subst (λ (l : List (Result Line Fault)). AllByRecursion IsAdmittedPoint (flat_map carried_point l))
+    (sym has.answered) (points_admitted are from has.pieces) in
     let batch : r.batch.items ≡ built_all points = h.batch ∙ ap batch_of (answers_are unique from text h.answers items h.has has) in
-    let read = law dialect points t answers admitted behind in (
+    let read = law dialect points t answers admitted after in (
       read.0,
       read.1,
       ap built_all read.1 ∙ sym batch,

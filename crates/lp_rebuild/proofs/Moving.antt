@@ -1,21 +1,24 @@
 -- What several reads or writes, one after the other, move together.
-use Rattle.std.proofs.Common.{◌≡◌, ℕ, ◌+◌, ◌≤◌, List, [], ◌++◌, length, take, drop, Option, Result, Ok, Err, IfOk, sym, ap, subst, ◌∙◌, append-nil}
+use Rattle.std.proofs.Common.{◌≡◌, ℕ, ◌+◌, ◌≤◌, List, [], ◌++◌, length, take, drop, Option, Result, Ok, Err, IfOk, sym}
+use Rattle.std.proofs.Common.{ap, subst, ◌∙◌, append-nil}
 use Rattle.std.proofs.Math.Seq.{take-add}
 use Rattle.std.proofs.lemmas.List.{take-append-drop, drop-drop, drop_at, take-append-le}
 use Rattle.std.specs.Io.KnownBytes.{Consumes, Appends, ReadConsumes}
 use Rattle.std.proofs.KnownBytes.{Consumes-trans, Appends-trans}
 
 -- the first f bytes of xs were consumed, and ys has those and the next n that were
-pub read_more : (a b c : Option (List ℕ)) (xs ys : List ℕ) (f n : ℕ) → take f ys ≡ take f xs → Consumes a b (take f xs) → Consumes b c (take n (drop f ys)) → Consumes a c (take (f + n) ys)
+pub read_more : (a b c : Option (List ℕ)) (xs ys : List ℕ) (f n : ℕ) → take f ys ≡ take f xs
+    → Consumes a b (take f xs) → Consumes b c (take n (drop f ys)) → Consumes a c (take (f + n) ys)
 read_more a b c xs ys f n same before read =
     subst (Consumes a c) (ap (λ l. l ++ take n (drop f ys)) (sym same) ∙ sym (take-add f n ys)) (Consumes-trans a b c _ _ before read)
 
 -- the first n bytes were appended, and then k of the rest
-pub write_more : (a b c : Option (List ℕ)) (all rest : List ℕ) (n k : ℕ) → rest ≡ drop n all → Appends a b (take n all) → Appends b c (take k rest) → Appends a c (take (n + k) all)
+pub write_more : (a b c : Option (List ℕ)) (all rest : List ℕ) (n k : ℕ) → rest ≡ drop n all
+    → Appends a b (take n all) → Appends b c (take k rest) → Appends a c (take (n + k) all)
 write_more a b c all rest n k left before written =
     subst (Appends a c) (ap (λ l. take n all ++ take k l) left ∙ sym (take-add n k all)) (Appends-trans a b c _ _ before written)
 
--- what is left behind the next k bytes
+-- what is left after the next k bytes
 pub rest_more : (all rest : List ℕ) (n k : ℕ) → rest ≡ drop n all → drop k rest ≡ drop (n + k) all
 rest_more all rest n k left = ap (drop k) left ∙ drop-drop k n all
 
@@ -24,8 +27,9 @@ pub none_left : (all rest : List ℕ) (n : ℕ) → rest ≡ drop n all → rest
 none_left all rest n left none =
     sym (append-nil (take n all)) ∙ ap (λ l. take n all ++ l) (sym none ∙ left) ∙ take-append-drop n all
 
--- what was read into a part of a buffer stands behind its front
-pub read_in_place : {E : Type 0} (a b : Option (List ℕ)) (r : Result ℕ E) (front part rest : List ℕ) (at : ℕ) → length front ≡ at → IfOk r (λ n. n ≤ length part)
+-- what was read into a part of a buffer comes after its front
+pub read_in_place : {E : Type 0} (a b : Option (List ℕ)) (r : Result ℕ E) (front part rest : List ℕ) (at : ℕ)
+    → length front ≡ at → IfOk r (λ n. n ≤ length part)
     → ReadConsumes a b r part → IfOk r (λ n. Consumes a b (take n (drop at (front ++ (part ++ rest)))))
 read_in_place a b (Ok n) front part rest at long fits read =
     subst (Consumes a b) (sym (ap (take n) (drop_at front (part ++ rest) at long) ∙ take-append-le n part rest fits)) read.0

@@ -1,5 +1,6 @@
--- What a run that could not write left behind.
-use Rattle.std.proofs.Common.{◌≡◌, ℕ, List, length, Option, Result, Ok, Err, true, false, is_err, OnErr, OnOk, IfSome, subst, arith, take_all, le_refl}
+-- What a run that could not write has written.
+use Rattle.std.proofs.Common.{◌≡◌, ℕ, List, length, Option, Result, Ok, Err, true, false, is_err, OnErr, OnOk, IfSome}
+use Rattle.std.proofs.Common.{subst, arith, take_all, le_refl}
 use Rattle.std.specs.Io.KnownBytes.{Consumes, Appends, IsAtEnd}
 use Rattle.std.proofs.KnownBytes.{Consumes-whole, Appends-nil}
 use Rattle.influxdb_line_protocol.specs.declared.split.Dialect.{Dialect}
@@ -23,7 +24,8 @@ LeftParts dialect out out_after err err_after input =
     (r : Rebuilt) × RebuildsIn dialect input r × WritesFronts r.batch.items r.faults.items out out_after err err_after
 
 -- a part of the batch was written, and no fault
-pub batch_part : (dialect : Dialect) (a b out out_after err : Option (List ℕ)) (input text batch : List ℕ) (r : Rebuilt) → Consumes a b input → IsAtEnd b → text ≡ input → RebuildsIn dialect text r
+pub batch_part : (dialect : Dialect) (a b out out_after err : Option (List ℕ)) (input text batch : List ℕ)
+    (r : Rebuilt) → Consumes a b input → IsAtEnd b → text ≡ input → RebuildsIn dialect text r
     → batch ≡ r.batch.items → AppendsFront out out_after batch → IfSome a (LeftParts dialect out out_after err err)
 batch_part dialect a b out out_after err input text batch r read end same rebuilt is part =
     Consumes-whole a b input (LeftParts dialect out out_after err err) read end (
@@ -39,8 +41,10 @@ batch_part dialect a b out out_after err input text batch r read end same rebuil
     )
 
 -- the whole batch was written, and a part of the faults
-pub faults_part : (dialect : Dialect) (a b out out_after err err_after : Option (List ℕ)) (input text batch faults : List ℕ) (r : Rebuilt) → Consumes a b input → IsAtEnd b → text ≡ input → RebuildsIn dialect text r
-    → batch ≡ r.batch.items → faults ≡ r.faults.items → Appends out out_after batch → AppendsFront err err_after faults → IfSome a (LeftParts dialect out out_after err err_after)
+pub faults_part : (dialect : Dialect) (a b out out_after err err_after : Option (List ℕ))
+    (input text batch faults : List ℕ) (r : Rebuilt) → Consumes a b input → IsAtEnd b → text ≡ input → RebuildsIn dialect text r
+    → batch ≡ r.batch.items → faults ≡ r.faults.items → Appends out out_after batch
+    → AppendsFront err err_after faults → IfSome a (LeftParts dialect out out_after err err_after)
 faults_part dialect a b out out_after err err_after input text batch faults r read end same rebuilt batch_is faults_is whole part =
     let all = take_all (length r.batch.items) r.batch.items (le_refl _) in
     Consumes-whole a b input (LeftParts dialect out out_after err err_after) read end (

@@ -1,5 +1,7 @@
 -- How a rebuild goes over the pieces of a text.
-use Rattle.std.proofs.Common.{◌≡◌, ◌≢◌, ℕ, ◌+◌, ◌==◌, ◌<◌, Bool, true, false, not, cond, List, [], ◌∷◌, ◌++◌, length, codes, Result, Ok, Err, string_bytes, refl, sym, ap, subst, ◌∙◌, arith, append_assoc, append-nil, eq-eqb}
+use Rattle.std.proofs.Common.{◌≡◌, ◌≢◌, ℕ, ◌+◌, ◌==◌, ◌<◌, Bool, true, false, not, cond, List, [], ◌∷◌, ◌++◌, length}
+use Rattle.std.proofs.Common.{codes, Result, Ok, Err, string_bytes, refl, sym, ap, subst, ◌∙◌, arith, append_assoc}
+use Rattle.std.proofs.Common.{append-nil, eq-eqb}
 use Rattle.std.specs.List.{All, flat_map}
 use Rattle.std.proofs.lemmas.Grind.{flat_map-append}
 use Rattle.std.proofs.lemmas.Bool.Decides.{nat_tests}
@@ -11,21 +13,26 @@ use Rattle.influxdb_line_protocol.specs.declared.error.Error.TheVariants as erro
 use Rattle.influxdb_line_protocol.specs.declared.line.ParsedLine.{ParsedLine}
 use Rattle.lp_rebuild.specs.declared.batch.Progress.{Progress}
 use Rattle.lp_rebuild.specs.declared.batch.Rebuilt.{Rebuilt}
-use Rattle.influxdb_line_protocol.specs.Outcomes.{side, IsFault}
-use Rattle.influxdb_line_protocol.specs.Readings.{Fault, integer_value_invalid, uinteger_value_invalid, timestamp_value_invalid, tag_set_malformed, measurement_value_invalid, field_set_missing, ends_with_backslash, take_while1, cannot_parse_entire_line}
-use Rattle.influxdb_line_protocol.specs.Points.{Point, built, built_all}
-use Rattle.influxdb_line_protocol.specs.Lines.{Line, point_of}
-use Rattle.influxdb_line_protocol.specs.Parsed.{Answers, line_read, parsed_point}
-use Rattle.influxdb_line_protocol.specs.Faults.{error_text, fault_text}
-use Rattle.influxdb_line_protocol.specs.Trimming.{trimmed}
-use Rattle.influxdb_line_protocol.specs.Pieces.{Left, Pieces, PiecesLeft}
-use Rattle.influxdb_line_protocol.specs.ParseSteps.{IsBlankPiece, GaveItem}
-use Rattle.influxdb_line_protocol.specs.Items.{line_answer, answers_of, answers_of_piece}
-use Rattle.lp_rebuild.specs.Rebuilding.{RebuildsIn, batch_of, carried_point, faults_from, fault_of, carried_of, refused_of, is_carried, is_carried_answer, refusal_text}
+use Rattle.influxdb_line_protocol.specs.code.Outcomes.{side, IsFault}
+use Rattle.influxdb_line_protocol.specs.format.Readings.{Fault, integer_value_invalid, uinteger_value_invalid}
+use Rattle.influxdb_line_protocol.specs.format.Readings.{timestamp_value_invalid, tag_set_malformed}
+use Rattle.influxdb_line_protocol.specs.format.Readings.{measurement_value_invalid, field_set_missing, ends_with_backslash}
+use Rattle.influxdb_line_protocol.specs.format.Readings.{take_while1, cannot_parse_entire_line}
+use Rattle.influxdb_line_protocol.specs.format.Points.{Point, built, built_all}
+use Rattle.influxdb_line_protocol.specs.format.Lines.{Line, point_of}
+use Rattle.influxdb_line_protocol.specs.code.Parsed.{Answers, line_read, parsed_point}
+use Rattle.influxdb_line_protocol.specs.code.Faults.{error_text, fault_text}
+use Rattle.influxdb_line_protocol.specs.format.Trimming.{trimmed}
+use Rattle.influxdb_line_protocol.specs.format.Pieces.{Left, Pieces, PiecesLeft}
+use Rattle.influxdb_line_protocol.specs.code.ParseSteps.{IsBlankPiece, GaveItem}
+use Rattle.influxdb_line_protocol.specs.format.Items.{line_answer, answers_of, answers_of_piece}
+use Rattle.lp_rebuild.specs.Rebuilding.{RebuildsIn, batch_of, carried_point, faults_from, fault_of, carried_of}
+use Rattle.lp_rebuild.specs.Rebuilding.{refused_of, is_carried, is_carried_answer, refusal_text}
 use Rattle.lp_rebuild.specs.RebuildSteps.{Refuses, Takes}
 
 -- an answer that is not carried was refused with its text
-pub refused_answer : (old : Progress) (answer : Result Line Fault) (new : Progress) → is_carried_answer answer ≡ false → Refuses old (refusal_text answer) new → Takes old answer new
+pub refused_answer : (old : Progress) (answer : Result Line Fault) (new : Progress)
+    → is_carried_answer answer ≡ false → Refuses old (refusal_text answer) new → Takes old answer new
 refused_answer old (Ok line) new e r =
     let no : is_carried (point_of line) ≡ false = e in
     record {
@@ -43,8 +50,10 @@ refused_answer old (Err fault) new e r =
     }
 
 -- a line that is carried was written again
-pub carried_line : (old : Progress) (line : ParsedLine) (new : Progress) → is_carried (parsed_point line) ≡ true → new.batch.items ≡ old.batch.items ++ built (parsed_point line)
-    → string_bytes new.faults ≡ string_bytes old.faults → new.carried ≡ old.carried + 1 → new.refused ≡ old.refused → Takes old (Ok (line_read line)) new
+pub carried_line : (old : Progress) (line : ParsedLine) (new : Progress) → is_carried (parsed_point line) ≡ true
+    → new.batch.items ≡ old.batch.items ++ built (parsed_point line)
+    → string_bytes new.faults ≡ string_bytes old.faults → new.carried ≡ old.carried + 1 → new.refused ≡ old.refused
+    → Takes old (Ok (line_read line)) new
 carried_line old line new e batch faults carried refused =
     record {
       batch = rw e (batch ∙ ap (λ (l : List ℕ). old.batch.items ++ l) (sym (append-nil (built (parsed_point line)))));
@@ -54,11 +63,13 @@ carried_line old line new e batch faults carried refused =
     }
 
 -- a line that is not carried was refused
-pub refused_line : (old : Progress) (line : ParsedLine) (new : Progress) → is_carried (parsed_point line) ≡ false → Refuses old (codes "a name cannot be written again") new → Takes old (Ok (line_read line)) new
+pub refused_line : (old : Progress) (line : ParsedLine) (new : Progress) → is_carried (parsed_point line) ≡ false
+    → Refuses old (codes "a name cannot be written again") new → Takes old (Ok (line_read line)) new
 refused_line old line new e r = refused_answer old (Ok (line_read line)) new e r
 
--- the text of an error other than want of memory is that of its fault
-pub error_is : (e : Error) (answer : Result Line Fault) → e ≢ error.OutOfMemory → IsFault e (λ fault. answer ≡ Err fault) → (fault : Fault) × (answer ≡ Err fault) × (error_text e ≡ fault_text fault)
+-- the text of an error other than `OutOfMemory` is that of its fault
+pub error_is : (e : Error) (answer : Result Line Fault) → e ≢ error.OutOfMemory
+    → IsFault e (λ fault. answer ≡ Err fault) → (fault : Fault) × (answer ≡ Err fault) × (error_text e ≡ fault_text fault)
 error_is (error.DuplicateTag key) answer some is = absurd is
 error_is error.MeasurementValueInvalid answer some is = (measurement_value_invalid, is, refl)
 error_is error.FieldSetMissing answer some is = (field_set_missing, is, refl)
@@ -78,11 +89,14 @@ refused_fault old e new some r answer is =
     let f = error_is e answer some is in
     subst (λ a. Takes old a new) (sym f.1) (refused_answer old (Err f.0) new refl (subst (λ t. Refuses old t new) f.2 r))
 
-carried_cons : (answer : Result Line Fault) (answers : List (Result Line Fault)) → carried_of (answer ∷ answers) ≡ cond (is_carried_answer answer) 1 0 + carried_of answers
+carried_cons : (answer : Result Line Fault) (answers : List (Result Line Fault))
+    → carried_of (answer ∷ answers) ≡ cond (is_carried_answer answer) 1 0 + carried_of answers
 carried_cons answer answers = omega (arith, sum_by-append (λ (a : Result Line Fault). cond (is_carried_answer a) 1 0) (answer ∷ []) answers)
 
-refused_cons : (answer : Result Line Fault) (answers : List (Result Line Fault)) → refused_of (answer ∷ answers) ≡ cond (not (is_carried_answer answer)) 1 0 + refused_of answers
-refused_cons answer answers = omega (arith, sum_by-append (λ (a : Result Line Fault). cond (not (is_carried_answer a)) 1 0) (answer ∷ []) answers)
+refused_cons : (answer : Result Line Fault) (answers : List (Result Line Fault))
+    → refused_of (answer ∷ answers) ≡ cond (not (is_carried_answer answer)) 1 0 + refused_of answers
+refused_cons answer answers = omega
+    (arith, sum_by-append (λ (a : Result Line Fault). cond (not (is_carried_answer a)) 1 0) (answer ∷ []) answers)
 
 -- one of two
 one_of_two : (b : Bool) → cond b 1 0 + cond (not b) 1 0 ≡ 1
@@ -96,24 +110,32 @@ counts_add_up (answer ∷ answers) =
     omega (arith, carried_cons answer answers, refused_cons answer answers, one_of_two (is_carried_answer answer), counts_add_up answers)
 
 -- one answer more, at the end
-faults_push : (number : ℕ) (answers : List (Result Line Fault)) (answer : Result Line Fault) → faults_from number (answers ++ answer ∷ []) ≡ faults_from number answers ++ fault_of (number + length answers) answer
+faults_push : (number : ℕ) (answers : List (Result Line Fault)) (answer : Result Line Fault)
+    → faults_from number (answers ++ answer ∷ []) ≡ faults_from number answers ++ fault_of (number + length answers) answer
 faults_push number [] answer = append-nil (fault_of number answer) ∙ ap (λ (n : ℕ). fault_of n answer) {y = number + 0} (omega arith)
 faults_push number (a ∷ answers) answer =
     let first = fault_of number a in
     let others = faults_from (number + 1) answers in
-    ap (λ (l : List ℕ). first ++ l) (faults_push (number + 1) answers answer) ∙ sym (append_assoc first others (fault_of (number + 1 + length answers) answer))
+    ap (λ (l : List ℕ). first ++ l) (faults_push (number + 1) answers answer)
+    ∙ sym (append_assoc first others (fault_of (number + 1 + length answers) answer))
     ∙ ap (λ (n : ℕ). (first ++ others) ++ fault_of n answer) {y = number + length (a ∷ answers)} (omega arith)
 
-carried_push : (answers : List (Result Line Fault)) (answer : Result Line Fault) → carried_of (answers ++ answer ∷ []) ≡ carried_of answers + cond (is_carried_answer answer) 1 0
+carried_push : (answers : List (Result Line Fault)) (answer : Result Line Fault)
+    → carried_of (answers ++ answer ∷ []) ≡ carried_of answers + cond (is_carried_answer answer) 1 0
 carried_push answers answer = omega (arith, sum_by-append (λ (a : Result Line Fault). cond (is_carried_answer a) 1 0) answers (answer ∷ []))
 
-refused_push : (answers : List (Result Line Fault)) (answer : Result Line Fault) → refused_of (answers ++ answer ∷ []) ≡ refused_of answers + cond (not (is_carried_answer answer)) 1 0
-refused_push answers answer = omega (arith, sum_by-append (λ (a : Result Line Fault). cond (not (is_carried_answer a)) 1 0) answers (answer ∷ []))
+refused_push : (answers : List (Result Line Fault)) (answer : Result Line Fault)
+    → refused_of (answers ++ answer ∷ []) ≡ refused_of answers + cond (not (is_carried_answer answer)) 1 0
+refused_push answers answer = omega
+    (arith, sum_by-append (λ (a : Result Line Fault). cond (not (is_carried_answer a)) 1 0) answers (answer ∷ []))
 
-batch_push : (answers : List (Result Line Fault)) (answer : Result Line Fault) → batch_of (answers ++ answer ∷ []) ≡ batch_of answers ++ built_all (carried_point answer)
+batch_push : (answers : List (Result Line Fault)) (answer : Result Line Fault)
+    → batch_of (answers ++ answer ∷ []) ≡ batch_of answers ++ built_all (carried_point answer)
 batch_push answers answer =
     let points = flat_map carried_point answers in
-    ap (λ (l : List Point). flat_map built l) (flat_map-append carried_point answers (answer ∷ []) ∙ ap (λ (l : List Point). points ++ l) (append-nil (carried_point answer)))
+    ap (λ (l : List Point). flat_map built l)
+    (flat_map-append carried_point answers (answer ∷ [])
+    ∙ ap (λ (l : List Point). points ++ l) (append-nil (carried_point answer)))
     ∙ flat_map-append built points (carried_point answer)
 
 -- the answers were taken
@@ -134,13 +156,15 @@ add_elsewhere true m n e = omega arith
 add_elsewhere false m n e = omega arith
 
 -- one answer more was taken
-pub Took-more : (answers : List (Result Line Fault)) (answer : Result Line Fault) (old new : Progress) → Took answers old → Takes old answer new → Took (answers ++ answer ∷ []) new
+pub Took-more : (answers : List (Result Line Fault)) (answer : Result Line Fault) (old new : Progress)
+    → Took answers old → Takes old answer new → Took (answers ++ answer ∷ []) new
 Took-more answers answer old new h t =
     record {
       batch = t.batch ∙ ap (λ l. l ++ built_all (carried_point answer)) h.batch ∙ sym (batch_push answers answer);
       faults =
           t.faults ∙ ap (λ (l : List ℕ). l ++ fault_of (old.carried + old.refused + 1) answer) h.faults
-          ∙ ap (λ (n : ℕ). faults_from 1 answers ++ fault_of n answer) {y = 1 + length answers} (omega (arith, h.carried, h.refused, counts_add_up answers))
+          ∙ ap (λ (n : ℕ). faults_from 1 answers ++ fault_of n answer) {y = 1 + length answers}
+          (omega (arith, h.carried, h.refused, counts_add_up answers))
           ∙ sym (faults_push 1 answers answer);
       carried = t.carried ∙ add_where (is_carried_answer answer) _ _ h.carried ∙ sym (carried_push answers answer);
       refused = t.refused ∙ add_elsewhere (is_carried_answer answer) _ _ h.refused ∙ sym (refused_push answers answer);
@@ -155,7 +179,8 @@ blank_answers dialect (p ∷ pieces) h =
     rw e (blank_answers dialect pieces (All-tail IsBlankPiece p pieces h))
 
 -- a piece that is not blank has one
-piece_answers : (dialect : Dialect) (piece : List ℕ) → 0 < length (trimmed piece) → answers_of_piece dialect piece ≡ line_answer dialect (trimmed piece) ∷ []
+piece_answers : (dialect : Dialect) (piece : List ℕ) → 0 < length (trimmed piece)
+    → answers_of_piece dialect piece ≡ line_answer dialect (trimmed piece) ∷ []
 unfolding answers_of_piece
 piece_answers dialect piece h =
     let e : (length (trimmed piece) == 0) ≡ false = grind (arith, nat_tests) in
@@ -168,23 +193,28 @@ pub record SoFar (dialect : Dialect) (text : List ℕ) (others : List (List ℕ)
   pub took : Took (answers_of dialect front) so_far
 
 -- before the first piece
-pub SoFar-none : (dialect : Dialect) (text : List ℕ) (pieces : List (List ℕ)) (so_far : Progress) → Pieces dialect text pieces → Took [] so_far → SoFar dialect text pieces so_far
+pub SoFar-none : (dialect : Dialect) (text : List ℕ) (pieces : List (List ℕ)) (so_far : Progress)
+    → Pieces dialect text pieces → Took [] so_far → SoFar dialect text pieces so_far
 SoFar-none dialect text pieces so_far h t = record { front = []; pieces = h; took = t }
 
-regrouped : (front skipped : List (List ℕ)) (piece : List ℕ) (others : List (List ℕ)) → front ++ (skipped ++ piece ∷ others) ≡ (front ++ (skipped ++ piece ∷ [])) ++ others
+regrouped : (front skipped : List (List ℕ)) (piece : List ℕ) (others : List (List ℕ))
+    → front ++ (skipped ++ piece ∷ others) ≡ (front ++ (skipped ++ piece ∷ [])) ++ others
 regrouped front skipped piece others = simp append_assoc
 
--- the answers behind blank pieces and one that is not
+-- the answers after blank pieces and one that is not
 front_answers : (dialect : Dialect) (front skipped : List (List ℕ)) (piece : List ℕ) → All IsBlankPiece skipped → 0 < length (trimmed piece)
     → answers_of dialect (front ++ (skipped ++ piece ∷ [])) ≡ answers_of dialect front ++ line_answer dialect (trimmed piece) ∷ []
 front_answers dialect front skipped piece blank some =
     let f = answers_of_piece dialect in
     flat_map-append f front (skipped ++ piece ∷ [])
     ∙ ap (λ (l : List (Result Line Fault)). answers_of dialect front ++ l)
-    (flat_map-append f skipped (piece ∷ []) ∙ ap (λ (l : List (Result Line Fault)). l ++ (f piece ++ [])) (blank_answers dialect skipped blank) ∙ append-nil (f piece) ∙ piece_answers dialect piece some)
+    (flat_map-append f skipped (piece ∷ [])
+    ∙ ap (λ (l : List (Result Line Fault)). l ++ (f piece ++ [])) (blank_answers dialect skipped blank)
+    ∙ append-nil (f piece) ∙ piece_answers dialect piece some)
 
 -- an item was taken, and the blank pieces before it were passed
-pub SoFar-item : (dialect : Dialect) (text : List ℕ) (before : Left) (item : Result ParsedLine Error) (others : List (List ℕ)) (old new : Progress) → before.dialect ≡ dialect
+pub SoFar-item : (dialect : Dialect) (text : List ℕ) (before : Left) (item : Result ParsedLine Error)
+    (others : List (List ℕ)) (old new : Progress) → before.dialect ≡ dialect
     → ((left : List (List ℕ)) → PiecesLeft before left → SoFar dialect text left old) → GaveItem before item others
     → ((answer : Result Line Fault) → Answers item answer → Takes old answer new) → SoFar dialect text others new
 SoFar-item dialect text before item others old new same done gave takes =
@@ -194,15 +224,20 @@ SoFar-item dialect text before item others old new same done gave takes =
       front = h.front ++ (gave.skipped ++ gave.piece ∷ []);
       pieces = subst (Pieces dialect text) (regrouped h.front gave.skipped gave.piece others) h.pieces;
       took = subst (λ l. Took l new) (sym (front_answers dialect h.front gave.skipped gave.piece gave.blank gave.some))
-          (Took-more (answers_of dialect h.front) answer old new h.took (takes answer (subst (λ d. Answers item (line_answer d (trimmed gave.piece))) same gave.item_is.answers)));
+          (Took-more (answers_of dialect h.front) answer old new h.took
+          (takes answer (subst (λ d. Answers item (line_answer d (trimmed gave.piece))) same gave.item_is.answers)));
     }
 
 -- only blank pieces were left
-pub SoFar-end : (dialect : Dialect) (text : List ℕ) (skipped : List (List ℕ)) (so_far : Progress) → All IsBlankPiece skipped → SoFar dialect text skipped so_far
-    → (r : Rebuilt) → r.batch ≡ so_far.batch → r.faults.items ≡ string_bytes so_far.faults → r.carried ≡ so_far.carried → r.refused ≡ so_far.refused → RebuildsIn dialect text r
+pub SoFar-end : (dialect : Dialect) (text : List ℕ) (skipped : List (List ℕ)) (so_far : Progress)
+    → All IsBlankPiece skipped → SoFar dialect text skipped so_far
+    → (r : Rebuilt) → r.batch ≡ so_far.batch → r.faults.items ≡ string_bytes so_far.faults
+    → r.carried ≡ so_far.carried → r.refused ≡ so_far.refused → RebuildsIn dialect text r
 SoFar-end dialect text skipped so_far blank h r batch faults carried refused =
     let none : answers_of dialect (h.front ++ skipped) ≡ answers_of dialect h.front =
-    flat_map-append (answers_of_piece dialect) h.front skipped ∙ ap (λ (l : List (Result Line Fault)). answers_of dialect h.front ++ l) (blank_answers dialect skipped blank) ∙ append-nil (answers_of dialect h.front) in
+    flat_map-append (answers_of_piece dialect) h.front skipped
+    ∙ ap (λ (l : List (Result Line Fault)). answers_of dialect h.front ++ l)
+    (blank_answers dialect skipped blank) ∙ append-nil (answers_of dialect h.front) in
     record {
       answers = answers_of dialect h.front;
       has = record { pieces = h.front ++ skipped; are = h.pieces; answered = sym none };

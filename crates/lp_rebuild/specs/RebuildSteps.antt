@@ -1,9 +1,9 @@
 -- What each step of a rebuild adds.
 use Rattle.std.specs.Prelude.{◌≡◌, ℕ, ◌+◌, ◌++◌, string_bytes, List, Result, if◌then◌else◌}
 use Rattle.lp_rebuild.specs.declared.batch.Progress.{Progress}
-use Rattle.influxdb_line_protocol.specs.Points.{built_all}
-use Rattle.influxdb_line_protocol.specs.Readings.{Fault}
-use Rattle.influxdb_line_protocol.specs.Lines.{Line}
+use Rattle.influxdb_line_protocol.specs.format.Points.{built_all}
+use Rattle.influxdb_line_protocol.specs.format.Readings.{Fault}
+use Rattle.influxdb_line_protocol.specs.format.Lines.{Line}
 use Rattle.lp_rebuild.specs.Rebuilding.{carried_point, fault_of, fault_line, is_carried_answer}
 
 -- one item was refused with this text

@@ -3,12 +3,12 @@ use Rattle.std.specs.Prelude.{◌≡◌, ℕ, ◌+◌, Bool, false, not, List, [
 use Rattle.std.specs.List.{flat_map, count_by}
 use Rattle.influxdb_line_protocol.specs.declared.split.Dialect.{Dialect}
 use Rattle.influxdb_line_protocol.specs.declared.split.Dialect.TheVariants.{Crate}
-use Rattle.influxdb_line_protocol.specs.Bytes.{newline}
-use Rattle.influxdb_line_protocol.specs.Readings.{Fault}
-use Rattle.influxdb_line_protocol.specs.Points.{Point, is_admitted_point, built_all}
-use Rattle.influxdb_line_protocol.specs.Lines.{Line, point_of}
-use Rattle.influxdb_line_protocol.specs.Items.{HasAnswers}
-use Rattle.influxdb_line_protocol.specs.Faults.{fault_text}
+use Rattle.influxdb_line_protocol.specs.format.Bytes.{newline}
+use Rattle.influxdb_line_protocol.specs.format.Readings.{Fault}
+use Rattle.influxdb_line_protocol.specs.format.Points.{Point, is_admitted_point, built_all}
+use Rattle.influxdb_line_protocol.specs.format.Lines.{Line, point_of}
+use Rattle.influxdb_line_protocol.specs.format.Items.{HasAnswers}
+use Rattle.influxdb_line_protocol.specs.code.Faults.{fault_text}
 use Rattle.lp_rebuild.specs.declared.batch.Rebuilt.{Rebuilt}
 
 -- whether the line of a point is written again: all its names are admitted

@@ -1,5 +1,6 @@
 -- What a run answers, and what it leaves in its reader and its writers.
-use Rattle.std.specs.Prelude.{◌≡◌, ◌≢◌, ◌⊎◌, ◌↔◌, ℕ, ◌+◌, ◌<◌, ◌≤◌, List, [], ◌∷◌, bytes_eq, take, codes, Option, Some, None, Result, Ok, Err, IfOk, IfErr, IfSome, ◌==◌, Bool, true, OnOk, if◌then◌else◌}
+use Rattle.std.specs.Prelude.{◌≡◌, ◌≢◌, ◌⊎◌, ◌↔◌, ℕ, ◌+◌, ◌<◌, ◌≤◌, List, [], ◌∷◌, bytes_eq, take, codes, Option, Some}
+use Rattle.std.specs.Prelude.{None, Result, Ok, Err, IfOk, IfErr, IfSome, ◌==◌, Bool, true, OnOk, if◌then◌else◌}
 use Rattle.std.specs.Borrow.{Bor}
 use Rattle.influxdb_line_protocol.specs.declared.split.Dialect.{Dialect}
 use Rattle.influxdb_line_protocol.specs.declared.split.Dialect.TheVariants.{Crate, Strict}
@@ -52,7 +53,7 @@ pub record WritesFronts (batch faults : List ℕ) (out out_after err err_after :
   pub err_gained : Appends err err_after (take faults_written faults)
   pub batch_first : 0 < faults_written → take batch_written batch ≡ batch
 
--- `Read` adds one failure to the reader's count, and nothing else changes it; no other fault but want of memory comes
+-- `Read` adds one failure to the reader's count, and nothing else changes it; no other fault but `OutOfMemory` comes
 abbrev pub CountsReadFault : {T : Type 0} → Result T RunFault → ℕ → ℕ → Type 0
 CountsReadFault (Ok x) old new = new ≡ old
 CountsReadFault (Err Read) old new = new ≡ old + 1
@@ -106,7 +107,8 @@ pub record RunsIn (dialect : Dialect) (result : Result Rebuilt RunFault)
   pub flushed : OnOk result ((out_after.is_flushed ≡ true) × (err_after.is_flushed ≡ true))
   -- where a writer failed, each gained a front of what was meant for it
   pub part : result ≡ Err Write → IfSome reader.bytes
-      (λ bs. (r : Rebuilt) × RebuildsIn dialect bs r × WritesFronts r.batch.items r.faults.items out.bytes out_after.bytes err.bytes err_after.bytes)
+      (λ bs. (r : Rebuilt) × RebuildsIn dialect bs r
+      × WritesFronts r.batch.items r.faults.items out.bytes out_after.bytes err.bytes err_after.bytes)
   -- `Write` is answered exactly where a writer failed
   pub write : (result ≡ Err Write) ↔ ((out.failures < out_after.failures) ⊎ (err.failures < err_after.failures))
   -- no count of failures falls, so one that has not risen is as before

@@ -1,10 +1,10 @@
 //! The lines of a text, written again.
 ghost use Rattle.std.specs.Prelude.{◌≡◌, ◌+◌, ◌<◌, ◌++◌, length, IfOk, IfSome, OnOk, Result, Ok, Err};
-ghost use Rattle.influxdb_line_protocol.specs.Readings.{Fault};
-ghost use Rattle.influxdb_line_protocol.specs.Points.{built};
-ghost use Rattle.influxdb_line_protocol.specs.Lines.{Line};
-ghost use Rattle.influxdb_line_protocol.specs.Parsed.{line_read, parsed_point, Answers};
-ghost use Rattle.influxdb_line_protocol.specs.ReadInto.{item_in};
+ghost use Rattle.influxdb_line_protocol.specs.format.Readings.{Fault};
+ghost use Rattle.influxdb_line_protocol.specs.format.Points.{built};
+ghost use Rattle.influxdb_line_protocol.specs.format.Lines.{Line};
+ghost use Rattle.influxdb_line_protocol.specs.code.Parsed.{line_read, parsed_point, Answers};
+ghost use Rattle.influxdb_line_protocol.specs.code.ReadInto.{item_in};
 ghost use Rattle.lp_rebuild.specs.Rebuilding.{Rebuilds, RebuildsIn, ReadsBack, ReadsBackIn};
 ghost use Rattle.lp_rebuild.specs.RebuildSteps.{Refuses, Takes};
 
@@ -40,7 +40,7 @@ struct Progress {
 // What is wrong with a line that has a name that is not admitted.
 const NOT_ADMITTED: &str = "a name cannot be written again";
 
-// Writes the line again, behind `batch`.
+// Writes the line again, after `batch`.
 fn carry(batch: Vec<u8>, line: &ParsedLine<'_>) -> Result<Vec<u8>, AllocError>
     requires { 0 < length line.now.field_set.items }
     ensures { IfOk result (λ longer. longer.items ≡ batch.items ++ built (parsed_point line.now)) }
@@ -119,7 +119,7 @@ fn take(
 /// Writes again each line of a text whose names are all admitted, and refuses every other item.
 ///
 /// [`is_admitted`] says which lines these are. For every other item `faults` gains `item N: TEXT` and
-/// a newline, where TEXT is the error, or `a name cannot be written again`. With any text behind it,
+/// a newline, where TEXT is the error, or `a name cannot be written again`. With any text after it,
 /// `batch` reads back as the lines that were written, and then as that text alone.
 ///
 /// The text is read once. A carried line takes no memory but for the growth of `batch`.

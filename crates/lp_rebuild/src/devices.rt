@@ -2,7 +2,8 @@
 //!
 //! A fault says no more than that the device failed. What a device's bytes are, how often it has failed, and
 //! whether all that was written to it was flushed, is told to contracts alone.
-ghost use Rattle.std.specs.Prelude.{Option, ◌≡◌, ℕ, ◌+◌, ◌≤◌, ◌<◌, Bool, true, false, List, [], length, Some, None, IfOk, IsOk, OnOk, OnErr};
+ghost use Rattle.std.specs.Prelude.{Option, ◌≡◌, ℕ, ◌+◌, ◌≤◌, ◌<◌, Bool, true, false, List, [], length, Some, None};
+ghost use Rattle.std.specs.Prelude.{IfOk, IsOk, OnOk, OnErr};
 ghost use Rattle.std.specs.Io.KnownBytes.{ReadConsumes, WriteAppends, Keeps};
 ghost use Rattle.lp_rebuild.specs.Devices.{CountsFailure, kept_bytes, kept_capacity, kept_failures, kept_is_flushed};
 

@@ -41,7 +41,7 @@ impl fmt::Display for RunFault {
 // The room that each read is given.
 const BLOCK: usize = 65_536;
 
-// Makes room for a block behind the first `filled` bytes of `input`, which stay as they are.
+// Makes room for a block after the first `filled` bytes of `input`, which stay as they are.
 fn make_room(input: &mut Vec<u8>, filled: usize) -> Result<(), AllocError>
     requires { filled ≤ vec_len input.old }
     ensures front { take filled input.new.items ≡ take filled input.old.items }
@@ -55,7 +55,7 @@ fn make_room(input: &mut Vec<u8>, filled: usize) -> Result<(), AllocError>
     Ok(())
 }
 
-// One read into `buf`, behind its first `at` bytes, which stay as they are.
+// One read into `buf`, after its first `at` bytes, which stay as they are.
 fn read_at<R: Source>(reader: &mut R, buf: &mut [u8], at: usize) -> Result<usize, DeviceFault>
     requires { at < length buf.old }
     ensures front { take at buf.new ≡ take at buf.old }
@@ -68,7 +68,7 @@ fn read_at<R: Source>(reader: &mut R, buf: &mut [u8], at: usize) -> Result<usize
     reader.read(&mut buf[at..])
 }
 
-// One read behind the first `filled` bytes of `input`, which stay as they are.
+// One read after the first `filled` bytes of `input`, which stay as they are.
 fn read_block<R: Source>(
     reader: &mut R,
     input: &mut Vec<u8>,

@@ -1,7 +1,7 @@
 //! What the builder writes, and that it reads back.
 
 use crate::fault::Fault;
-use crate::told;
+use crate::render;
 use arrayvec::ArrayVec;
 use influxdb_line_protocol::builder::{BufMut, FieldValue, NoRoom};
 use influxdb_line_protocol::{FloatText, LineProtocolBuilder};
@@ -148,7 +148,7 @@ fn names_and_values_read_back(rt: HostRuntime) -> Result<(), Fault> {
         let wanted = format!(in rt.alloc();
             "{measurement},{key}={key} {key}=false {key}=51i {key}=51u {key}=f<51> {key}=C<some \" value> at 1234"
         )?;
-        assert_eq!(rt; told::items(rt.alloc(), text)?.as_str(), wanted.as_str());
+        assert_eq!(rt; render::items(rt.alloc(), text)?.as_str(), wanted.as_str());
     }
     Ok(())
 }
@@ -179,7 +179,7 @@ fn strings_are_written_and_read_back_so(rt: HostRuntime) -> Result<(), Fault> {
         let bytes = accepted(builder.close_line())?.build();
         let built = str::from_utf8(bytes.as_slice())?;
         assert_eq!(rt; built, wanted);
-        assert_eq!(rt; told::items(rt.alloc(), built)?.as_str(), item);
+        assert_eq!(rt; render::items(rt.alloc(), built)?.as_str(), item);
     }
     Ok(())
 }
@@ -198,7 +198,7 @@ fn other_names_read_back_otherwise(rt: HostRuntime) -> Result<(), Fault> {
         let built = accepted(builder.close_line())?.build();
         let text = str::from_utf8(built.as_slice())?;
         assert_eq!(rt; text, bytes);
-        assert_eq!(rt; told::items(rt.alloc(), text)?.as_str(), wanted);
+        assert_eq!(rt; render::items(rt.alloc(), text)?.as_str(), wanted);
     }
     Ok(())
 }
@@ -220,7 +220,7 @@ fn tags_that_are_not_admitted_read_back_otherwise(rt: HostRuntime) -> Result<(),
         let built = accepted(accepted(builder.field("f", 1i64))?.close_line())?.build();
         let text = str::from_utf8(built.as_slice())?;
         assert_eq!(rt; text, bytes);
-        assert_eq!(rt; told::items(rt.alloc(), text)?.as_str(), wanted);
+        assert_eq!(rt; render::items(rt.alloc(), text)?.as_str(), wanted);
     }
     Ok(())
 }
@@ -232,7 +232,10 @@ fn a_string_may_hold_a_newline(rt: HostRuntime) -> Result<(), Fault> {
     let built = accepted(builder.close_line())?.build();
     let text = str::from_utf8(built.as_slice())?;
     assert_eq!(rt; text, "#x f=\"a\nm k\",c=1i\n");
-    assert_eq!(rt; told::items(rt.alloc(), text)?.as_str(), "S<m> S<k\",c>=1i");
+    assert_eq!(rt;
+        render::items(rt.alloc(), text)?.as_str(),
+        "S<m> S<k\",c>=1i"
+    );
     Ok(())
 }
 
@@ -248,7 +251,7 @@ fn what_follows_a_batch_is_answered_alone(rt: HostRuntime) -> Result<(), Fault> 
         ("y\\\nn b=2i", "C<y\\\nn> S<b>=2i"),
     ] {
         assert_eq!(rt;
-            told::items(rt.alloc(), text)?.as_str(),
+            render::items(rt.alloc(), text)?.as_str(),
             wanted,
             "of {text}"
         );
@@ -301,11 +304,11 @@ fn a_name_reads_back_in_each_place(rt: HostRuntime) -> Result<(), Fault> {
         batch.append(&mut true_line(alloc, "m", Some((name, "dummy")), "dummy")?)?;
         batch.append(&mut true_line(alloc, "m", Some(("dummy", name)), "dummy")?)?;
         batch.append(&mut true_line(alloc, "m", None, name)?)?;
-        let told = told::items(alloc, str::from_utf8(batch.as_slice())?)?;
+        let rendered = render::items(alloc, str::from_utf8(batch.as_slice())?)?;
         let wanted = format!(in alloc;
             "{measurement} S<dummy>=true|S<m>,{key}=S<dummy> S<dummy>=true|S<m>,S<dummy>={key} S<dummy>=true|S<m> {key}=true"
         )?;
-        assert_eq!(rt; told.as_str(), wanted.as_str());
+        assert_eq!(rt; rendered.as_str(), wanted.as_str());
     }
     Ok(())
 }
@@ -318,7 +321,7 @@ fn a_timestamp_reads_back(rt: HostRuntime) -> Result<(), Fault> {
     let text = str::from_utf8(bytes.as_slice())?;
     assert_eq!(rt; text, "m dummy=true 1234\n");
     assert_eq!(rt;
-        told::items(rt.alloc(), text)?.as_str(),
+        render::items(rt.alloc(), text)?.as_str(),
         "S<m> S<dummy>=true at 1234"
     );
     Ok(())

@@ -1,7 +1,7 @@
 //! Texts that the two dialects read in different ways, and some that they read alike.
 
 use crate::fault::Fault;
-use crate::told;
+use crate::render;
 use influxdb_line_protocol::Dialect;
 use lp_rebuild::{Kept, USAGE, dialect_of, rebuild_in, run_in, status};
 
@@ -34,10 +34,10 @@ fn lines_are_answered_by_their_dialect(rt: HostRuntime) -> Result<(), Fault> {
         ("\\\n# a=\"\nx b=1i", "FieldSetMissing", "FieldSetMissing"),
         ("m a=1i # x", "rest < # x>", "rest < # x>"),
     ] {
-        let told = told::items_in(rt.alloc(), Dialect::Crate, text)?;
-        assert_eq!(rt; told.as_str(), by_crate, "of {text}");
-        let told = told::items_in(rt.alloc(), Dialect::Strict, text)?;
-        assert_eq!(rt; told.as_str(), by_strict, "of {text}");
+        let rendered = render::items_in(rt.alloc(), Dialect::Crate, text)?;
+        assert_eq!(rt; rendered.as_str(), by_crate, "of {text}");
+        let rendered = render::items_in(rt.alloc(), Dialect::Strict, text)?;
+        assert_eq!(rt; rendered.as_str(), by_strict, "of {text}");
     }
     Ok(())
 }
@@ -67,10 +67,10 @@ fn texts_have_the_pieces_of_their_dialect(rt: HostRuntime) -> Result<(), Fault> 
             "<\\\n# a=\"\nx b=1i>",
         ),
     ] {
-        let told = told::pieces_in(rt.alloc(), Dialect::Crate, text)?;
-        assert_eq!(rt; told.as_str(), by_crate, "of {text}");
-        let told = told::pieces_in(rt.alloc(), Dialect::Strict, text)?;
-        assert_eq!(rt; told.as_str(), by_strict, "of {text}");
+        let rendered = render::pieces_in(rt.alloc(), Dialect::Crate, text)?;
+        assert_eq!(rt; rendered.as_str(), by_crate, "of {text}");
+        let rendered = render::pieces_in(rt.alloc(), Dialect::Strict, text)?;
+        assert_eq!(rt; rendered.as_str(), by_strict, "of {text}");
     }
     Ok(())
 }

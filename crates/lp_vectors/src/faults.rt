@@ -1,4 +1,4 @@
-//! The texts of faults. They are those of the Rust crate, but for want of memory and the faults of a run, which are from
+//! The texts of faults. They are those of the Rust crate, but for `OutOfMemory` and the faults of a run, which are from
 //! the format's rules.
 
 use crate::fault::Fault;

@@ -2,7 +2,7 @@
 //! newline, and texts that end early. The answers come from the format's rules.
 
 use crate::fault::Fault;
-use crate::told;
+use crate::render;
 use influxdb_line_protocol::{
     Dialect, LineProtocolBuilder, is_admitted, parse_lines, parse_lines_in, split_lines_in,
     write_line,
@@ -28,7 +28,7 @@ fn with_backslashes(
 #[test]
 fn long_runs_of_backslashes_are_read_by_twos(rt: HostRuntime) -> Result<(), Fault> {
     let alloc = rt.alloc();
-    // What stands before and after the run, and the same for the run that is left of it.
+    // What comes before and after the run, and the same for the run that is left of it.
     for (before, count, after, told_before, told_count, told_after) in [
         ("", 10_000, "", "EndsWithBackslash", 0, ""),
         ("", 9_999, "", "EndsWithBackslash", 0, ""),
@@ -47,8 +47,12 @@ fn long_runs_of_backslashes_are_read_by_twos(rt: HostRuntime) -> Result<(), Faul
         let text = with_backslashes(alloc, before, count, after)?;
         let wanted = with_backslashes(alloc, told_before, told_count, told_after)?;
         for dialect in DIALECTS {
-            let told = told::items_in(alloc, dialect, text.as_str())?;
-            assert_eq!(rt; told.as_str(), wanted.as_str(), "{before} {count} {after}");
+            let rendered = render::items_in(alloc, dialect, text.as_str())?;
+            assert_eq!(rt;
+                rendered.as_str(),
+                wanted.as_str(),
+                "{before} {count} {after}"
+            );
         }
     }
     Ok(())
@@ -101,10 +105,10 @@ fn each_line_is_cut_and_answered_on_its_own(rt: HostRuntime) -> Result<(), Fault
         ),
     ] {
         for (dialect, pieces) in [(Dialect::Crate, by_crate), (Dialect::Strict, by_strict)] {
-            let told = told::pieces_in(alloc, dialect, text)?;
-            assert_eq!(rt; told.as_str(), pieces, "of {text}");
-            let told = told::items_in(alloc, dialect, text)?;
-            assert_eq!(rt; told.as_str(), items, "of {text}");
+            let rendered = render::pieces_in(alloc, dialect, text)?;
+            assert_eq!(rt; rendered.as_str(), pieces, "of {text}");
+            let rendered = render::items_in(alloc, dialect, text)?;
+            assert_eq!(rt; rendered.as_str(), items, "of {text}");
         }
     }
     Ok(())
@@ -164,12 +168,12 @@ const FIRST: &str = "S<m>,C<t 1>=S<v> S<s>=S<x\ny> S<f>=1i at 5";
 const BOTH: &str = "S<m>,C<t 1>=S<v> S<s>=S<x\ny> S<f>=1i at 5|S<n> S<a>=2u";
 
 // Whether these are the items that a front of the batch may have.
-fn is_told_of_front(front: &[u8], told: &str) -> bool {
+fn is_told_of_front(front: &[u8], rendered: &str) -> bool {
     if front.len() < FIRST_LINE.len() {
-        return !told.contains('|');
+        return !rendered.contains('|');
     }
-    told == FIRST
-        || told
+    rendered == FIRST
+        || rendered
             .strip_prefix(FIRST)
             .map_or(false, |rest| rest.starts_with('|'))
 }
@@ -179,14 +183,14 @@ fn each_front_of_a_batch_begins_with_the_lines_that_it_holds(rt: HostRuntime) ->
     for dialect in DIALECTS {
         for end in 0..BATCH.len() + 1 {
             let front = &BATCH[..end];
-            let told = told::items_in(rt.alloc(), dialect, str::from_utf8(front)?)?;
+            let rendered = render::items_in(rt.alloc(), dialect, str::from_utf8(front)?)?;
             assert!(rt;
-                is_told_of_front(front, told.as_str()),
-                "{end} bytes: {told}"
+                is_told_of_front(front, rendered.as_str()),
+                "{end} bytes: {rendered}"
             );
         }
-        let told = told::items_in(rt.alloc(), dialect, str::from_utf8(BATCH)?)?;
-        assert_eq!(rt; told.as_str(), BOTH);
+        let rendered = render::items_in(rt.alloc(), dialect, str::from_utf8(BATCH)?)?;
+        assert_eq!(rt; rendered.as_str(), BOTH);
     }
     Ok(())
 }

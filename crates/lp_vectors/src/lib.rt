@@ -6,20 +6,18 @@ mod admitted;
 #[cfg(test)]
 mod built;
 #[cfg(test)]
-mod bytewise;
-#[cfg(test)]
 mod changed;
 #[cfg(test)]
 mod dialects;
 #[cfg(test)]
 mod drops;
+pub mod exhausted_memory;
 #[cfg(test)]
 mod failures;
 #[cfg(test)]
 mod fault;
 #[cfg(test)]
 mod faults;
-pub mod hoard;
 #[cfg(test)]
 mod hostile;
 #[cfg(test)]
@@ -37,7 +35,10 @@ mod own_heap;
 #[cfg(test)]
 mod pieces;
 #[cfg(test)]
+mod reference_splitter;
+#[cfg(test)]
 mod refused;
+pub mod render;
 #[cfg(test)]
 mod runs;
 #[cfg(test)]
@@ -46,7 +47,6 @@ mod series;
 mod small_buffers;
 #[cfg(test)]
 mod tags;
-pub mod told;
 #[cfg(test)]
 mod used_again;
 #[cfg(test)]

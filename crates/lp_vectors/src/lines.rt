@@ -1,7 +1,7 @@
 //! Lines and their answers. `foo`, `bar`, `meas`, `field=1` and `tag1=1` are the Rust crate's own tests, the others follow the rules.
 
 use crate::fault::Fault;
-use crate::told;
+use crate::render;
 
 #[test]
 fn lines_are_answered_so(rt: HostRuntime) -> Result<(), Fault> {
@@ -44,7 +44,7 @@ fn lines_are_answered_so(rt: HostRuntime) -> Result<(), Fault> {
         ("tag1=1 field=1 1234", "S<tag1=1> S<field>=f<1> at 1234"),
     ] {
         assert_eq!(rt;
-            told::items(rt.alloc(), text)?.as_str(),
+            render::items(rt.alloc(), text)?.as_str(),
             wanted,
             "of {text}"
         );
@@ -70,7 +70,7 @@ fn each_front_of_a_line_is_answered_so(rt: HostRuntime) -> Result<(), Fault> {
         ("m,t=v a=1i 5", "S<m>,S<t>=S<v> S<a>=1i at 5"),
     ] {
         assert_eq!(rt;
-            told::items(rt.alloc(), text)?.as_str(),
+            render::items(rt.alloc(), text)?.as_str(),
             wanted,
             "of {text}"
         );

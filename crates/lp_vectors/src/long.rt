@@ -2,7 +2,7 @@
 //! format's rules.
 
 use crate::fault::Fault;
-use crate::told;
+use crate::render;
 use influxdb_line_protocol::Dialect;
 use std::alloc::{AllocError, Global};
 
@@ -57,8 +57,8 @@ fn long_sets_are_read_whole(rt: HostRuntime) -> Result<(), Fault> {
             let text = repeated(rt.alloc(), before, part, count, after)?;
             let wanted = repeated(rt.alloc(), told_before, told_part, count, told_after)?;
             for dialect in DIALECTS {
-                let told = told::items_in(rt.alloc(), dialect, text.as_str())?;
-                assert_eq!(rt; told.as_str(), wanted.as_str(), "{count} of {part}");
+                let rendered = render::items_in(rt.alloc(), dialect, text.as_str())?;
+                assert_eq!(rt; rendered.as_str(), wanted.as_str(), "{count} of {part}");
             }
         }
     }
@@ -79,8 +79,8 @@ fn long_faults_tell_all_of_their_text(rt: HostRuntime) -> Result<(), Fault> {
             let text = repeated(rt.alloc(), before, part, count, after)?;
             let wanted = repeated(rt.alloc(), told_before, part, count, told_after)?;
             for dialect in DIALECTS {
-                let told = told::items_in(rt.alloc(), dialect, text.as_str())?;
-                assert_eq!(rt; told.as_str(), wanted.as_str(), "{count} of {part}");
+                let rendered = render::items_in(rt.alloc(), dialect, text.as_str())?;
+                assert_eq!(rt; rendered.as_str(), wanted.as_str(), "{count} of {part}");
             }
         }
     }

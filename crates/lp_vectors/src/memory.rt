@@ -1,8 +1,8 @@
 //! Lines that are read while requests for memory are refused: each of them, or those after the first few.
 
+use crate::exhausted_memory::ExhaustedMemory;
 use crate::fault::Fault;
-use crate::hoard::Hoard;
-use crate::told;
+use crate::render;
 use influxdb_line_protocol::{Error, parse_lines};
 use std::alloc::Global;
 
@@ -18,15 +18,15 @@ fn want_of_memory_is_one_item_in_its_lines_place(rt: HostRuntime) -> Result<(), 
         "m a=9223372036854775808i\nm f=1i",
     ] {
         let mut lines = parse_lines(alloc, text);
-        let hoard = Hoard::new(alloc)?;
+        let exhausted = ExhaustedMemory::new(alloc)?;
         let first = lines.next();
         let second = lines.next();
         let third = lines.next();
-        drop(hoard);
+        drop(exhausted);
         assert!(rt; matches!(first, Some(Err(Error::OutOfMemory))), "of {text}");
         match second {
             Some(Ok(line)) => {
-                assert_eq!(rt; told::line(alloc, &line)?.as_str(), "S<m> S<f>=1i");
+                assert_eq!(rt; render::line(alloc, &line)?.as_str(), "S<m> S<f>=1i");
             }
             _ => return Err(Fault::Unexpected),
         }
@@ -53,15 +53,15 @@ fn light_lines_are_read_without_memory(rt: HostRuntime) -> Result<(), Fault> {
         ("m", "TakeWhile1"),
     ] {
         let mut lines = parse_lines(alloc, text);
-        let hoard = Hoard::new(alloc)?;
+        let exhausted = ExhaustedMemory::new(alloc)?;
         let item = lines.next();
-        drop(hoard);
-        let told = match &item {
-            Some(Ok(line)) => told::line(alloc, line)?,
-            Some(Err(fault)) => told::fault(alloc, fault)?,
+        drop(exhausted);
+        let rendered = match &item {
+            Some(Ok(line)) => render::line(alloc, line)?,
+            Some(Err(fault)) => render::fault(alloc, fault)?,
             None => return Err(Fault::Unexpected),
         };
-        assert_eq!(rt; told.as_str(), wanted);
+        assert_eq!(rt; rendered.as_str(), wanted);
     }
     Ok(())
 }
@@ -69,12 +69,12 @@ fn light_lines_are_read_without_memory(rt: HostRuntime) -> Result<(), Fault> {
 // The item of the first line of `text`, told, where just one request for each of these sizes is granted.
 fn told_with(alloc: Global, text: &str, granted: &[usize]) -> Result<String, Fault> {
     let mut lines = parse_lines(alloc, text);
-    let hoard = Hoard::leaving(alloc, granted)?;
+    let exhausted = ExhaustedMemory::leaving(alloc, granted)?;
     let item = lines.next();
-    drop(hoard);
+    drop(exhausted);
     match &item {
-        Some(Ok(line)) => Ok(told::line(alloc, line)?),
-        Some(Err(fault)) => Ok(told::fault(alloc, fault)?),
+        Some(Ok(line)) => Ok(render::line(alloc, line)?),
+        Some(Err(fault)) => Ok(render::fault(alloc, fault)?),
         None => Err(Fault::Unexpected),
     }
 }
@@ -85,11 +85,11 @@ fn each_copy_asks_for_memory_once(rt: HostRuntime) -> Result<(), Fault> {
     let text = "a\\ b,c\\,d=e\\=f g\\ h=\"i\\\"j\"";
     let sizes = [3usize; 5];
     for granted in 0..5 {
-        let told = told_with(alloc, text, &sizes[..granted])?;
-        assert_eq!(rt; told.as_str(), "OutOfMemory");
+        let rendered = told_with(alloc, text, &sizes[..granted])?;
+        assert_eq!(rt; rendered.as_str(), "OutOfMemory");
     }
-    let told = told_with(alloc, text, &sizes)?;
-    assert_eq!(rt; told.as_str(), "C<a b>,C<c,d>=C<e=f> C<g h>=C<i\"j>");
+    let rendered = told_with(alloc, text, &sizes)?;
+    assert_eq!(rt; rendered.as_str(), "C<a b>,C<c,d>=C<e=f> C<g h>=C<i\"j>");
     Ok(())
 }
 
@@ -99,8 +99,8 @@ fn one_known_escape_alone_asks_for_none(rt: HostRuntime) -> Result<(), Fault> {
     // The one request is for the rest, which the fault tells.
     let refused = told_with(alloc, "m \\,=1i x", &[])?;
     assert_eq!(rt; refused.as_str(), "OutOfMemory");
-    let told = told_with(alloc, "m \\,=1i x", &[2])?;
-    assert_eq!(rt; told.as_str(), "rest < x>");
+    let rendered = told_with(alloc, "m \\,=1i x", &[2])?;
+    assert_eq!(rt; rendered.as_str(), "rest < x>");
     Ok(())
 }
 
@@ -113,7 +113,7 @@ fn a_copy_of_a_thousand_escapes_asks_once(rt: HostRuntime) -> Result<(), Fault> 
     let wanted = format!(in alloc; "C<a{spaces}> S<f>=1i")?;
     let refused = told_with(alloc, text.as_str(), &[])?;
     assert_eq!(rt; refused.as_str(), "OutOfMemory");
-    let told = told_with(alloc, text.as_str(), &[1_001])?;
-    assert_eq!(rt; told.as_str(), wanted.as_str());
+    let rendered = told_with(alloc, text.as_str(), &[1_001])?;
+    assert_eq!(rt; rendered.as_str(), wanted.as_str());
     Ok(())
 }

@@ -1,7 +1,7 @@
 //! Names with escapes, read and compared. `Foo` and `wea` are the Rust crate's own tests, the others follow the format's rules.
 
 use crate::fault::Fault;
-use crate::told;
+use crate::render;
 use influxdb_line_protocol::EscapedStr;
 use std::collections::HashSet;
 
@@ -24,7 +24,7 @@ fn lines_have_these_names(rt: HostRuntime) -> Result<(), Fault> {
         ("\0 field=1 1234", "MeasurementValueInvalid"),
     ] {
         assert_eq!(rt;
-            told::items(rt.alloc(), text)?.as_str(),
+            render::items(rt.alloc(), text)?.as_str(),
             wanted,
             "of {text}"
         );

@@ -52,19 +52,37 @@ fn held(heap: &LocalHeap, room: usize) -> Result<Vec<u8, &LocalHeap>, AllocError
     Ok(buffer)
 }
 
-// Makes a call of a builder over the heap, which is full meanwhile where that is asked for. A refused call is made again.
+// A heap that is full while one call is made.
+#[derive(Clone, Copy)]
+struct FullAt<'a> {
+    heap: &'a LocalHeap,
+    call: Call,
+}
+
+impl<'a> FullAt<'a> {
+    // What fills the heap for a call, where it is to be full then.
+    fn blocks(self, alloc: Global, call: Call) -> Result<Vec<Vec<u8, &'a LocalHeap>>, AllocError> {
+        if call == self.call {
+            fill(alloc, self.heap)
+        } else {
+            Ok(Vec::new(alloc))
+        }
+    }
+}
+
+// Makes a call of a builder over such a heap. A refused call is made again, with room in the heap.
 macro_rules! called {
-    ($rt:ident, $alloc:ident, $heap:ident, $is_full:expr, $is_refused:ident, $builder:ident.$call:ident($($argument:expr),*)) => {{
-        let blocks = if $is_full { Some(fill($alloc, $heap)?) } else { None };
-        let answer = $builder.$call($($argument),*);
+    ($rt:ident, $alloc:ident, $at:ident, $call:expr, $is_refused:ident, $builder:ident.$name:ident($($argument:expr),*)) => {{
+        let blocks = $at.blocks($alloc, $call)?;
+        let answer = $builder.$name($($argument),*);
         drop(blocks);
         match answer {
             Ok(builder) => builder,
             Err(refused) => {
-                assert!($rt; $is_full);
+                assert_eq!($rt; $at.call, $call);
                 assert_eq!($rt; refused.cause, NoRoom::OutOfMemory);
                 $is_refused = true;
-                match refused.builder.$call($($argument),*) {
+                match refused.builder.$name($($argument),*) {
                     Ok(builder) => builder,
                     Err(_) => return Err(Fault::Unexpected),
                 }
@@ -75,57 +93,41 @@ macro_rules! called {
 
 // Writes the line call by call after a line, into a buffer with so much room, with the heap full at one call: whether
 // that is refused. The buffer then holds both lines, whatever was refused.
-fn is_refused(
-    rt: &impl Abort,
-    alloc: Global,
-    heap: &LocalHeap,
-    room: usize,
-    full_at: Call,
-) -> Result<bool, Fault>
+fn is_refused(rt: &impl Abort, alloc: Global, room: usize, at: FullAt<'_>) -> Result<bool, Fault>
     requires { room < 20 }
 {
     let literal = FloatText::new("42").ok_or(Fault::Unexpected)?;
     let mut is_refused = false;
-    let builder = LineProtocolBuilder::new_with(held(heap, room)?);
-    let builder = called!(
+    let line = LineProtocolBuilder::new_with(held(at.heap, room)?);
+    let line = called!(
         rt,
         alloc,
-        heap,
-        full_at == Call::Measurement,
+        at,
+        Call::Measurement,
         is_refused,
-        builder.measurement("foo")
+        line.measurement("foo")
     );
-    let builder = called!(
+    let line = called!(rt, alloc, at, Call::Tag, is_refused, line.tag("bar", "baz"));
+    let line = called!(
         rt,
         alloc,
-        heap,
-        full_at == Call::Tag,
+        at,
+        Call::Field,
         is_refused,
-        builder.tag("bar", "baz")
+        line.field("qux", literal)
     );
-    let builder = called!(
+    let line = called!(
         rt,
         alloc,
-        heap,
-        full_at == Call::Field,
+        at,
+        Call::CloseLine,
         is_refused,
-        builder.field("qux", literal)
+        line.close_line()
     );
-    let builder = called!(
-        rt,
-        alloc,
-        heap,
-        full_at == Call::CloseLine,
-        is_refused,
-        builder.close_line()
-    );
-    let written = builder.build();
+    let written = line.build();
     let second = written.as_slice().strip_prefix(HELD.as_bytes());
-    assert_eq!(rt;
-        second,
-        Some(LINE.as_bytes()),
-        "{full_at:?} with room for {room}"
-    );
+    let wanted = Some(LINE.as_bytes());
+    assert_eq!(rt; second, wanted, "{:?} with room for {room}", at.call);
     Ok(is_refused)
 }
 
@@ -142,7 +144,8 @@ fn each_request_of_the_builder_is_refused_in_turn(rt: HostRuntime) -> Result<(),
         (18, Call::CloseLine),
     ] {
         for call in CALLS {
-            let is_refused = is_refused(&rt, rt.alloc(), &heap, room, call)?;
+            let at = FullAt { heap: &heap, call };
+            let is_refused = is_refused(&rt, rt.alloc(), room, at)?;
             if call == first {
                 assert!(rt; is_refused, "{call:?} with room for {room}");
             }
@@ -155,7 +158,8 @@ fn each_request_of_the_builder_is_refused_in_turn(rt: HostRuntime) -> Result<(),
 fn a_buffer_with_room_asks_its_heap_for_nothing(rt: HostRuntime) -> Result<(), Fault> {
     let heap = LocalHeap::new(rt.alloc(), HEAP_SIZE)?;
     for call in CALLS {
-        assert!(rt; !is_refused(&rt, rt.alloc(), &heap, 19, call)?, "{call:?}");
+        let at = FullAt { heap: &heap, call };
+        assert!(rt; !is_refused(&rt, rt.alloc(), 19, at)?, "{call:?}");
     }
     Ok(())
 }

@@ -1,7 +1,7 @@
 //! Texts and their pieces. `foo`, `meas` and `t=v` are the Rust crate's own tests, the others follow the format's rules.
 
 use crate::fault::Fault;
-use crate::told;
+use crate::render;
 
 #[test]
 fn texts_have_these_pieces(rt: HostRuntime) -> Result<(), Fault> {
@@ -25,7 +25,7 @@ fn texts_have_these_pieces(rt: HostRuntime) -> Result<(), Fault> {
         ("m t=v f=1,g=\"\nv\"\nn", "<m t=v f=1,g=\"\nv\"><n>"),
     ] {
         assert_eq!(rt;
-            told::pieces(rt.alloc(), text)?.as_str(),
+            render::pieces(rt.alloc(), text)?.as_str(),
             wanted,
             "of {text}"
         );

@@ -1,4 +1,4 @@
-//! Calls at which one request for memory is refused: the first, the second, and so on. Each answers with want of memory
+//! Calls at which one request for memory is refused: the first, the second, and so on. Each answers with `OutOfMemory`
 //! and nothing else, and what it was called on can be used as before. The answers come from the format's rules.
 //!
 //! The sizes in the tables are those of the requests that the code makes, in their order. A call ends at the first
@@ -7,11 +7,11 @@
 ghost use Rattle.std.specs.Prelude.{◌<◌};
 
 use crate::drops::Basin;
+use crate::exhausted_memory::ExhaustedMemory;
 use crate::fault::Fault;
-use crate::hoard::Hoard;
 use crate::lent::Lent;
+use crate::render;
 use crate::small_buffers::{LINE, first_refused, refusal};
-use crate::told;
 use influxdb_line_protocol::builder::NoRoom;
 use influxdb_line_protocol::{
     EscapedStr, FieldValue, FloatText, LineProtocolBuilder, ParseLines, ParsedLine, parse_lines,
@@ -39,8 +39,8 @@ fn told_item(
     item: &Option<influxdb_line_protocol::Result<ParsedLine<'_>>>,
 ) -> Result<String, Fault> {
     match item {
-        Some(Ok(line)) => Ok(told::line(alloc, line)?),
-        Some(Err(fault)) => Ok(told::fault(alloc, fault)?),
+        Some(Ok(line)) => Ok(render::line(alloc, line)?),
+        Some(Err(fault)) => Ok(render::fault(alloc, fault)?),
         None => Err(Fault::Unexpected),
     }
 }
@@ -51,29 +51,29 @@ fn next_with(
     lines: &mut ParseLines<'_>,
     granted: &[usize],
 ) -> Result<String, Fault> {
-    let hoard = Hoard::leaving(alloc, granted)?;
+    let exhausted = ExhaustedMemory::leaving(alloc, granted)?;
     let item = lines.next();
-    drop(hoard);
+    drop(exhausted);
     told_item(alloc, &item)
 }
 
 // The items of the four lines, divided by `|`, where just one request for each of these sizes is granted at `place`.
 fn items_with(alloc: Global, place: usize, granted: &[usize]) -> Result<String, Fault> {
     let mut lines = parse_lines(alloc, FOUR_LINES);
-    let mut told = String::new(alloc);
+    let mut rendered = String::new(alloc);
     for at in 0..5 {
         let item = if at == place {
             next_with(alloc, &mut lines, granted)?
         } else {
             match lines.next() {
-                None => return Ok(told),
+                None => return Ok(rendered),
                 item => told_item(alloc, &item)?,
             }
         };
-        told.push_str(item.as_str())?;
-        told.push_str("|")?;
+        rendered.push_str(item.as_str())?;
+        rendered.push_str("|")?;
     }
-    Ok(told)
+    Ok(rendered)
 }
 
 #[test]
@@ -97,8 +97,8 @@ fn each_request_of_four_lines_is_refused_in_turn(rt: HostRuntime) -> Result<(), 
         (3, [].as_slice(), &fourth_refused),
         (3, [1].as_slice(), &none_refused),
     ] {
-        let told = items_with(rt.alloc(), place, granted)?;
-        assert_eq!(rt; told.as_str(), wanted.as_str(), "at {place}");
+        let rendered = items_with(rt.alloc(), place, granted)?;
+        assert_eq!(rt; rendered.as_str(), wanted.as_str(), "at {place}");
     }
     Ok(())
 }
@@ -108,13 +108,13 @@ fn base_with(alloc: Global, text: &str, granted: &[usize]) -> Result<String, Fau
     let Some(Ok(line)) = parse_lines(alloc, text).next() else {
         return Err(Fault::Unexpected);
     };
-    let hoard = Hoard::leaving(alloc, granted)?;
+    let exhausted = ExhaustedMemory::leaving(alloc, granted)?;
     let base = line.series.generate_base(alloc);
-    drop(hoard);
+    drop(exhausted);
     match base {
         Ok(CowStr::Borrowed(text)) => Ok(format!(in alloc; "borrowed {text}")?),
         Ok(CowStr::Owned(text)) => Ok(format!(in alloc; "owned {text}")?),
-        Err(fault) => Ok(told::fault(alloc, &fault)?),
+        Err(fault) => Ok(render::fault(alloc, &fault)?),
     }
 }
 
@@ -141,8 +141,8 @@ fn each_request_of_a_base_is_refused_in_turn(rt: HostRuntime) -> Result<(), Faul
         ),
         ("\\,,k=v f=1i", [].as_slice(), "borrowed \\,,k=v"),
     ] {
-        let told = base_with(rt.alloc(), text, granted)?;
-        assert_eq!(rt; told.as_str(), wanted, "of {text}");
+        let rendered = base_with(rt.alloc(), text, granted)?;
+        assert_eq!(rt; rendered.as_str(), wanted, "of {text}");
     }
     Ok(())
 }
@@ -150,9 +150,9 @@ fn each_request_of_a_base_is_refused_in_turn(rt: HostRuntime) -> Result<(), Faul
 // Makes a call of a builder: where it is to be refused, once so and then again.
 macro_rules! called {
     ($rt:ident, $is_refused:expr, $builder:ident.$call:ident($($argument:expr),*)) => {{
-        let hoard = if $is_refused { Some(Hoard::new($rt.alloc())?) } else { None };
+        let exhausted = if $is_refused { Some(ExhaustedMemory::new($rt.alloc())?) } else { None };
         let answer = $builder.$call($($argument),*);
-        drop(hoard);
+        drop(exhausted);
         match answer {
             Ok(builder) => {
                 assert!($rt; !$is_refused);
@@ -200,9 +200,9 @@ fn a_refused_call_succeeds_when_it_is_made_again(rt: HostRuntime) -> Result<(), 
 #[test]
 fn a_refused_first_growth_leaves_the_builder_empty(rt: HostRuntime) -> Result<(), Fault> {
     let builder = LineProtocolBuilder::new(rt.alloc());
-    let hoard = Hoard::new(rt.alloc())?;
+    let exhausted = ExhaustedMemory::new(rt.alloc())?;
     let answer = builder.measurement("m");
-    drop(hoard);
+    drop(exhausted);
     let Err(refused) = answer else {
         return Err(Fault::Unexpected);
     };
@@ -217,9 +217,9 @@ fn a_vec_with_room_is_written_to_without_memory(rt: HostRuntime) -> Result<(), F
     for room in 0..20 {
         let (call, len) = first_refused(room);
         let mut bytes = held(rt.alloc(), room)?;
-        let hoard = Hoard::new(rt.alloc())?;
+        let exhausted = ExhaustedMemory::new(rt.alloc())?;
         let refused = refusal(Lent { buffer: &mut bytes }, literal);
-        drop(hoard);
+        drop(exhausted);
         assert_eq!(rt;
             refused,
             call.map(|call| (call, NoRoom::OutOfMemory)),
@@ -243,9 +243,9 @@ fn a_refused_line_leaves_the_lines_before_it(rt: HostRuntime) -> Result<(), Faul
     };
     assert!(rt; line.field_set.len() > 0);
     let held = b"m a=1i\n".to_vec(alloc)?;
-    let hoard = Hoard::new(alloc)?;
+    let exhausted = ExhaustedMemory::new(alloc)?;
     let answer = write_line(LineProtocolBuilder::new_with(held), &line);
-    drop(hoard);
+    drop(exhausted);
     let Err(refused) = answer else {
         return Err(Fault::Unexpected);
     };
@@ -267,16 +267,16 @@ fn a_refused_copy_leaves_the_name(rt: HostRuntime) -> Result<(), Fault> {
     let alloc = rt.alloc();
     let slice = EscapedStr::from("a b");
     let copy = EscapedStr::CopiedValue(String::from_str(alloc, "a b")?);
-    let hoard = Hoard::new(alloc)?;
+    let exhausted = ExhaustedMemory::new(alloc)?;
     let of_slice = slice.clone(alloc).is_ok();
     let of_copy = copy.clone(alloc).is_err() && copy.to_string(alloc).is_err();
     let into_slice = slice.into_string(alloc).is_err();
-    drop(hoard);
+    drop(exhausted);
     assert!(rt; of_slice && of_copy && into_slice);
     assert!(rt; matches!(copy, EscapedStr::CopiedValue(_)) && copy.eq_text("a b"));
-    let hoard = Hoard::new(alloc)?;
+    let exhausted = ExhaustedMemory::new(alloc)?;
     let into_copy = copy.into_string(alloc).is_ok();
-    drop(hoard);
+    drop(exhausted);
     assert!(rt; into_copy);
     Ok(())
 }
@@ -286,12 +286,12 @@ fn a_refused_copy_leaves_the_value(rt: HostRuntime) -> Result<(), Fault> {
     let alloc = rt.alloc();
     let copy = EscapedStr::CopiedValue(String::from_str(alloc, "a b")?);
     let value = FieldValue::String(copy);
-    let hoard = Hoard::new(alloc)?;
+    let exhausted = ExhaustedMemory::new(alloc)?;
     let is_refused = value.clone(alloc).is_err();
-    drop(hoard);
+    drop(exhausted);
     assert!(rt; is_refused);
     assert!(rt; matches!(value, FieldValue::String(EscapedStr::CopiedValue(_))));
-    assert_eq!(rt; told::value(alloc, &value)?.as_str(), "C<a b>");
+    assert_eq!(rt; render::value(alloc, &value)?.as_str(), "C<a b>");
     Ok(())
 }
 
@@ -320,9 +320,9 @@ fn is_rebuilt(
     requires bytes { bytes < 4096 }
 {
     let (text, batch, faults) = TEXTS[place];
-    let hoard = Hoard::leaving_bytes(alloc, bytes)?;
+    let exhausted = ExhaustedMemory::leaving_bytes(alloc, bytes)?;
     let answer = rebuild(alloc, text);
-    drop(hoard);
+    drop(exhausted);
     match answer {
         Ok(rebuilt) => {
             assert_eq!(rt; rebuilt.batch.as_slice(), batch.as_bytes());
@@ -355,7 +355,7 @@ struct Hoarding<'a> {
     alloc: Global,
     text: &'a [u8],
     bytes_left: usize,
-    hoard: Option<Hoard>,
+    exhausted: Option<ExhaustedMemory>,
 }
 
 impl<'a> Source for Hoarding<'a> {
@@ -367,7 +367,7 @@ impl<'a> Source for Hoarding<'a> {
 
     fn read(&mut self, buf: &mut [u8]) -> Result<usize, DeviceFault> {
         if self.text.is_empty() && self.bytes_left < 4_096 {
-            self.hoard = Hoard::leaving_bytes(self.alloc, self.bytes_left).ok();
+            self.exhausted = ExhaustedMemory::leaving_bytes(self.alloc, self.bytes_left).ok();
         }
         self.text.read(buf)
     }
@@ -382,11 +382,11 @@ fn is_run(rt: &impl Abort, alloc: Global, place: usize, bytes: usize) -> bool
         alloc,
         text: text.as_bytes(),
         bytes_left: bytes,
-        hoard: None,
+        exhausted: None,
     };
     let (mut out, mut err) = (Basin::new(0), Basin::new(0));
     let fault = run(alloc, &mut reader, &mut out, &mut err).err();
-    assert!(rt; reader.hoard.is_some());
+    assert!(rt; reader.exhausted.is_some());
     drop(reader);
     if fault.is_none() {
         assert_eq!(rt; out.as_slice(), batch.as_bytes());
@@ -418,9 +418,9 @@ fn a_run_that_is_refused_memory_as_it_reads_writes_nothing(rt: HostRuntime) -> R
         let mut reader = b"m a=1i\n".as_slice();
         let mut out = Basin::new(0);
         let mut err = Basin::new(0);
-        let hoard = Hoard::leaving(rt.alloc(), granted)?;
+        let exhausted = ExhaustedMemory::leaving(rt.alloc(), granted)?;
         let answer = run(rt.alloc(), &mut reader, &mut out, &mut err);
-        drop(hoard);
+        drop(exhausted);
         assert_eq!(rt; answer.err(), Some(RunFault::OutOfMemory));
         assert!(rt; out.as_slice().is_empty());
         assert!(rt; err.as_slice().is_empty());

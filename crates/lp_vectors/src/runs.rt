@@ -94,8 +94,8 @@ fn input_that_is_no_text_writes_nothing(rt: HostRuntime) -> Result<(), Fault> {
         match answer {
             Ok(_) => return Err(Fault::Unexpected),
             Err(fault) => {
-                let told = format!(in alloc; "{fault}")?;
-                assert_eq!(rt; told.as_str(), "the input is not UTF-8");
+                let rendered = format!(in alloc; "{fault}")?;
+                assert_eq!(rt; rendered.as_str(), "the input is not UTF-8");
             }
         }
     }

@@ -1,7 +1,7 @@
 //! Tag sets and field sets. `foo` and `testmeasure` are the Rust crate's own tests, the others follow the format's rules.
 
 use crate::fault::Fault;
-use crate::told;
+use crate::render;
 use influxdb_line_protocol::{FieldValue, ParsedLine, parse_lines};
 use std::process::Abort;
 
@@ -56,7 +56,7 @@ fn sets_are_read_so(rt: HostRuntime) -> Result<(), Fault> {
         ),
     ] {
         assert_eq!(rt;
-            told::items(rt.alloc(), text)?.as_str(),
+            render::items(rt.alloc(), text)?.as_str(),
             wanted,
             "of {text}"
         );
@@ -138,7 +138,7 @@ fn keys_and_tag_values_may_hold_a_nul(rt: HostRuntime) -> Result<(), Fault> {
             "S<m>,S<tag1>=S<one> S<\0>=f<1> at 123",
         ),
     ] {
-        assert_eq!(rt; told::items(rt.alloc(), text)?.as_str(), wanted);
+        assert_eq!(rt; render::items(rt.alloc(), text)?.as_str(), wanted);
     }
     Ok(())
 }

@@ -1,8 +1,8 @@
 //! One line that is used again: what it holds after each item, and that its sets keep their room.
 
+use crate::exhausted_memory::ExhaustedMemory;
 use crate::fault::Fault;
-use crate::hoard::Hoard;
-use crate::told;
+use crate::render;
 use influxdb_line_protocol::{Error, ParsedLine, parse_lines};
 use std::alloc::{AllocError, Global};
 
@@ -49,14 +49,14 @@ fn a_line_as_wide_asks_for_no_memory(rt: HostRuntime) -> Result<(), Fault> {
         for _ in between.lines() {
             let _between = lines.next_into(&mut line);
         }
-        let hoard = Hoard::new(alloc)?;
+        let exhausted = ExhaustedMemory::new(alloc)?;
         let last = lines.next_into(&mut line);
-        drop(hoard);
-        assert!(rt; matches!(last, Some(Ok(()))), "behind {between}");
-        assert_eq!(rt; room(&line), wide_room, "behind {between}");
-        let told = told::line(alloc, &line)?;
-        let wanted = told::items(alloc, wide.as_str())?;
-        assert_eq!(rt; told.as_str(), wanted.as_str(), "behind {between}");
+        drop(exhausted);
+        assert!(rt; matches!(last, Some(Ok(()))), "after {between}");
+        assert_eq!(rt; room(&line), wide_room, "after {between}");
+        let rendered = render::line(alloc, &line)?;
+        let wanted = render::items(alloc, wide.as_str())?;
+        assert_eq!(rt; rendered.as_str(), wanted.as_str(), "after {between}");
     }
     Ok(())
 }
@@ -80,15 +80,15 @@ fn a_fault_leaves_the_line_empty(rt: HostRuntime) -> Result<(), Fault> {
         let mut line = ParsedLine::new(alloc);
         let first = lines.next_into(&mut line);
         assert!(rt; matches!(first, Some(Ok(()))));
-        let told = told::line(alloc, &line)?;
+        let rendered = render::line(alloc, &line)?;
         assert_eq!(rt;
-            told.as_str(),
+            rendered.as_str(),
             "C<a b>,C<c,d>=C<e=f> C<g h>=C<i\"j> S<k>=1i at 5"
         );
         let second = lines.next_into(&mut line);
         assert!(rt; matches!(second, Some(Err(_))), "of {fault}");
-        let told = told::line(alloc, &line)?;
-        assert_eq!(rt; told.as_str(), "S<>", "of {fault}");
+        let rendered = render::line(alloc, &line)?;
+        assert_eq!(rt; rendered.as_str(), "S<>", "of {fault}");
         assert_eq!(rt; line.series.raw_input, "", "of {fault}");
     }
     Ok(())
@@ -101,18 +101,18 @@ fn want_of_memory_leaves_the_line_empty(rt: HostRuntime) -> Result<(), Fault> {
     let text = format!(in alloc; "{wide}\nm,a=1 f=1i")?;
     let mut lines = parse_lines(alloc, text.as_str());
     let mut line = ParsedLine::new(alloc);
-    let hoard = Hoard::new(alloc)?;
+    let exhausted = ExhaustedMemory::new(alloc)?;
     let first = lines.next_into(&mut line);
-    drop(hoard);
+    drop(exhausted);
     assert!(rt; matches!(first, Some(Err(Error::OutOfMemory))));
-    let told = told::line(alloc, &line)?;
-    assert_eq!(rt; told.as_str(), "S<>");
-    let hoard = Hoard::new(alloc)?;
+    let rendered = render::line(alloc, &line)?;
+    assert_eq!(rt; rendered.as_str(), "S<>");
+    let exhausted = ExhaustedMemory::new(alloc)?;
     let second = lines.next_into(&mut line);
-    drop(hoard);
+    drop(exhausted);
     assert!(rt; matches!(second, Some(Ok(()))));
-    let told = told::line(alloc, &line)?;
-    assert_eq!(rt; told.as_str(), "S<m>,S<a>=S<1> S<f>=1i");
+    let rendered = render::line(alloc, &line)?;
+    assert_eq!(rt; rendered.as_str(), "S<m>,S<a>=S<1> S<f>=1i");
     Ok(())
 }
 
@@ -126,8 +126,8 @@ fn the_end_leaves_the_line_as_it_was(rt: HostRuntime) -> Result<(), Fault> {
     for _ in 0..2 {
         let end = lines.next_into(&mut line);
         assert!(rt; end.is_none());
-        let told = told::line(alloc, &line)?;
-        assert_eq!(rt; told.as_str(), "S<m>,S<a>=S<1> S<f>=1i at 5");
+        let rendered = render::line(alloc, &line)?;
+        assert_eq!(rt; rendered.as_str(), "S<m>,S<a>=S<1> S<f>=1i at 5");
         assert_eq!(rt; line.series.raw_input, "m,a=1");
     }
     Ok(())

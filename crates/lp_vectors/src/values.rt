@@ -1,8 +1,8 @@
-//! Values and timestamps. What stands after `asdf=` and `field=` comes from the Rust crate's own tests, the others from the
+//! Values and timestamps. What comes after `asdf=` and `field=` comes from the Rust crate's own tests, the others from the
 //! format's rules.
 
 use crate::fault::Fault;
-use crate::told;
+use crate::render;
 use influxdb_line_protocol::{FieldValue, FloatText, parse_lines};
 
 #[test]
@@ -107,7 +107,7 @@ fn values_are_read_so(rt: HostRuntime) -> Result<(), Fault> {
         ),
     ] {
         assert_eq!(rt;
-            told::items(rt.alloc(), text)?.as_str(),
+            render::items(rt.alloc(), text)?.as_str(),
             wanted,
             "of {text}"
         );
@@ -130,7 +130,7 @@ fn boolean_words_are_read_so(rt: HostRuntime) -> Result<(), Fault> {
         ("foo asdf=FALSE", "S<foo> S<asdf>=false"),
         ("foo asdf=T 7", "S<foo> S<asdf>=true at 7"),
     ] {
-        assert_eq!(rt; told::items(rt.alloc(), text)?.as_str(), wanted);
+        assert_eq!(rt; render::items(rt.alloc(), text)?.as_str(), wanted);
     }
     Ok(())
 }
@@ -148,7 +148,7 @@ fn a_long_float_is_read(rt: HostRuntime) -> Result<(), Fault> {
     let text = format!(in rt.alloc(); "m0 field={literal}")?;
     let wanted = format!(in rt.alloc(); "S<m0> S<field>=f<{literal}>")?;
     assert_eq!(rt;
-        told::items(rt.alloc(), text.as_str())?.as_str(),
+        render::items(rt.alloc(), text.as_str())?.as_str(),
         wanted.as_str()
     );
     Ok(())

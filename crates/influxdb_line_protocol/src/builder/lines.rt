@@ -4,17 +4,21 @@ ghost use Rattle.std.specs.Prelude.{◌≡◌, ℕ, ◌+◌, ◌<◌, ◌≤◌,
 ghost use Rattle.std.specs.Option.{SomeIff, option_map};
 ghost use Rattle.std.specs.List.{AllByRecursion, flat_map, list_all};
 ghost use Rattle.smallvec.specs.SmallVec.{small_vec_len};
-ghost use Rattle.influxdb_line_protocol.specs.Bytes.{is_one_of, space};
-ghost use Rattle.influxdb_line_protocol.specs.Lines.{some_tags};
-ghost use Rattle.influxdb_line_protocol.specs.Outcomes.{kind_of};
-ghost use Rattle.influxdb_line_protocol.specs.Parsed.{parsed_point, tag_of, tags_of};
-ghost use Rattle.influxdb_line_protocol.specs.Points.{built, built_timestamp, built_value, field_text, is_admitted_field, is_admitted_name, is_admitted_point, is_admitted_tag, never_in, spelling};
-ghost use Rattle.influxdb_line_protocol.specs.Values.{float};
-ghost use Rattle.influxdb_line_protocol.specs.Literals.{literal_of};
-ghost use Rattle.influxdb_line_protocol.specs.Texts.{text_of};
-ghost use Rattle.influxdb_line_protocol.specs.WrittenAgain.{ArePlainParts, IsPlainField, IsPlainTag, IsPlainValue, fields_text, parts_text, point_field, point_tag, tag_text, value_text};
-ghost use Rattle.influxdb_line_protocol.specs.Marks.{listed};
-ghost use Rattle.influxdb_line_protocol.specs.Built.{Writes, buffer_of};
+ghost use Rattle.influxdb_line_protocol.specs.format.Bytes.{is_one_of, space};
+ghost use Rattle.influxdb_line_protocol.specs.format.Lines.{some_tags};
+ghost use Rattle.influxdb_line_protocol.specs.code.Outcomes.{kind_of};
+ghost use Rattle.influxdb_line_protocol.specs.code.Parsed.{parsed_point, tag_of, tags_of};
+ghost use Rattle.influxdb_line_protocol.specs.format.Points.{built, built_timestamp, built_value, field_text};
+ghost use Rattle.influxdb_line_protocol.specs.format.Points.{is_admitted_field, is_admitted_name, is_admitted_point};
+ghost use Rattle.influxdb_line_protocol.specs.format.Points.{is_admitted_tag, never_in, spelling};
+ghost use Rattle.influxdb_line_protocol.specs.format.Values.{float};
+ghost use Rattle.influxdb_line_protocol.specs.code.Literals.{literal_of};
+ghost use Rattle.influxdb_line_protocol.specs.code.Texts.{text_of};
+ghost use Rattle.influxdb_line_protocol.specs.code.WrittenAgain.{ArePlainParts, IsPlainField, IsPlainTag, IsPlainValue};
+ghost use Rattle.influxdb_line_protocol.specs.code.WrittenAgain.{fields_text, parts_text, point_field, point_tag, tag_text};
+ghost use Rattle.influxdb_line_protocol.specs.code.WrittenAgain.{value_text};
+ghost use Rattle.influxdb_line_protocol.specs.code.Marks.{listed};
+ghost use Rattle.influxdb_line_protocol.specs.code.Built.{Writes, buffer_of};
 
 use super::marks::{Marks, is_free_of};
 use super::{
@@ -63,7 +67,7 @@ fn may_hold_all(kind: NameKind, bytes: &[u8]) -> bool
 }
 
 // Whether the name is admitted as one of this kind.
-#[tactic(auto, unfolding(crate::specs::Points::is_admitted_name))]
+#[tactic(auto, unfolding(crate::specs::format::Points::is_admitted_name))]
 fn is_admitted_name(kind: NameKind, name: &EscapedStr<'_>) -> bool
     ensures { result ≡ is_admitted_name (kind_of kind) (text_of name.now) }
 {
@@ -107,7 +111,7 @@ fn are_fields_admitted(fields: &[(EscapedStr<'_>, values::FieldValue<'_>)]) -> b
 ///
 /// A name is admitted where it is not empty, holds no tab and no newline, and does not end in a
 /// backslash; a measurement, besides, holds no NUL and does not begin with `#`. It takes no memory.
-#[tactic(auto, using(crate::proofs::WrittenAgainLemmas::tags_admitted, crate::proofs::WrittenAgainLemmas::fields_admitted), unfolding(crate::specs::Points::is_admitted_point))]
+#[tactic(auto, using(crate::proofs::lemmas::builder::WrittenAgainLemmas::tags_admitted, crate::proofs::lemmas::builder::WrittenAgainLemmas::fields_admitted), unfolding(crate::specs::format::Points::is_admitted_point))]
 pub fn is_admitted(line: &ParsedLine<'_>) -> bool
     ensures { result ≡ is_admitted_point (parsed_point line.now) }
 {
@@ -223,7 +227,7 @@ fn plain_extent(len: Option<usize>) -> Option<Extent>
 
 // The length of a value's text, where a `usize` holds it, and whether it gets no backslash.
 #[inline(always)]
-#[tactic(auto, using(crate::proofs::BuilderLemmas::escaped_nothing))]
+#[tactic(auto, using(crate::proofs::lemmas::builder::BuilderLemmas::escaped_nothing))]
 fn measure_value(value: &values::FieldValue<'_>) -> Option<Extent>
     ensures len { SomeIff (option_map (λ m. m.len) result) (length (value_text value.now) < 2 ^ 64) (length (value_text value.now)) }
     ensures plain { IfSome result (λ m. m.is_plain ≡ true → IsPlainValue value.now) }
@@ -244,7 +248,7 @@ fn measure_value(value: &values::FieldValue<'_>) -> Option<Extent>
 }
 
 // The length of the fields, each with the byte before it, where a `usize` holds it, and whether none gets a backslash.
-#[tactic(auto, using(crate::proofs::WrittenAgainLemmas::length_fields_behind))]
+#[tactic(auto, using(crate::proofs::lemmas::builder::WrittenAgainLemmas::length_fields_after))]
 fn measure_fields(fields: &[(EscapedStr<'_>, values::FieldValue<'_>)]) -> Option<Extent>
     ensures len { let text = fields_text space fields.now in
         SomeIff (option_map (λ m. m.len) result) (length text < 2 ^ 64) (length text) }
@@ -327,7 +331,7 @@ impl<'l, 'a> Parts<'l, 'a> {
     }
 
     // The length of the line and its newline, where a `usize` holds it, and whether it gets no backslash.
-    #[tactic(auto, unfolding(crate::specs::WrittenAgain::parts_text))]
+    #[tactic(auto, unfolding(crate::specs::code::WrittenAgain::parts_text))]
     fn measure(&self) -> Option<Extent>
         ensures len { let text = parts_text self.now in
             SomeIff (option_map (λ m. m.len) result) (length text < 2 ^ 64) (length text) }
@@ -347,7 +351,7 @@ impl<'l, 'a> Parts<'l, 'a> {
     }
 
     // Appends the line and its newline. Its texts are not searched where they are known to get no backslash.
-    #[tactic(auto, unfolding(crate::specs::WrittenAgain::parts_text))]
+    #[tactic(auto, unfolding(crate::specs::code::WrittenAgain::parts_text))]
     fn put<B: BufMut>(&self, buf: &mut B, is_plain: bool)
         requires plain { is_plain ≡ true → ArePlainParts self.now }
         requires room { length (parts_text self.now) ≤ B.room buf.old }

@@ -1,9 +1,9 @@
 //! Searches of a text for one of a few bytes, many of its bytes at a time.
 ghost use Rattle.std.specs.Prelude.{◌≡◌, ◌+◌, ◌<◌, ◌≤◌, length, not};
 ghost use Rattle.std.specs.List.{count_by, list_all};
-ghost use Rattle.influxdb_line_protocol.specs.Bytes.{is_one_of};
-ghost use Rattle.influxdb_line_protocol.specs.Lanes.{mask_of};
-ghost use Rattle.influxdb_line_protocol.specs.Marks.{StandBefore, listed};
+ghost use Rattle.influxdb_line_protocol.specs.format.Bytes.{is_one_of};
+ghost use Rattle.influxdb_line_protocol.specs.code.Lanes.{mask_of};
+ghost use Rattle.influxdb_line_protocol.specs.code.Marks.{StandBefore, listed};
 
 use crate::lanes::first_set;
 use std::simd::prelude::*;
@@ -62,7 +62,7 @@ fn mask_of_4(marks: Marks, text: &[u8], at: usize) -> u64
     found.to_bitmask()
 }
 
-// How many of the 16 bytes from `at` on stand before the first mark.
+// How many of the 16 bytes from `at` on come before the first mark.
 #[inline(always)]
 fn run_of_16(marks: Marks, text: &[u8], at: usize) -> usize
     requires { at + 16 ≤ length text.now }
@@ -71,7 +71,7 @@ fn run_of_16(marks: Marks, text: &[u8], at: usize) -> usize
     first_set(mask_of_16(marks, text, at), 16)
 }
 
-// How many of the 8 bytes from `at` on stand before the first mark.
+// How many of the 8 bytes from `at` on come before the first mark.
 #[inline(always)]
 fn run_of_8(marks: Marks, text: &[u8], at: usize) -> usize
     requires { at + 8 ≤ length text.now }
@@ -80,7 +80,7 @@ fn run_of_8(marks: Marks, text: &[u8], at: usize) -> usize
     first_set(mask_of_8(marks, text, at), 8)
 }
 
-// How many of the 4 bytes from `at` on stand before the first mark.
+// How many of the 4 bytes from `at` on come before the first mark.
 #[inline(always)]
 fn run_of_4(marks: Marks, text: &[u8], at: usize) -> usize
     requires { at + 4 ≤ length text.now }
@@ -89,7 +89,7 @@ fn run_of_4(marks: Marks, text: &[u8], at: usize) -> usize
     first_set(mask_of_4(marks, text, at), 4)
 }
 
-// How many bytes of the text stand before the first mark, one by one.
+// How many bytes of the text come before the first mark, one by one.
 #[inline(always)]
 fn walked_before_first(marks: Marks, text: &[u8]) -> usize
     ensures { StandBefore (is_one_of (listed marks)) text.now 0 (length text.now) result }
@@ -101,7 +101,7 @@ fn walked_before_first(marks: Marks, text: &[u8]) -> usize
     at
 }
 
-// How many bytes of a text of less than 16 stand before the first mark. Two loads that overlap cover it.
+// How many bytes of a text of less than 16 come before the first mark. Two loads that overlap cover it.
 #[inline(always)]
 fn short_before_first(marks: Marks, text: &[u8]) -> usize
     requires { length text.now < 16 }
@@ -127,7 +127,7 @@ fn short_before_first(marks: Marks, text: &[u8]) -> usize
     walked_before_first(marks, text)
 }
 
-// How many bytes of the text stand before the first mark. The last load may overlap the one before it.
+// How many bytes of the text come before the first mark. The last load may overlap the one before it.
 #[inline(always)]
 pub(crate) fn before_first(marks: Marks, text: &[u8]) -> usize
     ensures { StandBefore (is_one_of (listed marks)) text.now 0 (length text.now) result }
@@ -171,12 +171,12 @@ fn short_count(marks: Marks, text: &[u8]) -> usize
 {
     let len = text.len();
     if len >= 8 {
-        let behind = mask_of_8(marks, text, len - 8) >> (16 - len);
-        return (mask_of_8(marks, text, 0).count_ones() + behind.count_ones()) as usize;
+        let after = mask_of_8(marks, text, len - 8) >> (16 - len);
+        return (mask_of_8(marks, text, 0).count_ones() + after.count_ones()) as usize;
     }
     if len >= 4 {
-        let behind = mask_of_4(marks, text, len - 4) >> (8 - len);
-        return (mask_of_4(marks, text, 0).count_ones() + behind.count_ones()) as usize;
+        let after = mask_of_4(marks, text, len - 4) >> (8 - len);
+        return (mask_of_4(marks, text, 0).count_ones() + after.count_ones()) as usize;
     }
     walked_count(marks, text)
 }
@@ -196,6 +196,6 @@ pub(crate) fn count(marks: Marks, text: &[u8]) -> usize
         front += mask_of_16(marks, text, at).count_ones() as usize;
         at += 16;
     }
-    let behind = mask_of_16(marks, text, len - 16) >> (16 - (len - at));
-    front + behind.count_ones() as usize
+    let after = mask_of_16(marks, text, len - 16) >> (16 - (len - at));
+    front + after.count_ones() as usize
 }

@@ -1,8 +1,8 @@
 use Rattle.std.proofs.Common.{arith}
-use Rattle.influxdb_line_protocol.specs.Bytes.{is_one_of}
-use Rattle.influxdb_line_protocol.specs.Marks.{listed}
-use Rattle.influxdb_line_protocol.specs.Built.{bytes_of}
-use Rattle.influxdb_line_protocol.proofs.BuilderLemmas.{escaped_first, escaped_none}
+use Rattle.influxdb_line_protocol.specs.format.Bytes.{is_one_of}
+use Rattle.influxdb_line_protocol.specs.code.Marks.{listed}
+use Rattle.influxdb_line_protocol.specs.code.Built.{bytes_of}
+use Rattle.influxdb_line_protocol.proofs.lemmas.builder.BuilderLemmas.{escaped_first, escaped_none}
 use Rattle.influxdb_line_protocol.proofs.builder.next_escape.Goals as goal
 
 pub returns-then-at-text-clause-none : goal.returns-then-at-text-clause-none

@@ -1,6 +1,6 @@
 use Rattle.std.proofs.Common.{◌≡◌, ◌+◌, ◌≤◌, ◌++◌, length}
-use Rattle.influxdb_line_protocol.specs.Escapes.{escaped}
-use Rattle.influxdb_line_protocol.specs.Built.{bytes_of}
+use Rattle.influxdb_line_protocol.specs.format.Escapes.{escaped}
+use Rattle.influxdb_line_protocol.specs.code.Built.{bytes_of}
 use Rattle.influxdb_line_protocol.proofs.builder.put_runs.Given as goal
 
 -- what is written and what is left to write make the whole, and there is room for the latter

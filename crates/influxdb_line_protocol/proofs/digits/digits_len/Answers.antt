@@ -1,6 +1,6 @@
 use Rattle.std.proofs.Common.{arith, ◌∙◌, ◌<◌, take}
-use Rattle.influxdb_line_protocol.specs.Values.{digits_len}
-use Rattle.influxdb_line_protocol.proofs.DigitLemmas.{digits_within}
+use Rattle.influxdb_line_protocol.specs.format.Values.{digits_len}
+use Rattle.influxdb_line_protocol.proofs.lemmas.digits.DigitLemmas.{digits_within}
 use Rattle.influxdb_line_protocol.proofs.digits.digits_len.Goals as goal
 
 pub returns-then-len-lt-LANES-clause-value : goal.returns-then-len-lt-LANES-clause-value

@@ -1,5 +1,5 @@
 use Rattle.std.proofs.Common.{arith}
-use Rattle.influxdb_line_protocol.proofs.DigitLemmas.{one_more}
+use Rattle.influxdb_line_protocol.proofs.lemmas.digits.DigitLemmas.{one_more}
 use Rattle.influxdb_line_protocol.proofs.digits.value_after.Goals as goal
 
 pub overflow_mul-value : goal.overflow_mul-value

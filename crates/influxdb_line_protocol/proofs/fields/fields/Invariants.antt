@@ -1,9 +1,9 @@
 use Rattle.std.proofs.Common.{◌≤◌, length, map}
 use denote.Text.{Utf8}
 use denote.Shadow.{shadow}
-use Rattle.influxdb_line_protocol.specs.Lines.{field}
-use Rattle.influxdb_line_protocol.specs.Parsed.{field_of}
-use Rattle.influxdb_line_protocol.proofs.ManyLemmas.{Reached}
+use Rattle.influxdb_line_protocol.specs.format.Lines.{field}
+use Rattle.influxdb_line_protocol.specs.code.Parsed.{field_of}
+use Rattle.influxdb_line_protocol.proofs.lemmas.fields.ManyLemmas.{Reached}
 use Rattle.influxdb_line_protocol.proofs.fields.fields.Given as goal
 
 abbrev pub invariant-loop-next : goal.invariant-loop-next

@@ -1,6 +1,6 @@
 use Rattle.std.proofs.Common.{◌-◌, ◌≤◌, length, false}
-use Rattle.influxdb_line_protocol.specs.Forms.{is_plain}
-use Rattle.influxdb_line_protocol.specs.Lanes.{AllPassBetween}
+use Rattle.influxdb_line_protocol.specs.code.Forms.{is_plain}
+use Rattle.influxdb_line_protocol.specs.code.Lanes.{AllPassBetween}
 use Rattle.influxdb_line_protocol.proofs.forms.backslash_at.Given as goal
 
 abbrev pub invariant-loop-end : goal.invariant-loop-end

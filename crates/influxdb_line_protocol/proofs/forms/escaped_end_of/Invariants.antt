@@ -1,13 +1,13 @@
 use Rattle.std.proofs.Common.{◌-◌, ◌≤◌, length}
-use Rattle.influxdb_line_protocol.specs.Escapes.{Walked}
-use Rattle.influxdb_line_protocol.specs.Forms.{stops_of, known_of}
+use Rattle.influxdb_line_protocol.specs.format.Escapes.{EscapeScan}
+use Rattle.influxdb_line_protocol.specs.code.Forms.{stops_of, known_of}
 use Rattle.influxdb_line_protocol.proofs.forms.escaped_end_of.Given as goal
 
--- the walk stands at a bare place, at the first backslash or behind it
+-- the walk stands at a bare place, at the first backslash or after it
 abbrev pub invariant-loop-end : goal.invariant-loop-end
 invariant-loop-end l = record {
-  walked : Walked (known_of l.form) (stops_of l.form) l.bytes l.end l.known;
-  behind : l.at ≤ l.end;
+  walked : EscapeScan (known_of l.form) (stops_of l.form) l.bytes l.end l.known;
+  after : l.at ≤ l.end;
 }
 
 abbrev pub decreases-loop-end : goal.decreases-loop-end

@@ -1,9 +1,9 @@
 use Rattle.std.proofs.Common.{◌≡◌, false, true, refl, arith}
 use Rattle.std.proofs.lemmas.Grind.{common_steps}
-use Rattle.influxdb_line_protocol.specs.Bytes.{is_one_of}
-use Rattle.influxdb_line_protocol.specs.Forms.{known_of}
-use Rattle.influxdb_line_protocol.specs.Names.{is_one_escape}
-use Rattle.influxdb_line_protocol.proofs.FormLemmas.{read_escape, read_plain}
+use Rattle.influxdb_line_protocol.specs.format.Bytes.{is_one_of}
+use Rattle.influxdb_line_protocol.specs.code.Forms.{known_of}
+use Rattle.influxdb_line_protocol.specs.format.Names.{is_one_escape}
+use Rattle.influxdb_line_protocol.proofs.lemmas.forms.FormLemmas.{read_escape, read_plain}
 use Rattle.influxdb_line_protocol.proofs.forms.escaped_str.Goals as goal
 
 pub returns-then-spelled-clause-text : goal.returns-then-spelled-clause-text

@@ -1,8 +1,8 @@
 use Rattle.std.proofs.Common.{◌==◌, ℕ, ◌%◌, ◌^◌, ◌∙◌, ap, count_ones, arith}
-use Rattle.influxdb_line_protocol.specs.Forms.{known_of, stops_of}
-use Rattle.influxdb_line_protocol.specs.Lanes.{first_set}
-use Rattle.influxdb_line_protocol.proofs.FormLemmas.{backslash_goes_on}
-use Rattle.influxdb_line_protocol.proofs.WalkMasks.{escapes_mask, load_stops, load_goes_on}
+use Rattle.influxdb_line_protocol.specs.code.Forms.{known_of, stops_of}
+use Rattle.influxdb_line_protocol.specs.code.Lanes.{first_set}
+use Rattle.influxdb_line_protocol.proofs.lemmas.forms.FormLemmas.{backslash_goes_on}
+use Rattle.influxdb_line_protocol.proofs.lemmas.forms.WalkMasks.{escapes_mask, load_stops, load_goes_on}
 use Rattle.influxdb_line_protocol.proofs.forms.escapes_in_load.Goals as goal
 
 pub returns-then-run-lt-WIDE : goal.returns-then-run-lt-WIDE
@@ -14,8 +14,11 @@ returns-then-run-lt-WIDE c =
     let given = c.places_of-backslashes.ensures in
     let stops = c.bare.ensures (stops_of form) bytes at (omega arith) w.bare given c.stops_in.ensures in
     let slashes = c.bare-2.ensures (λ b. b == 92) bytes at (omega arith) w.bare given given in
-    let known = c.ones_below.ensures ∙ ap (λ (m : ℕ). count_ones (m % 2 ^ c.first_set-run.result)) (escapes_mask (known_of form) bytes at _ _ c.requires.room slashes c.known_in.ensures) in
-    let load = load_stops (known_of form) (stops_of form) bytes at c.args.found c.requires.room (backslash_goes_on form) w c.first_set-run.result
+    let known = c.ones_below.ensures
+    ∙ ap (λ (m : ℕ). count_ones (m % 2 ^ c.first_set-run.result))
+    (escapes_mask (known_of form) bytes at _ _ c.requires.room slashes c.known_in.ensures) in
+    let load = load_stops (known_of form) (stops_of form) bytes at c.args.found c.requires.room
+    (backslash_goes_on form) w c.first_set-run.result
     (c.first_set-run.ensures ∙ ap (λ (m : ℕ). first_set m 64) stops) c.ones_below.result known c.if-run-lt-WIDE.true in
     record { walked = load.0; stops = λ _. load.1; further = omega arith }
 
@@ -28,8 +31,12 @@ returns c =
     let given = c.places_of-backslashes.ensures in
     let stops = c.bare.ensures (stops_of form) bytes at (omega arith) w.bare given c.stops_in.ensures in
     let slashes = c.bare-2.ensures (λ b. b == 92) bytes at (omega arith) w.bare given given in
-    let known = c.ones_below.ensures ∙ ap (λ (m : ℕ). count_ones (m % 2 ^ c.first_set-run.result)) (escapes_mask (known_of form) bytes at _ _ c.requires.room slashes c.known_in.ensures) in
+    let known = c.ones_below.ensures
+    ∙ ap (λ (m : ℕ). count_ones (m % 2 ^ c.first_set-run.result))
+    (escapes_mask (known_of form) bytes at _ _ c.requires.room slashes c.known_in.ensures) in
     let last = c.escapes_next.ensures bytes at (omega arith) w.bare given in
-    let walked = load_goes_on (known_of form) (stops_of form) bytes at c.args.found c.requires.room (backslash_goes_on form) w c.first_set-run.result
-    (c.first_set-run.ensures ∙ ap (λ (m : ℕ). first_set m 64) stops) c.ones_below.result known c.escapes_next.result c.if-run-lt-WIDE.false last in
+    let walked = load_goes_on (known_of form) (stops_of form) bytes at c.args.found c.requires.room
+    (backslash_goes_on form) w c.first_set-run.result
+    (c.first_set-run.ensures ∙ ap (λ (m : ℕ). first_set m 64) stops) c.ones_below.result known c.escapes_next.result
+    c.if-run-lt-WIDE.false last in
     record { walked = walked; stops = λ short. absurd (omega arith); further = omega arith }

@@ -1,7 +1,7 @@
 use Rattle.std.proofs.Common.{◌≡◌, ◌+◌, ◌<◌, length, slice_index, sym, arith, true}
-use Rattle.influxdb_line_protocol.specs.Forms.{stops_of, known_of}
-use Rattle.influxdb_line_protocol.proofs.FormLemmas.{backslash_goes_on}
-use Rattle.influxdb_line_protocol.proofs.WalkLemmas.{walk_run, walk_counted, walk_ends, walk_ends_behind, is_stop_then}
+use Rattle.influxdb_line_protocol.specs.code.Forms.{stops_of, known_of}
+use Rattle.influxdb_line_protocol.proofs.lemmas.forms.FormLemmas.{backslash_goes_on}
+use Rattle.influxdb_line_protocol.proofs.lemmas.forms.WalkLemmas.{walk_run, walk_counted, walk_ends, walk_ends_after, is_stop_then}
 use Rattle.influxdb_line_protocol.proofs.forms.escapes_to_end.Goals as goal
 
 pub loop-end-init : goal.loop-end-init
@@ -9,9 +9,10 @@ loop-end-init c =
     let form = c.args.form in
     let run = c.plain_end-end.ensures in
     record {
-      walked = walk_run (known_of form) (stops_of form) c.args.bytes.now c.args.at c.plain_end-end.result c.args.found c.requires.walked run;
+      walked = walk_run (known_of form) (stops_of form) c.args.bytes.now c.args.at c.plain_end-end.result
+          c.args.found c.requires.walked run;
       stopped = run.stops;
-      behind = run.ordered;
+      after = run.ordered;
     }
 
 pub loop-end-preserved : goal.loop-end-preserved
@@ -19,24 +20,28 @@ loop-end-preserved c =
     let form = c.args.form in
     let bytes = c.args.bytes.now in
     let end = c.loop-end.end in
-    let walked = walk_counted (known_of form) (stops_of form) bytes end c.loop-end.known c.from-known.result c.is_known.result c.loop-end.invariant.walked (omega arith) c.if-bytes-end-eq92.true (backslash_goes_on form) (sym c.is_known.ensures) c.from-known.ensures in
+    let walked = walk_counted (known_of form) (stops_of form) bytes end c.loop-end.known c.from-known.result
+    c.is_known.result c.loop-end.invariant.walked (omega arith) c.if-bytes-end-eq92.true
+    (backslash_goes_on form) (sym c.is_known.ensures) c.from-known.ensures in
     let run = c.plain_end-end-in-loop-end.ensures in
     record {
       walked = walk_run (known_of form) (stops_of form) bytes (end + 2) c.plain_end-end-in-loop-end.result _ walked run;
       stopped = run.stops;
-      behind = omega (arith, run.ordered, c.loop-end.invariant.behind);
+      after = omega (arith, run.ordered, c.loop-end.invariant.after);
     }
 
 pub returns-then-end-bytes-clause-value : goal.returns-then-end-bytes-clause-value
 returns-then-end-bytes-clause-value c =
     let form = c.args.form in
-    let ends = walk_ends_behind (known_of form) (stops_of form) c.args.bytes.now c.loop-end.end c.loop-end.known c.loop-end.invariant.walked (omega arith) c.if-bytes-end-eq92.true (backslash_goes_on form) in
+    let ends = walk_ends_after (known_of form) (stops_of form) c.args.bytes.now c.loop-end.end c.loop-end.known
+    c.loop-end.invariant.walked (omega arith) c.if-bytes-end-eq92.true (backslash_goes_on form) in
     sym ends.0
 
 pub returns-then-end-bytes-clause-len : goal.returns-then-end-bytes-clause-len
 returns-then-end-bytes-clause-len c =
     let form = c.args.form in
-    let ends = walk_ends_behind (known_of form) (stops_of form) c.args.bytes.now c.loop-end.end c.loop-end.known c.loop-end.invariant.walked (omega arith) c.if-bytes-end-eq92.true (backslash_goes_on form) in
+    let ends = walk_ends_after (known_of form) (stops_of form) c.args.bytes.now c.loop-end.end c.loop-end.known
+    c.loop-end.invariant.walked (omega arith) c.if-bytes-end-eq92.true (backslash_goes_on form) in
     ends.1
 
 pub returns-else-bytes-end-eq92-clause-value : goal.returns-else-bytes-end-eq92-clause-value
@@ -45,7 +50,8 @@ returns-else-bytes-end-eq92-clause-value c =
     let bytes = c.args.bytes.now in
     let end = c.loop-end.end in
     let stop : end < length bytes → stops_of form (slice_index bytes end) ≡ true = λ within.
-    is_stop_then (known_of form) (stops_of form) bytes (slice_index bytes end) (c.loop-end.invariant.stopped within) c.if-bytes-end-eq92.false in
+    is_stop_then (known_of form) (stops_of form) bytes (slice_index bytes end) (c.loop-end.invariant.stopped within)
+    c.if-bytes-end-eq92.false in
     let ends = walk_ends (known_of form) (stops_of form) bytes end c.loop-end.known c.loop-end.invariant.walked stop in
     sym ends.0
 
@@ -54,5 +60,6 @@ returns-after-loop-end-clause-value c =
     let form = c.args.form in
     let bytes = c.args.bytes.now in
     let end = c.loop-end.end in
-    let ends = walk_ends (known_of form) (stops_of form) bytes end c.loop-end.known c.loop-end.invariant.walked (λ within. absurd (omega arith)) in
+    let ends = walk_ends (known_of form) (stops_of form) bytes end c.loop-end.known c.loop-end.invariant.walked
+    (λ within. absurd (omega arith)) in
     sym ends.0

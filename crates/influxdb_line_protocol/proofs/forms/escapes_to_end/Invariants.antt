@@ -1,14 +1,14 @@
 use Rattle.std.proofs.Common.{◌-◌, ◌<◌, ◌≤◌, ◌≡◌, length, slice_index, false}
-use Rattle.influxdb_line_protocol.specs.Forms.{is_plain, stops_of, known_of}
-use Rattle.influxdb_line_protocol.specs.Escapes.{Walked}
+use Rattle.influxdb_line_protocol.specs.code.Forms.{is_plain, stops_of, known_of}
+use Rattle.influxdb_line_protocol.specs.format.Escapes.{EscapeScan}
 use Rattle.influxdb_line_protocol.proofs.forms.escapes_to_end.Given as goal
 
--- the walk stands at a bare place behind plain bytes, and has met the first backslash or stands there
+-- the walk stands at a bare place after plain bytes, and has met the first backslash or is there
 abbrev pub invariant-loop-end : goal.invariant-loop-end
 invariant-loop-end l = record {
-  walked : Walked (known_of l.form) (stops_of l.form) l.bytes l.end l.known;
+  walked : EscapeScan (known_of l.form) (stops_of l.form) l.bytes l.end l.known;
   stopped : l.end < length l.bytes → is_plain (stops_of l.form) (slice_index l.bytes l.end) ≡ false;
-  behind : l.at ≤ l.end;
+  after : l.at ≤ l.end;
 }
 
 abbrev pub decreases-loop-end : goal.decreases-loop-end

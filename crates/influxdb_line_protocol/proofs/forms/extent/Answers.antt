@@ -1,8 +1,9 @@
 use Rattle.std.proofs.Common.{◌≢◌, ◌<◌, length, slice_index, sym, arith, refl}
-use Rattle.influxdb_line_protocol.specs.Forms.{stops_of, known_of}
-use Rattle.influxdb_line_protocol.proofs.WalkLemmas.{run_ends, run_is_plain}
+use Rattle.influxdb_line_protocol.specs.code.Forms.{stops_of, known_of}
+use Rattle.influxdb_line_protocol.proofs.lemmas.forms.WalkLemmas.{run_ends, run_is_plain}
 use Rattle.influxdb_line_protocol.proofs.forms.extent.Goals as goal
-use Rattle.influxdb_line_protocol.proofs.forms.extent.Goals.{else-end-bytes-via-then-end-bytes+else-bytes-end-eq92, else-end-bytes-via-else-end-bytes}
+use Rattle.influxdb_line_protocol.proofs.forms.extent.Goals.{else-end-bytes-via-then-end-bytes+else-bytes-end-eq92}
+use Rattle.influxdb_line_protocol.proofs.forms.extent.Goals.{else-end-bytes-via-else-end-bytes}
 
 pub returns-clause-value : goal.returns-clause-value
 returns-clause-value c =

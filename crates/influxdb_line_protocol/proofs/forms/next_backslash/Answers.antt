@@ -1,7 +1,7 @@
 use Rattle.std.proofs.Common.{◌≡◌, ◌+◌, ◌-◌, ◌/◌, ◌^◌, length, false, ap, ◌∙◌, arith}
-use Rattle.influxdb_line_protocol.specs.Forms.{is_end}
-use Rattle.influxdb_line_protocol.specs.Lanes.{first_set}
-use Rattle.influxdb_line_protocol.proofs.MaskLemmas.{next_is}
+use Rattle.influxdb_line_protocol.specs.code.Forms.{is_end}
+use Rattle.influxdb_line_protocol.specs.code.Lanes.{first_set}
+use Rattle.influxdb_line_protocol.proofs.lemmas.lanes.MaskLemmas.{next_is}
 use Rattle.influxdb_line_protocol.proofs.forms.next_backslash.Goals as goal
 
 pub returns : goal.returns

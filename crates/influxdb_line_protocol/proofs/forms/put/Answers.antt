@@ -1,11 +1,12 @@
-use Rattle.std.proofs.Common.{◌≡◌, ◌+◌, length, drop, slice_index, true, false, sym, ap, ◌∙◌, arith, string_bytes, length-append, append_assoc, ℕ, List, ◌<◌}
+use Rattle.std.proofs.Common.{◌≡◌, ◌+◌, length, drop, slice_index, true, false, sym, ap, ◌∙◌, arith, string_bytes}
+use Rattle.std.proofs.Common.{length-append, append_assoc, ℕ, List, ◌<◌}
 use Rattle.std.proofs.lemmas.Bool.{not-false, eqb-true}
 use Rattle.std.proofs.lemmas.Str.{IsCharBoundary-start, IsCharBoundary-before_ascii}
-use Rattle.influxdb_line_protocol.specs.Bytes.{is_one_of}
-use Rattle.influxdb_line_protocol.specs.Forms.{is_plain, known_of}
-use Rattle.influxdb_line_protocol.specs.Lanes.{IsRunAt}
-use Rattle.influxdb_line_protocol.proofs.CopyLemmas.{stretch, left_run, left_known, left_unknown, whole_last}
-use Rattle.influxdb_line_protocol.proofs.FormLemmas.{known_is_ascii}
+use Rattle.influxdb_line_protocol.specs.format.Bytes.{is_one_of}
+use Rattle.influxdb_line_protocol.specs.code.Forms.{is_plain, known_of}
+use Rattle.influxdb_line_protocol.specs.code.Lanes.{IsRunAt}
+use Rattle.influxdb_line_protocol.proofs.lemmas.forms.CopyLemmas.{stretch, left_run, left_known, left_unknown, whole_last}
+use Rattle.influxdb_line_protocol.proofs.lemmas.forms.FormLemmas.{known_is_ascii}
 use Rattle.influxdb_line_protocol.proofs.forms.put.Goals as goal
 use Rattle.influxdb_line_protocol.proofs.forms.put.Goals.{then-is_known+in_ok-push_str, else-is_known}
 
@@ -70,22 +71,39 @@ pub returns-in_err-push_str-2-clause-has_room : goal.returns-in_err-push_str-2-c
 returns-in_err-push_str-2-clause-has_room c =
     let bytes = c.as_bytes-bytes.result.now in
     let inv = c.loop-at.invariant in
-    let whole = whole_last (known_of c.args.form) bytes (string_bytes c.loop-at.to) _ c.loop-at.from c.loop-at.at inv.ordered inv.within c.loop-at-test.false inv.whole in
+    let whole = whole_last (known_of c.args.form) bytes (string_bytes c.loop-at.to) _ c.loop-at.from
+    c.loop-at.at inv.ordered inv.within c.loop-at-test.false inv.whole in
     let rest : c.range_from.result.now ≡ drop c.loop-at.from bytes = rw c.as_bytes-bytes.ensures.value c.range_from.ensures.value in
-    absurd (omega (arith, c.in_err-push_str-2.ensures.full, ap length whole, length-append (string_bytes c.loop-at.to) (drop c.loop-at.from bytes), ap length rest, inv.room))
+    absurd (omega (
+      arith,
+      c.in_err-push_str-2.ensures.full,
+      ap length whole,
+      length-append (string_bytes c.loop-at.to) (drop c.loop-at.from bytes),
+      ap length rest,
+      inv.room,
+    ))
 
 pub returns-in_err-push_str-2-clause-text : goal.returns-in_err-push_str-2-clause-text
 returns-in_err-push_str-2-clause-text c =
     let bytes = c.as_bytes-bytes.result.now in
     let inv = c.loop-at.invariant in
-    let whole = whole_last (known_of c.args.form) bytes (string_bytes c.loop-at.to) _ c.loop-at.from c.loop-at.at inv.ordered inv.within c.loop-at-test.false inv.whole in
+    let whole = whole_last (known_of c.args.form) bytes (string_bytes c.loop-at.to) _ c.loop-at.from
+    c.loop-at.at inv.ordered inv.within c.loop-at-test.false inv.whole in
     let rest : c.range_from.result.now ≡ drop c.loop-at.from bytes = rw c.as_bytes-bytes.ensures.value c.range_from.ensures.value in
-    absurd (omega (arith, c.in_err-push_str-2.ensures.full, ap length whole, length-append (string_bytes c.loop-at.to) (drop c.loop-at.from bytes), ap length rest, inv.room))
+    absurd (omega (
+      arith,
+      c.in_err-push_str-2.ensures.full,
+      ap length whole,
+      length-append (string_bytes c.loop-at.to) (drop c.loop-at.from bytes),
+      ap length rest,
+      inv.room,
+    ))
 
 pub returns-clause-text : goal.returns-clause-text
 returns-clause-text c =
     let bytes = c.as_bytes-bytes.result.now in
     let inv = c.loop-at.invariant in
-    let whole = whole_last (known_of c.args.form) bytes (string_bytes c.loop-at.to) _ c.loop-at.from c.loop-at.at inv.ordered inv.within c.loop-at-test.false inv.whole in
+    let whole = whole_last (known_of c.args.form) bytes (string_bytes c.loop-at.to) _ c.loop-at.from
+    c.loop-at.at inv.ordered inv.within c.loop-at-test.false inv.whole in
     let rest : c.range_from.result.now ≡ drop c.loop-at.from bytes = rw c.as_bytes-bytes.ensures.value c.range_from.ensures.value in
     c.in_ok-push_str-2.ensures.bytes ∙ rw (rest, ← c.as_bytes-bytes.ensures.value) whole

@@ -1,9 +1,9 @@
 use Rattle.std.proofs.Common.{◌≡◌, ◌-◌, ◌<◌, ◌≤◌, ◌++◌, length, slice_index, string_bytes}
 use Rattle.std.specs.Prelude.{IsCharBoundary}
 use Rattle.std.specs.String.{string_capacity}
-use Rattle.influxdb_line_protocol.specs.Escapes.{without_escapes}
-use Rattle.influxdb_line_protocol.specs.Forms.{known_of}
-use Rattle.influxdb_line_protocol.proofs.CopyLemmas.{left}
+use Rattle.influxdb_line_protocol.specs.format.Escapes.{without_escapes}
+use Rattle.influxdb_line_protocol.specs.code.Forms.{known_of}
+use Rattle.influxdb_line_protocol.proofs.lemmas.forms.CopyLemmas.{left}
 use Rattle.influxdb_line_protocol.proofs.forms.put.Given as goal
 
 -- what is written and what is left to write make the whole, and there is room for it

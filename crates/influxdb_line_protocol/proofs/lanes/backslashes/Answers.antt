@@ -2,13 +2,14 @@
 use Rattle.std.proofs.Common.{false, refl, arith}
 use Rattle.std.proofs.lemmas.Simd.{length-chunk}
 use lib.Lanes.{chunk}
-use Rattle.influxdb_line_protocol.specs.Forms.{is_end}
-use Rattle.influxdb_line_protocol.proofs.LaneLemmas.{lanes_of}
-use Rattle.influxdb_line_protocol.proofs.MaskLemmas.{mask_is}
+use Rattle.influxdb_line_protocol.specs.code.Forms.{is_end}
+use Rattle.influxdb_line_protocol.proofs.lemmas.lanes.LaneLemmas.{lanes_of}
+use Rattle.influxdb_line_protocol.proofs.lemmas.lanes.MaskLemmas.{mask_is}
 use Rattle.influxdb_line_protocol.proofs.lanes.backslashes.Goals as goal
 
 pub returns : goal.returns
 returns c =
     let v = chunk c.args.at 16 c.args.bytes.now in
     let long = length-chunk c.args.at 16 c.args.bytes.now c.requires in
-    mask_is (is_end (λ b. false)) c.args.bytes.now c.args.at 16 c.requires (omega arith) _ _ (lanes_of v 92 long) (λ k. (c.type_inv.bytes k).fits) refl
+    mask_is (is_end (λ b. false)) c.args.bytes.now c.args.at 16 c.requires (omega arith) _ _ (lanes_of v 92 long)
+    (λ k. (c.type_inv.bytes k).fits) refl

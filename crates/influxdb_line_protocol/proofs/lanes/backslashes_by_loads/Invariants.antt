@@ -1,6 +1,6 @@
 use Rattle.std.proofs.Common.{◌-◌, ◌≤◌, ◌≡◌, length, false}
-use Rattle.influxdb_line_protocol.specs.Forms.{is_end}
-use Rattle.influxdb_line_protocol.specs.Lanes.{mask_of}
+use Rattle.influxdb_line_protocol.specs.code.Forms.{is_end}
+use Rattle.influxdb_line_protocol.specs.code.Lanes.{mask_of}
 use Rattle.influxdb_line_protocol.proofs.lanes.backslashes_by_loads.Given as goal
 
 -- the mask is that of the bytes that were seen

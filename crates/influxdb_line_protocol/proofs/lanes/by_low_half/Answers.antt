@@ -1,7 +1,8 @@
 use Rattle.std.proofs.Common.{◌≡◌, ℕ, ◌<◌, List, map, get_or, replicate, refl, sym, ap, ◌∙◌, arith, w8}
 use lib.Bits.{bit_and, and_le_r}
 use lib.Lanes.{zip2}
-use Rattle.std.proofs.lemmas.Simd.{SwzOk-from_below, Each1-zip2, Each2-splat, Each1-all, length-zip2, length-swz_l, get_or-swz_l_below, get_or-zip2, get_or-replicate}
+use Rattle.std.proofs.lemmas.Simd.{SwzOk-from_below, Each1-zip2, Each2-splat, Each1-all, length-zip2, length-swz_l}
+use Rattle.std.proofs.lemmas.Simd.{get_or-swz_l_below, get_or-zip2, get_or-replicate}
 use borrow.Rule.Simd.Moves.{swz_l}
 use Rattle.std.proofs.lemmas.List.{ext_get_or, length-map, get_or-map}
 use Rattle.influxdb_line_protocol.proofs.lanes.by_low_half.Goals as goal
@@ -25,7 +26,8 @@ returns c =
     let size = length-swz_l w8 16 table 0 (low v) ∙ long in
     ext_get_or 0 (swz_l w8 16 table 0 (low v)) (map look v) (size ∙ sym (length-map v look ∙ c.requires)) (λ i lt.
     let inside : i < 16 = omega (arith, lt, size) in
-    let is : get_or (low v) i 0 ≡ bit_and (get_or v i 0) 15 = get_or-zip2 bit_and v (replicate 16 15) i 0 0 0 (omega (arith, c.requires)) inside ∙ ap (bit_and (get_or v i 0)) (get_or-replicate 16 i 15 0 inside) in
+    let is : get_or (low v) i 0 ≡ bit_and (get_or v i 0) 15 = get_or-zip2 bit_and v (replicate 16 15) i 0 0 0
+    (omega (arith, c.requires)) inside ∙ ap (bit_and (get_or v i 0)) (get_or-replicate 16 i 15 0 inside) in
     get_or-swz_l_below w8 16 table 0 (low v) i (omega (arith, long)) (omega (arith, is, and_le_r (get_or v i 0) 15))
     ∙ ap (λ k. get_or table k 0) (omega (arith, is))
     ∙ sym (get_or-map look v i 0 0 (omega (arith, c.requires))))

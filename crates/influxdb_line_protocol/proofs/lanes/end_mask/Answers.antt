@@ -2,10 +2,10 @@
 use Rattle.std.proofs.Common.{refl, arith}
 use Rattle.std.proofs.lemmas.Simd.{length-chunk}
 use lib.Lanes.{chunk}
-use Rattle.influxdb_line_protocol.specs.Forms.{is_end, stops_of}
+use Rattle.influxdb_line_protocol.specs.code.Forms.{is_end, stops_of}
 use Rattle.influxdb_line_protocol.specs.declared.forms.Form.TheVariants.{Measurement, Key, TagValue, Quoted}
-use Rattle.influxdb_line_protocol.proofs.LaneLemmas.{lanes_looked, lanes_of, lanes_or}
-use Rattle.influxdb_line_protocol.proofs.MaskLemmas.{mask_is}
+use Rattle.influxdb_line_protocol.proofs.lemmas.lanes.LaneLemmas.{lanes_looked, lanes_of, lanes_or}
+use Rattle.influxdb_line_protocol.proofs.lemmas.lanes.MaskLemmas.{mask_is}
 use Rattle.influxdb_line_protocol.proofs.lanes.end_mask.Goals as goal
 
 pub returns-in-Measurement : goal.returns-in-Measurement
@@ -15,24 +15,29 @@ returns-in-Measurement c =
     let blanks = lanes_or _ _ v (lanes_of v 32 long) (lanes_of v 9 long) in
     let stops = lanes_or _ _ v (lanes_or _ _ v blanks (lanes_of v 10 long)) (lanes_of v 92 long) in
     rw c.in-Measurement.is
-    (mask_is (is_end (stops_of Measurement)) c.args.bytes.now c.args.at 16 c.requires (omega arith) _ _ (lanes_or _ _ v stops (lanes_or _ _ v (lanes_of v 44 long) (lanes_of v 0 long))) (λ k. (c.type_inv.bytes k).fits) refl)
+    (mask_is (is_end (stops_of Measurement)) c.args.bytes.now c.args.at 16 c.requires (omega arith) _ _
+    (lanes_or _ _ v stops (lanes_or _ _ v (lanes_of v 44 long) (lanes_of v 0 long))) (λ k. (c.type_inv.bytes k).fits) refl)
 
 pub returns-in-Key : goal.returns-in-Key
 returns-in-Key c =
     let v = chunk c.args.at 16 c.args.bytes.now in
     rw c.in-Key.is
-    (mask_is (is_end (stops_of Key)) c.args.bytes.now c.args.at 16 c.requires (omega arith) _ _ (lanes_looked _ v c.by_low_half.ensures) (λ k. (c.type_inv.bytes k).fits) refl)
+    (mask_is (is_end (stops_of Key)) c.args.bytes.now c.args.at 16 c.requires (omega arith) _ _
+    (lanes_looked _ v c.by_low_half.ensures) (λ k. (c.type_inv.bytes k).fits) refl)
 
 pub returns-in-TagValue : goal.returns-in-TagValue
 returns-in-TagValue c =
     let v = chunk c.args.at 16 c.args.bytes.now in
     let long = length-chunk c.args.at 16 c.args.bytes.now c.requires in
     rw c.in-TagValue.is
-    (mask_is (is_end (stops_of TagValue)) c.args.bytes.now c.args.at 16 c.requires (omega arith) _ _ (lanes_or _ _ v (lanes_looked _ v c.by_low_half-in-TagValue.ensures) (lanes_of v 92 long)) (λ k. (c.type_inv.bytes k).fits) refl)
+    (mask_is (is_end (stops_of TagValue)) c.args.bytes.now c.args.at 16 c.requires (omega arith) _ _
+    (lanes_or _ _ v (lanes_looked _ v c.by_low_half-in-TagValue.ensures) (lanes_of v 92 long))
+    (λ k. (c.type_inv.bytes k).fits) refl)
 
 pub returns-in-Quoted : goal.returns-in-Quoted
 returns-in-Quoted c =
     let v = chunk c.args.at 16 c.args.bytes.now in
     let long = length-chunk c.args.at 16 c.args.bytes.now c.requires in
     rw c.in-Quoted.is
-    (mask_is (is_end (stops_of Quoted)) c.args.bytes.now c.args.at 16 c.requires (omega arith) _ _ (lanes_or _ _ v (lanes_of v 92 long) (lanes_of v 34 long)) (λ k. (c.type_inv.bytes k).fits) refl)
+    (mask_is (is_end (stops_of Quoted)) c.args.bytes.now c.args.at 16 c.requires (omega arith) _ _
+    (lanes_or _ _ v (lanes_of v 92 long) (lanes_of v 34 long)) (λ k. (c.type_inv.bytes k).fits) refl)

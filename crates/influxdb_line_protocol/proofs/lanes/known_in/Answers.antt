@@ -2,11 +2,11 @@
 use Rattle.std.proofs.Common.{refl, arith, inl, inr}
 use Rattle.std.proofs.lemmas.Simd.{length-chunk}
 use lib.Lanes.{chunk}
-use Rattle.influxdb_line_protocol.specs.Bytes.{is_one_of}
-use Rattle.influxdb_line_protocol.specs.Forms.{known_of}
+use Rattle.influxdb_line_protocol.specs.format.Bytes.{is_one_of}
+use Rattle.influxdb_line_protocol.specs.code.Forms.{known_of}
 use Rattle.influxdb_line_protocol.specs.declared.forms.Form.TheVariants.{Measurement, Key, TagValue, Quoted}
-use Rattle.influxdb_line_protocol.proofs.LaneLemmas.{lanes_of, lanes_or}
-use Rattle.influxdb_line_protocol.proofs.MaskLemmas.{mask_is}
+use Rattle.influxdb_line_protocol.proofs.lemmas.lanes.LaneLemmas.{lanes_of, lanes_or}
+use Rattle.influxdb_line_protocol.proofs.lemmas.lanes.MaskLemmas.{mask_is}
 use Rattle.influxdb_line_protocol.proofs.lanes.known_in.Goals as goal
 
 pub returns-in-Measurement : goal.returns-in-Measurement
@@ -15,7 +15,8 @@ returns-in-Measurement c =
     let long = length-chunk c.args.at 64 c.args.bytes.now c.requires in
     let name = lanes_or _ _ v (lanes_of v 44 long) (lanes_of v 32 long) in
     rw c.in-Measurement.is
-    (mask_is (is_one_of (known_of Measurement)) c.args.bytes.now c.args.at 64 c.requires (omega arith) _ _ (lanes_or _ _ v name (lanes_of v 92 long)) (λ k. (c.type_inv.bytes k).fits) refl)
+    (mask_is (is_one_of (known_of Measurement)) c.args.bytes.now c.args.at 64 c.requires (omega arith) _ _
+    (lanes_or _ _ v name (lanes_of v 92 long)) (λ k. (c.type_inv.bytes k).fits) refl)
 
 pub returns-in-Key : goal.returns-in-Key
 returns-in-Key c =
@@ -24,8 +25,10 @@ returns-in-Key c =
     let name = lanes_or _ _ v (lanes_of v 44 long) (lanes_of v 32 long) in
     let lanes = lanes_or _ _ v name (lanes_or _ _ v (lanes_of v 61 long) (lanes_of v 92 long)) in
     elim c.in-Key.is [
-      | inl e ↦ rw e (mask_is (is_one_of (known_of Key)) c.args.bytes.now c.args.at 64 c.requires (omega arith) _ _ lanes (λ k. (c.type_inv.bytes k).fits) refl)
-      | inr e ↦ rw e (mask_is (is_one_of (known_of TagValue)) c.args.bytes.now c.args.at 64 c.requires (omega arith) _ _ lanes (λ k. (c.type_inv.bytes k).fits) refl)
+      | inl e ↦ rw e (mask_is (is_one_of (known_of Key)) c.args.bytes.now c.args.at 64 c.requires (omega arith) _ _
+          lanes (λ k. (c.type_inv.bytes k).fits) refl)
+      | inr e ↦ rw e (mask_is (is_one_of (known_of TagValue)) c.args.bytes.now c.args.at 64 c.requires (omega arith)
+          _ _ lanes (λ k. (c.type_inv.bytes k).fits) refl)
     ]
 
 pub returns-in-Quoted : goal.returns-in-Quoted
@@ -33,4 +36,5 @@ returns-in-Quoted c =
     let v = chunk c.args.at 64 c.args.bytes.now in
     let long = length-chunk c.args.at 64 c.args.bytes.now c.requires in
     rw c.in-Quoted.is
-    (mask_is (is_one_of (known_of Quoted)) c.args.bytes.now c.args.at 64 c.requires (omega arith) _ _ (lanes_or _ _ v (lanes_of v 34 long) (lanes_of v 92 long)) (λ k. (c.type_inv.bytes k).fits) refl)
+    (mask_is (is_one_of (known_of Quoted)) c.args.bytes.now c.args.at 64 c.requires (omega arith) _ _
+    (lanes_or _ _ v (lanes_of v 34 long) (lanes_of v 92 long)) (λ k. (c.type_inv.bytes k).fits) refl)

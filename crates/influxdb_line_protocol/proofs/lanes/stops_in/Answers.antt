@@ -2,10 +2,10 @@
 use Rattle.std.proofs.Common.{refl, arith}
 use Rattle.std.proofs.lemmas.Simd.{length-chunk}
 use lib.Lanes.{chunk}
-use Rattle.influxdb_line_protocol.specs.Forms.{stops_of}
+use Rattle.influxdb_line_protocol.specs.code.Forms.{stops_of}
 use Rattle.influxdb_line_protocol.specs.declared.forms.Form.TheVariants.{Measurement, Key, TagValue, Quoted}
-use Rattle.influxdb_line_protocol.proofs.LaneLemmas.{lanes_of, lanes_or}
-use Rattle.influxdb_line_protocol.proofs.MaskLemmas.{mask_is}
+use Rattle.influxdb_line_protocol.proofs.lemmas.lanes.LaneLemmas.{lanes_of, lanes_or}
+use Rattle.influxdb_line_protocol.proofs.lemmas.lanes.MaskLemmas.{mask_is}
 use Rattle.influxdb_line_protocol.proofs.lanes.stops_in.Goals as goal
 
 pub returns-in-Measurement : goal.returns-in-Measurement
@@ -14,7 +14,8 @@ returns-in-Measurement c =
     let long = length-chunk c.args.at 64 c.args.bytes.now c.requires in
     let stops = lanes_or _ _ v (lanes_or _ _ v (lanes_of v 32 long) (lanes_of v 9 long)) (lanes_of v 10 long) in
     rw c.in-Measurement.is
-    (mask_is (stops_of Measurement) c.args.bytes.now c.args.at 64 c.requires (omega arith) _ _ (lanes_or _ _ v stops (lanes_or _ _ v (lanes_of v 44 long) (lanes_of v 0 long))) (λ k. (c.type_inv.bytes k).fits) refl)
+    (mask_is (stops_of Measurement) c.args.bytes.now c.args.at 64 c.requires (omega arith) _ _
+    (lanes_or _ _ v stops (lanes_or _ _ v (lanes_of v 44 long) (lanes_of v 0 long))) (λ k. (c.type_inv.bytes k).fits) refl)
 
 pub returns-in-Key : goal.returns-in-Key
 returns-in-Key c =
@@ -22,7 +23,8 @@ returns-in-Key c =
     let long = length-chunk c.args.at 64 c.args.bytes.now c.requires in
     let stops = lanes_or _ _ v (lanes_or _ _ v (lanes_of v 32 long) (lanes_of v 9 long)) (lanes_of v 10 long) in
     rw c.in-Key.is
-    (mask_is (stops_of Key) c.args.bytes.now c.args.at 64 c.requires (omega arith) _ _ (lanes_or _ _ v stops (lanes_of v 61 long)) (λ k. (c.type_inv.bytes k).fits) refl)
+    (mask_is (stops_of Key) c.args.bytes.now c.args.at 64 c.requires (omega arith) _ _
+    (lanes_or _ _ v stops (lanes_of v 61 long)) (λ k. (c.type_inv.bytes k).fits) refl)
 
 pub returns-in-TagValue : goal.returns-in-TagValue
 returns-in-TagValue c =
@@ -30,11 +32,13 @@ returns-in-TagValue c =
     let long = length-chunk c.args.at 64 c.args.bytes.now c.requires in
     let stops = lanes_or _ _ v (lanes_or _ _ v (lanes_of v 32 long) (lanes_of v 9 long)) (lanes_of v 10 long) in
     rw c.in-TagValue.is
-    (mask_is (stops_of TagValue) c.args.bytes.now c.args.at 64 c.requires (omega arith) _ _ (lanes_or _ _ v stops (lanes_of v 44 long)) (λ k. (c.type_inv.bytes k).fits) refl)
+    (mask_is (stops_of TagValue) c.args.bytes.now c.args.at 64 c.requires (omega arith) _ _
+    (lanes_or _ _ v stops (lanes_of v 44 long)) (λ k. (c.type_inv.bytes k).fits) refl)
 
 pub returns-in-Quoted : goal.returns-in-Quoted
 returns-in-Quoted c =
     let v = chunk c.args.at 64 c.args.bytes.now in
     let long = length-chunk c.args.at 64 c.args.bytes.now c.requires in
     rw c.in-Quoted.is
-    (mask_is (stops_of Quoted) c.args.bytes.now c.args.at 64 c.requires (omega arith) _ _ (lanes_of v 34 long) (λ k. (c.type_inv.bytes k).fits) refl)
+    (mask_is (stops_of Quoted) c.args.bytes.now c.args.at 64 c.requires (omega arith) _ _ (lanes_of v 34 long)
+    (λ k. (c.type_inv.bytes k).fits) refl)

@@ -1,6 +1,7 @@
-use Rattle.influxdb_line_protocol.proofs.BatchesReadBack.{admitted_batches_read_back}
-use Rattle.influxdb_line_protocol.proofs.RefusedBatches.{other_batches_do_not}
-use Rattle.influxdb_line_protocol.proofs.UnreadableNames.{items_have_readable_names, other_points_end_with_backslash}
+use Rattle.influxdb_line_protocol.proofs.lemmas.laws.batch_reads_back.BatchesReadBack.{admitted_batches_read_back}
+use Rattle.influxdb_line_protocol.proofs.lemmas.laws.batch_reads_back.RefusedBatches.{other_batches_do_not}
+use Rattle.influxdb_line_protocol.proofs.lemmas.laws.batch_reads_back.UnreadableNames.{items_have_readable_names}
+use Rattle.influxdb_line_protocol.proofs.lemmas.laws.batch_reads_back.UnreadableNames.{other_points_end_with_backslash}
 use Rattle.influxdb_line_protocol.proofs.laws.batch_reads_back.Goals as goal
 
 pub returns-clause-admitted : goal.returns-clause-admitted

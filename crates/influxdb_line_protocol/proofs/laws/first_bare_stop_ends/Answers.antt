@@ -1,11 +1,11 @@
 use Rattle.std.specs.Prelude.{◌==◌}
-use Rattle.influxdb_line_protocol.specs.Bytes.{quote}
-use Rattle.influxdb_line_protocol.specs.Names.{is_stop}
-use Rattle.influxdb_line_protocol.proofs.StopMeaning.{before_stop}
+use Rattle.influxdb_line_protocol.specs.format.Bytes.{quote}
+use Rattle.influxdb_line_protocol.specs.format.Names.{is_stop}
+use Rattle.influxdb_line_protocol.proofs.lemmas.laws.meanings.StopMeaning.{before_stop}
 use Rattle.influxdb_line_protocol.proofs.laws.first_bare_stop_ends.Goals as goal
 
 pub returns-clause-name : goal.returns-clause-name
-returns-clause-name c = λ kind front behind. before_stop (is_stop kind) front behind
+returns-clause-name c = λ kind front after. before_stop (is_stop kind) front after
 
 pub returns-clause-body : goal.returns-clause-body
-returns-clause-body c = λ front behind. before_stop (λ b. b == quote) front behind
+returns-clause-body c = λ front after. before_stop (λ b. b == quote) front after

@@ -1,4 +1,4 @@
-use Rattle.influxdb_line_protocol.proofs.GivenItems.{items_are_of_pieces, items_are_answers, items_so_far}
+use Rattle.influxdb_line_protocol.proofs.lemmas.laws.items_are_answers.GivenItems.{items_are_of_pieces, items_are_answers, items_so_far}
 use Rattle.influxdb_line_protocol.proofs.laws.items_are_answers.Goals as goal
 
 pub returns-clause-pieces : goal.returns-clause-pieces

@@ -1,8 +1,8 @@
-use Rattle.influxdb_line_protocol.proofs.TrimMeaning.{trimmed_is_behind, trimmed_is_longest}
+use Rattle.influxdb_line_protocol.proofs.lemmas.laws.meanings.TrimMeaning.{trimmed_is_after, trimmed_is_longest}
 use Rattle.influxdb_line_protocol.proofs.laws.longest_blank_front_is_trimmed.Goals as goal
 
 pub returns-clause-blanks : goal.returns-clause-blanks
-returns-clause-blanks c = trimmed_is_behind
+returns-clause-blanks c = trimmed_is_after
 
 pub returns-clause-longest : goal.returns-clause-longest
 returns-clause-longest c = trimmed_is_longest

@@ -1,5 +1,5 @@
-use Rattle.influxdb_line_protocol.proofs.ParsedNames.{names_are_parsed, strict_fields_end}
-use Rattle.influxdb_line_protocol.proofs.NamesInLines.{parsed_names_stand_in_lines}
+use Rattle.influxdb_line_protocol.proofs.lemmas.laws.parsed_names.ParsedNames.{names_are_parsed, strict_fields_end}
+use Rattle.influxdb_line_protocol.proofs.lemmas.laws.parsed_names.NamesInLines.{parsed_names_stand_in_lines}
 use Rattle.influxdb_line_protocol.proofs.laws.parsed_names.Goals as goal
 
 pub returns-clause-all : goal.returns-clause-all

@@ -2,13 +2,17 @@ use Rattle.std.proofs.Common.{◌≡◌, ◌≢◌, refl, false, [], rules, leng
 use Rattle.std.proofs.lemmas.Grind.{common_steps}
 use Rattle.std.proofs.lemmas.List.{drop_all}
 use Rattle.std.proofs.lemmas.Str.{IsCharBoundary-start, IsCharBoundary-after_ascii}
-use Rattle.influxdb_line_protocol.specs.Trimming.{trimmed}
-use Rattle.influxdb_line_protocol.proofs.TrimLemmas.{left_of, left_newline, left_hash, left_blank, left_inside, left_kept, left_end, trimmed_is}
+use Rattle.influxdb_line_protocol.specs.format.Trimming.{trimmed}
+use Rattle.influxdb_line_protocol.proofs.lemmas.line.TrimLemmas.{left_of, left_newline, left_hash, left_blank, left_inside}
+use Rattle.influxdb_line_protocol.proofs.lemmas.line.TrimLemmas.{left_kept, left_end, trimmed_is}
 use Rattle.influxdb_line_protocol.proofs.line.trimmed.Goals as goal
 use Rattle.influxdb_line_protocol.proofs.line.trimmed.Goals.{in-10, in-35, in-32-1, in-9-1, in_default}
 
 pub loop-place-init : goal.loop-place-init
-loop-place-init c = record { left = search rules; boundary = λ e. IsCharBoundary-start c.as_bytes-bytes.result.now c.as_bytes-bytes.ensures.utf8 }
+loop-place-init c = record {
+  left = search rules;
+  boundary = λ e. IsCharBoundary-start c.as_bytes-bytes.result.now c.as_bytes-bytes.ensures.utf8;
+}
 
 pub loop-place-preserved : goal.loop-place-preserved
 loop-place-preserved c =
@@ -49,5 +53,6 @@ pub returns : goal.returns
 returns c =
     let bytes = c.as_bytes-bytes.result.now in
     let same = c.as_bytes-bytes.ensures.value in
-    let none : trimmed bytes ≡ [] = trimmed_is bytes ∙ c.loop-place.invariant.left ∙ left_end c.loop-place.in_comment bytes c.loop-place.place (omega arith) in
+    let none : trimmed bytes ≡ [] = trimmed_is bytes ∙ c.loop-place.invariant.left
+    ∙ left_end c.loop-place.in_comment bytes c.loop-place.place (omega arith) in
     c.range_from-2.ensures.value ∙ drop_all (length c.args.text.now) c.args.text.now (omega arith) ∙ sym (rw same at none)

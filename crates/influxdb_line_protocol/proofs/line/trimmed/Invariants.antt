@@ -1,6 +1,6 @@
 use Rattle.std.proofs.Common.{◌≡◌, drop, false}
 use Rattle.std.specs.Prelude.{IsCharBoundary}
-use Rattle.influxdb_line_protocol.proofs.TrimLemmas.{left_of}
+use Rattle.influxdb_line_protocol.proofs.lemmas.line.TrimLemmas.{left_of}
 use Rattle.influxdb_line_protocol.proofs.line.trimmed.Given as goal
 
 abbrev pub invariant-loop-place : goal.invariant-loop-place

@@ -1,18 +1,18 @@
 use Rattle.std.proofs.Common.{◌≡◌, ◌≤◌, ◌+◌, length, arith, rules}
 use Rattle.std.proofs.lemmas.Grind.{common_steps}
 use Rattle.std.proofs.lemmas.Str.{IsCharBoundary-start}
-use Rattle.influxdb_line_protocol.specs.Values.{float_len}
-use Rattle.influxdb_line_protocol.proofs.FloatLemmas.{float_boundary, integer_len_fits}
+use Rattle.influxdb_line_protocol.specs.format.Values.{float_len}
+use Rattle.influxdb_line_protocol.proofs.lemmas.literals.FloatLemmas.{float_boundary, integer_len_fits}
 use Rattle.influxdb_line_protocol.proofs.literals.float_len.Goals as goal
 
 pub returns-then-whole-eq0-clause-boundary : goal.returns-then-whole-eq0-clause-boundary
 returns-then-whole-eq0-clause-boundary c = IsCharBoundary-start c.args.text.now c.utf8.text
 
-pub slice_bounds-behind-count : goal.slice_bounds-behind-count
-slice_bounds-behind-count c = omega (arith, integer_len_fits c.args.text.now)
+pub slice_bounds-after-count : goal.slice_bounds-after-count
+slice_bounds-after-count c = omega (arith, integer_len_fits c.args.text.now)
 
-pub slice_bounds-behind-start : goal.slice_bounds-behind-start
-slice_bounds-behind-start c =
+pub slice_bounds-after-start : goal.slice_bounds-after-start
+slice_bounds-after-start c =
     let fits : c.args.whole ≤ length c.as_bytes.result.now = omega (arith, integer_len_fits c.args.text.now) in
     search rules
 

@@ -1,5 +1,5 @@
 use Rattle.std.proofs.lemmas.List.{take_rest}
-use Rattle.influxdb_line_protocol.proofs.ValueLemmas.{digits_end, negative_end}
+use Rattle.influxdb_line_protocol.proofs.lemmas.values.ValueLemmas.{digits_end, negative_end}
 use Rattle.influxdb_line_protocol.proofs.literals.integer_len.Goals as goal
 
 pub returns-in-45-clause-boundary : goal.returns-in-45-clause-boundary

@@ -1,23 +1,28 @@
 use Rattle.std.proofs.Common.{◌≡◌, arith}
 use Rattle.std.proofs.lemmas.Grind.{common_steps}
-use Rattle.influxdb_line_protocol.specs.Outcomes.{kind_of}
-use Rattle.influxdb_line_protocol.specs.Names.{spelled}
-use Rattle.influxdb_line_protocol.proofs.NameLemmas.{name_misses, name_fatal, name_reads}
+use Rattle.influxdb_line_protocol.specs.code.Outcomes.{kind_of}
+use Rattle.influxdb_line_protocol.specs.format.Names.{spelled}
+use Rattle.influxdb_line_protocol.proofs.lemmas.names.NameLemmas.{name_misses, name_fatal, name_reads}
 use Rattle.influxdb_line_protocol.proofs.names.spelled.Goals as goal
 
 pub returns-then-is_empty-clause-value : goal.returns-then-is_empty-clause-value
 returns-then-is_empty-clause-value c =
-    let front : c.front.result.0.text.now ≡ spelled (kind_of c.args.kind) c.args.text.now = rw (← c.form.ensures.stops) c.front.ensures.text in
+    let front : c.front.result.0.text.now ≡ spelled (kind_of c.args.kind)
+    c.args.text.now = rw (← c.form.ensures.stops) c.front.ensures.text in
     name_misses (kind_of c.args.kind) c.args.text.now (rw (← front) (grind (arith, common_steps)))
 
 pub returns-then-ends_in_backslash-clause-value : goal.returns-then-ends_in_backslash-clause-value
 returns-then-ends_in_backslash-clause-value c =
-    let front : c.front.result.0.text.now ≡ spelled (kind_of c.args.kind) c.args.text.now = rw (← c.form.ensures.stops) c.front.ensures.text in
-    name_fatal (kind_of c.args.kind) c.args.text.now (rw (← front) (grind (arith, common_steps))) (rw (← front) (grind (arith, common_steps)))
+    let front : c.front.result.0.text.now ≡ spelled (kind_of c.args.kind)
+    c.args.text.now = rw (← c.form.ensures.stops) c.front.ensures.text in
+    name_fatal (kind_of c.args.kind) c.args.text.now (rw (← front) (grind (arith, common_steps)))
+    (rw (← front) (grind (arith, common_steps)))
 
 pub returns-clause-value : goal.returns-clause-value
 returns-clause-value c =
-    let front : c.front.result.0.text.now ≡ spelled (kind_of c.args.kind) c.args.text.now = rw (← c.form.ensures.stops) c.front.ensures.text in
+    let front : c.front.result.0.text.now ≡ spelled (kind_of c.args.kind)
+    c.args.text.now = rw (← c.form.ensures.stops) c.front.ensures.text in
     let rest = rw c.form.ensures.stops at c.front.ensures.rest in
-    let read = name_reads (kind_of c.args.kind) c.args.text.now (rw (← front) (grind (arith, common_steps))) (rw (← front) (grind (arith, common_steps))) in
+    let read = name_reads (kind_of c.args.kind) c.args.text.now (rw (← front) (grind (arith, common_steps)))
+    (rw (← front) (grind (arith, common_steps))) in
     rw (c.front.ensures.form, c.form.ensures.known, front, rest) read

@@ -1,5 +1,5 @@
 use Rattle.std.proofs.Common.{refl}
-use Rattle.influxdb_line_protocol.proofs.BareMasks.{tells_bare}
+use Rattle.influxdb_line_protocol.proofs.lemmas.scan.BareMasks.{tells_bare}
 use Rattle.influxdb_line_protocol.proofs.scan.bare.Goals as goal
 
 pub returns : goal.returns

@@ -1,5 +1,5 @@
 use Rattle.std.proofs.Common.{refl}
-use Rattle.influxdb_line_protocol.proofs.EscapedMasks.{tells_escaped}
+use Rattle.influxdb_line_protocol.proofs.lemmas.scan.EscapedMasks.{tells_escaped}
 use Rattle.influxdb_line_protocol.proofs.scan.escaped.Goals as goal
 
 pub returns-then-backslashes-eq0 : goal.returns-then-backslashes-eq0

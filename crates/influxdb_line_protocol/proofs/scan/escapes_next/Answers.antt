@@ -1,7 +1,7 @@
 use Rattle.std.proofs.Common.{◌∙◌, ap, ◌/◌, ◌^◌, ℕ}
 use Rattle.std.specs.Prelude.{◌==◌}
-use Rattle.influxdb_line_protocol.specs.Escapes.{is_bare_at}
-use Rattle.influxdb_line_protocol.proofs.BareMasks.{highest}
+use Rattle.influxdb_line_protocol.specs.format.Escapes.{is_bare_at}
+use Rattle.influxdb_line_protocol.proofs.lemmas.scan.BareMasks.{highest}
 use Rattle.influxdb_line_protocol.proofs.scan.escapes_next.Goals as goal
 
 pub returns : goal.returns

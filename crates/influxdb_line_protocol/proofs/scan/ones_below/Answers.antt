@@ -1,5 +1,5 @@
 use Rattle.std.proofs.Common.{◌≡◌, ◌%◌, ◌^◌, count_ones, ap, ◌∙◌, arith}
-use Rattle.influxdb_line_protocol.proofs.MaskBits.{below_is}
+use Rattle.influxdb_line_protocol.proofs.lemmas.scan.MaskBits.{below_is}
 use Rattle.influxdb_line_protocol.proofs.scan.ones_below.Goals as goal
 use Rattle.influxdb_line_protocol.proofs.scan.ones_below.Goals.{then-n-lt-WIDE, else-n-lt-WIDE}
 

@@ -6,4 +6,5 @@ use Rattle.influxdb_line_protocol.proofs.scan.places_of.Goals as goal
 
 pub returns : goal.returns
 returns c =
-    bitmask_splat w8 eqb (chunk c.args.at 64 c.args.text.now) 64 c.args.byte (length-chunk c.args.at 64 c.args.text.now c.requires) (omega arith)
+    bitmask_splat w8 eqb (chunk c.args.at 64 c.args.text.now) 64 c.args.byte
+    (length-chunk c.args.at 64 c.args.text.now c.requires) (omega arith)

@@ -1,6 +1,6 @@
 use Rattle.std.proofs.Common.{◌≡◌, ◌^◌, ◌-◌, length, min, take, map}
-use Rattle.influxdb_line_protocol.specs.Bases.{base_text, in_order}
-use Rattle.influxdb_line_protocol.specs.Parsed.{tag_of}
+use Rattle.influxdb_line_protocol.specs.code.Bases.{base_text, in_order}
+use Rattle.influxdb_line_protocol.specs.code.Parsed.{tag_of}
 use Rattle.influxdb_line_protocol.proofs.series.base_len.Given as goal
 
 abbrev pub invariant-loop-key : goal.invariant-loop-key

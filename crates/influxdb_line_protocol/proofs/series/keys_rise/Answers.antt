@@ -1,5 +1,5 @@
 use Rattle.std.proofs.Common.{◌≡◌, ◌+◌, ◌-◌, suc, arith, sym, ◌∙◌}
-use Rattle.influxdb_line_protocol.proofs.BaseLemmas.{rise_at, rise_end}
+use Rattle.influxdb_line_protocol.proofs.lemmas.series.BaseLemmas.{rise_at, rise_end}
 use Rattle.influxdb_line_protocol.proofs.series.keys_rise.Goals as goal
 
 pub returns-then-ge : goal.returns-then-ge

@@ -2,9 +2,9 @@ use Rattle.std.proofs.Common.{◌≡◌, ◌-◌, ◌<◌, true, false, [], ◌�
 use Rattle.std.proofs.lemmas.Grind.{common_steps}
 use Rattle.std.proofs.lemmas.Str.{IsCharBoundary-start, IsCharBoundary-before_ascii}
 use Rattle.std.proofs.Output.{has_written_append, has_written_of_eq}
-use Rattle.influxdb_line_protocol.specs.Bytes.{is_one_of}
-use Rattle.influxdb_line_protocol.specs.Shown.{shown_escapes}
-use Rattle.influxdb_line_protocol.proofs.ShownLemmas.{escaped_nil, keep_byte, escape_byte, shown_ascii}
+use Rattle.influxdb_line_protocol.specs.format.Bytes.{is_one_of}
+use Rattle.influxdb_line_protocol.specs.code.Shown.{shown_escapes}
+use Rattle.influxdb_line_protocol.proofs.lemmas.series.ShownLemmas.{escaped_nil, keep_byte, escape_byte, shown_ascii}
 use Rattle.influxdb_line_protocol.proofs.series.show_escaped.Goals as goal
 use Rattle.influxdb_line_protocol.proofs.series.show_escaped.Goals.{then-escapes+in_ok-write_str+in_ok-write_str-2, else-escapes}
 
@@ -31,7 +31,8 @@ loop-at-preserved g c =
                 let so_far = wrote plain in
                 let one = w.write_str.ensures.writes so_far.plain (search rules) in
                 let two = w.write_str-then-escapes.ensures.writes one.plain (search rules) in
-                has_written_of_eq _ _ _ _ _ (grind (arith, common_steps, append_assoc)) (has_written_append _ _ _ _ _ _ (has_written_append _ _ _ _ _ _ so_far one) two),
+                has_written_of_eq _ _ _ _ _ (grind (arith, common_steps, append_assoc))
+                (has_written_append _ _ _ _ _ _ (has_written_append _ _ _ _ _ _ so_far one) two),
           )
       | else-escapes w ↦
           let plain : is_one_of bytes (get_or text l.at 0) ≡ false = grind (arith, common_steps) in

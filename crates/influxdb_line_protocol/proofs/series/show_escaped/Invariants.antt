@@ -1,8 +1,8 @@
 use Rattle.std.proofs.Common.{◌≡◌, ◌-◌, ◌≤◌, List, ℕ, ◌++◌, take, drop}
 use Rattle.std.specs.Fmt.{HasWritten, IsPlainFormatter}
 use Rattle.std.specs.Str.{IsCharBoundary}
-use Rattle.influxdb_line_protocol.specs.Escapes.{escaped}
-use Rattle.influxdb_line_protocol.specs.Shown.{shown_escapes}
+use Rattle.influxdb_line_protocol.specs.format.Escapes.{escaped}
+use Rattle.influxdb_line_protocol.specs.code.Shown.{shown_escapes}
 use Rattle.influxdb_line_protocol.proofs.series.show_escaped.Given as goal
 
 -- what is written, and the run that is not yet written, are the bytes so far with their backslashes

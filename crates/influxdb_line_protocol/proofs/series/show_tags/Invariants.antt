@@ -1,9 +1,9 @@
 use Rattle.std.proofs.Common.{◌∷◌, [], take, map}
 use Rattle.std.specs.Fmt.{HasWritten, IsPlainFormatter}
 use Rattle.std.specs.List.{join_by}
-use Rattle.influxdb_line_protocol.specs.Bytes.{comma}
-use Rattle.influxdb_line_protocol.specs.Parsed.{tag_of}
-use Rattle.influxdb_line_protocol.specs.Shown.{shown_tag}
+use Rattle.influxdb_line_protocol.specs.format.Bytes.{comma}
+use Rattle.influxdb_line_protocol.specs.code.Parsed.{tag_of}
+use Rattle.influxdb_line_protocol.specs.code.Shown.{shown_tag}
 use Rattle.influxdb_line_protocol.proofs.series.show_tags.Given as goal
 
 abbrev pub invariant-loop-place : goal.invariant-loop-place

@@ -1,4 +1,4 @@
-use Rattle.influxdb_line_protocol.proofs.SplitCounts.{counted_start}
+use Rattle.influxdb_line_protocol.proofs.lemmas.split.SplitCounts.{counted_start}
 use Rattle.influxdb_line_protocol.proofs.split.count_bare.Goals as goal
 
 pub loop-counts-init : goal.loop-counts-init

@@ -1,5 +1,5 @@
 use Rattle.std.proofs.Common.{◌-◌}
-use Rattle.influxdb_line_protocol.specs.Counts.{IsCounted}
+use Rattle.influxdb_line_protocol.specs.code.Counts.{IsCounted}
 use Rattle.influxdb_line_protocol.proofs.split.count_bare.Given as goal
 
 -- what was loaded is counted

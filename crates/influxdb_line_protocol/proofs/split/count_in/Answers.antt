@@ -1,6 +1,6 @@
 use Rattle.std.proofs.Common.{arith}
 use Rattle.std.specs.Prelude.{◌==◌}
-use Rattle.influxdb_line_protocol.proofs.SplitCounts.{counted_load}
+use Rattle.influxdb_line_protocol.proofs.lemmas.split.SplitCounts.{counted_load}
 use Rattle.influxdb_line_protocol.proofs.split.count_in.Goals as goal
 
 pub returns : goal.returns

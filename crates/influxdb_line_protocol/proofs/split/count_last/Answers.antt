@@ -1,7 +1,7 @@
 use Rattle.std.proofs.Common.{◌<◌, Bool, not, ◌&&◌, length, slice_index, sym, ap, ◌∙◌, arith}
 use Rattle.std.specs.Prelude.{◌==◌}
-use Rattle.influxdb_line_protocol.proofs.EscapeLemmas.{is_escaped_more}
-use Rattle.influxdb_line_protocol.proofs.SplitCounts.{count_byte, one_at_most}
+use Rattle.influxdb_line_protocol.proofs.lemmas.forms.EscapeLemmas.{is_escaped_more}
+use Rattle.influxdb_line_protocol.proofs.lemmas.split.SplitCounts.{count_byte, one_at_most}
 use Rattle.influxdb_line_protocol.proofs.split.count_last.Goals as goal
 
 pub loop-at-init : goal.loop-at-init
@@ -23,7 +23,9 @@ loop-at-preserved c =
     let flag = inv.flag (omega arith) in
     record {
       flag = λ more. ap (λ (e : Bool). not e && (slice_index text at == 92)) flag ∙ sym (is_escaped_more text at within);
-      equals_are = count_byte (λ b. b == 61) text at c.loop-at.equals c.from-equals.result c.loop-at.escaped within flag inv.equals_are c.from-equals.ensures;
-      commas_are = count_byte (λ b. b == 44) text at c.loop-at.commas c.from-commas.result c.loop-at.escaped within flag inv.commas_are c.from-commas.ensures;
+      equals_are = count_byte (λ b. b == 61) text at c.loop-at.equals c.from-equals.result c.loop-at.escaped within
+          flag inv.equals_are c.from-equals.ensures;
+      commas_are = count_byte (λ b. b == 44) text at c.loop-at.commas c.from-commas.result c.loop-at.escaped within
+          flag inv.commas_are c.from-commas.ensures;
       few = (omega (arith, one_at_most _ _ c.from-equals.ensures), omega (arith, one_at_most _ _ c.from-commas.ensures));
     }

@@ -1,5 +1,5 @@
 use Rattle.std.proofs.Common.{◌≤◌, ◌-◌, length}
-use Rattle.influxdb_line_protocol.proofs.SplitStretches.{IsPlainTo}
+use Rattle.influxdb_line_protocol.proofs.lemmas.split.SplitStretches.{IsPlainTo}
 use Rattle.influxdb_line_protocol.proofs.split.cut_by_stretches.Given as goal
 
 abbrev pub invariant-loop-more_equals : goal.invariant-loop-more_equals

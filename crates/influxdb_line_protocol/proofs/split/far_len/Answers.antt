@@ -1,7 +1,7 @@
 use Rattle.std.proofs.Common.{arith}
 use Rattle.std.proofs.lemmas.List.{take_rest}
-use Rattle.influxdb_line_protocol.specs.Stops.{is_stop, is_mark}
-use Rattle.influxdb_line_protocol.proofs.SplitJumps.{looks_for_two, passed_to_stop, search_stops, search_goes_on, search_ends}
+use Rattle.influxdb_line_protocol.specs.code.Stops.{is_stop, is_mark}
+use Rattle.influxdb_line_protocol.proofs.lemmas.split.SplitJumps.{looks_for_two, passed_to_stop, search_stops, search_goes_on, search_ends}
 use Rattle.influxdb_line_protocol.proofs.split.far_len.Goals as goal
 
 pub returns-then-run-lt-WIDE-clause-value : goal.returns-then-run-lt-WIDE-clause-value

@@ -1,6 +1,6 @@
 use Rattle.std.proofs.Common.{◌-◌, length}
-use Rattle.influxdb_line_protocol.specs.Escapes.{IsPassed}
-use Rattle.influxdb_line_protocol.specs.Stops.{is_stop}
+use Rattle.influxdb_line_protocol.specs.format.Escapes.{IsPassed}
+use Rattle.influxdb_line_protocol.specs.code.Stops.{is_stop}
 use Rattle.influxdb_line_protocol.proofs.split.far_len.Given as goal
 
 -- what was walked over holds no bare byte that ends a stretch

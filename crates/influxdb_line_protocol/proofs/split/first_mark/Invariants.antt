@@ -1,5 +1,5 @@
 use Rattle.std.proofs.Common.{◌-◌, ◌≤◌, length}
-use Rattle.influxdb_line_protocol.specs.Lanes.{AllPassBetween, is_quiet}
+use Rattle.influxdb_line_protocol.specs.code.Lanes.{AllPassBetween, is_quiet}
 use Rattle.influxdb_line_protocol.proofs.split.first_mark.Given as goal
 
 abbrev pub invariant-loop-at : goal.invariant-loop-at

@@ -1,5 +1,5 @@
 use Rattle.std.proofs.Common.{◌≡◌, drop}
-use Rattle.influxdb_line_protocol.specs.Pieces.{begins_comment}
+use Rattle.influxdb_line_protocol.specs.format.Pieces.{begins_comment}
 use Rattle.influxdb_line_protocol.proofs.split.is_comment.Given as goal
 
 abbrev pub invariant-loop-byte : goal.invariant-loop-byte

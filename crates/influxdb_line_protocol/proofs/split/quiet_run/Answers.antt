@@ -3,9 +3,9 @@ use Rattle.std.proofs.Common.{ℕ, ap, ◌∙◌, refl, arith}
 use Rattle.std.proofs.lemmas.Simd.{length-chunk}
 use Rattle.memchr.specs.Find.{is_byte3}
 use lib.Lanes.{chunk}
-use Rattle.influxdb_line_protocol.specs.Lanes.{first_set}
-use Rattle.influxdb_line_protocol.proofs.LaneLemmas.{lanes_of, lanes_or}
-use Rattle.influxdb_line_protocol.proofs.MaskLemmas.{mask_is, run_is}
+use Rattle.influxdb_line_protocol.specs.code.Lanes.{first_set}
+use Rattle.influxdb_line_protocol.proofs.lemmas.lanes.LaneLemmas.{lanes_of, lanes_or}
+use Rattle.influxdb_line_protocol.proofs.lemmas.lanes.MaskLemmas.{mask_is, run_is}
 use Rattle.influxdb_line_protocol.proofs.split.quiet_run.Goals as goal
 
 pub returns : goal.returns
@@ -15,4 +15,5 @@ returns c =
     let long = length-chunk c.args.at 64 text c.requires in
     let lanes = lanes_or _ _ v (lanes_of v 10 long) (lanes_or _ _ v (lanes_of v 34 long) (lanes_of v 92 long)) in
     let mask = mask_is (is_byte3 92 10 34) text c.args.at 64 c.requires (omega arith) _ _ lanes (λ k. (c.type_inv.text k).fits) refl in
-    run_is (is_byte3 92 10 34) text c.args.at 64 c.requires (omega arith) c.first_set.result (c.first_set.ensures ∙ ap (λ (m : ℕ). first_set m 64) mask)
+    run_is (is_byte3 92 10 34) text c.args.at 64 c.requires (omega arith) c.first_set.result
+    (c.first_set.ensures ∙ ap (λ (m : ℕ). first_set m 64) mask)

@@ -1,4 +1,4 @@
-use Rattle.influxdb_line_protocol.proofs.SplitMasks.{mask_of_stops}
+use Rattle.influxdb_line_protocol.proofs.lemmas.split.SplitMasks.{mask_of_stops}
 use Rattle.influxdb_line_protocol.proofs.split.stops_in.Goals as goal
 
 pub returns : goal.returns

@@ -1,6 +1,6 @@
 use Rattle.std.proofs.Common.{arith}
-use Rattle.influxdb_line_protocol.specs.Stops.{is_stop}
-use Rattle.influxdb_line_protocol.proofs.SplitJumps.{passed_start, passed_to_stop}
+use Rattle.influxdb_line_protocol.specs.code.Stops.{is_stop}
+use Rattle.influxdb_line_protocol.proofs.lemmas.split.SplitJumps.{passed_start, passed_to_stop}
 use Rattle.influxdb_line_protocol.proofs.split.stretch_len.Goals as goal
 
 pub loop-at-init : goal.loop-at-init

@@ -1,9 +1,9 @@
 use Rattle.std.proofs.Common.{◌≤◌, length, map}
 use denote.Text.{Utf8}
 use denote.Shadow.{shadow}
-use Rattle.influxdb_line_protocol.specs.Lines.{tag}
-use Rattle.influxdb_line_protocol.specs.Parsed.{tag_of}
-use Rattle.influxdb_line_protocol.proofs.ManyLemmas.{Reached}
+use Rattle.influxdb_line_protocol.specs.format.Lines.{tag}
+use Rattle.influxdb_line_protocol.specs.code.Parsed.{tag_of}
+use Rattle.influxdb_line_protocol.proofs.lemmas.fields.ManyLemmas.{Reached}
 use Rattle.influxdb_line_protocol.proofs.tags.tags.Given as goal
 
 abbrev pub invariant-loop-next : goal.invariant-loop-next

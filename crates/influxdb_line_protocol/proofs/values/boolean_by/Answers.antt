@@ -1,6 +1,6 @@
 use Rattle.std.proofs.Common.{◌≡◌, ◌<◌, length, arith}
 use Rattle.std.proofs.lemmas.Grind.{common_steps}
-use Rattle.influxdb_line_protocol.proofs.ValueLemmas.{boolean_misses, boolean_reads}
+use Rattle.influxdb_line_protocol.proofs.lemmas.values.ValueLemmas.{boolean_misses, boolean_reads}
 use Rattle.influxdb_line_protocol.proofs.values.boolean_by.Goals as goal
 
 pub returns-then-is_empty-clause-value : goal.returns-then-is_empty-clause-value

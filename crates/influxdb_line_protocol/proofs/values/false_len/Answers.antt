@@ -2,7 +2,7 @@ use Rattle.std.proofs.Common.{◌≡◌, ◌<◌, ℕ, List, [], ◌∷◌, leng
 use Rattle.std.specs.Prelude.{codes}
 use Rattle.std.proofs.lemmas.Grind.{common_steps}
 use Rattle.std.proofs.lemmas.Str.{IsCharBoundary-after_ascii, IsCharBoundary-start}
-use Rattle.influxdb_line_protocol.specs.Bytes.{is_one_of}
+use Rattle.influxdb_line_protocol.specs.format.Bytes.{is_one_of}
 use Rattle.influxdb_line_protocol.proofs.values.false_len.Goals as goal
 
 -- one of these letters is no byte of a longer character

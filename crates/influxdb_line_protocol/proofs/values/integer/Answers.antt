@@ -3,9 +3,9 @@ use Rattle.std.specs.Prelude.{codes}
 use Rattle.std.specs.Int.{w64}
 use Rattle.std.proofs.lemmas.Int.{to_z-of_z}
 use Rattle.std.specs.Str.Parse.{signed_digits_value}
-use Rattle.influxdb_line_protocol.specs.Values.{integer_len}
-use Rattle.influxdb_line_protocol.proofs.FloatLemmas.{signed_front, integer_boundary}
-use Rattle.influxdb_line_protocol.proofs.ValueLemmas.{fits_from_test, integer_overflows, integer_reads, letter_boundary}
+use Rattle.influxdb_line_protocol.specs.format.Values.{integer_len}
+use Rattle.influxdb_line_protocol.proofs.lemmas.literals.FloatLemmas.{signed_front, integer_boundary}
+use Rattle.influxdb_line_protocol.proofs.lemmas.values.ValueLemmas.{fits_from_test, integer_overflows, integer_reads, letter_boundary}
 use Rattle.influxdb_line_protocol.proofs.values.integer.Goals as goal
 
 pub split_at-requires : goal.split_at-requires

@@ -1,27 +1,27 @@
 use Rattle.std.proofs.Common.{◌≡◌, take, false, sym, ◌∙◌, inl, inr}
 use Rattle.std.proofs.lemmas.Bool.{cases_Bool}
-use Rattle.influxdb_line_protocol.specs.Names.{is_shared}
-use Rattle.influxdb_line_protocol.specs.Values.{quotable, body_len}
-use Rattle.influxdb_line_protocol.proofs.ReadingLemmas.{byte_parts}
-use Rattle.influxdb_line_protocol.proofs.StringLemmas.{byte_missing, string_misses, string_open, string_reads}
+use Rattle.influxdb_line_protocol.specs.format.Names.{is_shared}
+use Rattle.influxdb_line_protocol.specs.format.Values.{quotable, body_len}
+use Rattle.influxdb_line_protocol.proofs.lemmas.fields.ReadingLemmas.{byte_parts}
+use Rattle.influxdb_line_protocol.proofs.lemmas.values.StringLemmas.{byte_missing, string_misses, string_open, string_reads}
 use Rattle.influxdb_line_protocol.proofs.values.string.Goals as goal
 
 pub returns-in_default-clause-value : goal.returns-in_default-clause-value
 returns-in_default-clause-value c = string_misses c.args.text.now (byte_missing 34 c.args.text.now c.in_default.ensures.value)
 
-pub returns-in_default-behind-clause-value : goal.returns-in_default-behind-clause-value
-returns-in_default-behind-clause-value c =
+pub returns-in_default-strip_byte-clause-value : goal.returns-in_default-strip_byte-clause-value
+returns-in_default-strip_byte-clause-value c =
     let inner = c.in-Some.opened.now in
     let opened = (byte_parts 34 c.args.text.now 34 inner c.in-Some.ensures.value).1 in
-    let unclosed = byte_missing 34 c.front.result.1.now c.in_default-behind.ensures.value in
+    let unclosed = byte_missing 34 c.front.result.1.now c.in_default-strip_byte.ensures.value in
     string_open c.args.text.now inner opened (λ rest e. unclosed rest (c.front.ensures.rest ∙ e))
 
 pub returns-in_err-spelled-clause-memory : goal.returns-in_err-spelled-clause-memory
 returns-in_err-spelled-clause-memory c = λ refused.
     let inner = c.in-Some.opened.now in
     let opened = (byte_parts 34 c.args.text.now 34 inner c.in-Some.ensures.value).1 in
-    let closed = (byte_parts 34 c.front.result.1.now 34 c.in-Some-behind.rest.now c.in-Some-behind.ensures.value).1 in
-    let read = string_reads c.args.text.now inner c.in-Some-behind.rest.now opened (sym c.front.ensures.rest ∙ closed) in
+    let closed = (byte_parts 34 c.front.result.1.now 34 c.in-Some-strip_byte.rest.now c.in-Some-strip_byte.ensures.value).1 in
+    let read = string_reads c.args.text.now inner c.in-Some-strip_byte.rest.now opened (sym c.front.ensures.rest ∙ closed) in
     let no_memory = rw (c.front.ensures.form, c.front.ensures.text) at c.in_err-spelled.ensures.no_memory in
     let copied : is_shared quotable (take (body_len inner) inner) ≡ false =
     elim (cases_Bool (is_shared quotable (take (body_len inner) inner))) [
@@ -34,6 +34,6 @@ pub returns-clause-value : goal.returns-clause-value
 returns-clause-value c =
     let inner = c.in-Some.opened.now in
     let opened = (byte_parts 34 c.args.text.now 34 inner c.in-Some.ensures.value).1 in
-    let closed = (byte_parts 34 c.front.result.1.now 34 c.in-Some-behind.rest.now c.in-Some-behind.ensures.value).1 in
-    let read = string_reads c.args.text.now inner c.in-Some-behind.rest.now opened (sym c.front.ensures.rest ∙ closed) in
+    let closed = (byte_parts 34 c.front.result.1.now 34 c.in-Some-strip_byte.rest.now c.in-Some-strip_byte.ensures.value).1 in
+    let read = string_reads c.args.text.now inner c.in-Some-strip_byte.rest.now opened (sym c.front.ensures.rest ∙ closed) in
     rw (c.in_ok-spelled.ensures.text, c.front.ensures.form, c.front.ensures.text) read

@@ -1,6 +1,7 @@
 use Rattle.std.proofs.Common.{◌<◌, arith, rules, refl, zero-add}
-use Rattle.influxdb_line_protocol.specs.Values.{digits_len}
-use Rattle.influxdb_line_protocol.proofs.ValueLemmas.{front_numeral, digits_boundary, letter_boundary, unsigned_overflows, unsigned_reads}
+use Rattle.influxdb_line_protocol.specs.format.Values.{digits_len}
+use Rattle.influxdb_line_protocol.proofs.lemmas.values.ValueLemmas.{front_numeral, digits_boundary, letter_boundary}
+use Rattle.influxdb_line_protocol.proofs.lemmas.values.ValueLemmas.{unsigned_overflows, unsigned_reads}
 use Rattle.influxdb_line_protocol.proofs.values.unsigned.Goals as goal
 
 pub split_at-requires : goal.split_at-requires

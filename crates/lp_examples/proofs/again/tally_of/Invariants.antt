@@ -1,4 +1,4 @@
-use Rattle.influxdb_line_protocol.specs.ParseSteps.{most_items}
+use Rattle.influxdb_line_protocol.specs.code.ParseSteps.{most_items}
 use Rattle.lp_examples.proofs.again.tally_of.Given as goal
 
 -- each answer leaves fewer items

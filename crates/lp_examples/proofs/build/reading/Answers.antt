@@ -1,6 +1,6 @@
 use Rattle.std.proofs.Common.{rules, codes, true}
-use Rattle.influxdb_line_protocol.specs.Built.{buffer_of}
-use Rattle.influxdb_line_protocol.specs.Values.{integer, boolean}
+use Rattle.influxdb_line_protocol.specs.code.Built.{buffer_of}
+use Rattle.influxdb_line_protocol.specs.format.Values.{integer, boolean}
 use Rattle.lp_examples.proofs.Readings.{calls_build_line}
 use Rattle.lp_examples.proofs.build.reading.Goals as goal
 

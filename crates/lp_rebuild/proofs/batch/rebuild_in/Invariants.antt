@@ -1,6 +1,6 @@
 use Rattle.std.proofs.Common.{List, ℕ, ◌≡◌, ◌+◌, ◌≤◌, length}
-use Rattle.influxdb_line_protocol.specs.Pieces.{PiecesLeft}
-use Rattle.influxdb_line_protocol.specs.ParseSteps.{most_items}
+use Rattle.influxdb_line_protocol.specs.format.Pieces.{PiecesLeft}
+use Rattle.influxdb_line_protocol.specs.code.ParseSteps.{most_items}
 use Rattle.lp_rebuild.proofs.RebuildLemmas.{SoFar}
 use Rattle.lp_rebuild.proofs.batch.rebuild_in.Given as goal
 

@@ -7,5 +7,10 @@ pub loop-rest-preserved : goal.loop-rest-preserved
 loop-rest-preserved g c =
     let h = c.loop-rest.invariant in
     let n = c.in_ok-n.n in
-    let rest = c.loop-rest.rest.now in
-    (h.0 + n, take_rest rest n ∙ rest_more c.args.bytes.now rest h.0 n h.1, write_more _ _ _ c.args.bytes.now rest h.0 n h.1 h.2 c.in_ok-n.ensures.bytes, c.in_ok-n.ensures.counts ∙ h.3)
+    let rest = c.loop-rest.rest.now in (
+      h.0 + n,
+      take_rest rest n
+          ∙ rest_more c.args.bytes.now rest h.0 n h.1,
+      write_more _ _ _ c.args.bytes.now rest h.0 n h.1 h.2 c.in_ok-n.ensures.bytes,
+      c.in_ok-n.ensures.counts ∙ h.3,
+    )

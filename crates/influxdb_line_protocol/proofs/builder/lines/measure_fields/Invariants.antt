@@ -1,7 +1,7 @@
 use Rattle.std.proofs.Common.{◌≡◌, ◌+◌, ◌<◌, ◌^◌, true, length, drop}
 use Rattle.std.specs.List.{AllByRecursion}
-use Rattle.influxdb_line_protocol.specs.Bytes.{space, comma}
-use Rattle.influxdb_line_protocol.specs.WrittenAgain.{IsPlainField, fields_text}
+use Rattle.influxdb_line_protocol.specs.format.Bytes.{space, comma}
+use Rattle.influxdb_line_protocol.specs.code.WrittenAgain.{IsPlainField, fields_text}
 use Rattle.influxdb_line_protocol.proofs.builder.lines.measure_fields.Given as goal
 
 -- what is counted and what is left to count make the whole; where all that is left is plain, all is

@@ -1,6 +1,6 @@
 use Rattle.std.proofs.Common.{◌≡◌, ◌+◌, ◌<◌, ◌^◌, true, length, drop}
 use Rattle.std.specs.List.{AllByRecursion, flat_map}
-use Rattle.influxdb_line_protocol.specs.WrittenAgain.{IsPlainTag, tag_text}
+use Rattle.influxdb_line_protocol.specs.code.WrittenAgain.{IsPlainTag, tag_text}
 use Rattle.influxdb_line_protocol.proofs.builder.lines.measure_tags.Given as goal
 
 -- what is counted and what is left to count make the whole; where all that is left is plain, all is

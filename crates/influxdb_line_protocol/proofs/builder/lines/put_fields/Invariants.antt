@@ -1,7 +1,7 @@
 use Rattle.std.proofs.Common.{◌≡◌, ◌+◌, ◌≤◌, ◌++◌, true, length, drop}
 use Rattle.std.specs.List.{AllByRecursion}
-use Rattle.influxdb_line_protocol.specs.Bytes.{space}
-use Rattle.influxdb_line_protocol.specs.WrittenAgain.{IsPlainField, fields_text}
+use Rattle.influxdb_line_protocol.specs.format.Bytes.{space}
+use Rattle.influxdb_line_protocol.specs.code.WrittenAgain.{IsPlainField, fields_text}
 use Rattle.influxdb_line_protocol.proofs.builder.lines.put_fields.Given as goal
 
 -- what is written and what is left to write make the whole, and there is room for the latter; the latter is plain where all is

@@ -1,6 +1,6 @@
 use Rattle.std.proofs.Common.{◌≡◌, ◌+◌, ◌≤◌, ◌++◌, true, length, drop}
 use Rattle.std.specs.List.{AllByRecursion, flat_map}
-use Rattle.influxdb_line_protocol.specs.WrittenAgain.{IsPlainTag, tag_text}
+use Rattle.influxdb_line_protocol.specs.code.WrittenAgain.{IsPlainTag, tag_text}
 use Rattle.influxdb_line_protocol.proofs.builder.lines.put_tags.Given as goal
 
 -- what is written and what is left to write make the whole, and there is room for the latter; the latter is plain where all is

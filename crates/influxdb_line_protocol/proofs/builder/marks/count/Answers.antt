@@ -3,10 +3,10 @@ use Rattle.std.specs.Prelude.{count_ones}
 use Rattle.std.proofs.lemmas.List.Sums.{count_by-le-length}
 use Rattle.std.proofs.lemmas.Simd.{length-chunk}
 use lib.Lanes.{chunk}
-use Rattle.influxdb_line_protocol.specs.Bytes.{is_one_of}
-use Rattle.influxdb_line_protocol.specs.Marks.{listed}
-use Rattle.influxdb_line_protocol.proofs.MaskLemmas.{ones}
-use Rattle.influxdb_line_protocol.proofs.MarkLemmas.{count_behind, count_last}
+use Rattle.influxdb_line_protocol.specs.format.Bytes.{is_one_of}
+use Rattle.influxdb_line_protocol.specs.code.Marks.{listed}
+use Rattle.influxdb_line_protocol.proofs.lemmas.lanes.MaskLemmas.{ones}
+use Rattle.influxdb_line_protocol.proofs.lemmas.builder.MarkLemmas.{count_after, count_last}
 use Rattle.influxdb_line_protocol.proofs.builder.marks.count.Goals as goal
 
 pub loop-at-preserved : goal.loop-at-preserved
@@ -18,7 +18,7 @@ loop-at-preserved c =
     record {
       within = omega arith;
       few = omega (arith, c.loop-at.invariant.few, counted, all, length-chunk c.loop-at.at 16 text (omega (arith, c.loop-at-test)));
-      counted = omega (arith, c.loop-at.invariant.counted, counted, count_behind q text c.loop-at.at 16);
+      counted = omega (arith, c.loop-at.invariant.counted, counted, count_after q text c.loop-at.at 16);
     }
 
 pub returns : goal.returns

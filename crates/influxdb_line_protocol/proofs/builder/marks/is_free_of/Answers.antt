@@ -1,6 +1,6 @@
-use Rattle.influxdb_line_protocol.specs.Bytes.{is_one_of}
-use Rattle.influxdb_line_protocol.specs.Marks.{listed}
-use Rattle.influxdb_line_protocol.proofs.MarkLemmas.{first_decides}
+use Rattle.influxdb_line_protocol.specs.format.Bytes.{is_one_of}
+use Rattle.influxdb_line_protocol.specs.code.Marks.{listed}
+use Rattle.influxdb_line_protocol.proofs.lemmas.builder.MarkLemmas.{first_decides}
 use Rattle.influxdb_line_protocol.proofs.builder.marks.is_free_of.Goals as goal
 
 pub returns : goal.returns

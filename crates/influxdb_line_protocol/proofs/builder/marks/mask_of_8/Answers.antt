@@ -1,5 +1,5 @@
 use Rattle.std.proofs.Common.{arith}
-use Rattle.influxdb_line_protocol.proofs.MarkLemmas.{mask_of_load}
+use Rattle.influxdb_line_protocol.proofs.lemmas.builder.MarkLemmas.{mask_of_load}
 use Rattle.influxdb_line_protocol.proofs.builder.marks.mask_of_8.Goals as goal
 
 pub returns : goal.returns

@@ -1,8 +1,8 @@
 use Rattle.std.proofs.Common.{ℕ, ap, ◌∙◌, arith}
-use Rattle.influxdb_line_protocol.specs.Bytes.{is_one_of}
-use Rattle.influxdb_line_protocol.specs.Lanes.{first_set}
-use Rattle.influxdb_line_protocol.specs.Marks.{listed}
-use Rattle.influxdb_line_protocol.proofs.MarkLemmas.{stand_before}
+use Rattle.influxdb_line_protocol.specs.format.Bytes.{is_one_of}
+use Rattle.influxdb_line_protocol.specs.code.Lanes.{first_set}
+use Rattle.influxdb_line_protocol.specs.code.Marks.{listed}
+use Rattle.influxdb_line_protocol.proofs.lemmas.builder.MarkLemmas.{stand_before}
 use Rattle.influxdb_line_protocol.proofs.builder.marks.run_of_4.Goals as goal
 
 pub returns : goal.returns

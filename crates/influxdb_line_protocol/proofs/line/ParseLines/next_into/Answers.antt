@@ -1,15 +1,15 @@
 use Rattle.std.proofs.Common.{rules, ◌≡◌, ◌≤◌, ℕ, List, arith, max, true, Err, Ok}
-use Rattle.influxdb_line_protocol.specs.Items.{line_answer}
-use Rattle.influxdb_line_protocol.specs.Light.{is_light, is_light_in}
-use Rattle.influxdb_line_protocol.specs.Lines.{answer}
-use Rattle.influxdb_line_protocol.specs.Lookups.{room_of}
-use Rattle.influxdb_line_protocol.specs.Filled.{FillsLine}
-use Rattle.influxdb_line_protocol.specs.Outcomes.{HasMemory}
-use Rattle.influxdb_line_protocol.specs.Parsed.{Answers}
-use Rattle.influxdb_line_protocol.specs.ParseSteps.{GaveLine}
-use Rattle.influxdb_line_protocol.specs.Pieces.{PiecesLeft}
-use Rattle.influxdb_line_protocol.proofs.GivenLines.{gave_in_room, gave_item, less_room, same_room, same_want}
-use Rattle.influxdb_line_protocol.proofs.LightLemmas.{more_room}
+use Rattle.influxdb_line_protocol.specs.format.Items.{line_answer}
+use Rattle.influxdb_line_protocol.specs.code.Light.{is_light, is_light_in}
+use Rattle.influxdb_line_protocol.specs.format.Lines.{answer}
+use Rattle.influxdb_line_protocol.specs.code.Lookups.{room_of}
+use Rattle.influxdb_line_protocol.specs.code.Filled.{FillsLine}
+use Rattle.influxdb_line_protocol.specs.code.Outcomes.{IsNotOutOfMemory}
+use Rattle.influxdb_line_protocol.specs.code.Parsed.{Answers}
+use Rattle.influxdb_line_protocol.specs.code.ParseSteps.{GaveLine}
+use Rattle.influxdb_line_protocol.specs.format.Pieces.{PiecesLeft}
+use Rattle.influxdb_line_protocol.proofs.lemmas.line.GivenLines.{gave_in_room, gave_item, less_room, same_room, same_want}
+use Rattle.influxdb_line_protocol.proofs.lemmas.line.LightLemmas.{more_room}
 use Rattle.influxdb_line_protocol.proofs.line.ParseLines.next_into.Goals as goal
 use Rattle.influxdb_line_protocol.proofs.line.ParseLines.next_into.Goals.{in-Ok, in-Err}
 
@@ -17,46 +17,65 @@ pub returns-clause-gives : goal.returns-clause-gives
 returns-clause-gives c =
     let before = c.args.self.now in
     let text = c.in_ok-text.text.now in
-    let given : (c.self.inside.lines.dialect ≡ before.dialect) × ((others : List (List ℕ)) → PiecesLeft c.self.inside.lines others → GaveLine before text others) =
+    let given : (c.self.inside.lines.dialect ≡ before.dialect)
+    × ((others : List (List ℕ)) → PiecesLeft c.self.inside.lines others → GaveLine before text others) =
     rw c.self.view_is c.in_ok-text.ensures.gives in
     let sets = c.clear_sets.new.parsed in
     let filled : FillsLine c.fill.new.parsed c.fill.result (answer before.dialect text) = search rules in
-    let wants : is_light_in (room_of sets.series.tag_set) sets.field_set.capacity before.dialect text ≡ true → HasMemory c.fill.result = search rules in
-    let light : is_light before.dialect text ≡ true → HasMemory c.fill.result = λ small. wants
-    (more_room before.dialect text 8 4 (room_of sets.series.tag_set) sets.field_set.capacity (omega (arith, c.clear_sets.ensures.tag_room)) (omega (arith, c.clear_sets.ensures.field_room)) small) in
+    let wants : is_light_in (room_of sets.series.tag_set) sets.field_set.capacity before.dialect text ≡ true
+    → IsNotOutOfMemory c.fill.result = search rules in
+    let light : is_light before.dialect text ≡ true → IsNotOutOfMemory c.fill.result = λ small. wants
+    (more_room before.dialect text 8 4 (room_of sets.series.tag_set) sets.field_set.capacity
+    (omega (arith, c.clear_sets.ensures.tag_room)) (omega (arith, c.clear_sets.ensures.field_room)) small) in
     elim c.match-fill.branch [
       | in-Ok w ↦
           let answers : Answers (Ok c.match-fill.line) (line_answer before.dialect text) = rw w.line-is (rw w.in-Ok.is at filled) in
-          rw w.result-is
-          (given.0, λ others left. gave_item before text (Ok c.match-fill.line) others (given.1 others left) c.in_ok-text.ensures.fits answers (λ small wanted. cc))
+          rw w.result-is (
+            given.0,
+            λ others left. gave_item before text (Ok c.match-fill.line) others (given.1 others left)
+                c.in_ok-text.ensures.fits answers (λ small wanted. cc),
+          )
       | in-Err w ↦
           let answers : Answers (Err w.in-Err.fault) (line_answer before.dialect text) = rw w.in-Err.is at filled in
-          let has : is_light before.dialect text ≡ true → HasMemory (Err w.in-Err.fault) = λ small. same_want w.in-Err.fault (rw w.in-Err.is at (light small)) in
-          rw w.result-is
-          (given.0, λ others left. gave_item before text (Err w.in-Err.fault) others (given.1 others left) c.in_ok-text.ensures.fits answers has)
+          let has : is_light before.dialect text ≡ true
+          → IsNotOutOfMemory (Err w.in-Err.fault) = λ small. same_want w.in-Err.fault (rw w.in-Err.is at (light small)) in
+          rw w.result-is (
+            given.0,
+            λ others left. gave_item before text (Err w.in-Err.fault) others (given.1 others left)
+                c.in_ok-text.ensures.fits answers has,
+          )
     ]
 
 pub returns-clause-tag_room : goal.returns-clause-tag_room
 returns-clause-tag_room c =
     let room = room_of c.args.line.now.series.tag_set in
     let ready = room_of c.clear_sets.new.parsed.series.tag_set in
-    let filled = less_room room ready c.fill.new.parsed.series.tag_set (omega (arith, c.clear_sets.ensures.tag_room)) c.fill.ensures.tag_room in
+    let filled = less_room room ready c.fill.new.parsed.series.tag_set
+    (omega (arith, c.clear_sets.ensures.tag_room)) c.fill.ensures.tag_room in
     elim c.match-fill.branch [
       | in-Ok w ↦ rw w.line-is filled
-      | in-Err w ↦ rw w.line-is (same_room room c.fill.new.parsed.series.tag_set w.empty.new.parsed.series.tag_set w.empty.ensures.tag_room filled)
+      | in-Err w ↦ rw w.line-is
+          (same_room room c.fill.new.parsed.series.tag_set w.empty.new.parsed.series.tag_set w.empty.ensures.tag_room filled)
     ]
 
 pub returns-clause-memory : goal.returns-clause-memory
 returns-clause-memory c =
     let before = c.args.self.now in
     let text = c.in_ok-text.text.now in
-    let given : (c.self.inside.lines.dialect ≡ before.dialect) × ((others : List (List ℕ)) → PiecesLeft c.self.inside.lines others → GaveLine before text others) =
+    let given : (c.self.inside.lines.dialect ≡ before.dialect)
+    × ((others : List (List ℕ)) → PiecesLeft c.self.inside.lines others → GaveLine before text others) =
     rw c.self.view_is c.in_ok-text.ensures.gives in
     let sets = c.clear_sets.new.parsed in
-    let wants : is_light_in (room_of sets.series.tag_set) sets.field_set.capacity before.dialect text ≡ true → HasMemory c.fill.result = search rules in
-    let more : (max 8 (room_of c.args.line.now.series.tag_set) ≤ room_of sets.series.tag_set) × (max 4 c.args.line.now.field_set.capacity ≤ sets.field_set.capacity) =
+    let wants : is_light_in (room_of sets.series.tag_set) sets.field_set.capacity before.dialect text ≡ true
+    → IsNotOutOfMemory c.fill.result = search rules in
+    let more : (max 8 (room_of c.args.line.now.series.tag_set) ≤ room_of sets.series.tag_set)
+    × (max 4 c.args.line.now.field_set.capacity ≤ sets.field_set.capacity) =
     (c.clear_sets.ensures.tag_room, omega (arith, c.clear_sets.ensures.field_room)) in
     elim c.match-fill.branch [
-      | in-Ok w ↦ rw w.result-is (λ others left. gave_in_room _ _ _ _ before text (Ok tt) others more.0 more.1 (given.1 others left) (rw w.in-Ok.is at wants))
-      | in-Err w ↦ rw w.result-is (λ others left. gave_in_room _ _ _ _ before text (Err w.in-Err.fault) others more.0 more.1 (given.1 others left) (rw w.in-Err.is at wants))
+      | in-Ok w ↦ rw w.result-is
+          (λ others left. gave_in_room _ _ _ _ before text (Ok tt) others more.0 more.1 (given.1 others left)
+          (rw w.in-Ok.is at wants))
+      | in-Err w ↦ rw w.result-is
+          (λ others left. gave_in_room _ _ _ _ before text (Err w.in-Err.fault) others more.0 more.1
+          (given.1 others left) (rw w.in-Err.is at wants))
     ]

@@ -1,7 +1,7 @@
 use Rattle.std.proofs.Common.{◌≡◌, ◌<◌, length, sym, ◌∙◌, ap, arith}
 use Rattle.std.proofs.lemmas.Bool.{eqb-true}
 use Rattle.std.proofs.lemmas.Bool.Decides.{nat_tests}
-use Rattle.influxdb_line_protocol.proofs.ParseStepsLemmas.{Skipped-more, items_less}
+use Rattle.influxdb_line_protocol.proofs.lemmas.line.ParseStepsLemmas.{Skipped-more, items_less}
 use Rattle.influxdb_line_protocol.proofs.line.ParseLines.next_line.Goals as goal
 
 pub returns-then-not-is_empty-clause-gives : goal.returns-then-not-is_empty-clause-gives
@@ -9,7 +9,14 @@ returns-then-not-is_empty-clause-gives c =
     let some : 0 < length c.trimmed-line.result.now = grind (arith, nat_tests) in (
       c.in-Some.ensures.steps.0 ∙ c.loop-piece.invariant.dialect,
       λ others h. let s = c.loop-piece.invariant.skipped _ (c.in-Some.ensures.steps.1 others h) in
-          record { skipped = s.skipped; piece = c.in-Some.piece.now; left = s.left; blank = s.blank; some = some; line_is = c.trimmed-line.ensures },
+          record {
+            skipped = s.skipped;
+            piece = c.in-Some.piece.now;
+            left = s.left;
+            blank = s.blank;
+            some = some;
+            line_is = c.trimmed-line.ensures;
+          },
     )
 
 pub returns-then-not-is_empty-clause-fewer : goal.returns-then-not-is_empty-clause-fewer
@@ -21,10 +28,13 @@ returns-then-not-is_empty-clause-fewer c =
 
 pub loop-piece-preserved : goal.loop-piece-preserved
 loop-piece-preserved c =
-    let blank : length c.trimmed-line.result.now ≡ 0 = eqb-true (length c.trimmed-line.result.now) 0 (sym c.is_empty.ensures ∙ c.if-not-is_empty.false) in
+    let blank : length c.trimmed-line.result.now ≡ 0 = eqb-true (length c.trimmed-line.result.now) 0
+    (sym c.is_empty.ensures ∙ c.if-not-is_empty.false) in
     let g = (c.in-Some.ensures.goes.on tt).2 in
     record {
       dialect = c.in-Some.ensures.steps.0 ∙ c.loop-piece.invariant.dialect;
-      skipped = λ others h. Skipped-more _ c.in-Some.piece.now others (ap length (sym c.trimmed-line.ensures) ∙ blank) (c.loop-piece.invariant.skipped _ (c.in-Some.ensures.steps.1 others h));
+      skipped = λ others h. Skipped-more _ c.in-Some.piece.now others
+          (ap length (sym c.trimmed-line.ensures) ∙ blank)
+          (c.loop-piece.invariant.skipped _ (c.in-Some.ensures.steps.1 others h));
       room = omega arith;
     }

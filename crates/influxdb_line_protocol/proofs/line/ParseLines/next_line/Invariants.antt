@@ -1,6 +1,6 @@
 use Rattle.std.proofs.Common.{◌≡◌, List, ℕ, ◌≤◌}
-use Rattle.influxdb_line_protocol.specs.Pieces.{PiecesLeft, most_pieces}
-use Rattle.influxdb_line_protocol.proofs.ParseStepsLemmas.{Skipped}
+use Rattle.influxdb_line_protocol.specs.format.Pieces.{PiecesLeft, most_pieces}
+use Rattle.influxdb_line_protocol.proofs.lemmas.line.ParseStepsLemmas.{Skipped}
 use Rattle.influxdb_line_protocol.proofs.line.ParseLines.next_line.Given as goal
 
 abbrev pub invariant-loop-piece : goal.invariant-loop-piece

@@ -1,7 +1,7 @@
 use Rattle.std.proofs.Common.{◌≡◌, ◌<◌, length, take, arith}
 use Rattle.std.proofs.lemmas.Grind.{common_steps, merely}
-use Rattle.influxdb_line_protocol.specs.Values.{IsFloat, float_len}
-use Rattle.influxdb_line_protocol.proofs.FloatLemmas.{float_len_float, float_misses, float_reads}
+use Rattle.influxdb_line_protocol.specs.format.Values.{IsFloat, float_len}
+use Rattle.influxdb_line_protocol.proofs.lemmas.literals.FloatLemmas.{float_len_float, float_misses, float_reads}
 use Rattle.influxdb_line_protocol.proofs.literals.FloatText.front.Goals as goal
 
 pub returns-then-is_empty-clause-value : goal.returns-then-is_empty-clause-value

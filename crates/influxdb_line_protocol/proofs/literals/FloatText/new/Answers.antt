@@ -1,6 +1,6 @@
 use Rattle.std.proofs.Common.{refl, arith}
 use Rattle.std.proofs.lemmas.Grind.{merely}
-use Rattle.influxdb_line_protocol.proofs.FloatLemmas.{float_fills, float_whole}
+use Rattle.influxdb_line_protocol.proofs.lemmas.literals.FloatLemmas.{float_fills, float_whole}
 use Rattle.influxdb_line_protocol.proofs.literals.FloatText.new.Goals as goal
 
 pub returns-then-len-eq0 : goal.returns-then-len-eq0

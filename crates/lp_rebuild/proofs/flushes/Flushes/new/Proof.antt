@@ -1,5 +1,7 @@
 -- Before anything is written, all is flushed.
-use Rattle.lp_rebuild.proofs.Steps.{[], ◌∷◌, refl, proved, ftrue, Val, tables, ‵, raw, ◌$◌, ◌∵◌, !, qed, done, keep, join, fjoin, suffices, enter, no_more, and_then, get, returns, alloc_all, pass_all, free_all, look_at, sets, nothing, on_entry, says, Stays, walk_of, ends_at, unit}
+use Rattle.lp_rebuild.proofs.Steps.{[], ◌∷◌, refl, proved, ftrue, Val, tables, ‵, raw, ◌$◌, ◌∵◌, !, qed, done, keep}
+use Rattle.lp_rebuild.proofs.Steps.{join, fjoin, suffices, enter, no_more, and_then, get, returns, alloc_all, pass_all}
+use Rattle.lp_rebuild.proofs.Steps.{free_all, look_at, sets, nothing, on_entry, says, Stays, walk_of, ends_at, unit}
 use Rattle.std.proofs.Common.{true}
 use types.Part.{agg}
 use types.Kit.{use0}
@@ -23,7 +25,8 @@ abbrev Mark : RattleType
 Mark = Struct (record { name = (row.the_type).name; args = []; types = []; fields = (marker.the_field unit).row ∷ [] })
 
 made : {M : Type 1} {𝓤 : Ura M} (𝓛 : Logic 𝓤) → ent 𝓤 (emp 𝓤) (sem 𝓛 (Mark.own_val (tt, tt) (token ∷ [])))
-made 𝓛 = makes_shadow 𝓛 (Mark.own_val (tt, tt) (token ∷ [])) (λ vss. (tt, ((λ uss. (tt, tt)), tt))) ((vstruct vnil ∷ [], tt), (refl, ((tt, (refl, tt)), tt)))
+made 𝓛 = makes_shadow 𝓛 (Mark.own_val (tt, tt) (token ∷ [])) (λ vss. (tt, ((λ uss. (tt, tt)), tt)))
+    ((vstruct vnil ∷ [], tt), (refl, ((tt, (refl, tt)), tt)))
 
 abbrev stayed : Stays f.ended.signature.params f.ended.kept
 stayed = tt

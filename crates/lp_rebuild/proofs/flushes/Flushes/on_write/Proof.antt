@@ -1,5 +1,9 @@
 -- `on_write` sets the ghost value.
-use Rattle.lp_rebuild.proofs.Steps.{[], ◌∷◌, refl, proved, ftrue, flft, named, vunit, tables, ‵, ◌⊛◌, ◌$◌, ◌∵◌, !, qed, done, move, keep, split, join, fsplit3, feq_i, suffices, frame, group, enter, of_opd, unit_lit, returns, alloc_all, pass_all, free_all, look_at, sets, MutRef, mut_vals, mut_Tells, plain, nothing, opens, closes, Stays, walk_of, says, stay_ref, Goes-ref, ends_at}
+use Rattle.lp_rebuild.proofs.Steps.{[], ◌∷◌, refl, proved, ftrue, flft, named, vunit, tables, ‵, ◌⊛◌, ◌$◌, ◌∵◌, !, qed}
+use Rattle.lp_rebuild.proofs.Steps.{done, move, keep, split, join, fsplit3, feq_i, suffices, frame, group, enter}
+use Rattle.lp_rebuild.proofs.Steps.{of_opd, unit_lit, returns, alloc_all, pass_all, free_all, look_at, sets, MutRef}
+use Rattle.lp_rebuild.proofs.Steps.{mut_vals, mut_Tells, plain, nothing, opens, closes, Stays, walk_of, says, stay_ref}
+use Rattle.lp_rebuild.proofs.Steps.{Goes-ref, ends_at}
 use Rattle.std.proofs.Common.{false}
 use Rattle.lp_rebuild.specs.contracts.flushes.Flushes.on_write as f
 use Rattle.lp_rebuild.proofs.flushes.Flushes.on_write.Statement.{statement}

@@ -1,6 +1,6 @@
 use Rattle.std.proofs.Common.{◌≡◌, refl}
-use Rattle.influxdb_line_protocol.specs.Texts.{text_of}
-use Rattle.influxdb_line_protocol.proofs.WrittenAgainLemmas.{parts_text_is}
+use Rattle.influxdb_line_protocol.specs.code.Texts.{text_of}
+use Rattle.influxdb_line_protocol.proofs.lemmas.builder.WrittenAgainLemmas.{parts_text_is}
 use Rattle.influxdb_line_protocol.proofs.builder.lines.Parts.of.Goals as goal
 
 pub returns : goal.returns

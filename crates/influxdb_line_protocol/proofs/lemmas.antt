@@ -1,0 +1,13 @@
+pub mod split
+pub mod forms
+pub mod lanes
+pub mod scan
+pub mod names
+pub mod values
+pub mod literals
+pub mod digits
+pub mod line
+pub mod fields
+pub mod laws
+pub mod builder
+pub mod series

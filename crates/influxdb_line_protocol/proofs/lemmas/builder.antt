@@ -1,0 +1,3 @@
+pub mod BuilderLemmas
+pub mod MarkLemmas
+pub mod WrittenAgainLemmas

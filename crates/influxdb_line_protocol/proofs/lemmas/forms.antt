@@ -1,0 +1,5 @@
+pub mod EscapeLemmas
+pub mod FormLemmas
+pub mod WalkLemmas
+pub mod WalkMasks
+pub mod CopyLemmas

@@ -1,0 +1,4 @@
+pub mod SortedTags
+pub mod BasesTellSeries
+pub mod BasesApart
+pub mod ParsedSeries

@@ -1,0 +1,11 @@
+pub mod NameReadsBack
+pub mod IntegerReadsBack
+pub mod ReadLines
+pub mod FloatReadsBack
+pub mod ValueReadsBack
+pub mod PartsReadBack
+pub mod LineReadsBack
+pub mod LinePieces
+pub mod BatchesReadBack
+pub mod RefusedBatches
+pub mod UnreadableNames

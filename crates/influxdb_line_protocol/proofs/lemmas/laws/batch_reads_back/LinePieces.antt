@@ -1,0 +1,475 @@
+-- The line of an admitted point is a piece that a newline ends.
+use Rattle.std.proofs.Common.{◌≡◌, ◌≢◌, ℕ, suc, ◌+◌, ◌^◌, ◌<◌, ◌≤◌, List, [], ◌∷◌, ◌++◌, length, Bool, true, false}
+use Rattle.std.proofs.Common.{◌&&◌, refl, sym, ap, ◌∙◌, subst, arith, inl, inr, append_assoc, append-nil, Option, Some}
+use Rattle.std.proofs.Common.{None}
+use Rattle.std.specs.Prelude.{◌==◌, ℤ, pos, negsuc, not, codes, decimal, IfSome}
+use Rattle.std.specs.List.{AllByRecursion, list_all, flat_map}
+use Rattle.std.specs.Fmt.{signed_decimal}
+use Rattle.std.specs.Str.Parse.{AllDigits, IsNumeral}
+use Rattle.std.proofs.lemmas.Bool.{cases_Bool, and_parts, and_from, ne_eqb}
+use Rattle.std.proofs.lemmas.Grind.{common_steps}
+use Rattle.std.proofs.lemmas.Fmt.{decimal_is_IsNumeral}
+use Rattle.std.proofs.lemmas.Str.Parse.{digit_from_value}
+use Rattle.std.proofs.lemmas.List.Elements.{All-nil}
+use Rattle.std.proofs.lemmas.List.Folds.{list_all-append}
+use Rattle.std.proofs.lemmas.List.{length-append}
+use Rattle.influxdb_line_protocol.proofs.lemmas.split.SplitWalk.{Part}
+use Rattle.influxdb_line_protocol.proofs.lemmas.split.SplitWalk.{Head, Plain, Quoted}
+use Rattle.influxdb_line_protocol.specs.declared.split.Dialect.{Dialect}
+use Rattle.influxdb_line_protocol.specs.declared.split.Dialect.TheVariants.{Crate, Strict}
+use Rattle.influxdb_line_protocol.specs.format.Bytes.{is_one_of}
+use Rattle.influxdb_line_protocol.specs.format.Escapes.{escaped, IsBareAfter}
+use Rattle.influxdb_line_protocol.specs.format.Names.{NameKind, a_measurement, a_tag_key, a_tag_value, a_field_key, escapable, is_escapable}
+use Rattle.influxdb_line_protocol.specs.format.Values.{Value, integer, unsigned, float, string, boolean, quotable, fits_i64}
+use Rattle.influxdb_line_protocol.specs.format.Values.{IsSigned, IsMarked, IsFloat}
+use Rattle.influxdb_line_protocol.specs.format.Points.{Point, IsPoint, Tag, Field, IsValue, is_admitted_tag}
+use Rattle.influxdb_line_protocol.specs.format.Points.{is_admitted_field, is_admitted_point, line_of, built_tag, built_field}
+use Rattle.influxdb_line_protocol.specs.format.Points.{built_fields, built_timestamp, built_value, spelling, is_admitted_name}
+use Rattle.influxdb_line_protocol.specs.format.Pieces.{IsCutPiece, begins_comment}
+use Rattle.influxdb_line_protocol.proofs.lemmas.split.SplitWalk.{IsIn}
+use Rattle.influxdb_line_protocol.proofs.lemmas.split.SplitBare.{is_escaped-nil, is_escaped-push_backslash, is_escaped-push_escaped}
+use Rattle.influxdb_line_protocol.proofs.lemmas.split.SplitBare.{is_escaped-push_other}
+use Rattle.influxdb_line_protocol.proofs.lemmas.split.SplitWalk.{IsIn-escaped, IsIn-backslash, Head-space, Head-other, Plain-equals}
+use Rattle.influxdb_line_protocol.proofs.lemmas.split.SplitWalk.{Plain-comma, Plain-opens, Plain-other, Quoted-closes, Quoted-other}
+use Rattle.influxdb_line_protocol.proofs.lemmas.names.NameLemmas.{escapable_backslash}
+use Rattle.influxdb_line_protocol.specs.format.Trimming.{trimmed}
+use Rattle.influxdb_line_protocol.proofs.lemmas.laws.batch_reads_back.NameReadsBack.{admitted_parts, begins_otherwise}
+use Rattle.influxdb_line_protocol.proofs.lemmas.laws.batch_reads_back.NameReadsBack.{may_stand, spelling_nonempty}
+use Rattle.influxdb_line_protocol.proofs.lemmas.laws.batch_reads_back.NameReadsBack.{escaped_found, escaped_plain, space_escapable}
+use Rattle.influxdb_line_protocol.proofs.lemmas.line.TrimLemmas.{is_blank, trimmed_is}
+use Rattle.influxdb_line_protocol.proofs.lemmas.values.ValueLemmas.{fits_from_test}
+
+-- what comes after these bytes is bare, and it is in this part, with these counts
+abbrev pub Reaches : Part → ℕ → ℕ → List ℕ → Type 0
+Reaches part e c piece = IsBareAfter piece × IsIn part e c piece
+
+-- nothing was read yet
+pub reaches_start : Reaches Head 0 0 []
+reaches_start = (is_escaped-nil, (All-nil (λ b. (b ≢ 32) × (b ≢ 10)), record { equals_is = refl; commas_is = refl }))
+
+-- a byte with a backslash before it changes nothing
+pub reaches_pair : (part : Part) (e c : ℕ) (piece : List ℕ) (b : ℕ) → Reaches part e c piece → Reaches part e c (piece ++ 92 ∷ b ∷ [])
+reaches_pair part e c piece b r =
+    let flag = is_escaped-push_backslash piece r.0 in
+    subst (Reaches part e c) (append_assoc piece (92 ∷ []) (b ∷ [])) (
+      is_escaped-push_escaped (piece ++ 92 ∷ []) b flag,
+      IsIn-escaped part e c (piece ++ 92 ∷ []) b flag (IsIn-backslash part e c piece r.0 r.1),
+    )
+
+-- a byte that changes nothing wherever it stands
+abbrev pub ChangesNothing : Part → ℕ → ℕ → ℕ → Type 0
+ChangesNothing part e c b = (b ≢ 92) × ((q : List ℕ) → IsBareAfter q → IsIn part e c q → IsIn part e c (q ++ b ∷ []))
+
+-- such a byte after a piece
+pub reaches_byte : (part : Part) (e c : ℕ) (piece : List ℕ) (b : ℕ) → ChangesNothing part e c b
+    → Reaches part e c piece → Reaches part e c (piece ++ b ∷ [])
+reaches_byte part e c piece b same r = (is_escaped-push_other piece b same.0, same.1 piece r.0 r.1)
+
+-- no text, no escapes
+escaped_none : (known : List ℕ) → escaped known [] ≡ []
+unfolding escaped
+escaped_none known = refl
+
+-- a text with escapes changes nothing where none of its other bytes does
+module _ (part : Part) (e c : ℕ) (known : List ℕ) (may : ℕ → Bool)
+    (same : (b : ℕ) → may b ≡ true → is_one_of known b ≡ false → ChangesNothing part e c b) where
+  reaches_escaped : (text piece : List ℕ) → list_all may text ≡ true → Reaches part e c piece
+      → Reaches part e c (piece ++ escaped known text)
+  reaches_escaped [] piece all r = subst (Reaches part e c)
+      (sym (append-nil piece) ∙ ap (λ (xs : List ℕ). piece ++ xs) (sym (escaped_none known))) r
+  reaches_escaped (b ∷ text) piece all r =
+      let parts = and_parts (may b) (list_all may text) all in
+      elim (cases_Bool (is_one_of known b)) [
+        | inl found ↦
+            let more = reaches_escaped text (piece ++ 92 ∷ b ∷ []) parts.1 (reaches_pair part e c piece b r) in
+            subst (Reaches part e c) (append_assoc piece (92 ∷ b ∷ []) (escaped known text)
+            ∙ ap (λ (xs : List ℕ). piece ++ xs) (sym (escaped_found known text b found))) more
+        | inr plain ↦
+            let more = reaches_escaped text (piece ++ b ∷ []) parts.1 (reaches_byte part e c piece b (same b parts.0 plain) r) in
+            subst (Reaches part e c) (append_assoc piece (b ∷ []) (escaped known text)
+            ∙ ap (λ (xs : List ℕ). piece ++ xs) (sym (escaped_plain known text b plain))) more
+      ]
+
+-- a name holds no newline, and its spaces and backslashes are escaped
+newline_never : (kind : NameKind) → may_stand kind 10 ≡ false
+newline_never a_measurement = refl
+newline_never a_tag_key = refl
+newline_never a_tag_value = refl
+newline_never a_field_key = refl
+
+-- so its bare bytes are none of these
+pub no_newline : (kind : NameKind) (b : ℕ) → may_stand kind b ≡ true → b ≢ 10
+no_newline kind b may = λ e. cc (may, newline_never kind, ap (may_stand kind) e)
+
+-- nor is one a backslash
+pub no_backslash : (kind : NameKind) (b : ℕ) → is_escapable kind b ≡ false → b ≢ 92
+no_backslash kind b plain = λ e. cc (plain, escapable_backslash kind, ap (is_escapable kind) e)
+
+-- or a space
+pub no_space : (kind : NameKind) (b : ℕ) → is_escapable kind b ≡ false → b ≢ 32
+no_space kind b plain = λ e. cc (plain, space_escapable kind, ap (is_escapable kind) e)
+
+-- a name in the head
+pub reaches_name : (kind : NameKind) (n piece : List ℕ) → is_admitted_name kind n ≡ true → Reaches Head 0 0 piece
+    → Reaches Head 0 0 (piece ++ spelling kind n)
+reaches_name kind n piece ok r =
+    reaches_escaped Head 0 0 (escapable kind) (may_stand kind)
+    (λ b may plain. (no_backslash kind b plain, λ q f h. Head-other 0 0 q b f (no_space kind b plain) (no_newline kind b may) h))
+    n piece (admitted_parts kind n ok).may r
+
+-- a field key where no quote can open
+reaches_key : (m : ℕ) (n piece : List ℕ) → is_admitted_name a_field_key n ≡ true → Reaches Plain m m piece
+    → Reaches Plain m m (piece ++ spelling a_field_key n)
+reaches_key m n piece ok r =
+    reaches_escaped Plain m m (escapable a_field_key) (may_stand a_field_key)
+    (λ b may plain. (
+      no_backslash a_field_key b plain,
+      λ q f h. Plain-other m m q b f (no_equals b plain) (no_comma b plain) (no_newline a_field_key b may)
+          (λ _. omega arith) h,
+    ))
+    n piece (admitted_parts a_field_key n ok).may r
+  where
+    no_equals : (b : ℕ) → is_escapable a_field_key b ≡ false → b ≢ 61
+    no_equals b plain = λ e. let h : is_escapable a_field_key b ≡ true = ap (is_escapable a_field_key) e in cc
+
+    no_comma : (b : ℕ) → is_escapable a_field_key b ≡ false → b ≢ 44
+    no_comma b plain = λ e. let h : is_escapable a_field_key b ≡ true = ap (is_escapable a_field_key) e in cc
+
+-- a byte that means nothing in a plain stretch
+abbrev is_simple : ℕ → Bool
+is_simple b = not (is_one_of (92 ∷ 61 ∷ 44 ∷ 10 ∷ 34 ∷ []) b)
+
+-- such a byte changes nothing
+simple_same : (e c b : ℕ) → is_simple b ≡ true → ChangesNothing Plain e c b
+simple_same e c b simple =
+    let no_backslash : b ≢ 92 = λ i. let h : is_simple b ≡ false = ap is_simple i in cc in
+    let no_equals : b ≢ 61 = λ i. let h : is_simple b ≡ false = ap is_simple i in cc in
+    let no_comma : b ≢ 44 = λ i. let h : is_simple b ≡ false = ap is_simple i in cc in
+    let no_newline : b ≢ 10 = λ i. let h : is_simple b ≡ false = ap is_simple i in cc in
+    let no_quote : b ≢ 34 = λ i. let h : is_simple b ≡ false = ap is_simple i in cc in
+    (no_backslash, λ q f h. Plain-other e c q b f no_equals no_comma no_newline (λ i. absurd (no_quote i)) h)
+
+abbrev pub IsSimple : List ℕ → Type 0
+IsSimple text = list_all is_simple text ≡ true
+
+-- and a text of two such texts
+IsSimple-append : (xs ys : List ℕ) → IsSimple xs → IsSimple ys → IsSimple (xs ++ ys)
+IsSimple-append xs ys h k = list_all-append is_simple xs ys ∙ and_from _ _ h k
+
+-- nor does a text of such bytes
+pub reaches_simple : (e c : ℕ) (text piece : List ℕ) → IsSimple text → Reaches Plain e c piece → Reaches Plain e c (piece ++ text)
+reaches_simple e c [] piece all r = subst (Reaches Plain e c) (sym (append-nil piece)) r
+reaches_simple e c (b ∷ text) piece all r =
+    let parts = and_parts (is_simple b) (list_all is_simple text) all in
+    subst (Reaches Plain e c) (append_assoc piece (b ∷ []) text)
+    (reaches_simple e c text (piece ++ b ∷ []) parts.1 (reaches_byte Plain e c piece b (simple_same e c b parts.0) r))
+
+-- numbers are simple
+simple_digit : (b : ℕ) → 48 ≤ b → b ≤ 57 → is_simple b ≡ true
+simple_digit b least most = rw (
+  ne_eqb 92 b (λ e. absurd (omega arith)),
+  ne_eqb 61 b (λ e. absurd (omega arith)),
+  ne_eqb 44 b (λ e. absurd (omega arith)),
+  ne_eqb 10 b (λ e. absurd (omega arith)),
+  ne_eqb 34 b (λ e. absurd (omega arith)),
+) refl
+
+-- so are digits
+simple_digits : (ds : List ℕ) → AllDigits 10 ds → IsSimple ds
+simple_digits [] all = refl
+simple_digits (d ∷ ds) all =
+    let range = digit_from_value d all.0 in
+    and_from (is_simple d) (list_all is_simple ds) (simple_digit d range.0 range.1) (simple_digits ds all.1)
+
+-- the decimal text of a number
+simple_decimal : (n : ℕ) → n < 2 ^ 64 → IsSimple (decimal n)
+simple_decimal n fits = simple_digits (decimal n) (decimal_is_IsNumeral n fits).0.1
+
+-- and that of a signed one
+simple_signed : (z : ℤ) → fits_i64 z ≡ true → IsSimple (signed_decimal z)
+simple_signed (pos n) fits = let small : n < 2 ^ 63 = (fits_from_test (pos n) fits).sfits in simple_decimal n (omega arith)
+simple_signed (negsuc n) fits =
+    let small : n < 2 ^ 63 = (fits_from_test (negsuc n) fits).sfits in
+    and_from (is_simple 45) (list_all is_simple (decimal (suc n))) refl (simple_decimal (suc n) (omega arith))
+
+-- a sign or none, and digits
+simple_sign : (signs : List ℕ) (ds : List ℕ) → ((b : ℕ) → is_one_of signs b ≡ true → is_simple b ≡ true) → IsSigned signs ds → IsSimple ds
+simple_sign signs [] of never = absurd never
+simple_sign signs (b ∷ ds) of (inl signed) = and_from (is_simple b) (list_all is_simple ds) (of b signed.0) (simple_digits ds signed.1.1)
+simple_sign signs (b ∷ ds) of (inr numeral) = simple_digits (b ∷ ds) numeral.1
+
+-- a mark and a part, or nothing
+simple_mark : (marks : List ℕ) (Part : List ℕ → Type 0) (text : List ℕ) → ((b : ℕ) → is_one_of marks b ≡ true → is_simple b ≡ true)
+    → ((x : List ℕ) → Part x → IsSimple x) → IsMarked marks Part text → IsSimple text
+simple_mark marks Part [] of part marked = refl
+simple_mark marks Part (b ∷ x) of part marked = and_from (is_simple b) (list_all is_simple x) (of b marked.0) (part x marked.1)
+
+-- the signs and marks of floats
+minus_simple : (b : ℕ) → is_one_of (codes "-") b ≡ true → is_simple b ≡ true
+minus_simple b h = grind (arith, common_steps)
+
+-- those of exponents
+sign_simple : (b : ℕ) → is_one_of (codes "+-") b ≡ true → is_simple b ≡ true
+sign_simple b h = grind (arith, common_steps)
+
+-- the point
+point_simple : (b : ℕ) → is_one_of (codes ".") b ≡ true → is_simple b ≡ true
+point_simple b h = grind (arith, common_steps)
+
+-- the letters before an exponent
+exponent_simple : (b : ℕ) → is_one_of (codes "eE") b ≡ true → is_simple b ≡ true
+exponent_simple b h = grind (arith, common_steps)
+
+-- and floats
+simple_float : (t : List ℕ) → IsFloat t → IsSimple t
+simple_float t parts =
+    subst IsSimple (sym parts.3)
+    (IsSimple-append parts.0 (parts.1 ++ parts.2) (simple_sign (codes "-") parts.0 minus_simple parts.4)
+    (IsSimple-append parts.1 parts.2
+    (simple_mark (codes ".") (IsNumeral 10) parts.1 point_simple (λ x numeral. simple_digits x numeral.1) parts.5)
+    (simple_mark (codes "eE") (IsSigned (codes "+-")) parts.2 exponent_simple
+    (λ x signed. simple_sign (codes "+-") x sign_simple signed) parts.6)))
+
+-- a test that each byte passes
+all_pass : (text : List ℕ) → list_all (λ b. true) text ≡ true
+all_pass [] = refl
+all_pass (b ∷ text) = all_pass text
+
+-- a string opens after an `=`, and closes
+reaches_string : (m : ℕ) (s piece : List ℕ) → Reaches Plain (m + 1) m piece → Reaches Plain (m + 1) m (piece ++ built_value (string s))
+reaches_string m s piece r =
+    let opened : Reaches Quoted (m + 1) m
+    (piece ++ 34 ∷ []) = (is_escaped-push_other piece 34 (omega arith), Plain-opens (m + 1) m piece r.0 (omega arith) r.1) in
+    let body : Reaches Quoted (m + 1) m ((piece ++ 34 ∷ []) ++ escaped quotable s) =
+    reaches_escaped Quoted (m + 1) m quotable (λ b. true) quotable_same s (piece ++ 34 ∷ []) (all_pass s) opened in
+    let text = (piece ++ 34 ∷ []) ++ escaped quotable s in
+    let closed : Reaches Plain (m + 1) m
+    (text ++ 34 ∷ []) = (is_escaped-push_other text 34 (omega arith), Quoted-closes (m + 1) m text body.0 body.1) in
+    subst (Reaches Plain (m + 1) m)
+    (append_assoc (piece ++ 34 ∷ []) (escaped quotable s) (34 ∷ [])
+    ∙ append_assoc piece (34 ∷ []) (escaped quotable s ++ 34 ∷ [])) closed
+  where
+    quotable_same : (b : ℕ) → true ≡ true → is_one_of quotable b ≡ false → ChangesNothing Quoted (m + 1) m b
+    quotable_same b any plain =
+        let no_backslash : b ≢ 92 = λ i. let h : is_one_of quotable b ≡ true = ap (is_one_of quotable) i in cc in
+        let no_quote : b ≢ 34 = λ i. let h : is_one_of quotable b ≡ true = ap (is_one_of quotable) i in cc in
+        (no_backslash, λ q f h. Quoted-other (m + 1) m q b f no_quote h)
+
+-- a value, after its `=`
+reaches_value : (m : ℕ) (v : Value (List ℕ)) (piece : List ℕ) → IsValue v → Reaches Plain (m + 1) m piece
+    → Reaches Plain (m + 1) m (piece ++ built_value v)
+reaches_value m (integer z) piece fits r =
+    reaches_simple (m + 1) m (built_value (integer z)) piece (IsSimple-append (signed_decimal z) (105 ∷ []) (simple_signed z fits) refl) r
+reaches_value m (unsigned n) piece fits r =
+    reaches_simple (m + 1) m (built_value (unsigned n)) piece (IsSimple-append (decimal n) (117 ∷ []) (simple_decimal n fits) refl) r
+reaches_value m (float t) piece ok r = reaches_simple (m + 1) m t piece (simple_float t ok) r
+reaches_value m (string s) piece ok r = reaches_string m s piece r
+reaches_value m (boolean true) piece ok r = reaches_simple (m + 1) m (codes "true") piece refl r
+reaches_value m (boolean false) piece ok r = reaches_simple (m + 1) m (codes "false") piece refl r
+
+abbrev pub AdmittedTag : Tag → Type 0
+AdmittedTag t = (is_admitted_name a_tag_key t.key ≡ true) × (is_admitted_name a_tag_value t.value ≡ true)
+
+abbrev pub AdmittedField : Field → Type 0
+AdmittedField f = (is_admitted_name a_field_key f.key ≡ true) × IsValue f.value
+
+-- a field where as many `=` as `,` were counted
+pub reaches_field : (m : ℕ) (f : Field) (piece : List ℕ) → AdmittedField f → Reaches Plain m m piece
+    → Reaches Plain (m + 1) m (piece ++ built_field f)
+reaches_field m f piece ok r =
+    let key = reaches_key m f.key piece ok.0 r in
+    let text = piece ++ spelling a_field_key f.key in
+    let sign : Reaches Plain (m + 1) m
+    (text ++ 61 ∷ []) = (is_escaped-push_other text 61 (omega arith), Plain-equals m m text key.0 key.1) in
+    subst (Reaches Plain (m + 1) m)
+    (append_assoc text (61 ∷ []) (built_value f.value)
+    ∙ append_assoc piece (spelling a_field_key f.key) (61 ∷ built_value f.value))
+    (reaches_value m f.value (text ++ 61 ∷ []) ok.1 sign)
+
+-- the fields after the first
+abbrev pub AfterFields : List ℕ → Type 0
+AfterFields piece = (m : ℕ) × Reaches Plain (m + 1) m piece
+
+-- as many fields after commas as there are
+pub reaches_fields : (fs : List Field) (piece : List ℕ) → AllByRecursion AdmittedField fs → AfterFields piece
+    → AfterFields (piece ++ built_fields 44 fs)
+reaches_fields [] piece all r = subst AfterFields (sym (append-nil piece)) r
+reaches_fields (f ∷ fs) piece all r =
+    let m = r.0 in
+    let after_comma : Reaches Plain (m + 1) (m + 1)
+    (piece ++ 44 ∷ []) = (is_escaped-push_other piece 44 (omega arith), Plain-comma (m + 1) m piece r.1.0 r.1.1) in
+    let field = reaches_field (m + 1) f (piece ++ 44 ∷ []) all.0 after_comma in
+    subst AfterFields
+    (append_assoc (piece ++ 44 ∷ []) (built_field f) (built_fields 44 fs)
+    ∙ append_assoc piece (44 ∷ []) (built_field f ++ built_fields 44 fs))
+    (reaches_fields fs ((piece ++ 44 ∷ []) ++ built_field f) all.1 (m + 1, field))
+
+-- the timestamp
+reaches_timestamp : (t : Option ℤ) (piece : List ℕ) → IfSome t (λ z. fits_i64 z ≡ true) → AfterFields piece
+    → AfterFields (piece ++ built_timestamp t)
+reaches_timestamp None piece ok r = subst AfterFields (sym (append-nil piece)) r
+reaches_timestamp (Some z) piece ok r = (
+  r.0,
+  reaches_simple (r.0 + 1) r.0 (32 ∷ signed_decimal z) piece
+      (and_from (is_simple 32) (list_all is_simple (signed_decimal z)) refl (simple_signed z ok)) r.1,
+)
+
+-- the tags
+pub reaches_tags : (ts : List Tag) (piece : List ℕ) → AllByRecursion AdmittedTag ts → Reaches Head 0 0 piece
+    → Reaches Head 0 0 (piece ++ flat_map built_tag ts)
+reaches_tags [] piece all r = subst (Reaches Head 0 0) (sym (append-nil piece)) r
+reaches_tags (t ∷ ts) piece all r =
+    let comma : Reaches Head 0 0 (piece ++ 44 ∷ []) = reaches_byte Head 0 0 piece 44
+    (other 44 (omega arith) (omega arith) (omega arith)) r in
+    let key = reaches_name a_tag_key t.key (piece ++ 44 ∷ []) all.0.0 comma in
+    let text = (piece ++ 44 ∷ []) ++ spelling a_tag_key t.key in
+    let sign : Reaches Head 0 0 (text ++ 61 ∷ []) = reaches_byte Head 0 0 text 61
+    (other 61 (omega arith) (omega arith) (omega arith)) key in
+    let value = reaches_name a_tag_value t.value (text ++ 61 ∷ []) all.0.1 sign in
+    subst (Reaches Head 0 0) (append_assoc piece (built_tag t) (flat_map built_tag ts))
+    (reaches_tags ts (piece ++ built_tag t) all.1
+    (subst (Reaches Head 0 0)
+    (append_assoc text (61 ∷ []) (spelling a_tag_value t.value)
+    ∙ append_assoc (piece ++ 44 ∷ []) (spelling a_tag_key t.key) (61 ∷ spelling a_tag_value t.value)
+    ∙ append_assoc piece (44 ∷ []) (spelling a_tag_key t.key ++ 61 ∷ spelling a_tag_value t.value))
+    value))
+  where
+    other : (b : ℕ) → b ≢ 92 → b ≢ 32 → b ≢ 10 → ChangesNothing Head 0 0 b
+    other b no_backslash no_space no_newline = (no_backslash, λ q f h. Head-other 0 0 q b f no_space no_newline h)
+
+-- the line
+pub reaches_line : (n : List ℕ) (ts : List Tag) (f : Field) (fs : List Field) (t : Option ℤ)
+    → is_admitted_name a_measurement n ≡ true → AllByRecursion AdmittedTag ts → AdmittedField f
+    → AllByRecursion AdmittedField fs → IfSome t (λ z. fits_i64 z ≡ true)
+    → AfterFields (spelling a_measurement n ++ (flat_map built_tag ts ++ (built_fields 32 (f ∷ fs) ++ built_timestamp t)))
+reaches_line n ts f fs t named tagged first more stamped =
+    let front = spelling a_measurement n ++ flat_map built_tag ts in
+    let head : Reaches Head 0 0 front = reaches_tags ts (spelling a_measurement n) tagged
+    (reaches_name a_measurement n [] named reaches_start) in
+    let gap : Reaches Plain 0 0 (front ++ 32 ∷ []) = (is_escaped-push_other front 32 (omega arith), Head-space 0 0 front head.0 head.1) in
+    let field = reaches_field 0 f (front ++ 32 ∷ []) first gap in
+    let fields = reaches_fields fs ((front ++ 32 ∷ []) ++ built_field f) more (0, field) in
+    let whole = reaches_timestamp t (((front ++ 32 ∷ []) ++ built_field f) ++ built_fields 44 fs) stamped fields in
+    subst AfterFields (simp append_assoc) whole
+
+-- the first byte of a measurement
+pub first_byte : (b : ℕ) (n : List ℕ) → is_admitted_name a_measurement (b ∷ n) ≡ true
+    → (may_stand a_measurement b ≡ true) × ((b == 35) ≡ false)
+first_byte b n ok =
+    let all : list_all (may_stand a_measurement) (b ∷ n) ≡ true = (admitted_parts a_measurement (b ∷ n) ok).may in
+    ((and_parts (may_stand a_measurement b) (list_all (may_stand a_measurement) n) all).0, begins_otherwise b n ok)
+
+-- no comment begins with a measurement
+measurement_is_no_comment : (n rest : List ℕ) → is_admitted_name a_measurement n ≡ true
+    → begins_comment (spelling a_measurement n ++ rest) ≡ false
+measurement_is_no_comment [] rest ok = absurd ((admitted_parts a_measurement [] ok).some refl)
+measurement_is_no_comment (b ∷ n) rest ok =
+    let first = first_byte b n ok in
+    elim (cases_Bool (is_escapable a_measurement b)) [
+      | inl known ↦ rw (escaped_found (escapable a_measurement) n b known) refl
+      | inr plain ↦
+          let no_tab : b ≢ 9 = λ i. let h : may_stand a_measurement b ≡ false = ap (may_stand a_measurement) i in cc in
+          rw (
+            escaped_plain (escapable a_measurement) n b plain,
+            first.1,
+            ne_eqb b 32 (no_space a_measurement b plain),
+            ne_eqb b 9 no_tab,
+          ) refl
+    ]
+
+-- nothing is trimmed off at the start of a measurement
+measurement_untrimmed : (n rest : List ℕ) → is_admitted_name a_measurement n ≡ true
+    → trimmed (spelling a_measurement n ++ rest) ≡ spelling a_measurement n ++ rest
+measurement_untrimmed [] rest ok = absurd ((admitted_parts a_measurement [] ok).some refl)
+measurement_untrimmed (b ∷ n) rest ok =
+    let first = first_byte b n ok in
+    trimmed_is (spelling a_measurement (b ∷ n) ++ rest) ∙
+    elim (cases_Bool (is_escapable a_measurement b)) [
+      | inl known ↦ rw (escaped_found (escapable a_measurement) n b known) refl
+      | inr plain ↦
+          let may : may_stand a_measurement b ≡ true = first.0 in
+          let no_newline : (b == 10) ≡ false = grind (arith, common_steps) in
+          let no_blank : is_blank b ≡ false = grind (arith, common_steps) in
+          rw (escaped_plain (escapable a_measurement) n b plain, no_newline, first.1, no_blank) refl
+    ]
+
+-- what a newline may end, in both dialects
+is_cut_piece : (dialect : Dialect) (text : List ℕ) → begins_comment text ≡ false → AfterFields text → IsCutPiece dialect text
+is_cut_piece Crate text none r = (inr (r.1.1.0, r.1.1.1), r.1.0)
+is_cut_piece Strict text none r = inr (none, inr (r.1.1.0, r.1.1.1), r.1.0)
+
+-- what a point is whose line reads back: its names are admitted and it has a field
+pub record IsAdmitted (p : Point) : Type 0 where
+  pub measurement : is_admitted_name a_measurement p.measurement ≡ true
+  pub tags : AllByRecursion AdmittedTag p.tags
+  pub fields : AllByRecursion AdmittedField p.fields
+  pub some_field : 0 < length p.fields
+  pub timestamp : IfSome p.timestamp (λ t. fits_i64 t ≡ true)
+
+-- the same of all tags, and of all fields
+pub admitted_tags : (ts : List Tag) → list_all is_admitted_tag ts ≡ true → AllByRecursion AdmittedTag ts
+admitted_tags [] all = tt
+admitted_tags (t ∷ ts) all =
+    let parts = and_parts (is_admitted_tag t) (list_all is_admitted_tag ts) all in
+    (and_parts _ _ parts.0, admitted_tags ts parts.1)
+
+-- with values in range
+admitted_fields : (fs : List Field) → list_all is_admitted_field fs ≡ true
+    → AllByRecursion (λ f. IsValue f.value) fs → AllByRecursion AdmittedField fs
+admitted_fields [] all values = tt
+admitted_fields (f ∷ fs) all values =
+    let parts = and_parts (is_admitted_field f) (list_all is_admitted_field fs) all in
+    ((parts.0, values.0), admitted_fields fs parts.1 values.1)
+
+-- the two tests of a point
+pub admitted_point : (p : Point) → IsPoint p → is_admitted_point p ≡ true → IsAdmitted p
+unfolding is_admitted_point
+admitted_point p h ok =
+    let names = and_parts (is_admitted_name a_measurement p.measurement && list_all is_admitted_tag p.tags)
+    (list_all is_admitted_field p.fields) ok in
+    let front = and_parts (is_admitted_name a_measurement p.measurement) (list_all is_admitted_tag p.tags) names.0 in
+    record {
+      measurement = front.0;
+      tags = admitted_tags p.tags front.1;
+      fields = admitted_fields p.fields names.1 h.values;
+      some_field = h.some_field;
+      timestamp = h.timestamp;
+    }
+
+-- the line of a point, part by part
+pub line_parts : (p : Point)
+    → line_of p ≡ spelling a_measurement p.measurement ++
+    (flat_map built_tag p.tags ++ (built_fields 32 p.fields ++ built_timestamp p.timestamp))
+unfolding line_of
+line_parts p = simp append_assoc
+
+-- the line of an admitted point is a piece that a newline ends
+pub line_is_cut_piece : (dialect : Dialect) (p : Point) → IsAdmitted p → IsCutPiece dialect (line_of p)
+line_is_cut_piece dialect p ok = subst (IsCutPiece dialect) (sym (line_parts p))
+    (whole p.measurement p.tags p.fields p.timestamp ok.measurement ok.tags ok.fields ok.some_field ok.timestamp)
+  where
+    whole : (n : List ℕ) (ts : List Tag) (fs : List Field) (t : Option ℤ)
+        → is_admitted_name a_measurement n ≡ true → AllByRecursion AdmittedTag ts → AllByRecursion AdmittedField fs
+        → 0 < length fs → IfSome t (λ z. fits_i64 z ≡ true)
+        → IsCutPiece dialect (spelling a_measurement n ++ (flat_map built_tag ts ++ (built_fields 32 fs ++ built_timestamp t)))
+    whole n ts [] t named tagged fielded some stamped = absurd (omega arith)
+    whole n ts (f ∷ fs) t named tagged fielded some stamped =
+        is_cut_piece dialect _ (measurement_is_no_comment n _ named) (reaches_line n ts f fs t named tagged fielded.0 fielded.1 stamped)
+
+-- nothing is trimmed off the line of an admitted point, and it is not empty
+pub line_untrimmed : (p : Point) → IsAdmitted p → trimmed (line_of p) ≡ line_of p
+line_untrimmed p ok =
+    rw (line_parts p) (measurement_untrimmed p.measurement
+    (flat_map built_tag p.tags ++ (built_fields 32 p.fields ++ built_timestamp p.timestamp)) ok.measurement)
+
+-- a line is not empty
+pub line_some : (p : Point) → IsAdmitted p → 0 < length (line_of p)
+line_some p ok =
+    let some : 0 < length (spelling a_measurement p.measurement) = spelling_nonempty a_measurement p.measurement
+    (admitted_parts a_measurement p.measurement ok.measurement).some in
+    rw (line_parts p) (omega (
+      arith,
+      some,
+      length-append (spelling a_measurement p.measurement)
+          (flat_map built_tag p.tags ++ (built_fields 32 p.fields ++ built_timestamp p.timestamp)),
+    ))

@@ -1,0 +1,96 @@
+-- The line of a point reads back as the point.
+use Rattle.std.proofs.Common.{◌≡◌, ◌≢◌, ℕ, ◌-◌, ◌<◌, List, [], ◌∷◌, ◌++◌, length, map, true, refl, sym, ap, ◌∙◌, arith}
+use Rattle.std.proofs.Common.{inl, inr, Ok, Option}
+use Rattle.std.specs.Prelude.{ℤ, IfSome}
+use Rattle.std.specs.List.{flat_map, AllByRecursion}
+use Rattle.influxdb_line_protocol.specs.declared.split.Dialect.{Dialect}
+use Rattle.std.proofs.lemmas.Bool.{cases_Bool, ne_eqb}
+use Rattle.std.proofs.lemmas.List.{append_assoc, take_at, length-append}
+use Rattle.influxdb_line_protocol.specs.format.Names.{NameKind, a_measurement, a_field_key, escapable, is_escapable, name}
+use Rattle.influxdb_line_protocol.specs.format.Readings.{Text, reads}
+use Rattle.influxdb_line_protocol.specs.format.Values.{Value, fits_i64}
+use Rattle.influxdb_line_protocol.specs.format.Points.{Pair, Point, Tag, Field, built_value, built_field, built_fields}
+use Rattle.influxdb_line_protocol.specs.format.Points.{built_tag, built_timestamp, line_of, is_admitted_name, spelling}
+use Rattle.influxdb_line_protocol.specs.format.Lines.{answer, field_set, front_before, spaces, tag_set, timestamp}
+use Rattle.influxdb_line_protocol.proofs.lemmas.laws.batch_reads_back.NameReadsBack.{admitted_parts, name_reads_back}
+use Rattle.influxdb_line_protocol.proofs.lemmas.laws.batch_reads_back.NameReadsBack.{read_name, escaped_found}
+use Rattle.influxdb_line_protocol.proofs.lemmas.laws.batch_reads_back.NameReadsBack.{escaped_plain, space_escapable}
+use Rattle.influxdb_line_protocol.proofs.lemmas.laws.batch_reads_back.ReadLines.{read_line, read_tags, read_field}
+use Rattle.influxdb_line_protocol.proofs.lemmas.laws.batch_reads_back.LinePieces.{AdmittedTag, AdmittedField, IsAdmitted, line_parts}
+use Rattle.influxdb_line_protocol.proofs.lemmas.laws.batch_reads_back.PartsReadBack.{tag_text, tag_set_reads_back}
+use Rattle.influxdb_line_protocol.proofs.lemmas.laws.batch_reads_back.PartsReadBack.{field_set_reads_back}
+use Rattle.influxdb_line_protocol.proofs.lemmas.laws.batch_reads_back.PartsReadBack.{timestamp_reads_back}
+
+-- no space is at the start of a spelling
+pub spaces_before : (kind : NameKind) (n rest : List ℕ) → length n ≢ 0 → spaces (spelling kind n ++ rest) ≡ 0
+spaces_before kind [] rest some = absurd (some refl)
+spaces_before kind (b ∷ n) rest some =
+    elim (cases_Bool (is_escapable kind b)) [
+      | inl known ↦ rw (escaped_found (escapable kind) n b known) refl
+      | inr plain ↦
+          let other : b ≢ 32 = λ e. cc (plain, space_escapable kind, ap (is_escapable kind) e) in
+          rw (escaped_plain (escapable kind) n b plain, ne_eqb b 32 other) refl
+    ]
+
+-- the front of a text before what is after it
+pub front_before_is : (front rest : List ℕ) → front_before (front ++ rest) rest ≡ front
+front_before_is front rest =
+    let len : length (front ++ rest) - length rest ≡ length front = omega (arith, length-append front rest) in
+    rw len (take_at front rest (length front) refl)
+
+-- the name before the tags or the fields
+pub measurement_reads_back : (m : List ℕ) (ts : List Tag) (rest : List ℕ) → is_admitted_name a_measurement m ≡ true
+    → name a_measurement (spelling a_measurement m ++ (flat_map built_tag ts ++ 32 ∷ rest)) ≡ reads
+    (read_name a_measurement m) (flat_map built_tag ts ++ 32 ∷ rest)
+measurement_reads_back m [] rest ok = name_reads_back a_measurement m rest 32 ok refl
+measurement_reads_back m (t ∷ ts) rest ok =
+    let after = tag_text t ++ (flat_map built_tag ts ++ 32 ∷ rest) in
+    let regrouped : flat_map built_tag (t ∷ ts) ++ 32 ∷ rest ≡ 44 ∷ after = append_assoc (built_tag t)
+    (flat_map built_tag ts) (32 ∷ rest) in
+    rw regrouped (name_reads_back a_measurement m after 44 ok refl)
+
+-- the parts of a line make its answer
+pub answer_from_parts : (dialect : Dialect) (line front after tagged end : List ℕ) (m : Text)
+    (ts : Option (List (Pair Text Text))) (fs : List (Pair Text (Value Text))) (t : Option ℤ)
+    → name a_measurement line ≡ reads m tagged
+    → tag_set tagged ≡ Ok (record { value = ts; rest = 32 ∷ after })
+    → front_before line (32 ∷ after) ≡ front
+    → spaces after ≡ 0
+    → field_set dialect after ≡ reads fs end
+    → timestamp end ≡ Ok (record { value = t; rest = [] })
+    → answer dialect line ≡ Ok (record { series = front; measurement = m; tags = ts; fields = fs; timestamp = t })
+unfolding answer
+answer_from_parts dialect line front after tagged end m ts fs t named tags series gap fields stamped =
+    rw (named, tags, gap, fields, stamped, series) refl
+
+-- the line of each admitted point reads back as the point
+pub line_reads_back : (dialect : Dialect) (p : Point) → IsAdmitted p → answer dialect (line_of p) ≡ Ok (read_line p)
+line_reads_back dialect p ok =
+    ap (answer dialect) (line_parts p)
+    ∙ parts_read_back p.measurement p.tags p.fields p.timestamp ok.measurement ok.tags ok.fields ok.some_field ok.timestamp
+  where
+    parts_read_back : (m : List ℕ) (ts : List Tag) (fs : List Field) (t : Option ℤ)
+        → is_admitted_name a_measurement m ≡ true → AllByRecursion AdmittedTag ts → AllByRecursion AdmittedField fs
+        → 0 < length fs → IfSome t (λ z. fits_i64 z ≡ true)
+        → answer dialect (spelling a_measurement m ++ (flat_map built_tag ts ++ (built_fields 32 fs ++ built_timestamp t)))
+        ≡ Ok (read_line (record { measurement = m; tags = ts; fields = fs; timestamp = t }))
+    parts_read_back m ts [] t named tagged fielded some stamped = absurd (omega arith)
+    parts_read_back m ts (f ∷ fs) t named tagged fielded some stamped =
+        let after = built_field f ++ (built_fields 44 fs ++ built_timestamp t) in
+        let front = spelling a_measurement m ++ flat_map built_tag ts in
+        let line = spelling a_measurement m ++ (flat_map built_tag ts ++ 32 ∷ after) in
+        let regrouped : spelling a_measurement m ++
+        (flat_map built_tag ts ++ (built_fields 32 (f ∷ fs) ++ built_timestamp t)) ≡ line = simp append_assoc in
+        ap (answer dialect) regrouped
+        ∙ answer_from_parts dialect line front after (flat_map built_tag ts ++ 32 ∷ after) (built_timestamp t)
+        (read_name a_measurement m) (read_tags ts) (map read_field (f ∷ fs)) t
+        (measurement_reads_back m ts after named)
+        (tag_set_reads_back ts after tagged)
+        (ap (λ (xs : List ℕ). front_before xs (32 ∷ after))
+        (sym (append_assoc (spelling a_measurement m) (flat_map built_tag ts) (32 ∷ after)))
+        ∙ front_before_is front (32 ∷ after))
+        (ap spaces (append_assoc (spelling a_field_key f.key) (61 ∷ built_value f.value) (built_fields 44 fs ++ built_timestamp t))
+        ∙ spaces_before a_field_key f.key ((61 ∷ built_value f.value) ++ (built_fields 44 fs ++ built_timestamp t))
+        (admitted_parts a_field_key f.key fielded.0.0).some)
+        (field_set_reads_back dialect f fs t fielded.0 fielded.1)
+        (timestamp_reads_back t stamped)

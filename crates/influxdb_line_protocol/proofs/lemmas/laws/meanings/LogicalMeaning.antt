@@ -1,0 +1,72 @@
+-- A text stands for its text without escapes, and for no other.
+use Rattle.std.proofs.Common.{◌≡◌, ◌≢◌, ◌↔◌, ℕ, List, [], ◌∷◌, false, refl, sym, ap, ◌∙◌, subst, inl, inr}
+use Rattle.std.specs.Prelude.{◌==◌}
+use Rattle.std.proofs.lemmas.Bool.{cases_Bool, eqb-true, eqb-false}
+use Rattle.influxdb_line_protocol.specs.format.Bytes.{is_one_of}
+use Rattle.influxdb_line_protocol.specs.format.Escapes.{without_escapes}
+use Rattle.influxdb_line_protocol.specs.laws.Meanings.{IsLogical, empty, plain, escape, other, end}
+use Rattle.influxdb_line_protocol.proofs.lemmas.names.NameLemmas.{without_escapes_plain_byte, without_escapes_known}
+
+-- a backslash and a byte that is not known stay
+without_escapes_other : (known : List ℕ) (c : ℕ) (rest : List ℕ) → is_one_of known c ≡ false
+    → without_escapes known (92 ∷ c ∷ rest) ≡ 92 ∷ c ∷ without_escapes known rest
+unfolding without_escapes
+without_escapes_other known c rest h = rw h refl
+
+-- one byte stays
+without_escapes_end : (known : List ℕ) (b : ℕ) → without_escapes known (b ∷ []) ≡ b ∷ []
+unfolding without_escapes
+without_escapes_end known b = refl
+
+-- nothing stays nothing
+without_escapes_empty : (known : List ℕ) → without_escapes known [] ≡ []
+unfolding without_escapes
+without_escapes_empty known = refl
+
+-- a text stands for no text but that without escapes
+pub logical_is_unique : (known : List ℕ) (spelled logical : List ℕ) → IsLogical known spelled logical
+    → logical ≡ without_escapes known spelled
+logical_is_unique known _ _ empty = sym (without_escapes_empty known)
+logical_is_unique known _ _ (plain b s l differs more) =
+    ap (λ (xs : List ℕ). b ∷ xs) (logical_is_unique known s l more) ∙ sym (without_escapes_plain_byte known b s differs)
+logical_is_unique known _ _ (escape c s l is more) =
+    ap (λ (xs : List ℕ). c ∷ xs) (logical_is_unique known s l more) ∙ sym (without_escapes_known known c s is)
+logical_is_unique known _ _ (other c s l is more) =
+    ap (λ (xs : List ℕ). 92 ∷ c ∷ xs) (logical_is_unique known s l more) ∙ sym (without_escapes_other known c s is)
+logical_is_unique known _ _ end = sym (without_escapes_end known 92)
+
+-- what begins with a backslash and another byte, from what follows them
+stands_escaped : (known : List ℕ) (c : ℕ) (rest : List ℕ) → IsLogical known rest (without_escapes known rest)
+    → IsLogical known (92 ∷ c ∷ rest) (without_escapes known (92 ∷ c ∷ rest))
+stands_escaped known c rest more =
+    elim (cases_Bool (is_one_of known c)) [
+      | inl is ↦ subst (IsLogical known (92 ∷ c ∷ rest)) (sym (without_escapes_known known c rest is)) (escape c rest _ is more)
+      | inr is ↦ subst (IsLogical known (92 ∷ c ∷ rest)) (sym (without_escapes_other known c rest is)) (other c rest _ is more)
+    ]
+
+-- what begins with another byte, from what follows it
+stands_plain : (known : List ℕ) (b : ℕ) (rest : List ℕ) → b ≢ 92 → IsLogical known rest (without_escapes known rest)
+    → IsLogical known (b ∷ rest) (without_escapes known (b ∷ rest))
+stands_plain known b rest differs more =
+    subst (IsLogical known (b ∷ rest)) (sym (without_escapes_plain_byte known b rest differs)) (plain b rest _ differs more)
+
+-- a text stands for its text without escapes
+pub stands_for_it : (known : List ℕ) (spelled : List ℕ) → IsLogical known spelled (without_escapes known spelled)
+stands_for_it known [] = subst (IsLogical known []) (sym (without_escapes_empty known)) empty
+stands_for_it known (b ∷ []) =
+    elim (cases_Bool (b == 92)) [
+      | inl e ↦ rw (eqb-true b 92 e) (subst (IsLogical known (92 ∷ [])) (sym (without_escapes_end known 92)) end)
+      | inr e ↦ stands_plain known b [] (eqb-false b 92 e) (stands_for_it known [])
+    ]
+stands_for_it known (b ∷ c ∷ rest) =
+    elim (cases_Bool (b == 92)) [
+      | inl e ↦ rw (eqb-true b 92 e) (stands_escaped known c rest (stands_for_it known rest))
+      | inr e ↦ stands_plain known b (c ∷ rest) (eqb-false b 92 e) (stands_for_it known (c ∷ rest))
+    ]
+
+-- so it stands for exactly that one
+pub logical_is : (known spelled logical : List ℕ) → IsLogical known spelled logical ↔ (logical ≡ without_escapes known spelled)
+logical_is known spelled logical = (
+  logical_is_unique known spelled logical,
+  (λ e. subst (IsLogical known spelled) (sym e) (stands_for_it known spelled)),
+)

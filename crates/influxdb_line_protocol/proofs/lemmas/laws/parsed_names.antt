@@ -1,0 +1,4 @@
+pub mod ParsedNames
+pub mod Spellings
+pub mod Utf8Spellings
+pub mod NamesInLines

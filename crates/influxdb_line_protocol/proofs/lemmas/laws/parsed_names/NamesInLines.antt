@@ -1,0 +1,219 @@
+-- Each parsed name is a name in some line.
+use Rattle.std.proofs.Common.{◌≡◌, ◌≢◌, ℕ, ◌<◌, List, [], ◌∷◌, ◌++◌, length, slice_index, false, refl, subst, arith}
+use Rattle.std.proofs.Common.{inl, inr, append_assoc, Some, None, Ok}
+use Rattle.std.specs.Prelude.{pos}
+use Rattle.std.specs.List.{Contains}
+use Rattle.std.specs.Str.{IsUtf8}
+use Rattle.std.proofs.lemmas.Str.{IsUtf8-append, IsUtf8-nil}
+use Rattle.influxdb_line_protocol.proofs.lemmas.split.SplitWalk.{Plain}
+use Rattle.influxdb_line_protocol.specs.declared.split.Dialect.{Dialect}
+use Rattle.influxdb_line_protocol.specs.declared.split.Dialect.TheVariants.{Crate, Strict}
+use Rattle.influxdb_line_protocol.specs.format.Readings.{Text, reads}
+use Rattle.influxdb_line_protocol.specs.format.Names.{NameKind, a_measurement, a_tag_key, a_tag_value, a_field_key}
+use Rattle.influxdb_line_protocol.specs.format.Names.{ends_in_backslash, escapable, read_text}
+use Rattle.influxdb_line_protocol.specs.format.Values.{Value, integer, value, integer_at}
+use Rattle.influxdb_line_protocol.specs.format.Points.{Pair}
+use Rattle.influxdb_line_protocol.specs.format.Pieces.{IsLastPiece, Pieces.last, begins_comment}
+use Rattle.influxdb_line_protocol.specs.format.Lines.{Line, tag, field, tag_set, field_set, front_before, answer}
+use Rattle.influxdb_line_protocol.specs.format.Items.{HasAnswers, answers_of_piece}
+use Rattle.influxdb_line_protocol.specs.laws.NamesOfLines.{IsParsedName}
+use Rattle.influxdb_line_protocol.specs.laws.Laws.{ParsedNamesStandInLines}
+use Rattle.influxdb_line_protocol.proofs.lemmas.split.SplitBare.{is_escaped-push_other}
+use Rattle.influxdb_line_protocol.proofs.lemmas.split.SplitWalk.{Plain-equals}
+use Rattle.influxdb_line_protocol.proofs.lemmas.laws.batch_reads_back.LinePieces.{Reaches, reaches_start, reaches_simple}
+use Rattle.influxdb_line_protocol.proofs.lemmas.laws.batch_reads_back.LineReadsBack.{answer_from_parts}
+use Rattle.influxdb_line_protocol.proofs.lemmas.laws.parsed_names.ParsedNames.{name_kept}
+use Rattle.influxdb_line_protocol.proofs.lemmas.laws.parsed_names.Utf8Spellings.{utf8_push, spelling_utf8}
+use Rattle.influxdb_line_protocol.proofs.lemmas.laws.parsed_names.Spellings.{SpelledAs, SpelledAs.done, SpelledAs.plain, spelled_as}
+use Rattle.influxdb_line_protocol.proofs.lemmas.laws.parsed_names.Spellings.{spelled_logical, spelled_reads, spelled_begins, spelled_spaces}
+use Rattle.influxdb_line_protocol.proofs.lemmas.laws.parsed_names.Spellings.{BeginsLine, line_no_comment, line_trimmed}
+use Rattle.influxdb_line_protocol.proofs.lemmas.laws.parsed_names.Spellings.{line_some, reaches_head}
+use Rattle.influxdb_line_protocol.proofs.lemmas.laws.parsed_names.Spellings.{reaches_other, reaches_gap, reaches_field_key}
+
+-- a name that is not empty and does not end in a backslash, with a spelling
+record Spelled (kind : NameKind) (n s : List ℕ) : Type 0 where
+  spelled : SpelledAs kind n s
+  some : 0 < length n
+  ends : ends_in_backslash n ≡ false
+
+-- a parsed name has a spelling
+has_spelling : (kind : NameKind) (n : List ℕ) → IsParsedName kind n → (s : List ℕ) × Spelled kind n s
+has_spelling kind n h =
+    let found = spelled_as kind n (name_kept kind n h) in
+    (found.0, record { spelled = found.1; some = h.some; ends = h.ends })
+
+-- a text of one name reads as it
+abbrev text : NameKind → List ℕ → Text
+text kind s = read_text (escapable kind) s
+
+-- the line with these spellings of its names, from its field on, its tag's value on, its tag on, and whole
+abbrev from_field : List ℕ → List ℕ
+from_field f = f ++ 61 ∷ 49 ∷ 105 ∷ []
+
+-- from the value of its tag on
+abbrev from_value : List ℕ → List ℕ → List ℕ
+from_value v f = v ++ 32 ∷ from_field f
+
+-- from the key of its tag on
+abbrev from_key : List ℕ → List ℕ → List ℕ → List ℕ
+from_key k v f = k ++ 61 ∷ from_value v f
+
+-- all of it
+abbrev whole : List ℕ → List ℕ → List ℕ → List ℕ → List ℕ
+whole m k v f = m ++ 44 ∷ from_key k v f
+
+-- what its tag is read as
+abbrev tag_of : List ℕ → List ℕ → Pair Text Text
+tag_of k v = record { key = text a_tag_key k; value = text a_tag_value v }
+
+-- what its field is read as
+abbrev field_of : List ℕ → Pair Text (Value Text)
+field_of f = record { key = text a_field_key f; value = integer (pos 1) }
+
+-- and the whole line
+abbrev line_of : List ℕ → List ℕ → List ℕ → List ℕ → Line
+line_of m k v f =
+    record {
+      series = front_before (whole m k v f) (32 ∷ from_field f);
+      measurement = text a_measurement m;
+      tags = Some (tag_of k v ∷ []);
+      fields = field_of f ∷ [];
+      timestamp = None;
+    }
+
+-- what is read of it
+tag_read : {k n v x : List ℕ} → Spelled a_tag_key n k → Spelled a_tag_value x v → (f : List ℕ)
+    → tag (from_key k v f) ≡ reads (tag_of k v) (32 ∷ from_field f)
+unfolding tag
+tag_read {v = v} key value
+    f = rw (
+      spelled_reads key.spelled key.some key.ends (61 ∷ from_value v f) refl,
+      spelled_reads value.spelled value.some value.ends (32 ∷ from_field f) refl,
+    ) refl
+
+-- the set of its tag
+tags_read : {k n v x : List ℕ} → Spelled a_tag_key n k → Spelled a_tag_value x v → (f : List ℕ)
+    → tag_set (44 ∷ from_key k v f) ≡ Ok (record { value = Some (tag_of k v ∷ []); rest = 32 ∷ from_field f })
+tags_read key value f = rw (tag_read key value f) refl
+
+-- its field
+field_read : {f n : List ℕ} → Spelled a_field_key n f → field (from_field f) ≡ reads (field_of f) []
+unfolding field value integer_at
+field_read h = rw (spelled_reads h.spelled h.some h.ends (61 ∷ 49 ∷ 105 ∷ []) refl) refl
+
+-- and the set of its field
+fields_read : (dialect : Dialect) {f n : List ℕ} → Spelled a_field_key n f → field_set dialect (from_field f) ≡ reads (field_of f ∷ []) []
+fields_read Crate h = rw (field_read h) refl
+fields_read Strict h = rw (field_read h) refl
+
+-- a closed text that is no comment is a last piece
+last_piece : (dialect : Dialect) (t : List ℕ) → begins_comment t ≡ false → Reaches Plain 1 0 t → IsLastPiece dialect t
+last_piece Crate t none r = inl (inr (r.1.0, r.1.1))
+last_piece Strict t none r = inr (none, inl (inr (r.1.0, r.1.1)))
+
+module _ {m k v f m' k' v' f' : List ℕ} (first : Spelled a_measurement m' m) (no_hash : slice_index m' 0 ≢ 35)
+    (key : Spelled a_tag_key k' k) (value : Spelled a_tag_value v' v) (field : Spelled a_field_key f' f) where
+  -- it begins with no blank, no newline and no `#`
+  begins : BeginsLine (whole m k v f)
+  begins = spelled_begins first.spelled first.some no_hash (44 ∷ from_key k v f)
+
+  -- it ends in a plain stretch
+  reaches_end : Reaches Plain 1 0 (whole m k v f)
+  reaches_end =
+      let front = reaches_other 44 (omega arith) (omega arith) (omega arith) m (reaches_head first.spelled [] reaches_start) in
+      let tagged = reaches_other 61 (omega arith) (omega arith) (omega arith) ((m ++ 44 ∷ []) ++ k)
+      (reaches_head key.spelled (m ++ 44 ∷ []) front) in
+      let head = reaches_head value.spelled (((m ++ 44 ∷ []) ++ k) ++ 61 ∷ []) tagged in
+      let series = (((m ++ 44 ∷ []) ++ k) ++ 61 ∷ []) ++ v in
+      let named = reaches_field_key 0 field.spelled (series ++ 32 ∷ []) (reaches_gap series head) in
+      let text = (series ++ 32 ∷ []) ++ f in
+      let sign : Reaches Plain 1 0
+      (text ++ 61 ∷ []) = (is_escaped-push_other text 61 (omega arith), Plain-equals 0 0 text named.0 named.1) in
+      let all = reaches_simple 1 0 (49 ∷ 105 ∷ []) (text ++ 61 ∷ []) refl sign in
+      subst (Reaches Plain 1 0) (simp append_assoc) all
+
+  -- its answer is the line
+  answered : (dialect : Dialect) → answer dialect (whole m k v f) ≡ Ok (line_of m k v f)
+  answered dialect =
+      answer_from_parts dialect (whole m k v f) (front_before (whole m k v f) (32 ∷ from_field f)) (from_field f)
+      (44 ∷ from_key k v f) [] (text a_measurement m) (Some (tag_of k v ∷ [])) (field_of f ∷ []) None
+      (spelled_reads first.spelled first.some first.ends (44 ∷ from_key k v f) refl)
+      (tags_read key value f)
+      refl
+      (spelled_spaces field.spelled field.some (61 ∷ 49 ∷ 105 ∷ []))
+      (fields_read dialect field)
+      refl
+
+  -- and its only one
+  stands : (dialect : Dialect) → HasAnswers dialect (whole m k v f) (Ok (line_of m k v f) ∷ [])
+  unfolding answers_of_piece
+  stands dialect =
+      record {
+        pieces = whole m k v f ∷ [];
+        are = last (whole m k v f) (last_piece dialect (whole m k v f) (line_no_comment (whole m k v f) begins) reaches_end);
+        answered = rw (line_trimmed (whole m k v f) begins, line_some (whole m k v f) begins, answered dialect) refl;
+      }
+
+-- the name of one letter
+letter : (kind : NameKind) → Spelled kind (120 ∷ []) (120 ∷ [])
+letter a_measurement = record { spelled = plain 120 [] [] refl refl done; some = omega arith; ends = refl }
+letter a_tag_key = record { spelled = plain 120 [] [] refl refl done; some = omega arith; ends = refl }
+letter a_tag_value = record { spelled = plain 120 [] [] refl refl done; some = omega arith; ends = refl }
+letter a_field_key = record { spelled = plain 120 [] [] refl refl done; some = omega arith; ends = refl }
+
+-- a list of one element
+one_element : {X : Type 0} (y x : X) → y ≡ x → Contains (y ∷ []) x
+one_element y x e = (0, omega arith, e)
+
+-- the name of one letter is UTF-8
+x_utf8 : IsUtf8 (120 ∷ [])
+x_utf8 = utf8_push 120 [] (omega arith) IsUtf8-nil
+
+-- a line whose names are spelled in UTF-8 is UTF-8
+whole_utf8 : {m k v f : List ℕ} → IsUtf8 m → IsUtf8 k → IsUtf8 v → IsUtf8 f → IsUtf8 (whole m k v f)
+whole_utf8 {m = m} {k = k} {v = v} {f = f} a b c d =
+    let end = utf8_push 61 (49 ∷ 105 ∷ []) (omega arith)
+    (utf8_push 49 (105 ∷ []) (omega arith) (utf8_push 105 [] (omega arith) IsUtf8-nil)) in
+    let field = IsUtf8-append f (61 ∷ 49 ∷ 105 ∷ []) d end in
+    let from_v = IsUtf8-append v (32 ∷ from_field f) c (utf8_push 32 (from_field f) (omega arith) field) in
+    let from_k = IsUtf8-append k (61 ∷ from_value v f) b (utf8_push 61 (from_value v f) (omega arith) from_v) in
+    IsUtf8-append m (44 ∷ from_key k v f) a (utf8_push 44 (from_key k v f) (omega arith) from_k)
+
+-- each parsed name, in the line whose other names are one letter
+pub parsed_names_stand_in_lines : ParsedNamesStandInLines
+parsed_names_stand_in_lines dialect a_measurement n h =
+    let s = has_spelling a_measurement n h in
+    let x : List ℕ = 120 ∷ [] in (
+      whole s.0 x x x,
+      line_of s.0 x x x,
+      stands s.1 h.begins (letter a_tag_key) (letter a_tag_value) (letter a_field_key) dialect,
+      one_element _ n (spelled_logical s.1.spelled),
+      λ u. whole_utf8 (spelling_utf8 s.1.spelled u) x_utf8 x_utf8 x_utf8,
+    )
+parsed_names_stand_in_lines dialect a_tag_key n h =
+    let s = has_spelling a_tag_key n h in
+    let x : List ℕ = 120 ∷ [] in (
+      whole x s.0 x x,
+      line_of x s.0 x x,
+      stands (letter a_measurement) (omega arith) s.1 (letter a_tag_value) (letter a_field_key) dialect,
+      one_element _ n (spelled_logical s.1.spelled),
+      λ u. whole_utf8 x_utf8 (spelling_utf8 s.1.spelled u) x_utf8 x_utf8,
+    )
+parsed_names_stand_in_lines dialect a_tag_value n h =
+    let s = has_spelling a_tag_value n h in
+    let x : List ℕ = 120 ∷ [] in (
+      whole x x s.0 x,
+      line_of x x s.0 x,
+      stands (letter a_measurement) (omega arith) (letter a_tag_key) s.1 (letter a_field_key) dialect,
+      one_element _ n (spelled_logical s.1.spelled),
+      λ u. whole_utf8 x_utf8 x_utf8 (spelling_utf8 s.1.spelled u) x_utf8,
+    )
+parsed_names_stand_in_lines dialect a_field_key n h =
+    let s = has_spelling a_field_key n h in
+    let x : List ℕ = 120 ∷ [] in (
+      whole x x x s.0,
+      line_of x x x s.0,
+      stands (letter a_measurement) (omega arith) (letter a_tag_key) (letter a_tag_value) s.1 dialect,
+      one_element _ n (spelled_logical s.1.spelled),
+      λ u. whole_utf8 x_utf8 x_utf8 x_utf8 (spelling_utf8 s.1.spelled u),
+    )

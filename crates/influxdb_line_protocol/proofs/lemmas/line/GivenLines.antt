@@ -1,0 +1,68 @@
+-- From the line that a call of `next_line` gives to the item of that line.
+use Rattle.std.proofs.Common.{◌≡◌, ℕ, ◌<◌, ◌≤◌, ◌^◌, List, length, true, subst, Option, Some, None, Result, Err, arith}
+use Rattle.std.specs.Prelude.{IfSome}
+use Rattle.std.specs.Option.{option_map}
+use Rattle.smallvec.specs.SmallVec.{SmallVec}
+use Rattle.influxdb_line_protocol.specs.declared.error.Error.{Error}
+use Rattle.influxdb_line_protocol.specs.declared.line.ParsedLine.{ParsedLine}
+use Rattle.influxdb_line_protocol.specs.format.Items.{line_answer}
+use Rattle.influxdb_line_protocol.specs.code.Light.{is_light, is_light_in}
+use Rattle.influxdb_line_protocol.specs.code.Outcomes.{IsNotOutOfMemory}
+use Rattle.influxdb_line_protocol.specs.code.Parsed.{Answers}
+use Rattle.influxdb_line_protocol.specs.code.ParseSteps.{IsItemOf, GaveItem, GaveLine}
+use Rattle.influxdb_line_protocol.specs.format.Pieces.{Left}
+use Rattle.influxdb_line_protocol.specs.code.ReadInto.{GaveInRoom}
+use Rattle.influxdb_line_protocol.proofs.lemmas.line.ColumnsFit.{item_columns_fit}
+use Rattle.influxdb_line_protocol.proofs.lemmas.line.LightLemmas.{more_room}
+use Rattle.influxdb_line_protocol.proofs.lemmas.line.SomeTags.{item_has_tags}
+
+-- the item of the line that was given
+pub gave_item : (before : Left) (line : List ℕ) (item : Result ParsedLine Error) (others : List (List ℕ)) → GaveLine before line others
+    → length line < 2 ^ 63 → Answers item (line_answer before.dialect line) → (is_light before.dialect line ≡ true → IsNotOutOfMemory item)
+    → GaveItem before item others
+gave_item before line item others g short answers light =
+    record {
+      skipped = g.skipped;
+      piece = g.piece;
+      left = g.left;
+      blank = g.blank;
+      some = subst (λ (l : List ℕ). 0 < length l) g.line_is g.some;
+      item_is =
+          subst (λ l. IsItemOf before.dialect l item) g.line_is
+          (record {
+            answers = answers;
+            light = light;
+            tags = item_has_tags before.dialect line item answers;
+            columns_fit = item_columns_fit before.dialect line item short answers;
+          });
+    }
+
+-- the line that was given was read in this room
+pub gave_in_room : {X : Type 0} (tags fields more_tags more_fields : ℕ) (before : Left) (line : List ℕ)
+    (answer : Result X Error) (others : List (List ℕ))
+    → tags ≤ more_tags → fields ≤ more_fields → GaveLine before line others
+    → (is_light_in more_tags more_fields before.dialect line ≡ true → IsNotOutOfMemory answer) → GaveInRoom tags fields before answer others
+gave_in_room tags fields more_tags more_fields before line answer others h k g light =
+    record {
+      line = line;
+      gave = g;
+      light = λ small. light (more_room before.dialect line tags fields more_tags more_fields h k small);
+    }
+
+-- less room is kept where more is
+pub less_room : {T : Type 0} (n m : ℕ) (set : Option (SmallVec T)) → n ≤ m → IfSome set (λ s. m ≤ s.capacity)
+    → IfSome set (λ s. n ≤ s.capacity)
+less_room n m None h k = tt
+less_room n m (Some set) h k = omega arith
+
+-- room is kept where the capacity stays
+pub same_room : {T : Type 0} (n : ℕ) (old new : Option (SmallVec T)) → option_map (λ s. s.capacity) new ≡ option_map (λ s. s.capacity) old
+    → IfSome old (λ s. n ≤ s.capacity) → IfSome new (λ s. n ≤ s.capacity)
+same_room n old None e h = tt
+same_room n None (Some new) e h = absurd (cc)
+same_room n (Some old) (Some new) e h = let same : new.capacity ≡ old.capacity = cc in omega arith
+
+-- `OutOfMemory` is not the item where it is not the answer
+pub same_want : {X Y : Type 0} (e : Error) → (let r : Result X Error = Err e in IsNotOutOfMemory r)
+    → (let r : Result Y Error = Err e in IsNotOutOfMemory r)
+same_want e h = λ same. h (cc)

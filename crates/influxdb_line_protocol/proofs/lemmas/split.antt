@@ -1,0 +1,12 @@
+pub mod SplitAppend
+pub mod SplitBare
+pub mod SplitJumps
+pub mod SplitMasks
+pub mod SplitCounts
+pub mod SplitStretches
+pub mod SplitMachine
+pub mod SplitPieces
+pub mod QuietCuts
+pub mod SplitShape
+pub mod SplitWalk
+pub mod WideSearch

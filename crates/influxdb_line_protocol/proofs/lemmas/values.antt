@@ -1,0 +1,3 @@
+pub mod ValueLemmas
+pub mod ValueForms
+pub mod StringLemmas

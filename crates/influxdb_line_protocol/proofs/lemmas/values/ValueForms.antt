@@ -1,0 +1,149 @@
+-- The first bytes of a value decide its form.
+use Rattle.std.proofs.Common.{◌≡◌, ◌≢◌, ◌⊎◌, ◌∙◌, ℕ, ◌≤◌, List, [], ◌∷◌, true, false, slice_index, refl, sym, arith, inl, inr}
+use Rattle.std.specs.Prelude.{◌==◌, ◌||◌, codes}
+use Rattle.std.specs.Char.{is_ascii_digit}
+use Rattle.std.proofs.lemmas.Bool.{cases_eq, eq-eqb, eqb-false, ne_eqb, or_parts}
+use Rattle.std.proofs.lemmas.Grind.{common_steps}
+use Rattle.influxdb_line_protocol.specs.format.Bytes.{is_one_of}
+use Rattle.influxdb_line_protocol.specs.format.Readings.{Reading, Text, miss, fatal, reads, ◌otherwise◌}
+use Rattle.influxdb_line_protocol.specs.format.Values.{Value, value, integer_at, unsigned_at, float_at, string_at, boolean_at}
+use Rattle.influxdb_line_protocol.specs.format.Values.{integer_len, digits_len, float_len, longer_front, word_len, true_words}
+use Rattle.influxdb_line_protocol.specs.format.Values.{false_words}
+use Rattle.influxdb_line_protocol.proofs.lemmas.literals.FloatLemmas.{float_misses}
+use Rattle.influxdb_line_protocol.proofs.lemmas.values.ValueLemmas.{boolean_misses, digits_of_minus, digits_of_plain, integer_misses}
+use Rattle.influxdb_line_protocol.proofs.lemmas.values.ValueLemmas.{integer_unmarked, unsigned_misses, unsigned_unmarked}
+
+-- where no integer stands, no digits do
+no_digits : (text : List ℕ) → integer_len text ≡ 0 → digits_len text ≡ 0
+no_digits text none =
+    elim (cases_eq (slice_index text 0) 45) [
+      | inl minus ↦ digits_of_minus text minus
+      | inr plain ↦ digits_of_plain text plain ∙ none
+    ]
+
+-- and no number
+pub no_number : (text : List ℕ) → integer_len text ≡ 0 → (integer_at text otherwise unsigned_at text otherwise float_at text) ≡ miss
+no_number text none =
+    let no_float : float_len text ≡ 0 = rw (eq-eqb (integer_len text) 0 none) refl in
+    rw (integer_misses text none, unsigned_misses text (no_digits text none), float_misses text no_float) refl
+
+-- what comes before `u`, with no `-` at the start, are digits
+pub unsigned_mark : (text : List ℕ) → slice_index text 0 ≢ 45 → slice_index text (integer_len text) ≡ 117
+    → slice_index text (digits_len text) ≡ 117
+unsigned_mark text plain mark = rw (digits_of_plain text plain) mark
+
+-- without either mark, or with `-` at the start of `u`, it is a float or nothing
+pub float_stands : (text : List ℕ) → slice_index text (integer_len text) ≢ 105
+    → (slice_index text (integer_len text) ≢ 117) ⊎ (slice_index text 0 ≡ 45)
+    → (integer_at text otherwise unsigned_at text otherwise float_at text) ≡ float_at text
+float_stands text no_i (inl no_u) =
+    rw (integer_unmarked text no_i) (elim (cases_eq (slice_index text 0) 45) [
+      | inl minus ↦ rw (unsigned_misses text (digits_of_minus text minus)) refl
+      | inr plain ↦ rw (unsigned_unmarked text (λ mark. no_u (rw (digits_of_plain text plain) at mark))) refl
+    ])
+float_stands text no_i (inr minus) = rw (integer_unmarked text no_i, unsigned_misses text (digits_of_minus text minus)) refl
+
+-- a miss after a reading changes nothing
+otherwise_miss : (r : Reading (Value Text)) → (r otherwise miss) ≡ r
+otherwise_miss miss = refl
+otherwise_miss (fatal fault) = refl
+otherwise_miss (reads v rest) = refl
+
+-- a digit or `-` is neither a quote nor a letter
+number_byte : (b : ℕ) → (is_ascii_digit b || b == 45) ≡ true → (45 ≤ b) × (b ≤ 57)
+number_byte b first = (grind (arith, common_steps), grind (arith, common_steps))
+
+-- no integer stands where the first byte is neither a digit nor `-`
+no_integer : (text : List ℕ) → (is_ascii_digit (slice_index text 0) || slice_index text 0 == 45) ≡ false → integer_len text ≡ 0
+no_integer [] other = refl
+no_integer (b ∷ rest) other =
+    let parts = or_parts (is_ascii_digit b) (b == 45) other in
+    let no_minus : (45 == b) ≡ false = ne_eqb 45 b (λ e. absurd (eqb-false b 45 parts.1 (sym e))) in
+    rw (no_minus, parts.0) refl
+
+-- a word that begins with another byte is not at the start
+word_misses : (text word : List ℕ) (n w : ℕ) → slice_index text 0 ≢ w → longer_front text n (w ∷ word) ≡ n
+word_misses [] word n w other = refl
+word_misses (b ∷ rest) word n w other = rw (ne_eqb w b (λ e. absurd (other (sym e)))) refl
+
+-- no word for true is at the start of a text that begins with neither of its letters
+no_true : (text : List ℕ) → slice_index text 0 ≢ 116 → slice_index text 0 ≢ 84 → boolean_at true true_words text ≡ miss
+no_true text t T =
+    let none : word_len true_words text ≡ 0 =
+    rw (
+      word_misses text (codes "rue") 0 116 t,
+      word_misses text (codes "rue") 0 84 T,
+      word_misses text (codes "RUE") 0 84 T,
+      word_misses text [] 0 116 t,
+      word_misses text [] 0 84 T,
+    ) refl in
+    boolean_misses true true_words text none
+
+-- nor one for false
+no_false : (text : List ℕ) → slice_index text 0 ≢ 102 → slice_index text 0 ≢ 70 → boolean_at false false_words text ≡ miss
+no_false text f F =
+    let none : word_len false_words text ≡ 0 =
+    rw (
+      word_misses text (codes "alse") 0 102 f,
+      word_misses text (codes "alse") 0 70 F,
+      word_misses text (codes "ALSE") 0 70 F,
+      word_misses text [] 0 102 f,
+      word_misses text [] 0 70 F,
+    ) refl in
+    boolean_misses false false_words text none
+
+-- no Boolean is at the start of a text that begins with none of these letters
+no_boolean : (text : List ℕ) → slice_index text 0 ≢ 116 → slice_index text 0 ≢ 84 → slice_index text 0 ≢ 102 → slice_index text 0 ≢ 70
+    → (boolean_at true true_words text ≡ miss) × (boolean_at false false_words text ≡ miss)
+no_boolean text t T f F = (no_true text t T, no_false text f F)
+
+-- the first letter decides which word may are there
+pub true_form : (text : List ℕ) → is_one_of (codes "tT") (slice_index text 0) ≡ true
+    → (boolean_at true true_words text otherwise boolean_at false false_words text) ≡ boolean_at true true_words text
+true_form text first =
+    let other : (slice_index text 0 ≢ 102)
+    × (slice_index text 0 ≢ 70) = (λ e. grind (arith, common_steps), λ e. grind (arith, common_steps)) in
+    rw (no_false text other.0 other.1, otherwise_miss (boolean_at true true_words text)) refl
+
+pub false_form : (text : List ℕ) → is_one_of (codes "tT") (slice_index text 0) ≡ false
+    → (boolean_at true true_words text otherwise boolean_at false false_words text) ≡ boolean_at false false_words text
+false_form text first =
+    let other : (slice_index text 0 ≢ 116)
+    × (slice_index text 0 ≢ 84) = (λ e. grind (arith, common_steps), λ e. grind (arith, common_steps)) in
+    rw (no_true text other.0 other.1) refl
+
+-- no string stands where the first byte is no quote
+no_string : (text : List ℕ) → slice_index text 0 ≢ 34 → string_at text ≡ miss
+unfolding string_at
+no_string [] other = refl
+no_string (b ∷ rest) other = rw (ne_eqb b 34 other) refl
+
+-- a digit or `-` at the start: a number
+pub number_form : (text : List ℕ) → (is_ascii_digit (slice_index text 0) || slice_index text 0 == 45) ≡ true
+    → value text ≡ (integer_at text otherwise unsigned_at text otherwise float_at text)
+unfolding value
+number_form text first =
+    let range = number_byte (slice_index text 0) first in
+    let no_word = no_boolean text (λ e. absurd (omega (arith, e, range.1)))
+    (λ e. absurd (omega (arith, e, range.1))) (λ e. absurd (omega (arith, e, range.1)))
+    (λ e. absurd (omega (arith, e, range.1))) in
+    let no_text = no_string text (λ e. absurd (omega (arith, e, range.0))) in
+    let same = otherwise_miss (integer_at text otherwise unsigned_at text otherwise float_at text) in
+    rw (no_text, no_word.0, no_word.1, same, same, same) refl
+
+-- a quote at the start: a text
+pub string_form : (text : List ℕ) → slice_index text 0 ≡ 34 → value text ≡ string_at text
+unfolding value
+string_form text first =
+    let number = no_number text (no_integer text (rw first refl)) in
+    let no_word = no_boolean text (λ e. absurd (omega (arith, e, first))) (λ e. absurd (omega (arith, e, first)))
+    (λ e. absurd (omega (arith, e, first)))
+    (λ e. absurd (omega (arith, e, first))) in
+    let same = otherwise_miss (string_at text) in
+    rw (number, no_word.0, no_word.1, same, same) refl
+
+-- else a Boolean
+pub boolean_form : (text : List ℕ) → (is_ascii_digit (slice_index text 0) || slice_index text 0 == 45) ≡ false → slice_index text 0 ≢ 34
+    → value text ≡ (boolean_at true true_words text otherwise boolean_at false false_words text)
+unfolding value
+boolean_form text other no_quote = rw (no_number text (no_integer text other), no_string text no_quote) refl

@@ -1,0 +1,46 @@
+-- What the calls of the builder write.
+use Rattle.std.specs.Prelude.{◌≡◌, ◌≢◌, ℕ, ◌+◌, ◌^◌, ◌<◌, ◌≤◌, ◌↔◌, List, ◌++◌, length, Result, IfOk, IfErr, IsOk, MatchResult}
+use Rattle.influxdb_line_protocol.specs.declared.builder.Escapes.{Escapes}
+use Rattle.influxdb_line_protocol.specs.declared.builder.Escapes.TheVariants.{OfMeasurement, OfKey, OfString}
+use Rattle.influxdb_line_protocol.specs.declared.builder.NoRoom.{NoRoom}
+use Rattle.influxdb_line_protocol.specs.declared.builder.NoRoom.TheVariants.{TooLong}
+use Rattle.influxdb_line_protocol.specs.declared.builder.LineProtocolBuilder.{LineProtocolBuilder}
+use Rattle.influxdb_line_protocol.specs.declared.builder.Refused.{Refused}
+use Rattle.influxdb_line_protocol.specs.format.Escapes.{escaped}
+use Rattle.influxdb_line_protocol.specs.format.Names.{a_measurement, a_tag_key, escapable}
+use Rattle.influxdb_line_protocol.specs.format.Values.{quotable}
+
+-- the buffer that a builder writes to
+abbrev pub buffer_of : {B S : Type 0} → LineProtocolBuilder B S → B
+buffer_of b = b.buf
+
+-- the bytes that get a backslash
+abbrev pub bytes_of : Escapes → List ℕ
+bytes_of OfMeasurement = escapable a_measurement
+bytes_of OfKey = escapable a_tag_key
+bytes_of OfString = quotable
+
+-- no byte of a text gets a backslash
+abbrev pub IsPlainText : List ℕ → List ℕ → Type 0
+IsPlainText bytes text = escaped bytes text ≡ text
+
+-- a call whose text is this one appends exactly it, or is refused and changes nothing
+pub record Writes {B S T : Type 0} (bytes : B → List ℕ) (room : B → ℕ) (refuses : NoRoom → Type 0)
+    (text : List ℕ) (before : B) (result : Result (LineProtocolBuilder B T) (Refused B S)) : Type 0 where
+  -- an accepted call appends the text, and nothing else
+  pub ok : IfOk result (λ b. bytes (buffer_of b) ≡ bytes before ++ text)
+  -- it takes no more room than the text has bytes
+  pub left : IfOk result (λ b. room before ≤ room (buffer_of b) + length text)
+  -- a refused call leaves the bytes as they were
+  pub unchanged : IfErr result (λ r. bytes (buffer_of r.builder) ≡ bytes before)
+  -- it leaves no less room
+  pub kept : IfErr result (λ r. room before ≤ room (buffer_of r.builder))
+  -- a text is too long exactly where no `usize` holds its length, and then no call is accepted
+  pub too_long :
+      MatchResult result (λ _. length text < 2 ^ 64) (λ r. (r.cause ≡ TooLong) ↔ (2 ^ 64 ≤ length text))
+  -- any other refusal is for want of room
+  pub refused : IfErr result (λ r. r.cause ≢ TooLong → room before < length text)
+  -- and its cause is one that the buffer gives
+  pub cause : IfErr result (λ r. r.cause ≢ TooLong → refuses r.cause)
+  -- where the room suffices and a `usize` holds the length, the call is accepted
+  pub succeeds : length text ≤ room before → length text < 2 ^ 64 → IsOk result

@@ -1,0 +1,34 @@
+-- Runs of bytes that pass a test.
+use Rattle.std.specs.Prelude.{◌≡◌, ℕ, ◌+◌, ◌<◌, ◌≤◌, ◌==◌, if◌then◌else◌, Bool, true, false, not, List, length, map, slice_index}
+use Rattle.std.specs.Int.{w64, trailing_zeros}
+use Rattle.std.specs.Simd.Lanes.{chunk, mask_l}
+use Rattle.memchr.specs.Find.{is_byte3}
+use Rattle.influxdb_line_protocol.specs.format.Bytes.{newline, quote, backslash}
+
+-- the bytes from one place up to another pass the test
+abbrev pub AllPassBetween : (ℕ → Bool) → List ℕ → ℕ → ℕ → Type 0
+AllPassBetween test bytes at end = (k : ℕ) → at ≤ k → k < end → test (slice_index bytes k) ≡ true
+
+-- from one place to another stands the longest run of bytes that pass the test
+pub record IsRunAt (test : ℕ → Bool) (bytes : List ℕ) (at end : ℕ) : Type 0 where
+  pub ordered : at ≤ end
+  pub within : end ≤ length bytes
+  pub passes : AllPassBetween test bytes at end
+  pub stops : end < length bytes → test (slice_index bytes end) ≡ false
+
+-- of the n bytes from a place, the first `run` pass the test, and the next one fails it
+abbrev pub IsRunIn : (ℕ → Bool) → List ℕ → ℕ → ℕ → ℕ → Type 0
+IsRunIn test bytes at n run =
+    (run ≤ n) × AllPassBetween test bytes at (at + run) × (run < n → test (slice_index bytes (at + run)) ≡ false)
+
+-- the place of the lowest bit that is set, or n
+abbrev pub first_set : ℕ → ℕ → ℕ
+first_set mask n = if mask == 0 then n else trailing_zeros w64 mask
+
+-- neither a newline nor a quote nor a backslash
+abbrev pub is_quiet : ℕ → Bool
+is_quiet b = not (is_byte3 backslash newline quote b)
+
+-- the mask of those of the n bytes from a place that pass the test
+abbrev pub mask_of : (ℕ → Bool) → List ℕ → ℕ → ℕ → ℕ
+mask_of test bytes at n = mask_l (map test (chunk at n bytes))

@@ -1,0 +1,90 @@
+-- Which lines are answered without memory.
+use Rattle.std.specs.Prelude.{ℕ, zero, suc, ◌&&◌, Bool, true, false, not, List, length, drop, Result, Ok, Err, nat_le}
+use Rattle.std.specs.List.{list_all}
+use Rattle.influxdb_line_protocol.specs.declared.split.Dialect.{Dialect}
+use Rattle.influxdb_line_protocol.specs.format.Bytes.{backslash, comma, space, is_one_of}
+use Rattle.influxdb_line_protocol.specs.format.Readings.{Text, Fault, measurement_value_invalid, field_set_missing}
+use Rattle.influxdb_line_protocol.specs.format.Readings.{ends_with_backslash, tag_set_malformed, take_while1, Read, Reading}
+use Rattle.influxdb_line_protocol.specs.format.Readings.{reads}
+use Rattle.influxdb_line_protocol.specs.format.Names.{a_measurement, name}
+use Rattle.influxdb_line_protocol.specs.format.Values.{Value, string}
+use Rattle.influxdb_line_protocol.specs.format.Points.{Pair}
+use Rattle.influxdb_line_protocol.specs.format.Lines.{Line, some_tags, byte, tag, field, after_comma, tag_set, spaces, answer}
+
+-- whether a fault carries no text
+abbrev pub carries_no_text : Fault → Bool
+carries_no_text measurement_value_invalid = true
+carries_no_text field_set_missing = true
+carries_no_text ends_with_backslash = true
+carries_no_text tag_set_malformed = true
+carries_no_text take_while1 = true
+carries_no_text other = false
+
+-- whether a value holds no copy
+abbrev pub is_single_value : Value Text → Bool
+is_single_value (string t) = t.is_single
+is_single_value other = true
+
+-- whether a tag holds no copy
+abbrev pub is_single_tag : Pair Text Text → Bool
+is_single_tag t = t.key.is_single && t.value.is_single
+
+-- whether a field holds no copy
+abbrev pub is_single_field : Pair Text (Value Text) → Bool
+is_single_field f = f.key.is_single && is_single_value f.value
+
+-- whether every name and string of a line is a part of the input or a fixed text
+abbrev pub is_single_line : Line → Bool
+is_single_line l = l.measurement.is_single && list_all is_single_tag (some_tags l.tags) && list_all is_single_field l.fields
+
+-- whether an answer needs no memory for names, strings and faults: every name and string is a part of the input or a
+-- fixed text, or the line holds no backslash and the fault carries no text
+abbrev pub is_light_answer : List ℕ → Result Line Fault → Bool
+is_light_answer line (Ok l) = is_single_line l
+is_light_answer line (Err fault) = not (is_one_of line backslash) && carries_no_text fault
+
+-- this many after what a reading reads, and none where it does not read
+abbrev pub count_after : {A : Type 0} → Reading A → (List ℕ → ℕ) → ℕ
+count_after (reads x rest) count = count rest
+count_after other count = 0
+
+-- one, and as many as are counted after it, or none where it does not read
+abbrev pub one_and_after : {A : Type 0} → Reading A → (List ℕ → ℕ) → ℕ
+one_and_after (reads x rest) count = suc (count rest)
+one_and_after other count = 0
+
+-- how many are at the start one after another, at most n, whatever follows them
+abbrev pub many_count : {A : Type 0} → (List ℕ → Reading A) → ℕ → List ℕ → ℕ
+many_count one zero line = 0
+many_count one (suc n) line = one_and_after (one line) (λ rest. many_count one n rest)
+
+-- how many are at the start, joined by commas, whatever follows them, also a fatal one
+abbrev pub read_count : {A : Type 0} → (List ℕ → Reading A) → List ℕ → ℕ
+read_count one line = one_and_after (one line) (λ rest. many_count (after_comma one) (length rest) rest)
+
+-- how many tags are read: those after the measurement and a comma
+unfoldable pub tags_in : List ℕ → ℕ
+tags_in line = count_after (name a_measurement line) (λ rest. count_after (byte comma rest) (λ after. read_count tag after))
+
+-- this many after a part, and none where it is at fault
+abbrev pub count_then : {A : Type 0} → Result (Read A) Fault → (List ℕ → ℕ) → ℕ
+count_then (Ok r) count = count r.rest
+count_then (Err fault) count = 0
+
+-- how many fields are read: those after the measurement, the tags and the spaces
+unfoldable pub fields_in : List ℕ → ℕ
+fields_in line =
+    count_after (name a_measurement line) (λ rest.
+    count_then (tag_set rest) (λ after.
+    count_after (byte space after) (λ some. read_count field (drop (spaces after) after))))
+
+-- whether a trimmed text is answered without memory where there is room for so many tags and fields: no more are read,
+-- and the answer needs none
+unfoldable pub is_light_in : ℕ → ℕ → Dialect → List ℕ → Bool
+is_light_in tags fields dialect line =
+    nat_le (tags_in line) tags && nat_le (fields_in line) fields && is_light_answer line (answer dialect line)
+
+-- whether a trimmed text is light, that is, answered without memory: at most 8 tags and 4 fields are read, and the
+-- answer needs none
+abbrev pub is_light : Dialect → List ℕ → Bool
+is_light dialect line = is_light_in 8 4 dialect line

@@ -1,0 +1,62 @@
+-- What a parsed line says.
+use Rattle.std.specs.Prelude.{◌≡◌, Bool, true, false, List, map, Result, Ok, Err}
+use Rattle.std.specs.Option.{option_map}
+use Rattle.smallvec.specs.SmallVec.{SmallVec}
+use Rattle.influxdb_line_protocol.specs.declared.error.Error.{Error}
+use Rattle.influxdb_line_protocol.specs.declared.escaped.EscapedStr.{EscapedStr}
+use Rattle.influxdb_line_protocol.specs.declared.values.FieldValue.{FieldValue}
+use Rattle.influxdb_line_protocol.specs.declared.values.FieldValue.TheVariants.{I64, U64, F64, String, Boolean}
+use Rattle.influxdb_line_protocol.specs.declared.line.ParsedLine.{ParsedLine}
+use Rattle.influxdb_line_protocol.specs.format.Readings.{Fault, Text}
+use Rattle.influxdb_line_protocol.specs.code.Outcomes.{IsFault}
+use Rattle.influxdb_line_protocol.specs.code.Literals.{literal_of}
+use Rattle.influxdb_line_protocol.specs.code.Texts.{read_of}
+use Rattle.influxdb_line_protocol.specs.format.Values.{Value, integer, unsigned, float, string, boolean}
+use Rattle.influxdb_line_protocol.specs.format.Points.{Pair, Point}
+use Rattle.influxdb_line_protocol.specs.format.Lines.{Line, point_of}
+
+-- a value as it was read
+abbrev pub value_of : FieldValue → Value Text
+value_of (I64 z) = integer z
+value_of (U64 n) = unsigned n
+value_of (F64 f) = float (literal_of f)
+value_of (String s) = string (read_of s)
+value_of (Boolean b) = boolean b
+
+-- whether two values are of the same variant
+abbrev pub is_same_variant : FieldValue → FieldValue → Bool
+is_same_variant (I64 x) (I64 y) = true
+is_same_variant (U64 x) (U64 y) = true
+is_same_variant (F64 x) (F64 y) = true
+is_same_variant (String x) (String y) = true
+is_same_variant (Boolean x) (Boolean y) = true
+is_same_variant x y = false
+
+abbrev pub field_of : EscapedStr × FieldValue → Pair Text (Value Text)
+field_of f = record { key = read_of f.0; value = value_of f.1 }
+
+abbrev pub tag_of : EscapedStr × EscapedStr → Pair Text Text
+tag_of t = record { key = read_of t.0; value = read_of t.1 }
+
+abbrev pub tags_of : SmallVec (EscapedStr × EscapedStr) → List (Pair Text Text)
+tags_of tags = map tag_of tags.items
+
+-- a parsed line as it was read
+abbrev pub line_read : ParsedLine → Line
+line_read l =
+    record {
+      series = l.series.raw_input.now;
+      measurement = read_of l.series.measurement;
+      tags = option_map tags_of l.series.tag_set;
+      fields = map field_of l.field_set.items;
+      timestamp = l.timestamp;
+    }
+
+-- the point of a parsed line: that of its logical texts
+abbrev pub parsed_point : ParsedLine → Point
+parsed_point l = point_of (line_read l)
+
+-- what the code answered is this answer, but `OutOfMemory` may stand in its place
+abbrev pub Answers : Result ParsedLine Error → Result Line Fault → Type 0
+Answers (Ok line) answer = answer ≡ Ok (line_read line)
+Answers (Err e) answer = IsFault e (λ fault. answer ≡ Err fault)

@@ -1,0 +1,65 @@
+-- What `{}` writes of values, series and lines. No backslash is doubled.
+use Rattle.std.specs.Prelude.{ℕ, zero, suc, ℤ, List, [], ◌∷◌, ◌++◌, true, false, codes, decimal, Option, Some, None}
+use Rattle.std.specs.Fmt.{signed_decimal}
+use Rattle.std.specs.List.{join_by}
+use Rattle.influxdb_line_protocol.specs.declared.series.Shown.{Shown}
+use Rattle.influxdb_line_protocol.specs.declared.series.Shown.TheVariants.{ShownMeasurement, ShownKey, ShownString}
+use Rattle.influxdb_line_protocol.specs.format.Bytes.{space, quote, comma, equals, letter_i, letter_u}
+use Rattle.influxdb_line_protocol.specs.format.Escapes.{escaped}
+use Rattle.influxdb_line_protocol.specs.format.Readings.{Text}
+use Rattle.influxdb_line_protocol.specs.format.Values.{Value, integer, unsigned, float, string, boolean}
+use Rattle.influxdb_line_protocol.specs.format.Points.{Pair}
+use Rattle.influxdb_line_protocol.specs.format.Lines.{Line}
+
+-- the bytes that a backslash is shown before
+abbrev pub shown_escapes : Shown → List ℕ
+shown_escapes ShownMeasurement = comma ∷ space ∷ []
+shown_escapes ShownKey = comma ∷ equals ∷ space ∷ []
+shown_escapes ShownString = quote ∷ []
+
+-- a tag key, a tag value or a field key
+abbrev pub shown_key : Text → List ℕ
+shown_key name = escaped (shown_escapes ShownKey) name.bytes
+
+-- a value: a string stands without quotes around it
+abbrev pub shown_value : Value Text → List ℕ
+shown_value (integer z) = signed_decimal z ++ letter_i ∷ []
+shown_value (unsigned n) = decimal n ++ letter_u ∷ []
+shown_value (float text) = text
+shown_value (string text) = escaped (shown_escapes ShownString) text.bytes
+shown_value (boolean true) = codes "true"
+shown_value (boolean false) = codes "false"
+
+abbrev pub shown_tag : Pair Text Text → List ℕ
+shown_tag t = shown_key t.key ++ equals ∷ shown_key t.value
+
+abbrev pub shown_field : Pair Text (Value Text) → List ℕ
+shown_field f = shown_key f.key ++ equals ∷ shown_value f.value
+
+-- what comes before the item at this place in a list with commas
+abbrev pub comma_before : ℕ → List ℕ
+comma_before zero = []
+comma_before (suc place) = comma ∷ []
+
+-- a comma and the tags, where there is a tag set, and be it empty
+abbrev pub shown_tags : Option (List (Pair Text Text)) → List ℕ
+shown_tags None = []
+shown_tags (Some tags) = comma ∷ join_by shown_tag (comma ∷ []) tags
+
+-- a measurement and a tag set
+abbrev pub shown_series : Text → Option (List (Pair Text Text)) → List ℕ
+shown_series measurement tags = escaped (shown_escapes ShownMeasurement) measurement.bytes ++ shown_tags tags
+
+-- a space and the fields, where there is one
+abbrev pub shown_fields : List (Pair Text (Value Text)) → List ℕ
+shown_fields [] = []
+shown_fields (f ∷ fields) = space ∷ join_by shown_field (comma ∷ []) (f ∷ fields)
+
+-- a space and the timestamp, where there is one
+abbrev pub shown_timestamp : Option ℤ → List ℕ
+shown_timestamp None = []
+shown_timestamp (Some t) = space ∷ signed_decimal t
+
+-- a line
+abbrev pub shown_line : Line → List ℕ
+shown_line l = shown_series l.measurement l.tags ++ shown_fields l.fields ++ shown_timestamp l.timestamp

@@ -1,0 +1,19 @@
+-- The text of an `EscapedStr`.
+use Rattle.std.specs.Prelude.{ℕ, List, Bool, true, false, string_bytes}
+use Rattle.influxdb_line_protocol.specs.declared.escaped.EscapedStr.{EscapedStr}
+use Rattle.influxdb_line_protocol.specs.declared.escaped.EscapedStr.TheVariants.{SingleSlice, CopiedValue}
+use Rattle.influxdb_line_protocol.specs.format.Readings.{Text}
+
+-- its logical text
+abbrev pub text_of : EscapedStr → List ℕ
+text_of (SingleSlice s) = s.now
+text_of (CopiedValue s) = string_bytes s
+
+-- whether it is a part of the input or a fixed text
+abbrev pub is_single_slice : EscapedStr → Bool
+is_single_slice (SingleSlice s) = true
+is_single_slice (CopiedValue s) = false
+
+-- its logical text and its variant
+abbrev pub read_of : EscapedStr → Text
+read_of e = record { bytes = text_of e; is_single = is_single_slice e }

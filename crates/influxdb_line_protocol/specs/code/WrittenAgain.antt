@@ -1,0 +1,64 @@
+-- The texts that the builder writes for the parts of a parsed line.
+use Rattle.std.specs.Prelude.{ℕ, List, [], ◌∷◌, ◌++◌, map}
+use Rattle.std.specs.List.{AllByRecursion, flat_map}
+use Rattle.influxdb_line_protocol.specs.declared.escaped.EscapedStr.{EscapedStr}
+use Rattle.influxdb_line_protocol.specs.declared.values.FieldValue.{FieldValue}
+use Rattle.influxdb_line_protocol.specs.declared.builder.lines.Parts.{Parts}
+use Rattle.influxdb_line_protocol.specs.format.Bytes.{newline, space}
+use Rattle.influxdb_line_protocol.specs.declared.values.FieldValue.TheVariants.{String}
+use Rattle.influxdb_line_protocol.specs.format.Names.{a_measurement, a_tag_key, a_field_key, escapable}
+use Rattle.influxdb_line_protocol.specs.format.Values.{quotable}
+use Rattle.influxdb_line_protocol.specs.code.Texts.{text_of}
+use Rattle.influxdb_line_protocol.specs.code.Built.{IsPlainText}
+use Rattle.influxdb_line_protocol.specs.format.Points.{Tag, Field, spelling, built_tag, built_value, built_fields, built_timestamp}
+use Rattle.influxdb_line_protocol.specs.format.Lines.{logical_tag, logical_field, logical_value}
+use Rattle.influxdb_line_protocol.specs.code.Parsed.{tag_of, field_of, value_of}
+
+-- the text of a value
+abbrev pub value_text : FieldValue → List ℕ
+value_text v = built_value (logical_value (value_of v))
+
+-- a tag by its logical texts
+abbrev pub point_tag : EscapedStr × EscapedStr → Tag
+point_tag t = logical_tag (tag_of t)
+
+-- a field by its logical texts
+abbrev pub point_field : EscapedStr × FieldValue → Field
+point_field f = logical_field (field_of f)
+
+-- the text of a tag, with the comma before it
+abbrev pub tag_text : EscapedStr × EscapedStr → List ℕ
+tag_text t = built_tag (point_tag t)
+
+-- the texts of the fields, the first after this byte and each other after a comma
+abbrev pub fields_text : ℕ → List (EscapedStr × FieldValue) → List ℕ
+fields_text before fields = built_fields before (map logical_field (map field_of fields))
+
+-- the text of the parts of a line, with its newline
+unfoldable pub parts_text : Parts → List ℕ
+parts_text p =
+    spelling a_measurement p.measurement.now ++ flat_map tag_text p.tags.now ++ fields_text space p.fields.now
+    ++ built_timestamp p.timestamp ++ newline ∷ []
+
+-- no byte of a tag gets a backslash
+abbrev pub IsPlainTag : EscapedStr × EscapedStr → Type 0
+IsPlainTag t = IsPlainText (escapable a_tag_key) (text_of t.0) × IsPlainText (escapable a_tag_key) (text_of t.1)
+
+-- the text between the quotes of a value, and none where it has no quotes
+abbrev pub quoted_text : FieldValue → List ℕ
+quoted_text (String t) = text_of t
+quoted_text other = []
+
+-- no byte of a value gets a backslash
+abbrev pub IsPlainValue : FieldValue → Type 0
+IsPlainValue v = IsPlainText quotable (quoted_text v)
+
+-- no byte of a field gets a backslash
+abbrev pub IsPlainField : EscapedStr × FieldValue → Type 0
+IsPlainField f = IsPlainText (escapable a_field_key) (text_of f.0) × IsPlainValue f.1
+
+-- no byte of the parts of a line gets a backslash
+pub record ArePlainParts (p : Parts) : Type 0 where
+  pub measurement : IsPlainText (escapable a_measurement) p.measurement.now
+  pub tags : AllByRecursion IsPlainTag p.tags.now
+  pub fields : AllByRecursion IsPlainField p.fields.now

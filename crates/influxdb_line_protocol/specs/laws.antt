@@ -1,0 +1,8 @@
+pub mod GivenItems
+pub mod NamesOfLines
+pub mod PointsOfLines
+pub mod UnreadableNames
+pub mod Laws
+pub mod Meanings
+pub mod MeaningsOfAnswers
+pub mod BaseLaws

@@ -1,0 +1,56 @@
+-- The items that calls of `next` on a `ParseLines` give, one after another.
+use Rattle.std.specs.Prelude.{ℕ, ◌==◌, if◌then◌else◌, List, [], ◌∷◌, ◌++◌, length, Some, Result}
+use Rattle.std.specs.Iterator.{Drains, Yields}
+use Rattle.std.specs.List.{flat_map}
+use Rattle.influxdb_line_protocol.specs.declared.split.Dialect.{Dialect}
+use Rattle.influxdb_line_protocol.specs.declared.error.Error.{Error}
+use Rattle.influxdb_line_protocol.specs.declared.line.ParsedLine.{ParsedLine}
+use Rattle.influxdb_line_protocol.specs.format.Readings.{Fault}
+use Rattle.influxdb_line_protocol.specs.format.Trimming.{trimmed}
+use Rattle.influxdb_line_protocol.specs.format.Pieces.{Left, Pieces, PiecesLeft}
+use Rattle.influxdb_line_protocol.specs.format.Lines.{Line}
+use Rattle.influxdb_line_protocol.specs.format.Items.{HasAnswers}
+use Rattle.influxdb_line_protocol.specs.code.Parsed.{Answers}
+use Rattle.influxdb_line_protocol.specs.code.ParseSteps.{GivesItem, IsItemOf}
+
+-- what is left of a piece when it is trimmed, unless that is nothing
+abbrev pub trimmed_line : List ℕ → List (List ℕ)
+trimmed_line piece = if length (trimmed piece) == 0 then [] else trimmed piece ∷ []
+
+-- what is left of pieces when they are trimmed, in order, without those of which nothing is left
+abbrev pub trimmed_lines : List (List ℕ) → List (List ℕ)
+trimmed_lines pieces = flat_map trimmed_line pieces
+
+-- the items are those of these trimmed texts, one for each, in order
+abbrev pub AreItemsOf : Dialect → List (List ℕ) → List (Result ParsedLine Error) → Type 0
+AreItemsOf dialect [] [] = Unit {0}
+AreItemsOf dialect (line ∷ lines) (item ∷ items) = IsItemOf dialect line item × AreItemsOf dialect lines items
+AreItemsOf dialect lines items = ⊥
+
+-- the items are these answers, one for each, in order, but `OutOfMemory` may stand in the place of each
+abbrev pub AreAnswers : List (Result ParsedLine Error) → List (Result Line Fault) → Type 0
+AreAnswers [] [] = Unit {0}
+AreAnswers (item ∷ items) (answer ∷ answers) = Answers item answer × AreAnswers items answers
+AreAnswers items answers = ⊥
+
+-- From the first call for a text to the one that gives `None`, the items are those of its pieces, trimmed: one for each
+-- piece of which something is left, in order.
+abbrev pub ItemsAreOfPieces : Type 0
+ItemsAreOfPieces =
+    (dialect : Dialect) (text : List ℕ) (pieces : List (List ℕ)) (items : List (Result ParsedLine Error))
+    → Pieces dialect text pieces → Drains GivesItem (record { dialect = dialect; text = Some text }) items
+    → AreItemsOf dialect (trimmed_lines pieces) items
+
+-- So they are the answers for the text, but `OutOfMemory` may stand in the place of each.
+abbrev pub ItemsAreAnswers : Type 0
+ItemsAreAnswers =
+    (dialect : Dialect) (text : List ℕ) (answers : List (Result Line Fault)) (items : List (Result ParsedLine Error))
+    → HasAnswers dialect text answers → Drains GivesItem (record { dialect = dialect; text = Some text }) items
+    → AreAnswers items answers
+
+-- Up to any call, the items are those of the pieces before the ones that are left.
+abbrev pub ItemsSoFar : Type 0
+ItemsSoFar =
+    (dialect : Dialect) (text : List ℕ) (items : List (Result ParsedLine Error)) (left : Left) (others : List (List ℕ))
+    → Yields GivesItem (record { dialect = dialect; text = Some text }) items left → PiecesLeft left others
+    → (front : List (List ℕ)) × Pieces dialect text (front ++ others) × AreItemsOf dialect (trimmed_lines front) items

@@ -1,0 +1,148 @@
+//! Items as one line of text each, so that a table can hold what is wanted.
+
+use influxdb_line_protocol::{
+    Dialect, Error, EscapedStr, FieldValue, ParsedLine, parse_lines_in, split_lines_in,
+};
+use std::alloc::{AllocError, Global};
+
+/// A name: `S` and its text where it is a part of the input or a fixed text, and `C` where it is a
+/// copy.
+pub fn name(alloc: Global, name: &EscapedStr<'_>) -> Result<String, AllocError> {
+    let text = name.as_str();
+    match name {
+        EscapedStr::SingleSlice(_) => format!(in alloc; "S<{text}>"),
+        EscapedStr::CopiedValue(_) => format!(in alloc; "C<{text}>"),
+    }
+}
+
+/// A value.
+pub fn value(alloc: Global, value: &FieldValue<'_>) -> Result<String, AllocError> {
+    match value {
+        FieldValue::I64(number) => format!(in alloc; "{number}i"),
+        FieldValue::U64(number) => format!(in alloc; "{number}u"),
+        FieldValue::F64(literal) => format!(in alloc; "f<{literal}>"),
+        FieldValue::String(text) => name(alloc, text),
+        FieldValue::Boolean(value) => format!(in alloc; "{value}"),
+    }
+}
+
+/// What was read of a line.
+pub fn line(alloc: Global, line: &ParsedLine<'_>) -> Result<String, AllocError> {
+    let mut rendered = name(alloc, &line.series.measurement)?;
+    if let Some(tags) = &line.series.tag_set {
+        for (key, tag_value) in tags.as_slice() {
+            let key = name(alloc, key)?;
+            let tag_value = name(alloc, tag_value)?;
+            rendered.push_str(",")?;
+            rendered.push_str(key.as_str())?;
+            rendered.push_str("=")?;
+            rendered.push_str(tag_value.as_str())?;
+        }
+    }
+    for (key, field_value) in line.field_set.as_slice() {
+        let key = name(alloc, key)?;
+        let field_value = value(alloc, field_value)?;
+        rendered.push_str(" ")?;
+        rendered.push_str(key.as_str())?;
+        rendered.push_str("=")?;
+        rendered.push_str(field_value.as_str())?;
+    }
+    if let Some(timestamp) = line.timestamp {
+        let timestamp = format!(in alloc; " at {timestamp}")?;
+        rendered.push_str(timestamp.as_str())?;
+    }
+    Ok(rendered)
+}
+
+/// A fault.
+pub fn fault(alloc: Global, fault: &Error) -> Result<String, AllocError> {
+    match fault {
+        Error::DuplicateTag { tag_key } => format!(in alloc; "DuplicateTag <{tag_key}>"),
+        Error::MeasurementValueInvalid => String::from_str(alloc, "MeasurementValueInvalid"),
+        Error::FieldSetMissing => String::from_str(alloc, "FieldSetMissing"),
+        Error::IntegerValueInvalid { source, value } => {
+            format!(in alloc; "IntegerValueInvalid {source:?} <{value}>")
+        }
+        Error::UIntegerValueInvalid { source, value } => {
+            format!(in alloc; "UIntegerValueInvalid {source:?} <{value}>")
+        }
+        Error::TimestampValueInvalid { source, value } => {
+            format!(in alloc; "TimestampValueInvalid {source:?} <{value}>")
+        }
+        Error::TagSetMalformed => String::from_str(alloc, "TagSetMalformed"),
+        Error::EndsWithBackslash => String::from_str(alloc, "EndsWithBackslash"),
+        Error::CannotParseEntireLine { trailing_content } => {
+            format!(in alloc; "rest <{trailing_content}>")
+        }
+        Error::GenericParsingError { kind } => format!(in alloc; "{kind:?}"),
+        Error::OutOfMemory => String::from_str(alloc, "OutOfMemory"),
+    }
+}
+
+/// The items of a text, divided by `|`.
+pub fn items(alloc: Global, input: &str) -> Result<String, AllocError> {
+    items_in(alloc, Dialect::Crate, input)
+}
+
+/// The same, by the rules of a dialect. They are read twice, each by itself and all into one line: where the two differ,
+/// both are told.
+pub fn items_in(alloc: Global, dialect: Dialect, input: &str) -> Result<String, AllocError> {
+    let rendered = items_by_next(alloc, dialect, input)?;
+    let again = items_into_one(alloc, dialect, input)?;
+    if rendered.as_str() != again.as_str() {
+        return format!(in alloc; "{rendered}, but into one line {again}");
+    }
+    Ok(rendered)
+}
+
+// One more item.
+fn push_item(rendered: &mut String, item: &str) -> Result<(), AllocError> {
+    if !rendered.is_empty() {
+        rendered.push_str("|")?;
+    }
+    rendered.push_str(item)
+}
+
+// The items of a text, by `next`.
+fn items_by_next(alloc: Global, dialect: Dialect, input: &str) -> Result<String, AllocError> {
+    let mut rendered = String::new(alloc);
+    for item in parse_lines_in(alloc, dialect, input) {
+        let one = match &item {
+            Ok(parsed) => line(alloc, parsed)?,
+            Err(error) => fault(alloc, error)?,
+        };
+        push_item(&mut rendered, one.as_str())?;
+    }
+    Ok(rendered)
+}
+
+// The items of a text, by `next_into`.
+fn items_into_one(alloc: Global, dialect: Dialect, input: &str) -> Result<String, AllocError> {
+    let mut rendered = String::new(alloc);
+    let mut lines = parse_lines_in(alloc, dialect, input);
+    let mut parsed = ParsedLine::new(alloc);
+    while let Some(answer) = lines.next_into(&mut parsed) {
+        let one = match &answer {
+            Ok(()) => line(alloc, &parsed)?,
+            Err(error) => fault(alloc, error)?,
+        };
+        push_item(&mut rendered, one.as_str())?;
+    }
+    Ok(rendered)
+}
+
+/// The pieces of a text, each between `<` and `>`.
+pub fn pieces(alloc: Global, input: &str) -> Result<String, AllocError> {
+    pieces_in(alloc, Dialect::Crate, input)
+}
+
+/// The same, by the rules of a dialect.
+pub fn pieces_in(alloc: Global, dialect: Dialect, input: &str) -> Result<String, AllocError> {
+    let mut rendered = String::new(alloc);
+    for piece in split_lines_in(dialect, input) {
+        rendered.push_str("<")?;
+        rendered.push_str(piece)?;
+        rendered.push_str(">")?;
+    }
+    Ok(rendered)
+}
