@@ -89,7 +89,7 @@ def value_of(name, line):
 
 
 def definition_at(lines, at, comment):
-    """The definition that begins at a line, and the line behind it."""
+    """The definition that begins at a line, and the line after it."""
     kind, name, rest = DEFINITION.match(lines[at]).groups()
     end = at + 1
     while end < len(lines) and lines[end].startswith(" "):
@@ -163,9 +163,10 @@ def chapters(found):
     """The subjects of each part of the list: those of each room, and those of the crates above."""
     made = {key: [] for key in PARTS}
     for subject in found:
-        room = Path(subject.file).parent.name
-        key = room if room in PARTS else "program"
-        made[key].append(subject)
+        room = "program" if subject.crate != LIBRARIES[0] else Path(subject.file).parent.name
+        if room not in made:
+            sys.exit(f"definitions: {subject.file} stands in a room that PARTS of checks/definitions.py does not have")
+        made[room].append(subject)
     return made
 
 

@@ -13,10 +13,13 @@ six_appended start m t f h n end = simp (append_assoc, append-nil)
 
 -- what six calls append is the line of their point
 pub calls_build_line : (start measured tagged fielded again stamped closed : List ℕ) (m : List ℕ) (t : Tag) (f h : Field) (at : ℤ)
-    → measured ≡ start ++ spelling a_measurement m → tagged ≡ measured ++ built_tag t → fielded ≡ tagged ++ space ∷ built_field f
-    → again ≡ fielded ++ comma ∷ built_field h → stamped ≡ again ++ space ∷ signed_decimal at → closed ≡ stamped ++ newline ∷ []
+    → measured ≡ start ++ spelling a_measurement m → tagged ≡ measured ++ built_tag t
+    → fielded ≡ tagged ++ space ∷ built_field f → again ≡ fielded ++ comma ∷ built_field h
+    → stamped ≡ again ++ space ∷ signed_decimal at → closed ≡ stamped ++ newline ∷ []
     → closed ≡ start ++ built (record { measurement = m; tags = t ∷ []; fields = f ∷ h ∷ []; timestamp = Some at })
 unfolding line_of
 calls_build_line start measured tagged fielded again stamped closed m t f h at a b c d e g =
-    let all = six_appended start (spelling a_measurement m) (built_tag t) (space ∷ built_field f) (comma ∷ built_field h) (space ∷ signed_decimal at) (newline ∷ []) in
+    let all =
+    six_appended start (spelling a_measurement m) (built_tag t) (space ∷ built_field f) (comma ∷ built_field h)
+    (space ∷ signed_decimal at) (newline ∷ []) in
     rw (g, e, d, c, b, a) all

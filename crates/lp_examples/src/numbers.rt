@@ -10,7 +10,8 @@ use influxdb_line_protocol::{FieldValue, ParsedLine};
 /// The whole number of a field, where it has one that an `i64` holds.
 pub fn whole_number(line: &ParsedLine<'_>, key: &str) -> Option<i64>
     ensures signed { (n : ℤ) → value_by_key key.now line.now.field_set.items ≡ Some (I64 n) → result ≡ Some n }
-    ensures unsigned { (n : ℕ) → value_by_key key.now line.now.field_set.items ≡ Some (U64 n) → n < 2 ^ 63 → result ≡ Some (pos n) }
+    ensures unsigned { (n : ℕ) → value_by_key key.now line.now.field_set.items ≡ Some (U64 n) → n < 2 ^ 63
+        → result ≡ Some (pos n) }
 {
     match line.field_value(key)? {
         FieldValue::I64(number) => Some(*number),
