@@ -27,9 +27,11 @@ use std::marker::PhantomData;
 
 mod lines;
 mod marks;
+mod parsed;
 
 pub use lines::{is_admitted, write_line};
 use marks::{Marks, before_first};
+pub use parsed::{Written, write_parsed};
 
 /// Why a call was refused.
 #[derive(Clone, Copy, Debug, PartialEq, Eq)]

@@ -6,7 +6,7 @@ ghost use Rattle.influxdb_line_protocol.specs.laws.Laws.{NamesAreParsed, ParsedN
 ghost use Rattle.influxdb_line_protocol.specs.laws.Laws.{PiecesExist, PiecesAreUnique, PiecesAreTheText, PiecesJoin};
 ghost use Rattle.influxdb_line_protocol.specs.laws.Laws.{AnswersJoin, CommentsStandAlone};
 ghost use Rattle.influxdb_line_protocol.specs.laws.PointsOfLines.{LinesArePoints};
-ghost use Rattle.influxdb_line_protocol.specs.laws.GivenItems.{ItemsAreOfPieces, ItemsAreAnswers, ItemsSoFar};
+ghost use Rattle.influxdb_line_protocol.specs.laws.GivenItems.{ItemsAreOfPieces, ItemsAreAnswers, ItemsSoFar, GivenLinesWereRead};
 ghost use Rattle.influxdb_line_protocol.specs.laws.BaseLaws.{ClearSeriesHaveBases, SameSeriesHaveOneBase, TagsByKeyAreSorted};
 ghost use Rattle.influxdb_line_protocol.specs.laws.BaseLaws.{OneBaseIsOneSeries, PlainSeriesAreClear, ReadSeriesAreParsed};
 ghost use Rattle.influxdb_line_protocol.specs.laws.Meanings.{LogicalIsWithoutEscapes};
@@ -53,11 +53,13 @@ pub fn lines_are_points()
 /// The items that calls of `next` give, from `parse_lines` to `None`, are those of the text: one item
 /// for each piece that holds more than blanks and comments, in the order of the pieces, and each is
 /// the answer for its piece, or `OutOfMemory` in its place, but never where the line is light. Up to
-/// any call, they are the items of the pieces before the ones that are left.
+/// any call, they are the items of the pieces before the ones that are left. Each line among them was
+/// read: some text, once it is trimmed, is answered with it.
 pub fn items_are_answers()
     ensures pieces { ItemsAreOfPieces }
     ensures answers { ItemsAreAnswers }
     ensures so_far { ItemsSoFar }
+    ensures read { GivenLinesWereRead }
 {}
 
 /// Each text has exactly one list of pieces, and joined by newlines they are the text. A newline

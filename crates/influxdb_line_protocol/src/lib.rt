@@ -21,7 +21,7 @@ mod split;
 mod tags;
 mod values;
 
-pub use builder::{LineProtocolBuilder, is_admitted, write_line};
+pub use builder::{LineProtocolBuilder, is_admitted, write_line, write_parsed};
 pub use error::{Error, ErrorKind, OutOfRange, Result};
 pub use escaped::{EscapedStr, Measurement};
 pub use line::{FieldSet, ParseLines, ParsedLine, parse_lines, parse_lines_in};

@@ -1,4 +1,4 @@
--- What is carried: lines with a field, and points that are admitted, so that the batch reads back.
+-- What is carried: lines that were read, and points that are admitted, so that the batch reads back.
 use Rattle.std.proofs.Common.{◌≡◌, ℕ, ◌==◌, ◌<◌, List, [], ◌∷◌, ◌++◌, length, map, Option, Some, None, Result, Ok, Err}
 use Rattle.std.proofs.Common.{refl, sym, ap, subst, ◌∙◌, arith, inl, inr}
 use Rattle.std.specs.Prelude.{IfOk}
@@ -12,37 +12,22 @@ use Rattle.influxdb_line_protocol.specs.declared.line.ParsedLine.{ParsedLine}
 use Rattle.influxdb_line_protocol.specs.format.Readings.{Fault}
 use Rattle.influxdb_line_protocol.specs.format.Points.{is_admitted_point, built_all}
 use Rattle.influxdb_line_protocol.specs.format.Lines.{Line, point_of, answer, logical_field}
-use Rattle.influxdb_line_protocol.specs.code.Parsed.{field_of, line_read}
+use Rattle.influxdb_line_protocol.specs.code.Parsed.{IsReadLine}
 use Rattle.influxdb_line_protocol.specs.format.Trimming.{trimmed}
-use Rattle.influxdb_line_protocol.specs.format.Pieces.{Left, PiecesLeft}
-use Rattle.influxdb_line_protocol.specs.code.ParseSteps.{GaveItem}
+use Rattle.influxdb_line_protocol.specs.format.Pieces.{Left}
+use Rattle.influxdb_line_protocol.specs.code.ParseSteps.{GivesItem}
 use Rattle.influxdb_line_protocol.specs.format.Items.{HasAnswers, answers_of, answers_of_piece}
-use Rattle.influxdb_line_protocol.specs.laws.Laws.{IsAdmittedPoint, AdmittedBatchesReadBack, PiecesExist, PiecesAreUnique}
+use Rattle.influxdb_line_protocol.specs.laws.Laws.{IsAdmittedPoint, AdmittedBatchesReadBack, PiecesAreUnique}
+use Rattle.influxdb_line_protocol.specs.laws.GivenItems.{GivenLinesWereRead}
 use Rattle.influxdb_line_protocol.specs.laws.PointsOfLines.{LinesArePoints}
 use Rattle.lp_rebuild.specs.declared.batch.Rebuilt.{Rebuilt}
 use Rattle.lp_rebuild.specs.Rebuilding.{RebuildsIn, ReadsBackIn, carried_point, batch_of}
 
--- a line has as many fields as its point
-some_fields : (fs : List (EscapedStr × FieldValue)) → 0 < length (map logical_field (map field_of fs)) → 0 < length fs
-some_fields [] h = h
-some_fields (f ∷ fs) h = omega arith
-
--- what is left has pieces
-left_pieces : PiecesExist → (dialect : Dialect) (text : Option (List ℕ)) → (pieces : List (List ℕ))
-    × PiecesLeft (record { dialect = dialect; text = text }) pieces
-left_pieces exist dialect None = ([], refl)
-left_pieces exist dialect (Some text) = exist dialect text
-
--- a line that is given has a field
-pub item_has_field : LinesArePoints → PiecesExist
-    → (before : Left) (dialect : Dialect) (text : Option (List ℕ)) (item : Result ParsedLine Error)
-    → ((others : List (List ℕ)) → PiecesLeft (record { dialect = dialect; text = text }) others
-    → GaveItem before item others) → IfOk item (λ line. 0 < length line.field_set.items)
-item_has_field are exist before dialect text (Err e) gives = tt
-item_has_field are exist before dialect text (Ok line) gives =
-    let left = left_pieces exist dialect text in
-    let gave = gives left.0 left.1 in
-    some_fields line.field_set.items (are before.dialect (trimmed gave.piece) (line_read line) gave.item_is.answers).some_field
+-- a line that is given was read
+pub item_is_read : GivenLinesWereRead → (before after : Left) (item : Result ParsedLine Error)
+    → GivesItem before (Some item) after → IfOk item (λ line. IsReadLine line)
+item_is_read law before after (Err e) gives = tt
+item_is_read law before after (Ok line) gives = law before after line gives
 
 -- what holds of all of two lists holds of all of both
 all_joined : {X : Type 0} (P : X → Type 0) (xs ys : List X) → AllByRecursion P xs → AllByRecursion P ys → AllByRecursion P (xs ++ ys)

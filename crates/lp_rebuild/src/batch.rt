@@ -1,15 +1,15 @@
 //! The lines of a text, written again.
-ghost use Rattle.std.specs.Prelude.{◌≡◌, ◌+◌, ◌<◌, ◌++◌, length, IfOk, IfSome, OnOk, Result, Ok, Err};
+ghost use Rattle.std.specs.Prelude.{◌≡◌, ◌+◌, ◌<◌, ◌++◌, IfOk, IfSome, OnOk, Result, Ok, Err};
 ghost use Rattle.influxdb_line_protocol.specs.format.Readings.{Fault};
-ghost use Rattle.influxdb_line_protocol.specs.format.Points.{built};
+ghost use Rattle.influxdb_line_protocol.specs.format.Points.{built_if_admitted, is_admitted_point};
 ghost use Rattle.influxdb_line_protocol.specs.format.Lines.{Line};
-ghost use Rattle.influxdb_line_protocol.specs.code.Parsed.{line_read, parsed_point, Answers};
+ghost use Rattle.influxdb_line_protocol.specs.code.Parsed.{line_read, parsed_point, Answers, IsReadLine};
 ghost use Rattle.influxdb_line_protocol.specs.code.ReadInto.{item_in};
 ghost use Rattle.lp_rebuild.specs.Rebuilding.{Rebuilds, RebuildsIn, ReadsBack, ReadsBackIn};
 ghost use Rattle.lp_rebuild.specs.RebuildSteps.{Refuses, Takes};
 
 use influxdb_line_protocol::{
-    Dialect, Error, LineProtocolBuilder, ParsedLine, is_admitted, laws, parse_lines_in, write_line,
+    Dialect, Error, LineProtocolBuilder, ParsedLine, laws, parse_lines_in, write_parsed,
 };
 use std::alloc::{AllocError, Global};
 use std::fmt::Display;
@@ -40,13 +40,14 @@ struct Progress {
 // What is wrong with a line that has a name that is not admitted.
 const NOT_ADMITTED: &str = "a name cannot be written again";
 
-// Writes the line again, after `batch`.
-fn carry(batch: Vec<u8>, line: &ParsedLine<'_>) -> Result<Vec<u8>, AllocError>
-    requires { 0 < length line.now.field_set.items }
-    ensures { IfOk result (λ longer. longer.items ≡ batch.items ++ built (parsed_point line.now)) }
+// Writes the line again, after `batch`, where each of its names is admitted, and tells whether.
+fn carry(batch: Vec<u8>, line: &ParsedLine<'_>) -> Result<(Vec<u8>, bool), AllocError>
+    requires { IsReadLine line.now }
+    ensures batch { IfOk result (λ r. r.0.items ≡ batch.items ++ built_if_admitted (parsed_point line.now)) }
+    ensures admitted { IfOk result (λ r. r.1 ≡ is_admitted_point (parsed_point line.now)) }
 {
-    match write_line(LineProtocolBuilder::new_with(batch), line) {
-        Ok(builder) => Ok(builder.build()),
+    match write_parsed(LineProtocolBuilder::new_with(batch), line) {
+        Ok(written) => Ok((written.builder.build(), written.is_admitted)),
         Err(_) => Err(AllocError),
     }
 }
@@ -65,16 +66,17 @@ fn refuse<D: Display + Drop>(so_far: &mut Progress, text: D) -> Result<(), Alloc
 // Takes the next item, a line: it is written again, or refused.
 fn take_line(alloc: Global, so_far: &mut Progress, line: &ParsedLine<'_>) -> Result<(), AllocError>
     requires room { so_far.old.carried + so_far.old.refused < usize.MAX }
-    requires some_field { 0 < length line.now.field_set.items }
+    requires read { IsReadLine line.now }
     ensures taken { OnOk result (Takes so_far.old (Ok (line_read line.now)) so_far.new) }
     ensures counted { OnOk result
         (so_far.new.carried + so_far.new.refused ≡ so_far.old.carried + so_far.old.refused + 1) }
 {
-    if !is_admitted(line) {
+    let batch = mem::replace(&mut so_far.batch, Vec::new(alloc));
+    let (batch, is_admitted) = carry(batch, line)?;
+    so_far.batch = batch;
+    if !is_admitted {
         return refuse(so_far, NOT_ADMITTED);
     }
-    let batch = mem::replace(&mut so_far.batch, Vec::new(alloc));
-    so_far.batch = carry(batch, line)?;
     so_far.carried += 1;
     Ok(())
 }
@@ -104,7 +106,7 @@ fn take(
     line: &ParsedLine<'_>,
 ) -> Result<(), AllocError>
     requires room { so_far.old.carried + so_far.old.refused < usize.MAX }
-    requires some_field { IfOk (item_in line.now answer.now) (λ read. 0 < length read.field_set.items) }
+    requires read { IfOk (item_in line.now answer.now) (λ read. IsReadLine read) }
     ensures taken { OnOk result
         ((wanted : Result Line Fault) → Answers (item_in line.now answer.now) wanted → Takes so_far.old wanted so_far.new) }
     ensures counted { OnOk result
@@ -150,6 +152,7 @@ pub fn rebuild_in(alloc: Global, dialect: Dialect, input: &str) -> Result<Rebuil
     ensures reads_back { IfOk result (λ r. ReadsBackIn dialect input.now r) }
 {
     laws::batch_reads_back();
+    laws::items_are_answers();
     laws::lines_are_points();
     laws::pieces_join();
     let mut so_far = Progress {

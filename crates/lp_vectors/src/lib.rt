@@ -51,3 +51,5 @@ mod tags;
 mod used_again;
 #[cfg(test)]
 mod values;
+#[cfg(test)]
+mod written;

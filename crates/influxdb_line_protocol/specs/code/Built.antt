@@ -1,11 +1,13 @@
 -- What the calls of the builder write.
-use Rattle.std.specs.Prelude.{◌≡◌, ◌≢◌, ℕ, ◌+◌, ◌^◌, ◌<◌, ◌≤◌, ◌↔◌, List, ◌++◌, length, Result, IfOk, IfErr, IsOk, MatchResult}
+use Rattle.std.specs.Prelude.{◌≡◌, ◌≢◌, ℕ, ◌+◌, ◌^◌, ◌<◌, ◌≤◌, ◌↔◌, List, ◌++◌, length, Result, Ok, Err, IfOk, IfErr, IsOk, MatchResult}
 use Rattle.influxdb_line_protocol.specs.declared.builder.Escapes.{Escapes}
 use Rattle.influxdb_line_protocol.specs.declared.builder.Escapes.TheVariants.{OfMeasurement, OfKey, OfString}
 use Rattle.influxdb_line_protocol.specs.declared.builder.NoRoom.{NoRoom}
 use Rattle.influxdb_line_protocol.specs.declared.builder.NoRoom.TheVariants.{TooLong}
 use Rattle.influxdb_line_protocol.specs.declared.builder.LineProtocolBuilder.{LineProtocolBuilder}
 use Rattle.influxdb_line_protocol.specs.declared.builder.Refused.{Refused}
+use Rattle.influxdb_line_protocol.specs.declared.builder.BeforeMeasurement.{BeforeMeasurement}
+use Rattle.influxdb_line_protocol.specs.declared.builder.parsed.Written.{Written}
 use Rattle.influxdb_line_protocol.specs.format.Escapes.{escaped}
 use Rattle.influxdb_line_protocol.specs.format.Names.{a_measurement, a_tag_key, escapable}
 use Rattle.influxdb_line_protocol.specs.format.Values.{quotable}
@@ -13,6 +15,11 @@ use Rattle.influxdb_line_protocol.specs.format.Values.{quotable}
 -- the buffer that a builder writes to
 abbrev pub buffer_of : {B S : Type 0} → LineProtocolBuilder B S → B
 buffer_of b = b.buf
+
+-- the answer of a call that may write nothing, without whether it wrote
+abbrev pub with_builder : {B S : Type 0} → Result (Written B) (Refused B S) → Result (LineProtocolBuilder B BeforeMeasurement) (Refused B S)
+with_builder (Ok w) = Ok w.builder
+with_builder (Err r) = Err r
 
 -- the bytes that get a backslash
 abbrev pub bytes_of : Escapes → List ℕ

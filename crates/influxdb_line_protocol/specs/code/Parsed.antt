@@ -1,7 +1,8 @@
 -- What a parsed line says.
-use Rattle.std.specs.Prelude.{◌≡◌, Bool, true, false, List, map, Result, Ok, Err}
+use Rattle.std.specs.Prelude.{◌≡◌, ℕ, Bool, true, false, List, map, Result, Ok, Err}
 use Rattle.std.specs.Option.{option_map}
 use Rattle.smallvec.specs.SmallVec.{SmallVec}
+use Rattle.influxdb_line_protocol.specs.declared.split.Dialect.{Dialect}
 use Rattle.influxdb_line_protocol.specs.declared.error.Error.{Error}
 use Rattle.influxdb_line_protocol.specs.declared.escaped.EscapedStr.{EscapedStr}
 use Rattle.influxdb_line_protocol.specs.declared.values.FieldValue.{FieldValue}
@@ -13,7 +14,8 @@ use Rattle.influxdb_line_protocol.specs.code.Literals.{literal_of}
 use Rattle.influxdb_line_protocol.specs.code.Texts.{read_of}
 use Rattle.influxdb_line_protocol.specs.format.Values.{Value, integer, unsigned, float, string, boolean}
 use Rattle.influxdb_line_protocol.specs.format.Points.{Pair, Point}
-use Rattle.influxdb_line_protocol.specs.format.Lines.{Line, point_of}
+use Rattle.influxdb_line_protocol.specs.format.Lines.{Line, point_of, answer}
+use Rattle.influxdb_line_protocol.specs.format.Trimming.{trimmed}
 
 -- a value as it was read
 abbrev pub value_of : FieldValue → Value Text
@@ -55,6 +57,12 @@ line_read l =
 -- the point of a parsed line: that of its logical texts
 abbrev pub parsed_point : ParsedLine → Point
 parsed_point l = point_of (line_read l)
+
+-- a line as it was read: some text, once it is trimmed, is answered with it
+pub record IsReadLine (l : ParsedLine) : Type 0 where
+  pub dialect : Dialect
+  pub text : List ℕ
+  pub answered : answer dialect (trimmed text) ≡ Ok (line_read l)
 
 -- what the code answered is this answer, but `OutOfMemory` may stand in its place
 abbrev pub Answers : Result ParsedLine Error → Result Line Fault → Type 0

@@ -1,6 +1,6 @@
 -- Points, which of them are admitted, and the lines that the builder writes for them.
 use Rattle.std.specs.Prelude.{ℕ, ◌<◌, ℤ, ◌≡◌, ◌==◌, ◌&&◌, ◌^◌, Bool, true, false, not, List, [], ◌∷◌, ◌++◌, length}
-use Rattle.std.specs.Prelude.{slice_index, codes, Option, Some, None, decimal, IfSome}
+use Rattle.std.specs.Prelude.{slice_index, codes, Option, Some, None, decimal, IfSome, if◌then◌else◌}
 use Rattle.std.specs.List.{list_all, flat_map, AllByRecursion}
 use Rattle.std.specs.Fmt.{signed_decimal}
 use Rattle.influxdb_line_protocol.specs.format.Bytes.{nul, tab, newline, space, quote, hash, comma, equals, letter_i, letter_u, is_one_of}
@@ -112,6 +112,10 @@ line_of p = spelling a_measurement p.measurement ++ flat_map built_tag p.tags ++
 -- what the builder writes for a point: its line and a newline
 abbrev pub built : Point → List ℕ
 built p = line_of p ++ newline ∷ []
+
+-- what is written for a point whose names are all admitted, and nothing for another
+abbrev pub built_if_admitted : Point → List ℕ
+built_if_admitted p = if is_admitted_point p then built p else []
 
 -- what the builder writes for points
 abbrev pub built_all : List Point → List ℕ

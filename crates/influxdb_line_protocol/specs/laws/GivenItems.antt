@@ -1,5 +1,5 @@
 -- The items that calls of `next` on a `ParseLines` give, one after another.
-use Rattle.std.specs.Prelude.{ℕ, ◌==◌, if◌then◌else◌, List, [], ◌∷◌, ◌++◌, length, Some, Result}
+use Rattle.std.specs.Prelude.{ℕ, ◌==◌, if◌then◌else◌, List, [], ◌∷◌, ◌++◌, length, Some, Result, Ok}
 use Rattle.std.specs.Iterator.{Drains, Yields}
 use Rattle.std.specs.List.{flat_map}
 use Rattle.influxdb_line_protocol.specs.declared.split.Dialect.{Dialect}
@@ -10,7 +10,7 @@ use Rattle.influxdb_line_protocol.specs.format.Trimming.{trimmed}
 use Rattle.influxdb_line_protocol.specs.format.Pieces.{Left, Pieces, PiecesLeft}
 use Rattle.influxdb_line_protocol.specs.format.Lines.{Line}
 use Rattle.influxdb_line_protocol.specs.format.Items.{HasAnswers}
-use Rattle.influxdb_line_protocol.specs.code.Parsed.{Answers}
+use Rattle.influxdb_line_protocol.specs.code.Parsed.{Answers, IsReadLine}
 use Rattle.influxdb_line_protocol.specs.code.ParseSteps.{GivesItem, IsItemOf}
 
 -- what is left of a piece when it is trimmed, unless that is nothing
@@ -54,3 +54,7 @@ ItemsSoFar =
     (dialect : Dialect) (text : List ℕ) (items : List (Result ParsedLine Error)) (left : Left) (others : List (List ℕ))
     → Yields GivesItem (record { dialect = dialect; text = Some text }) items left → PiecesLeft left others
     → (front : List (List ℕ)) × Pieces dialect text (front ++ others) × AreItemsOf dialect (trimmed_lines front) items
+
+-- Each line that a call gives was read.
+abbrev pub GivenLinesWereRead : Type 0
+GivenLinesWereRead = (before after : Left) (line : ParsedLine) → GivesItem before (Some (Ok line)) after → IsReadLine line

@@ -68,7 +68,7 @@ fn may_hold_all(kind: NameKind, bytes: &[u8]) -> bool
 
 // Whether the name is admitted as one of this kind.
 #[tactic(auto, unfolding(crate::specs::format::Points::is_admitted_name))]
-fn is_admitted_name(kind: NameKind, name: &EscapedStr<'_>) -> bool
+pub(super) fn is_admitted_name(kind: NameKind, name: &EscapedStr<'_>) -> bool
     ensures { result ≡ is_admitted_name (kind_of kind) (text_of name.now) }
 {
     let bytes = name.as_str().as_bytes();
@@ -80,7 +80,7 @@ fn is_admitted_name(kind: NameKind, name: &EscapedStr<'_>) -> bool
 }
 
 // The tags of the line: none, where it has no set of them.
-fn tags<'a, 'l>(line: &'l ParsedLine<'a>) -> &'l [(EscapedStr<'a>, EscapedStr<'a>)]
+pub(super) fn tags<'a, 'l>(line: &'l ParsedLine<'a>) -> &'l [(EscapedStr<'a>, EscapedStr<'a>)]
     ensures { some_tags (option_map tags_of line.now.series.tag_set) ≡ map tag_of result.now }
 {
     match &line.series.tag_set {
@@ -90,7 +90,7 @@ fn tags<'a, 'l>(line: &'l ParsedLine<'a>) -> &'l [(EscapedStr<'a>, EscapedStr<'a
 }
 
 // Whether the key and the value of each tag are admitted.
-fn are_tags_admitted(tags: &[(EscapedStr<'_>, EscapedStr<'_>)]) -> bool
+pub(super) fn are_tags_admitted(tags: &[(EscapedStr<'_>, EscapedStr<'_>)]) -> bool
     ensures { result ≡ list_all (λ t. is_admitted_tag (point_tag t)) tags.now }
 {
     tags.iter().all(|(key, value)| {
@@ -99,7 +99,7 @@ fn are_tags_admitted(tags: &[(EscapedStr<'_>, EscapedStr<'_>)]) -> bool
 }
 
 // Whether the key of each field is admitted.
-fn are_fields_admitted(fields: &[(EscapedStr<'_>, values::FieldValue<'_>)]) -> bool
+pub(super) fn are_fields_admitted(fields: &[(EscapedStr<'_>, values::FieldValue<'_>)]) -> bool
     ensures { result ≡ list_all (λ f. is_admitted_field (point_field f)) fields.now }
 {
     fields
@@ -122,9 +122,9 @@ pub fn is_admitted(line: &ParsedLine<'_>) -> bool
 
 // A value of a parsed line, as the builder takes it, and whether its text is known to get no backslash.
 #[derive(Clone, Copy)]
-struct ReadValue<'l, 'a> {
-    value: &'l values::FieldValue<'a>,
-    is_plain: bool,
+pub(super) struct ReadValue<'l, 'a> {
+    pub(super) value: &'l values::FieldValue<'a>,
+    pub(super) is_plain: bool,
     ghost told: { is_plain ≡ true → IsPlainValue value.now },
 }
 
@@ -168,7 +168,7 @@ fn measure_tag(tag: &(EscapedStr<'_>, EscapedStr<'_>)) -> Option<Extent>
 }
 
 // The length of the tags, each with its comma, where a `usize` holds it, and whether none gets a backslash.
-fn measure_tags(tags: &[(EscapedStr<'_>, EscapedStr<'_>)]) -> Option<Extent>
+pub(super) fn measure_tags(tags: &[(EscapedStr<'_>, EscapedStr<'_>)]) -> Option<Extent>
     ensures len { let text = flat_map tag_text tags.now in
         SomeIff (option_map (λ m. m.len) result) (length text < 2 ^ 64) (length text) }
     ensures plain { IfSome result (λ m. m.is_plain ≡ true → AllByRecursion IsPlainTag tags.now) }
@@ -284,7 +284,7 @@ fn put_fields<B: BufMut>(
 }
 
 // The length of the timestamp with the space before it: 0, where there is none.
-fn timestamp_len(timestamp: Option<i64>) -> usize
+pub(super) fn timestamp_len(timestamp: Option<i64>) -> usize
     ensures value { result ≡ length (built_timestamp timestamp) }
     ensures few { result ≤ 21 }
 {
@@ -296,7 +296,7 @@ fn timestamp_len(timestamp: Option<i64>) -> usize
 }
 
 // Appends the timestamp, where there is one, with the space before it.
-fn put_timestamp<B: BufMut>(buf: &mut B, timestamp: Option<i64>)
+pub(super) fn put_timestamp<B: BufMut>(buf: &mut B, timestamp: Option<i64>)
     requires { length (built_timestamp timestamp) ≤ B.room buf.old }
     ensures bytes { B.bytes buf.new ≡ B.bytes buf.old ++ built_timestamp timestamp }
     ensures room { B.room buf.old ≤ B.room buf.new + length (built_timestamp timestamp) }

@@ -39,12 +39,13 @@ unfolding escaped
 escaped_nothing bytes = refl
 
 -- a byte that gets a backslash counts
-uncounted : (p : ℕ → Bool) (b : ℕ) (v : Bool) (text : List ℕ) → p b ≡ v → count_by p (b ∷ text) ≡ 0 → (v ≡ false) × (count_by p text ≡ 0)
+pub uncounted : (p : ℕ → Bool) (b : ℕ) (v : Bool) (text : List ℕ) → p b ≡ v → count_by p (b ∷ text) ≡ 0
+    → (v ≡ false) × (count_by p text ≡ 0)
 uncounted p b true text h none = absurd (grind (arith, common_steps))
 uncounted p b false text h none = (refl, grind (arith, common_steps))
 
 -- a text stays where no byte of it gets a backslash
-escaped_uncounted : (bytes text : List ℕ) → count_by (is_one_of bytes) text ≡ 0 → escaped bytes text ≡ text
+pub escaped_uncounted : (bytes text : List ℕ) → count_by (is_one_of bytes) text ≡ 0 → escaped bytes text ≡ text
 unfolding escaped
 escaped_uncounted bytes [] none = refl
 escaped_uncounted bytes (b ∷ text) none =

@@ -1,7 +1,7 @@
 use Rattle.std.proofs.Common.{arith, ap, refl, ◌∙◌}
 use Rattle.influxdb_line_protocol.specs.code.ReadInto.{item_in}
 use Rattle.lp_rebuild.proofs.RebuildLemmas.{SoFar-item, SoFar-end}
-use Rattle.lp_rebuild.proofs.BatchLemmas.{item_has_field, batch_reads_back}
+use Rattle.lp_rebuild.proofs.BatchLemmas.{item_is_read, batch_reads_back}
 use Rattle.lp_rebuild.proofs.batch.rebuild_in.Goals as goal
 
 pub loop-answer-preserved : goal.loop-answer-preserved
@@ -17,10 +17,10 @@ loop-answer-preserved c =
           c.take-taken.new.so_far h.dialect h.done (s.1 others left) c.in_ok-taken.ensures.taken;
     }
 
-pub take-taken-requires-clause-some_field : goal.take-taken-requires-clause-some_field
-take-taken-requires-clause-some_field c =
+pub take-taken-requires-clause-read : goal.take-taken-requires-clause-read
+take-taken-requires-clause-read c =
     let item = item_in c.next_into.new.line c.in-Some.answer in
-    item_has_field c.lines_are_points.ensures c.pieces_join.ensures.some c.loop-answer.lines _ _ item c.in-Some.ensures.gives.1
+    item_is_read c.items_are_answers.ensures.read c.loop-answer.lines c.next_into.new.self item c.in-Some.ensures.gives
 
 pub returns-clause-rebuilds : goal.returns-clause-rebuilds
 returns-clause-rebuilds c =

@@ -1,6 +1,6 @@
 -- The items that calls of `next` give are those of the text, one after another.
 use Rattle.std.proofs.Common.{◌≡◌, ℕ, ◌<◌, ◌==◌, true, false, List, [], ◌∷◌, ◌++◌, length, map, refl, sym, ap, ◌∙◌, subst, arith}
-use Rattle.std.proofs.Common.{append_assoc, append-nil, inl, inr, Some, Result}
+use Rattle.std.proofs.Common.{append_assoc, append-nil, inl, inr, Option, None, Some, Result}
 use Rattle.std.specs.Iterator.{Yields}
 use Rattle.std.specs.List.{All}
 use Rattle.std.proofs.lemmas.Bool.{cases_Bool, eq-eqb, ne_eqb}
@@ -15,8 +15,8 @@ use Rattle.influxdb_line_protocol.specs.format.Items.{answers_of, answers_of_pie
 use Rattle.influxdb_line_protocol.specs.code.ParseSteps.{GivesItem, IsBlankPiece}
 use Rattle.influxdb_line_protocol.specs.laws.GivenItems.{trimmed_line, trimmed_lines, AreItemsOf, AreAnswers}
 use Rattle.influxdb_line_protocol.specs.laws.GivenItems.{ItemsAreOfPieces, ItemsAreAnswers}
-use Rattle.influxdb_line_protocol.specs.laws.GivenItems.{ItemsSoFar}
-use Rattle.influxdb_line_protocol.proofs.lemmas.split.SplitPieces.{same_pieces}
+use Rattle.influxdb_line_protocol.specs.laws.GivenItems.{GivenLinesWereRead, ItemsSoFar}
+use Rattle.influxdb_line_protocol.proofs.lemmas.split.SplitPieces.{pieces_exist, same_pieces}
 
 -- nothing is left of blank pieces
 blank_lines : (pieces : List (List ℕ)) → All IsBlankPiece pieces → trimmed_lines pieces ≡ []
@@ -101,3 +101,19 @@ items_are_answers dialect text answers items has drained =
     let items_of = items_are_of_pieces dialect text has.pieces items has.are drained in
     subst (AreAnswers items) (sym (has.answered ∙ answers_of_lines dialect has.pieces))
     (items_answer dialect (trimmed_lines has.pieces) items items_of)
+
+-- what is left has pieces
+left_pieces : (left : Left) → (pieces : List (List ℕ)) × PiecesLeft left pieces
+left_pieces left = pieces_of left.dialect left.text
+  where
+    pieces_of : (dialect : Dialect) (text : Option (List ℕ)) → (pieces : List (List ℕ))
+        × PiecesLeft (record { dialect = dialect; text = text }) pieces
+    pieces_of dialect None = ([], refl)
+    pieces_of dialect (Some text) = pieces_exist dialect text
+
+-- a line that is given was read
+pub given_lines_were_read : GivenLinesWereRead
+given_lines_were_read before after line gives =
+    let left = left_pieces after in
+    let gave = gives.1 left.0 left.1 in
+    record { dialect = before.dialect; text = gave.piece; answered = gave.item_is.answers }

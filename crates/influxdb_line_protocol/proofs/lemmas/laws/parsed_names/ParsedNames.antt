@@ -514,7 +514,7 @@ left_begins in_comment (b ∷ rest) =
     ]
 
 -- nor does a trimmed text
-trimmed_begins : (text : List ℕ) → slice_index (trimmed text) 0 ≢ 35
+pub trimmed_begins : (text : List ℕ) → slice_index (trimmed text) 0 ≢ 35
 trimmed_begins text = rw (trimmed_is text) (left_begins false text)
 
 -- an element of a list that is made from others is made from one of them
