@@ -1,5 +1,6 @@
 pub mod Lanes
 pub mod Scan
+pub mod Seen
 pub mod Forms
 pub mod Texts
 pub mod Faults

@@ -1,12 +1,14 @@
 //! The pieces of a text.
 
-ghost use Rattle.std.specs.Prelude.{◌≡◌, ◌≢◌, ◌+◌, ◌<◌, ◌≤◌, ◌==◌, ◌||◌, length, take, slice_index, MatchOption, true, false};
+ghost use Rattle.std.specs.Prelude.{◌≡◌, ◌≢◌, ◌+◌, ◌<◌, ◌≤◌, ◌==◌, ◌||◌, length, take, drop, option_map, slice_index};
+ghost use Rattle.std.specs.Prelude.{IfSome, MatchOption, true, false};
 ghost use Rattle.std.specs.Iterator.{at_most};
 ghost use Rattle.std.specs.List.{All, count_by};
 ghost use Rattle.influxdb_line_protocol.specs.format.Bytes.{backslash, newline, space, quote, comma, equals};
 ghost use Rattle.memchr.specs.Find.{IsFirstByte, is_byte3};
-ghost use Rattle.influxdb_line_protocol.specs.code.Lanes.{IsRunIn, is_quiet, mask_of};
+ghost use Rattle.influxdb_line_protocol.specs.code.Lanes.{mask_of};
 ghost use Rattle.influxdb_line_protocol.specs.format.Escapes.{bare, first_bare, IsPassed};
+ghost use Rattle.influxdb_line_protocol.specs.code.Seen.{AreSeen};
 ghost use Rattle.influxdb_line_protocol.specs.code.Stops.{is_stop, is_mark};
 ghost use Rattle.influxdb_line_protocol.specs.code.Counts.{IsCounted};
 ghost use Rattle.influxdb_line_protocol.specs.format.Pieces.{begins_comment, IsFirstCut, GivesPiece, most_pieces};
@@ -269,33 +271,56 @@ fn cut_by_stretches(text: &[u8]) -> Option<usize>
     }
 }
 
-/// How many of the 64 bytes from `at` on come before the first newline, quote or backslash.
+// A newline, quote or backslash, and the mask of those that were seen after it.
+#[derive(Clone, Copy)]
+struct Mark {
+    at: usize,
+    later: u64,
+}
+
+// The mask of those of the 64 bytes from `at` on that are a newline, a quote or a backslash.
 #[inline(always)]
-fn quiet_run(text: &[u8], at: usize) -> usize
+fn marks_in(text: &[u8], at: usize) -> u64
     requires { at + WIDE ≤ length text.now }
-    ensures { IsRunIn is_quiet text.now at WIDE result }
+    ensures { result ≡ mask_of (is_byte3 backslash newline quote) text.now at WIDE }
 {
     let v = u8x64::from_slice(&text[at..]);
     let newlines = v.simd_eq(u8x64::splat(b'\n'));
     let others = v.simd_eq(u8x64::splat(b'"')) | v.simd_eq(u8x64::splat(b'\\'));
-    first_set((newlines | others).to_bitmask(), WIDE)
+    (newlines | others).to_bitmask()
 }
 
-/// The place of the first newline, quote or backslash.
+// The first newline, quote or backslash, where these are the ones that were seen at the start of the text.
 #[inline(always)]
-fn first_mark(text: &[u8]) -> Option<usize>
-    ensures { IsFirstByte (is_byte3 backslash newline quote) text.now result }
+fn first_mark(text: &[u8], seen: u64) -> Option<Mark>
+    requires { AreSeen text.now seen }
+    ensures first { IsFirstByte (is_byte3 backslash newline quote) text.now (option_map (λ m. m.at) result) }
+    ensures later { IfSome result (λ m. AreSeen (drop (m.at + 1) text.now) m.later) }
 {
+    if seen != 0 {
+        let at = seen.trailing_zeros();
+        return Some(Mark {
+            at: at as usize,
+            later: (seen >> at) >> 1,
+        });
+    }
     let mut at = 0;
     while text.len() - at >= WIDE {
-        let run = quiet_run(text, at);
-        if run < WIDE {
-            return Some(at + run);
+        let marks = marks_in(text, at);
+        if marks != 0 {
+            let run = marks.trailing_zeros();
+            return Some(Mark {
+                at: at + run as usize,
+                later: (marks >> run) >> 1,
+            });
         }
         at += WIDE;
     }
     let last = memchr3(b'\\', b'\n', b'"', &text[at..])?;
-    Some(at + last)
+    Some(Mark {
+        at: at + last,
+        later: 0,
+    })
 }
 
 /// Whether a text is spaces and tabs and then `#`.
@@ -322,19 +347,30 @@ fn first_newline(text: &[u8]) -> Option<usize>
 
 /// The place of the newline that ends the first piece, or `None` where the text is one piece.
 #[inline(always)]
-fn first_cut(dialect: Dialect, text: &[u8]) -> Option<usize>
+fn late_cut(dialect: Dialect, text: &[u8]) -> Option<usize>
     ensures { IsFirstCut dialect text.now result }
 {
-    let found = first_mark(text)?;
-    // Nothing before it is escaped or quoted, and it is the first newline: it ends a comment too.
-    if text[found] == b'\n' {
-        return Some(found);
-    }
     match dialect {
         Dialect::Crate => cut_by_stretches(text),
         Dialect::Strict if is_comment(text) => first_newline(text),
         Dialect::Strict => cut_by_stretches(text),
     }
+}
+
+/// The same, with what was seen at the start of the text, and then of what comes after that newline.
+#[inline(always)]
+fn first_cut(dialect: Dialect, text: &[u8], seen: u64) -> Option<Mark>
+    requires { AreSeen text.now seen }
+    ensures cut { IsFirstCut dialect text.now (option_map (λ m. m.at) result) }
+    ensures later { IfSome result (λ m. AreSeen (drop (m.at + 1) text.now) m.later) }
+{
+    let found = first_mark(text, seen)?;
+    // Nothing before it is escaped or quoted, and it is the first newline: it ends a comment too.
+    if text[found.at] == b'\n' {
+        return Some(found);
+    }
+    let at = late_cut(dialect, text)?;
+    Some(Mark { at, later: 0 })
 }
 
 /// The pieces of a text, in order: what [`split_lines`] gives.
@@ -345,15 +381,20 @@ fn first_cut(dialect: Dialect, text: &[u8]) -> Option<usize>
 pub struct SplitLines<'a> {
     dialect: Dialect,
     rest: Option<&'a str>,
+    // The newlines, quotes and backslashes that were seen at the start of the rest.
+    seen: u64,
 }
 
 impl<'a> Model for SplitLines<'a> {
-    ghost use Rattle.std.specs.Prelude.{option_map};
+    ghost use Rattle.std.specs.Prelude.{option_map, IfSome};
     ghost use Rattle.influxdb_line_protocol.specs.format.Pieces.{Left};
+    ghost use Rattle.influxdb_line_protocol.specs.code.Seen.{AreSeen};
 
     ghost Value = { Left };
 
     ghost view = { λ s. record { dialect = s.dialect; text = option_map (λ x. x.now) s.rest } };
+
+    ghost invariant = { λ s. IfSome s.rest (λ text. AreSeen text.now s.seen) };
 }
 
 /// Splits a text into its pieces, at each newline that ends a line.
@@ -385,6 +426,7 @@ pub fn split_lines_in(dialect: Dialect, input: &str) -> SplitLines<'_>
     SplitLines {
         dialect,
         rest: Some(input),
+        seen: 0,
     }
 }
 
@@ -407,10 +449,11 @@ impl<'a> Iterator for SplitLines<'a> {
     #[inline(always)]
     fn next(&mut self) -> Option<&'a str> {
         let text = self.rest?;
-        match first_cut(self.dialect, text.as_bytes()) {
-            Some(i) => {
-                self.rest = Some(&text[i + 1..]);
-                Some(&text[..i])
+        match first_cut(self.dialect, text.as_bytes(), self.seen) {
+            Some(cut) => {
+                self.rest = Some(&text[cut.at + 1..]);
+                self.seen = cut.later;
+                Some(&text[..cut.at])
             }
             None => {
                 self.rest = None;

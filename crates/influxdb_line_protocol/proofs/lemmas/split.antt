@@ -10,3 +10,4 @@ pub mod QuietCuts
 pub mod SplitShape
 pub mod SplitWalk
 pub mod WideSearch
+pub mod SeenMarks

@@ -1,9 +1,7 @@
 -- Runs of bytes that pass a test.
-use Rattle.std.specs.Prelude.{◌≡◌, ℕ, ◌+◌, ◌<◌, ◌≤◌, ◌==◌, if◌then◌else◌, Bool, true, false, not, List, length, map, slice_index}
+use Rattle.std.specs.Prelude.{◌≡◌, ℕ, ◌+◌, ◌<◌, ◌≤◌, ◌==◌, if◌then◌else◌, Bool, true, false, List, length, map, slice_index}
 use Rattle.std.specs.Int.{w64, trailing_zeros}
 use Rattle.std.specs.Simd.Lanes.{chunk, mask_l}
-use Rattle.memchr.specs.Find.{is_byte3}
-use Rattle.influxdb_line_protocol.specs.format.Bytes.{newline, quote, backslash}
 
 -- the bytes from one place up to another pass the test
 abbrev pub AllPassBetween : (ℕ → Bool) → List ℕ → ℕ → ℕ → Type 0
@@ -24,10 +22,6 @@ IsRunIn test bytes at n run =
 -- the place of the lowest bit that is set, or n
 abbrev pub first_set : ℕ → ℕ → ℕ
 first_set mask n = if mask == 0 then n else trailing_zeros w64 mask
-
--- neither a newline nor a quote nor a backslash
-abbrev pub is_quiet : ℕ → Bool
-is_quiet b = not (is_byte3 backslash newline quote b)
 
 -- the mask of those of the n bytes from a place that pass the test
 abbrev pub mask_of : (ℕ → Bool) → List ℕ → ℕ → ℕ → ℕ

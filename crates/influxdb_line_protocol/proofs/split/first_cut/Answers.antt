@@ -1,21 +1,17 @@
-use Rattle.std.proofs.Common.{◌∙◌, sym}
+use Rattle.std.proofs.Common.{rules}
 use Rattle.influxdb_line_protocol.proofs.lemmas.split.QuietCuts.{cut_at_newline, no_cut}
-use Rattle.influxdb_line_protocol.proofs.lemmas.split.SplitPieces.{cut_of_comment, cut_of_other}
+use Rattle.influxdb_line_protocol.proofs.lemmas.split.SeenMarks.{none_are_seen}
 use Rattle.influxdb_line_protocol.proofs.split.first_cut.Goals as goal
 
-pub returns-in_err-found : goal.returns-in_err-found
-returns-in_err-found c = rw c.from_residual.ensures (no_cut c.args.dialect c.args.text.now c.in_err-found.ensures)
+pub returns-in_err-found-clause-cut : goal.returns-in_err-found-clause-cut
+returns-in_err-found-clause-cut c = rw c.from_residual.ensures (no_cut c.args.dialect c.args.text.now c.in_err-found.ensures.first)
 
-pub returns-then-text-found-eq10 : goal.returns-then-text-found-eq10
-returns-then-text-found-eq10 c = cut_at_newline c.args.dialect c.args.text.now c.in_ok-found.found
-    c.in_ok-found.ensures c.if-text-found-eq10.true
+pub returns-in_err-found-clause-later : goal.returns-in_err-found-clause-later
+returns-in_err-found-clause-later c = rw c.from_residual.ensures (search rules)
 
-pub returns-in-Strict : goal.returns-in-Strict
-returns-in-Strict c =
-    rw c.in-Strict.is (cut_of_comment c.args.text.now c.first_newline.result
-    (sym c.is_comment.ensures ∙ c.if-is_comment.true) c.first_newline.ensures)
+pub returns-then-text-found-eq10-clause-cut : goal.returns-then-text-found-eq10-clause-cut
+returns-then-text-found-eq10-clause-cut c =
+    cut_at_newline c.args.dialect c.args.text.now c.in_ok-found.found.at c.in_ok-found.ensures.first c.if-text-found-eq10.true
 
-pub returns-in-Strict-2 : goal.returns-in-Strict-2
-returns-in-Strict-2 c =
-    rw c.in-Strict-2.is (cut_of_other c.args.text.now c.cut_by_stretches-in-Strict-2.result
-    (sym c.is_comment.ensures ∙ c.if-is_comment.false) c.cut_by_stretches-in-Strict-2.ensures)
+pub returns-clause-later : goal.returns-clause-later
+returns-clause-later c = none_are_seen _

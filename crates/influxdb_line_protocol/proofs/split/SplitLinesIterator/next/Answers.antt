@@ -8,9 +8,9 @@ use Rattle.influxdb_line_protocol.proofs.split.SplitLinesIterator.next.Goals as 
 pub range_from-requires : goal.range_from-requires
 range_from-requires c = λ _.
     let bytes = c.as_bytes.ensures in
-    subst (λ t. IsCharBoundary t (c.in-Some.i + 1)) bytes.value
-    (IsCharBoundary-after_ascii c.as_bytes.result.now c.in-Some.i bytes.utf8 c.in-Some.ensures.0
-    (omega (arith, c.in-Some.ensures.1)))
+    subst (λ t. IsCharBoundary t (c.in-Some.cut.at + 1)) bytes.value
+    (IsCharBoundary-after_ascii c.as_bytes.result.now c.in-Some.cut.at bytes.utf8 c.in-Some.ensures.cut.0
+    (omega (arith, c.in-Some.ensures.cut.1)))
 
 pub returns-in-Some-clause-steps : goal.returns-in-Some-clause-steps
 returns-in-Some-clause-steps c = (
@@ -18,7 +18,7 @@ returns-in-Some-clause-steps c = (
   λ others left.
       rw (← c.self.view_is, c.in_ok-text.was)
       (Pieces-cut_at c.self.inside.dialect c.as_bytes.result.now c.in_ok-text.text.now c.range.result.now
-      c.range_from.result.now c.in-Some.i others c.as_bytes.ensures.value c.in-Some.ensures
+      c.range_from.result.now c.in-Some.cut.at others c.as_bytes.ensures.value c.in-Some.ensures.cut
       c.range.ensures.value c.range_from.ensures.value left),
 )
 
@@ -27,5 +27,5 @@ returns-in-None-clause-steps c = (
   cc,
   λ others none.
       rw (← c.self.view_is, c.in_ok-text.was, none)
-      (last c.in_ok-text.text.now (subst (IsLastPiece c.self.inside.dialect) c.as_bytes.ensures.value c.in-None.ensures)),
+      (last c.in_ok-text.text.now (subst (IsLastPiece c.self.inside.dialect) c.as_bytes.ensures.value c.in-None.ensures.cut)),
 )
