@@ -10,6 +10,9 @@ use std::simd::prelude::*;
 // So many digits write a number that a u64 holds.
 const MOST_DIGITS: usize = 19;
 
+// What four zeros add up to by their codes, each times what its place is worth.
+const FOUR_ZEROS: u32 = 1111 * 48;
+
 // How many digits are at the start of `bytes`, by one byte after another.
 #[inline(always)]
 fn walked_len(bytes: &[u8]) -> usize
@@ -50,20 +53,23 @@ pub(crate) fn digits_len(bytes: &[u8]) -> usize
     }
 }
 
-// The number that `digits` write after the digits of `before`.
+// The number that at most three `digits` write after the digits of `before`.
 #[inline(always)]
 fn value_after(before: u64, digits: &[u8]) -> u64
     requires digits { AllDigits 10 digits.now }
+    requires few { length digits.now < 4 }
     requires fits { digits_value_after 10 before digits.now < 2 ^ 64 }
     ensures { result ≡ digits_value_after 10 before digits.now }
 {
-    let mut value = before;
-    let mut left = digits;
-    while let [digit, rest @ ..] = left {
-        value = value * 10 + u64::from(*digit - b'0');
-        left = rest;
+    match digits {
+        [a] => before * 10 + u64::from(*a - b'0'),
+        [a, b] => before * 100 + u64::from((*a - b'0') * 10 + (*b - b'0')),
+        [a, b, c] => {
+            let front = u32::from(*a - b'0') * 100 + u32::from(*b - b'0') * 10;
+            before * 1000 + u64::from(front + u32::from(*c - b'0'))
+        }
+        _ => before,
     }
-    value
 }
 
 // The number that at most 19 digits write, by four digits after four.
@@ -76,9 +82,9 @@ fn digits_value(digits: &[u8]) -> u64
     let mut value = 0;
     let mut left = digits;
     while let [a, b, c, d, rest @ ..] = left {
-        let front = u32::from(*a - b'0') * 10 + u32::from(*b - b'0');
-        let back = u32::from(*c - b'0') * 10 + u32::from(*d - b'0');
-        value = value * 10_000 + u64::from(front * 100 + back);
+        let front = u32::from(*a) * 1000 + u32::from(*b) * 100;
+        let codes = front + u32::from(*c) * 10 + u32::from(*d);
+        value = value * 10_000 + u64::from(codes - FOUR_ZEROS);
         left = rest;
     }
     value_after(value, left)

@@ -9,7 +9,7 @@ ghost use Rattle.influxdb_line_protocol.specs.code.Outcomes.{Gives};
 ghost use Rattle.influxdb_line_protocol.specs.code.Parsed.{field_of};
 ghost use Rattle.influxdb_line_protocol.specs.code.Sets.{SetNeedsMemory, fields_of};
 
-use crate::line::strip_byte;
+use crate::line::{refused, strip_byte};
 use crate::names::{self, NameKind};
 use crate::{Dialect, Error, EscapedStr, FieldSet, FieldValue, Result, values};
 use std::alloc::Global;
@@ -33,8 +33,10 @@ fn field<'a>(alloc: Global, text: &'a str) -> Result<Option<(Field<'a>, &'a str)
     let Some((value, rest)) = values::value(alloc, rest)? else {
         return Ok(None);
     };
-    let key = names::escaped_str(alloc, key)?;
-    Ok(Some(((key, value), rest)))
+    match names::escaped_str(alloc, key) {
+        Ok(key) => Ok(Some(((key, value), rest))),
+        Err(_) => Err(refused(value)),
+    }
 }
 
 // How many places a full set gets more, at least: so many that the fields of an ordinary line make it grow once.
@@ -49,7 +51,9 @@ fn append<'a>(set: &mut FieldSet<'a>, next: Field<'a>) -> Result<()>
     ensures full { OnErr result (set.old.capacity ≤ length set.old.items) }
 {
     if set.len() == set.capacity() {
-        set.reserve_exact(set.len().max(MORE))?;
+        if set.reserve_exact(set.len().max(MORE)).is_err() {
+            return Err(refused(next));
+        }
     }
     set.push_reserved(next);
     Ok(())

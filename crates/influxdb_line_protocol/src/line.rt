@@ -148,6 +148,18 @@ pub(crate) fn trim_start_spaces(text: &str) -> &str
     &text[spaces_len(text.as_bytes())..]
 }
 
+/// Lets go of what was read, where memory for more of it was refused.
+///
+/// Few lines need it, and it is called apart, so that no drop stands where a field is read: its looks at single bytes of
+/// a value would have the compiler carry each value in small pieces.
+#[cold]
+#[inline(never)]
+pub(crate) fn refused<T: Drop>(_read: T) -> Error
+    ensures { result ≡ Error.OutOfMemory }
+{
+    Error::OutOfMemory
+}
+
 // What comes before `rest`, which ends `line` and begins with a space.
 #[inline(always)]
 fn front_before<'a>(line: &'a str, rest: &str) -> &'a str

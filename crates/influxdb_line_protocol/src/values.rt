@@ -143,7 +143,7 @@ fn unsigned_fault(alloc: Global, number: &str) -> Error
 }
 
 // Digits and `u` at the start of `text`, and the rest, where the digits take `whole` bytes.
-#[inline(never)]
+#[inline(always)]
 fn unsigned<'a>(
     alloc: Global,
     text: &'a str,

@@ -1,6 +1,6 @@
 use Rattle.std.proofs.Common.{arith, ◌∙◌}
 use Rattle.std.proofs.lemmas.List.{take_rest}
-use Rattle.influxdb_line_protocol.proofs.lemmas.digits.DigitLemmas.{few_fit, four_fit, four_more}
+use Rattle.influxdb_line_protocol.proofs.lemmas.digits.DigitLemmas.{by_codes, few_fit, four_fit, four_more}
 use Rattle.influxdb_line_protocol.proofs.digits.digits_value.Goals as goal
 
 pub overflow_mul-value : goal.overflow_mul-value
@@ -30,7 +30,8 @@ loop-left-preserved c =
       c.from-in-len4-up-2.ensures,
       c.from-in-len4-up-3.ensures,
     ) at c.from-in-len4-up-4.ensures in
-    rw (take_rest, group) (record { digits = more.0; same = more.1 ∙ c.loop-left.invariant.same })
+    let same = by_codes c.loop-left.value c.loop-left.left.now c.in-len4-up.len_at_least c.loop-left.invariant.digits in
+    rw (take_rest, group, same) (record { digits = more.0; same = more.1 ∙ c.loop-left.invariant.same })
 
 pub value_after-requires-clause-fits : goal.value_after-requires-clause-fits
 value_after-requires-clause-fits c =

@@ -75,18 +75,43 @@ pub after_at_least : (n : ℕ) (ds : List ℕ) → n ≤ digits_value_after 10 n
 after_at_least n [] = omega arith
 after_at_least n (d ∷ ds) = omega (arith, after_at_least (n * 10 + digit_value d) ds)
 
+-- so it is no less than those with a zero for each digit after them
+pub one_fits : (n : ℕ) (ds : List ℕ) → 1 ≤ length ds → n * 10 ≤ digits_value_after 10 n ds
+one_fits n [] some = absurd (omega arith)
+one_fits n (a ∷ ds) some = omega (arith, after_at_least (n * 10 + digit_value a) ds)
+
+pub two_fit : (n : ℕ) (ds : List ℕ) → 2 ≤ length ds → n * 100 ≤ digits_value_after 10 n ds
+two_fit n [] some = absurd (omega arith)
+two_fit n (a ∷ ds) some = omega (arith, one_fits (n * 10 + digit_value a) ds (omega (arith, some)))
+
+pub three_fit : (n : ℕ) (ds : List ℕ) → 3 ≤ length ds → n * 1000 ≤ digits_value_after 10 n ds
+three_fit n [] some = absurd (omega arith)
+three_fit n (a ∷ ds) some = omega (arith, two_fit (n * 10 + digit_value a) ds (omega (arith, some)))
+
 -- the value of a digit, from its byte
 pub digit_is : (d : ℕ) → digit_value d < 10 → digit_value d ≡ d - 48
 digit_is d small = let range = digit_from_value d small in omega (arith, digit_value_digit d range)
 
--- the number with one digit more
-pub one_more : (n : ℕ) (ds : List ℕ) → 1 ≤ length ds → AllDigits 10 ds → n * 10 + (get_or ds 0 0 - 48) ≤ digits_value_after 10 n ds
-one_more n [] some digits = absurd (omega arith)
-one_more n (d ∷ ds) some digits = omega (arith, digit_is d digits.0, after_at_least (n * 10 + digit_value d) ds)
+-- the codes of four digits
+pub four_codes : (ds : List ℕ) → 4 ≤ length ds → AllDigits 10 ds
+    → (48 ≤ get_or ds 0 0) × ((48 ≤ get_or ds 1 0) × ((48 ≤ get_or ds 2 0) × (48 ≤ get_or ds 3 0)))
+four_codes [] some digits = absurd (omega arith)
+four_codes (a ∷ []) some digits = absurd (omega arith)
+four_codes (a ∷ (b ∷ [])) some digits = absurd (omega arith)
+four_codes (a ∷ (b ∷ (c ∷ []))) some digits = absurd (omega arith)
+four_codes (a ∷ (b ∷ (c ∷ (d ∷ ds)))) some (va, (vb, (vc, (vd, rest)))) = (
+  omega (arith, digit_from_value a va),
+  (omega (arith, digit_from_value b vb), (omega (arith, digit_from_value c vc), omega (arith, digit_from_value d vd))),
+)
 
 -- the number with four digits more
 abbrev pub with_four : ℕ → List ℕ → ℕ
 with_four n ds = n * 10000 + (((get_or ds 0 0 - 48) * 10 + (get_or ds 1 0 - 48)) * 100 + ((get_or ds 2 0 - 48) * 10 + (get_or ds 3 0 - 48)))
+
+-- the same, by their codes: those of four zeros add up to 53328
+pub by_codes : (n : ℕ) (ds : List ℕ) → 4 ≤ length ds → AllDigits 10 ds
+    → n * 10000 + (get_or ds 0 0 * 1000 + get_or ds 1 0 * 100 + get_or ds 2 0 * 10 + get_or ds 3 0 - 53328) ≡ with_four n ds
+by_codes n ds some digits = let codes = four_codes ds some digits in omega (arith, codes.0, codes.1.0, codes.1.1.0, codes.1.1.1)
 
 -- the digits after four write on after them
 pub four_more : (n : ℕ) (ds : List ℕ) → 4 ≤ length ds → AllDigits 10 ds
