@@ -1,5 +1,7 @@
 //! What can be wrong with a line.
 
+ghost use Rattle.std.specs.Prelude.{◌≡◌};
+
 use std::alloc::{AllocError, AllocFailed};
 use std::fmt;
 
@@ -112,4 +114,16 @@ impl<T: Drop> From<AllocFailed<T>> for Error {
     fn from(_error: AllocFailed<T>) -> Error {
         Error::OutOfMemory
     }
+}
+
+/// Lets go of what was read, where memory for more of it was refused.
+///
+/// Few lines need it, and it is called apart, so that no drop stands where a field is read: its looks at single bytes of
+/// a value would have the compiler carry each value in small pieces.
+#[cold]
+#[inline(never)]
+pub(crate) fn refused<T: Drop>(_read: T) -> Error
+    ensures { result ≡ Error.OutOfMemory }
+{
+    Error::OutOfMemory
 }

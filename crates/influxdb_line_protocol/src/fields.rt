@@ -9,8 +9,9 @@ ghost use Rattle.influxdb_line_protocol.specs.code.Outcomes.{Gives};
 ghost use Rattle.influxdb_line_protocol.specs.code.Parsed.{field_of};
 ghost use Rattle.influxdb_line_protocol.specs.code.Sets.{SetNeedsMemory, fields_of};
 
-use crate::line::{refused, strip_byte};
+use crate::error::refused;
 use crate::names::{self, NameKind};
+use crate::trim::strip_byte;
 use crate::{Dialect, Error, EscapedStr, FieldSet, FieldValue, Result, values};
 use std::alloc::Global;
 

@@ -7,7 +7,7 @@ ghost use Rattle.influxdb_line_protocol.specs.format.Bytes.{backslash, is_one_of
 ghost use Rattle.influxdb_line_protocol.specs.format.Escapes.{EscapeScan, first_bare, without_escapes};
 ghost use Rattle.influxdb_line_protocol.specs.code.Forms.{stops_of, known_of, is_end, is_plain};
 ghost use Rattle.influxdb_line_protocol.specs.code.Lanes.{IsRunAt, mask_of};
-ghost use Rattle.influxdb_line_protocol.specs.format.Names.{ends_in_backslash, is_one_escape, is_shared, read_text};
+ghost use Rattle.influxdb_line_protocol.specs.format.Names.{ends_in_backslash, is_shared, read_text};
 ghost use Rattle.influxdb_line_protocol.specs.code.Texts.{read_of};
 
 use crate::escaped::EscapedStr;
@@ -16,43 +16,8 @@ use crate::lanes::{
     plain_run, stops_in,
 };
 use crate::scan::{WIDE, bare, escapes_next, ones_below, places_of};
+use crate::sets::Form;
 use std::alloc::{AllocError, Global};
-
-/// What is spelled: a name of one of three forms, or the text between quotes.
-#[derive(Clone, Copy)]
-pub(crate) enum Form {
-    Measurement,
-    Key,
-    TagValue,
-    Quoted,
-}
-
-impl Form {
-    // Whether a bare byte ends a spelling.
-    #[inline(always)]
-    fn is_stop(self, byte: u8) -> bool
-        ensures { result ≡ stops_of self byte }
-    {
-        match self {
-            Form::Measurement => matches!(byte, b' ' | b'\t' | b'\n' | 0 | b','),
-            Form::Key => matches!(byte, b' ' | b'\t' | b'\n' | b'='),
-            Form::TagValue => matches!(byte, b' ' | b'\t' | b'\n' | b','),
-            Form::Quoted => byte == b'"',
-        }
-    }
-
-    // Whether a backslash before the byte is a known escape.
-    #[inline(always)]
-    fn is_known(self, byte: u8) -> bool
-        ensures { result ≡ is_one_of (known_of self) byte }
-    {
-        match self {
-            Form::Measurement => matches!(byte, b',' | b' ' | b'\\'),
-            Form::Key | Form::TagValue => matches!(byte, b',' | b'=' | b' ' | b'\\'),
-            Form::Quoted => matches!(byte, b'"' | b'\\'),
-        }
-    }
-}
 
 /// The spelled text of a name, or between quotes.
 #[derive(Clone, Copy)]

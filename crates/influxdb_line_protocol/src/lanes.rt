@@ -4,8 +4,8 @@ ghost use Rattle.influxdb_line_protocol.specs.format.Bytes.{is_one_of};
 ghost use Rattle.influxdb_line_protocol.specs.code.Forms.{is_end, is_plain, known_of, stops_of};
 ghost use Rattle.influxdb_line_protocol.specs.code.Lanes.{IsRunIn, first_set, mask_of};
 
-use crate::forms::Form;
 use crate::scan::WIDE;
+use crate::sets::Form;
 use std::simd::prelude::*;
 
 pub(crate) const LANES: usize = 16;

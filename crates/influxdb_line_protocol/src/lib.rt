@@ -4,6 +4,7 @@
 //! lines are answered as if it had not been there. [`builder`] writes lines that read back.
 #![tactic(auto)]
 
+mod base;
 pub mod builder;
 mod digits;
 mod error;
@@ -15,17 +16,20 @@ pub mod laws;
 mod line;
 mod literals;
 mod names;
+mod parsed;
 mod scan;
-mod series;
+mod sets;
+mod shown;
 mod split;
 mod tags;
+mod trim;
 mod values;
 
 pub use builder::{LineProtocolBuilder, is_admitted, write_line, write_parsed};
 pub use error::{Error, ErrorKind, OutOfRange, Result};
 pub use escaped::{EscapedStr, Measurement};
-pub use line::{FieldSet, ParseLines, ParsedLine, parse_lines, parse_lines_in};
+pub use line::{ParseLines, parse_lines, parse_lines_in};
 pub use literals::FloatText;
-pub use series::{Series, TagSet};
+pub use parsed::{FieldSet, ParsedLine, Series, TagSet};
 pub use split::{Dialect, SplitLines, split_lines, split_lines_in};
 pub use values::FieldValue;

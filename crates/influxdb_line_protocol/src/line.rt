@@ -1,164 +1,27 @@
 //! Lines.
 
-ghost use Rattle.std.specs.Prelude.{◌≡◌, ◌<◌, ◌≤◌, ◌++◌, ◌^◌, ℕ, List, [], drop, length, max, slice_index, true, Err};
-ghost use Rattle.std.specs.Prelude.{None, Some, IfSome, MatchOption};
+ghost use Rattle.std.specs.Prelude.{◌≡◌, ◌<◌, ◌≤◌, ◌++◌, ◌^◌, ℕ, List, [], length, max, slice_index, true, Err, None};
+ghost use Rattle.std.specs.Prelude.{Some, IfSome, MatchOption};
 ghost use Rattle.std.specs.Option.{option_map};
 ghost use Rattle.influxdb_line_protocol.specs.declared.split.Dialect.{Dialect};
-ghost use Rattle.influxdb_line_protocol.specs.format.Lines.{answer, byte, front_before, spaces};
+ghost use Rattle.influxdb_line_protocol.specs.format.Lines.{answer, front_before};
 ghost use Rattle.influxdb_line_protocol.specs.format.Bytes.{space};
 ghost use Rattle.influxdb_line_protocol.specs.code.Outcomes.{IsNotOutOfMemory};
 ghost use Rattle.influxdb_line_protocol.specs.code.Light.{is_light_in};
 ghost use Rattle.influxdb_line_protocol.specs.code.Lookups.{room_of};
 ghost use Rattle.influxdb_line_protocol.specs.code.Filled.{FillsLine};
 ghost use Rattle.influxdb_line_protocol.specs.format.Trimming.{trimmed};
-ghost use Rattle.influxdb_line_protocol.specs.format.Readings.{miss, reads};
 ghost use Rattle.influxdb_line_protocol.specs.code.ReadInto.{IsEmptyLine, KeepsTagRoom};
 
 use crate::names::{self, NameKind};
 use crate::split::{SplitLines, split_lines_in};
+use crate::trim::{strip_byte, trim_start_spaces, trimmed};
 use crate::{
-    Dialect, Error, ErrorKind, EscapedStr, FieldValue, Result, Series, TagSet, fields, tags, values,
+    Dialect, Error, ErrorKind, EscapedStr, ParsedLine, Result, Series, TagSet, fields, tags, values,
 };
 use smallvec::SmallVec;
 use std::alloc::Global;
 use std::marker::Model;
-
-/// The fields of a line, in its order; repeated keys are kept. Up to 4 take no memory.
-pub type FieldSet<'a> = SmallVec<(EscapedStr<'a>, FieldValue<'a>), 4>;
-
-/// What one line says.
-#[derive(Debug, Drop)]
-pub struct ParsedLine<'a> {
-    /// The measurement and the tags.
-    pub series: Series<'a>,
-    /// The fields: at least one, where `parse_lines` gave the line.
-    pub field_set: FieldSet<'a>,
-    /// The timestamp, where the line has one.
-    pub timestamp: Option<i64>,
-}
-
-impl<'a> ParsedLine<'a> {
-    ghost use Rattle.std.specs.Prelude.{◌^◌};
-    ghost use Rattle.std.specs.Option.{option_copied};
-    ghost use Rattle.influxdb_line_protocol.specs.code.Lookups.{columns, some_items, value_by_key};
-    ghost use Rattle.influxdb_line_protocol.specs.code.ReadInto.{IsEmptyLine};
-
-    /// A line that says nothing: what [`ParseLines::next_into`] reads into.
-    ///
-    /// It takes no memory.
-    pub fn new(alloc: Global) -> ParsedLine<'a>
-        ensures { IsEmptyLine result }
-    {
-        ParsedLine {
-            series: Series {
-                raw_input: "",
-                measurement: EscapedStr::SingleSlice(""),
-                tag_set: None,
-            },
-            field_set: SmallVec::new(alloc),
-            timestamp: None,
-        }
-    }
-
-    /// One, and the number of fields, and the number of tags, where no tag set counts as none.
-    ///
-    /// The caller sees to it that this fits `usize`, as it does for each line that `parse_lines` gave.
-    /// It takes no memory.
-    pub fn column_count(&self) -> usize
-        requires { columns self.now < 2 ^ 64 }
-        ensures { result ≡ columns self.now }
-    {
-        let tags = match &self.series.tag_set {
-            Some(tags) => tags.len(),
-            None => 0,
-        };
-        1 + self.field_set.len() + tags
-    }
-
-    /// The value of the first tag whose key has the text `tag_key`; `None` where no tag has it.
-    ///
-    /// It takes no memory.
-    pub fn tag_value(&self, tag_key: &str) -> Option<&EscapedStr<'a>>
-        ensures { option_copied result ≡ value_by_key tag_key.now (some_items self.now.series.tag_set) }
-    {
-        let tags = self.series.tag_set.as_ref()?;
-        let tag = tags.iter().find(|tag| tag.0.as_str() == tag_key)?;
-        Some(&tag.1)
-    }
-
-    /// The value of the first field whose key has the text `field_key`; `None` where no field has it.
-    ///
-    /// It takes no memory.
-    pub fn field_value(&self, field_key: &str) -> Option<&FieldValue<'a>>
-        ensures { option_copied result ≡ value_by_key field_key.now self.now.field_set.items }
-    {
-        let field = self
-            .field_set
-            .iter()
-            .find(|field| field.0.as_str() == field_key)?;
-        Some(&field.1)
-    }
-}
-
-// `text` without the blanks and comments at the start of it.
-#[inline(always)]
-fn trimmed(text: &str) -> &str
-    ensures { result.now ≡ trimmed text.now }
-{
-    let bytes = text.as_bytes();
-    let mut in_comment = false;
-    for (place, byte) in bytes.iter().enumerate() {
-        match byte {
-            b'\n' => in_comment = false,
-            b'#' => in_comment = true,
-            b' ' | b'\t' => {}
-            _ if in_comment => {}
-            _ => return &text[place..],
-        }
-    }
-    &text[text.len()..]
-}
-
-/// What follows `mark`, where it is at the start of `text`.
-#[inline(always)]
-pub(crate) fn strip_byte(mark: u8, text: &str) -> Option<&str>
-    requires { mark < 128 }
-    ensures value { MatchOption result (byte mark text.now ≡ miss) (λ rest. byte mark text.now ≡ reads mark rest.now) }
-    ensures less { IfSome result (λ rest. length rest.now < length text.now) }
-{
-    match text.as_bytes() {
-        [first, ..] if *first == mark => Some(&text[1..]),
-        _ => None,
-    }
-}
-
-// How many spaces are at the start of `bytes`.
-#[inline(always)]
-fn spaces_len(bytes: &[u8]) -> usize
-    ensures { result ≡ spaces bytes.now }
-{
-    bytes.iter().take_while(|byte| **byte == b' ').count()
-}
-
-/// What follows the spaces at the start of `text`.
-#[inline(always)]
-pub(crate) fn trim_start_spaces(text: &str) -> &str
-    ensures { result.now ≡ drop (spaces text.now) text.now }
-{
-    &text[spaces_len(text.as_bytes())..]
-}
-
-/// Lets go of what was read, where memory for more of it was refused.
-///
-/// Few lines need it, and it is called apart, so that no drop stands where a field is read: its looks at single bytes of
-/// a value would have the compiler carry each value in small pieces.
-#[cold]
-#[inline(never)]
-pub(crate) fn refused<T: Drop>(_read: T) -> Error
-    ensures { result ≡ Error.OutOfMemory }
-{
-    Error::OutOfMemory
-}
 
 // What comes before `rest`, which ends `line` and begins with a space.
 #[inline(always)]
@@ -422,24 +285,5 @@ impl<'a> Iterator for ParseLines<'a> {
             }
         }
         Some(item)
-    }
-}
-
-#[cfg(test)]
-mod tests {
-    use super::*;
-
-    #[test]
-    fn texts_are_trimmed_so(rt: HostRuntime) {
-        for (text, wanted) in [
-            ("\n  a ", "a "),
-            ("\t  a ", "a "),
-            ("  #comment\n a ", "a "),
-            ("#comment\tcomment", ""),
-            ("#comment\n #comment2\n#comment\na", "a"),
-            ("#comment\\\na", "a"),
-        ] {
-            assert_eq!(rt; trimmed(text), wanted);
-        }
     }
 }

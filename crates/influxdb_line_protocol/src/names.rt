@@ -10,7 +10,8 @@ ghost use Rattle.influxdb_line_protocol.specs.code.Texts.{read_of};
 use crate::error::Error;
 use crate::escaped::EscapedStr;
 pub(crate) use crate::forms::escaped_str;
-use crate::forms::{Form, Spelling, front};
+use crate::forms::{Spelling, front};
+use crate::sets::Form;
 use std::alloc::Global;
 
 #[derive(Clone, Copy)]

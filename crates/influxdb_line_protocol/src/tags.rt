@@ -11,8 +11,8 @@ ghost use Rattle.influxdb_line_protocol.specs.code.Outcomes.{Gives};
 ghost use Rattle.influxdb_line_protocol.specs.code.Parsed.{tag_of, tags_of};
 ghost use Rattle.influxdb_line_protocol.specs.code.Sets.{SetNeedsMemory, TagsNeedMemory};
 
-use crate::line::strip_byte;
 use crate::names::{self, NameKind};
+use crate::trim::strip_byte;
 use crate::{Error, EscapedStr, Result, TagSet};
 use std::alloc::Global;
 use std::mem;

@@ -21,9 +21,10 @@ ghost use Rattle.influxdb_line_protocol.specs.format.Values.{false_words};
 use crate::digits::{integer_value, unsigned_value};
 use crate::error::{Error, OutOfRange};
 use crate::escaped::EscapedStr;
-use crate::forms::{Form, escaped_str, front};
-use crate::line::{strip_byte, trim_start_spaces};
+use crate::forms::{escaped_str, front};
 use crate::literals::{FloatText, integer_len};
+use crate::sets::Form;
+use crate::trim::{strip_byte, trim_start_spaces};
 use std::alloc::{AllocError, Global};
 
 /// A value of a field.

@@ -8,7 +8,7 @@ use Rattle.influxdb_line_protocol.specs.declared.split.Dialect.{Dialect}
 use Rattle.influxdb_line_protocol.specs.declared.error.Error.{Error}
 use Rattle.influxdb_line_protocol.specs.declared.escaped.EscapedStr.{EscapedStr}
 use Rattle.influxdb_line_protocol.specs.declared.values.FieldValue.{FieldValue}
-use Rattle.influxdb_line_protocol.specs.declared.line.ParsedLine.{ParsedLine}
+use Rattle.influxdb_line_protocol.specs.declared.parsed.ParsedLine.{ParsedLine}
 use Rattle.influxdb_line_protocol.specs.format.Readings.{Fault}
 use Rattle.influxdb_line_protocol.specs.format.Points.{is_admitted_point, built_all}
 use Rattle.influxdb_line_protocol.specs.format.Lines.{Line, point_of, answer, logical_field}

@@ -10,7 +10,7 @@ use Rattle.std.proofs.lemmas.List.Sums.{sum_by-append}
 use Rattle.influxdb_line_protocol.specs.declared.split.Dialect.{Dialect}
 use Rattle.influxdb_line_protocol.specs.declared.error.Error.{Error}
 use Rattle.influxdb_line_protocol.specs.declared.error.Error.TheVariants as error
-use Rattle.influxdb_line_protocol.specs.declared.line.ParsedLine.{ParsedLine}
+use Rattle.influxdb_line_protocol.specs.declared.parsed.ParsedLine.{ParsedLine}
 use Rattle.lp_rebuild.specs.declared.batch.Progress.{Progress}
 use Rattle.lp_rebuild.specs.declared.batch.Rebuilt.{Rebuilt}
 use Rattle.influxdb_line_protocol.specs.code.Outcomes.{side, IsFault}

@@ -1,9 +1,9 @@
 -- What the calls of the builder write.
 use Rattle.std.specs.Prelude.{◌≡◌, ◌≢◌, ℕ, ◌+◌, ◌^◌, ◌<◌, ◌≤◌, ◌↔◌, List, ◌++◌, length, Result, Ok, Err, IfOk, IfErr, IsOk, MatchResult}
-use Rattle.influxdb_line_protocol.specs.declared.builder.Escapes.{Escapes}
-use Rattle.influxdb_line_protocol.specs.declared.builder.Escapes.TheVariants.{OfMeasurement, OfKey, OfString}
-use Rattle.influxdb_line_protocol.specs.declared.builder.NoRoom.{NoRoom}
-use Rattle.influxdb_line_protocol.specs.declared.builder.NoRoom.TheVariants.{TooLong}
+use Rattle.influxdb_line_protocol.specs.declared.builder.texts.Escapes.{Escapes}
+use Rattle.influxdb_line_protocol.specs.declared.builder.texts.Escapes.TheVariants.{OfMeasurement, OfKey, OfString}
+use Rattle.influxdb_line_protocol.specs.declared.builder.buffer.NoRoom.{NoRoom}
+use Rattle.influxdb_line_protocol.specs.declared.builder.buffer.NoRoom.TheVariants.{TooLong}
 use Rattle.influxdb_line_protocol.specs.declared.builder.LineProtocolBuilder.{LineProtocolBuilder}
 use Rattle.influxdb_line_protocol.specs.declared.builder.Refused.{Refused}
 use Rattle.influxdb_line_protocol.specs.declared.builder.BeforeMeasurement.{BeforeMeasurement}

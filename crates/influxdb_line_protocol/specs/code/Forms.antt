@@ -1,7 +1,7 @@
 -- The forms of text that are spelled with escapes, in the words of the definitions.
 use Rattle.std.specs.Prelude.{ℕ, ◌==◌, ◌||◌, Bool, not, List}
-use Rattle.influxdb_line_protocol.specs.declared.forms.Form.{Form}
-use Rattle.influxdb_line_protocol.specs.declared.forms.Form.TheVariants.{Measurement, Key, TagValue, Quoted}
+use Rattle.influxdb_line_protocol.specs.declared.sets.Form.{Form}
+use Rattle.influxdb_line_protocol.specs.declared.sets.Form.TheVariants.{Measurement, Key, TagValue, Quoted}
 use Rattle.influxdb_line_protocol.specs.format.Bytes.{quote, backslash}
 use Rattle.influxdb_line_protocol.specs.format.Names.{a_measurement, a_tag_key, a_tag_value, is_stop, escapable}
 use Rattle.influxdb_line_protocol.specs.format.Values.{quotable}

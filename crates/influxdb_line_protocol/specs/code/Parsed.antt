@@ -7,7 +7,7 @@ use Rattle.influxdb_line_protocol.specs.declared.error.Error.{Error}
 use Rattle.influxdb_line_protocol.specs.declared.escaped.EscapedStr.{EscapedStr}
 use Rattle.influxdb_line_protocol.specs.declared.values.FieldValue.{FieldValue}
 use Rattle.influxdb_line_protocol.specs.declared.values.FieldValue.TheVariants.{I64, U64, F64, String, Boolean}
-use Rattle.influxdb_line_protocol.specs.declared.line.ParsedLine.{ParsedLine}
+use Rattle.influxdb_line_protocol.specs.declared.parsed.ParsedLine.{ParsedLine}
 use Rattle.influxdb_line_protocol.specs.format.Readings.{Fault, Text}
 use Rattle.influxdb_line_protocol.specs.code.Outcomes.{IsFault}
 use Rattle.influxdb_line_protocol.specs.code.Literals.{literal_of}
@@ -34,12 +34,15 @@ is_same_variant (String x) (String y) = true
 is_same_variant (Boolean x) (Boolean y) = true
 is_same_variant x y = false
 
+-- a field of the code, as the definitions have it
 abbrev pub field_of : EscapedStr × FieldValue → Pair Text (Value Text)
 field_of f = record { key = read_of f.0; value = value_of f.1 }
 
+-- a tag of the code, as the definitions have it
 abbrev pub tag_of : EscapedStr × EscapedStr → Pair Text Text
 tag_of t = record { key = read_of t.0; value = read_of t.1 }
 
+-- the tags of a set
 abbrev pub tags_of : SmallVec (EscapedStr × EscapedStr) → List (Pair Text Text)
 tags_of tags = map tag_of tags.items
 

@@ -2,8 +2,8 @@
 use Rattle.std.specs.Prelude.{ℕ, zero, suc, ℤ, List, [], ◌∷◌, ◌++◌, true, false, codes, decimal, Option, Some, None}
 use Rattle.std.specs.Fmt.{signed_decimal}
 use Rattle.std.specs.List.{join_by}
-use Rattle.influxdb_line_protocol.specs.declared.series.Shown.{Shown}
-use Rattle.influxdb_line_protocol.specs.declared.series.Shown.TheVariants.{ShownMeasurement, ShownKey, ShownString}
+use Rattle.influxdb_line_protocol.specs.declared.shown.Shown.{Shown}
+use Rattle.influxdb_line_protocol.specs.declared.shown.Shown.TheVariants.{ShownMeasurement, ShownKey, ShownString}
 use Rattle.influxdb_line_protocol.specs.format.Bytes.{space, quote, comma, equals, letter_i, letter_u}
 use Rattle.influxdb_line_protocol.specs.format.Escapes.{escaped}
 use Rattle.influxdb_line_protocol.specs.format.Readings.{Text}
@@ -30,9 +30,11 @@ shown_value (string text) = escaped (shown_escapes ShownString) text.bytes
 shown_value (boolean true) = codes "true"
 shown_value (boolean false) = codes "false"
 
+-- what is shown of a tag
 abbrev pub shown_tag : Pair Text Text → List ℕ
 shown_tag t = shown_key t.key ++ equals ∷ shown_key t.value
 
+-- what is shown of a field
 abbrev pub shown_field : Pair Text (Value Text) → List ℕ
 shown_field f = shown_key f.key ++ equals ∷ shown_value f.value
 

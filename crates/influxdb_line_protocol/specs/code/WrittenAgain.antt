@@ -3,7 +3,7 @@ use Rattle.std.specs.Prelude.{◌≡◌, ◌≢◌, ◌&&◌, ℕ, Bool, true, l
 use Rattle.std.specs.List.{AllByRecursion, flat_map, list_all}
 use Rattle.influxdb_line_protocol.specs.declared.escaped.EscapedStr.{EscapedStr}
 use Rattle.influxdb_line_protocol.specs.declared.values.FieldValue.{FieldValue}
-use Rattle.influxdb_line_protocol.specs.declared.line.ParsedLine.{ParsedLine}
+use Rattle.influxdb_line_protocol.specs.declared.parsed.ParsedLine.{ParsedLine}
 use Rattle.influxdb_line_protocol.specs.declared.builder.lines.Parts.{Parts}
 use Rattle.influxdb_line_protocol.specs.format.Bytes.{newline, space}
 use Rattle.influxdb_line_protocol.specs.declared.values.FieldValue.TheVariants.{String}

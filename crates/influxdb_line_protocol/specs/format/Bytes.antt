@@ -2,33 +2,43 @@
 use Rattle.std.specs.Prelude.{ℕ, Bool, List, ◌==◌}
 use Rattle.std.specs.List.{list_any}
 
+-- the byte NUL
 abbrev pub nul : ℕ
 nul = 0
 
+-- a tab
 abbrev pub tab : ℕ
 tab = 9
 
+-- a newline
 abbrev pub newline : ℕ
 newline = 10
 
+-- a space
 abbrev pub space : ℕ
 space = 32
 
+-- `"`, which opens and closes a string
 abbrev pub quote : ℕ
 quote = 34
 
+-- `#`, which begins a comment
 abbrev pub hash : ℕ
 hash = 35
 
+-- `,`, which divides tags, and fields
 abbrev pub comma : ℕ
 comma = 44
 
+-- `-`, the sign of a number
 abbrev pub minus : ℕ
 minus = 45
 
+-- `=`, which divides a key from its value
 abbrev pub equals : ℕ
 equals = 61
 
+-- `\`, which escapes the byte after it
 abbrev pub backslash : ℕ
 backslash = 92
 

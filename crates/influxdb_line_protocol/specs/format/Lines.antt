@@ -31,9 +31,11 @@ logical_value (float t) = float t
 logical_value (string t) = string t.bytes
 logical_value (boolean b) = boolean b
 
+-- a tag that was read, by its logical texts
 abbrev pub logical_tag : Pair Text Text → Pair (List ℕ) (List ℕ)
 logical_tag t = record { key = t.key.bytes; value = t.value.bytes }
 
+-- a field that was read, by its logical texts
 abbrev pub logical_field : Pair Text (Value Text) → Pair (List ℕ) (Value (List ℕ))
 logical_field f = record { key = f.key.bytes; value = logical_value f.value }
 
@@ -115,6 +117,7 @@ abbrev pub without_comma : Dialect → List (Pair Text (Value Text)) → List �
 without_comma Crate (f ∷ []) (b ∷ rest) = if b == comma then rest else b ∷ rest
 without_comma dialect fields rest = rest
 
+-- the fields at the start of a text, joined by commas
 abbrev pub field_set : Dialect → List ℕ → Reading (List (Pair Text (Value Text)))
 field_set dialect line =
     separated_list field line >>= λ fs. reads fs.value (without_comma dialect fs.value fs.rest)

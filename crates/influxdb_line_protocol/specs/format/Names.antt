@@ -22,9 +22,11 @@ escapable a_tag_key = comma ∷ equals ∷ space ∷ backslash ∷ []
 escapable a_tag_value = comma ∷ equals ∷ space ∷ backslash ∷ []
 escapable a_field_key = comma ∷ equals ∷ space ∷ backslash ∷ []
 
+-- whether a bare byte ends a name of this kind
 abbrev pub is_stop : NameKind → ℕ → Bool
 is_stop kind b = is_one_of (stops kind) b
 
+-- whether a backslash escapes the byte in a name of this kind
 abbrev pub is_escapable : NameKind → ℕ → Bool
 is_escapable kind b = is_one_of (escapable kind) b
 

@@ -14,9 +14,11 @@ pub record Pair (K A : Type 0) : Type 0 where
   pub key : K
   pub value : A
 
+-- a tag by its logical texts
 abbrev pub Tag : Type 0
 Tag = Pair (List ℕ) (List ℕ)
 
+-- a field by its logical texts
 abbrev pub Field : Type 0
 Field = Pair (List ℕ) (Value (List ℕ))
 
@@ -61,9 +63,11 @@ is_admitted_name kind name =
     not (length name == 0) && not (ends_in_backslash name) && list_all (λ b. not (is_one_of (never_in kind) b)) name
     && not (slice_index name 0 == hash && is_measurement kind)
 
+-- whether both names of a tag are admitted
 abbrev pub is_admitted_tag : Tag → Bool
 is_admitted_tag t = is_admitted_name a_tag_key t.key && is_admitted_name a_tag_value t.value
 
+-- whether the key of a field is admitted
 abbrev pub is_admitted_field : Field → Bool
 is_admitted_field f = is_admitted_name a_field_key f.key
 
@@ -93,6 +97,7 @@ built_tag t = comma ∷ spelling a_tag_key t.key ++ equals ∷ spelling a_tag_va
 abbrev pub field_text : List ℕ → List ℕ → List ℕ
 field_text key value = spelling a_field_key key ++ equals ∷ value
 
+-- a field as the builder writes it, without the byte that divides it from what comes before
 abbrev pub built_field : Field → List ℕ
 built_field f = field_text f.key (built_value f.value)
 
@@ -101,6 +106,7 @@ abbrev pub built_fields : ℕ → List Field → List ℕ
 built_fields before [] = []
 built_fields before (f ∷ fields) = before ∷ built_field f ++ built_fields comma fields
 
+-- a timestamp with the space before it, or nothing
 abbrev pub built_timestamp : Option ℤ → List ℕ
 built_timestamp None = []
 built_timestamp (Some t) = space ∷ signed_decimal t

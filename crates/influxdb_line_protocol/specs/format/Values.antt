@@ -42,9 +42,11 @@ abbrev pub marked_len : List ℕ → (List ℕ → ℕ) → List ℕ → ℕ
 marked_len marks part text =
     if is_one_of marks (slice_index text 0) && nat_lt 0 (part (drop 1 text)) then 1 + part (drop 1 text) else 0
 
+-- how many bytes a point and digits take
 abbrev pub fraction_len : List ℕ → ℕ
 fraction_len text = marked_len (codes ".") digits_len text
 
+-- how many bytes an `e` or `E` and a number take
 abbrev pub exponent_len : List ℕ → ℕ
 exponent_len text = marked_len (codes "eE") (number_len (codes "+-")) text
 
@@ -127,9 +129,11 @@ longer_front text n word = if starts_with (λ a b. a == b) text word && nat_lt n
 abbrev pub word_len : List (List ℕ) → List ℕ → ℕ
 word_len words text = fold (λ n word. longer_front text n word) 0 words
 
+-- the words for true
 abbrev pub true_words : List (List ℕ)
 true_words = codes "true" ∷ codes "True" ∷ codes "TRUE" ∷ codes "t" ∷ codes "T" ∷ []
 
+-- the words for false
 abbrev pub false_words : List (List ℕ)
 false_words = codes "false" ∷ codes "False" ∷ codes "FALSE" ∷ codes "f" ∷ codes "F" ∷ []
 

@@ -21,9 +21,10 @@ ghost use Rattle.influxdb_line_protocol.specs.code.Marks.{listed};
 ghost use Rattle.influxdb_line_protocol.specs.code.Built.{Writes, buffer_of};
 
 use super::marks::{Marks, is_free_of};
+use super::texts::{Escapes, Extent, measure, put_escaped};
+use super::values::put_string;
 use super::{
-    BeforeMeasurement, BufMut, Escapes, Extent, FieldValue, LineProtocolBuilder, Refused, measure,
-    put_escaped, put_field, put_string, put_tag,
+    BeforeMeasurement, BufMut, FieldValue, LineProtocolBuilder, Refused, put_field, put_tag,
 };
 use crate::names::NameKind;
 use crate::{EscapedStr, FloatText, ParsedLine, values};

@@ -16,9 +16,9 @@ use super::lines::{
     ReadValue, are_fields_admitted, are_tags_admitted, is_admitted_name, measure_tags,
     put_timestamp, tags, timestamp_len,
 };
+use super::texts::{Escapes, Extent, backslashes, escaped_len, measure};
 use super::{
-    BeforeMeasurement, BufMut, Escapes, Extent, FieldValue, LineProtocolBuilder, Refused,
-    backslashes, escaped_len, measure, put_field, write_line,
+    BeforeMeasurement, BufMut, FieldValue, LineProtocolBuilder, Refused, put_field, write_line,
 };
 use crate::names::NameKind;
 use crate::{EscapedStr, ParsedLine, values};

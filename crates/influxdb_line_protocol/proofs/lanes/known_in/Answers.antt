@@ -4,7 +4,7 @@ use Rattle.std.proofs.lemmas.Simd.{length-chunk}
 use lib.Lanes.{chunk}
 use Rattle.influxdb_line_protocol.specs.format.Bytes.{is_one_of}
 use Rattle.influxdb_line_protocol.specs.code.Forms.{known_of}
-use Rattle.influxdb_line_protocol.specs.declared.forms.Form.TheVariants.{Measurement, Key, TagValue, Quoted}
+use Rattle.influxdb_line_protocol.specs.declared.sets.Form.TheVariants.{Measurement, Key, TagValue, Quoted}
 use Rattle.influxdb_line_protocol.proofs.lemmas.lanes.LaneLemmas.{lanes_of, lanes_or}
 use Rattle.influxdb_line_protocol.proofs.lemmas.lanes.MaskLemmas.{mask_is}
 use Rattle.influxdb_line_protocol.proofs.lanes.known_in.Goals as goal

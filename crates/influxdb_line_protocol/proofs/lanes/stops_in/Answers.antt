@@ -3,7 +3,7 @@ use Rattle.std.proofs.Common.{refl, arith}
 use Rattle.std.proofs.lemmas.Simd.{length-chunk}
 use lib.Lanes.{chunk}
 use Rattle.influxdb_line_protocol.specs.code.Forms.{stops_of}
-use Rattle.influxdb_line_protocol.specs.declared.forms.Form.TheVariants.{Measurement, Key, TagValue, Quoted}
+use Rattle.influxdb_line_protocol.specs.declared.sets.Form.TheVariants.{Measurement, Key, TagValue, Quoted}
 use Rattle.influxdb_line_protocol.proofs.lemmas.lanes.LaneLemmas.{lanes_of, lanes_or}
 use Rattle.influxdb_line_protocol.proofs.lemmas.lanes.MaskLemmas.{mask_is}
 use Rattle.influxdb_line_protocol.proofs.lanes.stops_in.Goals as goal

@@ -5,8 +5,8 @@ use Rattle.std.specs.List.{AllByRecursion, list_all}
 use Rattle.std.proofs.lemmas.Bool.{and_from, and_parts}
 use Rattle.influxdb_line_protocol.specs.declared.escaped.EscapedStr.{EscapedStr}
 use Rattle.influxdb_line_protocol.specs.declared.values.FieldValue.{FieldValue}
-use Rattle.influxdb_line_protocol.specs.declared.line.ParsedLine.{ParsedLine}
-use Rattle.influxdb_line_protocol.specs.declared.builder.NoRoom.{NoRoom}
+use Rattle.influxdb_line_protocol.specs.declared.parsed.ParsedLine.{ParsedLine}
+use Rattle.influxdb_line_protocol.specs.declared.builder.buffer.NoRoom.{NoRoom}
 use Rattle.influxdb_line_protocol.specs.declared.builder.LineProtocolBuilder.{LineProtocolBuilder}
 use Rattle.influxdb_line_protocol.specs.declared.builder.Refused.{Refused}
 use Rattle.influxdb_line_protocol.specs.declared.builder.parsed.Written.{Written}

@@ -18,13 +18,14 @@ use Rattle.influxdb_line_protocol.specs.format.Names.{NameKind, a_measurement, a
 use Rattle.influxdb_line_protocol.specs.format.Names.{ends_in_backslash, escapable, read_text, spelled, spelled_len}
 use Rattle.influxdb_line_protocol.specs.format.Points.{Pair, Tag, built_tag, is_admitted_name, is_admitted_tag, spelling}
 use Rattle.influxdb_line_protocol.specs.format.Readings.{Text}
-use Rattle.influxdb_line_protocol.specs.declared.line.ParsedLine.{ParsedLine}
+use Rattle.influxdb_line_protocol.specs.declared.parsed.ParsedLine.{ParsedLine}
 use Rattle.influxdb_line_protocol.specs.laws.NamesOfLines.{BeginsNoComment, IsParsedName}
 use Rattle.influxdb_line_protocol.specs.code.Parsed.{IsReadLine, line_read, parsed_point}
 use Rattle.influxdb_line_protocol.specs.format.Trimming.{trimmed}
 use Rattle.influxdb_line_protocol.specs.code.WrittenAgain.{IsHeadOf}
 use Rattle.influxdb_line_protocol.proofs.lemmas.laws.batch_reads_back.NameReadsBack.{may_stand}
-use Rattle.influxdb_line_protocol.proofs.lemmas.laws.parsed_names.ParsedNames.{ParsedPoint, is_kept, line_parsed, name_kept, trimmed_begins}
+use Rattle.influxdb_line_protocol.proofs.lemmas.laws.parsed_names.KeptNames.{is_kept, name_kept}
+use Rattle.influxdb_line_protocol.proofs.lemmas.laws.parsed_names.ParsedNames.{ParsedPoint, line_parsed, trimmed_begins}
 use Rattle.influxdb_line_protocol.proofs.lemmas.laws.bases_tell_series.ParsedSeries.{read_series_are_parsed}
 use Rattle.influxdb_line_protocol.proofs.lemmas.laws.bases_tell_series.BasesTellSeries.{tag_parts, tags_stand, value_part}
 use Rattle.influxdb_line_protocol.proofs.lemmas.builder.BuilderLemmas.{escaped_uncounted, uncounted}

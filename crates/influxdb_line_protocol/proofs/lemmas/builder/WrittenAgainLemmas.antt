@@ -4,7 +4,7 @@ use Rattle.std.specs.List.{flat_map, list_all}
 use Rattle.std.specs.Option.{option_map}
 use Rattle.influxdb_line_protocol.specs.declared.escaped.EscapedStr.{EscapedStr}
 use Rattle.influxdb_line_protocol.specs.declared.values.FieldValue.{FieldValue}
-use Rattle.influxdb_line_protocol.specs.declared.line.ParsedLine.{ParsedLine}
+use Rattle.influxdb_line_protocol.specs.declared.parsed.ParsedLine.{ParsedLine}
 use Rattle.influxdb_line_protocol.specs.declared.builder.lines.Parts.{Parts}
 use Rattle.influxdb_line_protocol.specs.format.Bytes.{comma, space}
 use Rattle.influxdb_line_protocol.specs.format.Points.{built, built_tag, line_of, is_admitted_tag, is_admitted_field}

@@ -3,8 +3,8 @@ use Rattle.std.proofs.Common.{◌≡◌, ℕ, ◌<◌, Bool, List, [], ◌∷◌
 use Rattle.std.specs.Prelude.{◌==◌}
 use Rattle.std.proofs.lemmas.Bool.{and_parts, or_right}
 use Rattle.std.proofs.lemmas.Grind.{common_steps}
-use Rattle.influxdb_line_protocol.specs.declared.forms.Form.{Form}
-use Rattle.influxdb_line_protocol.specs.declared.forms.Form.TheVariants.{Measurement, Key, TagValue, Quoted}
+use Rattle.influxdb_line_protocol.specs.declared.sets.Form.{Form}
+use Rattle.influxdb_line_protocol.specs.declared.sets.Form.TheVariants.{Measurement, Key, TagValue, Quoted}
 use Rattle.influxdb_line_protocol.specs.format.Bytes.{is_one_of}
 use Rattle.influxdb_line_protocol.specs.format.Escapes.{without_escapes}
 use Rattle.influxdb_line_protocol.specs.code.Forms.{stops_of, known_of}

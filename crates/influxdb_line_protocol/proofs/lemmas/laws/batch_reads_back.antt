@@ -5,7 +5,10 @@ pub mod FloatReadsBack
 pub mod ValueReadsBack
 pub mod PartsReadBack
 pub mod LineReadsBack
+pub mod Reaches
 pub mod LinePieces
 pub mod BatchesReadBack
+pub mod FatalNames
+pub mod FatalTags
 pub mod RefusedBatches
 pub mod UnreadableNames

@@ -7,7 +7,7 @@ use Rattle.smallvec.specs.SmallVec.{SmallVec}
 use Rattle.influxdb_line_protocol.specs.declared.split.Dialect.{Dialect}
 use Rattle.influxdb_line_protocol.specs.declared.error.Error.{Error}
 use Rattle.influxdb_line_protocol.specs.declared.escaped.EscapedStr.{EscapedStr}
-use Rattle.influxdb_line_protocol.specs.declared.line.ParsedLine.{ParsedLine}
+use Rattle.influxdb_line_protocol.specs.declared.parsed.ParsedLine.{ParsedLine}
 use Rattle.influxdb_line_protocol.specs.format.Readings.{Text, Reading, reads}
 use Rattle.influxdb_line_protocol.specs.format.Names.{a_measurement}
 use Rattle.influxdb_line_protocol.specs.format.Values.{Value}
@@ -20,7 +20,8 @@ use Rattle.influxdb_line_protocol.specs.code.Parsed.{Answers, field_of, line_rea
 use Rattle.influxdb_line_protocol.specs.code.ParseSteps.{CanCountColumns}
 use Rattle.influxdb_line_protocol.proofs.lemmas.laws.bases_tell_series.BasesTellSeries.{set_stands}
 use Rattle.influxdb_line_protocol.proofs.lemmas.laws.meanings.JoinedMeaning.{the_most_is_read}
-use Rattle.influxdb_line_protocol.proofs.lemmas.laws.parsed_names.ParsedNames.{answer_parts, bound}
+use Rattle.influxdb_line_protocol.proofs.lemmas.laws.parsed_names.Inversions.{bound}
+use Rattle.influxdb_line_protocol.proofs.lemmas.laws.parsed_names.ParsedNames.{answer_parts}
 use Rattle.influxdb_line_protocol.proofs.lemmas.fields.ReadingLemmas.{name_ends}
 use Rattle.influxdb_line_protocol.proofs.lemmas.laws.meanings.ShorterRests.{tag_no_longer, field_no_longer}
 

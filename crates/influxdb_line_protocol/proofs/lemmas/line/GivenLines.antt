@@ -4,7 +4,7 @@ use Rattle.std.specs.Prelude.{IfSome}
 use Rattle.std.specs.Option.{option_map}
 use Rattle.smallvec.specs.SmallVec.{SmallVec}
 use Rattle.influxdb_line_protocol.specs.declared.error.Error.{Error}
-use Rattle.influxdb_line_protocol.specs.declared.line.ParsedLine.{ParsedLine}
+use Rattle.influxdb_line_protocol.specs.declared.parsed.ParsedLine.{ParsedLine}
 use Rattle.influxdb_line_protocol.specs.format.Items.{line_answer}
 use Rattle.influxdb_line_protocol.specs.code.Light.{is_light, is_light_in}
 use Rattle.influxdb_line_protocol.specs.code.Outcomes.{IsNotOutOfMemory}

@@ -9,14 +9,15 @@ use Rattle.smallvec.specs.SmallVec.{SmallVec}
 use Rattle.influxdb_line_protocol.specs.declared.split.Dialect.{Dialect}
 use Rattle.influxdb_line_protocol.specs.declared.error.Error.{Error}
 use Rattle.influxdb_line_protocol.specs.declared.escaped.EscapedStr.{EscapedStr}
-use Rattle.influxdb_line_protocol.specs.declared.line.ParsedLine.{ParsedLine}
+use Rattle.influxdb_line_protocol.specs.declared.parsed.ParsedLine.{ParsedLine}
 use Rattle.influxdb_line_protocol.specs.format.Readings.{Fault, Text, Read, Reading, miss, fatal, reads}
 use Rattle.influxdb_line_protocol.specs.format.Points.{Pair}
 use Rattle.influxdb_line_protocol.specs.code.Parsed.{Answers, line_read, tag_of, tags_of}
 use Rattle.influxdb_line_protocol.specs.code.ParseSteps.{HasNoEmptyTagSet}
 use Rattle.influxdb_line_protocol.specs.format.Lines.{Line, tag, after_comma, prepend, many, separated_list, tag_set, answer}
 use Rattle.influxdb_line_protocol.specs.format.Items.{line_answer}
-use Rattle.influxdb_line_protocol.proofs.lemmas.laws.parsed_names.ParsedNames.{bound, prepend_parts, ok_same, answer_parts}
+use Rattle.influxdb_line_protocol.proofs.lemmas.laws.parsed_names.Inversions.{bound, prepend_parts}
+use Rattle.influxdb_line_protocol.proofs.lemmas.laws.parsed_names.ParsedNames.{ok_same, answer_parts}
 
 -- what commas join is at least one
 joined_some : {A : Type 0} (one : List ℕ → Reading A) (line rest : List ℕ) (xs : List A)

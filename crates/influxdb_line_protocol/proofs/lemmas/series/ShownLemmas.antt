@@ -7,8 +7,8 @@ use Rattle.std.proofs.Math.Nat.{sub_self}
 use Rattle.influxdb_line_protocol.specs.format.Bytes.{is_one_of}
 use Rattle.influxdb_line_protocol.specs.format.Escapes.{escaped, escaped_byte}
 use Rattle.influxdb_line_protocol.specs.code.Shown.{shown_escapes}
-use Rattle.influxdb_line_protocol.specs.declared.series.Shown.{Shown}
-use Rattle.influxdb_line_protocol.specs.declared.series.Shown.TheVariants.{ShownMeasurement, ShownKey, ShownString}
+use Rattle.influxdb_line_protocol.specs.declared.shown.Shown.{Shown}
+use Rattle.influxdb_line_protocol.specs.declared.shown.Shown.TheVariants.{ShownMeasurement, ShownKey, ShownString}
 
 -- an empty text
 pub escaped_nil : (bytes : List ℕ) → [] ≡ escaped bytes []

@@ -18,7 +18,8 @@ use Rattle.influxdb_line_protocol.proofs.lemmas.split.SplitPieces.{pieces_exist}
 use Rattle.influxdb_line_protocol.proofs.lemmas.laws.batch_reads_back.BatchesReadBack.{admitted_batches_read_back}
 use Rattle.influxdb_line_protocol.proofs.lemmas.laws.parsed_names.ParsedNames.{ParsedPoint, names_are_parsed}
 use Rattle.influxdb_line_protocol.proofs.lemmas.laws.parsed_names.ParsedNames.{first_or_later, nothing_in_nil}
-use Rattle.influxdb_line_protocol.proofs.lemmas.laws.batch_reads_back.RefusedBatches.{first_fails, point_fails, same_answers}
+use Rattle.influxdb_line_protocol.proofs.lemmas.laws.batch_reads_back.FatalNames.{first_fails}
+use Rattle.influxdb_line_protocol.proofs.lemmas.laws.batch_reads_back.RefusedBatches.{point_fails, same_answers}
 
 -- a name as a line can have it is not unreadable
 parsed_is_readable : {kind : NameKind} {n : List ℕ} → IsParsedName kind n → ¬ IsUnreadable kind n

@@ -25,7 +25,8 @@ use Rattle.influxdb_line_protocol.specs.laws.PointsOfLines.{LinesArePoints}
 use Rattle.influxdb_line_protocol.specs.code.WrittenAgain.{IsReadValue}
 use Rattle.influxdb_line_protocol.proofs.lemmas.literals.FloatLemmas.{float_len_float}
 use Rattle.influxdb_line_protocol.proofs.lemmas.builder.ReadStrings.{body_read}
-use Rattle.influxdb_line_protocol.proofs.lemmas.laws.parsed_names.ParsedNames.{bound, joined_of, ok_same, answer_parts}
+use Rattle.influxdb_line_protocol.proofs.lemmas.laws.parsed_names.Inversions.{bound, joined_of}
+use Rattle.influxdb_line_protocol.proofs.lemmas.laws.parsed_names.ParsedNames.{ok_same, answer_parts}
 
 -- a value that was read is one of its type, and one that can be read
 abbrev pub Fits : Value Text → Type 0

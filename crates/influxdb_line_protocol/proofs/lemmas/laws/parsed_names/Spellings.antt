@@ -24,13 +24,13 @@ use Rattle.influxdb_line_protocol.proofs.lemmas.laws.batch_reads_back.NameReadsB
 use Rattle.influxdb_line_protocol.proofs.lemmas.laws.batch_reads_back.NameReadsBack.{backslash_no_stop, escaped_found, escaped_plain}
 use Rattle.influxdb_line_protocol.proofs.lemmas.scan.ScanLemmas.{bare_len, first_bare_len}
 use Rattle.influxdb_line_protocol.proofs.lemmas.line.TrimLemmas.{is_blank, trimmed_is}
-use Rattle.influxdb_line_protocol.proofs.lemmas.laws.batch_reads_back.LinePieces.{Reaches, ChangesNothing}
-use Rattle.influxdb_line_protocol.proofs.lemmas.laws.batch_reads_back.LinePieces.{reaches_pair, reaches_byte}
-use Rattle.influxdb_line_protocol.proofs.lemmas.laws.batch_reads_back.LinePieces.{no_backslash}
-use Rattle.influxdb_line_protocol.proofs.lemmas.laws.batch_reads_back.LinePieces.{no_newline, no_space}
+use Rattle.influxdb_line_protocol.proofs.lemmas.laws.batch_reads_back.Reaches.{Reaches, ChangesNothing}
+use Rattle.influxdb_line_protocol.proofs.lemmas.laws.batch_reads_back.Reaches.{reaches_pair, reaches_byte}
+use Rattle.influxdb_line_protocol.proofs.lemmas.laws.batch_reads_back.Reaches.{no_backslash}
+use Rattle.influxdb_line_protocol.proofs.lemmas.laws.batch_reads_back.Reaches.{no_newline, no_space}
 use Rattle.influxdb_line_protocol.proofs.lemmas.split.SplitBare.{is_escaped-push_other}
 use Rattle.influxdb_line_protocol.proofs.lemmas.split.SplitWalk.{Head-other, Head-space, Plain-other}
-use Rattle.influxdb_line_protocol.proofs.lemmas.laws.parsed_names.ParsedNames.{is_kept}
+use Rattle.influxdb_line_protocol.proofs.lemmas.laws.parsed_names.KeptNames.{is_kept}
 
 -- a spelling of a name: each byte is escaped where it can be, but a backslash alone may come before a byte that no
 -- escape keeps

@@ -1,0 +1,146 @@
+//! Texts that are written with their backslashes, and how long they are so.
+
+ghost use Rattle.std.specs.Prelude.{◌≡◌, ◌+◌, ◌<◌, ◌≤◌, ◌∷◌, ◌++◌, ℕ, true, length, IfNone, IfSome};
+ghost use Rattle.std.specs.List.{count_by};
+ghost use Rattle.influxdb_line_protocol.specs.format.Bytes.{backslash, is_one_of};
+ghost use Rattle.influxdb_line_protocol.specs.format.Escapes.{escaped};
+ghost use Rattle.influxdb_line_protocol.specs.code.Marks.{listed};
+ghost use Rattle.influxdb_line_protocol.specs.code.Built.{IsPlainText, bytes_of};
+ghost use Rattle.influxdb_line_protocol.specs.declared.builder.texts.Escapes.TheVariants.{OfKey, OfString};
+
+use super::buffer::BufMut;
+use super::marks::{self, Marks, before_first};
+
+// Which bytes get a backslash.
+#[derive(Clone, Copy)]
+pub(crate) enum Escapes {
+    OfMeasurement,
+    OfKey,
+    OfString,
+}
+
+impl Escapes {
+    // The bytes that get a backslash.
+    #[inline(always)]
+    fn marks(self) -> Marks
+        ensures { (b : ℕ) → is_one_of (listed result) b ≡ is_one_of (bytes_of self) b }
+    {
+        let [first, second, third, fourth] = match self {
+            Escapes::OfMeasurement => *b", \\\\",
+            Escapes::OfKey => *b",= \\",
+            Escapes::OfString => *b"\"\\\\\\",
+        };
+        Marks {
+            first,
+            second,
+            third,
+            fourth,
+        }
+    }
+}
+
+// How many bytes of `text` get a backslash.
+#[inline(always)]
+pub(super) fn backslashes(escapes: Escapes, text: &[u8]) -> usize
+    ensures { result ≡ count_by (is_one_of (bytes_of escapes)) text.now }
+{
+    marks::count(escapes.marks(), text)
+}
+
+// What was measured of a text: how many bytes it has with its backslashes, and whether it is known to have none.
+#[derive(Clone, Copy)]
+pub(super) struct Extent {
+    pub(super) len: usize,
+    pub(super) is_plain: bool,
+}
+
+// The length of `text` with its backslashes, and whether it has none.
+#[inline(always)]
+#[tactic(auto, using(crate::proofs::lemmas::builder::BuilderLemmas::escaped_as_long))]
+pub(super) fn measure(escapes: Escapes, text: &[u8]) -> Extent
+    ensures len { result.len ≡ length (escaped (bytes_of escapes) text.now) }
+    ensures plain { result.is_plain ≡ true → IsPlainText (bytes_of escapes) text.now }
+{
+    let len = escaped_len(escapes, text);
+    Extent {
+        len,
+        is_plain: len == text.len(),
+    }
+}
+
+// The length of `text` with its backslashes. A text takes at most half of what a `usize` holds.
+#[inline(always)]
+#[tactic(auto, using(crate::proofs::lemmas::builder::BuilderLemmas::length_escaped))]
+pub(super) fn escaped_len(escapes: Escapes, text: &[u8]) -> usize
+    ensures { result ≡ length (escaped (bytes_of escapes) text.now) }
+{
+    text.len() + backslashes(escapes, text)
+}
+
+// The first byte of `text` that gets a backslash: what comes before it, the byte, and what follows.
+#[inline(always)]
+fn next_escape(escapes: Escapes, text: &[u8]) -> Option<(&[u8], u8, &[u8])>
+    ensures some { IfSome result (λ p. escaped (bytes_of escapes) text.now
+        ≡ p.0.now ++ backslash ∷ p.1 ∷ escaped (bytes_of escapes) p.2.now) }
+    ensures less { IfSome result (λ p. length p.2.now < length text.now) }
+    ensures none { IfNone result (escaped (bytes_of escapes) text.now ≡ text.now) }
+{
+    let at = before_first(escapes.marks(), text);
+    if at == text.len() {
+        return None;
+    }
+    Some((&text[..at], text[at], &text[at + 1..]))
+}
+
+// Appends `text` with its backslashes. What stands between two of them is copied as one run.
+#[inline(always)]
+fn put_runs<B: BufMut>(buf: &mut B, escapes: Escapes, text: &[u8])
+    requires { length (escaped (bytes_of escapes) text.now) ≤ B.room buf.old }
+    ensures bytes { B.bytes buf.new ≡ B.bytes buf.old ++ escaped (bytes_of escapes) text.now }
+    ensures room { B.room buf.old ≤ B.room buf.new + length (escaped (bytes_of escapes) text.now) }
+{
+    let mut rest = text;
+    while let Some((plain, byte, after)) = next_escape(escapes, rest) {
+        buf.put(plain);
+        buf.put(&[b'\\', byte]);
+        rest = after;
+    }
+    buf.put(rest);
+}
+
+// Appends `plain`, `byte` with its backslash, and what follows with its backslashes. It is compiled
+// apart for each kind, so that the bytes that are looked for are constants.
+#[inline(never)]
+fn put_marked<B: BufMut>(buf: &mut B, escapes: Escapes, plain: &[u8], byte: u8, after: &[u8])
+    requires { length (plain.now ++ backslash ∷ byte ∷ escaped (bytes_of escapes) after.now) ≤ B.room buf.old }
+    ensures bytes { B.bytes buf.new
+        ≡ B.bytes buf.old ++ (plain.now ++ backslash ∷ byte ∷ escaped (bytes_of escapes) after.now) }
+    ensures room { B.room buf.old
+        ≤ B.room buf.new + length (plain.now ++ backslash ∷ byte ∷ escaped (bytes_of escapes) after.now) }
+{
+    buf.put(plain);
+    buf.put(&[b'\\', byte]);
+    match escapes {
+        Escapes::OfMeasurement => put_runs(buf, Escapes::OfMeasurement, after),
+        Escapes::OfKey => put_runs(buf, Escapes::OfKey, after),
+        Escapes::OfString => put_runs(buf, Escapes::OfString, after),
+    }
+}
+
+// Appends `text` with its backslashes, as a whole where it has none. It is not searched where it is known to have none.
+#[inline(always)]
+pub(super) fn put_escaped<B: BufMut>(buf: &mut B, escapes: Escapes, is_plain: bool, text: &[u8])
+    requires plain { is_plain ≡ true → IsPlainText (bytes_of escapes) text.now }
+    requires room { length (escaped (bytes_of escapes) text.now) ≤ B.room buf.old }
+    ensures bytes { B.bytes buf.new ≡ B.bytes buf.old ++ escaped (bytes_of escapes) text.now }
+    ensures room { B.room buf.old ≤ B.room buf.new + length (escaped (bytes_of escapes) text.now) }
+{
+    if is_plain {
+        buf.put(text);
+        return;
+    }
+    match next_escape(escapes, text) {
+        None => buf.put(text),
+        Some((plain, byte, after)) => put_marked(buf, escapes, plain, byte, after),
+    }
+}
