@@ -1,24 +1,7 @@
-//! Lines that were read, and what `write_parsed` appends for them: most as they stand.
+//! Lines that were read, written again: most as they stand.
 
 use crate::fault::Fault;
-use arrayvec::ArrayVec;
-use influxdb_line_protocol::{LineProtocolBuilder, laws, parse_lines, write_parsed};
-use std::alloc::Global;
-
-// What is appended for the line of this text to a buffer of 64 bytes, and whether its names are admitted.
-fn written(alloc: Global, text: &str) -> Result<(ArrayVec<u8, 64>, bool), Fault> {
-    laws::items_are_answers();
-    match parse_lines(alloc, text).next() {
-        Some(Ok(line)) => {
-            let builder = LineProtocolBuilder::new_with(ArrayVec::<u8, 64>::new());
-            match write_parsed(builder, &line) {
-                Ok(written) => Ok((written.builder.build(), written.is_admitted)),
-                Err(_) => Err(Fault::Unexpected),
-            }
-        }
-        _ => Err(Fault::Unexpected),
-    }
-}
+use lp_rebuild::rebuild;
 
 #[test]
 fn lines_are_written_as_they_stand(rt: HostRuntime) -> Result<(), Fault> {
@@ -34,9 +17,9 @@ fn lines_are_written_as_they_stand(rt: HostRuntime) -> Result<(), Fault> {
         "m f=\"a\\\"b\",g=\"\",h=\"x\"",
         "Größe,流量=débit f=\"débit 流量\" -1",
     ] {
-        let (bytes, is_admitted) = written(rt.alloc(), text)?;
-        assert!(rt; is_admitted, "{text}");
-        match str::from_utf8(bytes.as_slice())?.strip_suffix("\n") {
+        let rebuilt = rebuild(rt.alloc(), text)?;
+        assert_eq!(rt; rebuilt.carried, 1, "{text}");
+        match str::from_utf8(rebuilt.batch.as_slice())?.strip_suffix("\n") {
             Some(line) => assert_eq!(rt; line, text),
             None => return Err(Fault::Unexpected),
         }
@@ -55,9 +38,13 @@ fn other_lines_are_spelled_anew(rt: HostRuntime) -> Result<(), Fault> {
         ("m a,b=1i  9", "m a\\,b=1i 9\n"),
         ("m,k=\\v s=\"a\\b\"", "m,k=\\\\v s=\"a\\\\b\"\n"),
     ] {
-        let (bytes, is_admitted) = written(rt.alloc(), text)?;
-        assert!(rt; is_admitted, "{text}");
-        assert_eq!(rt; str::from_utf8(bytes.as_slice())?, wanted, "of {text}");
+        let rebuilt = rebuild(rt.alloc(), text)?;
+        assert_eq!(rt; rebuilt.carried, 1, "{text}");
+        assert_eq!(rt;
+            str::from_utf8(rebuilt.batch.as_slice())?,
+            wanted,
+            "of {text}"
+        );
     }
     Ok(())
 }
@@ -71,9 +58,9 @@ fn names_that_are_not_admitted_are_not_written(rt: HostRuntime) -> Result<(), Fa
         "m,k=v a\\\tb=1i",
         "m\\,n,k=v a\\\tb=1i",
     ] {
-        let (bytes, is_admitted) = written(rt.alloc(), text)?;
-        assert!(rt; !is_admitted, "{text}");
-        assert!(rt; bytes.is_empty(), "{text}");
+        let rebuilt = rebuild(rt.alloc(), text)?;
+        assert_eq!(rt; rebuilt.refused, 1, "{text}");
+        assert!(rt; rebuilt.batch.is_empty(), "{text}");
     }
     Ok(())
 }
