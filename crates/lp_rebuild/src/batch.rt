@@ -81,7 +81,7 @@ fn take_line(alloc: Global, so_far: &mut Progress, line: &ParsedLine<'_>) -> Res
     Ok(())
 }
 
-// Takes the next item, an error: its fault is refused. Want of memory ends the rebuild.
+// Takes the next item, an error: its fault is refused. `OutOfMemory` ends the rebuild.
 #[cold]
 #[inline(never)]
 fn take_fault(so_far: &mut Progress, error: &Error) -> Result<(), AllocError>

@@ -44,7 +44,7 @@ both xs ys = sum_by-append (λ (b : ℕ). cond (is_one_of (escapable a_tag_key) 
 no_backslash : (b : ℕ) → is_one_of (escapable a_tag_key) b ≡ false → b ≢ 92
 no_backslash b none = λ e. let h : is_one_of (escapable a_tag_key) b ≡ true = ap (is_one_of (escapable a_tag_key)) e in cc
 
--- a spelling without one stands for itself
+-- a spelling without one is its own logical text
 stands_for_itself : (known text : List ℕ) → delimiters text ≡ 0 → without_escapes known text ≡ text
 unfolding without_escapes
 stands_for_itself known [] none = refl

@@ -41,7 +41,7 @@ plain_body (b ∷ after) none =
           rw (other, no, no_quotable b (and_not (b == 34) other) no) (ap (λ (t : List ℕ). b ∷ t) (plain_body after more))
     ]
 
--- what is one escape stands for one byte
+-- the logical text of one escape is one byte
 one_escape_len : (text : List ℕ) → is_one_escape quotable text ≡ true → length (without_escapes quotable text) ≡ 1
 unfolding without_escapes
 one_escape_len [] h = absurd (false≢true h)

@@ -28,7 +28,7 @@ without_escapes_known known c rest h = rw h refl
 abbrev pub HasNoBackslash : List ℕ → Type 0
 HasNoBackslash text = (i : ℕ) → i < length text → get_or text i 0 ≢ 92
 
--- what holds no backslash stands for itself
+-- what holds no backslash is its own logical text
 pub without_escapes_same : (known : List ℕ) (text : List ℕ) → HasNoBackslash text → without_escapes known text ≡ text
 unfolding without_escapes
 without_escapes_same known [] none = refl

@@ -161,7 +161,7 @@ no_stop : (kind : NameKind) (c : ℕ) (text : List ℕ) → is_stop kind c ≡ t
 no_stop kind c text hit none =
     ap (λ (n : ℕ). is_one_of (take n text) c) (first_bare_len (is_stop kind) text) ∙ none_before (is_stop kind) c text hit none
 
--- and it stands for itself
+-- and it is its own logical text
 plain_name : (kind : NameKind) (text : List ℕ) → is_one_of text 92 ≡ false
     → without_escapes (escapable kind) (spelled kind text) ≡ spelled kind text
 plain_name kind text none = without_escapes_same (escapable kind) (spelled kind text)

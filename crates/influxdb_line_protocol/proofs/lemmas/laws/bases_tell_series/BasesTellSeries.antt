@@ -31,7 +31,7 @@ use Rattle.influxdb_line_protocol.proofs.lemmas.laws.bases_tell_series.SortedTag
 pub holds_none : (text : List ℕ) → is_one_of text 92 ≡ false → HasNoBackslash text
 holds_none text none i l e = false≢true (sym none ∙ list_any_at (λ c. c == 92) text i 0 l (eq-eqb (get_or text i 0) 92 e))
 
--- a part of the text that is no escape alone stands for itself
+-- a part of the text that is no escape alone is its own logical text
 single_same : (known text : List ℕ) → is_one_escape known text ≡ false → is_shared known text ≡ true → without_escapes known text ≡ text
 single_same known text apart shared = elim (or_cases (is_one_escape known text) (not (is_one_of text 92)) shared) [
   | inl alone ↦ absurd (false≢true (sym apart ∙ alone))

@@ -84,7 +84,7 @@ without_escapes_escaped known (b ∷ n) closed =
           rw (plain, without_escapes_plain_byte known b (escaped known n) other, without_escapes_escaped known n closed) refl
     ]
 
--- a spelling stands for its name
+-- the logical text of a spelling is its name
 pub logical_spelling : (kind : NameKind) (n : List ℕ) → logical kind (spelling kind n) ≡ n
 logical_spelling kind n = without_escapes_escaped (escapable kind) n (escapable_backslash kind)
 

@@ -1,4 +1,4 @@
--- Each line that is answered stands for a point: it has a field, and its values and its timestamp fit.
+-- The logical texts of each line that is answered are a point: it has a field, and its values and its timestamp fit.
 use Rattle.std.proofs.Common.{◌≡◌, ◌≢◌, ℕ, ◌+◌, ◌<◌, ◌^◌, List, [], ◌∷◌, length, take, drop, map, slice_index, Bool}
 use Rattle.std.proofs.Common.{true, false, not, ◌&&◌, ◌||◌, cond, refl, sym, ap, subst, arith, Option, Some, None, Ok}
 use Rattle.std.proofs.Common.{Err, Result}
@@ -209,7 +209,7 @@ line_fields_fit dialect text line h =
     let parts = answer_parts dialect text line h in
     (field_set_fits dialect (drop (spaces parts.tags_rest) parts.tags_rest) parts.fields_rest line.fields parts.fields).fit
 
--- each line that is answered stands for a point
+-- the logical texts of each line that is answered are a point
 pub lines_are_points : LinesArePoints
 lines_are_points dialect text line h =
     let parts = answer_parts dialect text line h in

@@ -64,7 +64,7 @@ before_stop_closed kind escaped (b ∷ text) =
           (before_stop_closed kind (not escaped && b == 92) text))
     ]
 
--- a spelling stands for a text whose bytes are kept
+-- the bytes of the logical text of a spelling are kept
 logical_kept : (kind : NameKind) (after : Bool) (text : List ℕ) → is_closed kind false text ≡ true
     → is_kept kind after (logical kind text) ≡ true
 unfolding without_escapes
@@ -170,7 +170,7 @@ name_begins a_tag_key text h = tt
 name_begins a_tag_value text h = tt
 name_begins a_field_key text h = tt
 
--- a text that is not empty stands for one that is not
+-- the logical text of a text that is not empty is not empty
 logical_some : (kind : NameKind) (text : List ℕ) → length text ≢ 0 → 0 < length (logical kind text)
 unfolding without_escapes
 logical_some kind [] h = absurd (h refl)
@@ -182,7 +182,7 @@ logical_some kind (b ∷ c ∷ rest) h =
       | inr e ↦ rw e (omega arith)
     ]
 
--- what a spelling stands for is a parsed name, unless it is empty or ends in a backslash
+-- the logical text of a spelling is a parsed name, unless it is empty or ends in a backslash
 spelled_is_parsed : (kind : NameKind) (text : List ℕ) → length (spelled kind text) ≢ 0
     → ends_in_backslash (spelled kind text) ≡ false → BeginsNoComment kind text
     → IsParsedName kind (logical kind (spelled kind text))

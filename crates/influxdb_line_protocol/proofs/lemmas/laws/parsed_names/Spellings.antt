@@ -129,7 +129,7 @@ spelled_to {kind = kind} (plain b n s other may more) rest
 spelled_to {kind = kind} (pair c n s never more) rest
     ends = rw (backslash_no_stop kind, and_right (is_stop kind c) false refl, spelled_to more rest ends) refl
 
--- a spelling stands for its name
+-- the logical text of a spelling is its name
 pub spelled_logical : {kind : NameKind} {n s : List ℕ} → SpelledAs kind n s → logical kind s ≡ n
 unfolding without_escapes
 spelled_logical {kind = kind} done = refl
