@@ -124,7 +124,7 @@ fn integer<'a>(
     ensures memory { result ≡ Err Error.OutOfMemory → NeedsMemory is_single_value (integer_at text.now) }
 {
     let (number, _) = text.split_at(whole);
-    match integer_value(number) {
+    match integer_value(number, text) {
         Some(value) => Ok(Some((FieldValue::I64(value), &text[whole + 1..]))),
         None => Err(integer_fault(alloc, number)),
     }
@@ -158,7 +158,7 @@ fn unsigned<'a>(
     ensures memory { result ≡ Err Error.OutOfMemory → NeedsMemory is_single_value (unsigned_at text.now) }
 {
     let (number, _) = text.split_at(whole);
-    match unsigned_value(number) {
+    match unsigned_value(number, text) {
         Some(value) => Ok(Some((FieldValue::U64(value), &text[whole + 1..]))),
         None => Err(unsigned_fault(alloc, number)),
     }
@@ -377,7 +377,7 @@ pub(crate) fn timestamp(alloc: Global, text: &str) -> Result<(Option<i64>, &str)
     if number.is_empty() || after.len() == text.len() {
         return Ok((None, text));
     }
-    match integer_value(number) {
+    match integer_value(number, after) {
         Some(timestamp) => Ok((Some(timestamp), trim_start_spaces(rest))),
         None => Err(timestamp_fault(alloc, number)),
     }

@@ -11,8 +11,8 @@ use Rattle.influxdb_line_protocol.proofs.values.integer.Goals as goal
 pub split_at-requires : goal.split_at-requires
 split_at-requires c = rw c.requires.whole (integer_boundary c.args.text.now c.utf8.text)
 
-pub integer_value-requires : goal.integer_value-requires
-integer_value-requires c =
+pub integer_value-requires-clause-signed : goal.integer_value-requires-clause-signed
+integer_value-requires-clause-signed c =
     let text = c.args.text.now in
     let front = rw c.requires.whole at c.split_at.ensures.front in
     let some : 0 < integer_len text = omega (arith, c.requires.whole, c.requires.some) in

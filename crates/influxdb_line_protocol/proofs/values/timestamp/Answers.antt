@@ -6,8 +6,8 @@ use Rattle.influxdb_line_protocol.specs.format.Values.{integer_len}
 use Rattle.influxdb_line_protocol.proofs.lemmas.literals.FloatLemmas.{signed_front}
 use Rattle.influxdb_line_protocol.proofs.values.timestamp.Goals as goal
 
-pub integer_value-requires : goal.integer_value-requires
-integer_value-requires c =
+pub integer_value-requires-clause-signed : goal.integer_value-requires-clause-signed
+integer_value-requires-clause-signed c =
     let after = c.trim_start_spaces-after.result.now in
     let front = rw c.integer_len.ensures.value at c.split_at.ensures.front in
     let some : 0 < length c.split_at.result.0.now = grind (arith, common_steps) in

@@ -7,8 +7,8 @@ use Rattle.influxdb_line_protocol.proofs.values.unsigned.Goals as goal
 pub split_at-requires : goal.split_at-requires
 split_at-requires c = rw zero-add at (digits_boundary c.args.text.now 0 c.args.whole c.utf8.text c.requires.whole c.requires.some)
 
-pub unsigned_value-requires : goal.unsigned_value-requires
-unsigned_value-requires c =
+pub unsigned_value-requires-clause-numeral : goal.unsigned_value-requires-clause-numeral
+unsigned_value-requires-clause-numeral c =
     let text = c.args.text.now in
     let front = rw c.requires.whole at c.split_at.ensures.front in
     rw front (front_numeral text (λ e. absurd (omega (arith, e, c.requires.whole, c.requires.some))))

@@ -1,7 +1,7 @@
 use Rattle.std.proofs.Common.{arith, ◌∙◌}
 use Rattle.std.proofs.lemmas.List.{take_rest}
 use Rattle.influxdb_line_protocol.proofs.lemmas.digits.DigitLemmas.{by_codes, few_fit, four_fit, four_more}
-use Rattle.influxdb_line_protocol.proofs.digits.digits_value.Goals as goal
+use Rattle.influxdb_line_protocol.proofs.digits.value_by_fours.Goals as goal
 
 pub overflow_mul-value : goal.overflow_mul-value
 overflow_mul-value c =
