@@ -7,7 +7,7 @@ ghost use Rattle.influxdb_line_protocol.specs.declared.split.Dialect.{Dialect};
 ghost use Rattle.influxdb_line_protocol.specs.format.Lines.{answer, front_before};
 ghost use Rattle.influxdb_line_protocol.specs.format.Bytes.{space};
 ghost use Rattle.influxdb_line_protocol.specs.code.Outcomes.{IsNotOutOfMemory};
-ghost use Rattle.influxdb_line_protocol.specs.code.Light.{is_light_in};
+ghost use Rattle.influxdb_line_protocol.specs.code.Light.{inline_fields, inline_tags, is_light_in};
 ghost use Rattle.influxdb_line_protocol.specs.code.Lookups.{room_of};
 ghost use Rattle.influxdb_line_protocol.specs.code.Filled.{FillsLine};
 ghost use Rattle.influxdb_line_protocol.specs.format.Trimming.{trimmed};
@@ -86,14 +86,14 @@ fn fill<'a>(
 #[inline(always)]
 fn clear_tags<'a>(alloc: Global, set: &mut Option<TagSet<'a>>, spare: &mut Option<TagSet<'a>>)
     ensures empty { MatchOption set.new ⊥ (λ tags. tags.items ≡ []) }
-    ensures room { max 8 (room_of set.old) ≤ room_of set.new }
+    ensures room { max inline_tags (room_of set.old) ≤ room_of set.new }
 {
     if set.is_none() && spare.is_some() {
         *set = spare.take();
     }
     match set {
         Some(tags) => {
-            let _at_least_eight = tags.capacity();
+            let _at_least_inline = tags.capacity();
             tags.clear();
         }
         None => *set = Some(SmallVec::new(alloc)),
@@ -105,10 +105,10 @@ fn clear_tags<'a>(alloc: Global, set: &mut Option<TagSet<'a>>, spare: &mut Optio
 fn clear_sets<'a>(alloc: Global, parsed: &mut ParsedLine<'a>, spare: &mut Option<TagSet<'a>>)
     ensures no_tags { MatchOption parsed.new.series.tag_set ⊥ (λ tags. tags.items ≡ []) }
     ensures no_fields { parsed.new.field_set.items ≡ [] }
-    ensures tag_room { max 8 (room_of parsed.old.series.tag_set) ≤ room_of parsed.new.series.tag_set }
-    ensures field_room { parsed.new.field_set.capacity ≡ max 4 parsed.old.field_set.capacity }
+    ensures tag_room { max inline_tags (room_of parsed.old.series.tag_set) ≤ room_of parsed.new.series.tag_set }
+    ensures field_room { parsed.new.field_set.capacity ≡ max inline_fields parsed.old.field_set.capacity }
 {
-    let _at_least_four = parsed.field_set.capacity();
+    let _at_least_inline = parsed.field_set.capacity();
     parsed.field_set.clear();
     clear_tags(alloc, &mut parsed.series.tag_set, spare);
 }
@@ -235,8 +235,8 @@ impl<'a> ParseLines<'a> {
         ensures ended { IfNone result (line.new ≡ line.old) }
         ensures tag_room { KeepsTagRoom line.old line.new }
         ensures field_room { line.old.field_set.capacity ≤ line.new.field_set.capacity }
-        ensures memory { GivesInRoom (max 8 (room_of line.old.series.tag_set)) (max 4 line.old.field_set.capacity)
-            self.old result self.new }
+        ensures memory { GivesInRoom (max inline_tags (room_of line.old.series.tag_set))
+            (max inline_fields line.old.field_set.capacity) self.old result self.new }
     {
         let text = self.next_line()?;
         clear_sets(self.alloc, line, &mut self.spare);

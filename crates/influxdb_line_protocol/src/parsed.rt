@@ -7,8 +7,14 @@ use crate::{EscapedStr, FieldValue, Measurement};
 use smallvec::SmallVec;
 use std::alloc::Global;
 
+// How many tags a set holds without memory.
+const INLINE_TAGS: usize = 8;
+
+// How many fields a set holds without memory.
+const INLINE_FIELDS: usize = 4;
+
 /// The tags of a series, in the order of the line; repeated keys are kept. Up to 8 take no memory.
-pub type TagSet<'a> = SmallVec<(EscapedStr<'a>, EscapedStr<'a>), 8>;
+pub type TagSet<'a> = SmallVec<(EscapedStr<'a>, EscapedStr<'a>), INLINE_TAGS>;
 
 /// What tells one series of values from another: the measurement and the tags.
 #[derive(Debug, Drop)]
@@ -22,7 +28,7 @@ pub struct Series<'a> {
 }
 
 /// The fields of a line, in its order; repeated keys are kept. Up to 4 take no memory.
-pub type FieldSet<'a> = SmallVec<(EscapedStr<'a>, FieldValue<'a>), 4>;
+pub type FieldSet<'a> = SmallVec<(EscapedStr<'a>, FieldValue<'a>), INLINE_FIELDS>;
 
 /// What one line says.
 #[derive(Debug, Drop)]

@@ -52,22 +52,3 @@ pub(crate) fn trim_start_spaces(text: &str) -> &str
 {
     &text[spaces_len(text.as_bytes())..]
 }
-
-#[cfg(test)]
-mod tests {
-    use super::*;
-
-    #[test]
-    fn texts_are_trimmed_so(rt: HostRuntime) {
-        for (text, wanted) in [
-            ("\n  a ", "a "),
-            ("\t  a ", "a "),
-            ("  #comment\n a ", "a "),
-            ("#comment\tcomment", ""),
-            ("#comment\n #comment2\n#comment\na", "a"),
-            ("#comment\\\na", "a"),
-        ] {
-            assert_eq!(rt; trimmed(text), wanted);
-        }
-    }
-}

@@ -77,3 +77,20 @@ fn each_front_of_a_line_is_answered_so(rt: HostRuntime) -> Result<(), Fault> {
     }
     Ok(())
 }
+
+// What is wanted is what the Rust crate gave.
+#[test]
+fn lines_are_trimmed_so(rt: HostRuntime) -> Result<(), Fault> {
+    for (text, wanted) in [
+        ("\n  a f=1i", "S<a> S<f>=1i"),
+        ("\t  a f=1i", "S<a> S<f>=1i"),
+        ("  #comment\n a f=1i", "S<a> S<f>=1i"),
+        ("#comment\tcomment", ""),
+        ("#comment\n #comment2\n#comment\na f=1i", "S<a> S<f>=1i"),
+        ("#comment\\\na f=1i", "S<a> S<f>=1i"),
+    ] {
+        let rendered = render::items(rt.alloc(), text)?;
+        assert_eq!(rt; rendered.as_str(), wanted, "of {text}");
+    }
+    Ok(())
+}

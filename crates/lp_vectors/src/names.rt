@@ -32,6 +32,53 @@ fn lines_have_these_names(rt: HostRuntime) -> Result<(), Fault> {
     Ok(())
 }
 
+// Each name as a measurement, as a tag's key and value, and as a field's key. What is wanted is what the Rust crate gave.
+#[test]
+fn names_of_each_kind_are_read_so(rt: HostRuntime) -> Result<(), Fault> {
+    let alloc = rt.alloc();
+    for (name, measurement, other) in [
+        ("wea\\,ther", "C<wea,ther>", "C<wea,ther>"),
+        ("wea\\ ther", "C<wea ther>", "C<wea ther>"),
+        ("wea\\=ther", "C<wea\\=ther>", "C<wea=ther>"),
+        ("\\\\wea\\\\ther", "C<\\wea\\ther>", "C<\\wea\\ther>"),
+        ("\\wea\\ther", "C<\\wea\\ther>", "C<\\wea\\ther>"),
+        ("weat\\\nher", "C<weat\\\nher>", "C<weat\\\nher>"),
+    ] {
+        let text = format!(in alloc; "{name} f=1i\nm,{name}=v f=1i\nm,k={name} f=1i\nm {name}=1i")?;
+        let wanted = format!(in alloc;
+            "{measurement} S<f>=1i|S<m>,{other}=S<v> S<f>=1i|S<m>,S<k>={other} S<f>=1i|S<m> {other}=1i"
+        )?;
+        let rendered = render::items(alloc, text.as_str())?;
+        assert_eq!(rt; rendered.as_str(), wanted.as_str(), "of {name}");
+    }
+    Ok(())
+}
+
+// What is wanted is what the Rust crate gave.
+#[test]
+fn no_name_ends_in_a_backslash(rt: HostRuntime) -> Result<(), Fault> {
+    for text in ["weather\\", "m,weather\\", "m,k=weather\\", "m weather\\"] {
+        let rendered = render::items(rt.alloc(), text)?;
+        assert_eq!(rt; rendered.as_str(), "EndsWithBackslash", "of {text}");
+    }
+    Ok(())
+}
+
+// What is wanted is what the Rust crate gave.
+#[test]
+fn a_newline_ends_a_name_of_any_kind(rt: HostRuntime) -> Result<(), Fault> {
+    for (text, wanted) in [
+        ("weat\nher f=1i", "TakeWhile1|S<her> S<f>=1i"),
+        ("m,weat\nher=v f=1i", "TagSetMalformed|S<her=v> S<f>=1i"),
+        ("m,k=weat\nher f=1i", "TakeWhile1|S<her> S<f>=1i"),
+        ("m weat\nher=1i", "FieldSetMissing|TakeWhile1"),
+    ] {
+        let rendered = render::items(rt.alloc(), text)?;
+        assert_eq!(rt; rendered.as_str(), wanted, "of {text}");
+    }
+    Ok(())
+}
+
 #[test]
 fn equal_texts_are_one_member(rt: HostRuntime) -> Result<(), Fault> {
     let copy = EscapedStr::CopiedValue(String::from_str(rt.alloc(), "a b")?);

@@ -84,7 +84,15 @@ unfoldable pub is_light_in : ℕ → ℕ → Dialect → List ℕ → Bool
 is_light_in tags fields dialect line =
     nat_le (tags_in line) tags && nat_le (fields_in line) fields && is_light_answer line (answer dialect line)
 
--- whether a trimmed text is light, that is, answered without memory: at most 8 tags and 4 fields are read, and the
--- answer needs none
+-- how many tags a new line holds without memory
+abbrev pub inline_tags : ℕ
+inline_tags = 8
+
+-- how many fields a new line holds without memory
+abbrev pub inline_fields : ℕ
+inline_fields = 4
+
+-- whether a trimmed text is light, that is, answered without memory: at most `inline_tags` tags, which are 8, and
+-- `inline_fields` fields, which are 4, are read, and the answer needs none
 abbrev pub is_light : Dialect → List ℕ → Bool
-is_light dialect line = is_light_in 8 4 dialect line
+is_light dialect line = is_light_in inline_tags inline_fields dialect line

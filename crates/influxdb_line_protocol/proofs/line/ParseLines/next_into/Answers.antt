@@ -1,6 +1,6 @@
 use Rattle.std.proofs.Common.{rules, ◌≡◌, ◌≤◌, ℕ, List, arith, max, true, Err, Ok}
 use Rattle.influxdb_line_protocol.specs.format.Items.{line_answer}
-use Rattle.influxdb_line_protocol.specs.code.Light.{is_light, is_light_in}
+use Rattle.influxdb_line_protocol.specs.code.Light.{inline_fields, inline_tags, is_light, is_light_in}
 use Rattle.influxdb_line_protocol.specs.format.Lines.{answer}
 use Rattle.influxdb_line_protocol.specs.code.Lookups.{room_of}
 use Rattle.influxdb_line_protocol.specs.code.Filled.{FillsLine}
@@ -25,7 +25,7 @@ returns-clause-gives c =
     let wants : is_light_in (room_of sets.series.tag_set) sets.field_set.capacity before.dialect text ≡ true
     → IsNotOutOfMemory c.fill.result = search rules in
     let light : is_light before.dialect text ≡ true → IsNotOutOfMemory c.fill.result = λ small. wants
-    (more_room before.dialect text 8 4 (room_of sets.series.tag_set) sets.field_set.capacity
+    (more_room before.dialect text inline_tags inline_fields (room_of sets.series.tag_set) sets.field_set.capacity
     (omega (arith, c.clear_sets.ensures.tag_room)) (omega (arith, c.clear_sets.ensures.field_room)) small) in
     elim c.match-fill.branch [
       | in-Ok w ↦
@@ -68,8 +68,8 @@ returns-clause-memory c =
     let sets = c.clear_sets.new.parsed in
     let wants : is_light_in (room_of sets.series.tag_set) sets.field_set.capacity before.dialect text ≡ true
     → IsNotOutOfMemory c.fill.result = search rules in
-    let more : (max 8 (room_of c.args.line.now.series.tag_set) ≤ room_of sets.series.tag_set)
-    × (max 4 c.args.line.now.field_set.capacity ≤ sets.field_set.capacity) =
+    let more : (max inline_tags (room_of c.args.line.now.series.tag_set) ≤ room_of sets.series.tag_set)
+    × (max inline_fields c.args.line.now.field_set.capacity ≤ sets.field_set.capacity) =
     (c.clear_sets.ensures.tag_room, omega (arith, c.clear_sets.ensures.field_room)) in
     elim c.match-fill.branch [
       | in-Ok w ↦ rw w.result-is

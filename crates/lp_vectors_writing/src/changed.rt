@@ -1,10 +1,10 @@
 //! What is shown of lines that were made from a parsed one by changing its public fields. The texts are those of the Rust
 //! crate's own tests.
 
-use crate::fault::Fault;
 use influxdb_line_protocol::{
     EscapedStr, FieldSet, FieldValue, FloatText, ParsedLine, Series, TagSet, parse_lines,
 };
+use lp_vectors::fault::Fault;
 use std::alloc::Global;
 
 // A line with this measurement and these tags, made from a parsed one.

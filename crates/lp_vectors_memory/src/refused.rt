@@ -6,21 +6,18 @@
 
 ghost use Rattle.std.specs.Prelude.{◌<◌};
 
-use crate::drops::Basin;
-use crate::exhausted_memory::ExhaustedMemory;
-use crate::fault::Fault;
-use crate::lent::Lent;
-use crate::render;
-use crate::small_buffers::{LINE, first_refused, refusal};
 use influxdb_line_protocol::builder::NoRoom;
 use influxdb_line_protocol::{
     EscapedStr, FieldValue, FloatText, LineProtocolBuilder, ParseLines, ParsedLine, parse_lines,
     write_line,
 };
-use lp_rebuild::{DeviceFault, RunFault, Source, rebuild, run};
+use lp_vectors::exhausted_memory::ExhaustedMemory;
+use lp_vectors::fault::Fault;
+use lp_vectors::lent::Lent;
+use lp_vectors::render;
+use lp_vectors::short_line::{LINE, first_refused, refusal};
 use std::alloc::{AllocError, Global};
 use std::borrow::CowStr;
-use std::process::Abort;
 
 const FOUR_LINES: &str =
     "m a=1i\na\\ b,c\\,d=e\\=f g\\ h=\"i\\\"j\"\nm,a=1,b=1,c=1,d=1,e=1,f=1,g=1,h=1,i=1 v=1i,w=1i,x=1i,y=1i,z=1i\nm a=1x";
@@ -292,138 +289,5 @@ fn a_refused_copy_leaves_the_value(rt: HostRuntime) -> Result<(), Fault> {
     assert!(rt; is_refused);
     assert!(rt; matches!(value, FieldValue::String(EscapedStr::CopiedValue(_))));
     assert_eq!(rt; render::value(alloc, &value)?.as_str(), "C<a b>");
-    Ok(())
-}
-
-// In the first text the name's request is served by what the growing faults gave back, so in the second it is the first.
-const TEXTS: [(&str, &str, &str); 2] = [
-    (
-        "m a=T 5\n# c\nx\nw\\\t a=1i\n",
-        "m a=true 5\n",
-        "item 2: A generic parsing error occurred: TakeWhile1\nitem 3: a name cannot be written again\n",
-    ),
-    (
-        "w\\\t a=1i\n",
-        "",
-        "item 1: a name cannot be written again\n",
-    ),
-];
-
-// Whether a text is rebuilt, where about so many bytes are granted.
-fn is_rebuilt(
-    rt: &impl Abort,
-    alloc: Global,
-    place: usize,
-    bytes: usize,
-) -> Result<bool, AllocError>
-    requires place { place < 2 }
-    requires bytes { bytes < 4096 }
-{
-    let (text, batch, faults) = TEXTS[place];
-    let exhausted = ExhaustedMemory::leaving_bytes(alloc, bytes)?;
-    let answer = rebuild(alloc, text);
-    drop(exhausted);
-    match answer {
-        Ok(rebuilt) => {
-            assert_eq!(rt; rebuilt.batch.as_slice(), batch.as_bytes());
-            assert_eq!(rt; rebuilt.faults.as_slice(), faults.as_bytes());
-            Ok(true)
-        }
-        Err(AllocError) => Ok(false),
-    }
-}
-
-// With so many bytes the first request is refused, or the second, and so on; with the last number none is.
-
-#[test]
-fn each_request_of_a_rebuild_is_refused_in_turn(rt: HostRuntime) -> Result<(), Fault> {
-    for place in 0..2 {
-        for bytes in [0, 16, 32, 64, 80, 96] {
-            assert!(rt;
-                !is_rebuilt(&rt, rt.alloc(), place, bytes)?,
-                "{bytes} bytes at {place}"
-            );
-        }
-        assert!(rt; is_rebuilt(&rt, rt.alloc(), place, 1_536)?, "at {place}");
-    }
-    Ok(())
-}
-
-// The bytes of a text, and after the last one a hoard that leaves about so many bytes.
-#[derive(Drop)]
-struct Hoarding<'a> {
-    alloc: Global,
-    text: &'a [u8],
-    bytes_left: usize,
-    exhausted: Option<ExhaustedMemory>,
-}
-
-impl<'a> Source for Hoarding<'a> {
-    ghost use Rattle.std.specs.Prelude.{None};
-
-    ghost bytes = { λ _. None };
-
-    ghost failures = { λ _. 0 };
-
-    fn read(&mut self, buf: &mut [u8]) -> Result<usize, DeviceFault> {
-        if self.text.is_empty() && self.bytes_left < 4_096 {
-            self.exhausted = ExhaustedMemory::leaving_bytes(self.alloc, self.bytes_left).ok();
-        }
-        self.text.read(buf)
-    }
-}
-
-// Whether a run over a text succeeds, where about so many bytes are granted after it was read.
-fn is_run(rt: &impl Abort, alloc: Global, place: usize, bytes: usize) -> bool
-    requires { place < 2 }
-{
-    let (text, batch, faults) = TEXTS[place];
-    let mut reader = Hoarding {
-        alloc,
-        text: text.as_bytes(),
-        bytes_left: bytes,
-        exhausted: None,
-    };
-    let (mut out, mut err) = (Basin::new(0), Basin::new(0));
-    let fault = run(alloc, &mut reader, &mut out, &mut err).err();
-    assert!(rt; reader.exhausted.is_some());
-    drop(reader);
-    if fault.is_none() {
-        assert_eq!(rt; out.as_slice(), batch.as_bytes());
-        assert_eq!(rt; err.as_slice(), faults.as_bytes());
-        return true;
-    }
-    assert_eq!(rt; fault, Some(RunFault::OutOfMemory));
-    assert!(rt; out.as_slice().is_empty());
-    assert!(rt; err.as_slice().is_empty());
-    false
-}
-
-#[test]
-fn a_run_that_is_refused_memory_writes_nothing(rt: HostRuntime) {
-    for place in 0..2 {
-        for bytes in [0, 16, 32, 64, 80, 96] {
-            assert!(rt;
-                !is_run(&rt, rt.alloc(), place, bytes),
-                "{bytes} bytes at {place}"
-            );
-        }
-        assert!(rt; is_run(&rt, rt.alloc(), place, 1_536), "at {place}");
-    }
-}
-
-#[test]
-fn a_run_that_is_refused_memory_as_it_reads_writes_nothing(rt: HostRuntime) -> Result<(), Fault> {
-    for granted in [[].as_slice(), [65_536usize].as_slice()] {
-        let mut reader = b"m a=1i\n".as_slice();
-        let mut out = Basin::new(0);
-        let mut err = Basin::new(0);
-        let exhausted = ExhaustedMemory::leaving(rt.alloc(), granted)?;
-        let answer = run(rt.alloc(), &mut reader, &mut out, &mut err);
-        drop(exhausted);
-        assert_eq!(rt; answer.err(), Some(RunFault::OutOfMemory));
-        assert!(rt; out.as_slice().is_empty());
-        assert!(rt; err.as_slice().is_empty());
-    }
     Ok(())
 }

@@ -1,10 +1,10 @@
 //! What the builder writes, and that it reads back.
 
-use crate::fault::Fault;
-use crate::render;
 use arrayvec::ArrayVec;
 use influxdb_line_protocol::builder::{BufMut, FieldValue, NoRoom};
 use influxdb_line_protocol::{FloatText, LineProtocolBuilder};
+use lp_vectors::fault::Fault;
+use lp_vectors::render;
 use std::alloc::Global;
 
 // A value whose text is so many zeros.

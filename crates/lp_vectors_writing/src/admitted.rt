@@ -1,9 +1,9 @@
 //! Lines whose names were changed, and whether they are admitted.
 
-use crate::fault::Fault;
 use influxdb_line_protocol::{
     EscapedStr, LineProtocolBuilder, ParsedLine, Series, is_admitted, parse_lines, write_line,
 };
+use lp_vectors::fault::Fault;
 use std::alloc::Global;
 
 // A line with this measurement and one field.

@@ -1,7 +1,7 @@
 //! Series and their bases, and what is shown of lines that were made from a parsed one.
 
-use crate::fault::Fault;
 use influxdb_line_protocol::{EscapedStr, ParsedLine, Series, TagSet, parse_lines};
+use lp_vectors::fault::Fault;
 use std::alloc::{AllocError, Global};
 use std::borrow::CowStr;
 

@@ -1,7 +1,7 @@
 //! Lines that were read, written again: most as they stand.
 
-use crate::fault::Fault;
 use lp_rebuild::rebuild;
+use lp_vectors::fault::Fault;
 
 #[test]
 fn lines_are_written_as_they_stand(rt: HostRuntime) -> Result<(), Fault> {

@@ -1,7 +1,7 @@
 //! Runs of the program, in memory.
 
-use crate::fault::Fault;
 use lp_rebuild::{Kept, rebuild, run, status};
+use lp_vectors::fault::Fault;
 
 #[test]
 fn runs_write_this(rt: HostRuntime) -> Result<(), Fault> {

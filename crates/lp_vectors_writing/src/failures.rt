@@ -1,8 +1,8 @@
 //! Runs of the program over devices that fail, at each call in turn. The answers come from the format's rules.
 
-use crate::drops::{Basin, Trickle};
-use crate::fault::Fault;
 use lp_rebuild::{RunFault, Writing, run};
+use lp_vectors::drops::{Basin, Trickle};
+use lp_vectors::fault::Fault;
 use std::alloc::Global;
 use std::cell::Cell;
 use std::io::{self, Write};

@@ -3,11 +3,11 @@
 
 ghost use Rattle.std.specs.Prelude.{◌<◌};
 
-use crate::fault::Fault;
-use crate::small_buffers::LINE;
 use influxdb_line_protocol::builder::NoRoom;
 use influxdb_line_protocol::{FloatText, LineProtocolBuilder, parse_lines, write_line};
 use linked_list_allocator::LocalHeap;
+use lp_vectors::fault::Fault;
+use lp_vectors::short_line::LINE;
 use std::alloc::{AllocError, Global};
 use std::process::Abort;
 

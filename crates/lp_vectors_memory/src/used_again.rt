@@ -1,9 +1,9 @@
 //! One line that is used again: what it holds after each item, and that its sets keep their room.
 
-use crate::exhausted_memory::ExhaustedMemory;
-use crate::fault::Fault;
-use crate::render;
 use influxdb_line_protocol::{Error, ParsedLine, parse_lines};
+use lp_vectors::exhausted_memory::ExhaustedMemory;
+use lp_vectors::fault::Fault;
+use lp_vectors::render;
 use std::alloc::{AllocError, Global};
 
 // A line of 20 tags and 20 fields.

@@ -1,0 +1,13 @@
+//! Tests with requests for memory refused, one after another, and over memory of their own.
+#![tactic(auto)]
+
+#[cfg(test)]
+mod memory;
+#[cfg(test)]
+mod own_heap;
+#[cfg(test)]
+mod refused;
+#[cfg(test)]
+mod refused_runs;
+#[cfg(test)]
+mod used_again;

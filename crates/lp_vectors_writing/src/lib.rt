@@ -1,0 +1,19 @@
+//! Tests over tables of what is written and shown: lines that are built, and runs of the program.
+#![tactic(auto)]
+
+#[cfg(test)]
+mod admitted;
+#[cfg(test)]
+mod built;
+#[cfg(test)]
+mod changed;
+#[cfg(test)]
+mod failures;
+#[cfg(test)]
+mod runs;
+#[cfg(test)]
+mod series;
+#[cfg(test)]
+mod small_buffers;
+#[cfg(test)]
+mod written;
