@@ -20,4 +20,5 @@ pub mod Shown
 pub mod Bases
 pub mod Marks
 pub mod Stops
-pub mod Counts
+pub mod Walks
+pub mod Ahead

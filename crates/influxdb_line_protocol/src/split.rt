@@ -1,16 +1,18 @@
 //! The pieces of a text.
 
-ghost use Rattle.std.specs.Prelude.{◌≡◌, ◌≢◌, ◌+◌, ◌<◌, ◌≤◌, ◌==◌, ◌||◌, length, take, drop, option_map, slice_index};
+ghost use Rattle.std.specs.Prelude.{◌≡◌, ◌≢◌, ◌+◌, ◌-◌, ◌/◌, ◌^◌, ◌<◌, ◌≤◌, ◌==◌, ◌||◌, length, take, drop, option_map, slice_index};
 ghost use Rattle.std.specs.Prelude.{IfSome, MatchOption, true, false};
 ghost use Rattle.std.specs.Iterator.{at_most};
-ghost use Rattle.std.specs.List.{All, count_by};
-ghost use Rattle.influxdb_line_protocol.specs.format.Bytes.{backslash, newline, space, quote, comma, equals};
+ghost use Rattle.std.specs.List.{All, count_by, range_with_len};
+ghost use Rattle.influxdb_line_protocol.specs.format.Bytes.{backslash, newline, space, quote};
 ghost use Rattle.memchr.specs.Find.{IsFirstByte, is_byte3};
 ghost use Rattle.influxdb_line_protocol.specs.code.Lanes.{mask_of};
-ghost use Rattle.influxdb_line_protocol.specs.format.Escapes.{bare, first_bare, IsPassed};
+ghost use Rattle.influxdb_line_protocol.specs.format.Escapes.{first_bare, is_bare_at, IsBareAfter, IsPassed};
+ghost use Rattle.influxdb_line_protocol.specs.code.Ahead.{IsAhead};
+ghost use Rattle.influxdb_line_protocol.specs.code.Scan.{mask_at};
 ghost use Rattle.influxdb_line_protocol.specs.code.Seen.{AreSeen};
 ghost use Rattle.influxdb_line_protocol.specs.code.Stops.{is_stop, is_mark};
-ghost use Rattle.influxdb_line_protocol.specs.code.Counts.{IsCounted};
+ghost use Rattle.influxdb_line_protocol.specs.code.Walks.{IsWalked};
 ghost use Rattle.influxdb_line_protocol.specs.format.Pieces.{begins_comment, IsFirstCut, GivesPiece, most_pieces};
 ghost use Rattle.influxdb_line_protocol.specs.declared.split.Dialect.{Dialect};
 
@@ -41,6 +43,12 @@ struct Stops {
     first: u8,
     second: u8,
 }
+
+// What ends a plain stretch.
+const PLAIN: Stops = Stops {
+    first: b'\n',
+    second: b'"',
+};
 
 // The mask of those of the 64 bytes from `at` on that end a stretch.
 #[inline(always)]
@@ -147,96 +155,269 @@ fn head_len(text: &[u8]) -> usize
     stretch_len(stops, text)
 }
 
-/// How many bytes come before the first bare newline or quote, or all of them.
-fn plain_len(text: &[u8]) -> usize
-    ensures within { result ≤ length text.now }
-    ensures value { result ≡ first_bare (λ b. b == newline || b == quote) text.now }
-{
-    let stops = Stops {
-        first: b'\n',
-        second: b'"',
-    };
-    stretch_len(stops, text)
+// What a load showed of the bytes after a place: the masks of the bare newlines and quotes, of the bare `=` and of the bare
+// `,` among them, and how many bytes are passed with them.
+#[derive(Clone, Copy)]
+struct Ahead {
+    passed: usize,
+    stops: u64,
+    equals: u64,
+    commas: u64,
 }
 
-/// How many bytes come before the first bare quote, or all of them.
-fn quoted_len(text: &[u8]) -> usize
-    ensures within { result ≤ length text.now }
-    ensures value { result ≡ first_bare (λ b. b == quote) text.now }
+const NOTHING: Ahead = Ahead {
+    passed: 0,
+    stops: 0,
+    equals: 0,
+    commas: 0,
+};
+
+// What it showed of the bytes after one of them.
+#[inline(always)]
+fn seen_past(ahead: Ahead, run: usize) -> Ahead
+    requires inside { run < ahead.passed }
+    requires few { run < WIDE }
+    ensures { result ≡ record {
+      passed = ahead.passed - (run + 1);
+      stops = ahead.stops / 2 ^ run / 2;
+      equals = ahead.equals / 2 ^ run / 2;
+      commas = ahead.commas / 2 ^ run / 2;
+    } }
 {
+    Ahead {
+        passed: ahead.passed - (run + 1),
+        stops: (ahead.stops >> run) >> 1,
+        equals: (ahead.equals >> run) >> 1,
+        commas: (ahead.commas >> run) >> 1,
+    }
+}
+
+// What the load of the 64 bytes from `at` on shows, of which the backslashes and the bare newlines and quotes are given.
+#[inline(always)]
+fn load_ahead(text: &[u8], at: usize, backslashes: u64, stops: u64) -> Ahead
+    requires room { at + WIDE < length text.now }
+    requires starts_bare { IsBareAfter (take at text.now) }
+    requires given { backslashes ≡ mask_of (λ b. b == backslash) text.now at WIDE }
+    requires stops { stops ≡ mask_at (is_bare_at (λ b. b == newline || b == quote) text.now) at WIDE }
+    ensures { (seen : IsAhead (drop at text.now) result) × (seen.count ≡ WIDE) }
+{
+    Ahead {
+        passed: WIDE + escapes_next(backslashes),
+        stops,
+        equals: bare(places_of(b'=', text, at), backslashes),
+        commas: bare(places_of(b',', text, at), backslashes),
+    }
+}
+
+/// How many bytes come before the first bare quote, or all of them, from what was seen ahead; and what is seen after it.
+#[inline(always)]
+fn quoted_run(text: &[u8], ahead: Ahead) -> (usize, Ahead)
+    requires { IsAhead text.now ahead }
+    ensures within { result.0 ≤ length text.now }
+    ensures value { result.0 ≡ first_bare (λ b. b == quote) text.now }
+    ensures later { IsAhead (drop (result.0 + 1) text.now) result.1 }
+{
+    if ahead.stops != 0 {
+        let at = ahead.stops.trailing_zeros() as usize;
+        if text[at] == b'"' {
+            return (at, seen_past(ahead, at));
+        }
+    }
     let stops = Stops {
         first: b'"',
         second: b'"',
     };
-    stretch_len(stops, text)
+    (stretch_len(stops, text), NOTHING)
 }
 
-// How many bare `=` and how many bare `,` come before a place.
+// A place of a plain stretch: how many bare `=` and `,` come before it if no newline ends the stretch there, whether
+// the stretch ends there, and what was seen after it.
 #[derive(Clone, Copy)]
-struct Counts {
+struct Walk {
+    at: usize,
     equals: usize,
     commas: usize,
-    at: usize,
+    ended: bool,
+    later: Ahead,
 }
 
-// Counts on, from one load of 64 bytes, as far as these come before `end`.
+// How many of the first `n` of the 64 bytes from `at` on are this one and bare. The backslashes among them are given.
 #[inline(always)]
-fn count_in(text: &[u8], end: usize, counts: Counts) -> Counts
-    requires room { counts.at + WIDE ≤ length text.now }
-    requires within { end ≤ length text.now }
-    requires early { counts.at < end }
-    requires counted { IsCounted text.now end counts }
-    ensures counted { IsCounted text.now end result }
-    ensures further { counts.at < result.at }
+fn bare_among(byte: u8, text: &[u8], at: usize, backslashes: u64, n: usize) -> usize
+    requires room { at + WIDE ≤ length text.now }
+    requires few { n ≤ WIDE }
+    requires starts_bare { IsBareAfter (take at text.now) }
+    requires given { backslashes ≡ mask_of (λ b. b == backslash) text.now at WIDE }
+    ensures few { result ≤ n }
+    ensures value { result ≡ count_by (is_bare_at (λ b. b == byte) text.now) (range_with_len at n) }
 {
-    let backslashes = places_of(b'\\', text, counts.at);
-    let equals = bare(places_of(b'=', text, counts.at), backslashes);
-    let commas = bare(places_of(b',', text, counts.at), backslashes);
-    let room = WIDE.min(end - counts.at);
-    Counts {
-        equals: counts.equals + ones_below(equals, room),
-        commas: counts.commas + ones_below(commas, room),
-        at: (counts.at + (room + escapes_next(backslashes))).min(end),
+    ones_below(bare(places_of(byte, text, at), backslashes), n)
+}
+
+// One load further along a plain stretch: to the first bare newline or quote in it, or past it and what it escapes.
+#[inline(always)]
+fn plain_in(text: &[u8], from: Walk) -> Walk
+    requires room { from.at + WIDE < length text.now }
+    requires goes_on { from.ended ≡ false }
+    requires walked { IsWalked text.now from }
+    ensures walked { IsWalked text.now result }
+    ensures further { result.ended ≡ false → from.at < result.at }
+{
+    let backslashes = places_of(b'\\', text, from.at);
+    let stops = bare(stops_in(PLAIN, text, from.at), backslashes);
+    let run = first_set(stops, WIDE);
+    if run < WIDE && text[from.at + run] == b'\n' {
+        return Walk {
+            at: from.at + run,
+            ended: true,
+            later: NOTHING,
+            ..from
+        };
+    }
+    let equals = from.equals + bare_among(b'=', text, from.at, backslashes, run);
+    let commas = from.commas + bare_among(b',', text, from.at, backslashes, run);
+    if run < WIDE {
+        return Walk {
+            at: from.at + run,
+            equals,
+            commas,
+            ended: true,
+            later: seen_past(load_ahead(text, from.at, backslashes, stops), run),
+        };
+    }
+    Walk {
+        at: from.at + WIDE + escapes_next(backslashes),
+        equals,
+        commas,
+        ended: false,
+        later: NOTHING,
     }
 }
 
-// Counts on up to `end`, byte by byte.
+// How many bytes are this one, byte by byte.
 #[inline(always)]
-fn count_last(text: &[u8], end: usize, counts: Counts) -> (usize, usize)
-    requires within { end ≤ length text.now }
-    requires counted { IsCounted text.now end counts }
-    ensures equals { result.0 ≡ count_by (λ b. b == equals) (bare (take end text.now)) }
-    ensures commas { result.1 ≡ count_by (λ b. b == comma) (bare (take end text.now)) }
-    ensures few { (result.0 ≤ end) × (result.1 ≤ end) }
+fn count_few(byte: u8, text: &[u8]) -> usize
+    ensures few { result ≤ length text.now }
+    ensures value { result ≡ count_by (λ b. b == byte) text.now }
 {
-    let (mut equals, mut commas) = (counts.equals, counts.commas);
-    let mut escaped = false;
-    for at in counts.at..end {
-        let byte = text[at];
-        equals += usize::from(!escaped & (byte == b'='));
-        commas += usize::from(!escaped & (byte == b','));
-        escaped = !escaped & (byte == b'\\');
+    let mut count = 0;
+    for at in 0..text.len() {
+        count += usize::from(text[at] == byte);
     }
-    (equals, commas)
+    count
 }
 
-// How many bare `=` and how many bare `,` come before `end`.
-#[inline(always)]
-fn count_bare(text: &[u8], end: usize) -> (usize, usize)
-    requires { end ≤ length text.now }
-    ensures equals { result.0 ≡ count_by (λ b. b == equals) (bare (take end text.now)) }
-    ensures commas { result.1 ≡ count_by (λ b. b == comma) (bare (take end text.now)) }
-    ensures few { (result.0 ≤ end) × (result.1 ≤ end) }
+// How many bytes are this one.
+fn count_of(byte: u8, text: &[u8]) -> usize
+    ensures few { result ≤ length text.now }
+    ensures value { result ≡ count_by (λ b. b == byte) text.now }
 {
-    let mut counts = Counts {
-        equals: 0,
-        commas: 0,
-        at: 0,
+    let (mut count, mut at) = (0, 0);
+    while text.len() - at >= WIDE {
+        count += ones_below(places_of(byte, text, at), WIDE);
+        at += WIDE;
+    }
+    count + count_few(byte, &text[at..])
+}
+
+// A search further along a plain stretch: to its end, or past the next backslash and what it escapes.
+#[inline(always)]
+fn plain_leap(text: &[u8], from: Walk) -> Walk
+    requires goes_on { from.ended ≡ false }
+    requires walked { IsWalked text.now from }
+    ensures walked { IsWalked text.now result }
+    ensures further { result.ended ≡ false → from.at < result.at }
+{
+    let rest = &text[from.at..];
+    let Some(run) = memchr3(b'\\', b'\n', b'"', rest) else {
+        return Walk {
+            at: text.len(),
+            ended: true,
+            later: NOTHING,
+            ..from
+        };
     };
-    while counts.at < end && text.len() - counts.at >= WIDE {
-        counts = count_in(text, end, counts);
+    let walk = Walk {
+        at: from.at + run,
+        equals: from.equals + count_of(b'=', &rest[..run]),
+        commas: from.commas + count_of(b',', &rest[..run]),
+        ended: true,
+        later: NOTHING,
+    };
+    if text[walk.at] != b'\\' {
+        return walk;
     }
-    count_last(text, end, counts)
+    // The byte after a backslash is escaped.
+    Walk {
+        at: (walk.at + 2).min(text.len()),
+        ended: false,
+        ..walk
+    }
+}
+
+// Where a plain stretch ends, from a place of it. Wide loads go on as long as they show something near.
+#[inline(never)]
+fn far_plain(text: &[u8], from: Walk) -> Walk
+    requires walked { IsWalked text.now from }
+    ensures walked { IsWalked text.now result }
+    ensures value { result.at ≡ first_bare (λ b. b == newline || b == quote) text.now }
+{
+    let (mut walk, mut quiet) = (from, 0);
+    while !walk.ended {
+        if quiet < NEAR && text.len() - walk.at > WIDE {
+            let backslashes = places_of(b'\\', text, walk.at);
+            quiet = if backslashes == 0 { quiet + WIDE } else { 0 };
+            walk = plain_in(text, walk);
+            continue;
+        }
+        walk = plain_leap(text, walk);
+        quiet = 0;
+    }
+    walk
+}
+
+// Where a plain stretch ends, if that was seen ahead.
+#[inline(always)]
+fn plain_ahead(text: &[u8], ahead: Ahead) -> Walk
+    requires seen { IsAhead text.now ahead }
+    requires some { 0 < ahead.stops }
+    ensures walked { IsWalked text.now result }
+    ensures value { result.at ≡ first_bare (λ b. b == newline || b == quote) text.now }
+{
+    let run = ahead.stops.trailing_zeros() as usize;
+    Walk {
+        at: run,
+        equals: ones_below(ahead.equals, run),
+        commas: ones_below(ahead.commas, run),
+        ended: true,
+        later: seen_past(ahead, run),
+    }
+}
+
+/// Where the plain stretch at the start of the text ends: at the first bare newline or quote, or with the text.
+#[inline(always)]
+fn plain_run(text: &[u8], ahead: Ahead) -> Walk
+    requires { IsAhead text.now ahead }
+    ensures walked { IsWalked text.now result }
+    ensures value { result.at ≡ first_bare (λ b. b == newline || b == quote) text.now }
+{
+    if ahead.stops != 0 {
+        return plain_ahead(text, ahead);
+    }
+    let mut walk = Walk {
+        at: ahead.passed,
+        equals: ones_below(ahead.equals, WIDE),
+        commas: ones_below(ahead.commas, WIDE),
+        ended: false,
+        later: NOTHING,
+    };
+    while walk.at < NEAR && text.len() - walk.at > WIDE {
+        walk = plain_in(text, walk);
+        if walk.ended {
+            return walk;
+        }
+    }
+    far_plain(text, walk)
 }
 
 /// The place of the newline that ends the first piece, or `None` where the text is one piece, with no regard to
@@ -250,23 +431,24 @@ fn cut_by_stretches(text: &[u8]) -> Option<usize>
         return Some(head);
     }
     let mut at = head + 1;
-    let (mut equals, mut commas) = (0, 0);
+    let (mut equals, mut commas, mut ahead) = (0, 0, NOTHING);
     loop {
         // A plain stretch begins at `at`.
-        let rest = &text[at..];
-        let run = plain_len(rest);
-        let end = at + run;
+        let plain = plain_run(&text[at..], ahead);
+        let end = at + plain.at;
         if *text.get(end)? == b'\n' {
             return Some(end);
         }
-        let (more_equals, more_commas) = count_bare(rest, run);
-        equals += more_equals;
-        commas += more_commas;
+        equals += plain.equals;
+        commas += plain.commas;
         at = end + 1;
+        ahead = plain.later;
         if commas < equals {
-            at += quoted_len(&text[at..]);
+            let (run, later) = quoted_run(&text[at..], ahead);
+            at += run;
             text.get(at)?;
             at += 1;
+            ahead = later;
         }
     }
 }

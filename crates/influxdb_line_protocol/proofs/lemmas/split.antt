@@ -11,3 +11,6 @@ pub mod SplitShape
 pub mod SplitWalk
 pub mod WideSearch
 pub mod SeenMarks
+pub mod AheadMasks
+pub mod PlainWalks
+pub mod QuotesAhead

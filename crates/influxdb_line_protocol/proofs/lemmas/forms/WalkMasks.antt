@@ -29,7 +29,7 @@ module _ (known : List ℕ) (stops : ℕ → Bool) (text : List ℕ) (at found :
   passed = record { within = w.within; is_bare = λ _. w.bare; passed = w.passed }
 
   counted : n ≡ escapes_from known text at run
-  counted = n_is ∙ ones_low (is_escape_at known text) at run (lowest_within (is_bare_at stops text) at 64 run (omega arith) run_is)
+  counted = n_is ∙ ones_low (is_escape_at known text) at 64 run (lowest_within (is_bare_at stops text) at 64 run (omega arith) run_is)
 
   -- up to a bare stop
   pub load_stops : run < 64 → EscapeScan known stops text (at + run) (found + n) × (stops (slice_index text (at + run)) ≡ true)

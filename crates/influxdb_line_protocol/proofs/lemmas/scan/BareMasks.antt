@@ -70,10 +70,10 @@ highest p at =
     omega arith
 
 -- its lowest bits tell how many of the first places pass
-pub ones_low : (p : ℕ → Bool) (at n : ℕ) → n ≤ 64 → count_ones (mask_at p at 64 % 2 ^ n) ≡ count_by p (range_with_len at n)
-ones_low p at n few =
-    ap count_ones (mask_mod (map p (range_with_len at 64)) n (omega (arith, length-map-range_with_len p at 64))
-    ∙ ap mask_l (take-map-range_with_len p at 64 n few))
+pub ones_low : (p : ℕ → Bool) (at w n : ℕ) → n ≤ w → count_ones (mask_at p at w % 2 ^ n) ≡ count_by p (range_with_len at n)
+ones_low p at w n few =
+    ap count_ones (mask_mod (map p (range_with_len at w)) n (omega (arith, length-map-range_with_len p at w))
+    ∙ ap mask_l (take-map-range_with_len p at w n few))
     ∙ ones-mask_l p (range_with_len at n)
 
 -- a mask of places from the next one on, as one of places from this one on

@@ -13,6 +13,17 @@ use Rattle.influxdb_line_protocol.specs.code.Lanes.{AllPassBetween, IsRunIn, fir
 use Rattle.influxdb_line_protocol.specs.code.Seen.{AreSeen}
 use Rattle.influxdb_line_protocol.proofs.lemmas.lanes.MaskLemmas.{run_is, shifted}
 
+-- the lowest bit of a mask below a power is below its exponent
+pub tz_below : (m n r : ℕ) → m < 2 ^ n → n ≤ 64 → 0 < m → r ≡ trailing_zeros w64 m → r < n
+tz_below m n r below few some lowest = elim (cases_lt r n) [
+  | inl inside ↦ inside
+  | inr past ↦
+      let fits : m < 2 ^ 64 = omega (arith, below, pow-le-pow_right {n = 2} (omega arith) few) in
+      let set : bit_at m r ≡ 1 = ap (bit_at m) lowest ∙ (bit_at-trailing_zeros w64 m some fits).1 in
+      let clear = bit_at_above m n r below past in
+      absurd (omega (arith, set, clear))
+]
+
 module _ (test : ℕ → Bool) (text : List ℕ) (at n m r : ℕ) (room : at + n ≤ length text) (few : n ≤ 64)
     (is : m ≡ mask_of test text at n) (some : 0 < m) (lowest : r ≡ trailing_zeros w64 m) where
   -- the mask is below the power of as many bytes as it tells of
@@ -23,19 +34,9 @@ module _ (test : ℕ → Bool) (text : List ℕ) (at n m r : ℕ) (room : at + n
       let small : mask_l ms < 2 ^ n = rw long at (mask_l-lt ms) in
       omega (arith, is, small)
 
-  -- so it fits
-  fits : m < 2 ^ 64
-  fits = omega (arith, below, pow-le-pow_right {n = 2} (omega arith) few)
-
   -- the bit is one of those
   pub one_of : r < n
-  one_of = elim (cases_lt r n) [
-    | inl inside ↦ inside
-    | inr past ↦
-        let set : bit_at m r ≡ 1 = ap (bit_at m) lowest ∙ (bit_at-trailing_zeros w64 m some fits).1 in
-        let clear = bit_at_above m n r below past in
-        absurd (omega (arith, set, clear))
-  ]
+  one_of = tz_below m n r below few some lowest
 
   -- and the bytes before it pass no test
   run : IsRunIn (λ b. not (test b)) text at n r

@@ -1,34 +1,65 @@
--- The walk that counts the bare equals signs and commas of a stretch, from mark to mark.
-use Rattle.std.proofs.Common.{◌≡◌, ℕ, zero, suc, ◌+◌, ◌-◌, ◌%◌, ◌^◌, ◌<◌, ◌≤◌, List, length, take, slice_index, min}
-use Rattle.std.proofs.Common.{Bool, true, false, cond, not, ◌&&◌, count_ones, refl, sym, ap, ap₂, ◌∙◌, inl, inr, arith}
+-- How many bytes that pass a test a text has, a byte or a load further.
+use Rattle.std.proofs.Common.{take-append-drop}
+use Rattle.std.proofs.Common.{◌≡◌, ℕ, zero, suc, ◌+◌, ◌%◌, ◌^◌, ◌<◌, ◌≤◌, List, length, take, drop, map, slice_index}
+use Rattle.std.proofs.Common.{Bool, true, false, cond, not, ◌&&◌, count_ones, refl, sym, ap, ◌∙◌, inl, inr, arith}
 use Rattle.std.specs.Prelude.{◌==◌}
 use Rattle.std.specs.List.{count_by, range_with_len}
-use Rattle.std.proofs.lemmas.Bool.{cases_lt}
+use Rattle.std.proofs.Math.Seq.{take-add}
+use Rattle.std.proofs.lemmas.Bool.{cases_Bool}
+use Rattle.std.proofs.lemmas.List.{get_or-drop, length-drop, length-map, take_more}
 use Rattle.std.proofs.lemmas.List.FromFn.{length-range_with_len}
-use Rattle.std.proofs.lemmas.List.Sums.{count_by-le-length, sum_by-cons}
+use Rattle.std.proofs.lemmas.List.Sums.{count_by-le-length, sum_by-append, sum_by-cons}
+use Rattle.std.proofs.lemmas.Simd.{length-chunk, mask_l-mod}
 use mir.Val.{bool_byte}
-use Rattle.influxdb_line_protocol.specs.declared.split.Counts.{Counts}
-use Rattle.influxdb_line_protocol.specs.code.Counts.{IsCounted}
-use Rattle.influxdb_line_protocol.specs.format.Escapes.{bare, is_bare_at, is_escaped_after}
-use Rattle.influxdb_line_protocol.specs.code.Scan.{mask_at}
-use Rattle.influxdb_line_protocol.proofs.lemmas.scan.BareMasks.{at_most_one, one_escaped, next_bare, ones_low}
-use Rattle.influxdb_line_protocol.proofs.lemmas.split.SplitBare.{is_escaped-nil}
-use Rattle.influxdb_line_protocol.proofs.lemmas.split.SplitWalk.{count_bare_more}
+use lib.Lanes.{chunk}
+use Rattle.influxdb_line_protocol.specs.code.Lanes.{mask_of}
+use Rattle.influxdb_line_protocol.specs.format.Escapes.{bare, is_bare_at, is_escaped_after, IsBareAfter}
+use Rattle.influxdb_line_protocol.proofs.lemmas.lanes.MaskLemmas.{ones}
+use Rattle.influxdb_line_protocol.proofs.lemmas.scan.BareMasks.{one_escaped}
+use Rattle.influxdb_line_protocol.proofs.lemmas.split.SplitWalk.{count_bare_more, count_by-push}
 
--- the counts as a record
-abbrev pub counts_at : ℕ → ℕ → ℕ → Counts
-counts_at e c at = record { equals = e; commas = c; at = at }
+-- a truth as a number
+pub as_number : (t : Bool) → bool_byte t ≡ cond t 1 0
+as_number true = refl
+as_number false = refl
 
--- nothing is counted before the first byte
-pub counted_start : (text : List ℕ) (end : ℕ) → IsCounted text end (counts_at 0 0 0)
-counted_start text end = record {
-  within = omega arith;
-  is_bare = λ _. is_escaped-nil;
-  equals_are = refl;
-  commas_are = refl;
-  few_equals = omega arith;
-  few_commas = omega arith;
-}
+-- it is one at most
+pub one_at_most : (t : Bool) (n : ℕ) → n ≡ bool_byte t → n ≤ 1
+one_at_most true n is = omega (arith, is)
+one_at_most false n is = omega (arith, is)
+
+-- the bytes that pass, one byte further
+pub count_more : (p : ℕ → Bool) (text : List ℕ) (at : ℕ) → at < length text
+    → count_by p (take (at + 1) text) ≡ count_by p (take at text) + cond (p (slice_index text at)) 1 0
+count_more p text at h = rw (take_more text at 0 h) (count_by-push p (take at text) (slice_index text at))
+
+-- the bytes that pass of a front, and those after it
+pub count_both : (p : ℕ → Bool) (text : List ℕ) (at n : ℕ)
+    → count_by p (take (at + n) text) ≡ count_by p (take at text) + count_by p (take n (drop at text))
+count_both p text at n =
+    ap (count_by p) (take-add at n text) ∙ sum_by-append (λ x. cond (p x) 1 0) (take at text) (take n (drop at text))
+
+-- the bytes that pass of a whole text
+pub count_whole : (p : ℕ → Bool) (text : List ℕ) (at : ℕ) → count_by p (take at text) + count_by p (drop at text) ≡ count_by p text
+count_whole p text at =
+    sym (sum_by-append (λ x. cond (p x) 1 0) (take at text) (drop at text)) ∙ ap (count_by p) (take-append-drop at text)
+
+-- one load
+module _ (p : ℕ → Bool) (text : List ℕ) (at m : ℕ) (room : at + 64 ≤ length text) (is : m ≡ mask_of p text at 64) where
+  -- its mask has as many bits as bytes pass
+  load_counts : count_ones (m % 2 ^ 64) ≡ count_by p (chunk at 64 text)
+  load_counts =
+      let ms = map p (chunk at 64 text) in
+      let fits = mask_l-mod ms 64 (omega (arith, length-map (chunk at 64 text) p, length-chunk at 64 text room)) in
+      ap (λ (k : ℕ). count_ones (k % 2 ^ 64)) is ∙ ap count_ones fits ∙ ones p text at 64
+
+  -- at most all
+  pub load_at_most : count_ones (m % 2 ^ 64) ≤ 64
+  load_at_most = omega (arith, load_counts, count_by-le-length p (chunk at 64 text), length-chunk at 64 text room)
+
+  -- the bytes that pass, one load further
+  pub count_load : count_by p (take (at + 64) text) ≡ count_by p (take at text) + count_ones (m % 2 ^ 64)
+  count_load = count_both p text at 64 ∙ ap (λ (k : ℕ). count_by p (take at text) + k) (sym load_counts)
 
 -- a byte is counted where it is bare
 as_bare : (e t : Bool) → cond {A = ℕ} e 0 (cond t 1 0) ≡ cond (t && not e) 1 0
@@ -37,29 +68,8 @@ as_bare true false = refl
 as_bare false true = refl
 as_bare false false = refl
 
--- the same as a number
-bare_number : (e t : Bool) → bool_byte (not e && t) ≡ cond e 0 (cond t 1 0)
-bare_number true true = refl
-bare_number true false = refl
-bare_number false true = refl
-bare_number false false = refl
-
--- the bare bytes that pass a test, one byte further
-pub count_byte : (p : ℕ → Bool) (text : List ℕ) (at count n : ℕ) (e : Bool) → at < length text → e ≡ is_escaped_after (take at text)
-    → count ≡ count_by p (bare (take at text)) → n ≡ bool_byte (not e && p (slice_index text at))
-    → count + n ≡ count_by p (bare (take (at + 1) text))
-count_byte p text at count n e within is counted n_is =
-    let here : n ≡ cond (is_escaped_after (take at text)) 0 (cond (p (slice_index text at)) 1 0) =
-    n_is ∙ bare_number e (p (slice_index text at)) ∙ ap (λ (f : Bool). cond f 0 (cond (p (slice_index text at)) 1 0)) is in
-    ap₂ (λ (a b : ℕ). a + b) counted here ∙ sym (count_bare_more p text at within)
-
--- one byte counts one at most
-pub one_at_most : (t : Bool) (n : ℕ) → n ≡ bool_byte t → n ≤ 1
-one_at_most true n is = omega (arith, is)
-one_at_most false n is = omega (arith, is)
-
--- the bare bytes that pass a test, some places further
-count_along : (p : ℕ → Bool) (text : List ℕ) (n at : ℕ) → at + n ≤ length text
+-- the bare bytes that pass, some places further
+pub count_along : (p : ℕ → Bool) (text : List ℕ) (n at : ℕ) → at + n ≤ length text
     → count_by p (bare (take (at + n) text)) ≡ count_by p (bare (take at text)) + count_by (is_bare_at p text) (range_with_len at n)
 count_along p text zero at room =
     let place : at + 0 ≡ at = omega arith in
@@ -73,61 +83,66 @@ count_along p text (suc n) at room =
     sum_by-cons (λ k. cond (is_bare_at p text k) 1 0) at (range_with_len (at + 1) n) in
     ap (λ (k : ℕ). count_by p (bare (take k text))) place ∙ omega (arith, count_along p text n (at + 1) (omega arith), one, here)
 
--- one load of a stretch
-module _ (text : List ℕ) (end : ℕ) (fits : end ≤ length text) (e c at : ℕ) (room : at + 64 ≤ length text) (early : at < end)
-    (counted : IsCounted text end (counts_at e c at)) (near last next : ℕ) (near_is : near ≡ min 64 (end - at))
-    (last_is : last ≡ cond (is_bare_at (λ b. b == 92) text (at + 63)) 1 0) (to : next ≡ min (at + (near + last)) end) where
-  -- the escaped byte after the load, where there is one, is not counted
-  count_to : (p : ℕ → Bool)
-      → count_by p (bare (take next text)) ≡ count_by p (bare (take at text)) + count_by (is_bare_at p text)
-      (range_with_len at near)
-  count_to p =
-      let along = count_along p text near at (omega arith) in
-      elim (cases_lt (at + near) next) [
-        | inl further ↦
-            let whole : near ≡ 64 = omega arith in
-            let inside : at + 64 < length text = omega arith in
-            let place : next ≡ at + 64 + 1 = omega (arith, at_most_one text at inside last last_is) in
-            let escaped = one_escaped text at inside last last_is (omega arith) in
-            let same : count_by p (bare (take (at + 64 + 1) text)) ≡ count_by p (bare (take (at + 64) text)) =
-            count_bare_more p text (at + 64) inside
-            ∙ ap (λ (f : Bool). count_by p (bare (take (at + 64) text)) + cond f 0
-            (cond (p (slice_index text (at + 64))) 1 0)) escaped ∙ omega arith in
-            ap (λ (k : ℕ). count_by p (bare (take k text))) place ∙ same
-            ∙ ap (λ (k : ℕ). count_by p (bare (take (at + k) text))) (sym whole) ∙ along
-        | inr there ↦
-            let place : next ≡ at + near = omega arith in
-            ap (λ (k : ℕ). count_by p (bare (take k text))) place ∙ along
-      ]
+-- the bare bytes that pass of a front
+pub count_from : (p : ℕ → Bool) (text : List ℕ) (n : ℕ) → n ≤ length text
+    → count_by p (bare (take n text)) ≡ count_by (is_bare_at p text) (range_with_len 0 n)
+count_from p text n within =
+    let place : n ≡ 0 + n = omega arith in
+    ap (λ (k : ℕ). count_by p (bare (take k text))) place ∙ count_along p text n 0 (omega arith) ∙ omega arith
 
-  -- what the low bits of the masks of the bare ones add
-  pub counted_load : (x y : ℕ) → x ≡ mask_at (is_bare_at (λ b. b == 61) text) at 64 → y ≡ mask_at (is_bare_at (λ b. b == 44) text) at 64
-      → IsCounted text end (counts_at (e + count_ones (x % 2 ^ near)) (c + count_ones (y % 2 ^ near)) next)
-  counted_load x y x_is y_is =
-      let few : near ≤ 64 = omega arith in
-      let equals_low = ap (λ (m : ℕ). count_ones (m % 2 ^ near)) x_is ∙ ones_low (is_bare_at (λ b. b == 61) text) at near few in
-      let commas_low = ap (λ (m : ℕ). count_ones (m % 2 ^ near)) y_is ∙ ones_low (is_bare_at (λ b. b == 44) text) at near few in
-      let long = length-range_with_len at near in
-      record {
-        within = omega (arith, to);
-        is_bare = λ more.
-            let inside : at + 64 < length text = omega arith in
-            let place : next ≡ at + (64 + last) = omega arith in
-            ap (λ (k : ℕ). is_escaped_after (take k text)) place ∙ next_bare text at inside last last_is;
-        equals_are = ap₂ (λ (a b : ℕ). a + b) counted.equals_are equals_low ∙ sym (count_to (λ b. b == 61));
-        commas_are = ap₂ (λ (a b : ℕ). a + b) counted.commas_are commas_low ∙ sym (count_to (λ b. b == 44));
-        few_equals = omega (
-          arith,
-          counted.few_equals,
-          equals_low,
-          long,
-          count_by-le-length (is_bare_at (λ b. b == 61) text) (range_with_len at near),
-        );
-        few_commas = omega (
-          arith,
-          counted.few_commas,
-          commas_low,
-          long,
-          count_by-le-length (is_bare_at (λ b. b == 44) text) (range_with_len at near),
-        );
-      }
+-- no more than all
+pub few_bare : (p : ℕ → Bool) (text : List ℕ) (n : ℕ) → n ≤ length text → count_by p (bare (take n text)) ≤ n
+few_bare p text n within = omega (
+  arith,
+  count_from p text n within,
+  count_by-le-length (is_bare_at p text) (range_with_len 0 n),
+  length-range_with_len 0 n,
+)
+
+-- an escaped byte is not counted
+pub count_escaped : (p : ℕ → Bool) (text : List ℕ) (at : ℕ) → at < length text → is_escaped_after (take at text) ≡ true
+    → count_by p (bare (take (at + 1) text)) ≡ count_by p (bare (take at text))
+count_escaped p text at h escaped =
+    count_bare_more p text at h
+    ∙ ap (λ (f : Bool). count_by p (bare (take at text)) + cond f 0 (cond (p (slice_index text at)) 1 0)) escaped ∙ omega arith
+
+-- the bare bytes that pass, one load further, and past the byte that the load escapes
+pub count_past : (p : ℕ → Bool) (text : List ℕ) (at last : ℕ) → at + 64 < length text
+    → last ≡ cond (is_bare_at (λ b. b == 92) text (at + 63)) 1 0
+    → count_by p (bare (take (at + (64 + last)) text)) ≡ count_by p (bare (take at text)) + count_by (is_bare_at p text)
+    (range_with_len at 64)
+count_past p text at last room is =
+    let along = count_along p text 64 at (omega arith) in
+    elim (cases_Bool (is_bare_at (λ b. b == 92) text (at + 63))) [
+      | inl set ↦
+          let one : last ≡ 1 = is ∙ ap (λ (t : Bool). cond t 1 0) set in
+          let place : at + (64 + last) ≡ at + 64 + 1 = omega (arith, one) in
+          let escaped = one_escaped text at room last is (omega (arith, one)) in
+          ap (λ (k : ℕ). count_by p (bare (take k text))) place ∙ count_escaped p text (at + 64) room escaped ∙ along
+      | inr clear ↦
+          let place : at + (64 + last) ≡ at + 64 = omega (arith, is ∙ ap (λ (t : Bool). cond t 1 0) clear) in
+          ap (λ (k : ℕ). count_by p (bare (take k text))) place ∙ along
+    ]
+
+-- where no byte is escaped, all those that pass are counted
+pub count_clear : (p : ℕ → Bool) (text : List ℕ) (at n : ℕ) → at + n ≤ length text
+    → ((k : ℕ) → k < n → IsBareAfter (take (at + k) text))
+    → count_by p (bare (take (at + n) text)) ≡ count_by p (bare (take at text)) + count_by p (take n (drop at text))
+count_clear p text at zero room clear =
+    let place : at + 0 ≡ at = omega arith in
+    ap (λ (k : ℕ). count_by p (bare (take k text))) place ∙ omega arith
+count_clear p text at (suc n) room clear =
+    let before = count_clear p text at n (omega arith) (λ k h. clear k (omega arith)) in
+    let place : at + suc n ≡ at + n + 1 = omega arith in
+    let next : suc n ≡ n + 1 = omega arith in
+    let one : count_by p (bare (take (at + n + 1) text))
+    ≡ count_by p (bare (take (at + n) text)) + cond (p (slice_index text (at + n))) 1 0 =
+    count_bare_more p text (at + n) (omega arith)
+    ∙ ap (λ (f : Bool). count_by p (bare (take (at + n) text)) + cond f 0 (cond (p (slice_index text (at + n))) 1 0))
+    (clear n (omega arith)) in
+    let here : slice_index (drop at text) n ≡ slice_index text (at + n) = get_or-drop at text n 0 in
+    let more : count_by p (take (n + 1) (drop at text)) ≡ count_by p (take n (drop at text)) + cond (p (slice_index text (at + n))) 1 0 =
+    count_more p (drop at text) n (omega (arith, length-drop at text))
+    ∙ ap (λ (b : ℕ). count_by p (take n (drop at text)) + cond (p b) 1 0) here in
+    ap (λ (k : ℕ). count_by p (bare (take k text))) place ∙ one
+    ∙ omega (arith, before, more, ap (λ (k : ℕ). count_by p (take k (drop at text))) next)

@@ -64,7 +64,7 @@ module _ (passes : ℕ → Bool) (text : List ℕ) where
       subst (IsPassed passes text) (omega arith) (passed_byte (at + n) (omega arith) here.0 here.1 before)
 
   -- the bytes before the first one that a search after `at` finds
-  passed_search : (test : ℕ → Bool) → LooksFor test passes → (rest : List ℕ) (at n : ℕ) → rest ≡ drop at text
+  pub passed_search : (test : ℕ → Bool) → LooksFor test passes → (rest : List ℕ) (at n : ℕ) → rest ≡ drop at text
       → at + n ≤ length text → Nowhere (Passes test rest) 0 n → IsPassed passes text at → IsPassed passes text (at + n)
   passed_search test search rest at n same h none p =
       passed_bytes at n h
@@ -106,7 +106,7 @@ module _ (passes : ℕ → Bool) (text : List ℕ) where
 module _ (test passes : ℕ → Bool) (search : LooksFor test passes) (text rest : List ℕ) (at : ℕ)
     (same : rest ≡ drop at text) (p : IsPassed passes text at) where
   -- the bytes before a place that it finds are passed
-  found_after : (n : ℕ) → IsFirstByte test rest (Some n) → IsPassed passes text (at + n) × (at + n < length text)
+  pub found_after : (n : ℕ) → IsFirstByte test rest (Some n) → IsPassed passes text (at + n) × (at + n < length text)
   found_after n found =
       let fits : at + n < length text = omega (arith, found.0.high, ap length same, length-drop at text, p.within) in
       (passed_search passes text test search rest at n same (omega arith) found.0.before p, fits)

@@ -39,14 +39,14 @@ stretch_to passes text n is_first =
     record { none = before.none; is_bare = λ h. (at h).0; stops = λ h. (at h).1 }
 
 -- a longer front
-take_run : (i n : ℕ) (xs : List ℕ) → take (i + n) xs ≡ take i xs ++ take n (drop i xs)
+pub take_run : (i n : ℕ) (xs : List ℕ) → take (i + n) xs ≡ take i xs ++ take n (drop i xs)
 take_run i n xs =
     sym (take-append-drop i (take (i + n) xs))
     ∙ ap (λ (t : List ℕ). t ++ drop i (take (i + n) xs)) (take-take i (i + n) xs (omega arith))
     ∙ ap (λ (t : List ℕ). take i xs ++ t) (drop-take i n xs)
 
 -- a text in which nothing is escaped at its end does not change what is escaped after it
-bare_joined : (xs ys : List ℕ) → IsBareAfter xs → is_escaped_after (xs ++ ys) ≡ is_escaped_after ys
+pub bare_joined : (xs ys : List ℕ) → IsBareAfter xs → is_escaped_after (xs ++ ys) ≡ is_escaped_after ys
 bare_joined xs ys h =
     is_escaped-append xs ys ∙ ap (λ (f : Bool). flag_after f ys) (h ∙ sym is_escaped-nil) ∙ sym (is_escaped-append [] ys)
 
@@ -151,7 +151,8 @@ module _ (text rest : List ℕ) (e c at n : ℕ) (p : IsPlainTo text e c at) (sa
 
   -- at a quote, where what is counted of the stretch is added
   pub plain_quote : (x y : ℕ) → at + n < length text → slice_index text (at + n) ≢ 10
-      → x ≡ count_by (λ b. b == 61) (bare (take n rest)) → y ≡ count_by (λ b. b == 44) (bare (take n rest))
+      → (n < length rest → x ≡ count_by (λ b. b == 61) (bare (take n rest)))
+      → (n < length rest → y ≡ count_by (λ b. b == 44) (bare (take n rest)))
       → IsBeforeQuote text (e + x) (c + y) (at + n)
   plain_quote x y h other equals_is commas_is =
       let there : slice_index rest n ≡ slice_index text (at + n) = ap (λ (t : List ℕ). slice_index t n) same ∙ get_or-drop at text n 0 in
@@ -164,8 +165,8 @@ module _ (text rest : List ℕ) (e c at n : ℕ) (p : IsPlainTo text e c at) (sa
           p.is_in.0 ++ bare (take n rest),
           ends_plain,
           IsCountOf-append p.is_in.0 (bare (take n rest)) e c x y p.is_in.2 (record {
-            equals_is = equals_is;
-            commas_is = commas_is;
+            equals_is = equals_is (within_rest h);
+            commas_is = commas_is (within_rest h);
           }),
         );
       }

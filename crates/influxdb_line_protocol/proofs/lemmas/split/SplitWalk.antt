@@ -29,7 +29,8 @@ IsIn Head m n piece = IsHead piece × IsCountOf [] m n
 IsIn Plain m n piece = (counted : List ℕ) × EndsPlain piece counted × IsCountOf counted m n
 IsIn Quoted m n piece = (counted : List ℕ) × EndsQuoted piece counted × IsCountOf counted m n
 
-count_by-push : (p : ℕ → Bool) (xs : List ℕ) (b : ℕ) → count_by p (xs ++ b ∷ []) ≡ count_by p xs + cond (p b) 1 0
+-- one byte more that is counted
+pub count_by-push : (p : ℕ → Bool) (xs : List ℕ) (b : ℕ) → count_by p (xs ++ b ∷ []) ≡ count_by p xs + cond (p b) 1 0
 count_by-push p xs b = omega (arith, sum_by-append (λ x. cond (p x) 1 0) xs (b ∷ []))
 
 IsCountOf-push : (counted : List ℕ) (e c b : ℕ) → IsCountOf counted e c

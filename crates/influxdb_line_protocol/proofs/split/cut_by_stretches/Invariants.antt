@@ -1,12 +1,14 @@
-use Rattle.std.proofs.Common.{◌≤◌, ◌-◌, length}
+use Rattle.std.proofs.Common.{◌≤◌, ◌-◌, drop, length}
+use Rattle.influxdb_line_protocol.specs.code.Ahead.{IsAhead}
 use Rattle.influxdb_line_protocol.proofs.lemmas.split.SplitStretches.{IsPlainTo}
 use Rattle.influxdb_line_protocol.proofs.split.cut_by_stretches.Given as goal
 
-abbrev pub invariant-loop-more_equals : goal.invariant-loop-more_equals
-invariant-loop-more_equals l = record {
+abbrev pub invariant-loop-equals : goal.invariant-loop-equals
+invariant-loop-equals l = record {
   plain : IsPlainTo l.text l.equals l.commas l.at;
+  seen : IsAhead (drop l.at l.text) l.ahead;
   counts : (l.equals ≤ l.at) × (l.commas ≤ l.at);
 }
 
-abbrev pub decreases-loop-more_equals : goal.decreases-loop-more_equals
-decreases-loop-more_equals l = length l.initial.text - l.at
+abbrev pub decreases-loop-equals : goal.decreases-loop-equals
+decreases-loop-equals l = length l.initial.text - l.at
