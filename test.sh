@@ -19,4 +19,5 @@ rm -f "$told"
 [ "$failed" = 0 ]
 
 checks/differential.sh
+bindings/c/test.sh
 exec rt ci

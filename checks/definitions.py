@@ -13,7 +13,7 @@ from pathlib import Path
 
 TOP = Path(__file__).resolve().parent.parent
 LIST = TOP / "docs" / "DEFINITIONS.md"
-LIBRARIES = ["influxdb_line_protocol", "lp_rebuild"]
+LIBRARIES = ["influxdb_line_protocol", "lp_rebuild", "lp_c"]
 
 HEAD = """\
 # Definitions
@@ -32,7 +32,12 @@ PARTS = {
     "code": ("What the code holds, finds and returns", "They tie the code's types and searches to the format."),
     "laws": ("The laws", "What the definitions say of one another, and the words of these statements."),
     "program": ("The program", "The definitions of `lp_rebuild`."),
+    "callers": ("Callers in C", "The definitions of `lp_c`."),
 }
+
+
+# The parts of the crates above the library.
+ROOMS = {"lp_rebuild": "program", "lp_c": "callers"}
 
 
 @dataclass
@@ -163,7 +168,7 @@ def chapters(found):
     """The subjects of each part of the list: those of each room, and those of the crates above."""
     made = {key: [] for key in PARTS}
     for subject in found:
-        room = "program" if subject.crate != LIBRARIES[0] else Path(subject.file).parent.name
+        room = ROOMS.get(subject.crate) or Path(subject.file).parent.name
         if room not in made:
             sys.exit(f"definitions: {subject.file} stands in a room that PARTS of checks/definitions.py does not have")
         made[room].append(subject)

@@ -182,6 +182,24 @@ impl<'a> ParseLines<'a> {
     }
 }
 
+impl<'a> ParseLines<'a> {
+    /// The text that is left: what comes after the piece of the last item, or `None` once there is none.
+    ///
+    /// Where an item ends in the text is told by it: `input.len() - rest.len()` bytes from the start, after its newline; or
+    /// with the input, where nothing is left. So the number of the last line of an item is that of the newlines up to
+    /// there, and one more where nothing is left.
+    ///
+    /// ```text
+    /// "m a=1i\n# c\nm b=x"  after the line m a=1i     Some("# c\nm b=x"): one newline before it, so it ends line 1
+    ///                       after the fault of m b=x  None: two newlines in all, so it ends line 3
+    /// ```
+    pub fn remainder(&self) -> Option<&'a str>
+        ensures { option_map (λ rest. rest.now) result ≡ self.now.text }
+    {
+        self.lines.remainder()
+    }
+}
+
 /// Reads the lines of a text, one item a line.
 ///
 /// A line that cannot be read is one `Err`, and the next lines are answered as if it had not been

@@ -417,7 +417,24 @@ fn plain_run(text: &[u8], ahead: Ahead) -> Walk
             return walk;
         }
     }
-    far_plain(text, walk)
+    // Field by field, so that a walk that ends near stays in registers.
+    let far = far_plain(
+        text,
+        Walk {
+            at: walk.at,
+            equals: walk.equals,
+            commas: walk.commas,
+            ended: walk.ended,
+            later: walk.later,
+        },
+    );
+    Walk {
+        at: far.at,
+        equals: far.equals,
+        commas: far.commas,
+        ended: far.ended,
+        later: far.later,
+    }
 }
 
 /// The place of the newline that ends the first piece, or `None` where the text is one piece, with no regard to
@@ -613,6 +630,23 @@ pub fn split_lines_in(dialect: Dialect, input: &str) -> SplitLines<'_>
 }
 
 impl<'a> SplitLines<'a> {
+    /// The text that is left: what comes after the newline of the last cut, or `None` once the last piece was given.
+    ///
+    /// Where a piece ends in the text, and so where it begins and in which line, is told by what is left before and
+    /// after it.
+    ///
+    /// ```text
+    /// "a\nb"   after split_lines  Some("a\nb")
+    ///          after "a"          Some("b")
+    ///          after "b"          None
+    /// "a\n"    after "a"          Some(""), the piece that comes next
+    /// ```
+    pub fn remainder(&self) -> Option<&'a str>
+        ensures { option_map (λ rest. rest.now) result ≡ self.now.text }
+    {
+        self.rest
+    }
+
     // The dialect whose rules hold.
     pub(crate) fn dialect(&self) -> Dialect
         ensures { result ≡ self.now.dialect }

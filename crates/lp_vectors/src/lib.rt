@@ -21,6 +21,8 @@ mod names;
 mod pieces;
 #[cfg(test)]
 mod reference_splitter;
+#[cfg(test)]
+mod remainders;
 pub mod render;
 pub mod short_line;
 #[cfg(test)]

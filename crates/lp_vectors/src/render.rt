@@ -1,7 +1,8 @@
 //! Items as one line of text each, so that a table can hold what is wanted.
 
 use influxdb_line_protocol::{
-    Dialect, Error, EscapedStr, FieldValue, ParsedLine, parse_lines_in, split_lines_in,
+    Dialect, Error, EscapedStr, FieldValue, ParsedLine, parse_lines, parse_lines_in, split_lines,
+    split_lines_in,
 };
 use std::alloc::{AllocError, Global};
 
@@ -144,5 +145,39 @@ pub fn pieces_in(alloc: Global, dialect: Dialect, input: &str) -> Result<String,
         rendered.push_str(piece)?;
         rendered.push_str(">")?;
     }
+    Ok(rendered)
+}
+
+// What is left of a text: between `<` and `>`, or `-` where nothing is.
+fn push_rest(rendered: &mut String, rest: Option<&str>) -> Result<(), AllocError> {
+    let Some(rest) = rest else {
+        return rendered.push_str("-");
+    };
+    rendered.push_str("<")?;
+    rendered.push_str(rest)?;
+    rendered.push_str(">")
+}
+
+/// What is left of a text before its first piece, after each piece and at the end.
+pub fn rests_of_pieces(alloc: Global, input: &str) -> Result<String, AllocError> {
+    let mut rendered = String::new(alloc);
+    let mut pieces = split_lines(input);
+    push_rest(&mut rendered, pieces.remainder())?;
+    while let Some(_piece) = pieces.next() {
+        push_rest(&mut rendered, pieces.remainder())?;
+    }
+    push_rest(&mut rendered, pieces.remainder())?;
+    Ok(rendered)
+}
+
+/// What is left of a text before its first item, after each item and at the end.
+pub fn rests_of_items(alloc: Global, input: &str) -> Result<String, AllocError> {
+    let mut rendered = String::new(alloc);
+    let mut lines = parse_lines(alloc, input);
+    push_rest(&mut rendered, lines.remainder())?;
+    while let Some(_item) = lines.next() {
+        push_rest(&mut rendered, lines.remainder())?;
+    }
+    push_rest(&mut rendered, lines.remainder())?;
     Ok(rendered)
 }

@@ -1,0 +1,77 @@
+/* Reads a text with as little lent as can be, and more where more is asked for; then refuses each request for memory in turn.
+ * Compile heap.c with -DLP_REFUSE. */
+#include "influxdb_line_protocol.h"
+#include <stdio.h>
+#include <stdlib.h>
+#include <string.h>
+
+extern long lp_refused, lp_requests;
+
+struct seen { int lines, faults, out_of_memory, more_parts, more_room, others; };
+
+static const char TEXT[] = "c\\ pu,h\\=ost=A\\ B,zone=w msg=\"a\\\"b\",up=t 5\nm 5\n\nm f=99999999999999999999i\n"
+                           "# a comment\nm f=1 rest\nlast f=1";
+
+/* Each lent block is of just the length that was asked for, so that the address sanitizer sees what is touched past it. */
+static struct seen read_all(const uint8_t *text, size_t len, bool strict) {
+    struct seen seen = { 0, 0, 0, 0, 0, 0 };
+    lp_lines lines = LP_NO_LINES;
+    lp_line line = LP_EMPTY_LINE;
+    size_t parts_len = 0, bytes_len = 0;
+    lp_part *parts = malloc(1);
+    uint8_t *bytes = malloc(1);
+    uint32_t answer = lp_lines_begin(text, len, strict, &lines) ? LP_LINE : LP_END;
+    while (answer != LP_END) {
+        lp_room room = { bytes, bytes_len };
+        answer = lp_lines_next(&lines, &room, &line, parts, parts_len);
+        if (answer == LP_LINE) seen.lines++;
+        else if (answer == LP_FAULT) seen.faults++;
+        else if (answer == LP_OUT_OF_MEMORY) seen.out_of_memory++;
+        else if (answer == LP_MORE_PARTS && line.tags + line.fields > parts_len) {
+            seen.more_parts++;
+            parts_len = line.tags + line.fields;
+            free(parts);
+            parts = malloc(parts_len * sizeof *parts);
+            lp_empty_parts(parts, parts_len);
+        } else if (answer == LP_MORE_ROOM && line.copied_len > bytes_len) {
+            seen.more_room++;
+            bytes_len = line.copied_len;
+            free(bytes);
+            bytes = calloc(bytes_len, 1);
+        } else if (answer != LP_END) { seen.others++; break; }
+    }
+    free(parts);
+    free(bytes);
+    return seen;
+}
+
+static int pieces(const uint8_t *text, size_t len) {
+    lp_lines lines = LP_NO_LINES;
+    lp_view piece = LP_NO_VIEW;
+    int count = 0;
+    if (!lp_lines_begin(text, len, false, &lines)) return -1;
+    while (lp_lines_piece(&lines, &piece)) count++;
+    return count;
+}
+
+int main(void) {
+    size_t len = sizeof TEXT - 1;
+    uint8_t *text = malloc(len);
+    memcpy(text, TEXT, len);
+    lp_lines lines = LP_NO_LINES;
+    int failed = lp_version() != 20000 || lp_lines_begin((const uint8_t *)"\xff", 1, false, &lines) || pieces(text, len) != 7;
+    lp_requests = 0;
+    struct seen all = read_all(text, len, false);
+    long requests = lp_requests;
+    failed |= all.lines != 2 || all.faults != 3 || all.out_of_memory || all.others || all.more_parts != 1 || all.more_room < 2;
+    for (long at = 0; at < requests; at++) {
+        lp_refused = at;
+        lp_requests = 0;
+        struct seen seen = read_all(text, len, at % 2);
+        failed |= seen.out_of_memory != 1 || seen.others || seen.lines + seen.faults != 4;
+    }
+    free(text);
+    printf("%d lines, %d faults, more parts %d times, more room %d times; each of %ld requests refused in turn\n",
+        all.lines, all.faults, all.more_parts, all.more_room, requests);
+    return failed;
+}

@@ -1,0 +1,194 @@
+-- What a caller in C sees of what was read.
+use Rattle.std.specs.Prelude.{◌≡◌, ◌<◌, ◌+◌, ◌-◌, ◌^◌, ◌==◌, ℕ, ℤ, List, [], Bool, true, false, not, Option, Some, None, Result, Ok, Err}
+use Rattle.std.specs.Prelude.{length, map, take, drop, min, string_bytes, if◌then◌else◌}
+use Rattle.std.specs.List.{sum_by}
+use Rattle.std.specs.Option.{option_map, is_some}
+use Rattle.influxdb_line_protocol.specs.declared.split.Dialect.{Dialect}
+use Rattle.influxdb_line_protocol.specs.declared.parsed.ParsedLine.{ParsedLine}
+use Rattle.influxdb_line_protocol.specs.declared.error.Error.{Error}
+use Rattle.influxdb_line_protocol.specs.declared.error.Error.TheVariants as error
+use Rattle.influxdb_line_protocol.specs.declared.error.OutOfRange.{OutOfRange}
+use Rattle.influxdb_line_protocol.specs.declared.error.OutOfRange.TheVariants as range
+use Rattle.influxdb_line_protocol.specs.format.Lines as format
+use Rattle.influxdb_line_protocol.specs.format.Lines.{some_tags}
+use Rattle.influxdb_line_protocol.specs.format.Pieces.{GivesPiece, Left}
+use Rattle.influxdb_line_protocol.specs.format.Points.{Pair}
+use Rattle.influxdb_line_protocol.specs.format.Readings.{Text}
+use Rattle.influxdb_line_protocol.specs.format.Values.{Value, integer, unsigned, float, string, boolean}
+use Rattle.influxdb_line_protocol.specs.code.ParseSteps.{GivesItem}
+use Rattle.influxdb_line_protocol.specs.code.Parsed.{line_read}
+use Rattle.lp_c.specs.Numbers.{answer_number, fault_number, kind_number, side_number}
+use Rattle.lp_c.specs.declared.views.Answer.{Answer}
+use Rattle.lp_c.specs.declared.views.FaultKind.{FaultKind}
+use Rattle.lp_c.specs.declared.views.Kind.{Kind}
+use Rattle.lp_c.specs.declared.views.Line.{Line}
+use Rattle.lp_c.specs.declared.views.Lines.{Lines}
+use Rattle.lp_c.specs.declared.views.Part.{Part}
+use Rattle.lp_c.specs.declared.views.Side.{Side}
+use Rattle.lp_c.specs.declared.views.Side.TheVariants as side
+use Rattle.lp_c.specs.declared.views.View.{View}
+
+-- the dialect that a cursor names
+abbrev pub dialect_of : Bool → Dialect
+dialect_of true = Dialect.Strict
+dialect_of false = Dialect.Crate
+
+-- the text that a cursor has left
+abbrev pub left_text : Bool → List ℕ → Option (List ℕ)
+left_text true rest = None
+left_text false rest = Some rest
+
+-- what a cursor has left
+abbrev pub left_of : Lines → Left
+left_of lines = record { dialect = dialect_of lines.strict; text = left_text lines.ended lines.rest.now }
+
+-- the text that a view shows: it is a part of the input where it is no copy
+abbrev pub text_shown : View → Text
+text_shown view = record { bytes = view.text.now; is_single = not view.copied }
+
+-- whether a part is of this kind
+abbrev pub is_kind : Kind → Part → Bool
+is_kind kind part = part.kind == kind_number kind
+
+-- the tag that a part shows, where it is one
+abbrev pub tag_shown : Part → Option (Pair Text Text)
+tag_shown part =
+    if is_kind Kind.Tag part then Some (record { key = text_shown part.key; value = text_shown part.text }) else None
+
+-- the value that a part shows, where it is a field
+abbrev pub value_shown : Part → Option (Value Text)
+value_shown part =
+    if is_kind Kind.Integer part then Some (integer part.integer) else
+    if is_kind Kind.Unsigned part then Some (unsigned part.unsigned) else
+    if is_kind Kind.Float part then Some (float part.text.text.now) else
+    if is_kind Kind.String part then Some (string (text_shown part.text)) else
+    if is_kind Kind.Boolean part then Some (boolean part.boolean) else None
+
+-- the field that a part shows, where it is one
+abbrev pub field_shown : Part → Option (Pair Text (Value Text))
+field_shown part = option_map (λ value. record { key = text_shown part.key; value = value }) (value_shown part)
+
+-- the timestamp that a line shows
+abbrev pub timestamp_shown : Line → Option ℤ
+timestamp_shown line = if line.has_timestamp then Some line.timestamp else None
+
+-- the line and its parts show all of this line
+pub record ShowsLine (read : format.Line) (line : Line) (parts : List Part) : Type 0 where
+  pub series : line.series.now ≡ read.series
+  pub measurement : text_shown line.measurement ≡ read.measurement
+  pub has_tag_set : line.has_tag_set ≡ is_some read.tags
+  pub tags : map tag_shown (take line.tags parts) ≡ map Some (some_tags read.tags)
+  pub fields : map field_shown (take line.fields (drop line.tags parts)) ≡ map Some read.fields
+  pub timestamp : timestamp_shown line ≡ read.timestamp
+
+-- how many bytes of room a text takes
+abbrev pub copied_text : Text → ℕ
+copied_text text = if text.is_single then 0 else length text.bytes
+
+-- how many bytes of room a tag takes
+abbrev pub copied_tag : Pair Text Text → ℕ
+copied_tag tag = copied_text tag.key + copied_text tag.value
+
+-- how many bytes of room a value takes
+abbrev pub copied_value : Value Text → ℕ
+copied_value (integer z) = 0
+copied_value (unsigned n) = 0
+copied_value (float t) = 0
+copied_value (string t) = copied_text t
+copied_value (boolean b) = 0
+
+-- how many bytes of room a field takes
+abbrev pub copied_field : Pair Text (Value Text) → ℕ
+copied_field field = copied_text field.key + copied_value field.value
+
+-- how many bytes of room a line takes
+abbrev pub copied_in : format.Line → ℕ
+copied_in read = copied_text read.measurement + sum_by copied_tag (some_tags read.tags) + sum_by copied_field read.fields
+
+-- the line says how many parts and how many bytes of room this line takes; a `usize` that is too small for these is at its greatest
+pub record CountsLine (read : format.Line) (line : Line) : Type 0 where
+  pub tags : line.tags ≡ length (some_tags read.tags)
+  pub fields : line.fields ≡ length read.fields
+  pub copied_len : line.copied_len ≡ min (copied_in read) (2 ^ 64 - 1)
+
+-- what is answered for a line: it is shown; or it takes more parts, or more room, than were lent
+abbrev pub AnswersLine : format.Line → ℕ → Answer → Line → List Part → Type 0
+AnswersLine read room Answer.Line line parts = ShowsLine read line parts
+AnswersLine read room Answer.MoreParts line parts = length parts < line.tags + line.fields
+AnswersLine read room Answer.MoreRoom line parts = room < copied_in read
+AnswersLine read room answer line parts = ⊥
+
+-- the side that a fault names
+abbrev pub side_of : OutOfRange → Side
+side_of range.Above = side.Above
+side_of range.Below = side.Below
+
+-- a fault as a caller sees it: its kind, its side, and its text
+pub record FaultSeen : Type 0 where
+  pub kind : FaultKind
+  pub side : Side
+  pub text : List ℕ
+
+-- a fault without a number or a text
+abbrev pub bare_fault : FaultKind → Option FaultSeen
+bare_fault kind = Some (record { kind = kind; side = side.Neither; text = [] })
+
+-- what a caller sees of an error; a refused request for memory is no fault
+abbrev pub fault_seen : Error → Option FaultSeen
+fault_seen (error.DuplicateTag key) = Some (record { kind = FaultKind.DuplicateTag; side = side.Neither; text = string_bytes key })
+fault_seen error.MeasurementValueInvalid = bare_fault FaultKind.MeasurementValueInvalid
+fault_seen error.FieldSetMissing = bare_fault FaultKind.FieldSetMissing
+fault_seen (error.IntegerValueInvalid source value) =
+    Some (record { kind = FaultKind.IntegerValueInvalid; side = side_of source; text = string_bytes value })
+fault_seen (error.UIntegerValueInvalid source value) =
+    Some (record { kind = FaultKind.UIntegerValueInvalid; side = side_of source; text = string_bytes value })
+fault_seen (error.TimestampValueInvalid source value) =
+    Some (record { kind = FaultKind.TimestampValueInvalid; side = side_of source; text = string_bytes value })
+fault_seen error.EndsWithBackslash = bare_fault FaultKind.EndsWithBackslash
+fault_seen (error.CannotParseEntireLine rest) =
+    Some (record { kind = FaultKind.CannotParseEntireLine; side = side.Neither; text = string_bytes rest })
+fault_seen error.TagSetMalformed = bare_fault FaultKind.TagSetMalformed
+fault_seen (error.GenericParsingError kind) = bare_fault FaultKind.GenericParsingError
+fault_seen error.OutOfMemory = None
+
+-- the line shows this fault
+pub record ShowsFault (fault : FaultSeen) (line : Line) : Type 0 where
+  pub kind : line.fault ≡ fault_number fault.kind
+  pub side : line.side ≡ side_number fault.side
+  pub text : line.fault_text.now ≡ fault.text
+
+-- what is answered for a fault: it is shown, or its text takes more room than was lent
+abbrev pub AnswersFault : Option FaultSeen → ℕ → Answer → Line → Type 0
+AnswersFault None room answer line = answer ≡ Answer.OutOfMemory
+AnswersFault (Some fault) room Answer.Fault line = ShowsFault fault line
+AnswersFault (Some fault) room Answer.MoreRoom line = (line.copied_len ≡ length fault.text) × (room < length fault.text)
+AnswersFault (Some fault) room answer line = ⊥
+
+-- what is answered for an item
+abbrev pub AnswersItem : Option (Result ParsedLine Error) → ℕ → Answer → Line → List Part → Type 0
+AnswersItem None room answer line parts = answer ≡ Answer.End
+AnswersItem (Some (Ok parsed)) room answer line parts =
+    CountsLine (line_read parsed) line × AnswersLine (line_read parsed) room answer line parts
+AnswersItem (Some (Err error)) room answer line parts = AnswersFault (fault_seen error) room answer line
+
+-- whether more parts or more room is wanted
+abbrev pub is_more : Answer → Bool
+is_more Answer.MoreParts = true
+is_more Answer.MoreRoom = true
+is_more answer = false
+
+-- the number is that of the answer for the next item, whichever that is; the cursor moves past the item as the parser does,
+-- but stays where more is wanted
+pub record ReadsItem (before : Lines) (room : ℕ) (number : ℕ) (line : Line) (parts : List Part) (after : Lines) : Type 0 where
+  pub item : Option (Result ParsedLine Error)
+  pub answer : Answer
+  pub passed : Lines
+  pub numbered : number ≡ answer_number answer
+  pub gives : GivesItem (left_of before) item (left_of passed)
+  pub shown : AnswersItem item room answer line parts
+  pub stays : after ≡ (if is_more answer then before else passed)
+
+-- whether there was a piece; the view shows it, and what is left after it is left, as the splitter has it
+abbrev pub GivesView : Left → Bool → View → Left → Type 0
+GivesView before true view after = GivesPiece before (Some view.text) after × (view.copied ≡ false)
+GivesView before false view after = GivesPiece before None after

@@ -1,0 +1,5 @@
+pub mod Crossing
+pub mod Handed
+pub mod Numbers
+pub mod Rebuilding
+pub mod Writing

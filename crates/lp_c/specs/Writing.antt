@@ -1,0 +1,56 @@
+-- What callers in C get written.
+use Rattle.std.specs.Prelude.{◌≡◌, ◌≢◌, ℕ, ◌<◌, ◌≤◌, List, ◌++◌, length, drop, true, false}
+use Rattle.influxdb_line_protocol.specs.format.Lines.{point_of, some_tags}
+use Rattle.influxdb_line_protocol.specs.format.Points.{Point, built}
+use Rattle.influxdb_line_protocol.specs.code.Bases.{Base, borrowed, owned, duplicate_key, base_of}
+use Rattle.influxdb_line_protocol.specs.code.Shown.{shown_line}
+use Rattle.lp_c.specs.declared.views.Answer.{Answer}
+use Rattle.lp_c.specs.declared.views.Answer.TheVariants.{Fault, MoreRoom, NotALine, OutOfMemory, Written}
+use Rattle.lp_c.specs.declared.views.Line.{Line}
+use Rattle.lp_c.specs.declared.views.Part.{Part}
+use Rattle.lp_c.specs.Handed.{line_in, tag_set_in, text_in}
+use Rattle.lp_c.specs.Numbers.{answer_number}
+
+-- a text is put out: its length is told; it lies at the start of the buffer, and what is after it is as before; or the
+-- buffer is too short for it, and is as before
+pub record PutsOut (done : Answer) (text before after : List ℕ) (len answer : ℕ) : Type 0 where
+  pub told : len ≡ length text
+  pub bytes : length text ≤ length before → after ≡ text ++ drop (length text) before
+  pub answered : length text ≤ length before → answer ≡ answer_number done
+  pub kept : length before < length text → after ≡ before
+  pub short : length before < length text → answer ≡ answer_number MoreRoom
+
+-- what was handed in is refused, as it is not what it must be, or as a request for memory was refused: the buffer and the
+-- length are as before; else a text is put out
+pub record Writes (Is : Type 0) (done : Answer) (text before after : List ℕ) (len_before len answer : ℕ) : Type 0 where
+  pub not_a_line : answer ≡ answer_number NotALine → (¬ Is) × (after ≡ before) × (len ≡ len_before)
+  pub out_of_memory : answer ≡ answer_number OutOfMemory → (after ≡ before) × (len ≡ len_before)
+  pub puts : answer ≢ answer_number NotALine → answer ≢ answer_number OutOfMemory → Is × PutsOut done text before after len answer
+
+-- the point of the line that views hold
+abbrev pub point_in : Line → List Part → Point
+point_in l parts = point_of (line_in false l parts)
+
+-- what the builder writes for the line that views hold
+abbrev pub built_in : Line → List Part → List ℕ
+built_in l parts = built (point_in l parts)
+
+-- what is shown of the line that views hold
+abbrev pub shown_in : Line → List Part → List ℕ
+shown_in l parts = shown_line (line_in false l parts)
+
+-- the base of the series that views hold
+abbrev pub base_in : Line → List Part → Base
+base_in l parts = base_of l.series.now (text_in true l.measurement) (some_tags (tag_set_in true l parts))
+
+-- the text of a base, or the key that is repeated
+abbrev pub text_of_base : Base → List ℕ
+text_of_base (borrowed text) = text
+text_of_base (owned text) = text
+text_of_base (duplicate_key key) = key
+
+-- the answer for a base: a repeated key is a fault
+abbrev pub answer_for_base : Base → Answer
+answer_for_base (borrowed text) = Written
+answer_for_base (owned text) = Written
+answer_for_base (duplicate_key key) = Fault

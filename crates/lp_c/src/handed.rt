@@ -1,0 +1,233 @@
+//! Lines that callers hand in: the views are tested, and become a line of the library.
+
+ghost use Rattle.std.specs.Prelude.{◌≡◌, ◌≤◌, ◌<◌, ◌+◌, [], ◌∷◌, ◌++◌, length, map, false, IfOk, IfErr, OnOk, IsUtf8};
+ghost use Rattle.std.specs.List.{AllByRecursion};
+ghost use Rattle.influxdb_line_protocol.specs.code.Parsed.{field_of, line_read, tag_of, value_of};
+ghost use Rattle.influxdb_line_protocol.specs.code.Texts.{read_of};
+ghost use Rattle.lp_c.specs.Handed.{IsFieldIn, IsLineIn, IsSeriesIn, IsSeriesRead, IsTagIn, IsValueIn, RefusesFor};
+ghost use Rattle.lp_c.specs.declared.views.Answer.TheVariants.{NotALine};
+ghost use Rattle.lp_c.specs.Handed.{field_in, line_in, tag_in, text_in, value_in};
+
+use crate::views::{Answer, Kind, Line, Part, View};
+use influxdb_line_protocol::{
+    EscapedStr, FieldSet, FieldValue, FloatText, ParsedLine, Series, TagSet,
+};
+use std::alloc::Global;
+
+// The text of a view. Where copies are told apart, a copy is copied.
+fn text_in<'a>(alloc: Global, copies: bool, view: &View<'a>) -> Result<EscapedStr<'a>, Answer>
+    ensures ok { IfOk result (λ t. IsUtf8 view.now.text.now × (read_of t ≡ text_in copies view.now)) }
+    ensures err { IfErr result (λ e. RefusesFor (IsUtf8 view.now.text.now) e) }
+    ensures told { copies ≡ false → IfErr result (λ e. e ≡ NotALine) }
+{
+    let Ok(text) = str::from_utf8(view.text) else {
+        return Err(Answer::NotALine);
+    };
+    if !copies || !view.copied {
+        return Ok(EscapedStr::SingleSlice(text));
+    }
+    match String::from_str(alloc, text) {
+        Ok(copy) => Ok(EscapedStr::CopiedValue(copy)),
+        Err(_) => Err(Answer::OutOfMemory),
+    }
+}
+
+// The tag of a part.
+fn tag_in<'a>(
+    alloc: Global,
+    copies: bool,
+    part: &Part<'a>,
+) -> Result<(EscapedStr<'a>, EscapedStr<'a>), Answer>
+    ensures ok { IfOk result (λ t. IsTagIn part.now × (tag_of t ≡ tag_in copies part.now)) }
+    ensures err { IfErr result (λ e. RefusesFor (IsTagIn part.now) e) }
+    ensures told { copies ≡ false → IfErr result (λ e. e ≡ NotALine) }
+{
+    if part.kind != Kind::Tag.number() {
+        return Err(Answer::NotALine);
+    }
+    let key = text_in(alloc, copies, &part.key)?;
+    let value = text_in(alloc, copies, &part.text)?;
+    Ok((key, value))
+}
+
+// The literal of a part that is a float.
+fn literal_in<'a>(part: &Part<'a>) -> Result<FieldValue<'a>, Answer>
+    requires { part.now.kind ≡ 3 }
+    ensures ok { IfOk result (λ v. IsValueIn part.now × (value_of v ≡ value_in false part.now)) }
+    ensures err { IfErr result (λ e. RefusesFor (IsValueIn part.now) e) }
+    ensures told { IfErr result (λ e. e ≡ NotALine) }
+{
+    let Ok(text) = str::from_utf8(part.text.text) else {
+        return Err(Answer::NotALine);
+    };
+    match FloatText::new(text) {
+        Some(literal) => Ok(FieldValue::F64(literal)),
+        None => Err(Answer::NotALine),
+    }
+}
+
+// The value of a part that is a field.
+fn value_in<'a>(alloc: Global, copies: bool, part: &Part<'a>) -> Result<FieldValue<'a>, Answer>
+    ensures ok { IfOk result (λ v. IsValueIn part.now × (value_of v ≡ value_in copies part.now)) }
+    ensures err { IfErr result (λ e. RefusesFor (IsValueIn part.now) e) }
+    ensures told { copies ≡ false → IfErr result (λ e. e ≡ NotALine) }
+{
+    match part.kind {
+        1 => Ok(FieldValue::I64(part.integer)),
+        2 => Ok(FieldValue::U64(part.unsigned)),
+        3 => literal_in(part),
+        4 => Ok(FieldValue::String(text_in(alloc, copies, &part.text)?)),
+        5 => Ok(FieldValue::Boolean(part.boolean)),
+        _ => Err(Answer::NotALine),
+    }
+}
+
+// The field of a part.
+fn field_in<'a>(
+    alloc: Global,
+    copies: bool,
+    part: &Part<'a>,
+) -> Result<(EscapedStr<'a>, FieldValue<'a>), Answer>
+    ensures ok { IfOk result (λ f. IsFieldIn part.now × (field_of f ≡ field_in copies part.now)) }
+    ensures err { IfErr result (λ e. RefusesFor (IsFieldIn part.now) e) }
+    ensures told { copies ≡ false → IfErr result (λ e. e ≡ NotALine) }
+{
+    let key = text_in(alloc, copies, &part.key)?;
+    let value = value_in(alloc, copies, part)?;
+    Ok((key, value))
+}
+
+// Appends the tag of a part.
+fn push_tag<'a>(
+    alloc: Global,
+    copies: bool,
+    part: &Part<'a>,
+    tags: &mut TagSet<'a>,
+) -> Result<(), Answer>
+    requires { 8 ≤ tags.old.capacity }
+    ensures is { OnOk result (IsTagIn part.now) }
+    ensures pushed { OnOk result
+        (map tag_of tags.new.items ≡ map tag_of tags.old.items ++ tag_in copies part.now ∷ []) }
+    ensures len { OnOk result (length tags.new.items ≡ length tags.old.items + 1) }
+    ensures room { OnOk result (8 ≤ tags.new.capacity) }
+    ensures err { IfErr result (λ e. RefusesFor (IsTagIn part.now) e) }
+    ensures told { copies ≡ false → length tags.old.items < 8 → IfErr result (λ e. e ≡ NotALine) }
+{
+    let tag = tag_in(alloc, copies, part)?;
+    match tags.push(tag) {
+        Ok(()) => Ok(()),
+        Err(_) => Err(Answer::OutOfMemory),
+    }
+}
+
+// The tags of parts.
+fn tags_in<'a>(alloc: Global, copies: bool, parts: &[Part<'a>]) -> Result<TagSet<'a>, Answer>
+    ensures ok { IfOk result (λ s. AllByRecursion IsTagIn parts.now × (map tag_of s.items ≡ map (tag_in copies) parts.now)) }
+    ensures err { IfErr result (λ e. RefusesFor (AllByRecursion IsTagIn parts.now) e) }
+    ensures told { copies ≡ false → length parts.now ≤ 8 → IfErr result (λ e. e ≡ NotALine) }
+{
+    let mut tags = TagSet::new(alloc);
+    for part in parts {
+        push_tag(alloc, copies, part, &mut tags)?;
+    }
+    Ok(tags)
+}
+
+// Appends the field of a part.
+fn push_field<'a>(
+    alloc: Global,
+    copies: bool,
+    part: &Part<'a>,
+    fields: &mut FieldSet<'a>,
+) -> Result<(), Answer>
+    requires { 4 ≤ fields.old.capacity }
+    ensures is { OnOk result (IsFieldIn part.now) }
+    ensures pushed { OnOk result
+        (map field_of fields.new.items ≡ map field_of fields.old.items ++ field_in copies part.now ∷ []) }
+    ensures len { OnOk result (length fields.new.items ≡ length fields.old.items + 1) }
+    ensures room { OnOk result (4 ≤ fields.new.capacity) }
+    ensures err { IfErr result (λ e. RefusesFor (IsFieldIn part.now) e) }
+    ensures told { copies ≡ false → length fields.old.items < 4 → IfErr result (λ e. e ≡ NotALine) }
+{
+    let field = field_in(alloc, copies, part)?;
+    match fields.push(field) {
+        Ok(()) => Ok(()),
+        Err(_) => Err(Answer::OutOfMemory),
+    }
+}
+
+// The fields of parts.
+fn fields_in<'a>(alloc: Global, copies: bool, parts: &[Part<'a>]) -> Result<FieldSet<'a>, Answer>
+    ensures ok { IfOk result (λ s. AllByRecursion IsFieldIn parts.now × (map field_of s.items ≡ map (field_in copies) parts.now)) }
+    ensures err { IfErr result (λ e. RefusesFor (AllByRecursion IsFieldIn parts.now) e) }
+    ensures told { copies ≡ false → length parts.now ≤ 4 → IfErr result (λ e. e ≡ NotALine) }
+{
+    let mut fields = FieldSet::new(alloc);
+    for part in parts {
+        push_field(alloc, copies, part, &mut fields)?;
+    }
+    Ok(fields)
+}
+
+// The series that views hold.
+pub(crate) fn series_in<'a>(
+    alloc: Global,
+    copies: bool,
+    line: &Line<'a>,
+    parts: &[Part<'a>],
+) -> Result<Series<'a>, Answer>
+    ensures ok { IfOk result (λ s. IsSeriesIn line.now parts.now × IsSeriesRead copies line.now parts.now s) }
+    ensures err { IfErr result (λ e. RefusesFor (IsSeriesIn line.now parts.now) e) }
+    ensures told { copies ≡ false → line.now.tags ≤ 8 → IfErr result (λ e. e ≡ NotALine) }
+{
+    let Ok(raw_input) = str::from_utf8(line.series) else {
+        return Err(Answer::NotALine);
+    };
+    let measurement = text_in(alloc, copies, &line.measurement)?;
+    if parts.len() < line.tags {
+        return Err(Answer::NotALine);
+    }
+    if !line.has_tag_set && line.tags != 0 {
+        return Err(Answer::NotALine);
+    }
+    let tags = tags_in(alloc, copies, &parts[..line.tags])?;
+    let tag_set = if line.has_tag_set { Some(tags) } else { None };
+    Ok(Series {
+        raw_input,
+        measurement,
+        tag_set,
+    })
+}
+
+// The line that views hold.
+pub(crate) fn line_in<'a>(
+    alloc: Global,
+    copies: bool,
+    line: &Line<'a>,
+    parts: &[Part<'a>],
+) -> Result<ParsedLine<'a>, Answer>
+    ensures ok { IfOk result (λ l. IsLineIn line.now parts.now × (line_read l ≡ line_in copies line.now parts.now)) }
+    ensures some { IfOk result (λ l. 0 < length l.field_set.items) }
+    ensures err { IfErr result (λ e. RefusesFor (IsLineIn line.now parts.now) e) }
+    ensures told { copies ≡ false → line.now.tags ≤ 8 → line.now.fields ≤ 4 → IfErr result (λ e. e ≡ NotALine) }
+{
+    let series = series_in(alloc, copies, line, parts)?;
+    if line.fields == 0 {
+        return Err(Answer::NotALine);
+    }
+    let fields = &parts[line.tags..];
+    if fields.len() < line.fields {
+        return Err(Answer::NotALine);
+    }
+    let field_set = fields_in(alloc, copies, &fields[..line.fields])?;
+    let timestamp = if line.has_timestamp {
+        Some(line.timestamp)
+    } else {
+        None
+    };
+    Ok(ParsedLine {
+        series,
+        field_set,
+        timestamp,
+    })
+}

@@ -1,0 +1,332 @@
+//! What is read is put into what the caller lends.
+
+ghost use Rattle.std.specs.Prelude.{◌≡◌, ◌+◌, ◌≤◌, ◌-◌, ◌^◌, drop, length, map, min, take, None, Some, MatchOption};
+ghost use Rattle.std.specs.List.{sum_by};
+ghost use Rattle.influxdb_line_protocol.specs.code.Parsed.{field_of, line_read, tag_of, value_of};
+ghost use Rattle.influxdb_line_protocol.specs.code.Texts.{read_of};
+ghost use Rattle.influxdb_line_protocol.specs.format.Lines.{some_tags};
+ghost use Rattle.lp_c.specs.Crossing.{copied_field, copied_in, copied_tag, copied_text, copied_value};
+ghost use Rattle.influxdb_line_protocol.specs.code.Lookups.{some_items};
+ghost use Rattle.lp_c.specs.Crossing.{field_shown, tag_shown, text_shown, fault_seen, side_of};
+ghost use Rattle.lp_c.specs.Crossing.{AnswersFault, AnswersLine, CountsLine, ShowsLine};
+
+use crate::views::{Answer, FaultKind, Kind, Line, Part, Room, Side, View};
+use influxdb_line_protocol::{Error, ErrorKind, EscapedStr, FieldValue, OutOfRange, ParsedLine};
+use std::mem;
+
+// A text of which there is nothing.
+const NOTHING: View<'static> = View {
+    text: b"",
+    copied: false,
+};
+
+// Puts a text into the room.
+pub fn put<'a>(room: &mut Room<'a>, text: &[u8]) -> &'a [u8]
+    requires { length text.now ≤ length room.old.bytes.now }
+    ensures copy { result.now ≡ text.now }
+    ensures left { length room.new.bytes.now + length text.now ≡ length room.old.bytes.now }
+{
+    let bytes = mem::take(&mut room.bytes);
+    let (front, rest) = bytes.split_at_mut(text.len());
+    front.copy_from_slice(text);
+    room.bytes = rest;
+    front
+}
+
+// How many bytes of room a text takes.
+fn copied_text(text: &EscapedStr<'_>) -> usize
+    ensures { result ≡ copied_text (read_of text.now) }
+{
+    match text {
+        EscapedStr::SingleSlice(_) => 0,
+        EscapedStr::CopiedValue(text) => text.len(),
+    }
+}
+
+// How many bytes of room a value takes.
+fn copied_value(value: &FieldValue<'_>) -> usize
+    ensures { result ≡ copied_value (value_of value.now) }
+{
+    match value {
+        FieldValue::String(text) => copied_text(text),
+        _ => 0,
+    }
+}
+
+// How many bytes of room the tags take.
+fn copied_tags(tags: &[(EscapedStr<'_>, EscapedStr<'_>)]) -> usize
+    ensures { result ≡ min (sum_by (λ tag. copied_tag (tag_of tag)) tags.now) (2 ^ 64 - 1) }
+{
+    let mut len = 0usize;
+    for (key, value) in tags {
+        len = len
+            .saturating_add(copied_text(key))
+            .saturating_add(copied_text(value));
+    }
+    len
+}
+
+// How many bytes of room the fields take.
+fn copied_fields(fields: &[(EscapedStr<'_>, FieldValue<'_>)]) -> usize
+    ensures { result ≡ min (sum_by (λ field. copied_field (field_of field)) fields.now) (2 ^ 64 - 1) }
+{
+    let mut len = 0usize;
+    for (key, value) in fields {
+        len = len
+            .saturating_add(copied_text(key))
+            .saturating_add(copied_value(value));
+    }
+    len
+}
+
+// A text as it goes out: a part of the input as it is, a copy in the room.
+#[inline(always)]
+pub fn view_of<'a>(room: &mut Room<'a>, text: &EscapedStr<'a>) -> View<'a>
+    requires { copied_text (read_of text.now) ≤ length room.old.bytes.now }
+    ensures shown { text_shown result ≡ read_of text.now }
+    ensures left { length room.new.bytes.now + copied_text (read_of text.now) ≡ length room.old.bytes.now }
+{
+    match text {
+        EscapedStr::SingleSlice(text) => View {
+            text: text.as_bytes(),
+            copied: false,
+        },
+        EscapedStr::CopiedValue(text) => View {
+            text: put(room, text.as_bytes()),
+            copied: true,
+        },
+    }
+}
+
+// A tag as it goes out.
+#[inline(always)]
+fn tag_part<'a>(room: &mut Room<'a>, tag: &(EscapedStr<'a>, EscapedStr<'a>)) -> Part<'a>
+    requires { copied_tag (tag_of tag.now) ≤ length room.old.bytes.now }
+    ensures shown { tag_shown result ≡ Some (tag_of tag.now) }
+    ensures left { length room.new.bytes.now + copied_tag (tag_of tag.now) ≡ length room.old.bytes.now }
+{
+    let key = view_of(room, &tag.0);
+    Part {
+        key,
+        text: view_of(room, &tag.1),
+        integer: 0,
+        unsigned: 0,
+        kind: Kind::Tag.number(),
+        boolean: false,
+    }
+}
+
+// A field as it goes out.
+#[inline(always)]
+fn field_part<'a>(room: &mut Room<'a>, field: &(EscapedStr<'a>, FieldValue<'a>)) -> Part<'a>
+    requires { copied_field (field_of field.now) ≤ length room.old.bytes.now }
+    ensures shown { field_shown result ≡ Some (field_of field.now) }
+    ensures left { length room.new.bytes.now + copied_field (field_of field.now) ≡ length room.old.bytes.now }
+{
+    let mut part = Part {
+        key: view_of(room, &field.0),
+        text: NOTHING,
+        integer: 0,
+        unsigned: 0,
+        kind: 0,
+        boolean: false,
+    };
+    match &field.1 {
+        FieldValue::I64(value) => {
+            part.kind = Kind::Integer.number();
+            part.integer = *value;
+        }
+        FieldValue::U64(value) => {
+            part.kind = Kind::Unsigned.number();
+            part.unsigned = *value;
+        }
+        FieldValue::F64(value) => {
+            part.kind = Kind::Float.number();
+            part.text = View {
+                text: value.as_str().as_bytes(),
+                copied: false,
+            };
+        }
+        FieldValue::String(value) => {
+            part.kind = Kind::String.number();
+            part.text = view_of(room, value);
+        }
+        FieldValue::Boolean(value) => {
+            part.kind = Kind::Boolean.number();
+            part.boolean = *value;
+        }
+    }
+    part
+}
+
+// Puts the tags into the first parts.
+fn put_tags<'a>(
+    room: &mut Room<'a>,
+    parts: &mut [Part<'a>],
+    tags: &[(EscapedStr<'a>, EscapedStr<'a>)],
+)
+    requires parts { length tags.now ≤ length parts.old }
+    requires room { sum_by (λ tag. copied_tag (tag_of tag)) tags.now ≤ length room.old.bytes.now }
+    ensures shown { map tag_shown (take (length tags.now) parts.new) ≡ map (λ tag. Some (tag_of tag)) tags.now }
+    ensures left { length room.new.bytes.now + sum_by (λ tag. copied_tag (tag_of tag)) tags.now ≡ length room.old.bytes.now }
+{
+    for (place, tag) in tags.iter().enumerate() {
+        parts[place] = tag_part(room, tag);
+    }
+}
+
+// Puts the fields into the parts from `at` on.
+fn put_fields<'a>(
+    room: &mut Room<'a>,
+    parts: &mut [Part<'a>],
+    at: usize,
+    fields: &[(EscapedStr<'a>, FieldValue<'a>)],
+)
+    requires parts { at + length fields.now ≤ length parts.old }
+    requires room { sum_by (λ field. copied_field (field_of field)) fields.now ≤ length room.old.bytes.now }
+    ensures shown { map field_shown (take (length fields.now) (drop at parts.new)) ≡ map (λ field. Some (field_of field)) fields.now }
+    ensures others { take at parts.new ≡ take at parts.old }
+{
+    for (place, field) in fields.iter().enumerate() {
+        parts[at + place] = field_part(room, field);
+    }
+}
+
+// Puts a line with its tags and fields out, where they have room.
+fn put_parts<'a>(
+    parsed: &ParsedLine<'a>,
+    room: &mut Room<'a>,
+    line: &mut Line<'a>,
+    parts: &mut [Part<'a>],
+)
+    requires counts { CountsLine (line_read parsed.now) line.old }
+    requires parts { line.old.tags + line.old.fields ≤ length parts.old }
+    requires room { copied_in (line_read parsed.now) ≤ length room.old.bytes.now }
+    ensures counts { CountsLine (line_read parsed.now) line.new }
+    ensures shown { ShowsLine (line_read parsed.now) line.new parts.new }
+{
+    line.series = parsed.series.raw_input.as_bytes();
+    line.measurement = view_of(room, &parsed.series.measurement);
+    line.has_tag_set = parsed.series.tag_set.is_some();
+    line.has_timestamp = parsed.timestamp.is_some();
+    line.timestamp = parsed.timestamp.unwrap_or(0);
+    put_tags(room, parts, tags_of(parsed));
+    put_fields(room, parts, line.tags, parsed.field_set.as_slice());
+}
+
+// The tags of a line.
+fn tags_of<'l, 'a>(parsed: &'l ParsedLine<'a>) -> &'l [(EscapedStr<'a>, EscapedStr<'a>)]
+    ensures items { result.now ≡ some_items parsed.now.series.tag_set }
+    ensures read { some_tags (line_read parsed.now).tags ≡ map tag_of result.now }
+{
+    match &parsed.series.tag_set {
+        Some(tags) => tags.as_slice(),
+        None => &[],
+    }
+}
+
+// Says how many parts and how much room a line takes.
+fn count<'a>(parsed: &ParsedLine<'a>, line: &mut Line<'a>)
+    ensures { CountsLine (line_read parsed.now) line.new }
+{
+    let tags = tags_of(parsed);
+    let fields = parsed.field_set.as_slice();
+    line.tags = tags.len();
+    line.fields = fields.len();
+    line.copied_len = copied_text(&parsed.series.measurement)
+        .saturating_add(copied_tags(tags))
+        .saturating_add(copied_fields(fields));
+}
+
+// Puts a line out, or says how much more it takes.
+pub fn put_line<'a>(
+    parsed: &ParsedLine<'a>,
+    room: &mut Room<'a>,
+    line: &mut Line<'a>,
+    parts: &mut [Part<'a>],
+) -> Answer
+    ensures counts { CountsLine (line_read parsed.now) line.new }
+    ensures answers { AnswersLine (line_read parsed.now) (length room.old.bytes.now) result line.new parts.new }
+{
+    count(parsed, line);
+    line.fault = FaultKind::None.number();
+    if parts.len() < line.tags || parts.len() - line.tags < line.fields {
+        return Answer::MoreParts;
+    }
+    if room.bytes.len() < line.copied_len {
+        return Answer::MoreRoom;
+    }
+    put_parts(parsed, room, line, parts);
+    Answer::Line
+}
+
+// The side that a fault names.
+fn side_of(source: OutOfRange) -> Side
+    ensures { result ≡ side_of source }
+{
+    match source {
+        OutOfRange::Above => Side::Above,
+        OutOfRange::Below => Side::Below,
+    }
+}
+
+// What a caller sees of an error, or `None` where a request for memory was refused.
+fn fault_seen(error: &Error) -> Option<(FaultKind, Side, &str)>
+    ensures { MatchOption result (fault_seen error.now ≡ None)
+        (λ seen. fault_seen error.now ≡ Some (record { kind = seen.0; side = seen.1; text = seen.2.now })) }
+{
+    Some(match error {
+        Error::DuplicateTag { tag_key } => (
+            FaultKind::DuplicateTag,
+            Side::Neither,
+            tag_key.as_str(),
+        ),
+        Error::MeasurementValueInvalid => (FaultKind::MeasurementValueInvalid, Side::Neither, ""),
+        Error::FieldSetMissing => (FaultKind::FieldSetMissing, Side::Neither, ""),
+        Error::IntegerValueInvalid { source, value } => (
+            FaultKind::IntegerValueInvalid,
+            side_of(*source),
+            value.as_str(),
+        ),
+        Error::UIntegerValueInvalid { source, value } => (
+            FaultKind::UIntegerValueInvalid,
+            side_of(*source),
+            value.as_str(),
+        ),
+        Error::TimestampValueInvalid { source, value } => (
+            FaultKind::TimestampValueInvalid,
+            side_of(*source),
+            value.as_str(),
+        ),
+        Error::EndsWithBackslash => (FaultKind::EndsWithBackslash, Side::Neither, ""),
+        Error::CannotParseEntireLine { trailing_content } => (
+            FaultKind::CannotParseEntireLine,
+            Side::Neither,
+            trailing_content.as_str(),
+        ),
+        Error::TagSetMalformed => (FaultKind::TagSetMalformed, Side::Neither, ""),
+        Error::GenericParsingError {
+            kind: ErrorKind::TakeWhile1,
+        } => (FaultKind::GenericParsingError, Side::Neither, ""),
+        Error::OutOfMemory => return None,
+    })
+}
+
+// Puts a fault out, or says how much more room it takes.
+#[cold]
+#[inline(never)]
+pub fn put_fault<'a>(error: &Error, room: &mut Room<'a>, line: &mut Line<'a>) -> Answer
+    ensures { AnswersFault (fault_seen error.now) (length room.old.bytes.now) result line.new }
+{
+    let Some((kind, side, text)) = fault_seen(error) else {
+        return Answer::OutOfMemory;
+    };
+    line.copied_len = text.len();
+    if room.bytes.len() < text.len() {
+        return Answer::MoreRoom;
+    }
+    line.fault = kind.number();
+    line.side = side.number();
+    line.fault_text = put(room, text.as_bytes());
+    Answer::Fault
+}

@@ -1,0 +1,12 @@
+//! The library for callers in C.
+//!
+//! A text that crosses is a pointer and a length. The caller owns all memory: what is read lies in what it lends, and the
+//! texts of it are parts of the input or of the lent room. No call keeps anything, ends the program or calls back.
+#![tactic(auto)]
+
+mod handed;
+mod lent;
+mod reading;
+mod rebuilding;
+mod views;
+mod writing;

@@ -1,0 +1,144 @@
+//! The calls that read.
+
+ghost use Rattle.std.specs.Prelude.{◌≡◌, ◌↔◌, length, IsFalse, IsTrue, IsUtf8, Some, option_map};
+ghost use Rattle.influxdb_line_protocol.specs.code.ParseSteps.{GivesItem};
+ghost use Rattle.lp_c.specs.Crossing.{AnswersItem, GivesView, ReadsItem, dialect_of, left_of};
+
+use crate::lent::{put_fault, put_line};
+use crate::views::{Answer, Line, Lines, Part, Room, View};
+use influxdb_line_protocol::{Dialect, Error, ParsedLine, parse_lines_in, split_lines_in};
+use std::alloc::Global;
+
+/// The version of the library: 10,000 times its first number, 100 times its second, and its third.
+#[unsafe(no_mangle)]
+pub extern "C" fn lp_version() -> u32
+    ensures { result ≡ 20000 }
+{
+    20000
+}
+
+/// Begins to read a text by the rules of a dialect, and says whether the text is UTF-8: else nothing may be read of it.
+#[unsafe(no_mangle)]
+pub extern "C" fn lp_lines_begin<'a>(text: &'a [u8], strict: bool, lines: &mut Lines<'a>) -> bool
+    ensures utf8 { IsTrue result ↔ IsUtf8 text.now }
+    ensures begun { IsTrue result → left_of lines.new ≡ record { dialect = dialect_of strict; text = Some text.now } }
+    ensures refused { IsFalse result → lines.new ≡ lines.old }
+{
+    if str::from_utf8(text).is_err() {
+        return false;
+    }
+    *lines = Lines {
+        rest: text,
+        ended: false,
+        strict,
+    };
+    true
+}
+
+// The dialect that a cursor names.
+fn dialect_of(strict: bool) -> Dialect
+    ensures { result ≡ dialect_of strict }
+{
+    if strict {
+        Dialect::Strict
+    } else {
+        Dialect::Crate
+    }
+}
+
+// Leaves this of the text.
+fn leave<'a>(lines: &mut Lines<'a>, rest: Option<&'a str>)
+    requires { IsUtf8 lines.old.rest.now }
+    ensures text { IsUtf8 lines.new.rest.now }
+    ensures left { left_of lines.new ≡ record { dialect = dialect_of lines.old.strict; text = option_map (λ left. left.now) rest.entry } }
+{
+    match rest {
+        Some(rest) => {
+            lines.rest = rest.as_bytes();
+            lines.ended = false;
+        }
+        None => lines.ended = true,
+    }
+}
+
+// Takes the next item off what is left.
+fn take_item<'a>(alloc: Global, lines: &mut Lines<'a>) -> Option<Result<ParsedLine<'a>, Error>>
+    requires { IsUtf8 lines.old.rest.now }
+    ensures text { IsUtf8 lines.new.rest.now }
+    ensures gives { GivesItem (left_of lines.old) result (left_of lines.new) }
+{
+    if lines.ended {
+        return None;
+    }
+    let text = unsafe { str::from_utf8_unchecked(lines.rest) };
+    let mut items = parse_lines_in(alloc, dialect_of(lines.strict), text);
+    let item = items.next();
+    leave(lines, items.remainder());
+    item
+}
+
+// Puts an item out.
+#[inline(always)]
+fn put_item<'a>(
+    item: &Option<Result<ParsedLine<'a>, Error>>,
+    room: &mut Room<'a>,
+    line: &mut Line<'a>,
+    parts: &mut [Part<'a>],
+) -> Answer
+    ensures { AnswersItem item.now (length room.old.bytes.now) result line.new parts.new }
+{
+    match item {
+        None => Answer::End,
+        Some(Ok(parsed)) => put_line(parsed, room, line, parts),
+        Some(Err(error)) => put_fault(error, room, line),
+    }
+}
+
+/// Reads the next item into what the caller lends, and answers the number of an [`Answer`].
+///
+/// `Line`, `Fault`, `OutOfMemory` and `End` pass the item. `MoreParts` and `MoreRoom` leave `lines` as it was, and `line`
+/// says how much the item takes: lend that much, and call again.
+#[unsafe(no_mangle)]
+pub extern "C" fn lp_lines_next<'a>(
+    alloc: Global,
+    lines: &mut Lines<'a>,
+    room: &mut Room<'a>,
+    line: &mut Line<'a>,
+    parts: &mut [Part<'a>],
+) -> u32
+    requires { IsUtf8 lines.old.rest.now }
+    ensures text { IsUtf8 lines.new.rest.now }
+    ensures reads { ∥ ReadsItem lines.old (length room.old.bytes.now) result line.new parts.new lines.new ∥₁ }
+{
+    let mut passed = *lines;
+    let item = take_item(alloc, &mut passed);
+    let answer = put_item(&item, room, line, parts);
+    if !answer.is_more() {
+        *lines = passed;
+    }
+    answer.number()
+}
+
+/// Takes the next piece off what is left, not parsed, and says whether there was one.
+#[unsafe(no_mangle)]
+pub extern "C" fn lp_lines_piece<'a>(lines: &mut Lines<'a>, piece: &mut View<'a>) -> bool
+    requires { IsUtf8 lines.old.rest.now }
+    ensures text { IsUtf8 lines.new.rest.now }
+    ensures gives { GivesView (left_of lines.old) result piece.new (left_of lines.new) }
+    ensures stays { IsFalse result → lines.new ≡ lines.old }
+{
+    if lines.ended {
+        return false;
+    }
+    let text = unsafe { str::from_utf8_unchecked(lines.rest) };
+    let mut pieces = split_lines_in(dialect_of(lines.strict), text);
+    let Some(first) = pieces.next() else {
+        return false;
+    };
+    *piece = View {
+        text: first.as_bytes(),
+        copied: false,
+    };
+    leave(lines, pieces.remainder());
+    true
+}

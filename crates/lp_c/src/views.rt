@@ -1,0 +1,202 @@
+//! What both sides see: the layouts of the types and the numbers of the answers.
+
+ghost use Rattle.std.specs.Prelude.{◌≡◌};
+ghost use Rattle.lp_c.specs.Crossing.{is_more};
+ghost use Rattle.lp_c.specs.Numbers.{answer_number, fault_number, kind_number, side_number};
+
+/// A text, and whether it is a copy without its escapes.
+#[repr(C)]
+#[derive(Clone, Copy)]
+pub struct View<'a> {
+    /// The bytes of the text: UTF-8.
+    pub text: &'a [u8],
+    /// Whether the text lies in the caller's room and not in its input.
+    pub copied: bool,
+}
+
+/// Room that the caller lends for copies. What is put into it is taken off its front.
+#[repr(C)]
+#[derive(Drop)]
+pub struct Room<'a> {
+    /// The bytes that are free.
+    pub bytes: &'a mut [u8],
+}
+
+/// A tag or a field. Which of the values counts is told by `kind`; the others are empty, zero and false.
+#[repr(C)]
+#[derive(Clone, Copy)]
+pub struct Part<'a> {
+    /// The key.
+    pub key: View<'a>,
+    /// The value of a tag or of a string, or the literal of a float as it was spelled.
+    pub text: View<'a>,
+    /// The value of an integer.
+    pub integer: i64,
+    /// The value of an unsigned integer.
+    pub unsigned: u64,
+    /// The number of a [`Kind`].
+    pub kind: u32,
+    /// The value of a Boolean.
+    pub boolean: bool,
+}
+
+/// A line without its tags and fields, which are parts; or the fault of a line.
+#[repr(C)]
+#[derive(Clone, Copy)]
+pub struct Line<'a> {
+    /// The part of the input that holds the measurement and the tags.
+    pub series: &'a [u8],
+    /// The measurement.
+    pub measurement: View<'a>,
+    /// What the fault names: a number, or the rest of the line; in the caller's room.
+    pub fault_text: &'a [u8],
+    /// How many of the parts are tags: the first ones.
+    pub tags: usize,
+    /// How many parts come after the tags: the fields.
+    pub fields: usize,
+    /// How many bytes of room the copies of the line, or the fault's text, take.
+    pub copied_len: usize,
+    /// The timestamp, where the line has one, or else 0.
+    pub timestamp: i64,
+    /// The number of a [`FaultKind`].
+    pub fault: u32,
+    /// The number of a [`Side`], where the fault is that of a number.
+    pub side: u32,
+    /// Whether the line has a tag set.
+    pub has_tag_set: bool,
+    /// Whether the line has a timestamp.
+    pub has_timestamp: bool,
+}
+
+/// What is left of a text that is read.
+#[repr(C)]
+#[derive(Clone, Copy)]
+pub struct Lines<'a> {
+    /// The text that is left.
+    pub rest: &'a [u8],
+    /// Whether no piece of the text is left.
+    pub ended: bool,
+    /// Whether the rules of the strict dialect hold, and not those of the Rust crate.
+    pub strict: bool,
+}
+
+/// What a call answers.
+#[derive(Clone, Copy, Drop)]
+pub enum Answer {
+    /// No item is left.
+    End = 0,
+    /// A line was read.
+    Line = 1,
+    /// A fault stands in the place of the item or of the result.
+    Fault = 2,
+    /// The line has more tags and fields than parts were lent: nothing was read.
+    MoreParts = 3,
+    /// The texts take more room than was lent: nothing was read, or nothing was written.
+    MoreRoom = 4,
+    /// A request for memory was refused.
+    OutOfMemory = 5,
+    /// What was handed in is no line: a text is no UTF-8, a literal no float, a kind none, or it has no field.
+    NotALine = 6,
+    /// What was asked for was written.
+    Written = 7,
+    /// The text is no UTF-8.
+    NotUtf8 = 8,
+}
+
+impl Answer {
+    /// The number of an answer.
+    pub fn number(self) -> u32
+        ensures { result ≡ answer_number self }
+    {
+        self as u32
+    }
+
+    /// Whether more parts or more room is wanted.
+    pub fn is_more(self) -> bool
+        ensures { result ≡ is_more self }
+    {
+        matches!(self, Answer::MoreParts | Answer::MoreRoom)
+    }
+}
+
+/// What a part is.
+#[derive(Clone, Copy, Drop)]
+pub enum Kind {
+    /// A tag.
+    Tag = 0,
+    /// A field that is an integer.
+    Integer = 1,
+    /// A field that is an unsigned integer.
+    Unsigned = 2,
+    /// A field that is a float.
+    Float = 3,
+    /// A field that is a string.
+    String = 4,
+    /// A field that is a Boolean.
+    Boolean = 5,
+}
+
+impl Kind {
+    /// The number of a kind.
+    pub fn number(self) -> u32
+        ensures { result ≡ kind_number self }
+    {
+        self as u32
+    }
+}
+
+/// What is wrong with a line.
+#[derive(Clone, Copy, Drop)]
+pub enum FaultKind {
+    /// Nothing.
+    None = 0,
+    /// A key of the tags is repeated.
+    DuplicateTag = 1,
+    /// The line does not begin with a measurement.
+    MeasurementValueInvalid = 2,
+    /// The line has no field.
+    FieldSetMissing = 3,
+    /// An integer is out of its range.
+    IntegerValueInvalid = 4,
+    /// An unsigned integer is out of its range.
+    UIntegerValueInvalid = 5,
+    /// A timestamp is out of its range.
+    TimestampValueInvalid = 6,
+    /// A name ends in a backslash.
+    EndsWithBackslash = 7,
+    /// Something is left after the last part that could be read.
+    CannotParseEntireLine = 8,
+    /// A comma comes after the measurement, and no tag after it.
+    TagSetMalformed = 9,
+    /// No space comes after the measurement.
+    GenericParsingError = 10,
+}
+
+impl FaultKind {
+    /// The number of a kind of fault.
+    pub fn number(self) -> u32
+        ensures { result ≡ fault_number self }
+    {
+        self as u32
+    }
+}
+
+/// On which side of its range a number lies.
+#[derive(Clone, Copy, Drop)]
+pub enum Side {
+    /// The fault is not that of a number.
+    Neither = 0,
+    /// The number is greater than the greatest one.
+    Above = 1,
+    /// The number is less than the least one.
+    Below = 2,
+}
+
+impl Side {
+    /// The number of a side.
+    pub fn number(self) -> u32
+        ensures { result ≡ side_number self }
+    {
+        self as u32
+    }
+}

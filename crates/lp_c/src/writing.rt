@@ -1,0 +1,139 @@
+//! Lines that are written, shown or tested, and bases of series: each into a buffer that the caller lends.
+
+ghost use Rattle.std.specs.Prelude.{◌≡◌, ◌≢◌, ◌≤◌, ◌++◌, length, drop};
+ghost use Rattle.influxdb_line_protocol.specs.format.Points.{is_admitted_point};
+ghost use Rattle.lp_c.specs.declared.views.Answer.TheVariants.{MoreRoom, NotALine, OutOfMemory, Written};
+ghost use Rattle.lp_c.specs.Handed.{IsLineIn, IsSeriesIn};
+ghost use Rattle.lp_c.specs.Numbers.{answer_number};
+ghost use Rattle.lp_c.specs.Writing.{PutsOut, Writes, answer_for_base, base_in, built_in, point_in, shown_in, text_of_base};
+
+use crate::handed::{line_in, series_in};
+use crate::views::{Answer, Line, Part};
+use influxdb_line_protocol::{Error, LineProtocolBuilder, is_admitted, write_line};
+use std::alloc::Global;
+
+/// Puts a text at the start of a buffer that has room for it.
+pub(crate) fn put_front(text: &[u8], out: &mut [u8])
+    requires { length text.now ≤ length out.old }
+    ensures { out.new ≡ text.now ++ drop (length text.now) out.old }
+{
+    let (front, _) = out.split_at_mut(text.len());
+    front.copy_from_slice(text);
+}
+
+// Puts a text at the start of a buffer, and tells its length.
+fn put_out(done: Answer, text: &[u8], out: &mut [u8], len: &mut usize) -> u32
+    ensures { PutsOut done text.now out.old out.new len.new result }
+{
+    *len = text.len();
+    if out.len() < text.len() {
+        return Answer::MoreRoom.number();
+    }
+    put_front(text, out);
+    done.number()
+}
+
+/// Whether a line reads back where it is written: whether each of its names is admitted.
+///
+/// Answers `Written` and sets `admitted`; or `NotALine` or `OutOfMemory`, and changes nothing. With at most eight tags and
+/// four fields it takes no memory.
+#[unsafe(no_mangle)]
+pub extern "C" fn lp_line_is_admitted(
+    alloc: Global,
+    line: &Line<'_>,
+    parts: &[Part<'_>],
+    admitted: &mut bool,
+) -> u32
+    ensures not_a_line { result ≡ answer_number NotALine → (¬ IsLineIn line.now parts.now) × (admitted.new ≡ admitted.old) }
+    ensures out_of_memory { result ≡ answer_number OutOfMemory → admitted.new ≡ admitted.old }
+    ensures memory { line.now.tags ≤ 8 → line.now.fields ≤ 4 → result ≢ answer_number OutOfMemory }
+    ensures told { result ≢ answer_number NotALine → result ≢ answer_number OutOfMemory →
+        (result ≡ answer_number Written) × IsLineIn line.now parts.now
+        × (admitted.new ≡ is_admitted_point (point_in line.now parts.now)) }
+{
+    match line_in(alloc, false, line, parts) {
+        Ok(line) => {
+            *admitted = is_admitted(&line);
+            Answer::Written.number()
+        }
+        Err(answer) => answer.number(),
+    }
+}
+
+/// Writes a line, with its newline, as the builder does.
+///
+/// Answers `Written`, and `len` is how many bytes were written; or `MoreRoom`, and `len` is how many are needed; or
+/// `NotALine` or `OutOfMemory`. Only `Written` changes `out`.
+#[unsafe(no_mangle)]
+pub extern "C" fn lp_line_write(
+    alloc: Global,
+    line: &Line<'_>,
+    parts: &[Part<'_>],
+    out: &mut [u8],
+    len: &mut usize,
+) -> u32
+    ensures { Writes (IsLineIn line.now parts.now) Written (built_in line.now parts.now) out.old out.new len.old len.new result }
+{
+    let line = match line_in(alloc, false, line, parts) {
+        Ok(line) => line,
+        Err(answer) => return answer.number(),
+    };
+    match write_line(LineProtocolBuilder::new(alloc), &line) {
+        Ok(builder) => put_out(Answer::Written, builder.build().as_slice(), out, len),
+        Err(_) => Answer::OutOfMemory.number(),
+    }
+}
+
+/// Shows a line: what `{}` writes of it.
+///
+/// Answers as [`lp_line_write`] does.
+#[unsafe(no_mangle)]
+pub extern "C" fn lp_line_show(
+    alloc: Global,
+    line: &Line<'_>,
+    parts: &[Part<'_>],
+    out: &mut [u8],
+    len: &mut usize,
+) -> u32
+    ensures { Writes (IsLineIn line.now parts.now) Written (shown_in line.now parts.now) out.old out.new len.old len.new result }
+{
+    let line = match line_in(alloc, false, line, parts) {
+        Ok(line) => line,
+        Err(answer) => return answer.number(),
+    };
+    match format!(in alloc; "{line}") {
+        Ok(text) => put_out(Answer::Written, text.as_str().as_bytes(), out, len),
+        Err(_) => Answer::OutOfMemory.number(),
+    }
+}
+
+/// The base of the series of a line: the text that tells it from other series.
+///
+/// Answers as [`lp_line_write`] does, but where a key of the tags is repeated it answers `Fault`, and writes that key. The
+/// fields are not looked at.
+#[unsafe(no_mangle)]
+pub extern "C" fn lp_line_base(
+    alloc: Global,
+    line: &Line<'_>,
+    parts: &[Part<'_>],
+    out: &mut [u8],
+    len: &mut usize,
+) -> u32
+    ensures { let base = base_in line.now parts.now in
+        Writes (IsSeriesIn line.now parts.now) (answer_for_base base) (text_of_base base) out.old out.new len.old len.new result }
+{
+    let series = match series_in(alloc, true, line, parts) {
+        Ok(series) => series,
+        Err(answer) => return answer.number(),
+    };
+    match series.generate_base(alloc) {
+        Ok(base) => put_out(Answer::Written, base.as_str().as_bytes(), out, len),
+        Err(Error::DuplicateTag { tag_key }) => put_out(
+            Answer::Fault,
+            tag_key.as_str().as_bytes(),
+            out,
+            len,
+        ),
+        Err(_) => Answer::OutOfMemory.number(),
+    }
+}

@@ -1,0 +1,166 @@
+/* InfluxDB line protocol, read and written by a proved library.
+ *
+ * Memory: the library keeps nothing and frees nothing of yours. What is read lies in what you lend: an lp_line, an array of
+ * lp_part, and an lp_room of bytes for the texts that hold escapes. Its texts are parts of your input (`copied` false) or of
+ * your room (`copied` true), and live as long as these. The heap is used within a call, by the functions of bindings/c/heap.c.
+ *
+ * You owe: pointers that are not NULL, also at length 0; memory that holds what its type says (a `bool` is 0 or 1, each text
+ * has its `len` bytes: begin with LP_EMPTY_LINE and lp_empty_parts); nothing that is written overlaps anything else that is
+ * passed; and an lp_lines that lp_lines_begin filled and no one else wrote. A NULL or a forged cursor is outside the contract.
+ *
+ * Errors are told by the answer alone: no call ends the program, prints, or calls back. Threads: no call keeps or shares state. */
+#ifndef INFLUXDB_LINE_PROTOCOL_H
+#define INFLUXDB_LINE_PROTOCOL_H
+#include <stdbool.h>
+#include <stddef.h>
+#include <stdint.h>
+#ifdef __cplusplus
+extern "C" {
+#endif
+
+/* What a call answers. */
+enum lp_answer {
+    LP_END = 0,           /* no item is left */
+    LP_LINE = 1,          /* a line was read */
+    LP_FAULT = 2,         /* a fault stands in the place of the item or of the result */
+    LP_MORE_PARTS = 3,    /* the line has more tags and fields than parts were lent: nothing was read */
+    LP_MORE_ROOM = 4,     /* the texts take more room than was lent: nothing was read, or nothing was written */
+    LP_OUT_OF_MEMORY = 5, /* a request for memory was refused */
+    LP_NOT_A_LINE = 6,    /* what was handed in is no line */
+    LP_WRITTEN = 7,       /* what was asked for was written */
+    LP_NOT_UTF8 = 8       /* the text is no UTF-8 */
+};
+
+/* What a part is. */
+enum lp_kind {
+    LP_TAG = 0,      /* a tag: its value is `text` */
+    LP_INTEGER = 1,  /* a field: `integer` */
+    LP_UNSIGNED = 2, /* a field: `unsigned_integer` */
+    LP_FLOAT = 3,    /* a field: the literal `text`, as it was spelled */
+    LP_STRING = 4,   /* a field: `text` */
+    LP_BOOLEAN = 5   /* a field: `boolean` */
+};
+
+/* What is wrong with a line. `fault_text` has the number of 4, 5 and 6, the key of 1, and the rest of the line of 8. */
+enum lp_fault_kind {
+    LP_NONE = 0,
+    LP_DUPLICATE_TAG = 1,
+    LP_MEASUREMENT_VALUE_INVALID = 2,
+    LP_FIELD_SET_MISSING = 3,
+    LP_INTEGER_VALUE_INVALID = 4,
+    LP_UINTEGER_VALUE_INVALID = 5,
+    LP_TIMESTAMP_VALUE_INVALID = 6,
+    LP_ENDS_WITH_BACKSLASH = 7,
+    LP_CANNOT_PARSE_ENTIRE_LINE = 8,
+    LP_TAG_SET_MALFORMED = 9,
+    LP_GENERIC_PARSING_ERROR = 10
+};
+
+/* On which side of its range a number lies. */
+enum lp_side { LP_NEITHER = 0, LP_ABOVE = 1, LP_BELOW = 2 };
+
+/* Bytes: UTF-8, with no NUL after them. */
+typedef struct lp_text { const uint8_t *at; size_t len; } lp_text;
+
+/* A text, and whether it is a copy without its escapes. */
+typedef struct lp_view { lp_text text; bool copied; } lp_view;
+
+/* Room for copies. A call takes what it uses off the front. */
+typedef struct lp_room { uint8_t *at; size_t len; } lp_room;
+
+/* A tag or a field. `kind`, of enum lp_kind, tells which of the values counts. */
+typedef struct lp_part {
+    lp_view key;
+    lp_view text;
+    int64_t integer;
+    uint64_t unsigned_integer;
+    uint32_t kind;
+    bool boolean;
+} lp_part;
+
+/* A line without its parts, or a fault. */
+typedef struct lp_line {
+    lp_text series;       /* the part of the input that holds the measurement and the tags */
+    lp_view measurement;
+    lp_text fault_text;   /* what the fault names, in the room */
+    size_t tags;          /* so many of the parts are tags: the first ones */
+    size_t fields;        /* and so many after them are fields */
+    size_t copied_len;    /* so many bytes of room are taken */
+    int64_t timestamp;    /* 0 where the line has none */
+    uint32_t fault;       /* of enum lp_fault_kind */
+    uint32_t side;        /* of enum lp_side, where the fault is that of a number */
+    bool has_tag_set;
+    bool has_timestamp;
+} lp_line;
+
+/* What is left of a text: a cursor. Copy it to come back to where it stood. */
+typedef struct lp_lines { lp_text rest; bool ended; bool strict; } lp_lines;
+
+/* How much was rebuilt. */
+typedef struct lp_counts {
+    size_t batch_len;  /* so many bytes the lines take that are written again */
+    size_t faults_len; /* so many bytes the lines of the faults take */
+    size_t carried;    /* so many lines are written again */
+    size_t refused;    /* so many items are refused */
+} lp_counts;
+
+#define LP_NO_TEXT { (const uint8_t *)"", 0 }
+#define LP_NO_VIEW { LP_NO_TEXT, false }
+#define LP_EMPTY_LINE { LP_NO_TEXT, LP_NO_VIEW, LP_NO_TEXT, 0, 0, 0, 0, 0, 0, false, false }
+#define LP_NO_LINES { LP_NO_TEXT, true, false }
+
+/* Empties parts that were never written. */
+static inline void lp_empty_parts(lp_part *parts, size_t len) {
+    const lp_part empty = { LP_NO_VIEW, LP_NO_VIEW, 0, 0, LP_TAG, false };
+    for (size_t i = 0; i < len; i++) parts[i] = empty;
+}
+
+/* The version of the library: 20000 is 2.0.0. */
+uint32_t lp_version(void);
+
+/* Begins to read a text of `len` bytes, by the rules of the strict dialect or else of the Rust crate.
+ * True: the text is UTF-8, and `lines` borrows it. False: it is not, and `lines` is as it was. */
+bool lp_lines_begin(const uint8_t *text, size_t len, bool strict, lp_lines *lines);
+
+/* Reads the next item, and passes it but for the two last answers.
+ * LP_LINE: `line` and its first `tags` + `fields` parts show all of it. LP_FAULT: `fault`, `side` and `fault_text` show it.
+ * LP_OUT_OF_MEMORY: this item is lost, and the next ones are not. LP_END: no item is left.
+ * LP_MORE_PARTS: lend `tags` + `fields` parts, LP_MORE_ROOM: lend `copied_len` bytes, and call again: `lines` is as it was. */
+uint32_t lp_lines_next(lp_lines *lines, lp_room *room, lp_line *line, lp_part *parts, size_t parts_len);
+
+/* Takes the next piece of the text, as the splitter cuts it, not parsed. False: none is left, and `lines` is as it was. */
+bool lp_lines_piece(lp_lines *lines, lp_view *piece);
+
+/* Writing. A line is handed in as it was read, or as you make it: `measurement`; `tags` and `fields`, with so many tags and
+ * then so many fields in `parts`, which may hold more; `has_tag_set`, which is set where there are tags; `timestamp`, where
+ * `has_timestamp` is set; `series` is used for a base alone. Each text must be UTF-8, and that of a float a literal: the calls
+ * test it. LP_NOT_A_LINE: a text, a kind or a count is not as it must be, or there is no field.
+ *
+ * Each call puts its text at the start of `out`, and `len` is how long it is: LP_WRITTEN. LP_MORE_ROOM: `out` is too short,
+ * and `len` is how much is needed. LP_NOT_A_LINE and LP_OUT_OF_MEMORY leave `len` as it was. Where nothing is put out, `out`
+ * is as it was. */
+
+/* The line as the builder writes it, with its newline. */
+uint32_t lp_line_write(const lp_line *line, const lp_part *parts, size_t parts_len, uint8_t *out, size_t room, size_t *len);
+
+/* The line as it is shown: strings have no quotes, and there is no newline. */
+uint32_t lp_line_show(const lp_line *line, const lp_part *parts, size_t parts_len, uint8_t *out, size_t room, size_t *len);
+
+/* The text that tells the series of the line from others; fields are not looked at. LP_FAULT: a key of the tags is repeated,
+ * and that key is put out. */
+uint32_t lp_line_base(const lp_line *line, const lp_part *parts, size_t parts_len, uint8_t *out, size_t room, size_t *len);
+
+/* Whether the line reads back where it is written: whether each of its names is admitted. LP_WRITTEN: `admitted` says so.
+ * With at most eight tags and four fields it takes no memory. */
+uint32_t lp_line_is_admitted(const lp_line *line, const lp_part *parts, size_t parts_len, bool *admitted);
+
+/* Writes each line of a text again, where all its names are admitted, into `batch`, and a line for each other item into
+ * `faults`. LP_WRITTEN, or LP_MORE_ROOM: one of the two is too short, both are as they were, and `counts` has both needs.
+ * LP_NOT_UTF8 and LP_OUT_OF_MEMORY leave `counts` as it was. */
+uint32_t lp_rebuild(bool strict, const uint8_t *text, size_t len, uint8_t *batch, size_t batch_room, uint8_t *faults,
+                    size_t faults_room, lp_counts *counts);
+
+#ifdef __cplusplus
+}
+#endif
+#endif
