@@ -133,7 +133,8 @@ bool lp_lines_piece(lp_lines *lines, lp_view *piece);
 
 /* Writing. A line is handed in as it was read, or as you make it: `measurement`; `tags` and `fields`, with so many tags and
  * then so many fields in `parts`, which may hold more; `has_tag_set`, which is set where there are tags; `timestamp`, where
- * `has_timestamp` is set; `series` is used for a base alone. Each text must be UTF-8, and that of a float a literal: the calls
+ * `has_timestamp` is set; `series` is used for a base alone, and then where no text is `copied`: say `copied` of the measurement
+ * of a line that you make. Each text must be UTF-8, and that of a float a literal: the calls
  * test it. LP_NOT_A_LINE: a text, a kind or a count is not as it must be, or there is no field.
  *
  * Each call puts its text at the start of `out`, and `len` is how long it is: LP_WRITTEN. LP_MORE_ROOM: `out` is too short,

@@ -1,7 +1,7 @@
 #!/usr/bin/env bash
-# Builds the static library of crates/lp_c, and two programs over it, watched by the address and undefined behaviour sanitizers;
-# compares what the example prints with example.out, and lets lending.c lend little and refuse memory. The header goes through a
-# C++ compiler too.
+# Builds the static library of crates/lp_c, and three programs over it, watched by the address and undefined behaviour sanitizers;
+# compares what the example prints with example.out, and lets lending.c read and writing.c write with little lent and memory
+# refused. The header goes through a C++ compiler too.
 set -eu
 here=$(cd "$(dirname "$0")" && pwd)
 top=$(dirname "$(dirname "$here")")
@@ -32,7 +32,13 @@ if ! lent=$("$built/lending"); then
     echo "c: what should come where little is lent did not come: $lent" >&2
     exit 1
 fi
-said="the example prints what it should; $lent"
+cc -std=c11 -Wall -Wextra -Wpedantic -Werror -g -fsanitize=address,undefined -fno-sanitize-recover=all -DLP_REFUSE \
+    -I"$top/include" "$here/writing.c" "$here/heap.c" "$top/crates/lp_c/out/liblp_c.a" -o "$built/writing"
+if ! written=$("$built/writing"); then
+    echo "c: what should be written was not: $written" >&2
+    exit 1
+fi
+said="the example prints what it should; $lent; $written"
 if command -v g++ >/dev/null; then
     printf '#include "influxdb_line_protocol.h"\nint main() { lp_part parts[2]; lp_empty_parts(parts, 2); return 0; }\n' \
         >"$built/header.cpp"

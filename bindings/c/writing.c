@@ -1,0 +1,109 @@
+/* Hands in lines and texts to be written into buffers of each length up to what they need; then refuses each request for memory
+ * in turn. Compile heap.c with -DLP_REFUSE. What must come is what the Rust crate gives. */
+#include "influxdb_line_protocol.h"
+#include <stdio.h>
+#include <stdlib.h>
+#include <string.h>
+
+extern long lp_refused, lp_requests;
+
+#define TEXT(s) { (const uint8_t *)(s), sizeof (s) - 1 }
+#define VIEW(s) { TEXT(s), false }
+
+static const char WRITTEN[] = "a\\ b\\,c,h\\,o=x\\ y\\=z,k=v i=-5i,u=7u,fl=1.5e3,s=\"a\\\"b\\\\\",t=true 99\n";
+static const char SHOWN[] = "a\\ b\\,c,h\\,o=x\\ y\\=z,k=v i=-5i,u=7u,fl=1.5e3,s=a\\\"b\\,t=true 99";
+static const char BASE[] = "a b,c,h,o=x y=z,k=v";
+
+static const lp_part PARTS[] = {
+    { VIEW("h,o"), VIEW("x y=z"), 0, 0, LP_TAG, false },    { VIEW("k"), VIEW("v"), 0, 0, LP_TAG, false },
+    { VIEW("i"), VIEW(""), -5, 0, LP_INTEGER, false },      { VIEW("u"), VIEW(""), 0, 7, LP_UNSIGNED, false },
+    { VIEW("fl"), VIEW("1.5e3"), 0, 0, LP_FLOAT, false },   { VIEW("s"), VIEW("a\"b\\"), 0, 0, LP_STRING, false },
+    { VIEW("t"), VIEW(""), 0, 0, LP_BOOLEAN, true },
+};
+/* It has no series text, so its measurement is said to be a copy: no base is a part of an input then. */
+static const lp_line LINE = { LP_NO_TEXT, { TEXT("a b,c"), true }, LP_NO_TEXT, 2, 5, 0, 99, 0, 0, true, true };
+
+typedef uint32_t writer(const lp_line *, const lp_part *, size_t, uint8_t *, size_t, size_t *);
+
+/* Each buffer is of just its length, so that the address sanitizer sees what is touched past it. */
+static bool writes(writer *write, const lp_line *line, const lp_part *parts, uint32_t wanted, const char *text, size_t len) {
+    bool good = true;
+    for (size_t room = 0; room <= len + 1; room++) {
+        uint8_t *out = malloc(room ? room : 1);
+        size_t told = 0;
+        memset(out, '~', room ? room : 1);
+        uint32_t answer = write(line, parts, 7, out, room, &told);
+        size_t put = room < len ? 0 : len;
+        good &= told == len && answer == (room < len ? LP_MORE_ROOM : wanted) && memcmp(out, text, put) == 0;
+        for (size_t at = put; at < room; at++) good &= out[at] == '~';
+        free(out);
+    }
+    return good;
+}
+
+/* Refuses each request in turn: nothing is written, and the length is as it was. How many there are. */
+static long refused(writer *write, size_t len, bool *good) {
+    uint8_t out[128];
+    size_t told = 0;
+    lp_requests = 0, lp_refused = -1;
+    *good &= write(&LINE, PARTS, 7, out, sizeof out, &told) == LP_WRITTEN && told == len;
+    long requests = lp_requests;
+    for (long at = 0; at < requests; at++) {
+        memset(out, '~', sizeof out);
+        lp_requests = 0, lp_refused = at, told = 77;
+        *good &= write(&LINE, PARTS, 7, out, sizeof out, &told) == LP_OUT_OF_MEMORY && told == 77;
+        for (size_t byte = 0; byte < sizeof out; byte++) *good &= out[byte] == '~';
+    }
+    lp_refused = -1;
+    return requests;
+}
+
+/* What is no line is refused, and what holds a name that would not read back is not admitted. */
+static bool is_tested(void) {
+    uint8_t out[64];
+    size_t told = 5;
+    bool admitted = false, good = lp_line_is_admitted(&LINE, PARTS, 7, &admitted) == LP_WRITTEN && admitted;
+    lp_line line = LINE;
+    line.fields = 0;
+    good &= lp_line_write(&line, PARTS, 7, out, sizeof out, &told) == LP_NOT_A_LINE && told == 5;
+    line = LINE;
+    line.fields = 6;
+    good &= lp_line_show(&line, PARTS, 7, out, sizeof out, &told) == LP_NOT_A_LINE;
+    line = LINE;
+    line.has_tag_set = false;
+    good &= lp_line_base(&line, PARTS, 7, out, sizeof out, &told) == LP_NOT_A_LINE;
+    line = LINE;
+    line.measurement.text = (lp_text){ (const uint8_t *)"\xff", 1 };
+    good &= lp_line_write(&line, PARTS, 7, out, sizeof out, &told) == LP_NOT_A_LINE;
+    line.measurement.text = (lp_text){ (const uint8_t *)"a\\", 2 };
+    return good && lp_line_is_admitted(&line, PARTS, 7, &admitted) == LP_WRITTEN && !admitted;
+}
+
+/* The second item has no field. */
+static bool is_rebuilt(void) {
+    static const char text[] = "m f=1i 5\nm f\n b,x=y  g=t\n", carried[] = "m f=1i 5\nb,x=y g=true\n";
+    static const char faulty[] = "item 2: No fields were provided\n";
+    uint8_t batch[64], faults[64];
+    lp_counts counts = { 0, 0, 0, 0 };
+    bool good = lp_rebuild(false, (const uint8_t *)text, sizeof text - 1, batch, 5, faults, 64, &counts) == LP_MORE_ROOM;
+    good &= counts.batch_len == sizeof carried - 1 && counts.faults_len == sizeof faulty - 1;
+    good &= lp_rebuild(true, (const uint8_t *)text, sizeof text - 1, batch, 64, faults, 64, &counts) == LP_WRITTEN;
+    good &= counts.carried == 2 && counts.refused == 1 && memcmp(batch, carried, counts.batch_len) == 0;
+    good &= memcmp(faults, faulty, counts.faults_len) == 0;
+    return good && lp_rebuild(false, (const uint8_t *)"\xff", 1, batch, 64, faults, 64, &counts) == LP_NOT_UTF8;
+}
+
+int main(void) {
+    lp_part repeated[7];
+    memcpy(repeated, PARTS, sizeof PARTS);
+    repeated[0].key = repeated[1].key;
+    bool good = writes(lp_line_write, &LINE, PARTS, LP_WRITTEN, WRITTEN, sizeof WRITTEN - 1);
+    good &= writes(lp_line_show, &LINE, PARTS, LP_WRITTEN, SHOWN, sizeof SHOWN - 1);
+    good &= writes(lp_line_base, &LINE, PARTS, LP_WRITTEN, BASE, sizeof BASE - 1);
+    good &= writes(lp_line_base, &LINE, repeated, LP_FAULT, "k", 1);
+    good &= is_tested() && is_rebuilt();
+    long requests = refused(lp_line_write, sizeof WRITTEN - 1, &good) + refused(lp_line_show, sizeof SHOWN - 1, &good);
+    requests += refused(lp_line_base, sizeof BASE - 1, &good);
+    printf("lines, bases and rebuilt texts written, each of %ld requests refused in turn\n", requests);
+    return !good;
+}
