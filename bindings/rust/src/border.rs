@@ -1,0 +1,224 @@
+//! The calls and the layouts of `include/influxdb_line_protocol.h`.
+use std::{alloc, marker::PhantomData};
+
+/// What a call answers.
+pub(crate) mod answer {
+    pub(crate) const END: u32 = 0;
+    pub(crate) const LINE: u32 = 1;
+    pub(crate) const FAULT: u32 = 2;
+    pub(crate) const MORE_PARTS: u32 = 3;
+    pub(crate) const MORE_ROOM: u32 = 4;
+    pub(crate) const OUT_OF_MEMORY: u32 = 5;
+    pub(crate) const WRITTEN: u32 = 7;
+}
+
+/// What a part is.
+pub(crate) mod kind {
+    pub(crate) const TAG: u32 = 0;
+    pub(crate) const INTEGER: u32 = 1;
+    pub(crate) const UNSIGNED: u32 = 2;
+    pub(crate) const FLOAT: u32 = 3;
+    pub(crate) const STRING: u32 = 4;
+    pub(crate) const BOOLEAN: u32 = 5;
+}
+
+/// A text that is borrowed, or that lies in a room.
+#[repr(C)]
+#[derive(Clone, Copy)]
+pub(crate) struct Text<'a> {
+    at: *const u8,
+    len: usize,
+    of: PhantomData<&'a str>,
+}
+
+// SAFETY: a text is a shared borrow of a `str`.
+unsafe impl Send for Text<'_> {}
+// SAFETY: a text is a shared borrow of a `str`.
+unsafe impl Sync for Text<'_> {}
+
+impl<'a> Text<'a> {
+    pub(crate) const EMPTY: Self = Self::new("");
+
+    pub(crate) const fn new(text: &'a str) -> Self {
+        Self { at: text.as_ptr(), len: text.len(), of: PhantomData }
+    }
+
+    /// The text.
+    ///
+    /// # Safety
+    ///
+    /// It was made by `new` or by the library, and what it lies in was not written or freed since.
+    #[inline]
+    pub(crate) unsafe fn get(self) -> &'a str {
+        // SAFETY: the library's texts are UTF-8, as those of `new` are.
+        unsafe { std::str::from_utf8_unchecked(std::slice::from_raw_parts(self.at, self.len)) }
+    }
+}
+
+/// A text, and whether it is a copy without its escapes.
+#[repr(C)]
+#[derive(Clone, Copy)]
+pub(crate) struct View<'a> {
+    pub(crate) text: Text<'a>,
+    pub(crate) copied: bool,
+}
+
+impl<'a> View<'a> {
+    pub(crate) const EMPTY: Self = Self::new("");
+
+    pub(crate) const fn new(text: &'a str) -> Self {
+        Self { text: Text::new(text), copied: false }
+    }
+}
+
+/// Room for copies.
+#[repr(C)]
+pub(crate) struct Room {
+    pub(crate) at: *mut u8,
+    pub(crate) len: usize,
+}
+
+/// A tag or a field.
+#[repr(C)]
+#[derive(Clone, Copy)]
+pub(crate) struct Part<'a> {
+    pub(crate) key: View<'a>,
+    pub(crate) text: View<'a>,
+    pub(crate) integer: i64,
+    pub(crate) unsigned: u64,
+    pub(crate) kind: u32,
+    pub(crate) boolean: bool,
+}
+
+impl Part<'_> {
+    pub(crate) const EMPTY: Self =
+        Part { key: View::EMPTY, text: View::EMPTY, integer: 0, unsigned: 0, kind: kind::TAG, boolean: false };
+}
+
+/// A line without its parts, or a fault.
+#[repr(C)]
+#[derive(Clone, Copy)]
+pub(crate) struct Line<'a> {
+    pub(crate) series: Text<'a>,
+    pub(crate) measurement: View<'a>,
+    pub(crate) fault_text: Text<'a>,
+    pub(crate) tags: usize,
+    pub(crate) fields: usize,
+    pub(crate) copied_len: usize,
+    pub(crate) timestamp: i64,
+    pub(crate) fault: u32,
+    pub(crate) side: u32,
+    pub(crate) has_tag_set: bool,
+    pub(crate) has_timestamp: bool,
+}
+
+impl Line<'_> {
+    pub(crate) const EMPTY: Self = Line {
+        series: Text::EMPTY,
+        measurement: View::EMPTY,
+        fault_text: Text::EMPTY,
+        tags: 0,
+        fields: 0,
+        copied_len: 0,
+        timestamp: 0,
+        fault: 0,
+        side: 0,
+        has_tag_set: false,
+        has_timestamp: false,
+    };
+}
+
+/// What is left of a text.
+#[repr(C)]
+#[derive(Clone, Copy)]
+pub(crate) struct Lines<'a> {
+    rest: Text<'a>,
+    ended: bool,
+    strict: bool,
+}
+
+impl<'a> Lines<'a> {
+    /// The cursor that `lp_lines_begin` fills for this text in the dialect of the Rust crate. A `str` is UTF-8, so the test
+    /// is left out.
+    pub(crate) fn of(text: &'a str) -> Self {
+        Self { rest: Text::new(text), ended: false, strict: false }
+    }
+}
+
+/// A call that puts a text out.
+pub(crate) type PutOut =
+    unsafe extern "C" fn(*const Line<'_>, *const Part<'_>, usize, *mut u8, usize, *mut usize) -> u32;
+
+extern "C" {
+    pub(crate) fn lp_lines_next<'a>(
+        lines: *mut Lines<'a>,
+        room: *mut Room,
+        line: *mut Line<'a>,
+        parts: *mut Part<'a>,
+        parts_len: usize,
+    ) -> u32;
+    pub(crate) fn lp_lines_piece<'a>(lines: *mut Lines<'a>, piece: *mut View<'a>) -> bool;
+    pub(crate) fn lp_line_write(
+        line: *const Line<'_>,
+        parts: *const Part<'_>,
+        parts_len: usize,
+        out: *mut u8,
+        room: usize,
+        len: *mut usize,
+    ) -> u32;
+    pub(crate) fn lp_line_show(
+        line: *const Line<'_>,
+        parts: *const Part<'_>,
+        parts_len: usize,
+        out: *mut u8,
+        room: usize,
+        len: *mut usize,
+    ) -> u32;
+    pub(crate) fn lp_line_base(
+        line: *const Line<'_>,
+        parts: *const Part<'_>,
+        parts_len: usize,
+        out: *mut u8,
+        room: usize,
+        len: *mut usize,
+    ) -> u32;
+}
+
+/// Ends as a refused request of the standard library does.
+#[cold]
+pub(crate) fn refuse_memory() -> ! {
+    alloc::handle_alloc_error(alloc::Layout::new::<Line<'_>>())
+}
+
+// What a call answers over this buffer, and the length that it tells.
+fn put_into(call: PutOut, line: &Line<'_>, parts: &[Part<'_>], out: &mut [u8]) -> (u32, usize) {
+    let mut len = 0;
+    // SAFETY: each pointer is that of a borrow, and `out` is apart from what is read.
+    let answer = unsafe { call(line, parts.as_ptr(), parts.len(), out.as_mut_ptr(), out.len(), &mut len) };
+    if answer == answer::OUT_OF_MEMORY {
+        refuse_memory()
+    }
+    (answer, len)
+}
+
+/// Hands on what `call` puts out, and its answer.
+pub(crate) fn put_out<T>(
+    call: PutOut,
+    line: &Line<'_>,
+    parts: &[Part<'_>],
+    take: impl FnOnce(u32, &[u8]) -> T,
+) -> T {
+    let mut small = [0; 256];
+    let (answer, len) = put_into(call, line, parts, &mut small);
+    if answer != answer::MORE_ROOM {
+        return take(answer, &small[..len]);
+    }
+    let mut large = vec![0; len];
+    let (answer, len) = put_into(call, line, parts, &mut large);
+    take(answer, &large[..len])
+}
+
+/// The text of what was put out.
+pub(crate) fn text_of(bytes: &[u8]) -> &str {
+    std::str::from_utf8(bytes).expect("the library puts out UTF-8")
+}

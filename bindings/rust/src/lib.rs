@@ -1,0 +1,23 @@
+//! [InfluxDB line protocol], read and written by a proved library: the names and the types of the crate
+//! `influxdb-line-protocol` 2.0.0 over the static library `lp_c`.
+//!
+//! - [`parse_lines`] reads a text line by line, [`split_lines`] cuts it.
+//! - [`LineProtocolBuilder`] writes lines.
+//!
+//! [InfluxDB line protocol]: https://docs.influxdata.com/influxdb/v2.0/reference/syntax/line-protocol
+#![warn(missing_docs, missing_debug_implementations, rust_2018_idioms)]
+
+mod border;
+pub mod builder;
+mod error;
+mod escaped;
+#[cfg(not(lp_heap))]
+mod heap;
+mod line;
+mod reading;
+
+pub use builder::LineProtocolBuilder;
+pub use error::{Error, Result};
+pub use escaped::EscapedStr;
+pub use line::{FieldSet, FieldValue, Measurement, ParsedLine, Series, TagSet};
+pub use reading::{parse_lines, split_lines};

@@ -1,0 +1,194 @@
+//! Lines that were read, and what is shown of them.
+use crate::border::{self, answer, kind, Line, Part, Text, View};
+use crate::{Error, EscapedStr, Result};
+use smallvec::SmallVec;
+use std::{borrow::Cow, fmt, mem};
+
+/// The name of what is measured.
+pub type Measurement<'a> = EscapedStr<'a>;
+
+/// The keys and values of the fields, in the order of the line.
+pub type FieldSet<'a> = SmallVec<[(EscapedStr<'a>, FieldValue<'a>); 4]>;
+
+/// The keys and values of the tags, in the order of the line.
+pub type TagSet<'a> = SmallVec<[(EscapedStr<'a>, EscapedStr<'a>); 8]>;
+
+/// A line that was read.
+#[derive(Debug)]
+pub struct ParsedLine<'a> {
+    /// The measurement and the tags.
+    pub series: Series<'a>,
+    /// The fields.
+    pub field_set: FieldSet<'a>,
+    /// The timestamp, if the line has one.
+    pub timestamp: Option<i64>,
+}
+
+/// The measurement and the tags of a line: what tells its series from others.
+#[derive(Debug)]
+pub struct Series<'a> {
+    pub(crate) raw_input: &'a str,
+    /// The measurement.
+    pub measurement: Measurement<'a>,
+    /// The tags, if the line has some.
+    pub tag_set: Option<TagSet<'a>>,
+}
+
+/// The value of a field.
+#[derive(Debug, Clone, PartialEq)]
+pub enum FieldValue<'a> {
+    /// An integer.
+    I64(i64),
+    /// An unsigned integer.
+    U64(u64),
+    /// A float.
+    F64(f64),
+    /// A string.
+    String(EscapedStr<'a>),
+    /// A Boolean.
+    Boolean(bool),
+}
+
+impl<'a> ParsedLine<'a> {
+    /// How many columns the line has: its tags, its fields and the timestamp, which counts even where it is left out.
+    ///
+    /// ```
+    /// let line = influxdb_line_protocol::parse_lines("m,k=v f=1i,g=t").next().unwrap().unwrap();
+    /// assert_eq!(line.column_count(), 4);
+    /// ```
+    pub fn column_count(&self) -> usize {
+        1 + self.field_set.len() + self.series.tag_set.as_ref().map_or(0, |tags| tags.len())
+    }
+
+    /// The value of the first tag with this key.
+    pub fn tag_value(&self, tag_key: &str) -> Option<&EscapedStr<'a>> {
+        let tags = self.series.tag_set.as_ref()?;
+        tags.iter().find(|(key, _)| *key == tag_key).map(|(_, value)| value)
+    }
+
+    /// The value of the first field with this key.
+    pub fn field_value(&self, field_key: &str) -> Option<&FieldValue<'a>> {
+        self.field_set.iter().find(|(key, _)| *key == field_key).map(|(_, value)| value)
+    }
+}
+
+impl FieldValue<'_> {
+    /// Whether both values are of the same type.
+    pub fn is_same_type(&self, other: &Self) -> bool {
+        mem::discriminant(self) == mem::discriminant(other)
+    }
+}
+
+fn view<'a>(text: &'a EscapedStr<'_>) -> View<'a> {
+    View { text: Text::new(text), copied: text.is_escaped() }
+}
+
+fn tag_part<'a>((key, value): &'a (EscapedStr<'_>, EscapedStr<'_>)) -> Part<'a> {
+    Part { key: view(key), text: view(value), ..Part::EMPTY }
+}
+
+// The text of a float, and none of any other value.
+fn float_text(value: &FieldValue<'_>) -> String {
+    match value {
+        FieldValue::F64(value) => value.to_string(),
+        _ => String::new(),
+    }
+}
+
+// A field that is to be shown. Strings are shown without quotes, so a float, which may be no literal, goes in as one.
+fn field_part<'a>(key: View<'a>, value: &'a FieldValue<'_>, float: &'a str) -> Part<'a> {
+    let part = Part { key, ..Part::EMPTY };
+    match value {
+        FieldValue::I64(value) => Part { kind: kind::INTEGER, integer: *value, ..part },
+        FieldValue::U64(value) => Part { kind: kind::UNSIGNED, unsigned: *value, ..part },
+        FieldValue::F64(_) => Part { kind: kind::STRING, text: View::new(float), ..part },
+        FieldValue::String(value) => Part { kind: kind::STRING, text: view(value), ..part },
+        FieldValue::Boolean(value) => Part { kind: kind::BOOLEAN, boolean: *value, ..part },
+    }
+}
+
+// Shows a line without so many bytes at its front and its end.
+fn show(f: &mut fmt::Formatter<'_>, line: &Line<'_>, parts: &[Part<'_>], front: usize, end: usize) -> fmt::Result {
+    border::put_out(border::lp_line_show, line, parts, |answer, bytes| match answer {
+        answer::WRITTEN => f.write_str(&border::text_of(bytes)[front..bytes.len() - end]),
+        _ => Err(fmt::Error),
+    })
+}
+
+impl<'a> Series<'a> {
+    // The line without fields, and its tags.
+    fn handed(&self) -> (Line<'_>, Vec<Part<'_>>) {
+        let tags: Vec<_> = self.tag_set.iter().flatten().map(tag_part).collect();
+        let line = Line {
+            series: Text::new(self.raw_input),
+            measurement: view(&self.measurement),
+            tags: tags.len(),
+            has_tag_set: self.tag_set.is_some(),
+            ..Line::EMPTY
+        };
+        (line, tags)
+    }
+
+    fn is_escaped(&self) -> bool {
+        let mut tags = self.tag_set.iter().flatten();
+        self.measurement.is_escaped() || tags.any(|(key, value)| key.is_escaped() || value.is_escaped())
+    }
+
+    /// The text that tells this series from others: its tags are sorted, and escapes are gone. A key that is repeated is an
+    /// error.
+    ///
+    /// ```
+    /// let line = influxdb_line_protocol::parse_lines("m,b=2,a=1 f=1i").next().unwrap().unwrap();
+    /// assert_eq!(line.series.generate_base().unwrap(), "m,a=1,b=2");
+    /// ```
+    pub fn generate_base(self) -> Result<Cow<'a, str>> {
+        let (line, tags) = self.handed();
+        border::put_out(border::lp_line_base, &line, &tags, |answer, bytes| {
+            let text = border::text_of(bytes);
+            match answer {
+                answer::WRITTEN if text == self.raw_input && !self.is_escaped() => Ok(Cow::Borrowed(self.raw_input)),
+                answer::WRITTEN => Ok(Cow::Owned(text.to_owned())),
+                answer::FAULT => Err(Error::DuplicateTag { tag_key: text.to_owned() }),
+                _ => unreachable!("a series was refused"),
+            }
+        })
+    }
+}
+
+/// Shown as line protocol.
+impl fmt::Display for Series<'_> {
+    fn fmt(&self, f: &mut fmt::Formatter<'_>) -> fmt::Result {
+        let (mut line, mut parts) = self.handed();
+        line.fields = 1;
+        parts.push(Part { key: View::new("f"), kind: kind::BOOLEAN, boolean: true, ..Part::EMPTY });
+        show(f, &line, &parts, 0, " f=true".len())
+    }
+}
+
+/// Shown as line protocol, but that strings have no quotes. A line that is made without fields is shown without them.
+impl fmt::Display for ParsedLine<'_> {
+    fn fmt(&self, f: &mut fmt::Formatter<'_>) -> fmt::Result {
+        if self.field_set.is_empty() {
+            write!(f, "{}", self.series)?;
+            return self.timestamp.map_or(Ok(()), |timestamp| write!(f, " {timestamp}"));
+        }
+        let (mut line, mut parts) = self.series.handed();
+        let floats: Vec<_> = self.field_set.iter().map(|(_, value)| float_text(value)).collect();
+        let fields = self.field_set.iter().zip(&floats);
+        parts.extend(fields.map(|((key, value), float)| field_part(view(key), value, float)));
+        line.fields = floats.len();
+        line.has_timestamp = self.timestamp.is_some();
+        line.timestamp = self.timestamp.unwrap_or(0);
+        show(f, &line, &parts, 0, 0)
+    }
+}
+
+/// Shown as line protocol, but that strings have no quotes.
+impl fmt::Display for FieldValue<'_> {
+    fn fmt(&self, f: &mut fmt::Formatter<'_>) -> fmt::Result {
+        let float = float_text(self);
+        let part = field_part(View::new("f"), self, &float);
+        let line = Line { measurement: View::new("m"), fields: 1, ..Line::EMPTY };
+        show(f, &line, &[part], "m f=".len(), 0)
+    }
+}

@@ -1,0 +1,219 @@
+//! The readers: what is read of a text, item by item.
+use crate::border::{self, answer, kind, Line, Lines, Part, Room, View};
+use crate::{Error, EscapedStr, FieldSet, FieldValue, ParsedLine, Result, Series, TagSet};
+use nom::error::ErrorKind;
+
+/// Reads each line of a text. Blank lines and comments are passed over; a line with a fault is an error, and the lines behind
+/// it are read.
+///
+/// ```
+/// use influxdb_line_protocol::{parse_lines, FieldValue};
+///
+/// let mut lines = parse_lines("cpu,host=A usage=64i 15\nno fields");
+/// let line = lines.next().unwrap().unwrap();
+/// assert_eq!(line.series.measurement, "cpu");
+/// assert_eq!(line.tag_value("host").unwrap(), &"A");
+/// assert_eq!(line.field_value("usage"), Some(&FieldValue::I64(64)));
+/// assert_eq!(line.timestamp, Some(15));
+/// assert_eq!(lines.next().unwrap().unwrap_err().to_string(), "No fields were provided");
+/// assert!(lines.next().is_none());
+/// ```
+pub fn parse_lines(input: &str) -> impl Iterator<Item = Result<ParsedLine<'_>>> {
+    ParseLines { lines: Lines::of(input), line: Line::EMPTY, parts: vec![Part::EMPTY; 16], room: vec![0; 256] }
+}
+
+/// Cuts a text into the pieces that hold one line each, which are not read. A newline within the quotes of a string is no end.
+///
+/// ```
+/// let pieces: Vec<_> = influxdb_line_protocol::split_lines("m f=\"a\nb\"\nm g=t").collect();
+/// assert_eq!(pieces, ["m f=\"a\nb\"", "m g=t"]);
+/// ```
+pub fn split_lines(input: &str) -> impl Iterator<Item = &str> {
+    let mut lines = Lines::of(input);
+    std::iter::from_fn(move || {
+        let mut piece = View::EMPTY;
+        // SAFETY: each pointer is that of a borrow; the pieces are parts of `input`.
+        unsafe { border::lp_lines_piece(&mut lines, &mut piece).then(|| piece.text.get()) }
+    })
+}
+
+// The memory that is lent, and what is left of the text.
+struct ParseLines<'a> {
+    lines: Lines<'a>,
+    line: Line<'a>,
+    parts: Vec<Part<'a>>,
+    room: Vec<u8>,
+}
+
+impl<'a> ParseLines<'a> {
+    fn next_into(&mut self) -> u32 {
+        let mut room = Room { at: self.room.as_mut_ptr(), len: self.room.len() };
+        let parts = self.parts.as_mut_ptr();
+        // SAFETY: each pointer is that of memory of this iterator, and these are apart; the text is UTF-8.
+        unsafe { border::lp_lines_next(&mut self.lines, &mut room, &mut self.line, parts, self.parts.len()) }
+    }
+
+    // Lends as much as the item takes, and at least twice what was lent. No part keeps a text of the room that goes.
+    #[cold]
+    fn lend_more(&mut self, answer: u32) {
+        if answer == answer::MORE_PARTS {
+            let wanted = (self.line.tags + self.line.fields).max(2 * self.parts.len());
+            self.parts.resize(wanted, Part::EMPTY);
+        } else {
+            let wanted = self.line.copied_len.max(2 * self.room.len());
+            self.line = Line::EMPTY;
+            self.parts.fill(Part::EMPTY);
+            self.room.resize(wanted, 0);
+        }
+    }
+
+    // The line that was read last, made where it is answered: so it is not inlined.
+    #[inline(never)]
+    fn item(&self) -> Option<Result<ParsedLine<'a>>> {
+        // SAFETY: the texts are parts of the input, or lie in the room, which was not written since.
+        let mut item = Some(Ok(unsafe { self.bare_line() }));
+        if let Some(Ok(line)) = &mut item {
+            // SAFETY: as above.
+            unsafe { self.put_parts(line) }
+        }
+        item
+    }
+
+    // The line that was read last, without its tags and fields.
+    //
+    // SAFETY: the room was not written since.
+    #[inline(always)]
+    unsafe fn bare_line(&self) -> ParsedLine<'a> {
+        let line = &self.line;
+        ParsedLine {
+            series: Series {
+                // SAFETY: by the caller.
+                raw_input: unsafe { line.series.get() },
+                // SAFETY: by the caller.
+                measurement: unsafe { escaped(&line.measurement) },
+                tag_set: None,
+            },
+            field_set: FieldSet::new(),
+            timestamp: line.has_timestamp.then_some(line.timestamp),
+        }
+    }
+
+    // Puts the tags and fields that were read last into their line.
+    //
+    // SAFETY: the room was not written since.
+    #[inline(always)]
+    unsafe fn put_parts(&self, line: &mut ParsedLine<'a>) {
+        let (tags, fields) = self.parts[..self.line.tags + self.line.fields].split_at(self.line.tags);
+        if self.line.has_tag_set {
+            let tag_set = line.series.tag_set.insert(TagSet::new());
+            for tag in tags {
+                // SAFETY: by the caller.
+                tag_set.push(unsafe { (escaped(&tag.key), escaped(&tag.text)) });
+            }
+        }
+        for field in fields {
+            // SAFETY: by the caller.
+            line.field_set.push(unsafe { (escaped(&field.key), value(field)) });
+        }
+    }
+
+    // The fault that was read last.
+    #[cold]
+    fn fault(&self) -> Error {
+        // SAFETY: the text lies in the room, which was not written since.
+        let value = unsafe { self.line.fault_text.get() }.to_owned();
+        match self.line.fault {
+            1 => Error::DuplicateTag { tag_key: value },
+            2 => Error::MeasurementValueInvalid,
+            3 => Error::FieldSetMissing,
+            4 => Error::IntegerValueInvalid { source: out_of_range(value.parse::<i64>()), value },
+            5 => Error::UIntegerValueInvalid { source: out_of_range(value.parse::<u64>()), value },
+            6 => Error::TimestampValueInvalid { source: out_of_range(value.parse::<i64>()), value },
+            7 => Error::EndsWithBackslash,
+            8 => Error::CannotParseEntireLine { trailing_content: value },
+            9 => Error::TagSetMalformed,
+            _ => Error::GenericParsingError { kind: ErrorKind::TakeWhile1, trace: vec![] },
+        }
+    }
+}
+
+impl<'a> Iterator for ParseLines<'a> {
+    type Item = Result<ParsedLine<'a>>;
+
+    fn next(&mut self) -> Option<Self::Item> {
+        loop {
+            match self.next_into() {
+                answer::LINE => return self.item(),
+                answer::FAULT => return Some(Err(self.fault())),
+                answer::END => return None,
+                more @ (answer::MORE_PARTS | answer::MORE_ROOM) => self.lend_more(more),
+                _ => border::refuse_memory(),
+            }
+        }
+    }
+}
+
+fn out_of_range<T, E>(read: std::result::Result<T, E>) -> E {
+    match read {
+        Ok(_) => unreachable!("a number in its range was refused"),
+        Err(source) => source,
+    }
+}
+
+/// # Safety
+///
+/// As of [`Text::get`](border::Text::get); a text that is no copy lives for `'a`.
+#[inline(always)]
+unsafe fn escaped<'a>(view: &View<'a>) -> EscapedStr<'a> {
+    // SAFETY: by the caller.
+    let text = unsafe { view.text.get() };
+    if view.copied {
+        EscapedStr::CopiedValue(text.to_owned())
+    } else {
+        EscapedStr::SingleSlice(text)
+    }
+}
+
+/// # Safety
+///
+/// As of [`escaped`].
+#[inline(always)]
+unsafe fn value<'a>(field: &Part<'a>) -> FieldValue<'a> {
+    match field.kind {
+        kind::INTEGER => FieldValue::I64(field.integer),
+        kind::UNSIGNED => FieldValue::U64(field.unsigned),
+        // SAFETY: by the caller.
+        kind::FLOAT => FieldValue::F64(float(unsafe { field.text.text.get() })),
+        // SAFETY: by the caller.
+        kind::STRING => FieldValue::String(unsafe { escaped(&field.text) }),
+        _ => FieldValue::Boolean(field.boolean),
+    }
+}
+
+// The number that a literal spells.
+fn float(literal: &str) -> f64 {
+    decimal(literal.as_bytes())
+        .unwrap_or_else(|| literal.parse().expect("a literal that is read as a float is one"))
+}
+
+// The same, where both its digits as an integer and the power of ten that divides them are exact: then so is the rounding.
+fn decimal(literal: &[u8]) -> Option<f64> {
+    const DIGITS: usize = 15;
+    const TENS: [f64; DIGITS + 1] =
+        [1e0, 1e1, 1e2, 1e3, 1e4, 1e5, 1e6, 1e7, 1e8, 1e9, 1e10, 1e11, 1e12, 1e13, 1e14, 1e15];
+    let digits = literal.strip_prefix(b"-").unwrap_or(literal);
+    if digits.len() > DIGITS {
+        return None;
+    }
+    let mut number = 0;
+    let mut fraction = 0;
+    for (place, &byte) in digits.iter().enumerate() {
+        match byte {
+            b'0'..=b'9' => number = 10 * number + i64::from(byte - b'0'),
+            b'.' => fraction = digits.len() - 1 - place,
+            _ => return None,
+        }
+    }
+    let positive = number as f64 / TENS[fraction];
+    Some(if digits.len() < literal.len() { -positive } else { positive })
+}

@@ -1,0 +1,81 @@
+#!/usr/bin/env bash
+# Runs the tests of this crate; and, where ORIGINAL names a folder with the source of the original crate, that crate's own
+# tests and the examples of its documentation too, over this one: in a copy, so that nothing of them is left here.
+#
+# ORIGINAL: files of any name below it count: a test module is what follows `#[cfg(test)]` in one of them.
+# LP_LIB_DIR: the folder of liblp_c.a, crates/lp_c/out by default.
+# CARGO_FLAGS: more words for cargo, as where the crates lie if crates.io is out of reach.
+set -eu
+here=$(cd "$(dirname "$0")" && pwd)
+export LP_LIB_DIR=${LP_LIB_DIR:-$here/../../crates/lp_c/out}
+LP_LIB_DIR=$(cd "$LP_LIB_DIR" && pwd)
+if ! command -v cargo >/dev/null; then
+    echo "rust: there is no cargo here, so nothing was tried"
+    exit 0
+fi
+built=$(mktemp -d)
+trap 'rm -rf "$built"' EXIT
+export CARGO_TARGET_DIR=${CARGO_TARGET_DIR:-$built/target}
+# Cargo writes its lock file beside the crate, so the crate is copied.
+mkdir "$built/crate"
+cp -r "$here"/{Cargo.toml,build.rs,src,tests,examples,original} "$built/crate/"
+
+# Runs `cargo test` with these words in the copy, and tells how many tests passed.
+try() {
+    # shellcheck disable=SC2086
+    if ! (cd "$built/crate" && cargo test ${CARGO_FLAGS:-} "$@") >"$built/log" 2>&1; then
+        cat "$built/log" >&2
+        echo "rust: a test failed" >&2
+        exit 1
+    fi
+    awk '/^test result: ok/ { passed += $4 } END { print passed + 0 }' "$built/log"
+}
+
+# The test module of this name, of the file below ORIGINAL that has it.
+take_tests() {
+    find "$ORIGINAL" -type f -print0 | sort -z | xargs -0 awk -v first="mod $1 {" '
+        FNR == 1 && found { exit }
+        FNR == 1 { marked = 0 }
+        found { print; next }
+        marked && $0 == first { found = 1; print "#[cfg(test)]"; print; next }
+        { marked = $0 == "#[cfg(test)]" }'
+}
+
+# The examples in the documentation of the files below ORIGINAL.
+take_examples() {
+    find "$ORIGINAL" -type f \( -name '*.rs' -o -name '*.rs.txt' \) -print0 | sort -z | xargs -0 awk '
+        !sub(/^ *\/\/[\/!] ?/, "") { next }
+        /^```/ { print; inside = !inside; next }
+        inside { print }'
+}
+
+own=$(try)
+said="$own own tests passed"
+if [ -z "${ORIGINAL:-}" ]; then
+    echo "rust: $said; ORIGINAL names no folder, so the original crate's were not tried"
+    exit 0
+fi
+crate=$built/crate
+rm -r "$crate/tests" "$crate/examples"
+printf '\n[dev-dependencies]\ntest_helpers = { path = "original/test_helpers" }\n' >>"$crate/Cargo.toml"
+cp "$crate/original/shims.rs" "$crate/src/"
+take_tests test >"$built/reading.rs"
+take_tests tests >"$built/building.rs"
+take_examples >"$crate/src/examples.md"
+{
+    printf '#[cfg(test)]\nmod shims;\n#[cfg(test)]\nuse shims::*;\n'
+    cat "$built/reading.rs"
+} >>"$crate/src/lib.rs"
+{
+    printf '#[cfg(test)]\nuse crate::shims::{escape, DOUBLE_QUOTE};\n'
+    cat "$built/building.rs"
+} >>"$crate/src/builder.rs"
+theirs=$(try --lib)
+printf '#[cfg(doctest)]\n#[doc = include_str!("examples.md")]\npub struct Examples;\n' >>"$crate/src/lib.rs"
+examples=$(try --doc Examples)
+wanted=$(cat "$built/reading.rs" "$built/building.rs" | grep -c '#\[test\]' || true)
+if [ "$theirs" -ne "$wanted" ] || [ "$wanted" -eq 0 ]; then
+    echo "rust: $theirs of the original crate's $wanted tests were run" >&2
+    exit 1
+fi
+echo "rust: $said; so did the original crate's $theirs tests and the $examples examples of its documentation"

@@ -1,0 +1,112 @@
+//! What is read, where the original crate's tests look less closely.
+use influxdb_line_protocol::{parse_lines, split_lines, Error, EscapedStr, FieldValue, ParsedLine};
+use std::{borrow::Cow, error::Error as _, thread};
+
+fn line(text: &str) -> ParsedLine<'_> {
+    parse_lines(text).next().expect("there is an item").expect("it is a line")
+}
+
+fn fault(text: &str) -> Error {
+    parse_lines(text).next().expect("there is an item").expect_err("it is a fault")
+}
+
+fn float(literal: &str) -> f64 {
+    match line(&format!("m f={literal}")).field_set[0].1 {
+        FieldValue::F64(value) => value,
+        _ => panic!("{literal} is no float"),
+    }
+}
+
+#[test]
+fn floats_are_those_of_the_standard_library() {
+    let mut state = 1u64;
+    for round in 0..20_000usize {
+        state = state.wrapping_mul(6364136223846793005).wrapping_add(1442695040888963407);
+        let digits = (state >> 11).to_string();
+        let (whole, fraction) = digits.split_at(1 + round % (digits.len() - 1));
+        let fraction = &fraction[..fraction.len().min(round % 17 + 1)];
+        for literal in [format!("{whole}.{fraction}"), format!("-{whole}.{fraction}"), format!("{whole}.{fraction}e-{}", round % 40)] {
+            assert_eq!(float(&literal).to_bits(), literal.parse::<f64>().unwrap().to_bits(), "{literal}");
+        }
+    }
+}
+
+#[test]
+fn floats_at_the_edges() {
+    for literal in ["0", "-0", "-0.0", "0.0", "999999999999999", "1000000000000000", "0.000000000000001", "1e400", "5e-324"] {
+        assert_eq!(float(literal).to_bits(), literal.parse::<f64>().unwrap().to_bits(), "{literal}");
+    }
+}
+
+#[test]
+fn more_parts_and_more_room_than_are_lent_at_first() {
+    let long = "a\\ ".repeat(1000);
+    let tags: String = (0..300).map(|n| format!(",k{n}\\ =v{n}\\ ")).collect();
+    let fields: Vec<_> = (0..300).map(|n| format!("f{n}=\"\\\"{n}\"")).collect();
+    let text = format!("m f=1i\n{long}x{tags} {} 7\nm f=2i", fields.join(","));
+    let lines: Vec<_> = parse_lines(&text).map(Result::unwrap).collect();
+    assert_eq!(lines.len(), 3);
+    assert_eq!(lines[1].series.measurement, long.replace('\\', "") + "x");
+    assert_eq!(lines[1].column_count(), 601);
+    assert_eq!(lines[1].tag_value("k299 ").unwrap(), &"v299 ");
+    assert_eq!(lines[1].field_value("f299"), Some(&FieldValue::String(EscapedStr::CopiedValue("\"299".into()))));
+    assert_eq!((lines[1].timestamp, lines[2].timestamp), (Some(7), None));
+}
+
+#[test]
+fn parts_of_the_input_outlive_the_iterator() {
+    let text = String::from("m,k=v s=\"t\"");
+    let read = { parse_lines(&text).next() }.unwrap().unwrap();
+    let (key, _) = &read.series.tag_set.as_ref().unwrap()[0];
+    assert!(matches!(key, EscapedStr::SingleSlice("k")));
+    assert_eq!(key.as_ptr(), text[2..].as_ptr());
+}
+
+#[test]
+fn faults_say_what_they_name() {
+    let above = fault("m f=9223372036854775808i");
+    assert_eq!(above.to_string(), "Unable to parse integer value '9223372036854775808'");
+    assert_eq!(above.source().unwrap().to_string(), "number too large to fit in target type");
+    let below = fault("m f=1i -9223372036854775809");
+    assert_eq!(below.source().unwrap().to_string(), "number too small to fit in target type");
+    assert!(matches!(fault("m f=1i x"), Error::CannotParseEntireLine { trailing_content } if trailing_content == " x"));
+    assert!(matches!(fault("m"), Error::GenericParsingError { kind: nom::error::ErrorKind::TakeWhile1, .. }));
+}
+
+#[test]
+fn bases_are_borrowed_where_nothing_changes() {
+    assert!(matches!(line("m,a=1,b=2 f=1i").series.generate_base(), Ok(Cow::Borrowed("m,a=1,b=2"))));
+    assert!(matches!(line("m\\x,a=1 f=1i").series.generate_base(), Ok(Cow::Owned(base)) if base == "m\\x,a=1"));
+    assert!(matches!(line("m,b=2,a=1 f=1i").series.generate_base(), Ok(Cow::Owned(base)) if base == "m,a=1,b=2"));
+    let repeated = line("m,b=2,a=1,b=3 f=1i").series.generate_base();
+    assert!(matches!(repeated, Err(Error::DuplicateTag { tag_key }) if tag_key == "b"));
+}
+
+#[test]
+fn lines_that_are_no_line_protocol_are_shown() {
+    let mut read = line("m\\ n,k=a\\,b f=1e999,g=\"q\\\"\" 5");
+    assert_eq!(read.to_string(), "m\\ n,k=a\\,b f=inf,g=q\\\" 5");
+    read.field_set.clear();
+    assert_eq!(read.to_string(), "m\\ n,k=a\\,b 5");
+    assert_eq!(FieldValue::F64(f64::NAN).to_string(), "NaN");
+}
+
+#[test]
+fn the_end_stays_the_end() {
+    let mut lines = parse_lines("# nothing\n\n");
+    assert!(lines.next().is_none() && lines.next().is_none());
+    let mut pieces = split_lines("");
+    assert_eq!((pieces.next(), pieces.next(), pieces.next()), (Some(""), None, None));
+}
+
+#[test]
+fn iterators_and_lines_go_to_other_threads() {
+    let text = "m,k=v f=1i\nm\\ n,k=v f=2i";
+    thread::scope(|scope| {
+        let mut lines = parse_lines(text);
+        let first = lines.next().unwrap().unwrap();
+        let rest = scope.spawn(move || lines.map(|line| line.unwrap().to_string()).collect::<Vec<_>>());
+        assert_eq!(rest.join().unwrap(), ["m\\ n,k=v f=2i"]);
+        assert_eq!(scope.spawn(move || first.column_count()).join().unwrap(), 3);
+    });
+}
