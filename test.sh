@@ -20,4 +20,5 @@ rm -f "$told"
 
 checks/differential.sh
 bindings/c/test.sh
+bindings/python/test.sh
 exec rt ci

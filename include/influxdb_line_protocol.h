@@ -93,6 +93,9 @@ typedef struct lp_line {
     bool has_timestamp;
 } lp_line;
 
+/* An item of a block: `answer` is LP_LINE, LP_FAULT or LP_OUT_OF_MEMORY, and the parts of a line begin at `parts_at`. */
+typedef struct lp_row { lp_line line; size_t parts_at; uint32_t answer; } lp_row;
+
 /* What is left of a text: a cursor. Copy it to come back to where it stood. */
 typedef struct lp_lines { lp_text rest; bool ended; bool strict; } lp_lines;
 
@@ -107,6 +110,7 @@ typedef struct lp_counts {
 #define LP_NO_TEXT { (const uint8_t *)"", 0 }
 #define LP_NO_VIEW { LP_NO_TEXT, false }
 #define LP_EMPTY_LINE { LP_NO_TEXT, LP_NO_VIEW, LP_NO_TEXT, 0, 0, 0, 0, 0, 0, false, false }
+#define LP_EMPTY_ROW { LP_EMPTY_LINE, 0, 0 }
 #define LP_NO_LINES { LP_NO_TEXT, true, false }
 
 /* Empties parts that were never written. */
@@ -127,6 +131,12 @@ bool lp_lines_begin(const uint8_t *text, size_t len, bool strict, lp_lines *line
  * LP_OUT_OF_MEMORY: this item is lost, and the next ones are not. LP_END: no item is left.
  * LP_MORE_PARTS: lend `tags` + `fields` parts, LP_MORE_ROOM: lend `copied_len` bytes, and call again: `lines` is as it was. */
 uint32_t lp_lines_next(lp_lines *lines, lp_room *room, lp_line *line, lp_part *parts, size_t parts_len);
+
+/* Reads items into rows, as lp_lines_next does, as long as rows, parts and room last: `filled` is how many rows were filled.
+ * LP_LINE: all of them. LP_END: no item is left. LP_MORE_PARTS, LP_MORE_ROOM: the next item takes more than is left: the row
+ * after the filled ones says how much, as for lp_lines_next, and `lines` stands before that item. Begin with LP_EMPTY_ROW. */
+uint32_t lp_lines_block(lp_lines *lines, lp_room *room, lp_row *rows, size_t rows_len, lp_part *parts, size_t parts_len,
+                        size_t *filled);
 
 /* Takes the next piece of the text, as the splitter cuts it, not parsed. False: none is left, and `lines` is as it was. */
 bool lp_lines_piece(lp_lines *lines, lp_view *piece);

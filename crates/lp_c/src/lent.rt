@@ -1,6 +1,6 @@
 //! What is read is put into what the caller lends.
 
-ghost use Rattle.std.specs.Prelude.{◌≡◌, ◌+◌, ◌≤◌, ◌-◌, ◌^◌, drop, length, map, min, take, None, Some, MatchOption};
+ghost use Rattle.std.specs.Prelude.{◌≡◌, ◌≢◌, ◌+◌, ◌≤◌, ◌-◌, ◌^◌, drop, length, map, min, take, None, Some, MatchOption};
 ghost use Rattle.std.specs.List.{sum_by};
 ghost use Rattle.influxdb_line_protocol.specs.code.Parsed.{field_of, line_read, tag_of, value_of};
 ghost use Rattle.influxdb_line_protocol.specs.code.Texts.{read_of};
@@ -8,6 +8,7 @@ ghost use Rattle.influxdb_line_protocol.specs.format.Lines.{some_tags};
 ghost use Rattle.lp_c.specs.Crossing.{copied_field, copied_in, copied_tag, copied_text, copied_value};
 ghost use Rattle.influxdb_line_protocol.specs.code.Lookups.{some_items};
 ghost use Rattle.lp_c.specs.Crossing.{field_shown, tag_shown, text_shown, fault_seen, side_of};
+ghost use Rattle.lp_c.specs.Numbers.{answer_number};
 ghost use Rattle.lp_c.specs.Crossing.{AnswersFault, AnswersLine, CountsLine, ShowsLine};
 
 use crate::views::{Answer, FaultKind, Kind, Line, Part, Room, Side, View};
@@ -247,6 +248,7 @@ pub fn put_line<'a>(
 ) -> Answer
     ensures counts { CountsLine (line_read parsed.now) line.new }
     ensures answers { AnswersLine (line_read parsed.now) (length room.old.bytes.now) result line.new parts.new }
+    ensures fits { answer_number result ≡ 1 → line.new.tags + line.new.fields ≤ length parts.new }
 {
     count(parsed, line);
     line.fault = FaultKind::None.number();
@@ -316,7 +318,8 @@ fn fault_seen(error: &Error) -> Option<(FaultKind, Side, &str)>
 #[cold]
 #[inline(never)]
 pub fn put_fault<'a>(error: &Error, room: &mut Room<'a>, line: &mut Line<'a>) -> Answer
-    ensures { AnswersFault (fault_seen error.now) (length room.old.bytes.now) result line.new }
+    ensures answers { AnswersFault (fault_seen error.now) (length room.old.bytes.now) result line.new }
+    ensures not_a_line { answer_number result ≢ 1 }
 {
     let Some((kind, side, text)) = fault_seen(error) else {
         return Answer::OutOfMemory;

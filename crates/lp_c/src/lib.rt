@@ -4,6 +4,7 @@
 //! texts of it are parts of the input or of the lent room. No call keeps anything, ends the program or calls back.
 #![tactic(auto)]
 
+mod blocks;
 mod handed;
 mod lent;
 mod reading;

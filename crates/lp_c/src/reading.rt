@@ -1,7 +1,8 @@
 //! The calls that read.
 
-ghost use Rattle.std.specs.Prelude.{◌≡◌, ◌↔◌, length, IsFalse, IsTrue, IsUtf8, Some, option_map};
+ghost use Rattle.std.specs.Prelude.{◌≡◌, ◌≤◌, ◌+◌, ◌↔◌, length, IsFalse, IsTrue, IsUtf8, Some, option_map};
 ghost use Rattle.influxdb_line_protocol.specs.code.ParseSteps.{GivesItem};
+ghost use Rattle.lp_c.specs.Numbers.{answer_number};
 ghost use Rattle.lp_c.specs.Crossing.{AnswersItem, GivesView, ReadsItem, dialect_of, left_of};
 
 use crate::lent::{put_fault, put_line};
@@ -85,13 +86,36 @@ fn put_item<'a>(
     line: &mut Line<'a>,
     parts: &mut [Part<'a>],
 ) -> Answer
-    ensures { AnswersItem item.now (length room.old.bytes.now) result line.new parts.new }
+    ensures answers { AnswersItem item.now (length room.old.bytes.now) result line.new parts.new }
+    ensures fits { answer_number result ≡ 1 → line.new.tags + line.new.fields ≤ length parts.new }
 {
     match item {
         None => Answer::End,
         Some(Ok(parsed)) => put_line(parsed, room, line, parts),
         Some(Err(error)) => put_fault(error, room, line),
     }
+}
+
+// Reads the next item into what the caller lends.
+pub(crate) fn read_next<'a>(
+    alloc: Global,
+    lines: &mut Lines<'a>,
+    room: &mut Room<'a>,
+    line: &mut Line<'a>,
+    parts: &mut [Part<'a>],
+) -> u32
+    requires { IsUtf8 lines.old.rest.now }
+    ensures text { IsUtf8 lines.new.rest.now }
+    ensures reads { ∥ ReadsItem lines.old (length room.old.bytes.now) result line.new parts.new lines.new ∥₁ }
+    ensures fits { result ≡ 1 → line.new.tags + line.new.fields ≤ length parts.new }
+{
+    let mut passed = *lines;
+    let item = take_item(alloc, &mut passed);
+    let answer = put_item(&item, room, line, parts);
+    if !answer.is_more() {
+        *lines = passed;
+    }
+    answer.number()
 }
 
 /// Reads the next item into what the caller lends, and answers the number of an [`Answer`].
@@ -110,13 +134,7 @@ pub extern "C" fn lp_lines_next<'a>(
     ensures text { IsUtf8 lines.new.rest.now }
     ensures reads { ∥ ReadsItem lines.old (length room.old.bytes.now) result line.new parts.new lines.new ∥₁ }
 {
-    let mut passed = *lines;
-    let item = take_item(alloc, &mut passed);
-    let answer = put_item(&item, room, line, parts);
-    if !answer.is_more() {
-        *lines = passed;
-    }
-    answer.number()
+    read_next(alloc, lines, room, line, parts)
 }
 
 /// Takes the next piece off what is left, not parsed, and says whether there was one.

@@ -1,0 +1,103 @@
+"""The shared library, and the layouts of include/influxdb_line_protocol.h."""
+
+from __future__ import annotations
+
+import ctypes
+import os
+from pathlib import Path
+from struct import Struct
+from typing import Union
+
+FILE = "libinfluxdb_line_protocol.so"
+
+# enum lp_answer
+END, LINE, FAULT, MORE_PARTS, MORE_ROOM, OUT_OF_MEMORY, NOT_A_LINE, WRITTEN, NOT_UTF8 = range(9)
+# enum lp_kind
+TAG, INTEGER, UNSIGNED, FLOAT, STRING, BOOLEAN = range(6)
+
+# key, text: address, length, copied; integer, unsigned_integer, kind, boolean
+PART_LAYOUT = Struct("@QQ?7xQQ?7xqQI?3x")
+# series; measurement; fault_text; tags, fields, copied_len, timestamp, fault, side, has_tag_set, has_timestamp
+LINE_LAYOUT = Struct("@QQQQ?7xQQQQQqII??6x")
+# where `tags` stands in a line, and `copied_len`
+COUNTS_LAYOUT, COUNTS_AT = Struct("@QQQ"), 56
+
+
+class Text(ctypes.Structure):
+    """struct lp_text, and struct lp_room."""
+
+    _fields_ = [("at", ctypes.c_void_p), ("len", ctypes.c_size_t)]
+
+
+class View(ctypes.Structure):
+    """struct lp_view."""
+
+    _fields_ = [("text", Text), ("copied", ctypes.c_bool)]
+
+
+class Lines(ctypes.Structure):
+    """struct lp_lines."""
+
+    _fields_ = [("rest", Text), ("ended", ctypes.c_bool), ("strict", ctypes.c_bool)]
+
+
+class Counts(ctypes.Structure):
+    """struct lp_counts."""
+
+    _fields_ = [(name, ctypes.c_size_t) for name in ("batch_len", "faults_len", "carried", "refused")]
+
+
+def _path() -> str:
+    here = Path(__file__).resolve().parent
+    named = os.environ.get("INFLUXDB_LINE_PROTOCOL_LIBRARY")
+    places = [Path(named)] if named else [here / FILE, here.parent.parent / "out" / FILE]
+    for place in places:
+        if place.is_file():
+            return str(place)
+    raise ImportError(f"no shared library at {' or '.join(map(str, places))}: bindings/build.sh makes it")
+
+
+def _load() -> ctypes.CDLL:
+    library = ctypes.CDLL(_path())
+    at, size, flag = ctypes.c_void_p, ctypes.c_size_t, ctypes.c_bool
+    out = [at, at, size, at, size, at]
+    for name, parameters, result in [
+        ("lp_lines_begin", [at, size, flag, at], flag),
+        ("lp_lines_next", [at, at, at, at, size], ctypes.c_uint32),
+        ("lp_lines_piece", [at, at], flag),
+        ("lp_line_write", out, ctypes.c_uint32),
+        ("lp_line_show", out, ctypes.c_uint32),
+        ("lp_line_base", out, ctypes.c_uint32),
+        ("lp_line_is_admitted", [at, at, size, at], ctypes.c_uint32),
+        ("lp_rebuild", [flag, at, size, at, size, at, size, at], ctypes.c_uint32),
+    ]:
+        call = getattr(library, name)
+        call.argtypes, call.restype = parameters, result
+    return library
+
+
+LIBRARY = _load()
+_NOTHING = ctypes.create_string_buffer(1)
+NOWHERE = ctypes.addressof(_NOTHING)
+
+EMPTY_PART = PART_LAYOUT.pack(NOWHERE, 0, False, NOWHERE, 0, False, 0, 0, TAG, False)
+EMPTY_LINE = LINE_LAYOUT.pack(NOWHERE, 0, NOWHERE, 0, False, NOWHERE, 0, 0, 0, 0, 0, 0, 0, False, False)
+
+
+def encoded(text: Union[str, bytes]) -> bytes:
+    """The bytes of a text."""
+    return text.encode() if isinstance(text, str) else bytes(text)
+
+
+def address(data: bytes) -> int:
+    """Where bytes lie. They must be kept as long as the address is used."""
+    return ctypes.cast(ctypes.c_char_p(data), ctypes.c_void_p).value or NOWHERE
+
+
+def begin(data: bytes, strict: bool) -> Lines:
+    """A cursor at the start of a text; UnicodeDecodeError where the text is no UTF-8."""
+    lines = Lines(Text(NOWHERE, 0), True, False)
+    if not LIBRARY.lp_lines_begin(address(data), len(data), strict, ctypes.byref(lines)):
+        data.decode()
+        raise ValueError("the text is no UTF-8")
+    return lines

@@ -1,0 +1,44 @@
+"""Requests for memory that are refused, one in turn. LP_REFUSED_LIBRARY names a shared library that has heap.c with LP_REFUSE."""
+
+import os
+import subprocess
+import sys
+
+import pytest
+
+PROGRAM = r"""
+import ctypes
+import line_protocol
+from line_protocol import library
+
+refused, requests = (ctypes.c_long.in_dll(library.LIBRARY, name) for name in ("lp_refused", "lp_requests"))
+line = line_protocol.Line("m", [("t", "a b")], [("f", 1)])
+for call in (
+    lambda: list(line_protocol.parse('a\\ b,h\\ =x f=1i\nm f=99999999999999999999i\nlast f=1')),
+    lambda: line_protocol.write(line),
+    lambda: line_protocol.base(line),
+    lambda: line_protocol.rebuild('m f=1i\nm f'),
+):
+    refused.value, requests.value = -1, 0
+    call()
+    count = requests.value
+    assert count
+    for at in range(count):
+        refused.value, requests.value = at, 0
+        try:
+            call()
+        except MemoryError:
+            continue
+        raise AssertionError(f"request {at} was refused, and nothing was said")
+print("refused")
+"""
+
+
+def test_each_request_refused_in_turn():
+    library = os.environ.get("LP_REFUSED_LIBRARY")
+    if not library:
+        pytest.skip("LP_REFUSED_LIBRARY names no library")
+    said = subprocess.run(
+        [sys.executable, "-c", PROGRAM], env={**os.environ, "INFLUXDB_LINE_PROTOCOL_LIBRARY": library},
+        capture_output=True, text=True, check=False)
+    assert (said.returncode, said.stdout) == (0, "refused\n"), said.stderr

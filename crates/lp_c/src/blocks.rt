@@ -1,0 +1,92 @@
+//! Many items in one call, for callers to whom a call is dear.
+
+ghost use Rattle.std.specs.Prelude.{◌≡◌, ◌≤◌, ◌+◌, drop, length, take, IsUtf8};
+ghost use Rattle.lp_c.specs.Blocks.{ReadsBlock, is_item, parts_of};
+ghost use Rattle.lp_c.specs.Crossing.{ReadsItem};
+
+use crate::reading::read_next;
+use crate::views::{Answer, Line, Lines, Part, Room};
+use std::alloc::Global;
+
+/// An item, and where its parts begin.
+#[repr(C)]
+#[derive(Clone, Copy)]
+pub struct Row<'a> {
+    /// The line, or the fault.
+    pub line: Line<'a>,
+    /// How many parts those before it have.
+    pub parts_at: usize,
+    /// The number of the [`Answer`] for the item.
+    pub answer: u32,
+}
+
+// Whether an answer is for an item that was passed.
+fn is_item(answer: u32) -> bool
+    ensures { result ≡ is_item answer }
+{
+    answer == Answer::Line.number()
+        || answer == Answer::Fault.number()
+        || answer == Answer::OutOfMemory.number()
+}
+
+// Reads the next item into a row, with its parts from `used` on, and gives its answer and how many parts it has.
+fn read_row<'a>(
+    alloc: Global,
+    lines: &mut Lines<'a>,
+    room: &mut Room<'a>,
+    row: &mut Row<'a>,
+    parts: &mut [Part<'a>],
+    used: usize,
+) -> (u32, usize)
+    requires text { IsUtf8 lines.old.rest.now }
+    requires used { used ≤ length parts.old }
+    ensures text { IsUtf8 lines.new.rest.now }
+    ensures answer { result.0 ≡ row.new.answer }
+    ensures own { result.1 ≡ parts_of row.new }
+    ensures at { row.new.parts_at ≡ used }
+    ensures size { length parts.new ≡ length parts.old }
+    ensures kept { take used parts.new ≡ take used parts.old }
+    ensures fits { used + result.1 ≤ length parts.new }
+    ensures reads { ∥ ReadsItem lines.old (length room.old.bytes.now) row.new.answer row.new.line (drop used parts.new) lines.new ∥₁ }
+{
+    row.parts_at = used;
+    row.answer = read_next(alloc, lines, room, &mut row.line, &mut parts[used..]);
+    let own = if row.answer == Answer::Line.number() {
+        row.line.tags + row.line.fields
+    } else {
+        0
+    };
+    (row.answer, own)
+}
+
+/// Reads items into rows, in order, as long as rows, parts and room last. `filled` is how many rows were filled.
+///
+/// Each row has the answer for its item (`Line`, `Fault` or `OutOfMemory`) and what [`lp_lines_next`](crate::reading) shows of
+/// it; the parts of a line begin at `parts_at`. Answers `Line`, where each row is filled; `End`, where no item is left; or
+/// `MoreParts` or `MoreRoom`, where the next item takes more than is left: the row after the filled ones says how much, and
+/// `lines` stands before that item.
+#[unsafe(no_mangle)]
+pub extern "C" fn lp_lines_block<'a>(
+    alloc: Global,
+    lines: &mut Lines<'a>,
+    room: &mut Room<'a>,
+    rows: &mut [Row<'a>],
+    parts: &mut [Part<'a>],
+    filled: &mut usize,
+) -> u32
+    requires { IsUtf8 lines.old.rest.now }
+    ensures text { IsUtf8 lines.new.rest.now }
+    ensures reads { ∥ ReadsBlock lines.old (length room.old.bytes.now) rows.new parts.new filled.new result lines.new ∥₁ }
+{
+    let mut used = 0usize;
+    for at in 0..rows.len() {
+        let (answer, own) = read_row(alloc, lines, room, &mut rows[at], parts, used);
+        if !is_item(answer) {
+            *filled = at;
+            return answer;
+        }
+        used += own;
+    }
+    *filled = rows.len();
+    Answer::Line.number()
+}
