@@ -22,7 +22,7 @@ extern "C" {
 enum lp_answer {
     LP_END = 0,           /* no item is left */
     LP_LINE = 1,          /* a line was read */
-    LP_FAULT = 2,         /* a fault stands in the place of the item or of the result */
+    LP_FAULT = 2,         /* a fault, in the place of the item or of the result */
     LP_MORE_PARTS = 3,    /* the line has more tags and fields than parts were lent: nothing was read */
     LP_MORE_ROOM = 4,     /* the texts take more room than was lent: nothing was read, or nothing was written */
     LP_OUT_OF_MEMORY = 5, /* a request for memory was refused */
@@ -96,7 +96,7 @@ typedef struct lp_line {
 /* An item of a block: `answer` is LP_LINE, LP_FAULT or LP_OUT_OF_MEMORY, and the parts of a line begin at `parts_at`. */
 typedef struct lp_row { lp_line line; size_t parts_at; uint32_t answer; } lp_row;
 
-/* What is left of a text: a cursor. Copy it to come back to where it stood. */
+/* What is left of a text: a cursor. Copy it to come back to where it was. */
 typedef struct lp_lines { lp_text rest; bool ended; bool strict; } lp_lines;
 
 /* How much was rebuilt. */
@@ -134,7 +134,7 @@ uint32_t lp_lines_next(lp_lines *lines, lp_room *room, lp_line *line, lp_part *p
 
 /* Reads items into rows, as lp_lines_next does, as long as rows, parts and room last: `filled` is how many rows were filled.
  * LP_LINE: all of them. LP_END: no item is left. LP_MORE_PARTS, LP_MORE_ROOM: the next item takes more than is left: the row
- * after the filled ones says how much, as for lp_lines_next, and `lines` stands before that item. Begin with LP_EMPTY_ROW. */
+ * after the filled ones says how much, as for lp_lines_next, and `lines` is before that item. Begin with LP_EMPTY_ROW. */
 uint32_t lp_lines_block(lp_lines *lines, lp_room *room, lp_row *rows, size_t rows_len, lp_part *parts, size_t parts_len,
                         size_t *filled);
 

@@ -1,4 +1,4 @@
-/* Reads a text with as little lent as can be, and more where more is asked for; then refuses each request for memory in turn.
+/* Reads a text with as little lent as can be, and more where more is asked for, also in blocks; then refuses each request for memory in turn.
  * Compile heap.c with -DLP_REFUSE. */
 #include "influxdb_line_protocol.h"
 #include <stdio.h>
@@ -45,6 +45,32 @@ static struct seen read_all(const uint8_t *text, size_t len, bool strict) {
     return seen;
 }
 
+/* Reads in blocks of two rows and so many parts and bytes: each item has its row, and the first part of a line is its own. */
+static struct seen read_blocks(const uint8_t *text, size_t len, size_t parts_len, size_t bytes_len) {
+    struct seen seen = { 0, 0, 0, 0, 0, 0 };
+    lp_lines lines = LP_NO_LINES;
+    lp_row rows[2] = { LP_EMPTY_ROW, LP_EMPTY_ROW };
+    lp_part parts[8];
+    uint8_t bytes[64];
+    size_t filled = 0;
+    uint32_t answer = lp_lines_begin(text, len, false, &lines) ? LP_LINE : LP_END;
+    lp_empty_parts(parts, 8);
+    while (answer != LP_END) {
+        lp_room room = { bytes, bytes_len };
+        answer = lp_lines_block(&lines, &room, rows, 2, parts, parts_len, &filled);
+        for (size_t at = 0; at < filled; at++) {
+            const lp_part *first = parts + rows[at].parts_at;
+            if (rows[at].answer == LP_FAULT) seen.faults++;
+            else if (rows[at].answer == LP_LINE && (first->kind == LP_TAG) == (rows[at].line.tags > 0)) seen.lines++;
+            else seen.others++;
+        }
+        if (answer == LP_MORE_PARTS && filled > 0) seen.more_parts++;
+        else if (answer == LP_MORE_ROOM && filled > 0) seen.more_room++;
+        else if (answer != LP_END && answer != LP_LINE) { seen.others++; break; }
+    }
+    return seen;
+}
+
 static int pieces(const uint8_t *text, size_t len) {
     lp_lines lines = LP_NO_LINES;
     lp_view piece = LP_NO_VIEW;
@@ -64,6 +90,9 @@ int main(void) {
     struct seen all = read_all(text, len, false);
     long requests = lp_requests;
     failed |= all.lines != 2 || all.faults != 3 || all.out_of_memory || all.others || all.more_parts != 1 || all.more_room < 2;
+    struct seen wide = read_blocks(text, len, 8, 64), narrow = read_blocks(text, len, 4, 20);
+    failed |= wide.lines != 2 || wide.faults != 3 || wide.others || wide.more_parts || wide.more_room;
+    failed |= narrow.lines != 2 || narrow.faults != 3 || narrow.others || narrow.more_parts + narrow.more_room == 0;
     for (long at = 0; at < requests; at++) {
         lp_refused = at;
         lp_requests = 0;

@@ -19,7 +19,7 @@ TAG, INTEGER, UNSIGNED, FLOAT, STRING, BOOLEAN = range(6)
 PART_LAYOUT = Struct("@QQ?7xQQ?7xqQI?3x")
 # series; measurement; fault_text; tags, fields, copied_len, timestamp, fault, side, has_tag_set, has_timestamp
 LINE_LAYOUT = Struct("@QQQQ?7xQQQQQqII??6x")
-# where `tags` stands in a line, and `copied_len`
+# where `tags` is in a line, and `copied_len`
 COUNTS_LAYOUT, COUNTS_AT = Struct("@QQQ"), 56
 
 

@@ -22,15 +22,15 @@ pub fn escape(text: &str, special: [char; 1]) -> String {
     line["m f=\"".len()..line.len() - "\"\n".len()].to_owned()
 }
 
-/// What is behind the longest front that has no item.
+/// What is after the longest front that has no item.
 pub fn trim_leading(text: &str) -> &str {
     let ends = text.char_indices().map(|(at, _)| at).chain([text.len()]);
     let blank = ends.take_while(|&end| parse_lines(&text[..end]).next().is_none()).last();
     &text[blank.unwrap()..]
 }
 
-// `part` of the line that `front`, the first piece of `text` and `back` make; and what is left of `text` behind as many bytes
-// of the line as `part` tells, or else behind the piece.
+// `part` of the line that `front`, the first piece of `text` and `back` make; and what is left of `text` after as many bytes
+// of the line as `part` tells, or else after the piece.
 fn part<'a>(
     front: &str,
     text: &'a str,

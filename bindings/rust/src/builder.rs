@@ -68,7 +68,7 @@ impl LineProtocolBuilder<Vec<u8>, BeforeMeasurement> {
 }
 
 impl<B: BufMut> LineProtocolBuilder<B, BeforeMeasurement> {
-    /// A builder that writes behind what `buf` holds.
+    /// A builder that writes after what `buf` holds.
     pub fn new_with(buf: B) -> Self {
         Self { buf, _marker: PhantomData }
     }

@@ -48,7 +48,7 @@ pub enum Error {
     },
     /// A name ends in a backslash.
     EndsWithBackslash,
-    /// Something is left behind the last part that could be read.
+    /// Something is left after the last part that could be read.
     CannotParseEntireLine {
         /// What is left.
         trailing_content: String,

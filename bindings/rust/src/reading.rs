@@ -3,7 +3,7 @@ use crate::border::{self, answer, kind, Line, Lines, Part, Room, View};
 use crate::{Error, EscapedStr, FieldSet, FieldValue, ParsedLine, Result, Series, TagSet};
 use nom::error::ErrorKind;
 
-/// Reads each line of a text. Blank lines and comments are passed over; a line with a fault is an error, and the lines behind
+/// Reads each line of a text. Blank lines and comments are passed over; a line with a fault is an error, and the lines after
 /// it are read.
 ///
 /// ```

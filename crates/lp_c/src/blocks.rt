@@ -64,7 +64,7 @@ fn read_row<'a>(
 /// Each row has the answer for its item (`Line`, `Fault` or `OutOfMemory`) and what [`lp_lines_next`](crate::reading) shows of
 /// it; the parts of a line begin at `parts_at`. Answers `Line`, where each row is filled; `End`, where no item is left; or
 /// `MoreParts` or `MoreRoom`, where the next item takes more than is left: the row after the filled ones says how much, and
-/// `lines` stands before that item.
+/// `lines` is before that item.
 #[unsafe(no_mangle)]
 pub extern "C" fn lp_lines_block<'a>(
     alloc: Global,

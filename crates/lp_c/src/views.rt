@@ -87,7 +87,7 @@ pub enum Answer {
     End = 0,
     /// A line was read.
     Line = 1,
-    /// A fault stands in the place of the item or of the result.
+    /// A fault, in the place of the item or of the result.
     Fault = 2,
     /// The line has more tags and fields than parts were lent: nothing was read.
     MoreParts = 3,
