@@ -4,8 +4,9 @@ ghost use Rattle.std.specs.Prelude.{◌≡◌, ◌≤◌, ◌+◌, drop, length,
 ghost use Rattle.lp_c.specs.Blocks.{ReadsBlock, is_item, parts_of};
 ghost use Rattle.lp_c.specs.Crossing.{ReadsItem};
 
-use crate::reading::read_next;
+use crate::reading::{new_line, read_next};
 use crate::views::{Answer, Line, Lines, Part, Room};
+use influxdb_line_protocol::ParsedLine;
 use std::alloc::Global;
 
 /// An item, and where its parts begin.
@@ -32,6 +33,7 @@ fn is_item(answer: u32) -> bool
 // Reads the next item into a row, with its parts from `used` on, and gives its answer and how many parts it has.
 fn read_row<'a>(
     alloc: Global,
+    parsed: &mut ParsedLine<'a>,
     lines: &mut Lines<'a>,
     room: &mut Room<'a>,
     row: &mut Row<'a>,
@@ -50,7 +52,14 @@ fn read_row<'a>(
     ensures reads { ∥ ReadsItem lines.old (length room.old.bytes.now) row.new.answer row.new.line (drop used parts.new) lines.new ∥₁ }
 {
     row.parts_at = used;
-    row.answer = read_next(alloc, lines, room, &mut row.line, &mut parts[used..]);
+    row.answer = read_next(
+        alloc,
+        parsed,
+        lines,
+        room,
+        &mut row.line,
+        &mut parts[used..],
+    );
     let own = if row.answer == Answer::Line.number() {
         row.line.tags + row.line.fields
     } else {
@@ -78,9 +87,10 @@ pub extern "C" fn lp_lines_block<'a>(
     ensures text { IsUtf8 lines.new.rest.now }
     ensures reads { ∥ ReadsBlock lines.old (length room.old.bytes.now) rows.new parts.new filled.new result lines.new ∥₁ }
 {
+    let mut parsed = new_line(alloc);
     let mut used = 0usize;
     for at in 0..rows.len() {
-        let (answer, own) = read_row(alloc, lines, room, &mut rows[at], parts, used);
+        let (answer, own) = read_row(alloc, &mut parsed, lines, room, &mut rows[at], parts, used);
         if !is_item(answer) {
             *filled = at;
             return answer;

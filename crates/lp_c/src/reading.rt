@@ -2,12 +2,16 @@
 
 ghost use Rattle.std.specs.Prelude.{◌≡◌, ◌≤◌, ◌+◌, ◌↔◌, length, IsFalse, IsTrue, IsUtf8, Some, option_map};
 ghost use Rattle.influxdb_line_protocol.specs.code.ParseSteps.{GivesItem};
+ghost use Rattle.influxdb_line_protocol.specs.code.ReadInto.{item_in};
 ghost use Rattle.lp_c.specs.Numbers.{answer_number};
 ghost use Rattle.lp_c.specs.Crossing.{AnswersItem, GivesView, ReadsItem, dialect_of, left_of};
 
 use crate::lent::{put_fault, put_line};
 use crate::views::{Answer, Line, Lines, Part, Room, View};
-use influxdb_line_protocol::{Dialect, Error, ParsedLine, parse_lines_in, split_lines_in};
+use influxdb_line_protocol::{
+    Dialect, Error, EscapedStr, FieldSet, ParsedLine, Series, TagSet, parse_lines_in,
+    split_lines_in,
+};
 use std::alloc::Global;
 
 /// The version of the library: 10,000 times its first number, 100 times its second, and its third.
@@ -62,43 +66,65 @@ fn leave<'a>(lines: &mut Lines<'a>, rest: Option<&'a str>)
     }
 }
 
-// Takes the next item off what is left.
-fn take_item<'a>(alloc: Global, lines: &mut Lines<'a>) -> Option<Result<ParsedLine<'a>, Error>>
+// A line to read into. It is made where it is used: a line is large, and each move of it is a copy.
+#[inline(always)]
+pub(crate) fn new_line<'a>(alloc: Global) -> ParsedLine<'a> {
+    ParsedLine {
+        series: Series {
+            raw_input: "",
+            measurement: EscapedStr::SingleSlice(""),
+            tag_set: Some(TagSet::new(alloc)),
+        },
+        field_set: FieldSet::new(alloc),
+        timestamp: None,
+    }
+}
+
+// Takes the next item off what is left. A line is read into `parsed`.
+#[inline(always)]
+fn take_item<'a>(
+    alloc: Global,
+    lines: &mut Lines<'a>,
+    parsed: &mut ParsedLine<'a>,
+) -> Option<Result<(), Error>>
     requires { IsUtf8 lines.old.rest.now }
     ensures text { IsUtf8 lines.new.rest.now }
-    ensures gives { GivesItem (left_of lines.old) result (left_of lines.new) }
+    ensures gives { GivesItem (left_of lines.old) (option_map (item_in parsed.new) result) (left_of lines.new) }
 {
     if lines.ended {
         return None;
     }
     let text = unsafe { str::from_utf8_unchecked(lines.rest) };
     let mut items = parse_lines_in(alloc, dialect_of(lines.strict), text);
-    let item = items.next();
+    let answer = items.next_into(parsed);
     leave(lines, items.remainder());
-    item
+    answer
 }
 
-// Puts an item out.
+// Puts an item out, whose line, where it has one, is `parsed`.
 #[inline(always)]
 fn put_item<'a>(
-    item: &Option<Result<ParsedLine<'a>, Error>>,
+    answer: &Option<Result<(), Error>>,
+    parsed: &ParsedLine<'a>,
     room: &mut Room<'a>,
     line: &mut Line<'a>,
     parts: &mut [Part<'a>],
 ) -> Answer
-    ensures answers { AnswersItem item.now (length room.old.bytes.now) result line.new parts.new }
+    ensures answers { AnswersItem (option_map (item_in parsed.now) answer.now) (length room.old.bytes.now) result
+        line.new parts.new }
     ensures fits { answer_number result ≡ 1 → line.new.tags + line.new.fields ≤ length parts.new }
 {
-    match item {
+    match answer {
         None => Answer::End,
-        Some(Ok(parsed)) => put_line(parsed, room, line, parts),
+        Some(Ok(())) => put_line(parsed, room, line, parts),
         Some(Err(error)) => put_fault(error, room, line),
     }
 }
 
-// Reads the next item into what the caller lends.
+// Reads the next item into what the caller lends, by way of `parsed`, which may be used again.
 pub(crate) fn read_next<'a>(
     alloc: Global,
+    parsed: &mut ParsedLine<'a>,
     lines: &mut Lines<'a>,
     room: &mut Room<'a>,
     line: &mut Line<'a>,
@@ -110,8 +136,8 @@ pub(crate) fn read_next<'a>(
     ensures fits { result ≡ 1 → line.new.tags + line.new.fields ≤ length parts.new }
 {
     let mut passed = *lines;
-    let item = take_item(alloc, &mut passed);
-    let answer = put_item(&item, room, line, parts);
+    let item = take_item(alloc, &mut passed, parsed);
+    let answer = put_item(&item, parsed, room, line, parts);
     if !answer.is_more() {
         *lines = passed;
     }
@@ -134,7 +160,8 @@ pub extern "C" fn lp_lines_next<'a>(
     ensures text { IsUtf8 lines.new.rest.now }
     ensures reads { ∥ ReadsItem lines.old (length room.old.bytes.now) result line.new parts.new lines.new ∥₁ }
 {
-    read_next(alloc, lines, room, line, parts)
+    let mut parsed = new_line(alloc);
+    read_next(alloc, &mut parsed, lines, room, line, parts)
 }
 
 /// Takes the next piece off what is left, not parsed, and says whether there was one.
