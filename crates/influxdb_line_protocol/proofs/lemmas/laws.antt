@@ -1,3 +1,4 @@
+pub mod Elements
 pub mod items_are_answers
 pub mod batch_reads_back
 pub mod pieces_join

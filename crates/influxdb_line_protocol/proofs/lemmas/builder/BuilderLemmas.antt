@@ -1,16 +1,12 @@
 -- Escaped texts: how long they are, and what comes before and after the first byte with a backslash.
 -- And how many digits a number has.
 use Rattle.std.proofs.Common.{◌≡◌, ℕ, suc, zero, ◌+◌, ◌<◌, Bool, true, false, cond, List, [], ◌∷◌, ◌++◌, length, take}
-use Rattle.std.proofs.Common.{drop, get_or, arith, ap, refl, sym, ◌-◌, subst, not, zero-add, add-one, length-drop}
+use Rattle.std.proofs.Common.{drop, get_or, arith, ap, refl, sym, ◌-◌, subst, zero-add, add-one, length-drop}
 use Rattle.std.proofs.Common.{length-append, ◌∙◌, ◌≤◌, ◌^◌, ◌*◌, ◌/◌}
 use Rattle.std.proofs.lemmas.List.{take_all}
-use Rattle.std.specs.List.{list_all}
 use Rattle.std.specs.Fmt.{decimal}
 use Rattle.std.proofs.Math.Nat.{pow-zero, pow-suc}
 use Rattle.std.proofs.lemmas.Fmt.{decimal_step, decimal_digit}
-use Rattle.std.proofs.lemmas.List.Sums.{AllPass-from_list_all}
-use Rattle.std.proofs.lemmas.List.Elements.{All-get_or}
-use Rattle.std.proofs.lemmas.Bool.{not-true}
 use Rattle.std.specs.Prelude.{count_by}
 use Rattle.std.proofs.lemmas.Grind.{common_steps}
 use Rattle.influxdb_line_protocol.specs.format.Bytes.{backslash, is_one_of}
@@ -100,14 +96,6 @@ pub escaped_none : (bytes text : List ℕ) (mark : ℕ → Bool) (at : ℕ)
     → escaped bytes text ≡ text
 escaped_none bytes text mark at same run all =
     escaped_same bytes text (λ k h. sym (same (get_or text k 0)) ∙ run.none k (omega arith) (omega arith))
-
--- so does a text whose bytes all fail the test
-pub escaped_plain : (bytes text : List ℕ) (mark : ℕ → Bool)
-    → ((b : ℕ) → mark b ≡ is_one_of bytes b) → list_all (λ b. not (mark b)) text ≡ true → escaped bytes text ≡ text
-escaped_plain bytes text mark same free =
-    let fails = AllPass-from_list_all (λ b. not (mark b)) text free in
-    escaped_same bytes text
-    (λ k h. sym (same (get_or text k 0)) ∙ not-true _ (All-get_or (λ b. not (mark b) ≡ true) text k 0 h fails))
 
 -- a power of ten is positive
 power_positive : (k : ℕ) → 0 < 10 ^ k

@@ -1,21 +1,20 @@
 -- The raw text of a series that holds no more commas, signs, spaces and backslashes than divide its names is what the builder writes.
 use Rattle.std.proofs.Common.{◌≡◌, ◌≢◌, ℕ, ◌+◌, ◌*◌, ◌<◌, ◌≤◌, Bool, true, false, not, ◌&&◌, ◌||◌, cond, slice_index}
-use Rattle.std.proofs.Common.{List, [], ◌∷◌, ◌++◌, length, drop, map, refl, sym, ap, ◌∙◌, subst, inl, inr, arith}
-use Rattle.std.proofs.Common.{append_assoc, Ok}
+use Rattle.std.proofs.Common.{List, [], ◌∷◌, ◌++◌, length, map, refl, sym, ap, ◌∙◌, arith}
+use Rattle.std.proofs.Common.{append_assoc}
 use Rattle.std.specs.Prelude.{◌==◌, count_by}
 use Rattle.std.specs.List.{AllByRecursion, flat_map, list_all}
 use Rattle.std.proofs.lemmas.Bool.{and_from, and_parts, false≢true, ne_eqb}
 use Rattle.std.proofs.lemmas.Grind.{common_steps}
 use Rattle.std.proofs.lemmas.List.{take-append-drop}
 use Rattle.std.proofs.lemmas.List.Sums.{sum_by-append}
-use Rattle.influxdb_line_protocol.specs.declared.split.Dialect.{Dialect}
 use Rattle.influxdb_line_protocol.specs.laws.BaseLaws.{IsParsedSeries}
 use Rattle.influxdb_line_protocol.specs.format.Bytes.{is_one_of}
 use Rattle.influxdb_line_protocol.specs.format.Escapes.{escaped, without_escapes}
-use Rattle.influxdb_line_protocol.specs.format.Lines.{Line, answer, logical_tag, some_tags, tag}
+use Rattle.influxdb_line_protocol.specs.format.Lines.{logical_tag, some_tags, tag}
 use Rattle.influxdb_line_protocol.specs.laws.Meanings.{SeparatedAfterComma}
 use Rattle.influxdb_line_protocol.specs.format.Names.{NameKind, a_measurement, a_tag_key, a_tag_value, a_field_key}
-use Rattle.influxdb_line_protocol.specs.format.Names.{ends_in_backslash, escapable, read_text, spelled, spelled_len}
+use Rattle.influxdb_line_protocol.specs.format.Names.{ends_in_backslash, escapable, spelled, spelled_len}
 use Rattle.influxdb_line_protocol.specs.format.Points.{Pair, Tag, built_tag, is_admitted_name, is_admitted_tag, spelling}
 use Rattle.influxdb_line_protocol.specs.format.Readings.{Text}
 use Rattle.influxdb_line_protocol.specs.declared.parsed.ParsedLine.{ParsedLine}

@@ -1,5 +1,5 @@
 -- The raw text of a series that is as long as what the builder writes for its names is just that.
-use Rattle.std.proofs.Common.{◌≡◌, ℕ, ◌+◌, ◌≤◌, Bool, true, false, List, [], ◌∷◌, ◌++◌, length, drop, map, refl, sym}
+use Rattle.std.proofs.Common.{◌≡◌, ℕ, ◌+◌, ◌≤◌, true, List, [], ◌∷◌, ◌++◌, length, map, refl, sym}
 use Rattle.std.proofs.Common.{ap, ◌∙◌, inl, inr, arith, length-append}
 use Rattle.std.specs.Prelude.{◌==◌}
 use Rattle.std.specs.List.{flat_map}
@@ -22,6 +22,7 @@ use Rattle.influxdb_line_protocol.proofs.lemmas.laws.batch_reads_back.NameReadsB
 use Rattle.influxdb_line_protocol.proofs.lemmas.laws.bases_tell_series.ParsedSeries.{read_series_are_parsed}
 use Rattle.influxdb_line_protocol.proofs.lemmas.builder.ReadHeads.{tag_written}
 use Rattle.influxdb_line_protocol.proofs.lemmas.fields.ReadingLemmas.{name_parts}
+use Rattle.influxdb_line_protocol.proofs.lemmas.laws.meanings.LogicalMeaning.{without_escapes_other}
 
 -- what is written is no shorter than this text, and where it is as long, it is this text
 pub record IsLeast (text written : List ℕ) : Type 0 where
@@ -36,12 +37,6 @@ least_more b text written h =
 -- more bytes are longer
 longer : (text written : List ℕ) → 1 + length text ≤ length written → IsLeast text written
 longer text written h = record { least = omega (arith, h); same = λ e. absurd (omega (arith, h)) }
-
--- an unknown escape
-unknown_escape : (known : List ℕ) (c : ℕ) (rest : List ℕ) → is_one_of known c ≡ false
-    → without_escapes known (92 ∷ c ∷ rest) ≡ 92 ∷ c ∷ without_escapes known rest
-unfolding without_escapes
-unknown_escape known c rest other = rw other refl
 
 -- what is written for a spelling
 pub written_least : (known text : List ℕ) → is_one_of known 92 ≡ true → IsLeast text (escaped known (without_escapes known text))
@@ -70,7 +65,7 @@ written_least known (b ∷ c ∷ rest) back =
               (least_more 92 (c ∷ rest) (c ∷ escaped known text) (least_more c rest (escaped known text) more))
           | inr other ↦
               let text = without_escapes known rest in
-              rw (unknown_escape known c rest other, escaped_found known (c ∷ text) 92 back, escaped_plain known text c other)
+              rw (without_escapes_other known c rest other, escaped_found known (c ∷ text) 92 back, escaped_plain known text c other)
               (longer (92 ∷ c ∷ rest) (92 ∷ 92 ∷ c ∷ escaped known text) (omega (arith, more.least)))
         ]
 

@@ -6,7 +6,7 @@ use Rattle.std.specs.Int.{w64, trailing_zeros}
 use Rattle.std.specs.List.{prefix_len}
 use Rattle.std.specs.Char.{is_ascii_digit, digit_value}
 use Rattle.std.specs.Str.Parse.{AllDigits, digits_value, digits_value_after}
-use Rattle.std.proofs.lemmas.Bool.{agree_below, agree_below_at, eq-eqb, ne_eqb}
+use Rattle.std.proofs.lemmas.Bool.{agree_below, agree_below_at, ne_eqb}
 use Rattle.std.proofs.lemmas.Simd.{map-map, mask_l-mod, first_set_mask_l}
 use Rattle.std.proofs.lemmas.List.{length-map, length-take-le, take-append-drop}
 use Rattle.std.proofs.lemmas.List.Folds.{prefix_len-append}
@@ -61,14 +61,6 @@ digits_within text n fits less =
     (λ e. absurd (omega (arith, e, size))) in
     let parts = prefix_len-append is_ascii_digit (take n text) (drop n text) in
     sym (ap digits_len (sym (take-append-drop n text)) ∙ parts ∙ rw other refl)
-
--- n digits are followed by those after them
-pub digits_past : (text : List ℕ) (n : ℕ) → n ≤ length text → digits_len (take n text) ≡ n → n + digits_len (drop n text) ≡ digits_len text
-digits_past text n fits all =
-    let size = length-take-le n text fits in
-    let whole : eqb (prefix_len is_ascii_digit (take n text)) (length (take n text)) ≡ true = eq-eqb _ _ (all ∙ sym size) in
-    let parts = prefix_len-append is_ascii_digit (take n text) (drop n text) in
-    sym (ap digits_len (sym (take-append-drop n text)) ∙ parts ∙ rw (whole, size) refl)
 
 -- a number is no less than its first digits write
 pub after_at_least : (n : ℕ) (ds : List ℕ) → n ≤ digits_value_after 10 n ds

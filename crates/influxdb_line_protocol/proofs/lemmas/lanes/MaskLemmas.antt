@@ -15,7 +15,7 @@ use Rattle.std.proofs.Math.Seq.{take-add}
 use Rattle.std.proofs.lemmas.Bool.{cases_lt, agree_below, agree_below_at}
 
 -- half of a mask is the mask without its lowest bit
-half : (b : Bool) (n : ℕ) → (cond b 1 0 + 2 * n) / 2 ≡ n
+pub half : (b : Bool) (n : ℕ) → (cond b 1 0 + 2 * n) / 2 ≡ n
 half true n = omega arith
 half false n = omega arith
 

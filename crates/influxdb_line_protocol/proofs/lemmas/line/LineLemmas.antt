@@ -1,8 +1,8 @@
 -- The parts of a line.
-use Rattle.std.proofs.Common.{◌≡◌, ◌≢◌, ℕ, zero, suc, add-one, List, [], ◌∷◌, get_or, true, inl, inr, refl, ap, arith}
+use Rattle.std.proofs.Common.{◌≡◌, ℕ, zero, suc, add-one, List, ◌∷◌, get_or, true, refl, arith}
 use Rattle.std.specs.Prelude.{◌==◌, IsUtf8, IsCharBoundary, MatchOption, Option, Some, None, is_some}
 use Rattle.std.specs.Borrow.{Bor}
-use Rattle.std.proofs.lemmas.Bool.{cases_Bool, eq-eqb, ne_eqb, eqb-true}
+use Rattle.std.proofs.lemmas.Bool.{eq-eqb, eqb-true}
 use Rattle.std.proofs.lemmas.List.Sums.{prefix_len_passes, prefix_len-le-length}
 use Rattle.std.proofs.lemmas.Str.{IsCharBoundary-after_ascii, IsCharBoundary-start}
 use Rattle.influxdb_line_protocol.specs.format.Lines.{byte, spaces}
@@ -11,12 +11,6 @@ use Rattle.influxdb_line_protocol.specs.format.Readings.{miss, reads}
 -- a byte at the start, by what the text is
 pub byte_reads : (b : ℕ) (text rest : List ℕ) → text ≡ b ∷ rest → byte b text ≡ reads b rest
 byte_reads b text rest e = rw (e, eq-eqb b b refl) refl
-
-pub byte_misses : (b : ℕ) (text : List ℕ) → ((rest : List ℕ) → text ≢ b ∷ rest) → byte b text ≡ miss
-byte_misses b [] none = refl
-byte_misses b (c ∷ rest) none =
-    let other : c ≡ b → ⊥ = λ e. none rest (ap (λ (x : ℕ). x ∷ rest) e) in
-    rw (ne_eqb c b other) refl
 
 -- after spaces a text may be cut
 pub spaces_boundary : (text : List ℕ) (n : ℕ) → IsUtf8 text → n ≡ spaces text → IsCharBoundary text n
@@ -27,25 +21,9 @@ spaces_boundary text (suc n) utf8 e =
     let within = prefix_len-le-length (λ b. b == 32) text in
     rw (← add-one n) (IsCharBoundary-after_ascii text n utf8 (omega arith) (omega arith))
 
--- the same, of what a prefix's removal gives
-pub byte_stripped : (b : ℕ) (text : List ℕ) (r : Option (Bor (List ℕ)))
-    → MatchOption r ((rest : List ℕ) → text ≢ b ∷ rest) (λ x. text ≡ b ∷ x.now)
-    → MatchOption r (byte b text ≡ miss) (λ x. byte b text ≡ reads b x.now)
-byte_stripped b text None none = byte_misses b text none
-byte_stripped b text (Some x) e = byte_reads b text x.now e
-
 -- where something is after a byte, the byte is at the start
 pub byte_there : (b : ℕ) (text : List ℕ) (r : Option (Bor (List ℕ)))
     → MatchOption r (byte b text ≡ miss) (λ x. byte b text ≡ reads b x.now) → is_some r ≡ true
     → (after : List ℕ) × (byte b text ≡ reads b after)
 byte_there b text None h some = absurd (cc)
 byte_there b text (Some x) h some = (x.now, h)
-
--- the byte that is at the start
-pub byte_first : (b : ℕ) (text after : List ℕ) → byte b text ≡ reads b after → get_or text 0 0 ≡ b
-byte_first b [] after e = absurd (cc)
-byte_first b (c ∷ rest) after e =
-    elim (cases_Bool (c == b)) [
-      | inl same ↦ eqb-true c b same
-      | inr other ↦ absurd (let m = rw other at e in cc)
-    ]

@@ -20,7 +20,7 @@ use Rattle.influxdb_line_protocol.proofs.lemmas.laws.parsed_names.Inversions.{bo
 use Rattle.influxdb_line_protocol.proofs.lemmas.laws.parsed_names.ParsedNames.{ok_same, answer_parts}
 
 -- what commas join is at least one
-joined_some : {A : Type 0} (one : List ℕ → Reading A) (line rest : List ℕ) (xs : List A)
+pub joined_some : {A : Type 0} (one : List ℕ → Reading A) (line rest : List ℕ) (xs : List A)
     → separated_list one line ≡ reads xs rest → 0 < length xs
 joined_some one line rest xs h =
     let parts = bound (one line) (λ x. prepend (x.value ∷ []) (many (after_comma one) (length x.rest) x.rest)) xs rest h in

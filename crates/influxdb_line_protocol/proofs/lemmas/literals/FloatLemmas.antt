@@ -1,26 +1,26 @@
 -- Floats at the start of a text.
-use Rattle.std.proofs.Common.{◌≡◌, subst, if◌then◌else◌, ℕ, zero, suc, ◌+◌, ◌<◌, ◌≤◌, List, [], ◌∷◌, ◌++◌, length}
+use Rattle.std.proofs.Common.{◌≡◌, subst, if◌then◌else◌, ℕ, suc, ◌+◌, ◌<◌, ◌≤◌, List, [], ◌∷◌, ◌++◌, length}
 use Rattle.std.proofs.Common.{take, drop, slice_index, true, false, refl, sym, ap, ◌∙◌, arith, inl, inr, one-add}
 use Rattle.std.proofs.Common.{zero-add, add-zero}
 use Rattle.std.specs.Prelude.{◌==◌, ◌&&◌, codes, nat_lt, IsUtf8, IsCharBoundary}
 use Rattle.std.specs.Char.{is_ascii_digit, digit_value}
 use Rattle.std.specs.Str.{IsAscii}
 use Rattle.std.specs.Str.Parse.{AllDigits, IsNumeral}
-use Rattle.std.proofs.Math.Logic.{∥∥₁_elim}
 use Rattle.std.proofs.Math.Seq.{take-add, take-nil}
-use Rattle.std.specs.Coded.{le_prop}
-use Rattle.std.proofs.lemmas.Bool.{cases_Bool, cases_lt, and_parts, and_from, eqb-true, eqb-false, eq-eqb, ne_eqb, le-leb, lt-ltb, ltb-true}
+use Rattle.std.proofs.lemmas.Bool.{cases_Bool, and_parts, and_from, eqb-true, eqb-false, eq-eqb, ne_eqb, le-leb, lt-ltb, ltb-true}
 use Rattle.std.proofs.lemmas.Grind.{common_steps}
-use Rattle.std.proofs.lemmas.List.{append_assoc, take_all, take-append-drop, drop_at, drop-drop, get_or_past}
+use Rattle.std.proofs.lemmas.List.{append_assoc, take_all, take-append-drop, drop_at, drop-drop}
 use Rattle.std.proofs.lemmas.List.{length-append, length-drop, length-take-le}
 use Rattle.std.proofs.lemmas.List.Sums.{prefix_len-le-length}
 use Rattle.std.proofs.lemmas.Str.{IsAscii-append, IsCharBoundary-start, IsCharBoundary-from_take, IsUtf8-from_ascii}
-use Rattle.std.proofs.lemmas.Str.Parse.{digit_at, digit_from_value}
+use Rattle.std.proofs.lemmas.Str.Parse.{digit_from_value}
 use Rattle.influxdb_line_protocol.specs.format.Bytes.{is_one_of}
 use Rattle.influxdb_line_protocol.specs.format.Readings.{miss, reads}
 use Rattle.influxdb_line_protocol.specs.format.Values.{IsFloat, IsMarked, IsSigned, float, float_at, digits_len, number_len}
 use Rattle.influxdb_line_protocol.specs.format.Values.{marked_len, integer_len, fraction_len, exponent_len, float_len}
 use Rattle.influxdb_line_protocol.proofs.lemmas.values.ValueLemmas.{front_numeral}
+use Rattle.std.proofs.lemmas.Fmt.{IsAscii-from_digits}
+use Rattle.std.proofs.lemmas.Str.Ascii.{IsAscii-cons}
 
 -- a digit passes the test
 pub digit_passes : (b : ℕ) → digit_value b < 10 → is_ascii_digit b ≡ true
@@ -57,10 +57,10 @@ pub marked_before : (marks : List ℕ) (part : List ℕ → ℕ) (b : ℕ) (x ta
     → marked_len marks part (b ∷ (x ++ tail)) ≡ suc (length x) + digits_len tail
 marked_before marks part b x tail mark len some = rw (mark, len, lt-ltb 0 (length x + digits_len tail) (omega arith)) (omega arith)
 
-minus_no_digit : (d : ℕ) → is_ascii_digit d ≡ true → is_one_of (codes "-") d ≡ false
+pub minus_no_digit : (d : ℕ) → is_ascii_digit d ≡ true → is_one_of (codes "-") d ≡ false
 minus_no_digit d h = grind (arith, common_steps)
 
-sign_no_digit : (d : ℕ) → is_ascii_digit d ≡ true → is_one_of (codes "+-") d ≡ false
+pub sign_no_digit : (d : ℕ) → is_ascii_digit d ≡ true → is_one_of (codes "+-") d ≡ false
 sign_no_digit d h = grind (arith, common_steps)
 
 point_no_digit : (d : ℕ) → is_one_of (codes ".") d ≡ true → is_ascii_digit d ≡ false
@@ -211,27 +211,15 @@ float_len_float t some =
           )
     ]
 
--- what is spelled in ASCII
-ascii_more : (b : ℕ) (bs : List ℕ) → b < 128 → IsAscii bs → IsAscii (b ∷ bs)
-ascii_more b bs first rest zero = first
-ascii_more b bs first rest (suc i) = rest i
-
-digits_ascii : (ds : List ℕ) → AllDigits 10 ds → IsAscii ds
-digits_ascii ds digits i =
-    elim (cases_lt i (length ds)) [
-      | inl within ↦ let range = digit_at ds i digits within in omega arith
-      | inr past ↦ rw (get_or_past ds i 0 past) (omega arith)
-    ]
-
 signed_ascii : (signs text : List ℕ) → ((d : ℕ) → is_one_of signs d ≡ true → d < 128) → IsSigned signs text → IsAscii text
 signed_ascii signs [] small never = absurd never
-signed_ascii signs (b ∷ ds) small (inl signed) = ascii_more b ds (small b signed.0) (digits_ascii ds signed.1.1)
-signed_ascii signs (b ∷ ds) small (inr numeral) = digits_ascii (b ∷ ds) numeral.1
+signed_ascii signs (b ∷ ds) small (inl signed) = IsAscii-cons b ds (small b signed.0) (IsAscii-from_digits ds signed.1.1)
+signed_ascii signs (b ∷ ds) small (inr numeral) = IsAscii-from_digits (b ∷ ds) numeral.1
 
 marked_ascii : (marks : List ℕ) (Part : List ℕ → Type 0) (text : List ℕ) → ((d : ℕ) → is_one_of marks d ≡ true → d < 128)
     → ((x : List ℕ) → Part x → IsAscii x) → IsMarked marks Part text → IsAscii text
 marked_ascii marks Part [] small of_part marked = λ i. omega arith
-marked_ascii marks Part (b ∷ x) small of_part marked = ascii_more b x (small b marked.0) (of_part x marked.1)
+marked_ascii marks Part (b ∷ x) small of_part marked = IsAscii-cons b x (small b marked.0) (of_part x marked.1)
 
 minus_ascii : (d : ℕ) → is_one_of (codes "-") d ≡ true → d < 128
 minus_ascii d h = grind (arith, common_steps)
@@ -253,7 +241,7 @@ float_ascii text parts =
     let ascii : IsAscii (whole ++ (fraction ++ exponent)) =
     IsAscii-append whole (fraction ++ exponent) (signed_ascii (codes "-") whole minus_ascii parts.4)
     (IsAscii-append fraction exponent
-    (marked_ascii (codes ".") (IsNumeral 10) fraction point_ascii (λ x numeral. digits_ascii x numeral.1) parts.5)
+    (marked_ascii (codes ".") (IsNumeral 10) fraction point_ascii (λ x numeral. IsAscii-from_digits x numeral.1) parts.5)
     (marked_ascii (codes "eE") (IsSigned (codes "+-")) exponent mark_ascii
     (λ x signed. signed_ascii (codes "+-") x sign_ascii signed) parts.6)) in
     let P : List ℕ → Type 0 = IsAscii in
@@ -316,13 +304,6 @@ float_fills t parts =
     let size : length t ≡ length parts.0 + length parts.1 + length parts.2 =
     ap length parts.3 ∙ omega (arith, length-append parts.0 (parts.1 ++ parts.2), length-append parts.1 parts.2) in
     (omega (arith, fills, size, signed_some (codes "-") parts.0 parts.4), fills)
-
--- a text of which it is merely known that it is a float
-pub float_from_merely : (t : List ℕ) → ∥ IsFloat t ∥₁ → IsFloat t
-float_from_merely t one =
-    let some : 0 < float_len t = ∥∥₁_elim one le_prop (λ f. (float_fills t f).0) in
-    let fills : length t ≤ float_len t = ∥∥₁_elim one le_prop (λ f. (float_fills t f).1) in
-    float_whole t some fills
 
 -- what is at the start of a text as a float
 pub float_misses : (t : List ℕ) → float_len t ≡ 0 → float_at t ≡ miss

@@ -10,20 +10,17 @@ use Rattle.std.proofs.Math.Nat.{mod-eq_of_lt, pow-le-pow_right}
 use lib.Bits.{and_step, or_step, xor_step, differ, and_mask}
 use lib.Pow.{pow_pos}
 use lib.Lanes.{zip2, mask_l}
+use Rattle.influxdb_line_protocol.proofs.lemmas.lanes.MaskLemmas.{half}
 
 -- one of two, and not both
 abbrev pub differs : Bool → Bool → Bool
 differs true b = not b
 differs false b = b
 
--- the lowest bit of a mask, and the others
+-- the lowest bit of a mask
 low : (b : Bool) (n : ℕ) → (cond b 1 0 + 2 * n) % 2 ≡ cond b 1 0
 low true n = omega arith
 low false n = omega arith
-
-high : (b : Bool) (n : ℕ) → (cond b 1 0 + 2 * n) / 2 ≡ n
-high true n = omega arith
-high false n = omega arith
 
 -- an operation that works on each bit by itself works on each lane by itself
 module _ (op digit : ℕ → ℕ → ℕ) (f : Bool → Bool → Bool) (none : op 0 0 ≡ 0)
@@ -35,7 +32,7 @@ module _ (op digit : ℕ → ℕ → ℕ) (f : Bool → Bool → Bool) (none : o
   by_lanes (x ∷ xs) [] same = absurd (omega arith)
   by_lanes (x ∷ xs) (y ∷ ys) same =
       let rest : op (mask_l xs) (mask_l ys) ≡ mask_l (zip2 f xs ys) = by_lanes xs ys (omega arith) in
-      let highs = ap₂ op (high x (mask_l xs)) (high y (mask_l ys)) ∙ rest in
+      let highs = ap₂ op (half x (mask_l xs)) (half y (mask_l ys)) ∙ rest in
       let lows = ap₂ digit (low x (mask_l xs)) (low y (mask_l ys)) ∙ one x y in
       step (mask_l (x ∷ xs)) (mask_l (y ∷ ys)) ∙ ap₂ (λ (a b : ℕ). a * 2 + b) highs lows ∙ omega arith
 

@@ -48,12 +48,6 @@ rise_last (k ∷ []) (suc zero) h = refl
 rise_last (k ∷ []) (suc (suc i)) h = refl
 rise_last (k ∷ l ∷ keys) (suc i) h = rise_last (l ∷ keys) i (omega arith)
 
--- no less is greater or equal
-ge_not_lt : (o : Ordering) → is_ge o ≡ not (is_lt o)
-ge_not_lt Less = refl
-ge_not_lt Equal = refl
-ge_not_lt Greater = refl
-
 -- a test that fails is not passed
 lt_from_ge : (o : Ordering) (b : Bool) → is_ge o ≡ b → is_lt o ≡ not b
 lt_from_ge Less b h = rw (sym h) refl

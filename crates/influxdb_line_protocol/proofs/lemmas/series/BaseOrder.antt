@@ -1,5 +1,5 @@
 -- Tags by their keys: the tags in another order, where no key is repeated.
-use Rattle.std.proofs.Common.{◌≡◌, ℕ, Bool, true, false, List, [], ◌∷◌, ◌++◌, ◌||◌, append_assoc, append-nil, refl, sym, ◌∙◌}
+use Rattle.std.proofs.Common.{◌≡◌, ℕ, false, List, [], ◌∷◌, ◌++◌, append_assoc, append-nil, sym, ◌∙◌}
 use Rattle.std.specs.declared.cmp.Ordering.{Ordering}
 use Rattle.std.specs.declared.cmp.Ordering.TheVariants.{Less, Equal, Greater}
 use Rattle.std.specs.BTreeMap.{insert_entry}
@@ -12,7 +12,7 @@ use Rattle.std.proofs.lemmas.List.Sorted.{IsPermutation-refl, IsPermutation-cons
 use Rattle.std.proofs.lemmas.List.Sorted.{IsPermutation-middle, IsPermutation-sym, IsPermutation-to_front}
 use Rattle.std.proofs.lemmas.List.Sorted.{list_any-IsPermutation}
 use Rattle.std.proofs.lemmas.Map.Text.{is_eq-slice_cmp}
-use Rattle.std.proofs.lemmas.Bool.{false≢true}
+use Rattle.std.proofs.lemmas.Bool.{false≢true, or_parts}
 use Rattle.influxdb_line_protocol.specs.code.Bases.{by_key, in_order}
 use Rattle.influxdb_line_protocol.specs.format.Points.{Pair}
 use Rattle.influxdb_line_protocol.specs.format.Readings.{Text}
@@ -27,17 +27,12 @@ at_place Greater k v e es rest apart there =
     (IsPermutation-sym (e ∷ (k, v) ∷ es) ((k, v) ∷ e ∷ es) (IsPermutation-middle (e ∷ []) (k, v) es))
     (IsPermutation-cons e ((k, v) ∷ es) rest there)
 
--- both tests fail
-both_fail : (a b : Bool) → (a || b) ≡ false → (a ≡ false) × (b ≡ false)
-both_fail true b h = absurd (false≢true (sym h))
-both_fail false b h = (refl, h)
-
 -- an entry of a new key is one entry more, in some place
 pub insert_moves : (es : List (List ℕ × List ℕ)) (k v : List ℕ) → list_any (λ e. bytes_eq k e.0) es ≡ false
     → IsPermutation ((k, v) ∷ es) (insert_entry (slice_cmp nat_cmp) es k v)
 insert_moves [] k v absent = IsPermutation-refl ((k, v) ∷ [])
 insert_moves (e ∷ es) k v absent =
-    let apart = both_fail (bytes_eq k e.0) (list_any (λ e. bytes_eq k e.0) es) absent in
+    let apart = or_parts (bytes_eq k e.0) (list_any (λ e. bytes_eq k e.0) es) absent in
     at_place (slice_cmp nat_cmp k e.0) k v e es (insert_entry (slice_cmp nat_cmp) es k v)
     (is_eq-slice_cmp k e.0 ∙ apart.0) (insert_moves es k v apart.1)
 

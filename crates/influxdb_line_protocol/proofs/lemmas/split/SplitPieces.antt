@@ -131,7 +131,7 @@ has_newline [] rest h = All-head (λ c. c ≢ 10) 10 rest h refl
 has_newline (b ∷ piece) rest h = has_newline piece rest (All-tail (λ c. c ≢ 10) b (piece ++ 10 ∷ rest) h)
 
 -- a cut is within no piece
-no_cut_within : (dialect : Dialect) (piece rest : List ℕ) → IsCutPiece dialect piece → IsLastPiece dialect (piece ++ 10 ∷ rest) → ⊥
+pub no_cut_within : (dialect : Dialect) (piece rest : List ℕ) → IsCutPiece dialect piece → IsLastPiece dialect (piece ++ 10 ∷ rest) → ⊥
 no_cut_within Crate piece rest c h = cut_not_within piece rest c.0 c.1 h
 no_cut_within Strict piece rest (inl c) (inl h) = has_newline piece rest h.1
 no_cut_within Strict piece rest (inl c) (inr h) = false≢true (sym h.0 ∙ begins_comment-append piece (10 ∷ rest) c.0)
@@ -155,7 +155,7 @@ pub pieces_exist : (dialect : Dialect) (text : List ℕ) → HasPieces dialect t
 pieces_exist dialect text = pieces_from dialect [] text (IsLastPiece-nil dialect)
 
 -- a list of pieces, taken apart
-Pieces-nil : (dialect : Dialect) (text : List ℕ) → Pieces dialect text [] → ⊥
+pub Pieces-nil : (dialect : Dialect) (text : List ℕ) → Pieces dialect text [] → ⊥
 Pieces-nil dialect text h = elim h [ ]
 
 abbrev Cuts : Dialect → List ℕ → List ℕ → List (List ℕ) → Type 0

@@ -27,11 +27,6 @@ no_number text none =
     let no_float : float_len text ≡ 0 = rw (eq-eqb (integer_len text) 0 none) refl in
     rw (integer_misses text none, unsigned_misses text (no_digits text none), float_misses text no_float) refl
 
--- what comes before `u`, with no `-` at the start, are digits
-pub unsigned_mark : (text : List ℕ) → slice_index text 0 ≢ 45 → slice_index text (integer_len text) ≡ 117
-    → slice_index text (digits_len text) ≡ 117
-unsigned_mark text plain mark = rw (digits_of_plain text plain) mark
-
 -- without either mark, or with `-` at the start of `u`, it is a float or nothing
 pub float_stands : (text : List ℕ) → slice_index text (integer_len text) ≢ 105
     → (slice_index text (integer_len text) ≢ 117) ⊎ (slice_index text 0 ≡ 45)

@@ -5,8 +5,8 @@ use Rattle.std.proofs.Common.{zero-add, one-add}
 use Rattle.std.specs.Prelude.{◌==◌, if◌then◌else◌, IsUtf8, IsCharBoundary, ℤ, pos, negsuc, FitsSigned}
 use Rattle.std.specs.Char.{is_ascii_digit, digit_value}
 use Rattle.std.specs.Int.{w64}
-use Rattle.std.specs.Str.Parse.{AllDigits, IsNumeral, digits_value, signed_digits_value, without_leading_sign}
-use Rattle.std.proofs.lemmas.Bool.{cases_Bool, cases_eq, cases_lt, false_from_ne_true, and_parts, eqb-false, eqb-true}
+use Rattle.std.specs.Str.Parse.{AllDigits, IsNumeral, digits_value, signed_digits_value}
+use Rattle.std.proofs.lemmas.Bool.{cases_Bool, cases_lt, false_from_ne_true, and_parts, eqb-false, eqb-true}
 use Rattle.std.proofs.lemmas.Bool.{eq-eqb, ne_eqb, leb-true, ltb-true, lt-ltb, le-leb, and_from}
 use Rattle.std.specs.Prelude.{leb, nat_lt}
 use Rattle.std.proofs.lemmas.List.{drop-drop, drop_more, get_or-drop, get_or_past, length-drop, length-take, length-take-le}
@@ -78,39 +78,6 @@ pub front_numeral : (text : List ℕ) → digits_len text ≢ 0 → IsNumeral 10
 front_numeral text some =
     let len = length-take-le (digits_len text) text (prefix_len-le-length is_ascii_digit text) in
     (omega arith, all_digits text)
-
-minus_numeral : (rest : List ℕ) → 0 < integer_len (45 ∷ rest)
-    → IsNumeral 10 (without_leading_sign (take (integer_len (45 ∷ rest)) (45 ∷ rest)))
-minus_numeral rest some =
-    elim (cases_Bool (digits_len rest == 0)) [
-      | inl none ↦ let none_left : 0 < 0 = rw none at some in absurd (omega arith)
-      | inr digits ↦ rw (digits, one-add) (front_numeral rest (eqb-false (digits_len rest) 0 digits))
-    ]
-
-plain_numeral : (b : ℕ) (rest : List ℕ) → b ≢ 45 → 0 < integer_len (b ∷ rest)
-    → IsNumeral 10 (without_leading_sign (take (integer_len (b ∷ rest)) (b ∷ rest)))
-plain_numeral b rest other some =
-    let no_minus : (45 == b) ≡ false = ne_eqb 45 b (λ e. other (sym e)) in
-    elim (cases_Bool (is_ascii_digit b)) [
-      | inl first ↦
-          let range = digit_range b first in
-          let no_sign : (b == 45) ≡ false = ne_eqb b 45 other in
-          let no_plus : (b == 43) ≡ false = ne_eqb b 43 (λ e. absurd (omega arith)) in
-          let value : digit_value b + 48 ≡ b = digit_value_digit b range in
-          let some_digit : (suc (digits_len rest) == 0) ≡ false = ne_eqb (suc (digits_len rest)) 0 (λ e. absurd (omega arith)) in
-          let len : integer_len (b ∷ rest) ≡ suc (digits_len rest) = rw (no_minus, first, one-add, some_digit, zero-add) refl in
-          rw (len, no_sign, no_plus) (omega arith, (omega arith, all_digits rest))
-      | inr none ↦ let none_left : 0 < 0 = rw (no_minus, none) at some in absurd (omega arith)
-    ]
-
--- an integer at the start of a text is a numeral
-pub integer_numeral : (text : List ℕ) → 0 < integer_len text → IsNumeral 10 (without_leading_sign (take (integer_len text) text))
-integer_numeral [] some = absurd (omega arith)
-integer_numeral (b ∷ rest) some =
-    elim (cases_eq b 45) [
-      | inl e ↦ rw e (minus_numeral rest (rw e at some))
-      | inr other ↦ plain_numeral b rest other some
-    ]
 
 -- the outcomes of an integer
 pub integer_misses : (text : List ℕ) → integer_len text ≡ 0 → integer_at text ≡ miss

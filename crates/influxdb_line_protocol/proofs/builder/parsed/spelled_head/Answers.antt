@@ -1,12 +1,11 @@
-use Rattle.std.proofs.Common.{◌≡◌, ◌+◌, ◌∙◌, List, ℕ, length, map, ap, sym, subst, arith}
+use Rattle.std.proofs.Common.{◌≡◌, ◌+◌, ◌∙◌, List, ℕ, length, map, ap, sym, arith}
 use Rattle.std.specs.List.{flat_map}
-use Rattle.influxdb_line_protocol.specs.format.Lines.{logical_tag, some_tags}
+use Rattle.influxdb_line_protocol.specs.format.Lines.{logical_tag}
 use Rattle.influxdb_line_protocol.specs.format.Names.{a_measurement}
 use Rattle.influxdb_line_protocol.specs.code.Parsed.{parsed_point}
 use Rattle.influxdb_line_protocol.specs.format.Points.{Pair, built_tag, spelling}
 use Rattle.influxdb_line_protocol.specs.format.Readings.{Text}
 use Rattle.influxdb_line_protocol.specs.code.Texts.{text_of}
-use Rattle.influxdb_line_protocol.specs.code.WrittenAgain.{IsHeadOf}
 use Rattle.influxdb_line_protocol.proofs.lemmas.builder.SpelledHeads.{head_as_long}
 use Rattle.influxdb_line_protocol.proofs.lemmas.builder.WrittenAgainLemmas.{tags_text_is}
 use Rattle.influxdb_line_protocol.proofs.builder.parsed.spelled_head.Goals as goal

@@ -17,11 +17,11 @@ use Rattle.influxdb_line_protocol.specs.format.Names.{NameKind, a_measurement, a
 use Rattle.influxdb_line_protocol.specs.format.Names.{is_one_escape, is_stop, spelled, spelled_len}
 use Rattle.influxdb_line_protocol.specs.format.Points.{Pair}
 use Rattle.influxdb_line_protocol.specs.format.Readings.{Text}
-use Rattle.influxdb_line_protocol.proofs.lemmas.names.NameLemmas.{without_escapes_same}
+use Rattle.influxdb_line_protocol.proofs.lemmas.names.NameLemmas.{without_escapes_same, no_backslash}
 use Rattle.influxdb_line_protocol.proofs.lemmas.fields.ReadingLemmas.{name_parts}
 use Rattle.influxdb_line_protocol.proofs.lemmas.scan.ScanLemmas.{bare_len, first_bare_len}
 use Rattle.influxdb_line_protocol.proofs.lemmas.laws.bases_tell_series.SortedTags.{by_key_permutes}
-use Rattle.influxdb_line_protocol.proofs.lemmas.laws.bases_tell_series.BasesTellSeries.{base_is, holds_none, tag_parts}
+use Rattle.influxdb_line_protocol.proofs.lemmas.laws.bases_tell_series.BasesTellSeries.{base_is, tag_parts}
 use Rattle.influxdb_line_protocol.proofs.lemmas.laws.bases_tell_series.BasesTellSeries.{tags_stand, value_part}
 
 -- nothing, or a text that begins with this byte
@@ -165,7 +165,7 @@ no_stop kind c text hit none =
 plain_name : (kind : NameKind) (text : List ℕ) → is_one_of text 92 ≡ false
     → without_escapes (escapable kind) (spelled kind text) ≡ spelled kind text
 plain_name kind text none = without_escapes_same (escapable kind) (spelled kind text)
-    (holds_none (spelled kind text) (none_taken 92 (spelled_len kind text) text none))
+    (no_backslash (spelled kind text) (none_taken 92 (spelled_len kind text) text none))
 
 -- no name of tags without a backslash is an escape alone, and no key holds an `=` and no value a comma
 plain_tags : (tags : List (Pair Text Text)) (text : List ℕ) → SeparatedAfterComma tag tags text [] → is_one_of text 92 ≡ false

@@ -1,13 +1,11 @@
 -- Bases tell parsed series from one another.
-use Rattle.std.proofs.Common.{◌≡◌, ℕ, zero, suc, ◌+◌, ◌<◌, true, false, not, List, [], ◌∷◌, ◌++◌, ◌&&◌, length, get_or}
+use Rattle.std.proofs.Common.{◌≡◌, ℕ, zero, suc, ◌+◌, ◌<◌, true, false, not, List, [], ◌∷◌, ◌++◌, ◌&&◌, length}
 use Rattle.std.proofs.Common.{drop, refl, sym, ap, ◌∙◌, subst, inl, inr, arith, append_assoc, add-one, Option, Some}
 use Rattle.std.proofs.Common.{None, Result, Ok}
-use Rattle.std.specs.Prelude.{◌==◌}
 use Rattle.std.specs.List.{flat_map, list_all, list_any}
 use Rattle.std.specs.Option.{is_some}
 use Rattle.std.proofs.lemmas.Bool.{and_parts, cases_Bool, eq-eqb, false≢true, not-true, or_cases, or_parts}
 use Rattle.std.proofs.lemmas.List.{take-append-drop}
-use Rattle.std.proofs.lemmas.List.Folds.{list_any_at}
 use Rattle.influxdb_line_protocol.specs.laws.BaseLaws.{IsClearSeries, IsParsedSeries, ClearSeriesHaveBases}
 use Rattle.influxdb_line_protocol.specs.laws.BaseLaws.{SameSeriesHaveOneBase, base_bytes, is_tag_one_escape, spelled_tags}
 use Rattle.influxdb_line_protocol.specs.code.Bases.{owned, base_by_key, base_of, base_text, based_tag, by_key}
@@ -22,20 +20,16 @@ use Rattle.influxdb_line_protocol.specs.format.Points.{Pair}
 use Rattle.influxdb_line_protocol.specs.format.Readings.{Fault, Read, Reading, Text, fatal, miss, reads}
 use Rattle.influxdb_line_protocol.proofs.lemmas.series.BaseLemmas.{base_falls, base_owned, base_part}
 use Rattle.influxdb_line_protocol.proofs.lemmas.laws.meanings.JoinedMeaning.{the_most_is_read}
-use Rattle.influxdb_line_protocol.proofs.lemmas.names.NameLemmas.{HasNoBackslash, without_escapes_same}
+use Rattle.influxdb_line_protocol.proofs.lemmas.names.NameLemmas.{without_escapes_same, no_backslash}
 use Rattle.influxdb_line_protocol.proofs.lemmas.fields.ReadingLemmas.{bind_reads, byte_parts, name_parts, reads_parts}
 use Rattle.influxdb_line_protocol.proofs.lemmas.laws.meanings.ShorterRests.{tag_no_longer}
 use Rattle.influxdb_line_protocol.proofs.lemmas.laws.bases_tell_series.SortedTags.{by_key_in_order, by_key_same}
-
--- what holds none of this byte has it at no place
-pub holds_none : (text : List ℕ) → is_one_of text 92 ≡ false → HasNoBackslash text
-holds_none text none i l e = false≢true (sym none ∙ list_any_at (λ c. c == 92) text i 0 l (eq-eqb (get_or text i 0) 92 e))
 
 -- a part of the text that is no escape alone is its own logical text
 single_same : (known text : List ℕ) → is_one_escape known text ≡ false → is_shared known text ≡ true → without_escapes known text ≡ text
 single_same known text apart shared = elim (or_cases (is_one_escape known text) (not (is_one_of text 92)) shared) [
   | inl alone ↦ absurd (false≢true (sym apart ∙ alone))
-  | inr plain ↦ without_escapes_same known text (holds_none text (not-true (is_one_of text 92) plain))
+  | inr plain ↦ without_escapes_same known text (no_backslash text (not-true (is_one_of text 92) plain))
 ]
 
 -- what is after a byte

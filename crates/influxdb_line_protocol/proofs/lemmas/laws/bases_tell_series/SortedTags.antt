@@ -1,5 +1,5 @@
 -- Tags by their keys: one list for each set of tags without a repeated key.
-use Rattle.std.proofs.Common.{◌≡◌, ◌⊎◌, ℕ, zero, suc, ◌<◌, true, false, List, [], ◌∷◌, ◌++◌, length, get_or, take}
+use Rattle.std.proofs.Common.{◌≡◌, ℕ, suc, ◌<◌, true, false, List, [], ◌∷◌, ◌++◌, length, get_or, take}
 use Rattle.std.proofs.Common.{refl, sym, ap, ◌∙◌, subst, inl, inr, arith, append_assoc, length-append, zero-add}
 use Rattle.std.specs.declared.cmp.Ordering.{Ordering}
 use Rattle.std.specs.declared.cmp.Ordering.TheVariants.{Less, Equal, Greater}
@@ -18,6 +18,7 @@ use Rattle.influxdb_line_protocol.specs.code.Bases.{by_key, first_repeated, in_o
 use Rattle.influxdb_line_protocol.specs.format.Points.{Pair}
 use Rattle.influxdb_line_protocol.specs.format.Readings.{Text}
 use Rattle.influxdb_line_protocol.proofs.lemmas.series.BaseOrder.{AreNew, by_key_moves}
+use Rattle.influxdb_line_protocol.proofs.lemmas.laws.Elements.{first_element, first_or_later, later_element}
 
 -- a key is less than all of these
 abbrev pub IsBelow : List ℕ → List (List ℕ × List ℕ) → Type 0
@@ -75,25 +76,11 @@ pub by_key_rises : (tags : List (Pair Text Text)) → Rise (by_key tags)
 unfolding by_key
 by_key_rises tags = rise_fold [] tags tt
 
--- an element is the first one or comes after it
-first_or_after : {X : Type 0} (x e : X) (xs : List X) → Contains (x ∷ xs) e → (x ≡ e) ⊎ Contains xs e
-first_or_after x e xs h = go h.0 h.1 h.2
-  where
-    go : (k : ℕ) → k < length (x ∷ xs) → get_or (x ∷ xs) k e ≡ e → (x ≡ e) ⊎ Contains xs e
-    go zero l is = inl is
-    go (suc k) l is = inr (k, omega arith, is)
-
-first_is_in : {X : Type 0} (x : X) (xs : List X) → Contains (x ∷ xs) x
-first_is_in x xs = (0, omega arith, refl)
-
-after_is_in : {X : Type 0} (x e : X) (xs : List X) → Contains xs e → Contains (x ∷ xs) e
-after_is_in x e xs h = (suc h.0, let l = h.1 in omega arith, h.2)
-
 -- what is less than all is less than each
 below_each : (k : List ℕ) (es : List (List ℕ × List ℕ)) (e : List ℕ × List ℕ) → IsBelow k es → Contains es e
     → slice_cmp nat_cmp k e.0 ≡ Less
 below_each k [] e below h = let l = h.1 in absurd (omega arith)
-below_each k (x ∷ es) e below h = elim (first_or_after x e es h) [
+below_each k (x ∷ es) e below h = elim (first_or_later x e es h) [
   | inl same ↦ ap (λ (y : List ℕ × List ℕ). slice_cmp nat_cmp k y.0) (sym same) ∙ below.0
   | inr after ↦ below_each k es e below.1 after
 ]
@@ -108,9 +95,9 @@ IsWithin xs ys = (e : List ℕ × List ℕ) → Contains xs e → Contains ys e
 
 same_first : (x y : List ℕ × List ℕ) (xs ys : List (List ℕ × List ℕ)) → IsBelow x.0 xs → IsBelow y.0 ys
     → IsWithin (x ∷ xs) (y ∷ ys) → IsWithin (y ∷ ys) (x ∷ xs) → x ≡ y
-same_first x y xs ys below under h k = elim (first_or_after y x ys (h x (first_is_in x xs))) [
+same_first x y xs ys below under h k = elim (first_or_later y x ys (h x (first_element x xs))) [
   | inl same ↦ sym same
-  | inr suffix ↦ elim (first_or_after x y xs (k y (first_is_in y ys))) [
+  | inr suffix ↦ elim (first_or_later x y xs (k y (first_element y ys))) [
     | inl same ↦ same
     | inr after ↦ absurd (not_below_itself x.0
         (nat_list_cmp_total.trans x.0 y.0 x.0 (below_each x.0 xs y below after) (below_each y.0 ys x under suffix)))
@@ -119,7 +106,7 @@ same_first x y xs ys below under h k = elim (first_or_after y x ys (h x (first_i
 
 within_after : (x y : List ℕ × List ℕ) (xs ys : List (List ℕ × List ℕ)) → x ≡ y → IsBelow x.0 xs
     → IsWithin (x ∷ xs) (y ∷ ys) → IsWithin xs ys
-within_after x y xs ys same below h e there = elim (first_or_after y e ys (h e (after_is_in x e xs there))) [
+within_after x y xs ys same below h e there = elim (first_or_later y e ys (h e (later_element x e xs there))) [
   | inl is ↦ absurd (not_below_itself x.0
       (ap (λ (z : List ℕ × List ℕ). slice_cmp nat_cmp x.0 z.0) (same ∙ is) ∙ below_each x.0 xs e below there))
   | inr after ↦ after
@@ -128,8 +115,8 @@ within_after x y xs ys same below h e there = elim (first_or_after y e ys (h e (
 -- where keys rise, the elements fix the list
 same_elements : (xs ys : List (List ℕ × List ℕ)) → Rise xs → Rise ys → IsWithin xs ys → IsWithin ys xs → xs ≡ ys
 same_elements [] [] rise up h k = refl
-same_elements [] (y ∷ ys) rise up h k = let l = (k y (first_is_in y ys)).1 in absurd (omega arith)
-same_elements (x ∷ xs) [] rise up h k = let l = (h x (first_is_in x xs)).1 in absurd (omega arith)
+same_elements [] (y ∷ ys) rise up h k = let l = (k y (first_element y ys)).1 in absurd (omega arith)
+same_elements (x ∷ xs) [] rise up h k = let l = (h x (first_element x xs)).1 in absurd (omega arith)
 same_elements (x ∷ xs) (y ∷ ys) rise up h k =
     let same : x ≡ y = same_first x y xs ys rise.0 up.0 h k in
     let more : xs ≡ ys = same_elements xs ys rise.1 up.1 (within_after x y xs ys same rise.0 h)

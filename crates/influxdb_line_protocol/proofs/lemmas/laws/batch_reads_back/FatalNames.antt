@@ -1,5 +1,5 @@
 -- A line with a name whose spelling stops too early: the name is fatal, and so is the line at a measurement.
-use Rattle.std.proofs.Common.{◌≡◌, ◌≢◌, ◌⊎◌, ℕ, ◌+◌, ◌<◌, List, [], ◌∷◌, ◌++◌, length, slice_index}
+use Rattle.std.proofs.Common.{◌≡◌, ◌⊎◌, ℕ, ◌<◌, List, [], ◌∷◌, ◌++◌, length, slice_index}
 use Rattle.std.proofs.Common.{true, false, refl, sym, ap, ◌∙◌, subst, arith, inl, inr, append_assoc}
 use Rattle.std.proofs.Common.{append-nil, Err, Result}
 use Rattle.std.specs.Prelude.{◌==◌}
@@ -16,12 +16,12 @@ use Rattle.influxdb_line_protocol.specs.format.Names.{ends_in_backslash, escapab
 use Rattle.influxdb_line_protocol.specs.format.Piece.{IsClosed}
 use Rattle.influxdb_line_protocol.specs.format.Points.{never_in, is_admitted_name}
 use Rattle.influxdb_line_protocol.specs.format.Points.{spelling}
-use Rattle.influxdb_line_protocol.specs.format.Pieces.{IsCutPiece, IsLastPiece, Pieces, Pieces.last, Pieces.cut}
+use Rattle.influxdb_line_protocol.specs.format.Pieces.{IsLastPiece, Pieces, Pieces.last, Pieces.cut}
 use Rattle.influxdb_line_protocol.specs.format.Lines.{Line}
 use Rattle.influxdb_line_protocol.specs.format.Lines.{answer}
 use Rattle.influxdb_line_protocol.specs.format.Items.{answers_of_piece, answers_of}
 use Rattle.influxdb_line_protocol.specs.laws.NamesOfLines.{IsParsedName}
-use Rattle.influxdb_line_protocol.proofs.lemmas.split.SplitPieces.{pieces_exist, same_pieces}
+use Rattle.influxdb_line_protocol.proofs.lemmas.split.SplitPieces.{no_cut_within}
 use Rattle.influxdb_line_protocol.proofs.lemmas.laws.batch_reads_back.NameReadsBack.{may_stand}
 use Rattle.influxdb_line_protocol.proofs.lemmas.laws.batch_reads_back.NameReadsBack.{escaped_plain}
 use Rattle.influxdb_line_protocol.proofs.lemmas.laws.batch_reads_back.Reaches.{reaches_start}
@@ -45,19 +45,6 @@ pub record Fails (line : List ℕ) : Type 0 where
   pub begins : (rest : List ℕ) → BeginsLine (front ++ rest)
   pub reached : IsClosed front
   pub answered : (dialect : Dialect) (rest : List ℕ) → StopsWith stop rest → answer dialect (front ++ rest) ≡ Err ends_with_backslash
-
--- no cut is within a piece
-no_pieces : (dialect : Dialect) (text : List ℕ) → Pieces dialect text [] → ⊥
-no_pieces dialect text h = elim h [ ]
-
--- since a text has one list of pieces
-no_cut_within : (dialect : Dialect) (piece rest : List ℕ) → IsCutPiece dialect piece → IsLastPiece dialect (piece ++ 10 ∷ rest) → ⊥
-no_cut_within dialect piece rest c h =
-    let more = pieces_exist dialect rest in
-    let same : piece ∷ more.0 ≡ (piece ++ 10 ∷ rest) ∷ [] = same_pieces dialect refl
-    (cut piece rest more.0 c more.1) (last (piece ++ 10 ∷ rest) h) in
-    let none : more.0 ≡ [] = cc (same) in
-    no_pieces dialect rest (subst (Pieces dialect rest) none more.1)
 
 -- a newline of a text stands in a front of it, or after that
 newline_place : (p q t x : List ℕ) → p ++ 10 ∷ t ≡ q ++ x → ((y : List ℕ) × (q ≡ p ++ 10 ∷ y))

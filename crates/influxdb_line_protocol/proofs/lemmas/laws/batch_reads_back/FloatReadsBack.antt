@@ -4,7 +4,7 @@ use Rattle.std.proofs.Common.{false, refl, sym, ap, ◌∙◌, arith, inl, inr, 
 use Rattle.std.specs.Prelude.{◌==◌, codes}
 use Rattle.std.specs.Char.{is_ascii_digit}
 use Rattle.std.specs.Str.Parse.{IsNumeral}
-use Rattle.std.proofs.lemmas.Bool.{cases_Bool, ne_eqb, lt-ltb}
+use Rattle.std.proofs.lemmas.Bool.{ne_eqb, lt-ltb}
 use Rattle.std.proofs.lemmas.Grind.{common_steps}
 use Rattle.std.proofs.lemmas.List.{append_assoc, take_at, drop_at, length-append, drop-drop, get_or-append-add}
 use Rattle.influxdb_line_protocol.specs.format.Bytes.{is_one_of}
@@ -12,8 +12,9 @@ use Rattle.influxdb_line_protocol.specs.format.Readings.{Text, miss, reads}
 use Rattle.influxdb_line_protocol.specs.format.Values.{Value, IsFloat, IsMarked, IsSigned, value, float, integer_at}
 use Rattle.influxdb_line_protocol.specs.format.Values.{unsigned_at, float_at, digits_len, number_len, marked_len, integer_len}
 use Rattle.influxdb_line_protocol.specs.format.Values.{fraction_len, exponent_len, float_len}
-use Rattle.influxdb_line_protocol.proofs.lemmas.values.ValueLemmas.{integer_unmarked}
-use Rattle.influxdb_line_protocol.proofs.lemmas.laws.batch_reads_back.IntegerReadsBack.{digits_before, digit_passes}
+use Rattle.influxdb_line_protocol.proofs.lemmas.values.ValueLemmas.{integer_unmarked, unsigned_unmarked}
+use Rattle.influxdb_line_protocol.proofs.lemmas.laws.batch_reads_back.IntegerReadsBack.{digits_before}
+use Rattle.influxdb_line_protocol.proofs.lemmas.literals.FloatLemmas.{digit_passes, signed_some, minus_no_digit, sign_no_digit}
 
 -- no digit at the start
 no_digits : (text : List ℕ) → is_ascii_digit (slice_index text 0) ≡ false → digits_len text ≡ 0
@@ -32,11 +33,6 @@ signed_len signs (b ∷ ds) tail apart (inr numeral) ends =
     let first = digit_passes b numeral.1.0 in
     let some_digit : (suc (length ds) == 0) ≡ false = ne_eqb (suc (length ds)) 0 (λ e. absurd (omega arith)) in
     rw (apart b first, first, digits_before ds tail numeral.1.1 ends, one-add, some_digit, zero-add) refl
-
--- such a text is not empty
-signed_some : (signs text : List ℕ) → IsSigned signs text → 0 < length text
-signed_some signs [] never = absurd never
-signed_some signs (b ∷ ds) any = omega arith
 
 -- a mark and a part, or nothing
 marked_len_is : (marks : List ℕ) (part : List ℕ → ℕ) (Part : List ℕ → Type 0) (text tail : List ℕ) → IsMarked marks Part text
@@ -64,14 +60,6 @@ fraction_head : (fraction after : List ℕ) → IsMarked (codes ".") (IsNumeral 
 fraction_head [] after marked ends = grind (arith, common_steps)
 fraction_head (b ∷ x) after marked ends = let mark : is_one_of (codes ".") b ≡ true = marked.0 in grind (arith, common_steps)
 
--- a digit is no minus
-minus_no_digit : (d : ℕ) → is_ascii_digit d ≡ true → is_one_of (codes "-") d ≡ false
-minus_no_digit d h = grind (arith, common_steps)
-
--- a digit is no sign
-sign_no_digit : (d : ℕ) → is_ascii_digit d ≡ true → is_one_of (codes "+-") d ≡ false
-sign_no_digit d h = grind (arith, common_steps)
-
 -- none of these bytes is a digit or a mark of an integer
 no_digit_after : (h : ℕ) → is_one_of (0 ∷ 44 ∷ 32 ∷ 101 ∷ 69 ∷ 46 ∷ []) h ≡ true → (is_ascii_digit h ≡ false) × (h ≢ 105) × (h ≢ 117)
 no_digit_after h e = (grind (arith, common_steps), (λ i. grind (arith, common_steps)), (λ i. grind (arith, common_steps)))
@@ -87,15 +75,6 @@ no_mark_after h e = (grind (arith, common_steps), grind (arith, common_steps))
 -- the byte after a front
 byte_after : (front after : List ℕ) → slice_index (front ++ after) (length front) ≡ slice_index after 0
 byte_after front after = rw add-zero at (get_or-append-add front after 0 0)
-
--- what is no unsigned number
-unsigned_unmarked : (text : List ℕ) → slice_index text (digits_len text) ≢ 117 → unsigned_at text ≡ miss
-unfolding unsigned_at
-unsigned_unmarked text other =
-    elim (cases_Bool (digits_len text == 0)) [
-      | inl none ↦ rw none refl
-      | inr some ↦ rw (some, ne_eqb (slice_index text (digits_len text)) 117 other) refl
-    ]
 
 -- the part before the point is no unsigned number
 whole_unmarked : (whole suffix : List ℕ) → IsSigned (codes "-") whole

@@ -1,10 +1,9 @@
 -- An integer reads back as it was written.
 use Rattle.std.proofs.Common.{◌≡◌, ℕ, suc, ◌^◌, ◌<◌, List, [], ◌∷◌, ◌++◌, length, true, false, refl, sym, ap, ◌∙◌, arith, one-add, zero-add}
 use Rattle.std.specs.Prelude.{◌==◌, ℤ, pos, negsuc, decimal}
-use Rattle.std.specs.Char.{is_ascii_digit, digit_value}
 use Rattle.std.specs.Fmt.{signed_decimal}
 use Rattle.std.specs.Str.Parse.{AllDigits, IsNumeral, digits_value, signed_digits_value}
-use Rattle.std.proofs.lemmas.Bool.{le-leb, and_from, ne_eqb}
+use Rattle.std.proofs.lemmas.Bool.{ne_eqb}
 use Rattle.std.proofs.lemmas.Fmt.{decimal_is_IsNumeral}
 use Rattle.std.proofs.lemmas.Str.Parse.{digit_from_value}
 use Rattle.std.proofs.lemmas.List.{take_at, drop_at}
@@ -12,12 +11,7 @@ use Rattle.influxdb_line_protocol.specs.format.Lines.{spaces}
 use Rattle.influxdb_line_protocol.specs.format.Readings.{reads}
 use Rattle.influxdb_line_protocol.specs.format.Values.{digits_len, fits_i64, integer, integer_at, integer_len}
 use Rattle.influxdb_line_protocol.proofs.lemmas.values.ValueLemmas.{fits_from_test, integer_parsed}
-
--- a digit passes the test
-pub digit_passes : (b : ℕ) → digit_value b < 10 → is_ascii_digit b ≡ true
-digit_passes b h =
-    let range = digit_from_value b h in
-    and_from _ _ (le-leb 48 b range.0) (le-leb b 57 range.1)
+use Rattle.influxdb_line_protocol.proofs.lemmas.literals.FloatLemmas.{digit_passes}
 
 -- digits end where no digit follows
 pub digits_before : (ds tail : List ℕ) → AllDigits 10 ds → digits_len tail ≡ 0 → digits_len (ds ++ tail) ≡ length ds

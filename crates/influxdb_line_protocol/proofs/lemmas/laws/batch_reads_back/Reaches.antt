@@ -1,5 +1,5 @@
 -- A splitter that is within a stretch reaches the end of a name, and stays within it.
-use Rattle.std.proofs.Common.{◌≡◌, ◌≢◌, ℕ, ◌+◌, List, [], ◌∷◌, ◌++◌, Bool, true, false}
+use Rattle.std.proofs.Common.{◌≡◌, ◌≢◌, ℕ, List, [], ◌∷◌, ◌++◌, Bool, true, false}
 use Rattle.std.proofs.Common.{refl, sym, ap, ◌∙◌, subst, arith, inl, inr, append_assoc, append-nil}
 use Rattle.std.specs.List.{list_all}
 use Rattle.std.proofs.lemmas.Bool.{cases_Bool, and_parts}
@@ -19,6 +19,7 @@ use Rattle.influxdb_line_protocol.proofs.lemmas.names.NameLemmas.{escapable_back
 use Rattle.influxdb_line_protocol.proofs.lemmas.laws.batch_reads_back.NameReadsBack.{admitted_parts}
 use Rattle.influxdb_line_protocol.proofs.lemmas.laws.batch_reads_back.NameReadsBack.{may_stand}
 use Rattle.influxdb_line_protocol.proofs.lemmas.laws.batch_reads_back.NameReadsBack.{escaped_found, escaped_plain, space_escapable}
+use Rattle.influxdb_line_protocol.proofs.lemmas.builder.BuilderLemmas.{escaped_nothing}
 
 -- what comes after these bytes is bare, and it is in this part, with these counts
 abbrev pub Reaches : Part → ℕ → ℕ → List ℕ → Type 0
@@ -46,18 +47,13 @@ pub reaches_byte : (part : Part) (e c : ℕ) (piece : List ℕ) (b : ℕ) → Ch
     → Reaches part e c piece → Reaches part e c (piece ++ b ∷ [])
 reaches_byte part e c piece b same r = (is_escaped-push_other piece b same.0, same.1 piece r.0 r.1)
 
--- no text, no escapes
-escaped_none : (known : List ℕ) → escaped known [] ≡ []
-unfolding escaped
-escaped_none known = refl
-
 -- a text with escapes changes nothing where none of its other bytes does
 module _ (part : Part) (e c : ℕ) (known : List ℕ) (may : ℕ → Bool)
     (same : (b : ℕ) → may b ≡ true → is_one_of known b ≡ false → ChangesNothing part e c b) where
   pub reaches_escaped : (text piece : List ℕ) → list_all may text ≡ true → Reaches part e c piece
       → Reaches part e c (piece ++ escaped known text)
   reaches_escaped [] piece all r = subst (Reaches part e c)
-      (sym (append-nil piece) ∙ ap (λ (xs : List ℕ). piece ++ xs) (sym (escaped_none known))) r
+      (sym (append-nil piece) ∙ ap (λ (xs : List ℕ). piece ++ xs) (sym (escaped_nothing known))) r
   reaches_escaped (b ∷ text) piece all r =
       let parts = and_parts (may b) (list_all may text) all in
       elim (cases_Bool (is_one_of known b)) [

@@ -16,7 +16,6 @@ use Rattle.influxdb_line_protocol.specs.format.Points.{Point, IsPoint, Pair, Tag
 use Rattle.influxdb_line_protocol.specs.format.Points.{is_admitted_tag, is_admitted_field, is_admitted_point, spelling, built}
 use Rattle.influxdb_line_protocol.specs.format.Points.{built_all, built_tag, built_field, built_fields, built_value}
 use Rattle.influxdb_line_protocol.specs.format.Points.{built_timestamp, line_of}
-use Rattle.influxdb_line_protocol.specs.format.Pieces.{Pieces.last}
 use Rattle.influxdb_line_protocol.specs.format.Lines.{Line, point_of, tag, field, separated_list, tag_set}
 use Rattle.influxdb_line_protocol.specs.format.Lines.{field_set, spaces, answer}
 use Rattle.influxdb_line_protocol.specs.format.Items.{HasAnswers, item_of, answers_of}

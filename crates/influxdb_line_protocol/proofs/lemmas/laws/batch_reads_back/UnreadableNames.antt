@@ -1,5 +1,5 @@
 -- No line has an unreadable name, and a point that is not admitted, but whose names lines can have, is answered in its place.
-use Rattle.std.proofs.Common.{◌≡◌, ℕ, suc, ◌<◌, List, [], ◌∷◌, ◌++◌, length, map, false, refl, sym, ap, ◌∙◌, subst, arith, inl, inr}
+use Rattle.std.proofs.Common.{◌≡◌, ℕ, ◌<◌, List, [], ◌∷◌, ◌++◌, length, map, false, refl, sym, ap, ◌∙◌, subst, arith, inl, inr}
 use Rattle.std.proofs.Common.{append_assoc, Ok, Err, Result}
 use Rattle.std.specs.List.{AllByRecursion, Contains}
 use Rattle.std.proofs.lemmas.Bool.{cases_Bool, both_ways}
@@ -17,9 +17,10 @@ use Rattle.influxdb_line_protocol.specs.laws.Laws.{ItemsHaveReadableNames, Other
 use Rattle.influxdb_line_protocol.proofs.lemmas.split.SplitPieces.{pieces_exist}
 use Rattle.influxdb_line_protocol.proofs.lemmas.laws.batch_reads_back.BatchesReadBack.{admitted_batches_read_back}
 use Rattle.influxdb_line_protocol.proofs.lemmas.laws.parsed_names.ParsedNames.{ParsedPoint, names_are_parsed}
-use Rattle.influxdb_line_protocol.proofs.lemmas.laws.parsed_names.ParsedNames.{first_or_later, nothing_in_nil}
+use Rattle.influxdb_line_protocol.proofs.lemmas.laws.parsed_names.ParsedNames.{nothing_in_nil}
 use Rattle.influxdb_line_protocol.proofs.lemmas.laws.batch_reads_back.FatalNames.{first_fails}
 use Rattle.influxdb_line_protocol.proofs.lemmas.laws.batch_reads_back.RefusedBatches.{point_fails, same_answers}
+use Rattle.influxdb_line_protocol.proofs.lemmas.laws.Elements.{first_element, first_or_later, later_element}
 
 -- a name as a line can have it is not unreadable
 parsed_is_readable : {kind : NameKind} {n : List ℕ} → IsParsedName kind n → ¬ IsUnreadable kind n
@@ -52,14 +53,6 @@ readable_is_parsed kind n h =
         | inr e ↦ absurd (h (subst (IsUnreadable kind) (sym is) (alone kind front back b never e)))
       ];
     }
-
--- an element of a list is one of a longer list
-pub later_element : {X : Type 0} (y x : X) (xs : List X) → Contains xs x → Contains (y ∷ xs) x
-later_element y x xs h = let at = h.1 in let is = h.2 in (suc h.0, omega arith, is)
-
--- the first element of a list is one of it
-pub first_element : {X : Type 0} (x : X) (xs : List X) → Contains (x ∷ xs) x
-first_element x xs = (0, omega arith, refl)
 
 -- what holds of each made element holds of all
 all_elements : {X Y : Type 0} (P : Y → Type 0) (make : X → Y) (xs : List X) → ((y : Y) → Contains (map make xs) y → P y)

@@ -18,8 +18,8 @@ use Rattle.influxdb_line_protocol.specs.format.Values.{digits_len, float_len, wo
 use Rattle.influxdb_line_protocol.specs.format.Values.{false_words, fits_i64, side_of, integer_at, unsigned_at, float_at}
 use Rattle.influxdb_line_protocol.specs.format.Values.{string_at, boolean_at, value}
 use Rattle.influxdb_line_protocol.specs.format.Points.{Pair, IsValue}
-use Rattle.influxdb_line_protocol.specs.format.Lines.{Line, answer, logical_field, logical_value, byte, field, after_comma}
-use Rattle.influxdb_line_protocol.specs.format.Lines.{prepend, many, separated_list, field_set, without_comma, spaces}
+use Rattle.influxdb_line_protocol.specs.format.Lines.{Line, answer, logical_field, logical_value, byte, field}
+use Rattle.influxdb_line_protocol.specs.format.Lines.{separated_list, field_set, without_comma, spaces}
 use Rattle.influxdb_line_protocol.specs.format.Lines.{timestamp}
 use Rattle.influxdb_line_protocol.specs.laws.PointsOfLines.{LinesArePoints}
 use Rattle.influxdb_line_protocol.specs.code.WrittenAgain.{IsReadValue}
@@ -27,6 +27,7 @@ use Rattle.influxdb_line_protocol.proofs.lemmas.literals.FloatLemmas.{float_len_
 use Rattle.influxdb_line_protocol.proofs.lemmas.builder.ReadStrings.{body_read}
 use Rattle.influxdb_line_protocol.proofs.lemmas.laws.parsed_names.Inversions.{bound, joined_of}
 use Rattle.influxdb_line_protocol.proofs.lemmas.laws.parsed_names.ParsedNames.{ok_same, answer_parts}
+use Rattle.influxdb_line_protocol.proofs.lemmas.line.SomeTags.{joined_some}
 
 -- a value that was read is one of its type, and one that can be read
 abbrev pub Fits : Value Text → Type 0
@@ -134,21 +135,6 @@ field_fits line f rest h =
     let x = bound (value sign.after) (last key.value) f rest sign.second in
     let same : record { key = key.value; value = x.value } ≡ f = cc (x.second) in
     subst FieldFits same (value_fits sign.after x.value x.after x.first)
-
--- fields that were read with a first one are some
-onto_some : {A : Type 0} (x : A) (r : Reading (List A)) (xs : List A) (rest : List ℕ) → prepend (x ∷ []) r ≡ reads xs rest → 0 < length xs
-onto_some x miss xs rest h = absurd (cc)
-onto_some x (fatal e) xs rest h = absurd (cc)
-onto_some {A = A} x (reads more after) xs rest h =
-    let same : x ∷ more ≡ xs = cc in
-    subst (λ (l : List A). 0 < length l) same (omega arith)
-
--- some are joined
-joined_some : {A : Type 0} (one : List ℕ → Reading A) (line rest : List ℕ) (xs : List A)
-    → separated_list one line ≡ reads xs rest → 0 < length xs
-joined_some one line rest xs h =
-    let first = bound (one line) (λ x. prepend (x.value ∷ []) (many (after_comma one) (length x.rest) x.rest)) xs rest h in
-    onto_some first.value (many (after_comma one) (length first.after) first.after) xs rest first.second
 
 -- the fields of a line: at least one, and each with a value of its type
 record SomeFit (fs : List (Pair Text (Value Text))) : Type 0 where

@@ -8,7 +8,7 @@ use Rattle.influxdb_line_protocol.specs.laws.Meanings.{IsLogical, empty, plain, 
 use Rattle.influxdb_line_protocol.proofs.lemmas.names.NameLemmas.{without_escapes_plain_byte, without_escapes_known}
 
 -- a backslash and a byte that is not known stay
-without_escapes_other : (known : List ℕ) (c : ℕ) (rest : List ℕ) → is_one_of known c ≡ false
+pub without_escapes_other : (known : List ℕ) (c : ℕ) (rest : List ℕ) → is_one_of known c ≡ false
     → without_escapes known (92 ∷ c ∷ rest) ≡ 92 ∷ c ∷ without_escapes known rest
 unfolding without_escapes
 without_escapes_other known c rest h = rw h refl

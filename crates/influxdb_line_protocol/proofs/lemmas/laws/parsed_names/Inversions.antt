@@ -4,7 +4,6 @@ use Rattle.std.proofs.Common.{refl, ap, subst}
 use Rattle.std.specs.List.{AllByRecursion}
 use Rattle.influxdb_line_protocol.specs.format.Bytes.{comma}
 use Rattle.influxdb_line_protocol.specs.format.Readings.{Read, Reading, miss, fatal, reads, ◌>>=◌}
-use Rattle.influxdb_line_protocol.specs.format.Values.{value}
 use Rattle.influxdb_line_protocol.specs.format.Lines.{byte}
 use Rattle.influxdb_line_protocol.specs.format.Lines.{after_comma, prepend, one_and_more, many, separated_list}
 

@@ -1,12 +1,12 @@
 -- Which names lines can have, and that they can have each of them.
-use Rattle.std.proofs.Common.{◌≡◌, ◌≢◌, ◌⊎◌, ℕ, ◌-◌, List, [], ◌∷◌, length, drop, map}
+use Rattle.std.proofs.Common.{◌≡◌, ◌≢◌, ℕ, List, [], ◌∷◌, length, drop, map}
 use Rattle.std.proofs.Common.{slice_index, Bool, true, false, ◌||◌, refl, ap, ◌∙◌, subst, arith, inl}
 use Rattle.std.proofs.Common.{inr, Option, Some, None, Ok, Err, Result}
 use Rattle.std.specs.Prelude.{◌==◌, ℤ}
 use Rattle.std.specs.List.{AllByRecursion, Contains}
 use Rattle.std.proofs.lemmas.Bool.{cases_Bool, or_parts}
 use Rattle.std.proofs.lemmas.Bool.{eqb-false, eqb-true}
-use Rattle.std.proofs.lemmas.List.Elements.{Contains-append_cases, Contains-push_cases}
+use Rattle.std.proofs.lemmas.List.Elements.{Contains-append_cases}
 use Rattle.influxdb_line_protocol.specs.declared.split.Dialect.{Dialect}
 use Rattle.influxdb_line_protocol.specs.declared.split.Dialect.TheVariants.{Strict}
 use Rattle.influxdb_line_protocol.specs.format.Bytes.{space, equals}
@@ -27,6 +27,7 @@ use Rattle.influxdb_line_protocol.specs.laws.Laws.{NamesAreParsed, StrictFieldsE
 use Rattle.influxdb_line_protocol.proofs.lemmas.line.TrimLemmas.{is_blank, left_of, trimmed_is}
 use Rattle.influxdb_line_protocol.proofs.lemmas.laws.parsed_names.KeptNames.{name_parsed}
 use Rattle.influxdb_line_protocol.proofs.lemmas.laws.parsed_names.Inversions.{bound, joined_of}
+use Rattle.influxdb_line_protocol.proofs.lemmas.laws.Elements.{first_or_later}
 
 -- the names of a tag, and that of a field
 abbrev ParsedTag : Pair Text Text → Type 0
@@ -246,14 +247,6 @@ trimmed_begins text = rw (trimmed_is text) (left_begins false text)
 -- an element of a list that is made from others is made from one of them
 pub nothing_in_nil : {X : Type 0} (x : X) → Contains [] x → ⊥
 nothing_in_nil x h = omega (arith, h.1)
-
--- an element is the first, or one of the others
-pub first_or_later : {X : Type 0} (y x : X) (xs : List X) → Contains (y ∷ xs) x → (y ≡ x) ⊎ Contains xs x
-first_or_later y x xs h =
-    elim (Contains-append_cases (y ∷ []) xs x h) [
-      | inl first ↦ elim (Contains-push_cases [] y x first) [ inl never ↦ absurd (nothing_in_nil x never) | inr same ↦ inl same ]
-      | inr later ↦ inr later
-    ]
 
 -- what holds of all holds of each
 all_of : {X : Type 0} (P : X → Type 0) (xs : List X) (x : X) → AllByRecursion P xs → Contains xs x → P x

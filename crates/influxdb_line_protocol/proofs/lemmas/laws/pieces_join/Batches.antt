@@ -12,7 +12,7 @@ use Rattle.influxdb_line_protocol.specs.format.Trimming.{trimmed}
 use Rattle.influxdb_line_protocol.specs.format.Pieces.{IsCutPiece, Pieces, Pieces.last, Pieces.cut}
 use Rattle.influxdb_line_protocol.specs.format.Bytes.{newline}
 use Rattle.influxdb_line_protocol.specs.format.Items.{HasAnswers, answers_of, answers_of_piece}
-use Rattle.influxdb_line_protocol.proofs.lemmas.split.SplitPieces.{same_pieces, join_from_cut}
+use Rattle.influxdb_line_protocol.proofs.lemmas.split.SplitPieces.{same_pieces, join_from_cut, Pieces-nil}
 use Rattle.influxdb_line_protocol.specs.format.Lines.{Line, point_of}
 
 -- the answers for a piece, by the answer for a trimmed text
@@ -63,10 +63,6 @@ module _ (dialect : Dialect) (answer : List ℕ → Result Line Fault) where
         },
       )
 
--- a text has a piece
-no_pieces : (dialect : Dialect) {text : List ℕ} → Pieces dialect text [] → ⊥
-no_pieces dialect h = elim h [ ]
-
 -- pieces are the text that they are pieces of
 pub pieces_are_text : (dialect : Dialect) {text : List ℕ} {pieces : List (List ℕ)} → Pieces dialect text pieces
     → join_with_byte newline pieces ≡ text
@@ -75,7 +71,7 @@ pieces_are_text dialect (cut piece text pieces c h) = separated_list pieces h (p
   where
     separated_list : {text : List ℕ} (pieces : List (List ℕ)) → Pieces dialect text pieces
         → join_with_byte newline pieces ≡ text → join_with_byte newline (piece ∷ pieces) ≡ piece ++ newline ∷ text
-    separated_list [] h e = absurd (no_pieces dialect h)
+    separated_list [] h e = absurd (Pieces-nil dialect _ h)
     separated_list (q ∷ pieces) h e = ap (λ (xs : List ℕ). piece ++ newline ∷ xs) e
 
 -- the answers for two texts with a newline between them
