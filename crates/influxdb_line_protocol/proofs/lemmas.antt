@@ -1,4 +1,5 @@
 pub mod split
+pub mod stream
 pub mod forms
 pub mod lanes
 pub mod scan

@@ -22,3 +22,5 @@ pub mod Marks
 pub mod Stops
 pub mod Walks
 pub mod Ahead
+pub mod Streams
+pub mod Lending

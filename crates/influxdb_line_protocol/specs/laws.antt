@@ -6,3 +6,4 @@ pub mod Laws
 pub mod Meanings
 pub mod MeaningsOfAnswers
 pub mod BaseLaws
+pub mod StreamLaws

@@ -16,6 +16,8 @@ ghost use Rattle.influxdb_line_protocol.specs.laws.Meanings.{WordFrontIsWord, Wo
 ghost use Rattle.influxdb_line_protocol.specs.laws.Meanings.{TrimmedIsAfterBlanks, TrimmedFrontIsLongest};
 ghost use Rattle.influxdb_line_protocol.specs.laws.Meanings.{NameEndsBeforeStop, BodyEndsBeforeQuote};
 ghost use Rattle.influxdb_line_protocol.specs.laws.MeaningsOfAnswers.{AnswerIsByRows};
+ghost use Rattle.influxdb_line_protocol.specs.laws.StreamLaws.{FrontsKeepTheirCuts, TakenIsFirst, RunsGivePieces};
+ghost use Rattle.influxdb_line_protocol.specs.laws.StreamLaws.{RunsEnd, Utf8ByPieces};
 ghost use Rattle.influxdb_line_protocol.specs.format.Lines.{tag, field};
 
 /// Where memory and room suffice, a batch built from points, followed by any text, parses to exactly
@@ -73,6 +75,24 @@ pub fn pieces_join()
     ensures join { PiecesJoin }
     ensures items { AnswersJoin }
     ensures comment { CommentsStandAlone }
+{}
+
+/// The first cut of a text is the first cut of each text that begins with it.
+pub fn fronts_keep_their_cuts()
+    ensures { FrontsKeepTheirCuts }
+{}
+
+/// Whatever comes after the parts that were given to a stream, the pieces that it gave, and after them those of what it
+/// holds and what comes, are the pieces of all. Where nothing more comes, what it holds is the last of them.
+pub fn runs_give_pieces()
+    ensures taken { TakenIsFirst }
+    ensures runs { RunsGivePieces }
+    ensures end { RunsEnd }
+{}
+
+/// Bytes are UTF-8 exactly where each of their pieces is.
+pub fn utf8_by_pieces()
+    ensures { Utf8ByPieces }
 {}
 
 /// Each text stands for exactly one logical text, whichever bytes a backslash may escape in it: a

@@ -546,7 +546,7 @@ fn first_newline(text: &[u8]) -> Option<usize>
 
 /// The place of the newline that ends the first piece, or `None` where the text is one piece.
 #[inline(always)]
-fn late_cut(dialect: Dialect, text: &[u8]) -> Option<usize>
+pub(crate) fn late_cut(dialect: Dialect, text: &[u8]) -> Option<usize>
     ensures { IsFirstCut dialect text.now result }
 {
     match dialect {

@@ -117,7 +117,17 @@ goes_on : (dialect : Dialect) (front : List ℕ) (b : ℕ) → IsLastPiece diale
 goes_on Crate front b h = crate_goes_on front b h
 goes_on Strict front b h = strict_goes_on front b h
 
-IsLastPiece-nil : (dialect : Dialect) → IsLastPiece dialect []
+-- bytes without a newline cut nothing
+pub IsLastPiece-extend : (dialect : Dialect) (front more : List ℕ) → IsLastPiece dialect front → All (λ b. b ≢ 10) more
+    → IsLastPiece dialect (front ++ more)
+IsLastPiece-extend dialect front [] h n = rw append-nil h
+IsLastPiece-extend dialect front (b ∷ more) h n = elim (goes_on dialect front b h) [
+  | inl w ↦ absurd (All-head (λ c. c ≢ 10) b more n w.0)
+  | inr w ↦ subst (IsLastPiece dialect) (append_assoc front (b ∷ []) more)
+      (IsLastPiece-extend dialect (front ++ b ∷ []) more w (All-tail (λ c. c ≢ 10) b more n))
+]
+
+pub IsLastPiece-nil : (dialect : Dialect) → IsLastPiece dialect []
 IsLastPiece-nil Crate = inl (inl (All-nil (λ b. (b ≢ 32) × (b ≢ 10))))
 IsLastPiece-nil Strict = inr (refl, inl (inl (All-nil (λ b. (b ≢ 32) × (b ≢ 10)))))
 

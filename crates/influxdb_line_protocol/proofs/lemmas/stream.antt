@@ -1,0 +1,2 @@
+pub mod HeldBytes
+pub mod StreamRuns

@@ -1,0 +1,23 @@
+-- What a stream is once the piece that it lent is let go.
+use Rattle.std.specs.Prelude.{ℕ, List, Option, Result}
+use Rattle.std.specs.Borrow.{Fml, Bor, MutBor}
+use Rattle.std.specs.Io.BufRead.{Rests}
+use Rattle.influxdb_line_protocol.specs.code.Streams.{GivesCut, GivesCutText, GivesLast, GivesLastText}
+use Rattle.influxdb_line_protocol.specs.declared.stream.LineStream.{LineStream}
+use Rattle.influxdb_line_protocol.specs.contracts.stream.LineStream.{the_row}
+
+-- it gave a piece
+abbrev pub EndsAsCut : MutBor LineStream → Option (Bor (List ℕ)) → Fml
+EndsAsCut stream result = Rests the_row stream (GivesCut stream.now result)
+
+-- it gave a piece as text
+abbrev pub EndsAsCutText : {E : Type 0} → MutBor LineStream → Option (Result (Bor (List ℕ)) E) → Fml
+EndsAsCutText stream result = Rests the_row stream (GivesCutText stream.now result)
+
+-- it gave the last piece
+abbrev pub EndsAsLast : MutBor LineStream → Bor (List ℕ) → Fml
+EndsAsLast stream result = Rests the_row stream (GivesLast stream.now result.now)
+
+-- it gave the last piece as text
+abbrev pub EndsAsLastText : {E : Type 0} → MutBor LineStream → Result (Bor (List ℕ)) E → Fml
+EndsAsLastText stream result = Rests the_row stream (GivesLastText stream.now result)

@@ -1,0 +1,160 @@
+//! Lines that come in parts.
+
+ghost use Rattle.std.specs.Prelude.{◌≡◌, ◌≢◌, false, ◌+◌, ◌≤◌, ◌++◌, [], length, take, OnOk, OnErr};
+ghost use Rattle.std.specs.Borrow.{sem};
+ghost use Rattle.std.specs.List.{All};
+ghost use Rattle.influxdb_line_protocol.specs.declared.split.Dialect.{Dialect};
+ghost use Rattle.influxdb_line_protocol.specs.format.Bytes.{newline};
+ghost use Rattle.influxdb_line_protocol.specs.format.Pieces.{IsFirstCut, IsLastPiece};
+
+use crate::split::{Dialect, late_cut};
+use memchr::memchr;
+use std::alloc::{AllocError, Global};
+use std::marker::Model;
+use std::str::{self, Utf8Error};
+
+/// The pieces of a text that comes in parts: what [`split_lines`](crate::split_lines) gives for all of it.
+///
+/// A part is given by [`push`](Self::push) and may be cut anywhere, also inside a character or an escape. Each piece is
+/// there as soon as the newline that ends it has come, and the last one once no more parts come.
+///
+/// Memory is asked for only where the buffer grows.
+///
+/// ```text
+/// stream.push(b"m s=\"a")         next_text gives None
+/// stream.push(b"\nb\"\nn c=1i")   next_text gives Some(Ok("m s=\"a\nb\"")), and then None
+///                                 finish_text gives Ok("n c=1i")
+/// ```
+#[derive(Drop)]
+pub struct LineStream {
+    dialect: Dialect,
+    buffer: Vec<u8>,
+    // Where the bytes begin that are held.
+    start: usize,
+    // So many bytes from there on hold no cut.
+    quiet: usize,
+}
+
+impl Model for LineStream {
+    ghost use Rattle.std.specs.Prelude.{drop};
+    ghost use Rattle.influxdb_line_protocol.specs.code.Streams.{Held, IsHeldAt};
+
+    ghost Value = { Held };
+
+    ghost view = { λ s. record { dialect = s.dialect; bytes = drop s.start s.buffer.items } };
+
+    ghost invariant = { λ s. IsHeldAt s.dialect s.buffer.items s.start s.quiet };
+}
+
+// Whether a newline is among the bytes.
+fn has_newline(bytes: &[u8]) -> bool
+    ensures { result ≡ false → All (λ b. b ≢ newline) bytes.now }
+{
+    memchr(b'\n', bytes).is_some()
+}
+
+// The place of the newline that ends the first piece, where no cut is among the first `quiet` bytes.
+fn next_cut(dialect: Dialect, held: &[u8], quiet: usize) -> Option<usize>
+    requires within { quiet ≤ length held.now }
+    requires is_quiet { IsLastPiece dialect (take quiet held.now) }
+    ensures { IsFirstCut dialect held.now result }
+{
+    if has_newline(&held[quiet..]) {
+        late_cut(dialect, held)
+    } else {
+        None
+    }
+}
+
+impl LineStream {
+    ghost use Rattle.influxdb_line_protocol.specs.code.Lending.{EndsAsCut, EndsAsCutText};
+    ghost use Rattle.influxdb_line_protocol.specs.code.Lending.{EndsAsLast, EndsAsLastText};
+
+    /// A stream that holds nothing, by the rules of the crate. No memory is taken.
+    pub fn new(alloc: Global) -> LineStream
+        ensures { result ≡ record { dialect = Dialect.Crate; bytes = [] } }
+    {
+        LineStream::new_in(alloc, Dialect::Crate)
+    }
+
+    /// A stream that holds nothing, by the rules of a dialect. No memory is taken.
+    pub fn new_in(alloc: Global, dialect: Dialect) -> LineStream
+        ensures { result ≡ record { dialect = dialect; bytes = [] } }
+    {
+        LineStream {
+            dialect,
+            buffer: Vec::new(alloc),
+            start: 0,
+            quiet: 0,
+        }
+    }
+
+    /// Takes the next part of the text.
+    ///
+    /// Where memory was refused, nothing is lost, and the same part can be given again.
+    pub fn push(&mut self, part: &[u8]) -> Result<(), AllocError>
+        ensures dialect { self.new.dialect ≡ self.old.dialect }
+        ensures ok { OnOk result (self.new.bytes ≡ self.old.bytes ++ part.now) }
+        ensures err { OnErr result (self.new.bytes ≡ self.old.bytes) }
+    {
+        if self.start >= self.buffer.len() - self.start {
+            self.compact();
+        }
+        self.buffer.extend_from_slice(part)
+    }
+
+    // Drops the bytes of the pieces that were given.
+    fn compact(&mut self)
+        ensures { self.new ≡ self.old }
+    {
+        self.buffer.drain(..self.start);
+        self.start = 0;
+    }
+
+    /// The first piece that a newline ends, or `None` until that newline has come.
+    pub fn next(&mut self) -> Option<&[u8]>
+        ensures* after { sem 𝓛 (EndsAsCut self.entry result) }
+    {
+        let held = &self.buffer[self.start..];
+        match next_cut(self.dialect, held, self.quiet) {
+            Some(i) => {
+                let from = self.start;
+                self.start = from + i + 1;
+                self.quiet = 0;
+                Some(&self.buffer[from..from + i])
+            }
+            None => {
+                self.quiet = held.len();
+                None
+            }
+        }
+    }
+
+    /// The same as text, or an error where the piece is not UTF-8. It is taken all the same, and the next ones are given.
+    pub fn next_text(&mut self) -> Option<Result<&str, Utf8Error>>
+        ensures* after { sem 𝓛 (EndsAsCutText self.entry result) }
+    {
+        let piece = self.next()?;
+        Some(str::from_utf8(piece))
+    }
+
+    /// The last piece: all that is held, once [`next`](Self::next) has given `None` and no more parts come. Then nothing
+    /// is held, and the parts of another text can be given.
+    pub fn finish(&mut self) -> &[u8]
+        requires { IsLastPiece self.old.dialect self.old.bytes }
+        ensures* after { sem 𝓛 (EndsAsLast self.entry result) }
+    {
+        let from = self.start;
+        self.start = self.buffer.len();
+        self.quiet = 0;
+        &self.buffer[from..]
+    }
+
+    /// The same as text, or an error where it is not UTF-8. It is taken all the same.
+    pub fn finish_text(&mut self) -> Result<&str, Utf8Error>
+        requires { IsLastPiece self.old.dialect self.old.bytes }
+        ensures* after { sem 𝓛 (EndsAsLastText self.entry result) }
+    {
+        str::from_utf8(self.finish())
+    }
+}
