@@ -17,7 +17,7 @@ ghost use Rattle.influxdb_line_protocol.specs.laws.Meanings.{TrimmedIsAfterBlank
 ghost use Rattle.influxdb_line_protocol.specs.laws.Meanings.{NameEndsBeforeStop, BodyEndsBeforeQuote};
 ghost use Rattle.influxdb_line_protocol.specs.laws.MeaningsOfAnswers.{AnswerIsByRows};
 ghost use Rattle.influxdb_line_protocol.specs.laws.StreamLaws.{FrontsKeepTheirCuts, TakenIsFirst, RunsGivePieces};
-ghost use Rattle.influxdb_line_protocol.specs.laws.StreamLaws.{RunsEnd, Utf8ByPieces};
+ghost use Rattle.influxdb_line_protocol.specs.laws.StreamLaws.{RunsEnd, StreamsAnswerAll, StreamsGiveAnswers, Utf8ByPieces};
 ghost use Rattle.influxdb_line_protocol.specs.format.Lines.{tag, field};
 
 /// Where memory and room suffice, a batch built from points, followed by any text, parses to exactly
@@ -83,11 +83,14 @@ pub fn fronts_keep_their_cuts()
 {}
 
 /// Whatever comes after the parts that were given to a stream, the pieces that it gave, and after them those of what it
-/// holds and what comes, are the pieces of all. Where nothing more comes, what it holds is the last of them.
+/// holds and what comes, are the pieces of all. Where nothing more comes, what it holds is the last of them. The answers of
+/// all are those of each piece alone, in order.
 pub fn runs_give_pieces()
     ensures taken { TakenIsFirst }
     ensures runs { RunsGivePieces }
     ensures end { RunsEnd }
+    ensures answers { StreamsGiveAnswers }
+    ensures all_answers { StreamsAnswerAll }
 {}
 
 /// Bytes are UTF-8 exactly where each of their pieces is.

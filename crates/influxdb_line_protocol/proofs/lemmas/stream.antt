@@ -1,2 +1,3 @@
 pub mod HeldBytes
 pub mod StreamRuns
+pub mod StreamAnswers

@@ -1,9 +1,12 @@
 -- What the pieces that a stream gives are of all that was pushed.
-use Rattle.std.specs.Prelude.{◌≡◌, ℕ, List, [], ◌∷◌, ◌++◌, Some, ◌↔◌}
+use Rattle.std.specs.Prelude.{◌≡◌, ℕ, List, [], ◌∷◌, ◌++◌, Some, ◌↔◌, Result}
 use Rattle.std.specs.Str.{IsUtf8}
 use Rattle.influxdb_line_protocol.specs.declared.split.Dialect.{Dialect}
 use Rattle.influxdb_line_protocol.specs.format.Bytes.{newline}
 use Rattle.influxdb_line_protocol.specs.format.Pieces.{IsCutPiece, IsLastPiece, IsFirstCut, Pieces}
+use Rattle.influxdb_line_protocol.specs.format.Readings.{Fault}
+use Rattle.influxdb_line_protocol.specs.format.Lines.{Line}
+use Rattle.influxdb_line_protocol.specs.format.Items.{HasAnswers}
 use Rattle.influxdb_line_protocol.specs.code.Streams.{Held, TakesPiece}
 
 -- The first cut of a text is the first cut of each text that begins with it.
@@ -38,6 +41,26 @@ abbrev pub RunsEnd : Type 0
 RunsEnd =
     (dialect : Dialect) (given : List ℕ) (pieces : List (List ℕ)) (held : List ℕ)
     → Run dialect given pieces held → IsLastPiece dialect held → Pieces dialect given (pieces ++ held ∷ [])
+
+-- the answers of each of these texts alone, joined
+abbrev pub HaveAnswers : Dialect → List (List ℕ) → List (Result Line Fault) → Type 0
+HaveAnswers dialect [] answers = answers ≡ []
+HaveAnswers dialect (text ∷ texts) answers =
+    (first others : List (Result Line Fault)) × HasAnswers dialect text first × HaveAnswers dialect texts others × (answers ≡ first ++ others)
+
+-- Each piece that a stream gave is read alone as it is read in all. So the answers of these pieces, and after them those of
+-- what is held and comes, are the answers of all.
+abbrev pub StreamsGiveAnswers : Type 0
+StreamsGiveAnswers =
+    (dialect : Dialect) (given : List ℕ) (pieces : List (List ℕ)) (held t : List ℕ) (first others : List (Result Line Fault))
+    → Run dialect given pieces held → HaveAnswers dialect pieces first → HasAnswers dialect (held ++ t) others
+    → HasAnswers dialect (given ++ t) (first ++ others)
+
+-- So at the end, the answers of the pieces, of which what is held is the last, are those of all.
+abbrev pub StreamsAnswerAll : Type 0
+StreamsAnswerAll =
+    (dialect : Dialect) (given : List ℕ) (pieces : List (List ℕ)) (held : List ℕ) (answers : List (Result Line Fault))
+    → Run dialect given pieces held → HaveAnswers dialect (pieces ++ held ∷ []) answers → HasAnswers dialect given answers
 
 -- Bytes are UTF-8 exactly where those before a newline are, and those after it.
 abbrev pub Utf8ByPieces : Type 0

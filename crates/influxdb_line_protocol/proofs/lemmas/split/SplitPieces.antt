@@ -131,7 +131,7 @@ pub IsLastPiece-nil : (dialect : Dialect) → IsLastPiece dialect []
 IsLastPiece-nil Crate = inl (inl (All-nil (λ b. (b ≢ 32) × (b ≢ 10))))
 IsLastPiece-nil Strict = inr (refl, inl (inl (All-nil (λ b. (b ≢ 32) × (b ≢ 10)))))
 
-IsLastPiece-cut : (dialect : Dialect) (piece : List ℕ) → IsCutPiece dialect piece → IsLastPiece dialect piece
+pub IsLastPiece-cut : (dialect : Dialect) (piece : List ℕ) → IsCutPiece dialect piece → IsLastPiece dialect piece
 IsLastPiece-cut Crate piece h = inl h.0
 IsLastPiece-cut Strict piece (inl h) = inl h
 IsLastPiece-cut Strict piece (inr h) = inr (h.0, inl h.1)

@@ -1,0 +1,75 @@
+-- The answers of the pieces that a stream gives are those of all that was pushed.
+use Rattle.std.proofs.Common.{◌≡◌, ℕ, List, [], ◌∷◌, ◌++◌, subst, sym, ap, ◌∙◌, append_assoc, append-nil, refl, Result}
+use Rattle.std.proofs.lemmas.Grind.{flat_map-append}
+use Rattle.influxdb_line_protocol.specs.declared.split.Dialect.{Dialect}
+use Rattle.influxdb_line_protocol.specs.format.Readings.{Fault}
+use Rattle.influxdb_line_protocol.specs.format.Lines.{Line}
+use Rattle.influxdb_line_protocol.specs.format.Items.{HasAnswers, answers_of, answers_of_piece}
+use Rattle.influxdb_line_protocol.specs.format.Pieces.{IsLastPiece, Pieces, Pieces.last}
+use Rattle.influxdb_line_protocol.specs.laws.StreamLaws.{HaveAnswers, StreamsGiveAnswers, StreamsAnswerAll}
+use Rattle.influxdb_line_protocol.specs.laws.StreamLaws.{Run, Run.begun, Run.pushed, Run.taken}
+use Rattle.influxdb_line_protocol.proofs.lemmas.split.SplitPieces.{IsLastPiece-cut, same_pieces}
+use Rattle.influxdb_line_protocol.proofs.lemmas.stream.StreamRuns.{runs_give_pieces}
+
+-- each of these texts is one piece
+abbrev AreSingle : Dialect → List (List ℕ) → Type 0
+AreSingle dialect [] = Unit {0}
+AreSingle dialect (text ∷ texts) = IsLastPiece dialect text × AreSingle dialect texts
+
+-- one more
+one_more : (dialect : Dialect) (texts : List (List ℕ)) (text : List ℕ) → AreSingle dialect texts → IsLastPiece dialect text
+    → AreSingle dialect (texts ++ text ∷ [])
+one_more dialect [] text h k = (k, tt)
+one_more dialect (first ∷ texts) text h k = (h.0, one_more dialect texts text h.1 k)
+
+-- each piece that was given is one piece
+given_are_single : (dialect : Dialect) (given : List ℕ) (pieces : List (List ℕ)) (held : List ℕ) → Run dialect given pieces held
+    → AreSingle dialect pieces
+given_are_single dialect given pieces held begun = tt
+given_are_single dialect given pieces held (pushed g ps l part r) = given_are_single dialect g ps l r
+given_are_single dialect given pieces held (taken g ps piece l r c) =
+    one_more dialect ps piece (given_are_single dialect g ps (piece ++ 10 ∷ l) r) (IsLastPiece-cut dialect piece c)
+
+-- the answers of a text that is one piece
+single_answers : (dialect : Dialect) (text : List ℕ) (answers : List (Result Line Fault)) → IsLastPiece dialect text
+    → HasAnswers dialect text answers → answers ≡ answers_of_piece dialect text
+single_answers dialect text answers h k =
+    k.answered ∙ ap (answers_of dialect) (same_pieces dialect refl k.are (last text h)) ∙ append-nil (answers_of_piece dialect text)
+
+-- the answers of such texts
+answers_alone : (dialect : Dialect) (texts : List (List ℕ)) (answers : List (Result Line Fault)) → AreSingle dialect texts
+    → HaveAnswers dialect texts answers → answers ≡ answers_of dialect texts
+answers_alone dialect [] answers h k = k
+answers_alone dialect (text ∷ texts) answers h k =
+    k.4 ∙ ap (λ xs. xs ++ k.1) (single_answers dialect text k.0 h.0 k.2)
+    ∙ ap (λ xs. answers_of_piece dialect text ++ xs) (answers_alone dialect texts k.1 h.1 k.3)
+
+-- the answers of the pieces, and of what is held and comes, are those of all
+pub streams_give_answers : StreamsGiveAnswers
+streams_give_answers dialect given pieces held t first others r h k =
+    record {
+      pieces = pieces ++ k.pieces;
+      are = runs_give_pieces dialect given pieces held t k.pieces r k.are;
+      answered = ap (λ xs. xs ++ others) (answers_alone dialect pieces first (given_are_single dialect given pieces held r) h)
+          ∙ ap (λ xs. answers_of dialect pieces ++ xs) k.answered
+          ∙ sym (flat_map-append (answers_of_piece dialect) pieces k.pieces);
+    }
+
+-- the answers of the last text are those after the others
+last_answers : (dialect : Dialect) (texts : List (List ℕ)) (text : List ℕ) (answers : List (Result Line Fault))
+    → HaveAnswers dialect (texts ++ text ∷ []) answers
+    → (first others : List (Result Line Fault)) × HaveAnswers dialect texts first × HasAnswers dialect text others
+    × (answers ≡ first ++ others)
+last_answers dialect [] text answers h = ([], h.0, refl, h.2, h.4 ∙ ap (λ xs. h.0 ++ xs) h.3 ∙ append-nil h.0)
+last_answers dialect (piece ∷ texts) text answers h =
+    let w = last_answers dialect texts text h.1 h.3 in
+    (h.0 ++ w.0, w.1, (h.0, w.0, h.2, w.2, refl), w.3, h.4 ∙ ap (λ xs. h.0 ++ xs) w.4 ∙ sym (append_assoc h.0 w.0 w.1))
+
+-- at the end they are the answers of all
+pub streams_answer_all : StreamsAnswerAll
+streams_answer_all dialect given pieces held answers r h =
+    let w = last_answers dialect pieces held answers h in
+    let all = streams_give_answers dialect given pieces held [] w.0 w.1 r w.2
+    (subst (λ text. HasAnswers dialect text w.1) (sym (append-nil held)) w.3) in
+    subst (λ text. HasAnswers dialect text answers) (append-nil given)
+    (subst (λ xs. HasAnswers dialect (given ++ []) xs) (sym w.4) all)
