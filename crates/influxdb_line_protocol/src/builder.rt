@@ -10,11 +10,11 @@ ghost use Rattle.std.specs.Fmt.{signed_decimal};
 ghost use Rattle.influxdb_line_protocol.specs.declared.builder.buffer.NoRoom.{NoRoom};
 ghost use Rattle.influxdb_line_protocol.specs.declared.builder.buffer.NoRoom.TheVariants.{TooLong};
 ghost use Rattle.influxdb_line_protocol.specs.format.Bytes.{newline, space, comma};
-ghost use Rattle.influxdb_line_protocol.specs.format.Names.{a_measurement};
+ghost use Rattle.influxdb_line_protocol.specs.format.Names.{a_field_key, a_measurement, a_tag_key, a_tag_value, escapable};
 ghost use Rattle.influxdb_line_protocol.specs.format.Points.{built_tag, field_text, spelling};
-ghost use Rattle.influxdb_line_protocol.specs.code.Built.{IsPlainText, Writes, buffer_of, bytes_of};
-ghost use Rattle.influxdb_line_protocol.specs.declared.builder.texts.Escapes.TheVariants.{OfKey};
+ghost use Rattle.influxdb_line_protocol.specs.code.Built.{IsPlainText, Writes, buffer_of};
 
+use crate::sets::TokenKind;
 use std::alloc::Global;
 use std::marker::PhantomData;
 
@@ -28,7 +28,7 @@ mod values;
 pub use buffer::{BufMut, NoRoom};
 pub use lines::{is_admitted, write_line};
 pub use parsed::{Written, write_parsed};
-use texts::{Escapes, escaped_len, put_escaped};
+use texts::{escaped_len, put_escaped};
 pub use values::FieldValue;
 
 // The length of a tag with the comma before it, where a `usize` holds it.
@@ -36,14 +36,14 @@ fn tag_len(key: &[u8], value: &[u8]) -> Option<usize>
     ensures { let text = built_tag (record { key = key.now; value = value.now }) in
         SomeIff result (length text < 2 ^ 64) (length text) }
 {
-    let key_len = escaped_len(Escapes::OfKey, key);
-    let value_len = escaped_len(Escapes::OfKey, value);
+    let key_len = escaped_len(TokenKind::TagKey, key);
+    let value_len = escaped_len(TokenKind::TagValue, value);
     key_len.checked_add(value_len)?.checked_add(2)
 }
 
 // Appends a tag with the comma before it.
 fn put_tag<B: BufMut>(buf: &mut B, is_plain: bool, key: &[u8], value: &[u8])
-    requires plain { is_plain ≡ true → IsPlainText (bytes_of OfKey) key.now × IsPlainText (bytes_of OfKey) value.now }
+    requires plain { is_plain ≡ true → IsPlainText (escapable a_tag_key) key.now × IsPlainText (escapable a_tag_value) value.now }
     requires room { length (built_tag (record { key = key.now; value = value.now })) ≤ B.room buf.old }
     ensures bytes { B.bytes buf.new
         ≡ B.bytes buf.old ++ built_tag (record { key = key.now; value = value.now }) }
@@ -51,9 +51,9 @@ fn put_tag<B: BufMut>(buf: &mut B, is_plain: bool, key: &[u8], value: &[u8])
         ≤ B.room buf.new + length (built_tag (record { key = key.now; value = value.now })) }
 {
     buf.put(b",");
-    put_escaped(buf, Escapes::OfKey, is_plain, key);
+    put_escaped(buf, TokenKind::TagKey, is_plain, key);
     buf.put(b"=");
-    put_escaped(buf, Escapes::OfKey, is_plain, value);
+    put_escaped(buf, TokenKind::TagValue, is_plain, value);
 }
 
 // The length of a field with the byte before it, where a `usize` holds it.
@@ -61,7 +61,7 @@ fn field_len<F: FieldValue>(key: &[u8], value: &F) -> Option<usize>
     ensures { let text = space ∷ field_text key.now (F.text value.now) in
         SomeIff result (length text < 2 ^ 64) (length text) }
 {
-    let key_len = escaped_len(Escapes::OfKey, key);
+    let key_len = escaped_len(TokenKind::FieldKey, key);
     let value_len = value.fmt_len()?;
     key_len.checked_add(value_len)?.checked_add(2)
 }
@@ -74,13 +74,13 @@ fn put_field<B: BufMut, F: FieldValue>(
     key: &[u8],
     value: &F,
 )
-    requires plain { is_plain ≡ true → IsPlainText (bytes_of OfKey) key.now }
+    requires plain { is_plain ≡ true → IsPlainText (escapable a_field_key) key.now }
     requires room { length (before ∷ field_text key.now (F.text value.now)) ≤ B.room buf.old }
     ensures bytes { B.bytes buf.new ≡ B.bytes buf.old ++ before ∷ field_text key.now (F.text value.now) }
     ensures room { B.room buf.old ≤ B.room buf.new + length (before ∷ field_text key.now (F.text value.now)) }
 {
     buf.put(&[before]);
-    put_escaped(buf, Escapes::OfKey, is_plain, key);
+    put_escaped(buf, TokenKind::FieldKey, is_plain, key);
     buf.put(b"=");
     value.fmt(buf);
 }
@@ -237,8 +237,8 @@ impl<B: BufMut> LineProtocolBuilder<B, BeforeMeasurement> {
         ensures { Writes B.bytes B.room B.refuses
             (spelling a_measurement name.now) (buffer_of self) result }
     {
-        let mut buf = self.with_room(escaped_len(Escapes::OfMeasurement, name.as_bytes()))?;
-        put_escaped(&mut buf, Escapes::OfMeasurement, false, name.as_bytes());
+        let mut buf = self.with_room(escaped_len(TokenKind::Measurement, name.as_bytes()))?;
+        put_escaped(&mut buf, TokenKind::Measurement, false, name.as_bytes());
         Ok(LineProtocolBuilder::over(buf))
     }
 

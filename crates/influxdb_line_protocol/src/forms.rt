@@ -16,20 +16,20 @@ use crate::lanes::{
     plain_run, stops_in,
 };
 use crate::scan::{WIDE, bare, escapes_next, ones_below, places_of};
-use crate::sets::Form;
+use crate::sets::TokenKind;
 use std::alloc::{AllocError, Global};
 
 /// The spelled text of a name, or between quotes.
 #[derive(Clone, Copy)]
 pub(crate) struct Spelling<'a> {
-    pub(crate) form: Form,
+    pub(crate) kind: TokenKind,
     pub(crate) text: &'a str,
     // Whether the text holds no backslash.
     is_plain: bool,
     // How many bytes it takes without its escapes.
     len: usize,
     ghost told: { is_plain ≡ not (is_one_of text.now backslash) },
-    ghost counted: { len ≡ length (without_escapes (known_of form) text.now) },
+    ghost counted: { len ≡ length (without_escapes (known_of kind) text.now) },
 }
 
 impl<'a> Spelling<'a> {
@@ -44,12 +44,12 @@ impl<'a> Spelling<'a> {
 
 // How far the bytes from `at` on go that neither end a spelling nor are backslashes, one by one.
 #[inline(always)]
-fn plain_tail(form: Form, bytes: &[u8], at: usize) -> usize
+fn plain_tail(kind: TokenKind, bytes: &[u8], at: usize) -> usize
     requires { at ≤ length bytes.now }
-    ensures { IsRunAt (is_plain (stops_of form)) bytes.now at result }
+    ensures { IsRunAt (is_plain (stops_of kind)) bytes.now at result }
 {
     let mut end = at;
-    while end < bytes.len() && bytes[end] != b'\\' && !form.is_stop(bytes[end]) {
+    while end < bytes.len() && bytes[end] != b'\\' && !kind.is_stop(bytes[end]) {
         end += 1;
     }
     end
@@ -57,35 +57,35 @@ fn plain_tail(form: Form, bytes: &[u8], at: usize) -> usize
 
 // The same, 16 at a time.
 #[inline(always)]
-fn plain_end(form: Form, bytes: &[u8], at: usize) -> usize
+fn plain_end(kind: TokenKind, bytes: &[u8], at: usize) -> usize
     requires { at ≤ length bytes.now }
-    ensures { IsRunAt (is_plain (stops_of form)) bytes.now at result }
+    ensures { IsRunAt (is_plain (stops_of kind)) bytes.now at result }
 {
     let mut end = at;
     while bytes.len() - end >= LANES {
-        let run = plain_run(form, bytes, end);
+        let run = plain_run(kind, bytes, end);
         if run < LANES {
             return end + run;
         }
         end += LANES;
     }
-    plain_tail(form, bytes, end)
+    plain_tail(kind, bytes, end)
 }
 
 // Goes over the 64 bytes from `at` on, up to one that ends the spelling or to the next bare place after them: how far,
 // and how many of the escapes before it are known.
 #[inline(always)]
-fn escapes_in_load(form: Form, bytes: &[u8], at: usize, found: usize) -> (usize, usize)
-    requires walked { EscapeScan (known_of form) (stops_of form) bytes.now at found }
+fn escapes_in_load(kind: TokenKind, bytes: &[u8], at: usize, found: usize) -> (usize, usize)
+    requires walked { EscapeScan (known_of kind) (stops_of kind) bytes.now at found }
     requires room { at + WIDE < length bytes.now }
-    ensures walked { EscapeScan (known_of form) (stops_of form) bytes.now result.0 result.1 }
-    ensures stops { result.0 < at + WIDE → stops_of form (slice_index bytes.now result.0) ≡ true }
+    ensures walked { EscapeScan (known_of kind) (stops_of kind) bytes.now result.0 result.1 }
+    ensures stops { result.0 < at + WIDE → stops_of kind (slice_index bytes.now result.0) ≡ true }
     ensures further { at ≤ result.0 }
 {
     let backslashes = places_of(b'\\', bytes, at);
-    let run = first_set(bare(stops_in(form, bytes, at), backslashes), WIDE);
+    let run = first_set(bare(stops_in(kind, bytes, at), backslashes), WIDE);
     // The bare backslashes of which the next byte is known.
-    let known = bare(backslashes, backslashes) & known_in(form, bytes, at + 1);
+    let known = bare(backslashes, backslashes) & known_in(kind, bytes, at + 1);
     let found = found + ones_below(known, run);
     if run < WIDE {
         return (at + run, found);
@@ -96,23 +96,23 @@ fn escapes_in_load(form: Form, bytes: &[u8], at: usize, found: usize) -> (usize,
 // Goes on from escape to escape to the end of the spelling, with no regard to how many bytes are left: how far, and how
 // many of the escapes before it are known.
 #[inline(never)]
-fn escapes_to_end(form: Form, bytes: &[u8], at: usize, found: usize) -> (usize, usize)
-    requires walked { EscapeScan (known_of form) (stops_of form) bytes.now at found }
-    ensures value { result.0 ≡ first_bare (stops_of form) bytes.now }
+fn escapes_to_end(kind: TokenKind, bytes: &[u8], at: usize, found: usize) -> (usize, usize)
+    requires walked { EscapeScan (known_of kind) (stops_of kind) bytes.now at found }
+    ensures value { result.0 ≡ first_bare (stops_of kind) bytes.now }
     ensures within { result.0 ≤ length bytes.now }
-    ensures stops { result.0 < length bytes.now → stops_of form (slice_index bytes.now result.0) ≡ true }
-    ensures len { length (without_escapes (known_of form) (take result.0 bytes.now)) + result.1 ≡ result.0 }
+    ensures stops { result.0 < length bytes.now → stops_of kind (slice_index bytes.now result.0) ≡ true }
+    ensures len { length (without_escapes (known_of kind) (take result.0 bytes.now)) + result.1 ≡ result.0 }
     ensures further { at ≤ result.0 }
     ensures moves { at < length bytes.now → slice_index bytes.now at ≡ backslash → at < result.0 }
 {
-    let mut end = plain_end(form, bytes, at);
+    let mut end = plain_end(kind, bytes, at);
     let mut known = found;
     while end < bytes.len() && bytes[end] == b'\\' {
         if end + 1 == bytes.len() {
             return (end + 1, known);
         }
-        known += usize::from(form.is_known(bytes[end + 1]));
-        end = plain_end(form, bytes, end + 2);
+        known += usize::from(kind.is_known(bytes[end + 1]));
+        end = plain_end(kind, bytes, end + 2);
     }
     (end, known)
 }
@@ -120,62 +120,62 @@ fn escapes_to_end(form: Form, bytes: &[u8], at: usize, found: usize) -> (usize, 
 // How many bytes of `text` are spelled, where the first backslash stands at `at`, and how many they are without their
 // escapes.
 #[inline(always)]
-fn escaped_end_of(form: Form, text: &str, at: usize) -> (usize, usize)
-    requires run { IsRunAt (is_plain (stops_of form)) text.now 0 at }
+fn escaped_end_of(kind: TokenKind, text: &str, at: usize) -> (usize, usize)
+    requires run { IsRunAt (is_plain (stops_of kind)) text.now 0 at }
     requires within { at < length text.now }
     requires here { slice_index text.now at ≡ backslash }
-    ensures value { result.0 ≡ first_bare (stops_of form) text.now }
+    ensures value { result.0 ≡ first_bare (stops_of kind) text.now }
     ensures boundary { IsCharBoundary text.now result.0 }
     ensures escaped { is_one_of (take result.0 text.now) backslash ≡ true }
-    ensures len { result.1 ≡ length (without_escapes (known_of form) (take result.0 text.now)) }
+    ensures len { result.1 ≡ length (without_escapes (known_of kind) (take result.0 text.now)) }
 {
     let bytes = text.as_bytes();
     let mut end = at;
     let mut known = 0;
     while bytes.len() - end > WIDE {
-        let (next, found) = escapes_in_load(form, bytes, end, known);
+        let (next, found) = escapes_in_load(kind, bytes, end, known);
         if next < end + WIDE {
             return (next, next - found);
         }
         end = next;
         known = found;
     }
-    let (end, known) = escapes_to_end(form, bytes, end, known);
+    let (end, known) = escapes_to_end(kind, bytes, end, known);
     (end, end - known)
 }
 
-// The same, with a loop for each form, which then compares with bytes that are known.
+// The same, with a loop for each set of bytes that end one, which then compares with bytes that are known.
 #[cold]
 #[inline(never)]
-fn escaped_end(form: Form, text: &str, at: usize) -> (usize, usize)
-    requires run { IsRunAt (is_plain (stops_of form)) text.now 0 at }
+fn escaped_end(kind: TokenKind, text: &str, at: usize) -> (usize, usize)
+    requires run { IsRunAt (is_plain (stops_of kind)) text.now 0 at }
     requires within { at < length text.now }
     requires here { slice_index text.now at ≡ backslash }
-    ensures value { result.0 ≡ first_bare (stops_of form) text.now }
+    ensures value { result.0 ≡ first_bare (stops_of kind) text.now }
     ensures boundary { IsCharBoundary text.now result.0 }
     ensures escaped { is_one_of (take result.0 text.now) backslash ≡ true }
-    ensures len { result.1 ≡ length (without_escapes (known_of form) (take result.0 text.now)) }
+    ensures len { result.1 ≡ length (without_escapes (known_of kind) (take result.0 text.now)) }
 {
-    match form {
-        Form::Measurement => escaped_end_of(Form::Measurement, text, at),
-        Form::Key => escaped_end_of(Form::Key, text, at),
-        Form::TagValue => escaped_end_of(Form::TagValue, text, at),
-        Form::Quoted => escaped_end_of(Form::Quoted, text, at),
+    match kind {
+        TokenKind::Measurement => escaped_end_of(TokenKind::Measurement, text, at),
+        TokenKind::TagKey | TokenKind::FieldKey => { escaped_end_of(TokenKind::TagKey, text, at) }
+        TokenKind::TagValue => escaped_end_of(TokenKind::TagValue, text, at),
+        TokenKind::String => escaped_end_of(TokenKind::String, text, at),
     }
 }
 
 // How many bytes of `text` are spelled, whether none is a backslash, and how many they are without their escapes.
 #[inline(always)]
-fn extent(form: Form, text: &str) -> (usize, bool, usize)
-    ensures value { result.0 ≡ first_bare (stops_of form) text.now }
+fn extent(kind: TokenKind, text: &str) -> (usize, bool, usize)
+    ensures value { result.0 ≡ first_bare (stops_of kind) text.now }
     ensures boundary { IsCharBoundary text.now result.0 }
     ensures plain { result.1 ≡ not (is_one_of (take result.0 text.now) backslash) }
-    ensures len { result.2 ≡ length (without_escapes (known_of form) (take result.0 text.now)) }
+    ensures len { result.2 ≡ length (without_escapes (known_of kind) (take result.0 text.now)) }
 {
     let bytes = text.as_bytes();
-    let end = plain_end(form, bytes, 0);
+    let end = plain_end(kind, bytes, 0);
     if end < bytes.len() && bytes[end] == b'\\' {
-        let (end, len) = escaped_end(form, text, end);
+        let (end, len) = escaped_end(kind, text, end);
         return (end, false, len);
     }
     (end, true, end)
@@ -183,15 +183,15 @@ fn extent(form: Form, text: &str) -> (usize, bool, usize)
 
 /// The spelled text at the start of `text`, also an empty one, and the rest.
 #[inline(always)]
-pub(crate) fn front(form: Form, text: &str) -> (Spelling<'_>, &str)
-    ensures form { result.0.form ≡ form }
-    ensures text { result.0.text.now ≡ take (first_bare (stops_of form) text.now) text.now }
-    ensures rest { result.1.now ≡ drop (first_bare (stops_of form) text.now) text.now }
+pub(crate) fn front(kind: TokenKind, text: &str) -> (Spelling<'_>, &str)
+    ensures kind { result.0.kind ≡ kind }
+    ensures text { result.0.text.now ≡ take (first_bare (stops_of kind) text.now) text.now }
+    ensures rest { result.1.now ≡ drop (first_bare (stops_of kind) text.now) text.now }
 {
-    let (end, is_plain, len) = extent(form, text);
+    let (end, is_plain, len) = extent(kind, text);
     let (text, rest) = text.split_at(end);
     let spelled = Spelling {
-        form,
+        kind,
         text,
         is_plain,
         len,
@@ -272,18 +272,18 @@ fn next_backslash(bytes: &[u8], mask: u64, at: usize) -> usize
 
 // Puts after `to`, which has room for it, the logical text of `spelled`. It asks for no memory.
 #[inline(always)]
-fn put(form: Form, spelled: &str, to: &mut String) -> Result<(), AllocError>
+fn put(kind: TokenKind, spelled: &str, to: &mut String) -> Result<(), AllocError>
     requires empty { string_bytes to.old ≡ [] }
-    requires room { length (without_escapes (known_of form) spelled.now) ≤ string_capacity to.old }
+    requires room { length (without_escapes (known_of kind) spelled.now) ≤ string_capacity to.old }
     ensures has_room { IsOk result }
-    ensures text { string_bytes to.new ≡ without_escapes (known_of form) spelled.now }
+    ensures text { string_bytes to.new ≡ without_escapes (known_of kind) spelled.now }
 {
     let bytes = spelled.as_bytes();
     let mut from = 0;
     let mask = text_mask(bytes);
     let mut at = next_backslash(bytes, mask, 0);
     while at + 1 < bytes.len() {
-        if form.is_known(bytes[at + 1]) {
+        if kind.is_known(bytes[at + 1]) {
             to.push_str(&spelled[from..at])?;
             from = at + 1;
         }
@@ -295,12 +295,12 @@ fn put(form: Form, spelled: &str, to: &mut String) -> Result<(), AllocError>
 
 // A copy of the logical text of `spelled`, which takes `len` bytes. It asks for memory once.
 #[inline(never)]
-fn copy(alloc: Global, form: Form, spelled: &str, len: usize) -> Result<String, AllocError>
-    requires { len ≡ length (without_escapes (known_of form) spelled.now) }
-    ensures { IfOk result (λ text. string_bytes text ≡ without_escapes (known_of form) spelled.now) }
+fn copy(alloc: Global, kind: TokenKind, spelled: &str, len: usize) -> Result<String, AllocError>
+    requires { len ≡ length (without_escapes (known_of kind) spelled.now) }
+    ensures { IfOk result (λ text. string_bytes text ≡ without_escapes (known_of kind) spelled.now) }
 {
     let mut text = String::with_capacity(alloc, len)?;
-    put(form, spelled, &mut text)?;
+    put(kind, spelled, &mut text)?;
     Ok(text)
 }
 
@@ -310,15 +310,15 @@ pub(crate) fn escaped_str<'a>(
     alloc: Global,
     spelled: Spelling<'a>,
 ) -> Result<EscapedStr<'a>, AllocError>
-    ensures text { IfOk result (λ text. read_of text ≡ read_text (known_of spelled.entry.form) spelled.entry.text.now) }
-    ensures no_memory { is_shared (known_of spelled.entry.form) spelled.entry.text.now ≡ true → IsOk result }
+    ensures text { IfOk result (λ text. read_of text ≡ read_text (known_of spelled.entry.kind) spelled.entry.text.now) }
+    ensures no_memory { is_shared (known_of spelled.entry.kind) spelled.entry.text.now ≡ true → IsOk result }
 {
     let text = spelled.text;
     if spelled.is_plain {
         return Ok(EscapedStr::SingleSlice(text));
     }
-    if matches!(text.as_bytes(), [b'\\', byte] if spelled.form.is_known(*byte)) {
+    if matches!(text.as_bytes(), [b'\\', byte] if spelled.kind.is_known(*byte)) {
         return Ok(EscapedStr::SingleSlice(&text[1..]));
     }
-    Ok(EscapedStr::CopiedValue(copy(alloc, spelled.form, text, spelled.len)?))
+    Ok(EscapedStr::CopiedValue(copy(alloc, spelled.kind, text, spelled.len)?))
 }

@@ -5,7 +5,7 @@ ghost use Rattle.influxdb_line_protocol.specs.code.Forms.{is_end, is_plain, know
 ghost use Rattle.influxdb_line_protocol.specs.code.Lanes.{IsRunIn, first_set, mask_of};
 
 use crate::scan::WIDE;
-use crate::sets::Form;
+use crate::sets::TokenKind;
 use std::simd::prelude::*;
 
 pub(crate) const LANES: usize = 16;
@@ -43,79 +43,80 @@ fn by_low_half(table: [u8; 16], v: u8x16) -> u8x16
     u8x16::from_array(table).swizzle_dyn(v & u8x16::splat(15))
 }
 
-/// The mask of those of the 16 bytes from `at` on that end a spelling of this form or are backslashes.
+/// The mask of those of the 16 bytes from `at` on that end a token of this kind or are backslashes.
 #[inline(always)]
-pub(crate) fn end_mask(form: Form, bytes: &[u8], at: usize) -> u64
+pub(crate) fn end_mask(kind: TokenKind, bytes: &[u8], at: usize) -> u64
     requires { at + LANES ≤ length bytes.now }
-    ensures { result ≡ mask_of (is_end (stops_of form)) bytes.now at LANES }
+    ensures { result ≡ mask_of (is_end (stops_of kind)) bytes.now at LANES }
 {
     let v = u8x16::from_slice(&bytes[at..]);
     let backslashes = v.simd_eq(u8x16::splat(b'\\'));
-    match form {
-        Form::Measurement => {
+    match kind {
+        TokenKind::Measurement => {
             let blanks = v.simd_eq(u8x16::splat(b' ')) | v.simd_eq(u8x16::splat(b'\t'));
             let stops = blanks | v.simd_eq(u8x16::splat(b'\n')) | backslashes;
             let own = v.simd_eq(u8x16::splat(b',')) | v.simd_eq(u8x16::splat(0));
             (stops | own).to_bitmask()
         }
-        Form::Key => by_low_half(KEY_ENDS, v).simd_eq(v).to_bitmask(),
-        Form::TagValue => {
+        TokenKind::TagKey | TokenKind::FieldKey => by_low_half(KEY_ENDS, v).simd_eq(v).to_bitmask(),
+        TokenKind::TagValue => {
             let stops = by_low_half(TAG_VALUE_ENDS, v).simd_eq(v);
             (stops | backslashes).to_bitmask()
         }
-        Form::Quoted => {
+        TokenKind::String => {
             let quotes = v.simd_eq(u8x16::splat(b'"'));
             (backslashes | quotes).to_bitmask()
         }
     }
 }
 
-/// The mask of those of the 64 bytes from `at` on that end a spelling of this form where they are bare.
+/// The mask of those of the 64 bytes from `at` on that end a token of this kind where they are bare.
 #[inline(always)]
-pub(crate) fn stops_in(form: Form, bytes: &[u8], at: usize) -> u64
+pub(crate) fn stops_in(kind: TokenKind, bytes: &[u8], at: usize) -> u64
     requires { at + WIDE ≤ length bytes.now }
-    ensures { result ≡ mask_of (stops_of form) bytes.now at WIDE }
+    ensures { result ≡ mask_of (stops_of kind) bytes.now at WIDE }
 {
     let v = u8x64::from_slice(&bytes[at..]);
     let blanks = v.simd_eq(u8x64::splat(b' ')) | v.simd_eq(u8x64::splat(b'\t'));
     let stops = blanks | v.simd_eq(u8x64::splat(b'\n'));
-    match form {
-        Form::Measurement => {
+    match kind {
+        TokenKind::Measurement => {
             let own = v.simd_eq(u8x64::splat(b',')) | v.simd_eq(u8x64::splat(0));
             (stops | own).to_bitmask()
         }
-        Form::Key => (stops | v.simd_eq(u8x64::splat(b'='))).to_bitmask(),
-        Form::TagValue => (stops | v.simd_eq(u8x64::splat(b','))).to_bitmask(),
-        Form::Quoted => v.simd_eq(u8x64::splat(b'"')).to_bitmask(),
+        TokenKind::TagKey | TokenKind::FieldKey => (stops
+            | v.simd_eq(u8x64::splat(b'='))).to_bitmask(),
+        TokenKind::TagValue => (stops | v.simd_eq(u8x64::splat(b','))).to_bitmask(),
+        TokenKind::String => v.simd_eq(u8x64::splat(b'"')).to_bitmask(),
     }
 }
 
 /// The mask of those of the 64 bytes from `at` on that a backslash escapes in it.
 #[inline(always)]
-pub(crate) fn known_in(form: Form, bytes: &[u8], at: usize) -> u64
+pub(crate) fn known_in(kind: TokenKind, bytes: &[u8], at: usize) -> u64
     requires { at + WIDE ≤ length bytes.now }
-    ensures { result ≡ mask_of (λ b. is_one_of (known_of form) b) bytes.now at WIDE }
+    ensures { result ≡ mask_of (λ b. is_one_of (known_of kind) b) bytes.now at WIDE }
 {
     let v = u8x64::from_slice(&bytes[at..]);
     let backslashes = v.simd_eq(u8x64::splat(b'\\'));
     let name = v.simd_eq(u8x64::splat(b',')) | v.simd_eq(u8x64::splat(b' '));
-    match form {
-        Form::Measurement => (name | backslashes).to_bitmask(),
-        Form::Key | Form::TagValue => {
+    match kind {
+        TokenKind::Measurement => (name | backslashes).to_bitmask(),
+        TokenKind::TagKey | TokenKind::TagValue | TokenKind::FieldKey => {
             let own = v.simd_eq(u8x64::splat(b'=')) | backslashes;
             (name | own).to_bitmask()
         }
-        Form::Quoted => (v.simd_eq(u8x64::splat(b'"')) | backslashes).to_bitmask(),
+        TokenKind::String => (v.simd_eq(u8x64::splat(b'"')) | backslashes).to_bitmask(),
     }
 }
 
-/// How many of the 16 bytes from `at` on come before the first that ends a spelling of this form or is a backslash.
+/// How many of the 16 bytes from `at` on come before the first that ends a token of this kind or is a backslash.
 #[inline(always)]
-pub(crate) fn plain_run(form: Form, bytes: &[u8], at: usize) -> usize
+pub(crate) fn plain_run(kind: TokenKind, bytes: &[u8], at: usize) -> usize
     requires { at + LANES ≤ length bytes.now }
-    ensures { IsRunIn (is_plain (stops_of form)) bytes.now at LANES result }
+    ensures { IsRunIn (is_plain (stops_of kind)) bytes.now at LANES result }
 {
-    first_set(end_mask(form, bytes, at), LANES)
+    first_set(end_mask(kind, bytes, at), LANES)
 }
 
 /// The mask of the backslashes among the 16 bytes from `at` on.

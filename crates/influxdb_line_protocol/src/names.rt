@@ -11,7 +11,7 @@ use crate::error::Error;
 use crate::escaped::EscapedStr;
 pub(crate) use crate::forms::escaped_str;
 use crate::forms::{Spelling, front};
-use crate::sets::Form;
+use crate::sets::TokenKind;
 use std::alloc::Global;
 
 #[derive(Clone, Copy)]
@@ -23,16 +23,17 @@ pub enum NameKind {
 }
 
 impl NameKind {
-    // The form of the names of this kind.
+    // The kind of token that a name of this kind is.
     #[inline(always)]
-    fn form(self) -> Form
+    fn token(self) -> TokenKind
         ensures stops { stops_of result ≡ is_stop (kind_of self) }
         ensures known { known_of result ≡ escapable (kind_of self) }
     {
         match self {
-            NameKind::Measurement => Form::Measurement,
-            NameKind::TagKey | NameKind::FieldKey => Form::Key,
-            NameKind::TagValue => Form::TagValue,
+            NameKind::Measurement => TokenKind::Measurement,
+            NameKind::TagKey => TokenKind::TagKey,
+            NameKind::TagValue => TokenKind::TagValue,
+            NameKind::FieldKey => TokenKind::FieldKey,
         }
     }
 }
@@ -41,11 +42,11 @@ impl NameKind {
 /// It takes no memory.
 #[inline(always)]
 pub(crate) fn spelled(kind: NameKind, text: &str) -> Result<Option<(Spelling<'_>, &str)>, Error>
-    ensures value { Gives (λ s. read_text (known_of s.form) s.text.now) result (name (kind_of kind) text.now) }
+    ensures value { Gives (λ s. read_text (known_of s.kind) s.text.now) result (name (kind_of kind) text.now) }
     ensures tail { IfOk result (λ o. IfSome o (λ p. length p.1.now ≤ length text.now)) }
     ensures memory { IsNotOutOfMemory result }
 {
-    let (spelled, rest) = front(kind.form(), text);
+    let (spelled, rest) = front(kind.token(), text);
     if spelled.text.is_empty() {
         return Ok(None);
     }

@@ -4,26 +4,29 @@ ghost use Rattle.std.specs.Prelude.{◌≡◌};
 ghost use Rattle.influxdb_line_protocol.specs.format.Bytes.{is_one_of};
 ghost use Rattle.influxdb_line_protocol.specs.code.Forms.{stops_of, known_of};
 
-/// What is spelled: a name of one of three forms, or the text between quotes.
+/// A kind of token: a kind of name, or the text between quotes.
 #[derive(Clone, Copy)]
-pub(crate) enum Form {
+pub(crate) enum TokenKind {
     Measurement,
-    Key,
+    TagKey,
     TagValue,
-    Quoted,
+    FieldKey,
+    String,
 }
 
-impl Form {
-    /// Whether a bare byte ends a spelling.
+impl TokenKind {
+    /// Whether a bare byte ends a token of this kind.
     #[inline(always)]
     pub(crate) fn is_stop(self, byte: u8) -> bool
         ensures { result ≡ stops_of self byte }
     {
         match self {
-            Form::Measurement => matches!(byte, b' ' | b'\t' | b'\n' | 0 | b','),
-            Form::Key => matches!(byte, b' ' | b'\t' | b'\n' | b'='),
-            Form::TagValue => matches!(byte, b' ' | b'\t' | b'\n' | b','),
-            Form::Quoted => byte == b'"',
+            TokenKind::Measurement => matches!(byte, b' ' | b'\t' | b'\n' | 0 | b','),
+            TokenKind::TagKey | TokenKind::FieldKey => {
+                matches!(byte, b' ' | b'\t' | b'\n' | b'=')
+            }
+            TokenKind::TagValue => matches!(byte, b' ' | b'\t' | b'\n' | b','),
+            TokenKind::String => byte == b'"',
         }
     }
 
@@ -33,9 +36,12 @@ impl Form {
         ensures { result ≡ is_one_of (known_of self) byte }
     {
         match self {
-            Form::Measurement => matches!(byte, b',' | b' ' | b'\\'),
-            Form::Key | Form::TagValue => matches!(byte, b',' | b'=' | b' ' | b'\\'),
-            Form::Quoted => matches!(byte, b'"' | b'\\'),
+            TokenKind::Measurement => matches!(byte, b',' | b' ' | b'\\'),
+            TokenKind::TagKey | TokenKind::TagValue | TokenKind::FieldKey => matches!(
+                byte,
+                b',' | b'=' | b' ' | b'\\'
+            ),
+            TokenKind::String => matches!(byte, b'"' | b'\\'),
         }
     }
 }

@@ -6,42 +6,34 @@ ghost use Rattle.std.specs.List.{join_by};
 ghost use Rattle.std.specs.Option.{option_map};
 ghost use Rattle.influxdb_line_protocol.specs.format.Bytes.{comma, is_one_of};
 ghost use Rattle.influxdb_line_protocol.specs.format.Escapes.{escaped};
+ghost use Rattle.influxdb_line_protocol.specs.code.Forms.{known_of};
 ghost use Rattle.influxdb_line_protocol.specs.code.Parsed.{field_of, tag_of, tags_of};
 ghost use Rattle.influxdb_line_protocol.specs.code.Shown.{comma_before, shown_escapes, shown_field, shown_tag, shown_timestamp};
 ghost use Rattle.influxdb_line_protocol.specs.code.Texts.{read_of};
 
+use crate::sets::TokenKind;
 use crate::{EscapedStr, FieldValue, ParsedLine, Series};
 use std::fmt;
 
-// What a text is shown as: this says which bytes get a backslash.
-#[derive(Clone, Copy)]
-pub(crate) enum Shown {
-    ShownMeasurement,
-    ShownKey,
-    ShownString,
-}
-
-impl Shown {
-    // Whether the byte gets a backslash.
-    fn escapes(self, byte: u8) -> bool
-        ensures { result ≡ is_one_of (shown_escapes self) byte }
-    {
-        match self {
-            Shown::ShownMeasurement => matches!(byte, b',' | b' '),
-            Shown::ShownKey => matches!(byte, b',' | b'=' | b' '),
-            Shown::ShownString => byte == b'"',
-        }
-    }
+// Whether a byte of a token is shown with a backslash: one that a backslash escapes, but for the backslash.
+fn gets_backslash(kind: TokenKind, byte: u8) -> bool
+    ensures { result ≡ is_one_of (shown_escapes (known_of kind)) byte }
+{
+    byte != b'\\' && kind.is_known(byte)
 }
 
 // Writes `text` with its backslashes. What stands between two of them is written as one run.
-fn show_escaped<W: fmt::Write>(shown: Shown, text: &str, f: &mut fmt::Formatter<W>) -> fmt::Result
-    ensures { DisplaysOnOk W.write_str_gives f.old result (Some (escaped (shown_escapes shown) text.now)) f.new }
+fn show_escaped<W: fmt::Write>(
+    kind: TokenKind,
+    text: &str,
+    f: &mut fmt::Formatter<W>,
+) -> fmt::Result
+    ensures { DisplaysOnOk W.write_str_gives f.old result (Some (escaped (shown_escapes (known_of kind)) text.now)) f.new }
 {
     let bytes = text.as_bytes();
     let mut start = 0;
     for at in 0..bytes.len() {
-        if shown.escapes(bytes[at]) {
+        if gets_backslash(kind, bytes[at]) {
             f.write_str(&text[start..at])?;
             f.write_str("\\")?;
             start = at;
@@ -65,9 +57,9 @@ fn show_tag<'a, W: fmt::Write>(
 ) -> fmt::Result
     ensures { DisplaysOnOk W.write_str_gives f.old result (Some (shown_tag (tag_of (key.now, value.now)))) f.new }
 {
-    show_escaped(Shown::ShownKey, key.as_str(), f)?;
+    show_escaped(TokenKind::TagKey, key.as_str(), f)?;
     f.write_str("=")?;
-    show_escaped(Shown::ShownKey, value.as_str(), f)
+    show_escaped(TokenKind::TagValue, value.as_str(), f)
 }
 
 // Writes a field.
@@ -78,7 +70,7 @@ fn show_field<'a, W: fmt::Write>(
 ) -> fmt::Result
     ensures { DisplaysOnOk W.write_str_gives f.old result (Some (shown_field (field_of (key.now, value.now)))) f.new }
 {
-    show_escaped(Shown::ShownKey, key.as_str(), f)?;
+    show_escaped(TokenKind::FieldKey, key.as_str(), f)?;
     f.write_str("=")?;
     fmt::Display::fmt(value, f)
 }
@@ -123,7 +115,7 @@ impl<'a> fmt::Display for FieldValue<'a> {
             FieldValue::I64(number) => write!(f, "{number}i"),
             FieldValue::U64(number) => write!(f, "{number}u"),
             FieldValue::F64(literal) => f.write_str(literal.as_str()),
-            FieldValue::String(text) => show_escaped(Shown::ShownString, text.as_str(), f),
+            FieldValue::String(text) => show_escaped(TokenKind::String, text.as_str(), f),
             FieldValue::Boolean(value) => write!(f, "{value}"),
         }
     }
@@ -139,7 +131,7 @@ impl<'a> fmt::Display for Series<'a> {
     ghost output = { λ s. Some (shown_series (read_of s.measurement) (option_map tags_of s.tag_set)) };
 
     fn fmt<W: fmt::Write>(&self, f: &mut fmt::Formatter<W>) -> fmt::Result {
-        show_escaped(Shown::ShownMeasurement, self.measurement.as_str(), f)?;
+        show_escaped(TokenKind::Measurement, self.measurement.as_str(), f)?;
         match &self.tag_set {
             None => Ok(()),
             Some(tags) => {

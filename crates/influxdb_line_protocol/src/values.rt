@@ -23,7 +23,7 @@ use crate::error::{Error, OutOfRange};
 use crate::escaped::EscapedStr;
 use crate::forms::{escaped_str, front};
 use crate::literals::{FloatText, integer_len};
-use crate::sets::Form;
+use crate::sets::TokenKind;
 use crate::trim::{strip_byte, trim_start_spaces};
 use std::alloc::{AllocError, Global};
 
@@ -224,7 +224,7 @@ fn string<'a>(alloc: Global, text: &'a str) -> Result<Option<(FieldValue<'a>, &'
     let Some(opened) = strip_byte(b'"', text) else {
         return Ok(None);
     };
-    let (body, closing) = front(Form::Quoted, opened);
+    let (body, closing) = front(TokenKind::String, opened);
     let Some(rest) = strip_byte(b'"', closing) else {
         return Ok(None);
     };

@@ -1,7 +1,5 @@
 -- What the calls of the builder write.
 use Rattle.std.specs.Prelude.{◌≡◌, ◌≢◌, ℕ, ◌+◌, ◌^◌, ◌<◌, ◌≤◌, ◌↔◌, List, ◌++◌, length, Result, Ok, Err, IfOk, IfErr, IsOk, MatchResult}
-use Rattle.influxdb_line_protocol.specs.declared.builder.texts.Escapes.{Escapes}
-use Rattle.influxdb_line_protocol.specs.declared.builder.texts.Escapes.TheVariants.{OfMeasurement, OfKey, OfString}
 use Rattle.influxdb_line_protocol.specs.declared.builder.buffer.NoRoom.{NoRoom}
 use Rattle.influxdb_line_protocol.specs.declared.builder.buffer.NoRoom.TheVariants.{TooLong}
 use Rattle.influxdb_line_protocol.specs.declared.builder.LineProtocolBuilder.{LineProtocolBuilder}
@@ -9,8 +7,6 @@ use Rattle.influxdb_line_protocol.specs.declared.builder.Refused.{Refused}
 use Rattle.influxdb_line_protocol.specs.declared.builder.BeforeMeasurement.{BeforeMeasurement}
 use Rattle.influxdb_line_protocol.specs.declared.builder.parsed.Written.{Written}
 use Rattle.influxdb_line_protocol.specs.format.Escapes.{escaped}
-use Rattle.influxdb_line_protocol.specs.format.Names.{a_measurement, a_tag_key, escapable}
-use Rattle.influxdb_line_protocol.specs.format.Values.{quotable}
 
 -- the buffer that a builder writes to
 abbrev pub buffer_of : {B S : Type 0} → LineProtocolBuilder B S → B
@@ -20,12 +16,6 @@ buffer_of b = b.buf
 abbrev pub with_builder : {B S : Type 0} → Result (Written B) (Refused B S) → Result (LineProtocolBuilder B BeforeMeasurement) (Refused B S)
 with_builder (Ok w) = Ok w.builder
 with_builder (Err r) = Err r
-
--- the bytes that get a backslash
-abbrev pub bytes_of : Escapes → List ℕ
-bytes_of OfMeasurement = escapable a_measurement
-bytes_of OfKey = escapable a_tag_key
-bytes_of OfString = quotable
 
 -- no byte of a text gets a backslash
 abbrev pub IsPlainText : List ℕ → List ℕ → Type 0

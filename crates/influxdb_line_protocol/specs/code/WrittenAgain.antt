@@ -7,7 +7,7 @@ use Rattle.influxdb_line_protocol.specs.declared.parsed.ParsedLine.{ParsedLine}
 use Rattle.influxdb_line_protocol.specs.declared.builder.lines.Parts.{Parts}
 use Rattle.influxdb_line_protocol.specs.format.Bytes.{newline, space}
 use Rattle.influxdb_line_protocol.specs.declared.values.FieldValue.TheVariants.{String}
-use Rattle.influxdb_line_protocol.specs.format.Names.{a_measurement, a_tag_key, a_field_key, escapable}
+use Rattle.influxdb_line_protocol.specs.format.Names.{a_measurement, a_tag_key, a_tag_value, a_field_key, escapable}
 use Rattle.influxdb_line_protocol.specs.format.Values.{Value, quotable, integer, unsigned, float, string, boolean}
 use Rattle.influxdb_line_protocol.specs.format.Readings.{Text}
 use Rattle.influxdb_line_protocol.specs.code.Texts.{text_of}
@@ -45,7 +45,7 @@ parts_text p =
 
 -- no byte of a tag gets a backslash
 abbrev pub IsPlainTag : EscapedStr × EscapedStr → Type 0
-IsPlainTag t = IsPlainText (escapable a_tag_key) (text_of t.0) × IsPlainText (escapable a_tag_key) (text_of t.1)
+IsPlainTag t = IsPlainText (escapable a_tag_key) (text_of t.0) × IsPlainText (escapable a_tag_value) (text_of t.1)
 
 -- the text between the quotes of a value, and none where it has no quotes
 abbrev pub quoted_text : FieldValue → List ℕ

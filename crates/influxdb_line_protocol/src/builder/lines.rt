@@ -10,7 +10,7 @@ ghost use Rattle.influxdb_line_protocol.specs.code.Outcomes.{kind_of};
 ghost use Rattle.influxdb_line_protocol.specs.code.Parsed.{parsed_point, tag_of, tags_of};
 ghost use Rattle.influxdb_line_protocol.specs.format.Points.{built, built_timestamp, built_value, field_text};
 ghost use Rattle.influxdb_line_protocol.specs.format.Points.{is_admitted_field, is_admitted_name, is_admitted_point};
-ghost use Rattle.influxdb_line_protocol.specs.format.Points.{is_admitted_tag, never_in, spelling};
+ghost use Rattle.influxdb_line_protocol.specs.format.Points.{is_admitted_tag, never_in};
 ghost use Rattle.influxdb_line_protocol.specs.format.Values.{float};
 ghost use Rattle.influxdb_line_protocol.specs.code.Literals.{literal_of};
 ghost use Rattle.influxdb_line_protocol.specs.code.Texts.{text_of};
@@ -21,12 +21,13 @@ ghost use Rattle.influxdb_line_protocol.specs.code.Marks.{listed};
 ghost use Rattle.influxdb_line_protocol.specs.code.Built.{Writes, buffer_of};
 
 use super::marks::{Marks, is_free_of};
-use super::texts::{Escapes, Extent, measure, put_escaped};
+use super::texts::{Extent, measure, put_escaped};
 use super::values::put_string;
 use super::{
     BeforeMeasurement, BufMut, FieldValue, LineProtocolBuilder, Refused, put_field, put_tag,
 };
 use crate::names::NameKind;
+use crate::sets::TokenKind;
 use crate::{EscapedStr, FloatText, ParsedLine, values};
 
 /// The literal, as it is.
@@ -160,8 +161,8 @@ fn measure_tag(tag: &(EscapedStr<'_>, EscapedStr<'_>)) -> Option<Extent>
     ensures len { SomeIff (option_map (λ m. m.len) result) (length (tag_text tag.now) < 2 ^ 64) (length (tag_text tag.now)) }
     ensures plain { IfSome result (λ m. m.is_plain ≡ true → IsPlainTag tag.now) }
 {
-    let key = measure(Escapes::OfKey, tag.0.as_str().as_bytes());
-    let value = measure(Escapes::OfKey, tag.1.as_str().as_bytes());
+    let key = measure(TokenKind::TagKey, tag.0.as_str().as_bytes());
+    let value = measure(TokenKind::TagValue, tag.1.as_str().as_bytes());
     Some(Extent {
         len: key.len.checked_add(value.len)?.checked_add(2)?,
         is_plain: key.is_plain && value.is_plain,
@@ -207,7 +208,7 @@ fn measure_field(field: &(EscapedStr<'_>, values::FieldValue<'_>)) -> Option<Ext
         SomeIff (option_map (λ m. m.len) result) (length text < 2 ^ 64) (length text) }
     ensures plain { IfSome result (λ m. m.is_plain ≡ true → IsPlainField field.now) }
 {
-    let key = measure(Escapes::OfKey, field.0.as_str().as_bytes());
+    let key = measure(TokenKind::FieldKey, field.0.as_str().as_bytes());
     let value = measure_value(&field.1)?;
     Some(Extent {
         len: key.len.checked_add(value.len)?.checked_add(2)?,
@@ -239,7 +240,7 @@ fn measure_value(value: &values::FieldValue<'_>) -> Option<Extent>
         values::FieldValue::F64(value) => plain_extent(value.fmt_len()),
         values::FieldValue::Boolean(value) => plain_extent(value.fmt_len()),
         values::FieldValue::String(text) => {
-            let text = measure(Escapes::OfString, text.as_str().as_bytes());
+            let text = measure(TokenKind::String, text.as_str().as_bytes());
             Some(Extent {
                 len: text.len.checked_add(2)?,
                 is_plain: text.is_plain,
@@ -338,7 +339,7 @@ impl<'l, 'a> Parts<'l, 'a> {
             SomeIff (option_map (λ m. m.len) result) (length text < 2 ^ 64) (length text) }
         ensures plain { IfSome result (λ m. m.is_plain ≡ true → ArePlainParts self.now) }
     {
-        let measurement = measure(Escapes::OfMeasurement, self.measurement);
+        let measurement = measure(TokenKind::Measurement, self.measurement);
         let tags = measure_tags(self.tags)?;
         let fields = measure_fields(self.fields)?;
         let end = timestamp_len(self.timestamp) + 1;
@@ -359,7 +360,7 @@ impl<'l, 'a> Parts<'l, 'a> {
         ensures bytes { B.bytes buf.new ≡ B.bytes buf.old ++ parts_text self.now }
         ensures room { B.room buf.old ≤ B.room buf.new + length (parts_text self.now) }
     {
-        put_escaped(buf, Escapes::OfMeasurement, is_plain, self.measurement);
+        put_escaped(buf, TokenKind::Measurement, is_plain, self.measurement);
         put_tags(buf, is_plain, self.tags);
         put_fields(buf, is_plain, self.fields);
         put_timestamp(buf, self.timestamp);

@@ -16,11 +16,12 @@ use super::lines::{
     ReadValue, are_fields_admitted, are_tags_admitted, is_admitted_name, measure_tags,
     put_timestamp, tags, timestamp_len,
 };
-use super::texts::{Escapes, Extent, backslashes, escaped_len, measure};
+use super::texts::{Extent, backslashes, escaped_len, measure};
 use super::{
     BeforeMeasurement, BufMut, FieldValue, LineProtocolBuilder, Refused, put_field, write_line,
 };
 use crate::names::NameKind;
+use crate::sets::TokenKind;
 use crate::{EscapedStr, ParsedLine, values};
 
 /// What became of a line: the builder, and whether the line was written.
@@ -39,7 +40,7 @@ fn plain_head<'l>(line: &'l ParsedLine<'_>) -> Option<&'l [u8]>
     ensures { IfSome result (λ head. IsHeadOf head.now (parsed_point line.now)) }
 {
     let head = line.series.raw_input.as_bytes();
-    if backslashes(Escapes::OfKey, head) == 2 * tags(line).len() {
+    if backslashes(TokenKind::TagKey, head) == 2 * tags(line).len() {
         Some(head)
     } else {
         None
@@ -86,7 +87,7 @@ fn measure_read_field(field: &(EscapedStr<'_>, values::FieldValue<'_>)) -> Optio
         SomeIff (option_map (λ m. m.len) result) (length text < 2 ^ 64) (length text) }
     ensures plain { IfSome result (λ m. m.is_plain ≡ true → IsPlainKey field.now) }
 {
-    let key = measure(Escapes::OfKey, field.0.as_str().as_bytes());
+    let key = measure(TokenKind::FieldKey, field.0.as_str().as_bytes());
     let value_len = read_value_len(&field.1)?;
     Some(Extent {
         len: key.len.checked_add(value_len)?.checked_add(2)?,
@@ -250,7 +251,7 @@ fn spelled_head<'l>(line: &'l ParsedLine<'_>) -> Option<&'l [u8]>
 {
     let head = line.series.raw_input.as_bytes();
     let measurement = line.series.measurement.as_str().as_bytes();
-    let measurement_len = escaped_len(Escapes::OfMeasurement, measurement);
+    let measurement_len = escaped_len(TokenKind::Measurement, measurement);
     let tags_len = measure_tags(tags(line))?.len;
     if measurement_len.checked_add(tags_len)? == head.len() {
         Some(head)

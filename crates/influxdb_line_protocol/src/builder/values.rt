@@ -3,13 +3,13 @@
 ghost use Rattle.std.specs.Prelude.{◌≡◌, ◌+◌, ◌<◌, ◌≤◌, ◌^◌, List, ◌++◌, ℕ, true, length};
 ghost use Rattle.std.specs.Option.{SomeIff};
 ghost use Rattle.std.specs.Fmt.{decimal};
-ghost use Rattle.influxdb_line_protocol.specs.format.Values.{integer, unsigned, string, boolean};
+ghost use Rattle.influxdb_line_protocol.specs.format.Values.{integer, unsigned, string, boolean, quotable};
 ghost use Rattle.influxdb_line_protocol.specs.format.Points.{built_value};
-ghost use Rattle.influxdb_line_protocol.specs.code.Built.{IsPlainText, bytes_of};
-ghost use Rattle.influxdb_line_protocol.specs.declared.builder.texts.Escapes.TheVariants.{OfString};
+ghost use Rattle.influxdb_line_protocol.specs.code.Built.{IsPlainText};
 
 use super::buffer::BufMut;
-use super::texts::{Escapes, escaped_len, put_escaped};
+use super::texts::{escaped_len, put_escaped};
+use crate::sets::TokenKind;
 
 /// A value that a field can have.
 ///
@@ -93,7 +93,7 @@ impl FieldValue for &str {
     ghost text = { λ s. built_value (string s.now) };
 
     fn fmt_len(&self) -> Option<usize> {
-        escaped_len(Escapes::OfString, self.as_bytes()).checked_add(2)
+        escaped_len(TokenKind::String, self.as_bytes()).checked_add(2)
     }
 
     fn fmt<B: BufMut>(&self, buf: &mut B) {
@@ -104,12 +104,12 @@ impl FieldValue for &str {
 // Appends `text` between quotes, with its backslashes.
 #[inline(always)]
 pub(super) fn put_string<B: BufMut>(buf: &mut B, is_plain: bool, text: &[u8])
-    requires plain { is_plain ≡ true → IsPlainText (bytes_of OfString) text.now }
+    requires plain { is_plain ≡ true → IsPlainText quotable text.now }
     requires room { length (built_value (string text.now)) ≤ B.room buf.old }
     ensures bytes { B.bytes buf.new ≡ B.bytes buf.old ++ built_value (string text.now) }
     ensures room { B.room buf.old ≤ B.room buf.new + length (built_value (string text.now)) }
 {
     buf.put(b"\"");
-    put_escaped(buf, Escapes::OfString, is_plain, text);
+    put_escaped(buf, TokenKind::String, is_plain, text);
     buf.put(b"\"");
 }

@@ -8,33 +8,33 @@ use Rattle.influxdb_line_protocol.proofs.forms.escaped_end_of.Goals as goal
 
 pub loop-end-init : goal.loop-end-init
 loop-end-init c =
-    let form = c.args.form in
+    let kind = c.args.kind in
     let bytes = c.as_bytes-bytes.result.now in
     let run = rw (← c.as_bytes-bytes.ensures.value) at c.requires.run in
     record {
-      walked = walk_run (known_of form) (stops_of form) bytes 0 c.args.at 0 (walk_start (known_of form) (stops_of form) bytes) run;
+      walked = walk_run (known_of kind) (stops_of kind) bytes 0 c.args.at 0 (walk_start (known_of kind) (stops_of kind) bytes) run;
       after = omega arith;
     }
 
 pub returns-then-next-end-clause-value : goal.returns-then-next-end-clause-value
 returns-then-next-end-clause-value c =
-    let form = c.args.form in
+    let kind = c.args.kind in
     let load = c.escapes_in_load-next.ensures in
     let stop = load.stops c.if-next-end.true in
-    let ends = walk_ends (known_of form) (stops_of form) c.as_bytes-bytes.result.now _ _ load.walked (λ within. stop) in
+    let ends = walk_ends (known_of kind) (stops_of kind) c.as_bytes-bytes.result.now _ _ load.walked (λ within. stop) in
     rw (← c.as_bytes-bytes.ensures.value) (sym ends.0)
 
 pub returns-then-next-end-clause-escaped : goal.returns-then-next-end-clause-escaped
 returns-then-next-end-clause-escaped c =
-    let form = c.args.form in
+    let kind = c.args.kind in
     let bytes = c.as_bytes-bytes.result.now in
     let at = c.args.at in
     let next = c.escapes_in_load-next.result.0 in
     let load = c.escapes_in_load-next.ensures in
     let here : slice_index bytes at ≡ 92 = rw c.as_bytes-bytes.ensures.value c.requires.here in
-    let stop : stops_of form (slice_index bytes next) ≡ true = load.stops c.if-next-end.true in
+    let stop : stops_of kind (slice_index bytes next) ≡ true = load.stops c.if-next-end.true in
     let other : next ≢ at = λ e. false≢true
-    (sym (backslash_goes_on form) ∙ ap (stops_of form) (sym here ∙ ap (slice_index bytes) (sym e)) ∙ stop) in
+    (sym (backslash_goes_on kind) ∙ ap (stops_of kind) (sym here ∙ ap (slice_index bytes) (sym e)) ∙ stop) in
     rw (← c.as_bytes-bytes.ensures.value)
     (is_one_of_front bytes at next 92 (omega (arith, load.further, c.loop-end.invariant.after))
     (omega (arith, load.walked.within, load.further, c.loop-end.invariant.after)) here)

@@ -9,9 +9,9 @@ use Rattle.influxdb_line_protocol.proofs.forms.escaped_str.Goals as goal
 pub returns-then-spelled-clause-text : goal.returns-then-spelled-clause-text
 returns-then-spelled-clause-text c =
     let none : is_one_of c.args.spelled.text.now 92 ≡ false = grind (arith, common_steps) in
-    read_plain (known_of c.args.spelled.form) c.args.spelled.text.now c.args.spelled.text.now none refl
+    read_plain (known_of c.args.spelled.kind) c.args.spelled.text.now c.args.spelled.text.now none refl
 
 pub returns-then-matches-clause-text : goal.returns-then-matches-clause-text
 returns-then-matches-clause-text c =
-    let known : is_one_escape (known_of c.args.spelled.form) c.args.spelled.text.now ≡ true = grind (arith, common_steps) in
-    read_escape (known_of c.args.spelled.form) c.args.spelled.text.now c.range_from.result.now known c.range_from.ensures.value
+    let known : is_one_escape (known_of c.args.spelled.kind) c.args.spelled.text.now ≡ true = grind (arith, common_steps) in
+    read_escape (known_of c.args.spelled.kind) c.args.spelled.text.now c.range_from.result.now known c.range_from.ensures.value

@@ -7,36 +7,36 @@ use Rattle.influxdb_line_protocol.proofs.forms.escapes_in_load.Goals as goal
 
 pub returns-then-run-lt-WIDE : goal.returns-then-run-lt-WIDE
 returns-then-run-lt-WIDE c =
-    let form = c.args.form in
+    let kind = c.args.kind in
     let bytes = c.args.bytes.now in
     let at = c.args.at in
     let w = c.requires.walked in
     let given = c.places_of-backslashes.ensures in
-    let stops = c.bare.ensures (stops_of form) bytes at (omega arith) w.bare given c.stops_in.ensures in
+    let stops = c.bare.ensures (stops_of kind) bytes at (omega arith) w.bare given c.stops_in.ensures in
     let slashes = c.bare-2.ensures (λ b. b == 92) bytes at (omega arith) w.bare given given in
     let known = c.ones_below.ensures
     ∙ ap (λ (m : ℕ). count_ones (m % 2 ^ c.first_set-run.result))
-    (escapes_mask (known_of form) bytes at _ _ c.requires.room slashes c.known_in.ensures) in
-    let load = load_stops (known_of form) (stops_of form) bytes at c.args.found c.requires.room
-    (backslash_goes_on form) w c.first_set-run.result
+    (escapes_mask (known_of kind) bytes at _ _ c.requires.room slashes c.known_in.ensures) in
+    let load = load_stops (known_of kind) (stops_of kind) bytes at c.args.found c.requires.room
+    (backslash_goes_on kind) w c.first_set-run.result
     (c.first_set-run.ensures ∙ ap (λ (m : ℕ). first_set m 64) stops) c.ones_below.result known c.if-run-lt-WIDE.true in
     record { walked = load.0; stops = λ _. load.1; further = omega arith }
 
 pub returns : goal.returns
 returns c =
-    let form = c.args.form in
+    let kind = c.args.kind in
     let bytes = c.args.bytes.now in
     let at = c.args.at in
     let w = c.requires.walked in
     let given = c.places_of-backslashes.ensures in
-    let stops = c.bare.ensures (stops_of form) bytes at (omega arith) w.bare given c.stops_in.ensures in
+    let stops = c.bare.ensures (stops_of kind) bytes at (omega arith) w.bare given c.stops_in.ensures in
     let slashes = c.bare-2.ensures (λ b. b == 92) bytes at (omega arith) w.bare given given in
     let known = c.ones_below.ensures
     ∙ ap (λ (m : ℕ). count_ones (m % 2 ^ c.first_set-run.result))
-    (escapes_mask (known_of form) bytes at _ _ c.requires.room slashes c.known_in.ensures) in
+    (escapes_mask (known_of kind) bytes at _ _ c.requires.room slashes c.known_in.ensures) in
     let last = c.escapes_next.ensures bytes at (omega arith) w.bare given in
-    let walked = load_goes_on (known_of form) (stops_of form) bytes at c.args.found c.requires.room
-    (backslash_goes_on form) w c.first_set-run.result
+    let walked = load_goes_on (known_of kind) (stops_of kind) bytes at c.args.found c.requires.room
+    (backslash_goes_on kind) w c.first_set-run.result
     (c.first_set-run.ensures ∙ ap (λ (m : ℕ). first_set m 64) stops) c.ones_below.result known c.escapes_next.result
     c.if-run-lt-WIDE.false last in
     record { walked = walked; stops = λ short. absurd (omega arith); further = omega arith }

@@ -6,8 +6,8 @@ use Rattle.influxdb_line_protocol.proofs.forms.escapes_to_end.Given as goal
 -- the walk stands at a bare place after plain bytes, and has met the first backslash or is there
 abbrev pub invariant-loop-end : goal.invariant-loop-end
 invariant-loop-end l = record {
-  walked : EscapeScan (known_of l.form) (stops_of l.form) l.bytes l.end l.known;
-  stopped : l.end < length l.bytes → is_plain (stops_of l.form) (slice_index l.bytes l.end) ≡ false;
+  walked : EscapeScan (known_of l.kind) (stops_of l.kind) l.bytes l.end l.known;
+  stopped : l.end < length l.bytes → is_plain (stops_of l.kind) (slice_index l.bytes l.end) ≡ false;
   after : l.at ≤ l.end;
 }
 

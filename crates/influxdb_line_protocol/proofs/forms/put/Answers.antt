@@ -23,14 +23,14 @@ loop-at-init c =
       within = run.within;
       stopped = stops_at bytes 0 c.next_backslash-at.result run;
       boundary = IsCharBoundary-start bytes c.as_bytes-bytes.ensures.utf8;
-      whole = rw c.requires.empty (left_run (known_of c.args.form) bytes (λ b. false) 0 0 c.next_backslash-at.result (omega arith) run);
+      whole = rw c.requires.empty (left_run (known_of c.args.kind) bytes (λ b. false) 0 0 c.next_backslash-at.result (omega arith) run);
       room = rw c.as_bytes-bytes.ensures.value c.requires.room;
     }
 
 pub loop-at-preserved : goal.loop-at-preserved
 loop-at-preserved c =
-    let form = c.args.form in
-    let known = known_of form in
+    let kind = c.args.kind in
+    let known = known_of kind in
     let bytes = c.as_bytes-bytes.result.now in
     let from = c.loop-at.from in
     let at = c.loop-at.at in
@@ -49,7 +49,7 @@ loop-at-preserved c =
             ordered = rw w.from-is (omega (arith, run.ordered));
             within = run.within;
             stopped = stops_at bytes (at + 1 + 1) end run;
-            boundary = rw w.from-is (IsCharBoundary-before_ascii bytes (at + 1) c.loop-at-test.true (known_is_ascii form _ is));
+            boundary = rw w.from-is (IsCharBoundary-before_ascii bytes (at + 1) c.loop-at-test.true (known_is_ascii kind _ is));
             whole = rw (w.to-is, w.from-is, go, w.in_ok-push_str.ensures.bytes, part, append_assoc, step) inv.whole;
             room = rw w.to-is (omega (arith, inv.room, w.push_str.ensures.capacity));
           }
@@ -71,7 +71,7 @@ pub returns-in_err-push_str-2-clause-has_room : goal.returns-in_err-push_str-2-c
 returns-in_err-push_str-2-clause-has_room c =
     let bytes = c.as_bytes-bytes.result.now in
     let inv = c.loop-at.invariant in
-    let whole = whole_last (known_of c.args.form) bytes (string_bytes c.loop-at.to) _ c.loop-at.from
+    let whole = whole_last (known_of c.args.kind) bytes (string_bytes c.loop-at.to) _ c.loop-at.from
     c.loop-at.at inv.ordered inv.within c.loop-at-test.false inv.whole in
     let rest : c.range_from.result.now ≡ drop c.loop-at.from bytes = rw c.as_bytes-bytes.ensures.value c.range_from.ensures.value in
     absurd (omega (
@@ -87,7 +87,7 @@ pub returns-in_err-push_str-2-clause-text : goal.returns-in_err-push_str-2-claus
 returns-in_err-push_str-2-clause-text c =
     let bytes = c.as_bytes-bytes.result.now in
     let inv = c.loop-at.invariant in
-    let whole = whole_last (known_of c.args.form) bytes (string_bytes c.loop-at.to) _ c.loop-at.from
+    let whole = whole_last (known_of c.args.kind) bytes (string_bytes c.loop-at.to) _ c.loop-at.from
     c.loop-at.at inv.ordered inv.within c.loop-at-test.false inv.whole in
     let rest : c.range_from.result.now ≡ drop c.loop-at.from bytes = rw c.as_bytes-bytes.ensures.value c.range_from.ensures.value in
     absurd (omega (
@@ -103,7 +103,7 @@ pub returns-clause-text : goal.returns-clause-text
 returns-clause-text c =
     let bytes = c.as_bytes-bytes.result.now in
     let inv = c.loop-at.invariant in
-    let whole = whole_last (known_of c.args.form) bytes (string_bytes c.loop-at.to) _ c.loop-at.from
+    let whole = whole_last (known_of c.args.kind) bytes (string_bytes c.loop-at.to) _ c.loop-at.from
     c.loop-at.at inv.ordered inv.within c.loop-at-test.false inv.whole in
     let rest : c.range_from.result.now ≡ drop c.loop-at.from bytes = rw c.as_bytes-bytes.ensures.value c.range_from.ensures.value in
     c.in_ok-push_str-2.ensures.bytes ∙ rw (rest, ← c.as_bytes-bytes.ensures.value) whole

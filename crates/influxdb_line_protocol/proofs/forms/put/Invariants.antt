@@ -13,8 +13,8 @@ invariant-loop-at l = record {
   within : l.at ≤ length l.bytes;
   stopped : l.at < length l.bytes → slice_index l.bytes l.at ≡ 92;
   boundary : IsCharBoundary l.bytes l.from;
-  whole : string_bytes l.to ++ left (known_of l.form) l.bytes l.from l.at ≡ without_escapes (known_of l.form) l.bytes;
-  room : length (without_escapes (known_of l.form) l.bytes) ≤ string_capacity l.to;
+  whole : string_bytes l.to ++ left (known_of l.kind) l.bytes l.from l.at ≡ without_escapes (known_of l.kind) l.bytes;
+  room : length (without_escapes (known_of l.kind) l.bytes) ≤ string_capacity l.to;
 }
 
 abbrev pub decreases-loop-at : goal.decreases-loop-at

@@ -1,9 +1,9 @@
--- A lane is set just where its byte ends a spelling of the form or is a backslash, at each of the 256 bytes.
-use Rattle.std.proofs.Common.{refl, arith}
+-- A lane is set just where its byte ends a token of the kind or is a backslash, at each of the 256 bytes.
+use Rattle.std.proofs.Common.{◌≡◌, refl, arith, inl, inr}
 use Rattle.std.proofs.lemmas.Simd.{length-chunk}
 use lib.Lanes.{chunk}
 use Rattle.influxdb_line_protocol.specs.code.Forms.{is_end, stops_of}
-use Rattle.influxdb_line_protocol.specs.declared.sets.Form.TheVariants.{Measurement, Key, TagValue, Quoted}
+use Rattle.influxdb_line_protocol.specs.declared.sets.TokenKind.TheVariants.{Measurement, TagKey, TagValue, String}
 use Rattle.influxdb_line_protocol.proofs.lemmas.lanes.LaneLemmas.{lanes_looked, lanes_of, lanes_or}
 use Rattle.influxdb_line_protocol.proofs.lemmas.lanes.MaskLemmas.{mask_is}
 use Rattle.influxdb_line_protocol.proofs.lanes.end_mask.Goals as goal
@@ -18,11 +18,12 @@ returns-in-Measurement c =
     (mask_is (is_end (stops_of Measurement)) c.args.bytes.now c.args.at 16 c.requires (omega arith) _ _
     (lanes_or _ _ v stops (lanes_or _ _ v (lanes_of v 44 long) (lanes_of v 0 long))) (λ k. (c.type_inv.bytes k).fits) refl)
 
-pub returns-in-Key : goal.returns-in-Key
-returns-in-Key c =
+pub returns-in-TagKey : goal.returns-in-TagKey
+returns-in-TagKey c =
     let v = chunk c.args.at 16 c.args.bytes.now in
-    rw c.in-Key.is
-    (mask_is (is_end (stops_of Key)) c.args.bytes.now c.args.at 16 c.requires (omega arith) _ _
+    let same : stops_of c.args.kind ≡ stops_of TagKey = elim c.in-TagKey.is [ inl e ↦ rw e refl | inr e ↦ rw e refl ] in
+    rw same
+    (mask_is (is_end (stops_of TagKey)) c.args.bytes.now c.args.at 16 c.requires (omega arith) _ _
     (lanes_looked _ v c.by_low_half.ensures) (λ k. (c.type_inv.bytes k).fits) refl)
 
 pub returns-in-TagValue : goal.returns-in-TagValue
@@ -34,10 +35,10 @@ returns-in-TagValue c =
     (lanes_or _ _ v (lanes_looked _ v c.by_low_half-in-TagValue.ensures) (lanes_of v 92 long))
     (λ k. (c.type_inv.bytes k).fits) refl)
 
-pub returns-in-Quoted : goal.returns-in-Quoted
-returns-in-Quoted c =
+pub returns-in-String : goal.returns-in-String
+returns-in-String c =
     let v = chunk c.args.at 16 c.args.bytes.now in
     let long = length-chunk c.args.at 16 c.args.bytes.now c.requires in
-    rw c.in-Quoted.is
-    (mask_is (is_end (stops_of Quoted)) c.args.bytes.now c.args.at 16 c.requires (omega arith) _ _
+    rw c.in-String.is
+    (mask_is (is_end (stops_of String)) c.args.bytes.now c.args.at 16 c.requires (omega arith) _ _
     (lanes_or _ _ v (lanes_of v 92 long) (lanes_of v 34 long)) (λ k. (c.type_inv.bytes k).fits) refl)

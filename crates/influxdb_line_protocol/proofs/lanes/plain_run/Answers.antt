@@ -6,5 +6,5 @@ use Rattle.influxdb_line_protocol.proofs.lanes.plain_run.Goals as goal
 
 pub returns : goal.returns
 returns c =
-    run_is (is_end (stops_of c.args.form)) c.args.bytes.now c.args.at 16 c.requires (omega arith) c.first_set.result
+    run_is (is_end (stops_of c.args.kind)) c.args.bytes.now c.args.at 16 c.requires (omega arith) c.first_set.result
     (c.first_set.ensures ∙ ap (λ m. first_set m 16) c.end_mask.ensures)

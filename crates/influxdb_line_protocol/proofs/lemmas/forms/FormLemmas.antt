@@ -3,8 +3,8 @@ use Rattle.std.proofs.Common.{◌≡◌, ℕ, ◌<◌, Bool, List, [], ◌∷◌
 use Rattle.std.specs.Prelude.{◌==◌}
 use Rattle.std.proofs.lemmas.Bool.{and_parts, or_right}
 use Rattle.std.proofs.lemmas.Grind.{common_steps}
-use Rattle.influxdb_line_protocol.specs.declared.sets.Form.{Form}
-use Rattle.influxdb_line_protocol.specs.declared.sets.Form.TheVariants.{Measurement, Key, TagValue, Quoted}
+use Rattle.influxdb_line_protocol.specs.declared.sets.TokenKind.{TokenKind}
+use Rattle.influxdb_line_protocol.specs.declared.sets.TokenKind.TheVariants.{Measurement, TagKey, TagValue, FieldKey, String}
 use Rattle.influxdb_line_protocol.specs.format.Bytes.{is_one_of}
 use Rattle.influxdb_line_protocol.specs.format.Escapes.{without_escapes}
 use Rattle.influxdb_line_protocol.specs.code.Forms.{stops_of, known_of}
@@ -13,18 +13,20 @@ use Rattle.influxdb_line_protocol.specs.format.Readings.{Text}
 use Rattle.influxdb_line_protocol.proofs.lemmas.names.NameLemmas.{no_backslash, without_escapes_same}
 
 -- a backslash ends no spelling
-pub backslash_goes_on : (form : Form) → stops_of form 92 ≡ false
+pub backslash_goes_on : (kind : TokenKind) → stops_of kind 92 ≡ false
 backslash_goes_on Measurement = refl
-backslash_goes_on Key = refl
+backslash_goes_on TagKey = refl
 backslash_goes_on TagValue = refl
-backslash_goes_on Quoted = refl
+backslash_goes_on FieldKey = refl
+backslash_goes_on String = refl
 
 -- a byte that a backslash may escape is a character
-pub known_is_ascii : (form : Form) (b : ℕ) → is_one_of (known_of form) b ≡ true → b < 128
+pub known_is_ascii : (kind : TokenKind) (b : ℕ) → is_one_of (known_of kind) b ≡ true → b < 128
 known_is_ascii Measurement b h = grind (arith, common_steps)
-known_is_ascii Key b h = grind (arith, common_steps)
+known_is_ascii TagKey b h = grind (arith, common_steps)
 known_is_ascii TagValue b h = grind (arith, common_steps)
-known_is_ascii Quoted b h = grind (arith, common_steps)
+known_is_ascii FieldKey b h = grind (arith, common_steps)
+known_is_ascii String b h = grind (arith, common_steps)
 
 -- two texts with the same bytes and the same variant
 same_text : (a b : List ℕ) (s t : Bool) → a ≡ b → s ≡ t → let x : Text = record { bytes = a; is_single = s } in

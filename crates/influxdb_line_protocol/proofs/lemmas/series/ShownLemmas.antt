@@ -6,9 +6,10 @@ use Rattle.std.proofs.lemmas.List.{take_more}
 use Rattle.std.proofs.Math.Nat.{sub_self}
 use Rattle.influxdb_line_protocol.specs.format.Bytes.{is_one_of}
 use Rattle.influxdb_line_protocol.specs.format.Escapes.{escaped, escaped_byte}
+use Rattle.influxdb_line_protocol.specs.code.Forms.{known_of}
 use Rattle.influxdb_line_protocol.specs.code.Shown.{shown_escapes}
-use Rattle.influxdb_line_protocol.specs.declared.shown.Shown.{Shown}
-use Rattle.influxdb_line_protocol.specs.declared.shown.Shown.TheVariants.{ShownMeasurement, ShownKey, ShownString}
+use Rattle.influxdb_line_protocol.specs.declared.sets.TokenKind.{TokenKind}
+use Rattle.influxdb_line_protocol.specs.declared.sets.TokenKind.TheVariants.{Measurement, TagKey, TagValue, FieldKey, String}
 
 -- an empty text
 pub escaped_nil : (bytes : List ℕ) → [] ≡ escaped bytes []
@@ -47,8 +48,10 @@ escape_byte bytes text done start at within special whole =
     let none : take (at - at) (drop at text) ≡ [] = rw (sub_self at) refl in
     rw (run_more text at at (omega arith) within, none, escaped_more bytes text at within, special, ← whole) (simp append_assoc)
 
--- bytes that get a backslash are ASCII
-pub shown_ascii : (shown : Shown) (b : ℕ) → is_one_of (shown_escapes shown) b ≡ true → b < 128
-shown_ascii ShownMeasurement b h = grind (arith, common_steps)
-shown_ascii ShownKey b h = grind (arith, common_steps)
-shown_ascii ShownString b h = grind (arith, common_steps)
+-- bytes that are shown with a backslash are ASCII
+pub shown_ascii : (kind : TokenKind) (b : ℕ) → is_one_of (shown_escapes (known_of kind)) b ≡ true → b < 128
+shown_ascii Measurement b h = grind (arith, common_steps)
+shown_ascii TagKey b h = grind (arith, common_steps)
+shown_ascii TagValue b h = grind (arith, common_steps)
+shown_ascii FieldKey b h = grind (arith, common_steps)
+shown_ascii String b h = grind (arith, common_steps)

@@ -2,6 +2,7 @@ use Rattle.std.proofs.Common.{◌≡◌, ◌-◌, ◌≤◌, List, ℕ, ◌++◌
 use Rattle.std.specs.Fmt.{HasWritten, IsPlainFormatter}
 use Rattle.std.specs.Str.{IsCharBoundary}
 use Rattle.influxdb_line_protocol.specs.format.Escapes.{escaped}
+use Rattle.influxdb_line_protocol.specs.code.Forms.{known_of}
 use Rattle.influxdb_line_protocol.specs.code.Shown.{shown_escapes}
 use Rattle.influxdb_line_protocol.proofs.shown.show_escaped.Given as goal
 
@@ -9,5 +10,5 @@ use Rattle.influxdb_line_protocol.proofs.shown.show_escaped.Given as goal
 abbrev pub invariant-loop-at : goal.invariant-loop-at
 invariant-loop-at g l =
     (l.start ≤ l.at) × IsCharBoundary l.fn.text l.start × (done : List ℕ)
-    × (done ++ take (l.at - l.start) (drop l.start l.fn.text) ≡ escaped (shown_escapes l.shown) (take l.at l.fn.text))
+    × (done ++ take (l.at - l.start) (drop l.start l.fn.text) ≡ escaped (shown_escapes (known_of l.kind)) (take l.at l.fn.text))
     × (IsPlainFormatter l.initial.f → HasWritten g.W.Write.write_str_gives l.initial.f done l.f)

@@ -22,7 +22,7 @@ returns-in_err-spelled-clause-memory c = λ refused.
     let opened = (byte_parts 34 c.args.text.now 34 inner c.in-Some.ensures.value).1 in
     let closed = (byte_parts 34 c.front.result.1.now 34 c.in-Some-strip_byte.rest.now c.in-Some-strip_byte.ensures.value).1 in
     let read = string_reads c.args.text.now inner c.in-Some-strip_byte.rest.now opened (sym c.front.ensures.rest ∙ closed) in
-    let no_memory = rw (c.front.ensures.form, c.front.ensures.text) at c.in_err-spelled.ensures.no_memory in
+    let no_memory = rw (c.front.ensures.kind, c.front.ensures.text) at c.in_err-spelled.ensures.no_memory in
     let copied : is_shared quotable (take (body_len inner) inner) ≡ false =
     elim (cases_Bool (is_shared quotable (take (body_len inner) inner))) [
       | inl shared ↦ absurd (let never = no_memory shared in cc)
@@ -36,4 +36,4 @@ returns-clause-value c =
     let opened = (byte_parts 34 c.args.text.now 34 inner c.in-Some.ensures.value).1 in
     let closed = (byte_parts 34 c.front.result.1.now 34 c.in-Some-strip_byte.rest.now c.in-Some-strip_byte.ensures.value).1 in
     let read = string_reads c.args.text.now inner c.in-Some-strip_byte.rest.now opened (sym c.front.ensures.rest ∙ closed) in
-    rw (c.in_ok-spelled.ensures.text, c.front.ensures.form, c.front.ensures.text) read
+    rw (c.in_ok-spelled.ensures.text, c.front.ensures.kind, c.front.ensures.text) read

@@ -1,16 +1,16 @@
 use Rattle.std.proofs.Common.{arith}
 use Rattle.influxdb_line_protocol.specs.format.Bytes.{is_one_of}
 use Rattle.influxdb_line_protocol.specs.code.Marks.{listed}
-use Rattle.influxdb_line_protocol.specs.code.Built.{bytes_of}
+use Rattle.influxdb_line_protocol.specs.code.Forms.{known_of}
 use Rattle.influxdb_line_protocol.proofs.lemmas.builder.BuilderLemmas.{escaped_first, escaped_none}
 use Rattle.influxdb_line_protocol.proofs.builder.texts.next_escape.Goals as goal
 
 pub returns-then-at-text-clause-none : goal.returns-then-at-text-clause-none
 returns-then-at-text-clause-none c =
-    escaped_none (bytes_of c.args.escapes) c.args.text.now (is_one_of (listed c.marks.result)) _ c.marks.ensures
+    escaped_none (known_of c.args.kind) c.args.text.now (is_one_of (listed c.marks.result)) _ c.marks.ensures
     c.before_first-at.ensures (omega arith)
 
 pub returns-clause-some : goal.returns-clause-some
 returns-clause-some c =
-    escaped_first (bytes_of c.args.escapes) c.args.text.now (is_one_of (listed c.marks.result)) _ c.marks.ensures
+    escaped_first (known_of c.args.kind) c.args.text.now (is_one_of (listed c.marks.result)) _ c.marks.ensures
     c.before_first-at.ensures (omega arith)

@@ -1,13 +1,13 @@
 use Rattle.std.proofs.Common.{◌≡◌, ◌+◌, ◌≤◌, ◌++◌, length}
 use Rattle.influxdb_line_protocol.specs.format.Escapes.{escaped}
-use Rattle.influxdb_line_protocol.specs.code.Built.{bytes_of}
+use Rattle.influxdb_line_protocol.specs.code.Forms.{known_of}
 use Rattle.influxdb_line_protocol.proofs.builder.texts.put_runs.Given as goal
 
 -- what is written and what is left to write make the whole, and there is room for the latter
 abbrev pub invariant-loop-plain : goal.invariant-loop-plain
 invariant-loop-plain g l =
-    let whole = escaped (bytes_of l.escapes) l.text in
-    let left = escaped (bytes_of l.escapes) l.rest in
+    let whole = escaped (known_of l.kind) l.text in
+    let left = escaped (known_of l.kind) l.rest in
     (g.B.BufMut.bytes l.buf ++ left ≡ g.B.BufMut.bytes l.initial.buf ++ whole)
     × (g.B.BufMut.room l.initial.buf + length left ≤ g.B.BufMut.room l.buf + length whole)
 
