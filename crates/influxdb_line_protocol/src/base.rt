@@ -1,11 +1,12 @@
 //! The base of a series: the text that tells it from other series.
 
-ghost use Rattle.std.specs.Prelude.{◌≡◌, ◌&&◌, ◌-◌, ◌^◌, [], ◌++◌, Some, IfOk, OnOk, length, map, min, true, string_bytes};
+ghost use Rattle.std.specs.Prelude.{◌≡◌, ◌&&◌, ◌-◌, ◌^◌, ◌++◌, IfOk, OnOk, length, map, min, true, string_bytes};
 ghost use Rattle.std.specs.List.{list_all};
 ghost use Rattle.std.specs.Option.{option_map};
 ghost use Rattle.influxdb_line_protocol.specs.code.Bases.{GivesBase, GivesMap, GivesOwned, base_by_key, base_of};
 ghost use Rattle.influxdb_line_protocol.specs.code.Bases.{base_text, based_tag, entry_bytes, in_order, is_borrowed};
-ghost use Rattle.influxdb_line_protocol.specs.code.Bases.{is_single_tag, keys_of, is_strictly_sorted};
+ghost use Rattle.influxdb_line_protocol.specs.code.Bases.{keys_of, is_strictly_sorted};
+ghost use Rattle.influxdb_line_protocol.specs.code.Light.{is_single_tag};
 ghost use Rattle.influxdb_line_protocol.specs.format.Lines.{some_tags};
 ghost use Rattle.influxdb_line_protocol.specs.code.Outcomes.{IsNotOutOfMemory};
 ghost use Rattle.influxdb_line_protocol.specs.code.Parsed.{tag_of, tags_of};
@@ -36,12 +37,7 @@ impl<'a> Series<'a> {
         ensures memory { is_borrowed (base_of self.entry.raw_input.now (read_of self.entry.measurement)
             (some_tags (option_map tags_of self.entry.tag_set))) ≡ true → IsNotOutOfMemory result }
     {
-        base(
-            alloc,
-            self.raw_input,
-            &self.measurement,
-            tags_in(&self.tag_set),
-        )
+        base(alloc, self.raw_input, &self.measurement, self.tags())
     }
 }
 
@@ -64,16 +60,6 @@ fn base<'a>(
     }
     let base = base_in_order(alloc, measurement.as_str(), tags)?;
     Ok(CowStr::Owned(base))
-}
-
-// The tags of a set that may be missing.
-fn tags_in<'t, 'a>(tag_set: &'t Option<TagSet<'a>>) -> &'t [(EscapedStr<'a>, EscapedStr<'a>)]
-    ensures { map tag_of result.now ≡ some_tags (option_map tags_of tag_set.now) }
-{
-    match tag_set {
-        Some(tags) => tags.as_slice(),
-        None => &[],
-    }
 }
 
 // Whether each key is greater than the one before it.

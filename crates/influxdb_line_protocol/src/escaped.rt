@@ -1,5 +1,5 @@
 //! A text that is a slice of the input, or a copy without the escapes.
-ghost use Rattle.std.specs.Prelude.{◌≡◌, ℕ, List, length, true, false, IfOk, IsOk, IsTrue, ◌↔◌, Some, string_bytes, refl};
+ghost use Rattle.std.specs.Prelude.{◌≡◌, length, true, false, IfOk, IsOk, IsTrue, ◌↔◌, Some, string_bytes, refl};
 ghost use Rattle.std.proofs.Common.{rules};
 ghost use Rattle.std.specs.Ordering.{nat_cmp};
 ghost use Rattle.std.specs.Prelude.{nat_eq};

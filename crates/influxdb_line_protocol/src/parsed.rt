@@ -1,6 +1,10 @@
 //! What was read of a line: its series and its fields.
 
-ghost use Rattle.std.specs.Prelude.{◌≡◌, ◌^◌, Some, ◌<◌, None};
+ghost use Rattle.std.specs.Prelude.{◌≡◌, ◌^◌, Some, ◌<◌, None, map};
+ghost use Rattle.std.specs.Option.{option_map};
+ghost use Rattle.influxdb_line_protocol.specs.code.Lookups.{some_items};
+ghost use Rattle.influxdb_line_protocol.specs.code.Parsed.{tag_of, tags_of};
+ghost use Rattle.influxdb_line_protocol.specs.format.Lines.{some_tags};
 ghost use Rattle.influxdb_line_protocol.specs.code.ReadInto.{IsEmptyLine};
 
 use crate::{EscapedStr, FieldValue, Measurement};
@@ -27,6 +31,19 @@ pub struct Series<'a> {
     pub tag_set: Option<TagSet<'a>>,
 }
 
+impl<'a> Series<'a> {
+    /// The tags: none, where there is no set of them.
+    pub(crate) fn tags(&self) -> &[(EscapedStr<'a>, EscapedStr<'a>)]
+        ensures items { result.now ≡ some_items self.now.tag_set }
+        ensures read { some_tags (option_map tags_of self.now.tag_set) ≡ map tag_of result.now }
+    {
+        match &self.tag_set {
+            Some(tags) => tags.as_slice(),
+            None => &[],
+        }
+    }
+}
+
 /// The fields of a line, in its order; repeated keys are kept. Up to 4 take no memory.
 pub type FieldSet<'a> = SmallVec<(EscapedStr<'a>, FieldValue<'a>), INLINE_FIELDS>;
 
@@ -42,10 +59,8 @@ pub struct ParsedLine<'a> {
 }
 
 impl<'a> ParsedLine<'a> {
-    ghost use Rattle.std.specs.Prelude.{◌^◌};
     ghost use Rattle.std.specs.Option.{option_copied};
     ghost use Rattle.influxdb_line_protocol.specs.code.Lookups.{columns, some_items, value_by_key};
-    ghost use Rattle.influxdb_line_protocol.specs.code.ReadInto.{IsEmptyLine};
 
     /// A line that says nothing: what [`ParseLines::next_into`] reads into.
     ///
@@ -72,11 +87,7 @@ impl<'a> ParsedLine<'a> {
         requires { columns self.now < 2 ^ 64 }
         ensures { result ≡ columns self.now }
     {
-        let tags = match &self.series.tag_set {
-            Some(tags) => tags.len(),
-            None => 0,
-        };
-        1 + self.field_set.len() + tags
+        1 + self.field_set.len() + self.series.tags().len()
     }
 
     /// The value of the first tag whose key has the text `tag_key`; `None` where no tag has it.

@@ -18,23 +18,23 @@ use Rattle.influxdb_line_protocol.specs.format.Readings.{Fault, integer_value_in
 use Rattle.influxdb_line_protocol.specs.format.Readings.{timestamp_value_invalid, tag_set_malformed}
 use Rattle.influxdb_line_protocol.specs.format.Readings.{measurement_value_invalid, field_set_missing, ends_with_backslash}
 use Rattle.influxdb_line_protocol.specs.format.Readings.{take_while1, cannot_parse_entire_line}
-use Rattle.influxdb_line_protocol.specs.format.Points.{Point, built, built_all}
-use Rattle.influxdb_line_protocol.specs.format.Lines.{Line, point_of}
+use Rattle.influxdb_line_protocol.specs.format.Points.{Point, built, built_all, is_admitted_point}
+use Rattle.influxdb_line_protocol.specs.format.Lines.{Line, point_of, answer}
 use Rattle.influxdb_line_protocol.specs.code.Parsed.{Answers, line_read, parsed_point}
 use Rattle.influxdb_line_protocol.specs.code.Faults.{error_text, fault_text}
 use Rattle.influxdb_line_protocol.specs.format.Trimming.{trimmed}
 use Rattle.influxdb_line_protocol.specs.format.Pieces.{Left, Pieces, PiecesLeft}
 use Rattle.influxdb_line_protocol.specs.code.ParseSteps.{IsBlankPiece, GaveItem}
-use Rattle.influxdb_line_protocol.specs.format.Items.{line_answer, answers_of, answers_of_piece}
+use Rattle.influxdb_line_protocol.specs.format.Items.{answers_of, answers_of_piece}
 use Rattle.lp_rebuild.specs.Rebuilding.{RebuildsIn, batch_of, carried_point, faults_from, fault_of, carried_of}
-use Rattle.lp_rebuild.specs.Rebuilding.{refused_of, is_carried, is_carried_answer, refusal_text}
+use Rattle.lp_rebuild.specs.Rebuilding.{refused_of, is_carried_answer, refusal_text}
 use Rattle.lp_rebuild.specs.RebuildSteps.{Refuses, Takes}
 
 -- an answer that is not carried was refused with its text
 pub refused_answer : (old : Progress) (answer : Result Line Fault) (new : Progress)
     → is_carried_answer answer ≡ false → Refuses old (refusal_text answer) new → Takes old answer new
 refused_answer old (Ok line) new e r =
-    let no : is_carried (point_of line) ≡ false = e in
+    let no : is_admitted_point (point_of line) ≡ false = e in
     record {
       batch = rw no (r.batch ∙ sym (append-nil old.batch.items));
       faults = rw no r.faults;
@@ -50,7 +50,7 @@ refused_answer old (Err fault) new e r =
     }
 
 -- a line that is carried was written again
-pub carried_line : (old : Progress) (line : ParsedLine) (new : Progress) → is_carried (parsed_point line) ≡ true
+pub carried_line : (old : Progress) (line : ParsedLine) (new : Progress) → is_admitted_point (parsed_point line) ≡ true
     → new.batch.items ≡ old.batch.items ++ built (parsed_point line)
     → string_bytes new.faults ≡ string_bytes old.faults → new.carried ≡ old.carried + 1 → new.refused ≡ old.refused
     → Takes old (Ok (line_read line)) new
@@ -63,7 +63,7 @@ carried_line old line new e batch faults carried refused =
     }
 
 -- a line that is not carried was refused
-pub refused_line : (old : Progress) (line : ParsedLine) (new : Progress) → is_carried (parsed_point line) ≡ false
+pub refused_line : (old : Progress) (line : ParsedLine) (new : Progress) → is_admitted_point (parsed_point line) ≡ false
     → Refuses old (codes "a name cannot be written again") new → Takes old (Ok (line_read line)) new
 refused_line old line new e r = refused_answer old (Ok (line_read line)) new e r
 
@@ -180,7 +180,7 @@ blank_answers dialect (p ∷ pieces) h =
 
 -- a piece that is not blank has one
 piece_answers : (dialect : Dialect) (piece : List ℕ) → 0 < length (trimmed piece)
-    → answers_of_piece dialect piece ≡ line_answer dialect (trimmed piece) ∷ []
+    → answers_of_piece dialect piece ≡ answer dialect (trimmed piece) ∷ []
 unfolding answers_of_piece
 piece_answers dialect piece h =
     let e : (length (trimmed piece) == 0) ≡ false = grind (arith, nat_tests) in
@@ -203,7 +203,7 @@ regrouped front skipped piece others = simp append_assoc
 
 -- the answers after blank pieces and one that is not
 front_answers : (dialect : Dialect) (front skipped : List (List ℕ)) (piece : List ℕ) → All IsBlankPiece skipped → 0 < length (trimmed piece)
-    → answers_of dialect (front ++ (skipped ++ piece ∷ [])) ≡ answers_of dialect front ++ line_answer dialect (trimmed piece) ∷ []
+    → answers_of dialect (front ++ (skipped ++ piece ∷ [])) ≡ answers_of dialect front ++ answer dialect (trimmed piece) ∷ []
 front_answers dialect front skipped piece blank some =
     let f = answers_of_piece dialect in
     flat_map-append f front (skipped ++ piece ∷ [])
@@ -219,13 +219,13 @@ pub SoFar-item : (dialect : Dialect) (text : List ℕ) (before : Left) (item : R
     → ((answer : Result Line Fault) → Answers item answer → Takes old answer new) → SoFar dialect text others new
 SoFar-item dialect text before item others old new same done gave takes =
     let h = done (gave.skipped ++ gave.piece ∷ others) gave.left in
-    let answer = line_answer dialect (trimmed gave.piece) in
+    let given = answer dialect (trimmed gave.piece) in
     record {
       front = h.front ++ (gave.skipped ++ gave.piece ∷ []);
       pieces = subst (Pieces dialect text) (regrouped h.front gave.skipped gave.piece others) h.pieces;
       took = subst (λ l. Took l new) (sym (front_answers dialect h.front gave.skipped gave.piece gave.blank gave.some))
-          (Took-more (answers_of dialect h.front) answer old new h.took
-          (takes answer (subst (λ d. Answers item (line_answer d (trimmed gave.piece))) same gave.item_is.answers)));
+          (Took-more (answers_of dialect h.front) given old new h.took
+          (takes given (subst (λ d. Answers item (answer d (trimmed gave.piece))) same gave.item_is.answers)));
     }
 
 -- only blank pieces were left

@@ -11,18 +11,14 @@ use Rattle.influxdb_line_protocol.specs.format.Items.{HasAnswers}
 use Rattle.influxdb_line_protocol.specs.code.Faults.{fault_text}
 use Rattle.lp_rebuild.specs.declared.batch.Rebuilt.{Rebuilt}
 
--- whether the line of a point is written again: all its names are admitted
-abbrev pub is_carried : Point → Bool
-is_carried p = is_admitted_point p
-
--- whether an answer is carried
+-- whether an answer is carried: it is a line, and all its names are admitted
 abbrev pub is_carried_answer : Result Line Fault → Bool
-is_carried_answer (Ok line) = is_carried (point_of line)
+is_carried_answer (Ok line) = is_admitted_point (point_of line)
 is_carried_answer (Err fault) = false
 
 -- the point of an answer that is carried
 abbrev pub carried_point : Result Line Fault → List Point
-carried_point (Ok line) = if is_carried (point_of line) then point_of line ∷ [] else []
+carried_point (Ok line) = if is_admitted_point (point_of line) then point_of line ∷ [] else []
 carried_point (Err fault) = []
 
 -- the lines of the answers that are carried, written again

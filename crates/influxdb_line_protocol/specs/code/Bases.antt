@@ -14,6 +14,7 @@ use Rattle.influxdb_line_protocol.specs.declared.error.Error.TheVariants.{Duplic
 use Rattle.influxdb_line_protocol.specs.format.Bytes.{comma, equals}
 use Rattle.influxdb_line_protocol.specs.format.Readings.{Text}
 use Rattle.influxdb_line_protocol.specs.format.Points.{Pair}
+use Rattle.influxdb_line_protocol.specs.code.Light.{is_single_tag}
 
 -- a base is a part of the input or a text of its own, and there is none where this key is repeated
 pub data Base : Type 0 where
@@ -52,10 +53,6 @@ based_tag t = comma ∷ t.0 ++ equals ∷ t.1
 -- a measurement and tags, unescaped
 abbrev pub base_text : List ℕ → List (List ℕ × List ℕ) → List ℕ
 base_text measurement tags = measurement ++ flat_map based_tag tags
-
--- whether both texts of a tag are parts of the input
-abbrev pub is_single_tag : Pair Text Text → Bool
-is_single_tag t = t.key.is_single && t.value.is_single
 
 -- the base where the keys do not rise: by the order of the keys, unless one is repeated
 unfoldable pub base_by_key : List ℕ → List (Pair Text Text) → Base

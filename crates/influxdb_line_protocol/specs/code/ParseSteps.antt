@@ -7,11 +7,11 @@ use Rattle.influxdb_line_protocol.specs.declared.error.Error.{Error}
 use Rattle.influxdb_line_protocol.specs.declared.parsed.ParsedLine.{ParsedLine}
 use Rattle.influxdb_line_protocol.specs.format.Pieces.{Left, PiecesLeft}
 use Rattle.influxdb_line_protocol.specs.format.Trimming.{trimmed}
-use Rattle.influxdb_line_protocol.specs.format.Items.{line_answer}
 use Rattle.influxdb_line_protocol.specs.code.Light.{is_light}
 use Rattle.influxdb_line_protocol.specs.code.Lookups.{columns}
 use Rattle.influxdb_line_protocol.specs.code.Outcomes.{IsNotOutOfMemory}
 use Rattle.influxdb_line_protocol.specs.code.Parsed.{Answers}
+use Rattle.influxdb_line_protocol.specs.format.Lines.{answer}
 
 -- nothing is left of the piece when it is trimmed
 abbrev pub IsBlankPiece : List ℕ → Type 0
@@ -28,7 +28,7 @@ CanCountColumns item = IfOk item (λ line. columns line < 2 ^ 64)
 -- the item is the answer for a trimmed text, or `OutOfMemory` in its place, but never where the text is light; the tag
 -- set of a line that was read is not empty, and its columns can be counted
 pub record IsItemOf (dialect : Dialect) (line : List ℕ) (item : Result ParsedLine Error) : Type 0 where
-  pub answers : Answers item (line_answer dialect line)
+  pub answers : Answers item (answer dialect line)
   pub light : is_light dialect line ≡ true → IsNotOutOfMemory item
   pub tags : HasNoEmptyTagSet item
   pub columns_fit : CanCountColumns item

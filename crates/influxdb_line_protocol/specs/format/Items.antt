@@ -6,16 +6,11 @@ use Rattle.influxdb_line_protocol.specs.format.Readings.{Fault}
 use Rattle.influxdb_line_protocol.specs.format.Points.{Point}
 use Rattle.influxdb_line_protocol.specs.format.Trimming.{trimmed}
 use Rattle.influxdb_line_protocol.specs.format.Pieces.{Pieces}
-use Rattle.influxdb_line_protocol.specs.format.Lines.{Line, point_of}
-use Rattle.influxdb_line_protocol.specs.format.Lines.{answer}
-
--- the answer for a trimmed text
-abbrev pub line_answer : Dialect → List ℕ → Result Line Fault
-line_answer dialect line = answer dialect line
+use Rattle.influxdb_line_protocol.specs.format.Lines.{Line, answer, point_of}
 
 -- the answer for a piece: none where nothing is left of it when it is trimmed
 unfoldable pub answers_of_piece : Dialect → List ℕ → List (Result Line Fault)
-answers_of_piece dialect piece = if length (trimmed piece) == 0 then [] else line_answer dialect (trimmed piece) ∷ []
+answers_of_piece dialect piece = if length (trimmed piece) == 0 then [] else answer dialect (trimmed piece) ∷ []
 
 -- the answers for pieces, in order
 abbrev pub answers_of : Dialect → List (List ℕ) → List (Result Line Fault)

@@ -1,13 +1,12 @@
 //! Parsed lines that are written again.
 
-ghost use Rattle.std.specs.Prelude.{◌≡◌, ℕ, ◌+◌, ◌<◌, ◌≤◌, ◌^◌, ◌∷◌, ◌++◌, length, map, not, true, IfSome};
+ghost use Rattle.std.specs.Prelude.{◌≡◌, ℕ, ◌+◌, ◌<◌, ◌≤◌, ◌^◌, ◌∷◌, ◌++◌, length, not, true, IfSome};
 ghost use Rattle.std.specs.Option.{SomeIff, option_map};
 ghost use Rattle.std.specs.List.{AllByRecursion, flat_map, list_all};
 ghost use Rattle.smallvec.specs.SmallVec.{small_vec_len};
 ghost use Rattle.influxdb_line_protocol.specs.format.Bytes.{is_one_of, space};
-ghost use Rattle.influxdb_line_protocol.specs.format.Lines.{some_tags};
 ghost use Rattle.influxdb_line_protocol.specs.code.Outcomes.{kind_of};
-ghost use Rattle.influxdb_line_protocol.specs.code.Parsed.{parsed_point, tag_of, tags_of};
+ghost use Rattle.influxdb_line_protocol.specs.code.Parsed.{parsed_point};
 ghost use Rattle.influxdb_line_protocol.specs.format.Points.{built, built_timestamp, built_value, field_text};
 ghost use Rattle.influxdb_line_protocol.specs.format.Points.{is_admitted_field, is_admitted_name, is_admitted_point};
 ghost use Rattle.influxdb_line_protocol.specs.format.Points.{is_admitted_tag, never_in};
@@ -81,16 +80,6 @@ pub(super) fn is_admitted_name(kind: NameKind, name: &EscapedStr<'_>) -> bool
     may_hold_all(kind, bytes) && !begins_comment
 }
 
-// The tags of the line: none, where it has no set of them.
-pub(super) fn tags<'a, 'l>(line: &'l ParsedLine<'a>) -> &'l [(EscapedStr<'a>, EscapedStr<'a>)]
-    ensures { some_tags (option_map tags_of line.now.series.tag_set) ≡ map tag_of result.now }
-{
-    match &line.series.tag_set {
-        Some(tags) => tags.as_slice(),
-        None => &[],
-    }
-}
-
 // Whether the key and the value of each tag are admitted.
 pub(super) fn are_tags_admitted(tags: &[(EscapedStr<'_>, EscapedStr<'_>)]) -> bool
     ensures { result ≡ list_all (λ t. is_admitted_tag (point_tag t)) tags.now }
@@ -118,7 +107,7 @@ pub fn is_admitted(line: &ParsedLine<'_>) -> bool
     ensures { result ≡ is_admitted_point (parsed_point line.now) }
 {
     is_admitted_name(NameKind::Measurement, &line.series.measurement)
-        && are_tags_admitted(tags(line))
+        && are_tags_admitted(line.series.tags())
         && are_fields_admitted(line.field_set.as_slice())
 }
 
@@ -326,7 +315,7 @@ impl<'l, 'a> Parts<'l, 'a> {
     {
         Parts {
             measurement: line.series.measurement.as_str().as_bytes(),
-            tags: tags(line),
+            tags: line.series.tags(),
             fields: line.field_set.as_slice(),
             timestamp: line.timestamp,
         }

@@ -14,7 +14,7 @@ ghost use Rattle.influxdb_line_protocol.specs.code.Built.{Writes, buffer_of, wit
 
 use super::lines::{
     ReadValue, are_fields_admitted, are_tags_admitted, is_admitted_name, measure_tags,
-    put_timestamp, tags, timestamp_len,
+    put_timestamp, timestamp_len,
 };
 use super::texts::{Extent, backslashes, escaped_len, measure};
 use super::{
@@ -40,7 +40,7 @@ fn plain_head<'l>(line: &'l ParsedLine<'_>) -> Option<&'l [u8]>
     ensures { IfSome result (λ head. IsHeadOf head.now (parsed_point line.now)) }
 {
     let head = line.series.raw_input.as_bytes();
-    if backslashes(TokenKind::TagKey, head) == 2 * tags(line).len() {
+    if backslashes(TokenKind::TagKey, head) == 2 * line.series.tags().len() {
         Some(head)
     } else {
         None
@@ -239,7 +239,7 @@ fn is_head_admitted(line: &ParsedLine<'_>) -> bool
     ensures { result ≡ is_admitted_head (parsed_point line.now) }
 {
     is_admitted_name(NameKind::Measurement, &line.series.measurement)
-        && are_tags_admitted(tags(line))
+        && are_tags_admitted(line.series.tags())
 }
 
 // The raw text of the series, where it is as long as what the builder writes for the measurement and the tags: then it is
@@ -252,7 +252,7 @@ fn spelled_head<'l>(line: &'l ParsedLine<'_>) -> Option<&'l [u8]>
     let head = line.series.raw_input.as_bytes();
     let measurement = line.series.measurement.as_str().as_bytes();
     let measurement_len = escaped_len(TokenKind::Measurement, measurement);
-    let tags_len = measure_tags(tags(line))?.len;
+    let tags_len = measure_tags(line.series.tags())?.len;
     if measurement_len.checked_add(tags_len)? == head.len() {
         Some(head)
     } else {

@@ -13,7 +13,6 @@ use Rattle.influxdb_line_protocol.specs.format.Names.{a_measurement}
 use Rattle.influxdb_line_protocol.specs.format.Values.{Value}
 use Rattle.influxdb_line_protocol.specs.format.Points.{Pair}
 use Rattle.influxdb_line_protocol.specs.format.Lines.{Line, tag, field, separated_list, field_set, without_comma, some_tags, spaces, answer}
-use Rattle.influxdb_line_protocol.specs.format.Items.{line_answer}
 use Rattle.influxdb_line_protocol.specs.code.Lookups.{some_items}
 use Rattle.influxdb_line_protocol.specs.laws.Meanings.{SeparatedBy, SeparatedAfterComma}
 use Rattle.influxdb_line_protocol.specs.code.Parsed.{Answers, field_of, line_read, tag_of, tags_of}
@@ -74,7 +73,7 @@ tags_as_read (Some tags) = length-map tags.items tag_of
 
 -- the columns of an item can be counted
 pub item_columns_fit : (dialect : Dialect) (line : List ℕ) (item : Result ParsedLine Error) → length line < 2 ^ 63
-    → Answers item (line_answer dialect line) → CanCountColumns item
+    → Answers item (answer dialect line) → CanCountColumns item
 item_columns_fit dialect line (Ok parsed) short h =
     omega (
       arith,

@@ -5,20 +5,20 @@ use Rattle.std.specs.Option.{option_map}
 use Rattle.smallvec.specs.SmallVec.{SmallVec}
 use Rattle.influxdb_line_protocol.specs.declared.error.Error.{Error}
 use Rattle.influxdb_line_protocol.specs.declared.parsed.ParsedLine.{ParsedLine}
-use Rattle.influxdb_line_protocol.specs.format.Items.{line_answer}
 use Rattle.influxdb_line_protocol.specs.code.Light.{is_light, is_light_in}
 use Rattle.influxdb_line_protocol.specs.code.Outcomes.{IsNotOutOfMemory}
 use Rattle.influxdb_line_protocol.specs.code.Parsed.{Answers}
 use Rattle.influxdb_line_protocol.specs.code.ParseSteps.{IsItemOf, GaveItem, GaveLine}
 use Rattle.influxdb_line_protocol.specs.format.Pieces.{Left}
 use Rattle.influxdb_line_protocol.specs.code.ReadInto.{GaveInRoom}
+use Rattle.influxdb_line_protocol.specs.format.Lines.{answer}
 use Rattle.influxdb_line_protocol.proofs.lemmas.line.ColumnsFit.{item_columns_fit}
 use Rattle.influxdb_line_protocol.proofs.lemmas.line.LightLemmas.{more_room}
 use Rattle.influxdb_line_protocol.proofs.lemmas.line.SomeTags.{item_has_tags}
 
 -- the item of the line that was given
 pub gave_item : (before : Left) (line : List ℕ) (item : Result ParsedLine Error) (others : List (List ℕ)) → GaveLine before line others
-    → length line < 2 ^ 63 → Answers item (line_answer before.dialect line) → (is_light before.dialect line ≡ true → IsNotOutOfMemory item)
+    → length line < 2 ^ 63 → Answers item (answer before.dialect line) → (is_light before.dialect line ≡ true → IsNotOutOfMemory item)
     → GaveItem before item others
 gave_item before line item others g short answers light =
     record {

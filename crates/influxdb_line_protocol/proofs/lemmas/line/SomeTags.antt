@@ -15,7 +15,6 @@ use Rattle.influxdb_line_protocol.specs.format.Points.{Pair}
 use Rattle.influxdb_line_protocol.specs.code.Parsed.{Answers, line_read, tag_of, tags_of}
 use Rattle.influxdb_line_protocol.specs.code.ParseSteps.{HasNoEmptyTagSet}
 use Rattle.influxdb_line_protocol.specs.format.Lines.{Line, tag, after_comma, prepend, many, separated_list, tag_set, answer}
-use Rattle.influxdb_line_protocol.specs.format.Items.{line_answer}
 use Rattle.influxdb_line_protocol.proofs.lemmas.laws.parsed_names.Inversions.{bound, prepend_parts}
 use Rattle.influxdb_line_protocol.proofs.lemmas.laws.parsed_names.ParsedNames.{ok_same, answer_parts}
 
@@ -71,7 +70,7 @@ code_tags_some None h = tt
 code_tags_some (Some tags) h = omega (arith, h, length-map tags.items tag_of)
 
 -- the tag set of an item is not empty
-pub item_has_tags : (dialect : Dialect) (line : List ℕ) (item : Result ParsedLine Error) → Answers item (line_answer dialect line)
+pub item_has_tags : (dialect : Dialect) (line : List ℕ) (item : Result ParsedLine Error) → Answers item (answer dialect line)
     → HasNoEmptyTagSet item
 item_has_tags dialect line (Ok parsed) h = code_tags_some parsed.series.tag_set (line_some_tags dialect line (line_read parsed) h)
 item_has_tags dialect line (Err e) h = tt

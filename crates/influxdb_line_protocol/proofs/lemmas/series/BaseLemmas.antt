@@ -21,7 +21,8 @@ use Rattle.std.proofs.lemmas.List.Sums.{fold_push, position_or_len_is}
 use Rattle.std.proofs.lemmas.Map.Text.{btree_map_updates_str}
 use Rattle.influxdb_line_protocol.specs.declared.escaped.EscapedStr.{EscapedStr}
 use Rattle.influxdb_line_protocol.specs.code.Bases.{Base, FailsForBase, GivesBase, base_by_key, base_of, base_text}
-use Rattle.influxdb_line_protocol.specs.code.Bases.{in_order, is_borrowed, is_single_tag, borrowed, owned, duplicate_key}
+use Rattle.influxdb_line_protocol.specs.code.Bases.{in_order, is_borrowed, borrowed, owned, duplicate_key}
+use Rattle.influxdb_line_protocol.specs.code.Light.{is_single_tag}
 use Rattle.influxdb_line_protocol.specs.code.Bases.{by_key, entry_bytes, first_repeated, is_repeated_at, keys_of}
 use Rattle.influxdb_line_protocol.specs.code.Bases.{is_strictly_sorted}
 use Rattle.influxdb_line_protocol.specs.code.Parsed.{tag_of}

@@ -11,7 +11,7 @@ pub returns-then-backslashes-tags : goal.returns-then-backslashes-tags
 returns-then-backslashes-tags c =
     let line = c.args.line.now in
     let head : c.as_bytes-head.result.now ≡ line.series.raw_input.now = cc in
-    let as_many : length (some_tags (line_read line).tags) ≡ length c.tags.result.now = ap length c.tags.ensures
+    let as_many : length (some_tags (line_read line).tags) ≡ length c.tags.result.now = ap length c.tags.ensures.read
     ∙ length-map c.tags.result.now tag_of in
     let few : delimiters line.series.raw_input.now ≡ 2 * length (some_tags (line_read line).tags) =
     ap delimiters (sym head) ∙ sym c.backslashes.ensures ∙ c.if-backslashes-tags.true ∙ ap (λ (n : ℕ). 2 * n) (sym as_many) in

@@ -9,7 +9,8 @@ use Rattle.std.proofs.lemmas.List.{take-append-drop}
 use Rattle.influxdb_line_protocol.specs.laws.BaseLaws.{IsClearSeries, IsParsedSeries, ClearSeriesHaveBases}
 use Rattle.influxdb_line_protocol.specs.laws.BaseLaws.{SameSeriesHaveOneBase, base_bytes, is_tag_one_escape, spelled_tags}
 use Rattle.influxdb_line_protocol.specs.code.Bases.{owned, base_by_key, base_of, base_text, based_tag, by_key}
-use Rattle.influxdb_line_protocol.specs.code.Bases.{first_repeated, in_order, is_single_tag, keys_of, is_strictly_sorted}
+use Rattle.influxdb_line_protocol.specs.code.Bases.{first_repeated, in_order, keys_of, is_strictly_sorted}
+use Rattle.influxdb_line_protocol.specs.code.Light.{is_single_tag}
 use Rattle.influxdb_line_protocol.specs.format.Bytes.{is_one_of}
 use Rattle.influxdb_line_protocol.specs.format.Escapes.{without_escapes}
 use Rattle.influxdb_line_protocol.specs.format.Lines.{byte, separated_list, some_tags, tag, tag_set}

@@ -4,8 +4,8 @@ use Rattle.std.specs.List.{AllByRecursion}
 use Rattle.influxdb_line_protocol.specs.declared.split.Dialect.{Dialect}
 use Rattle.influxdb_line_protocol.specs.format.Readings.{Fault}
 use Rattle.influxdb_line_protocol.specs.format.Points.{Point, line_of}
-use Rattle.influxdb_line_protocol.specs.format.Lines.{Line}
-use Rattle.influxdb_line_protocol.specs.format.Items.{line_answer, answers_of_piece, HasAnswers}
+use Rattle.influxdb_line_protocol.specs.format.Lines.{Line, answer}
+use Rattle.influxdb_line_protocol.specs.format.Items.{answers_of_piece, HasAnswers}
 use Rattle.influxdb_line_protocol.specs.laws.Laws.{IsAdmittedPoint, BatchesReadBack}
 use Rattle.influxdb_line_protocol.proofs.lemmas.laws.batch_reads_back.LinePieces.{IsAdmitted, admitted_point}
 use Rattle.influxdb_line_protocol.proofs.lemmas.laws.batch_reads_back.LinePieces.{line_is_cut_piece, line_untrimmed}
@@ -16,7 +16,7 @@ use Rattle.influxdb_line_protocol.proofs.lemmas.laws.pieces_join.Batches.{HasAns
 
 -- the answers for a text are those by the answer that is given today
 abbrev Answered : Dialect → List ℕ → List (Result Line Fault) → Type 0
-Answered dialect text answers = HasAnswersBy dialect (line_answer dialect) text answers
+Answered dialect text answers = HasAnswersBy dialect (answer dialect) text answers
 
 -- from the one to the other
 answered_by : (dialect : Dialect) (text : List ℕ) (answers : List (Result Line Fault))
@@ -38,9 +38,9 @@ all_read_back one (p ∷ points) all = (one p all.0, all_read_back one points al
 
 -- batches of points of which each reads back
 batches_read_back : (IsKind : Point → Type 0)
-    → ((dialect : Dialect) (p : Point) → IsKind p → ReadsBack dialect (line_answer dialect) p) → BatchesReadBack IsKind
+    → ((dialect : Dialect) (p : Point) → IsKind p → ReadsBack dialect (answer dialect) p) → BatchesReadBack IsKind
 batches_read_back IsKind one dialect points t answers all h =
-    let separated_list = batch_joins dialect (line_answer dialect) points t answers
+    let separated_list = batch_joins dialect (answer dialect) points t answers
     (all_read_back (one dialect) points all) (answered_by dialect t answers h) in
     (separated_list.0, separated_list.1, by_answered dialect _ _ separated_list.2)
 
@@ -58,11 +58,11 @@ reads_back dialect given p ok answered =
     }
 
 -- the answer for the line of a point with admitted names
-admitted_line_answer : (dialect : Dialect) (p : Point) → IsAdmittedPoint p → line_answer dialect (line_of p) ≡ Ok (read_line p)
+admitted_line_answer : (dialect : Dialect) (p : Point) → IsAdmittedPoint p → answer dialect (line_of p) ≡ Ok (read_line p)
 admitted_line_answer dialect p h = line_reads_back dialect p (admitted_point p h.is_point h.names_are)
 
 -- batches of points with admitted names read back
 pub admitted_batches_read_back : BatchesReadBack IsAdmittedPoint
 admitted_batches_read_back =
     batches_read_back IsAdmittedPoint
-    (λ dialect p h. reads_back dialect (line_answer dialect) p (admitted_point p h.is_point h.names_are) (admitted_line_answer dialect p h))
+    (λ dialect p h. reads_back dialect (answer dialect) p (admitted_point p h.is_point h.names_are) (admitted_line_answer dialect p h))

@@ -11,11 +11,12 @@ use Rattle.influxdb_line_protocol.specs.declared.error.Error.{Error}
 use Rattle.influxdb_line_protocol.specs.declared.parsed.ParsedLine.{ParsedLine}
 use Rattle.influxdb_line_protocol.specs.format.Trimming.{trimmed}
 use Rattle.influxdb_line_protocol.specs.format.Pieces.{Left, PiecesLeft}
-use Rattle.influxdb_line_protocol.specs.format.Items.{answers_of, answers_of_piece, line_answer}
+use Rattle.influxdb_line_protocol.specs.format.Items.{answers_of, answers_of_piece}
 use Rattle.influxdb_line_protocol.specs.code.ParseSteps.{GivesItem, IsBlankPiece}
 use Rattle.influxdb_line_protocol.specs.laws.GivenItems.{trimmed_line, trimmed_lines, AreItemsOf, AreAnswers}
 use Rattle.influxdb_line_protocol.specs.laws.GivenItems.{ItemsAreOfPieces, ItemsAreAnswers}
 use Rattle.influxdb_line_protocol.specs.laws.GivenItems.{GivenLinesWereRead, ItemsSoFar}
+use Rattle.influxdb_line_protocol.specs.format.Lines.{answer}
 use Rattle.influxdb_line_protocol.proofs.lemmas.split.SplitPieces.{pieces_exist, same_pieces}
 
 -- nothing is left of blank pieces
@@ -78,18 +79,18 @@ items_are_of_pieces dialect text pieces items h drained =
 
 -- the answers for pieces are those for what is left of them
 answers_of_lines : (dialect : Dialect) (pieces : List (List ℕ))
-    → answers_of dialect pieces ≡ map (line_answer dialect) (trimmed_lines pieces)
+    → answers_of dialect pieces ≡ map (answer dialect) (trimmed_lines pieces)
 unfolding answers_of_piece
 answers_of_lines dialect [] = refl
 answers_of_lines dialect (p ∷ pieces) =
     elim (cases_Bool (length (trimmed p) == 0)) [
       | inl none ↦ rw none (answers_of_lines dialect pieces)
-      | inr some ↦ rw some (ap (λ answers. line_answer dialect (trimmed p) ∷ answers) (answers_of_lines dialect pieces))
+      | inr some ↦ rw some (ap (λ answers. answer dialect (trimmed p) ∷ answers) (answers_of_lines dialect pieces))
     ]
 
 -- items of trimmed texts are the answers for them
 items_answer : (dialect : Dialect) (lines : List (List ℕ)) (items : List (Result ParsedLine Error)) → AreItemsOf dialect lines items
-    → AreAnswers items (map (line_answer dialect) lines)
+    → AreAnswers items (map (answer dialect) lines)
 items_answer dialect [] [] h = tt
 items_answer dialect [] (item ∷ items) h = absurd h
 items_answer dialect (line ∷ lines) [] h = absurd h

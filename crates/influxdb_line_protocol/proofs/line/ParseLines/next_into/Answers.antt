@@ -1,5 +1,4 @@
 use Rattle.std.proofs.Common.{rules, ◌≡◌, ◌≤◌, ℕ, List, arith, max, true, Err, Ok}
-use Rattle.influxdb_line_protocol.specs.format.Items.{line_answer}
 use Rattle.influxdb_line_protocol.specs.code.Light.{inline_fields, inline_tags, is_light, is_light_in}
 use Rattle.influxdb_line_protocol.specs.format.Lines.{answer}
 use Rattle.influxdb_line_protocol.specs.code.Lookups.{room_of}
@@ -29,14 +28,14 @@ returns-clause-gives c =
     (omega (arith, c.clear_sets.ensures.tag_room)) (omega (arith, c.clear_sets.ensures.field_room)) small) in
     elim c.match-fill.branch [
       | in-Ok w ↦
-          let answers : Answers (Ok c.match-fill.line) (line_answer before.dialect text) = rw w.line-is (rw w.in-Ok.is at filled) in
+          let answers : Answers (Ok c.match-fill.line) (answer before.dialect text) = rw w.line-is (rw w.in-Ok.is at filled) in
           rw w.result-is (
             given.0,
             λ others left. gave_item before text (Ok c.match-fill.line) others (given.1 others left)
                 c.in_ok-text.ensures.fits answers (λ small wanted. cc),
           )
       | in-Err w ↦
-          let answers : Answers (Err w.in-Err.fault) (line_answer before.dialect text) = rw w.in-Err.is at filled in
+          let answers : Answers (Err w.in-Err.fault) (answer before.dialect text) = rw w.in-Err.is at filled in
           let has : is_light before.dialect text ≡ true
           → IsNotOutOfMemory (Err w.in-Err.fault) = λ small. same_want w.in-Err.fault (rw w.in-Err.is at (light small)) in
           rw w.result-is (

@@ -1,8 +1,8 @@
 use Rattle.std.proofs.Common.{rules, ◌≡◌, true}
-use Rattle.influxdb_line_protocol.specs.format.Items.{line_answer}
 use Rattle.influxdb_line_protocol.specs.code.Light.{is_light}
 use Rattle.influxdb_line_protocol.specs.code.Outcomes.{IsNotOutOfMemory}
 use Rattle.influxdb_line_protocol.specs.code.Parsed.{Answers}
+use Rattle.influxdb_line_protocol.specs.format.Lines.{answer}
 use Rattle.influxdb_line_protocol.proofs.lemmas.line.GivenLines.{gave_item}
 use Rattle.influxdb_line_protocol.proofs.line.ParseLinesIterator.next.Goals as goal
 
@@ -12,6 +12,6 @@ returns-clause-steps c =
     let line = c.in_ok-line.line.now in
     let item = c.match-item.item in
     let given = c.in_ok-line.ensures.gives in
-    let answers : Answers item (line_answer before.dialect line) = search rules in
+    let answers : Answers item (answer before.dialect line) = search rules in
     let light : is_light before.dialect line ≡ true → IsNotOutOfMemory item = search rules in
     (given.0, λ others left. gave_item before line item others (given.1 others left) c.in_ok-line.ensures.fits answers light)
