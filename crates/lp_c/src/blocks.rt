@@ -1,12 +1,12 @@
 //! Many items in one call, for callers to whom a call is dear.
 
-ghost use Rattle.std.specs.Prelude.{◌≡◌, ◌≤◌, ◌+◌, drop, length, take, IsUtf8};
+ghost use Rattle.std.specs.Prelude.{◌≡◌, ◌≤◌, ◌+◌, drop, false, length, take, IsTrue, IsUtf8};
 ghost use Rattle.lp_c.specs.Blocks.{ReadsBlock, is_item, parts_of};
-ghost use Rattle.lp_c.specs.Crossing.{ReadsItem};
+ghost use Rattle.lp_c.specs.Crossing.{ReadsItem, left_of};
 
-use crate::reading::{new_line, read_next};
+use crate::reading::{items_of, new_line, read_next};
 use crate::views::{Answer, Line, Lines, Part, Room};
-use influxdb_line_protocol::ParsedLine;
+use influxdb_line_protocol::{ParseLines, ParsedLine};
 use std::alloc::Global;
 
 /// An item, and where its parts begin.
@@ -31,8 +31,9 @@ fn is_item(answer: u32) -> bool
 }
 
 // Reads the next item into a row, with its parts from `used` on, and gives its answer and how many parts it has.
+#[inline(always)]
 fn read_row<'a>(
-    alloc: Global,
+    items: &mut ParseLines<'a>,
     parsed: &mut ParsedLine<'a>,
     lines: &mut Lines<'a>,
     room: &mut Room<'a>,
@@ -41,8 +42,10 @@ fn read_row<'a>(
     used: usize,
 ) -> (u32, usize)
     requires text { IsUtf8 lines.old.rest.now }
+    requires left { lines.old.ended ≡ false → items.old ≡ left_of lines.old }
     requires used { used ≤ length parts.old }
     ensures text { IsUtf8 lines.new.rest.now }
+    ensures left { IsTrue (is_item result.0) → lines.new.ended ≡ false → items.new ≡ left_of lines.new }
     ensures answer { result.0 ≡ row.new.answer }
     ensures own { result.1 ≡ parts_of row.new }
     ensures at { row.new.parts_at ≡ used }
@@ -53,7 +56,7 @@ fn read_row<'a>(
 {
     row.parts_at = used;
     row.answer = read_next(
-        alloc,
+        items,
         parsed,
         lines,
         room,
@@ -87,10 +90,19 @@ pub extern "C" fn lp_lines_block<'a>(
     ensures text { IsUtf8 lines.new.rest.now }
     ensures reads { ∥ ReadsBlock lines.old (length room.old.bytes.now) rows.new parts.new filled.new result lines.new ∥₁ }
 {
+    let mut items = items_of(alloc, lines);
     let mut parsed = new_line(alloc);
     let mut used = 0usize;
     for at in 0..rows.len() {
-        let (answer, own) = read_row(alloc, &mut parsed, lines, room, &mut rows[at], parts, used);
+        let (answer, own) = read_row(
+            &mut items,
+            &mut parsed,
+            lines,
+            room,
+            &mut rows[at],
+            parts,
+            used,
+        );
         if !is_item(answer) {
             *filled = at;
             return answer;

@@ -7,21 +7,16 @@ ghost use Rattle.influxdb_line_protocol.specs.code.Texts.{read_of};
 ghost use Rattle.influxdb_line_protocol.specs.format.Lines.{some_tags};
 ghost use Rattle.lp_c.specs.Crossing.{copied_field, copied_in, copied_tag, copied_text, copied_value};
 ghost use Rattle.influxdb_line_protocol.specs.code.Lookups.{some_items};
-ghost use Rattle.lp_c.specs.Crossing.{field_shown, tag_shown, text_shown, fault_seen, side_of};
-ghost use Rattle.lp_c.specs.Numbers.{answer_number};
+ghost use Rattle.lp_c.specs.Crossing.{field_shown, tag_shown, text_shown, value_shown, fault_seen, side_of};
+ghost use Rattle.lp_c.specs.Numbers.{answer_number, kind_number};
 ghost use Rattle.lp_c.specs.Crossing.{AnswersFault, AnswersLine, CountsLine, ShowsLine};
 
 use crate::views::{Answer, FaultKind, Kind, Line, Part, Room, Side, View};
 use influxdb_line_protocol::{Error, ErrorKind, EscapedStr, FieldValue, OutOfRange, ParsedLine};
 use std::mem;
 
-// A text of which there is nothing.
-const NOTHING: View<'static> = View {
-    text: b"",
-    copied: false,
-};
-
 // Puts a text into the room.
+#[inline(never)]
 pub fn put<'a>(room: &mut Room<'a>, text: &[u8]) -> &'a [u8]
     requires { length text.now ≤ length room.old.bytes.now }
     ensures copy { result.now ≡ text.now }
@@ -80,84 +75,92 @@ fn copied_fields(fields: &[(EscapedStr<'_>, FieldValue<'_>)]) -> usize
     len
 }
 
-// A text as it goes out: a part of the input as it is, a copy in the room.
+// Puts a text out: a part of the input as it is, a copy in the room.
 #[inline(always)]
-pub fn view_of<'a>(room: &mut Room<'a>, text: &EscapedStr<'a>) -> View<'a>
+fn put_view<'a>(room: &mut Room<'a>, text: &EscapedStr<'a>, view: &mut View<'a>)
     requires { copied_text (read_of text.now) ≤ length room.old.bytes.now }
-    ensures shown { text_shown result ≡ read_of text.now }
+    ensures shown { text_shown view.new ≡ read_of text.now }
     ensures left { length room.new.bytes.now + copied_text (read_of text.now) ≡ length room.old.bytes.now }
 {
     match text {
-        EscapedStr::SingleSlice(text) => View {
-            text: text.as_bytes(),
-            copied: false,
-        },
-        EscapedStr::CopiedValue(text) => View {
-            text: put(room, text.as_bytes()),
-            copied: true,
-        },
+        EscapedStr::SingleSlice(text) => {
+            view.text = text.as_bytes();
+            view.copied = false;
+        }
+        EscapedStr::CopiedValue(text) => {
+            view.text = put(room, text.as_bytes());
+            view.copied = true;
+        }
     }
 }
 
-// A tag as it goes out.
+// Empties the values of a part, and says what it is.
 #[inline(always)]
-fn tag_part<'a>(room: &mut Room<'a>, tag: &(EscapedStr<'a>, EscapedStr<'a>)) -> Part<'a>
+fn begin_part(kind: Kind, part: &mut Part<'_>)
+    ensures key { part.new.key ≡ part.old.key }
+    ensures kind { part.new.kind ≡ kind_number kind }
+{
+    part.text.text = b"";
+    part.text.copied = false;
+    part.integer = 0;
+    part.unsigned = 0;
+    part.kind = kind.number();
+    part.boolean = false;
+}
+
+// Puts a tag out.
+#[inline(always)]
+fn put_tag<'a>(room: &mut Room<'a>, tag: &(EscapedStr<'a>, EscapedStr<'a>), part: &mut Part<'a>)
     requires { copied_tag (tag_of tag.now) ≤ length room.old.bytes.now }
-    ensures shown { tag_shown result ≡ Some (tag_of tag.now) }
+    ensures shown { tag_shown part.new ≡ Some (tag_of tag.now) }
     ensures left { length room.new.bytes.now + copied_tag (tag_of tag.now) ≡ length room.old.bytes.now }
 {
-    let key = view_of(room, &tag.0);
-    Part {
-        key,
-        text: view_of(room, &tag.1),
-        integer: 0,
-        unsigned: 0,
-        kind: Kind::Tag.number(),
-        boolean: false,
-    }
+    begin_part(Kind::Tag, part);
+    put_view(room, &tag.0, &mut part.key);
+    put_view(room, &tag.1, &mut part.text);
 }
 
-// A field as it goes out.
+// Puts the value of a field out.
 #[inline(always)]
-fn field_part<'a>(room: &mut Room<'a>, field: &(EscapedStr<'a>, FieldValue<'a>)) -> Part<'a>
-    requires { copied_field (field_of field.now) ≤ length room.old.bytes.now }
-    ensures shown { field_shown result ≡ Some (field_of field.now) }
-    ensures left { length room.new.bytes.now + copied_field (field_of field.now) ≡ length room.old.bytes.now }
+fn put_value<'a>(room: &mut Room<'a>, value: &FieldValue<'a>, part: &mut Part<'a>)
+    requires { copied_value (value_of value.now) ≤ length room.old.bytes.now }
+    ensures key { part.new.key ≡ part.old.key }
+    ensures shown { value_shown part.new ≡ Some (value_of value.now) }
+    ensures left { length room.new.bytes.now + copied_value (value_of value.now) ≡ length room.old.bytes.now }
 {
-    let mut part = Part {
-        key: view_of(room, &field.0),
-        text: NOTHING,
-        integer: 0,
-        unsigned: 0,
-        kind: 0,
-        boolean: false,
-    };
-    match &field.1 {
+    match value {
         FieldValue::I64(value) => {
-            part.kind = Kind::Integer.number();
+            begin_part(Kind::Integer, part);
             part.integer = *value;
         }
         FieldValue::U64(value) => {
-            part.kind = Kind::Unsigned.number();
+            begin_part(Kind::Unsigned, part);
             part.unsigned = *value;
         }
         FieldValue::F64(value) => {
-            part.kind = Kind::Float.number();
-            part.text = View {
-                text: value.as_str().as_bytes(),
-                copied: false,
-            };
+            begin_part(Kind::Float, part);
+            part.text.text = value.as_str().as_bytes();
         }
         FieldValue::String(value) => {
-            part.kind = Kind::String.number();
-            part.text = view_of(room, value);
+            begin_part(Kind::String, part);
+            put_view(room, value, &mut part.text);
         }
         FieldValue::Boolean(value) => {
-            part.kind = Kind::Boolean.number();
+            begin_part(Kind::Boolean, part);
             part.boolean = *value;
         }
     }
-    part
+}
+
+// Puts a field out.
+#[inline(always)]
+fn put_field<'a>(room: &mut Room<'a>, field: &(EscapedStr<'a>, FieldValue<'a>), part: &mut Part<'a>)
+    requires { copied_field (field_of field.now) ≤ length room.old.bytes.now }
+    ensures shown { field_shown part.new ≡ Some (field_of field.now) }
+    ensures left { length room.new.bytes.now + copied_field (field_of field.now) ≡ length room.old.bytes.now }
+{
+    put_view(room, &field.0, &mut part.key);
+    put_value(room, &field.1, part);
 }
 
 // Puts the tags into the first parts.
@@ -172,7 +175,7 @@ fn put_tags<'a>(
     ensures left { length room.new.bytes.now + sum_by (λ tag. copied_tag (tag_of tag)) tags.now ≡ length room.old.bytes.now }
 {
     for (place, tag) in tags.iter().enumerate() {
-        parts[place] = tag_part(room, tag);
+        put_tag(room, tag, &mut parts[place]);
     }
 }
 
@@ -189,7 +192,7 @@ fn put_fields<'a>(
     ensures others { take at parts.new ≡ take at parts.old }
 {
     for (place, field) in fields.iter().enumerate() {
-        parts[at + place] = field_part(room, field);
+        put_field(room, field, &mut parts[at + place]);
     }
 }
 
@@ -207,7 +210,7 @@ fn put_parts<'a>(
     ensures shown { ShowsLine (line_read parsed.now) line.new parts.new }
 {
     line.series = parsed.series.raw_input.as_bytes();
-    line.measurement = view_of(room, &parsed.series.measurement);
+    put_view(room, &parsed.series.measurement, &mut line.measurement);
     line.has_tag_set = parsed.series.tag_set.is_some();
     line.has_timestamp = parsed.timestamp.is_some();
     line.timestamp = parsed.timestamp.unwrap_or(0);

@@ -1,15 +1,16 @@
 //! The calls that read.
 
-ghost use Rattle.std.specs.Prelude.{◌≡◌, ◌≤◌, ◌+◌, ◌↔◌, length, IsFalse, IsTrue, IsUtf8, Some, option_map};
+ghost use Rattle.std.specs.Prelude.{◌≡◌, ◌≤◌, ◌+◌, ◌↔◌, length, false, IsFalse, IsTrue, IsUtf8, Some, option_map};
 ghost use Rattle.influxdb_line_protocol.specs.code.ParseSteps.{GivesItem};
 ghost use Rattle.influxdb_line_protocol.specs.code.ReadInto.{item_in};
 ghost use Rattle.lp_c.specs.Numbers.{answer_number};
+ghost use Rattle.lp_c.specs.Blocks.{is_item};
 ghost use Rattle.lp_c.specs.Crossing.{AnswersItem, GivesView, ReadsItem, dialect_of, left_of};
 
 use crate::lent::{put_fault, put_line};
 use crate::views::{Answer, Line, Lines, Part, Room, View};
 use influxdb_line_protocol::{
-    Dialect, Error, EscapedStr, FieldSet, ParsedLine, Series, TagSet, parse_lines_in,
+    Dialect, Error, EscapedStr, FieldSet, ParseLines, ParsedLine, Series, TagSet, parse_lines_in,
     split_lines_in,
 };
 use std::alloc::Global;
@@ -80,22 +81,32 @@ pub(crate) fn new_line<'a>(alloc: Global) -> ParsedLine<'a> {
     }
 }
 
+// The items of what is left, where the cursor has not ended.
+#[inline(always)]
+pub(crate) fn items_of<'a>(alloc: Global, lines: &Lines<'a>) -> ParseLines<'a>
+    requires { IsUtf8 lines.now.rest.now }
+    ensures { lines.now.ended ≡ false → result ≡ left_of lines.now }
+{
+    let text = unsafe { str::from_utf8_unchecked(lines.rest) };
+    parse_lines_in(alloc, dialect_of(lines.strict), text)
+}
+
 // Takes the next item off what is left. A line is read into `parsed`.
 #[inline(always)]
 fn take_item<'a>(
-    alloc: Global,
+    items: &mut ParseLines<'a>,
     lines: &mut Lines<'a>,
     parsed: &mut ParsedLine<'a>,
 ) -> Option<Result<(), Error>>
-    requires { IsUtf8 lines.old.rest.now }
+    requires text { IsUtf8 lines.old.rest.now }
+    requires left { lines.old.ended ≡ false → items.old ≡ left_of lines.old }
     ensures text { IsUtf8 lines.new.rest.now }
+    ensures left { lines.new.ended ≡ false → items.new ≡ left_of lines.new }
     ensures gives { GivesItem (left_of lines.old) (option_map (item_in parsed.new) result) (left_of lines.new) }
 {
     if lines.ended {
         return None;
     }
-    let text = unsafe { str::from_utf8_unchecked(lines.rest) };
-    let mut items = parse_lines_in(alloc, dialect_of(lines.strict), text);
     let answer = items.next_into(parsed);
     leave(lines, items.remainder());
     answer
@@ -121,22 +132,26 @@ fn put_item<'a>(
     }
 }
 
-// Reads the next item into what the caller lends, by way of `parsed`, which may be used again.
+// Reads the next item into what the caller lends, by way of `parsed`, which may be used again; so may `items`, where the
+// item was passed.
+#[inline(always)]
 pub(crate) fn read_next<'a>(
-    alloc: Global,
+    items: &mut ParseLines<'a>,
     parsed: &mut ParsedLine<'a>,
     lines: &mut Lines<'a>,
     room: &mut Room<'a>,
     line: &mut Line<'a>,
     parts: &mut [Part<'a>],
 ) -> u32
-    requires { IsUtf8 lines.old.rest.now }
+    requires text { IsUtf8 lines.old.rest.now }
+    requires left { lines.old.ended ≡ false → items.old ≡ left_of lines.old }
     ensures text { IsUtf8 lines.new.rest.now }
+    ensures left { IsTrue (is_item result) → lines.new.ended ≡ false → items.new ≡ left_of lines.new }
     ensures reads { ∥ ReadsItem lines.old (length room.old.bytes.now) result line.new parts.new lines.new ∥₁ }
     ensures fits { result ≡ 1 → line.new.tags + line.new.fields ≤ length parts.new }
 {
     let mut passed = *lines;
-    let item = take_item(alloc, &mut passed, parsed);
+    let item = take_item(items, &mut passed, parsed);
     let answer = put_item(&item, parsed, room, line, parts);
     if !answer.is_more() {
         *lines = passed;
@@ -160,8 +175,9 @@ pub extern "C" fn lp_lines_next<'a>(
     ensures text { IsUtf8 lines.new.rest.now }
     ensures reads { ∥ ReadsItem lines.old (length room.old.bytes.now) result line.new parts.new lines.new ∥₁ }
 {
+    let mut items = items_of(alloc, lines);
     let mut parsed = new_line(alloc);
-    read_next(alloc, &mut parsed, lines, room, line, parts)
+    read_next(&mut items, &mut parsed, lines, room, line, parts)
 }
 
 /// Takes the next piece off what is left, not parsed, and says whether there was one.

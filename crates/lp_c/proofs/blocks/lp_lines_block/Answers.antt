@@ -6,6 +6,7 @@ use Rattle.lp_c.proofs.blocks.lp_lines_block.Goals as goal
 pub loop-at-init : goal.loop-at-init
 loop-at-init c = record {
   text = search (rules);
+  left = c.items_of-items.ensures;
   fits = search (rules);
   all_room = λ _. refl;
   reads = ∣ none ∣₁;
@@ -28,6 +29,7 @@ loop-at-preserved c =
     let item : is_item next.result.0 ≡ true = search (rules) in
     record {
       text = next.ensures.text;
+      left = next.ensures.left item;
       fits = next.ensures.fits;
       all_room = λ zero. absurd (omega (arith, zero));
       reads = row_more c.args.lines.now c.loop-at.rows next.new.row c.loop-at.parts next.new.parts c.loop-at.at c.loop-at.used

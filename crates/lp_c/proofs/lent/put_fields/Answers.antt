@@ -13,6 +13,6 @@ loop-place-preserved c =
       size = search (rules);
       others = search (rules, take-set-le);
       shown = shown_more _ _ _ _ _ _ _ _ invariant.size here invariant.shown
-          (c.field_part.ensures.shown ∙ ap (λ field. Some (field_of field)) is);
-      left = left_more _ _ _ _ _ _ _ here is invariant.left c.field_part.ensures.left;
+          (c.put_field.ensures.shown ∙ ap (λ field. Some (field_of field)) is);
+      left = left_more _ _ _ _ _ _ _ here is invariant.left c.put_field.ensures.left;
     }
