@@ -91,27 +91,6 @@ pub(crate) fn items_of<'a>(alloc: Global, lines: &Lines<'a>) -> ParseLines<'a>
     parse_lines_in(alloc, dialect_of(lines.strict), text)
 }
 
-// Takes the next item off what is left. A line is read into `parsed`.
-#[inline(always)]
-fn take_item<'a>(
-    items: &mut ParseLines<'a>,
-    lines: &mut Lines<'a>,
-    parsed: &mut ParsedLine<'a>,
-) -> Option<Result<(), Error>>
-    requires text { IsUtf8 lines.old.rest.now }
-    requires left { lines.old.ended ≡ false → items.old ≡ left_of lines.old }
-    ensures text { IsUtf8 lines.new.rest.now }
-    ensures left { lines.new.ended ≡ false → items.new ≡ left_of lines.new }
-    ensures gives { GivesItem (left_of lines.old) (option_map (item_in parsed.new) result) (left_of lines.new) }
-{
-    if lines.ended {
-        return None;
-    }
-    let answer = items.next_into(parsed);
-    leave(lines, items.remainder());
-    answer
-}
-
 // Puts an item out, whose line, where it has one, is `parsed`.
 #[inline(always)]
 fn put_item<'a>(
@@ -150,9 +129,16 @@ pub(crate) fn read_next<'a>(
     ensures reads { ∥ ReadsItem lines.old (length room.old.bytes.now) result line.new parts.new lines.new ∥₁ }
     ensures fits { result ≡ 1 → line.new.tags + line.new.fields ≤ length parts.new }
 {
-    let mut passed = *lines;
-    let item = take_item(items, &mut passed, parsed);
-    let answer = put_item(&item, parsed, room, line, parts);
+    if lines.ended {
+        return Answer::End.number();
+    }
+    let answer = put_item(&items.next_into(parsed), parsed, room, line, parts);
+    let mut passed = Lines {
+        rest: lines.rest,
+        ended: false,
+        strict: lines.strict,
+    };
+    leave(&mut passed, items.remainder());
     if !answer.is_more() {
         *lines = passed;
     }
