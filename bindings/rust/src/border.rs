@@ -128,6 +128,19 @@ impl Line<'_> {
     };
 }
 
+/// An item of a block.
+#[repr(C)]
+#[derive(Clone, Copy)]
+pub(crate) struct Row<'a> {
+    pub(crate) line: Line<'a>,
+    pub(crate) parts_at: usize,
+    pub(crate) answer: u32,
+}
+
+impl Row<'_> {
+    pub(crate) const EMPTY: Self = Row { line: Line::EMPTY, parts_at: 0, answer: 0 };
+}
+
 /// What is left of a text.
 #[repr(C)]
 #[derive(Clone, Copy)]
@@ -150,12 +163,14 @@ pub(crate) type PutOut =
     unsafe extern "C" fn(*const Line<'_>, *const Part<'_>, usize, *mut u8, usize, *mut usize) -> u32;
 
 extern "C" {
-    pub(crate) fn lp_lines_next<'a>(
+    pub(crate) fn lp_lines_block<'a>(
         lines: *mut Lines<'a>,
         room: *mut Room,
-        line: *mut Line<'a>,
+        rows: *mut Row<'a>,
+        rows_len: usize,
         parts: *mut Part<'a>,
         parts_len: usize,
+        filled: *mut usize,
     ) -> u32;
     pub(crate) fn lp_lines_piece<'a>(lines: *mut Lines<'a>, piece: *mut View<'a>) -> bool;
     pub(crate) fn lp_line_write(

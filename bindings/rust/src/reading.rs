@@ -1,5 +1,5 @@
 //! The readers: what is read of a text, item by item.
-use crate::border::{self, answer, kind, Line, Lines, Part, Room, View};
+use crate::border::{self, answer, kind, Line, Lines, Part, Room, Row, View};
 use crate::{Error, EscapedStr, FieldSet, FieldValue, ParsedLine, Result, Series, TagSet};
 use nom::error::ErrorKind;
 
@@ -19,7 +19,15 @@ use nom::error::ErrorKind;
 /// assert!(lines.next().is_none());
 /// ```
 pub fn parse_lines(input: &str) -> impl Iterator<Item = Result<ParsedLine<'_>>> {
-    ParseLines { lines: Lines::of(input), line: Line::EMPTY, parts: vec![Part::EMPTY; 16], room: vec![0; 256] }
+    ParseLines {
+        lines: Lines::of(input),
+        rows: vec![],
+        parts: vec![Part::EMPTY; 16],
+        room: vec![0; 256],
+        filled: 0,
+        taken: 0,
+        answer: answer::LINE,
+    }
 }
 
 /// Cuts a text into the pieces that hold one line each, which are not read. A newline within the quotes of a string is no end.
@@ -37,119 +45,162 @@ pub fn split_lines(input: &str) -> impl Iterator<Item = &str> {
     })
 }
 
-// The memory that is lent, and what is left of the text.
+// What is left of the text, the memory that is lent for a block of its items, and the answer for the last block.
 struct ParseLines<'a> {
     lines: Lines<'a>,
-    line: Line<'a>,
+    rows: Vec<Row<'a>>,
     parts: Vec<Part<'a>>,
     room: Vec<u8>,
+    // So many rows hold items, of which so many were given out.
+    filled: usize,
+    taken: usize,
+    answer: u32,
 }
 
 impl<'a> ParseLines<'a> {
-    fn next_into(&mut self) -> u32 {
-        let mut room = Room { at: self.room.as_mut_ptr(), len: self.room.len() };
-        let parts = self.parts.as_mut_ptr();
-        // SAFETY: each pointer is that of memory of this iterator, and these are apart; the text is UTF-8.
-        unsafe { border::lp_lines_next(&mut self.lines, &mut room, &mut self.line, parts, self.parts.len()) }
+    // Reads the next block, once each item of the last one was given out. False: no item is left.
+    #[inline(never)]
+    fn read_block(&mut self) -> bool {
+        while self.answer != answer::END {
+            self.lend_more();
+            self.taken = 0;
+            let mut room = Room { at: self.room.as_mut_ptr(), len: self.room.len() };
+            let (rows, parts) = (self.rows.as_mut_ptr(), self.parts.as_mut_ptr());
+            let (rows_len, parts_len) = (self.rows.len(), self.parts.len());
+            // SAFETY: each pointer is that of memory of this iterator, and these are apart; the text is UTF-8.
+            self.answer = unsafe {
+                border::lp_lines_block(
+                    &mut self.lines,
+                    &mut room,
+                    rows,
+                    rows_len,
+                    parts,
+                    parts_len,
+                    &mut self.filled,
+                )
+            };
+            if self.filled > 0 {
+                return true;
+            }
+        }
+        false
     }
 
-    // Lends as much as the item takes, and at least twice what was lent. No part keeps a text of the room that goes.
-    #[cold]
-    fn lend_more(&mut self, answer: u32) {
-        if answer == answer::MORE_PARTS {
-            let wanted = (self.line.tags + self.line.fields).max(2 * self.parts.len());
-            self.parts.resize(wanted, Part::EMPTY);
-        } else {
-            let wanted = self.line.copied_len.max(2 * self.room.len());
-            self.line = Line::EMPTY;
-            self.parts.fill(Part::EMPTY);
-            self.room.resize(wanted, 0);
+    // Lends more of what the last block ran out of: at least what the next item takes, and twice as much as long as that is
+    // little. The first block has one row.
+    fn lend_more(&mut self) {
+        let needs = self.rows.get(self.filled).map_or(&Line::EMPTY, |row| &row.line);
+        match self.answer {
+            answer::MORE_PARTS => {
+                let wanted = longer(self.parts.len(), needs.tags + needs.fields, 16 * ROWS);
+                self.parts.resize(wanted, Part::EMPTY);
+            }
+            answer::MORE_ROOM => {
+                let wanted = longer(self.room.len(), needs.copied_len, 256 * ROWS);
+                // No row and no part keeps a text of the room that goes.
+                self.rows.fill(Row::EMPTY);
+                self.parts.fill(Part::EMPTY);
+                self.room.resize(wanted, 0);
+            }
+            _ => self.rows.resize(longer(self.rows.len(), 1, ROWS), Row::EMPTY),
         }
     }
 
-    // The line that was read last, made where it is answered: so it is not inlined.
+    // The line of a row, made where it is answered: so it is not inlined.
     #[inline(never)]
-    fn item(&self) -> Option<Result<ParsedLine<'a>>> {
+    fn item(&self, row: &Row<'a>) -> Option<Result<ParsedLine<'a>>> {
         // SAFETY: the texts are parts of the input, or lie in the room, which was not written since.
-        let mut item = Some(Ok(unsafe { self.bare_line() }));
+        let mut item = Some(Ok(unsafe { bare_line(&row.line) }));
         if let Some(Ok(line)) = &mut item {
+            let parts = &self.parts[row.parts_at..][..row.line.tags + row.line.fields];
             // SAFETY: as above.
-            unsafe { self.put_parts(line) }
+            unsafe { put_parts(line, &row.line, parts) }
         }
         item
     }
+}
 
-    // The line that was read last, without its tags and fields.
-    //
-    // SAFETY: the room was not written since.
-    #[inline(always)]
-    unsafe fn bare_line(&self) -> ParsedLine<'a> {
-        let line = &self.line;
-        ParsedLine {
-            series: Series {
-                // SAFETY: by the caller.
-                raw_input: unsafe { line.series.get() },
-                // SAFETY: by the caller.
-                measurement: unsafe { escaped(&line.measurement) },
-                tag_set: None,
-            },
-            field_set: FieldSet::new(),
-            timestamp: line.has_timestamp.then_some(line.timestamp),
-        }
-    }
+// At most so many items are read at once.
+const ROWS: usize = 16;
 
-    // Puts the tags and fields that were read last into their line.
-    //
-    // SAFETY: the room was not written since.
-    #[inline(always)]
-    unsafe fn put_parts(&self, line: &mut ParsedLine<'a>) {
-        let (tags, fields) = self.parts[..self.line.tags + self.line.fields].split_at(self.line.tags);
-        if self.line.has_tag_set {
-            let tag_set = line.series.tag_set.insert(TagSet::new());
-            for tag in tags {
-                // SAFETY: by the caller.
-                tag_set.push(unsafe { (escaped(&tag.key), escaped(&tag.text)) });
-            }
-        }
-        for field in fields {
-            // SAFETY: by the caller.
-            line.field_set.push(unsafe { (escaped(&field.key), value(field)) });
-        }
-    }
-
-    // The fault that was read last.
-    #[cold]
-    fn fault(&self) -> Error {
-        // SAFETY: the text lies in the room, which was not written since.
-        let value = unsafe { self.line.fault_text.get() }.to_owned();
-        match self.line.fault {
-            1 => Error::DuplicateTag { tag_key: value },
-            2 => Error::MeasurementValueInvalid,
-            3 => Error::FieldSetMissing,
-            4 => Error::IntegerValueInvalid { source: out_of_range(value.parse::<i64>()), value },
-            5 => Error::UIntegerValueInvalid { source: out_of_range(value.parse::<u64>()), value },
-            6 => Error::TimestampValueInvalid { source: out_of_range(value.parse::<i64>()), value },
-            7 => Error::EndsWithBackslash,
-            8 => Error::CannotParseEntireLine { trailing_content: value },
-            9 => Error::TagSetMalformed,
-            _ => Error::GenericParsingError { kind: ErrorKind::TakeWhile1, trace: vec![] },
-        }
-    }
+// How much to lend in the place of `lent`.
+fn longer(lent: usize, needed: usize, most: usize) -> usize {
+    (2 * lent).min(most).max(needed).max(lent)
 }
 
 impl<'a> Iterator for ParseLines<'a> {
     type Item = Result<ParsedLine<'a>>;
 
     fn next(&mut self) -> Option<Self::Item> {
-        loop {
-            match self.next_into() {
-                answer::LINE => return self.item(),
-                answer::FAULT => return Some(Err(self.fault())),
-                answer::END => return None,
-                more @ (answer::MORE_PARTS | answer::MORE_ROOM) => self.lend_more(more),
-                _ => border::refuse_memory(),
-            }
+        if self.taken == self.filled && !self.read_block() {
+            return None;
         }
+        let row = &self.rows[self.taken];
+        self.taken += 1;
+        match row.answer {
+            answer::LINE => self.item(row),
+            // SAFETY: the text lies in the room, which was not written since.
+            answer::FAULT => Some(Err(unsafe { fault(&row.line) })),
+            _ => border::refuse_memory(),
+        }
+    }
+}
+
+// A line without its tags and fields.
+//
+// SAFETY: what the texts lie in was not written since.
+#[inline(always)]
+unsafe fn bare_line<'a>(line: &Line<'a>) -> ParsedLine<'a> {
+    ParsedLine {
+        series: Series {
+            // SAFETY: by the caller.
+            raw_input: unsafe { line.series.get() },
+            // SAFETY: by the caller.
+            measurement: unsafe { escaped(&line.measurement) },
+            tag_set: None,
+        },
+        field_set: FieldSet::new(),
+        timestamp: line.has_timestamp.then_some(line.timestamp),
+    }
+}
+
+// Puts the tags and fields into a line.
+//
+// SAFETY: as of `bare_line`.
+#[inline(always)]
+unsafe fn put_parts<'a>(parsed: &mut ParsedLine<'a>, line: &Line<'a>, parts: &[Part<'a>]) {
+    let (tags, fields) = parts.split_at(line.tags);
+    if line.has_tag_set {
+        let tag_set = parsed.series.tag_set.insert(TagSet::new());
+        for tag in tags {
+            // SAFETY: by the caller.
+            tag_set.push(unsafe { (escaped(&tag.key), escaped(&tag.text)) });
+        }
+    }
+    for field in fields {
+        // SAFETY: by the caller.
+        parsed.field_set.push(unsafe { (escaped(&field.key), value(field)) });
+    }
+}
+
+// A fault.
+//
+// SAFETY: as of `bare_line`.
+#[cold]
+unsafe fn fault(line: &Line<'_>) -> Error {
+    // SAFETY: by the caller.
+    let value = unsafe { line.fault_text.get() }.to_owned();
+    match line.fault {
+        1 => Error::DuplicateTag { tag_key: value },
+        2 => Error::MeasurementValueInvalid,
+        3 => Error::FieldSetMissing,
+        4 => Error::IntegerValueInvalid { source: out_of_range(value.parse::<i64>()), value },
+        5 => Error::UIntegerValueInvalid { source: out_of_range(value.parse::<u64>()), value },
+        6 => Error::TimestampValueInvalid { source: out_of_range(value.parse::<i64>()), value },
+        7 => Error::EndsWithBackslash,
+        8 => Error::CannotParseEntireLine { trailing_content: value },
+        9 => Error::TagSetMalformed,
+        _ => Error::GenericParsingError { kind: ErrorKind::TakeWhile1, trace: vec![] },
     }
 }
 
