@@ -19,8 +19,6 @@ TAG, INTEGER, UNSIGNED, FLOAT, STRING, BOOLEAN = range(6)
 PART_LAYOUT = Struct("@QQ?7xQQ?7xqQI?3x")
 # series; measurement; fault_text; tags, fields, copied_len, timestamp, fault, side, has_tag_set, has_timestamp
 LINE_LAYOUT = Struct("@QQQQ?7xQQQQQqII??6x")
-# where `tags` is in a line, and `copied_len`
-COUNTS_LAYOUT, COUNTS_AT = Struct("@QQQ"), 56
 
 
 class Text(ctypes.Structure):
@@ -33,6 +31,29 @@ class View(ctypes.Structure):
     """struct lp_view."""
 
     _fields_ = [("text", Text), ("copied", ctypes.c_bool)]
+
+
+class Part(ctypes.Structure):
+    """struct lp_part."""
+
+    _fields_ = [
+        ("key", View), ("text", View), ("integer", ctypes.c_int64), ("unsigned_integer", ctypes.c_uint64),
+        ("kind", ctypes.c_uint32), ("boolean", ctypes.c_bool)]
+
+
+class Line(ctypes.Structure):
+    """struct lp_line."""
+
+    _fields_ = [
+        ("series", Text), ("measurement", View), ("fault_text", Text), ("tags", ctypes.c_size_t), ("fields", ctypes.c_size_t),
+        ("copied_len", ctypes.c_size_t), ("timestamp", ctypes.c_int64), ("fault", ctypes.c_uint32), ("side", ctypes.c_uint32),
+        ("has_tag_set", ctypes.c_bool), ("has_timestamp", ctypes.c_bool)]
+
+
+class Row(ctypes.Structure):
+    """struct lp_row."""
+
+    _fields_ = [("line", Line), ("parts_at", ctypes.c_size_t), ("answer", ctypes.c_uint32)]
 
 
 class Lines(ctypes.Structure):
@@ -63,7 +84,7 @@ def _load() -> ctypes.CDLL:
     out = [at, at, size, at, size, at]
     for name, parameters, result in [
         ("lp_lines_begin", [at, size, flag, at], flag),
-        ("lp_lines_next", [at, at, at, at, size], ctypes.c_uint32),
+        ("lp_lines_block", [at, at, at, size, at, size, at], ctypes.c_uint32),
         ("lp_lines_piece", [at, at], flag),
         ("lp_line_write", out, ctypes.c_uint32),
         ("lp_line_show", out, ctypes.c_uint32),
@@ -82,6 +103,7 @@ NOWHERE = ctypes.addressof(_NOTHING)
 
 EMPTY_PART = PART_LAYOUT.pack(NOWHERE, 0, False, NOWHERE, 0, False, 0, 0, TAG, False)
 EMPTY_LINE = LINE_LAYOUT.pack(NOWHERE, 0, NOWHERE, 0, False, NOWHERE, 0, 0, 0, 0, 0, 0, 0, False, False)
+EMPTY_ROW = EMPTY_LINE + bytes(ctypes.sizeof(Row) - ctypes.sizeof(Line))
 
 
 def encoded(text: Union[str, bytes]) -> bytes:

@@ -1,133 +1,122 @@
-"""Lines are read in blocks: many of them lie in lent memory, and become Python's objects together."""
+"""Items are read in blocks: many of them lie in lent memory, and become Python's objects together."""
 
 from __future__ import annotations
 
 import ctypes
-from typing import Callable, Iterator, List, Optional, Tuple, Union
+from itertools import repeat
+from operator import sub
+from struct import calcsize
+from typing import Iterator, List, Tuple, Union
 
 from . import library as lp
-from .items import Fault, FaultKind, Line, Side, Unsigned
+from .items import Fault, FaultKind, Line, Side, Unsigned, Value
 
-_LINES_IN_A_BLOCK = 256
-_View = Callable[[int, int, bool], str]
+_ITEMS = 256
+"""At most so many items are read at once."""
 
 
-class _Lent:
-    """The memory that is lent for a block of lines: lines, parts, and room for copies."""
+class _Memory:
+    """Memory for so many structs."""
 
-    def __init__(self) -> None:
-        self.lines = ctypes.create_string_buffer(lp.EMPTY_LINE * _LINES_IN_A_BLOCK, lp.LINE_LAYOUT.size * _LINES_IN_A_BLOCK)
-        self.lend_parts(16 * _LINES_IN_A_BLOCK)
-        self.lend_room(16 * _LINES_IN_A_BLOCK)
+    def __init__(self, empty: bytes, count: int) -> None:
+        self.size, self.count = len(empty), count
+        self.data = bytearray(empty * count)
+        self.at = ctypes.addressof(ctypes.c_char.from_buffer(self.data))
 
-    def lend_parts(self, count: int) -> None:
-        """Lends so many parts."""
-        self.parts_len = count
-        self.parts = ctypes.create_string_buffer(lp.EMPTY_PART * count, lp.PART_LAYOUT.size * count)
-
-    def lend_room(self, size: int) -> None:
-        """Lends so many bytes of room."""
-        self.room_len = size
-        self.room = ctypes.create_string_buffer(size)
-
-    def lend_more(self, answer: int, tags: int, fields: int, copied_len: int) -> None:
-        """Lends what a line takes that did not fit."""
-        if answer == lp.MORE_PARTS:
-            self.lend_parts(tags + fields)
-        else:
-            self.lend_room(copied_len)
+    def column(self, kind: str, at: int, count: int) -> list:
+        """What the first structs have from this byte on: numbers of a kind that module `struct` names."""
+        size = calcsize(kind)
+        return memoryview(self.data).cast(kind)[at // size : count * self.size // size : self.size // size].tolist()
 
 
 class _Block:
-    """The items of a text, in blocks."""
+    """What is left of a text, and the items of it that were read last, in memory that is lent."""
 
     def __init__(self, data: bytes, strict: bool) -> None:
-        self.data = data
         self.cursor = lp.begin(data, strict)
-        self.lent = _Lent()
-        self.source: Union[str, bytes] = data.decode("ascii") if data.isascii() else data
-        self.base = lp.address(data)
+        self.data, self.is_ascii = data, data.isascii()
+        self.source = self.text(data)
+        self.lend(16 * _ITEMS, 64 * _ITEMS)
 
-    def fill(self) -> Tuple[List[int], int, int, int]:
-        """Reads items as long as there is room: their answers, how many parts and how much room they take, and the last answer."""
-        lent, answers, used = self.lent, [], 0
-        room = lp.Text(ctypes.addressof(lent.room), lent.room_len)
-        next_item, counts = lp.LIBRARY.lp_lines_next, lp.COUNTS_LAYOUT.unpack_from
-        cursor_at, room_at = ctypes.addressof(self.cursor), ctypes.addressof(room)
-        line_at, parts_at = ctypes.addressof(lent.lines), ctypes.addressof(lent.parts)
-        answer = lp.LINE
-        for at in range(0, lp.LINE_LAYOUT.size * _LINES_IN_A_BLOCK, lp.LINE_LAYOUT.size):
-            answer = next_item(cursor_at, room_at, line_at + at, parts_at + used * lp.PART_LAYOUT.size, lent.parts_len - used)
-            if answer == lp.LINE:
-                tags, fields, _ = counts(lent.lines, at + lp.COUNTS_AT)
-                used += tags + fields
-            elif answer in (lp.END, lp.MORE_PARTS, lp.MORE_ROOM):
-                if not answers and answer != lp.END:
-                    lent.lend_more(answer, *counts(lent.lines, at + lp.COUNTS_AT))
-                break
-            answers.append(answer)
-        return answers, used, lent.room_len - room.len, answer
+    def text(self, data: bytes) -> Union[str, bytes]:
+        """What texts are cut from: for ASCII a string, of which each character is a byte."""
+        return data.decode("ascii") if self.is_ascii else data
 
-    def view(self, copied_len: int) -> _View:
-        """What makes a string of a text: of its address, its length, and whether it lies in the room."""
-        source, base, room = self.source, self.base, ctypes.addressof(self.lent.room)
-        copies = ctypes.string_at(room, copied_len)
-        if isinstance(source, str):
-            told = copies.decode("ascii")
+    def lend(self, parts: int, room: int) -> None:
+        """Lends rows, so many parts, and so many bytes of room for copies."""
+        self.rows, self.parts, self.room = _Memory(lp.EMPTY_ROW, _ITEMS), _Memory(lp.EMPTY_PART, parts), _Memory(b"\0", room)
 
-            def plain(at: int, length: int, copied: bool) -> str:
-                start = at - (room if copied else base)
-                return told[start:start + length] if copied else source[start:start + length]
+    def read(self) -> Tuple[int, int]:
+        """Reads items as long as there is room: how many, and the answer. More is lent where the first item does not fit."""
+        filled, room = ctypes.c_size_t(), lp.Text(self.room.at, self.room.count)
+        answer = lp.LIBRARY.lp_lines_block(
+            ctypes.byref(self.cursor), ctypes.byref(room), self.rows.at, self.rows.count, self.parts.at, self.parts.count,
+            ctypes.byref(filled))
+        if filled.value == 0 and answer in (lp.MORE_PARTS, lp.MORE_ROOM):
+            line = lp.Line.from_buffer(self.rows.data)
+            self.lend(max(line.tags + line.fields, self.parts.count), max(line.copied_len, self.room.count))
+        copies = bytes(self.room.data[: self.room.count - room.len])
+        # By whether a text is a copy: where its memory begins, and what it is cut from.
+        self.bases, self.sources = (lp.address(self.data), self.room.at), (self.source, self.text(copies))
+        return filled.value, answer
 
-            return plain
-
-        def decoded(at: int, length: int, copied: bool) -> str:
-            start = at - (room if copied else base)
-            return (copies if copied else source)[start:start + length].decode()
-
-        return decoded
-
-    def items(self) -> Iterator[Union[Line, Fault]]:
-        """Each item."""
-        answer: Optional[int] = None
-        while answer != lp.END:
-            answers, used, copied_len, answer = self.fill()
-            yield from _items(self.lent, answers, used, self.view(copied_len))
-
-
-def _items(lent: _Lent, answers: List[int], used: int, view: _View) -> List[Union[Line, Fault]]:
-    """The items that lie in lent memory."""
-    lines = memoryview(lent.lines)[: len(answers) * lp.LINE_LAYOUT.size]
-    parts = list(lp.PART_LAYOUT.iter_unpack(memoryview(lent.parts)[: used * lp.PART_LAYOUT.size]))
-    found: List[Union[Line, Fault]] = []
-    at = 0
-    for answer, line in zip(answers, lp.LINE_LAYOUT.iter_unpack(lines)):
-        if answer == lp.LINE:
-            fields_at = at + line[7]
-            end = fields_at + line[8]
-            tags = [(view(part[0], part[1], part[2]), view(part[3], part[4], part[5])) for part in parts[at:fields_at]]
-            fields = [(view(part[0], part[1], part[2]), _value(part, view)) for part in parts[fields_at:end]]
-            found.append(Line(view(line[2], line[3], line[4]), tags, fields, line[10] if line[14] else None))
-            at = end
-        elif answer == lp.FAULT:
-            found.append(Fault(FaultKind(line[11]), view(line[5], line[6], True), Side(line[12])))
+    def texts(self, memory: _Memory, at: int, count: int) -> List[str]:
+        """The texts of the views that the first structs have from this byte on."""
+        ats, lengths = memory.column("Q", at, count), memory.column("Q", at + lp.Text.len.offset, count)
+        copied = memory.column("B", at + lp.View.copied.offset, count)
+        if 1 in copied:
+            spans = zip(map(self.sources.__getitem__, copied), map(sub, ats, map(self.bases.__getitem__, copied)), lengths)
+            texts = [source[start : start + length] for source, start, length in spans]
         else:
-            raise MemoryError("a request for memory was refused")
-    return found
+            source, starts = self.source, map(sub, ats, repeat(self.bases[0]))
+            texts = [source[start : start + length] for start, length in zip(starts, lengths)]
+        return texts if self.is_ascii else list(map(bytes.decode, texts))
+
+    def pairs(self, count: int) -> List[Tuple[str, Value]]:
+        """The keys and values of the first parts."""
+        column, texts = self.parts.column, self.texts(self.parts, lp.Part.text.offset, count)
+        values = [
+            text if kind in (lp.TAG, lp.STRING) else float(text) if kind == lp.FLOAT else integer if kind == lp.INTEGER
+            else Unsigned(unsigned) if kind == lp.UNSIGNED else boolean == 1
+            for kind, text, integer, unsigned, boolean in zip(
+                column("I", lp.Part.kind.offset, count), texts, column("q", lp.Part.integer.offset, count),
+                column("Q", lp.Part.unsigned_integer.offset, count), column("B", lp.Part.boolean.offset, count))]
+        return list(zip(self.texts(self.parts, lp.Part.key.offset, count), values))
+
+    def items(self, filled: int) -> Iterator[Union[Line, Fault]]:
+        """The items that were read last."""
+        def column(kind: str, field) -> list:
+            return self.rows.column(kind, field.offset, filled)
+
+        answers, starts = column("I", lp.Row.answer), column("Q", lp.Row.parts_at)
+        tags, fields = column("Q", lp.Line.tags), column("Q", lp.Line.fields)
+        ends = [at + (one + more if answer == lp.LINE else 0) for answer, at, one, more in zip(answers, starts, tags, fields)]
+        pairs = self.pairs(ends[-1])
+        names = self.texts(self.rows, lp.Line.measurement.offset, filled)
+        times = zip(column("B", lp.Line.has_timestamp), column("q", lp.Line.timestamp))
+        for place, (answer, name, at, count, end, (timed, time)) in enumerate(zip(answers, names, starts, tags, ends, times)):
+            if answer == lp.LINE:
+                yield Line(name, pairs[at : at + count], pairs[at + count : end], time if timed else None)
+            elif answer == lp.FAULT:
+                yield self.fault(place)
+            else:
+                raise MemoryError("a request for memory was refused")
+
+    def fault(self, place: int) -> Fault:
+        """The fault of a row."""
+        line = lp.Line.from_buffer(self.rows.data, place * self.rows.size)
+        start = (line.fault_text.at or self.room.at) - self.room.at
+        text = self.sources[1][start : start + line.fault_text.len]
+        return Fault(FaultKind(line.fault), text if isinstance(text, str) else text.decode(), Side(line.side))
 
 
-def _value(part: tuple, view: _View):
-    """The value of a field."""
-    kind = part[8]
-    if kind == lp.FLOAT:
-        return float(view(part[3], part[4], False))
-    if kind == lp.INTEGER:
-        return part[6]
-    if kind == lp.STRING:
-        return view(part[3], part[4], part[5])
-    if kind == lp.UNSIGNED:
-        return Unsigned(part[7])
-    return part[9]
+def _items(block: _Block) -> Iterator[Union[Line, Fault]]:
+    """Each item that is left."""
+    answer = lp.LINE
+    while answer != lp.END:
+        filled, answer = block.read()
+        if filled:
+            yield from block.items(filled)
 
 
 def parse(text: Union[str, bytes], *, strict: bool = False) -> Iterator[Union[Line, Fault]]:
@@ -136,7 +125,7 @@ def parse(text: Union[str, bytes], *, strict: bool = False) -> Iterator[Union[Li
     UnicodeDecodeError where the text is no UTF-8: then nothing is read. MemoryError where a request for memory was refused,
     and then no more items come.
     """
-    return _Block(lp.encoded(text), strict).items()
+    return _items(_Block(lp.encoded(text), strict))
 
 
 def split(text: Union[str, bytes], *, strict: bool = False) -> Iterator[str]:
