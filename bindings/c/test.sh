@@ -1,44 +1,77 @@
 #!/usr/bin/env bash
-# Builds the static library of crates/lp_c, and three programs over it, watched by the address and undefined behaviour sanitizers;
+# Builds the static library of crates/lp_c, and programs over it, watched by the address and undefined behaviour sanitizers;
 # compares what the example prints with example.out, and lets lending.c read and writing.c write with little lent and memory
-# refused. The header goes through a C++ compiler too.
+# refused. threads.c is watched by the thread sanitizer, and by helgrind, which sees the library's own loads and stores too; and
+# the archive must hold no variable. The header goes through a C++ compiler too.
 set -eu
 here=$(cd "$(dirname "$0")" && pwd)
 top=$(dirname "$(dirname "$here")")
-PATH=$PATH:/opt/rattle/bin
-if ! command -v cc >/dev/null; then
+if ! command -v "${CC:-cc}" >/dev/null; then
     echo "c: there is no cc here, so nothing was tried"
     exit 0
 fi
-for crate in influxdb_line_protocol lp_c; do
-    if ! said=$(cd "$top/crates/$crate" && rt lib 2>&1); then
-        printf '%s\n' "$said" | tail -n 20 >&2
-        echo "c: the library was not built" >&2
-        exit 1
-    fi
-done
+"$(dirname "$here")/build.sh" >/dev/null
 built=$(mktemp -d)
 trap 'rm -rf "$built"' EXIT
 
-cc -std=c11 -Wall -Wextra -Wpedantic -Werror -g -fsanitize=address,undefined -fno-sanitize-recover=all -I"$top/include" \
-    "$here/example.c" "$here/heap.c" "$top/crates/lp_c/out/liblp_c.a" -o "$built/example"
+# Builds a program over the library, with these flags.
+build() {
+    local name=$1
+    shift
+    "${CC:-cc}" -std=c11 -Wall -Wextra -Wpedantic -Werror -g "$@" -I"$top/include" "$here/$name.c" "$here/heap.c" \
+        "$top/crates/lp_c/out/liblp_c.a" -o "$built/$name"
+}
+watched=("-fsanitize=address,undefined" -fno-sanitize-recover=all)
+
+build example "${watched[@]}"
 if ! "$built/example" | diff "$here/example.out" -; then
     echo "c: the example does not print example.out" >&2
     exit 1
 fi
-cc -std=c11 -Wall -Wextra -Wpedantic -Werror -g -fsanitize=address,undefined -fno-sanitize-recover=all -DLP_REFUSE \
-    -I"$top/include" "$here/lending.c" "$here/heap.c" "$top/crates/lp_c/out/liblp_c.a" -o "$built/lending"
+build lending "${watched[@]}" -DLP_REFUSE
 if ! lent=$("$built/lending"); then
     echo "c: what should come where little is lent did not come: $lent" >&2
     exit 1
 fi
-cc -std=c11 -Wall -Wextra -Wpedantic -Werror -g -fsanitize=address,undefined -fno-sanitize-recover=all -DLP_REFUSE \
-    -I"$top/include" "$here/writing.c" "$here/heap.c" "$top/crates/lp_c/out/liblp_c.a" -o "$built/writing"
+build writing "${watched[@]}" -DLP_REFUSE
 if ! written=$("$built/writing"); then
     echo "c: what should be written was not: $written" >&2
     exit 1
 fi
 said="the example prints what it should; $lent; $written"
+
+# Runs threads.c, built with these flags, by this command.
+run_threads() {
+    local flags=$1
+    shift
+    # shellcheck disable=SC2086
+    build threads -pthread $flags
+    if ! "$@" "$built/threads" >"$built/log" 2>&1; then
+        cat "$built/log" >&2
+        echo "c: threads side by side do not get what one alone gets, or touch what another does" >&2
+        exit 1
+    fi
+}
+if nm "$top/crates/lp_c/out/liblp_c.a" 2>/dev/null | grep -E ' [BbCDdGgSs] '; then
+    echo "c: the archive holds these variables, which threads would share" >&2
+    exit 1
+fi
+watchers=()
+printf 'int main(void) { return 0; }\n' >"$built/nothing.c"
+if "${CC:-cc}" -fsanitize=thread "$built/nothing.c" -o "$built/nothing" 2>/dev/null && "$built/nothing"; then
+    run_threads -fsanitize=thread
+    watchers+=("the thread sanitizer")
+fi
+if command -v valgrind >/dev/null; then
+    run_threads "" valgrind -q --tool=helgrind --error-exitcode=1
+    watchers+=(helgrind)
+fi
+if [ ${#watchers[@]} = 0 ]; then
+    run_threads ""
+    said="$said; threads side by side, watched by nothing: there is no thread sanitizer and no valgrind here"
+else
+    said="$said; $(cat "$built/log"), watched by $(printf '%s and ' "${watchers[@]}" | sed 's/ and $//')"
+fi
 if command -v g++ >/dev/null; then
     printf '#include "influxdb_line_protocol.h"\nint main() { lp_part parts[2]; lp_empty_parts(parts, 2); return 0; }\n' \
         >"$built/header.cpp"
