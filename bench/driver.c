@@ -1,19 +1,10 @@
-/* Times the calls of lp_bench over files, or without a file the building of points, in processor time: the median of
-   five runs after a first one, in MB/s. Each row has the call, the file, the speed and the answer, with tabs between. */
-#include <stdbool.h>
-#include <stdint.h>
+/* Times calls over files, or without a file the building of points, in processor time: the median of five runs after a
+   first one, in MB/s. Each row has the call, the file, the speed and the answer, with tabs between. */
+#include "driver.h"
 #include <stdio.h>
 #include <stdlib.h>
 #include <string.h>
 #include <time.h>
-
-bool lp_bench_is_utf8(const uint8_t *text, size_t len);
-uint64_t lp_bench_parse(const uint8_t *text, size_t len);
-uint64_t lp_bench_next_into(const uint8_t *text, size_t len);
-uint64_t lp_bench_numbers(const uint8_t *text, size_t len);
-uint64_t lp_bench_split(const uint8_t *text, size_t len);
-uint64_t lp_bench_rebuild(const uint8_t *text, size_t len);
-uint64_t lp_bench_build(uint64_t count);
 
 enum { RUNS = 5, POINTS = 200000 };
 
@@ -39,7 +30,7 @@ static double utf8_seconds(const uint8_t *text, size_t len) {
     double least = -1;
     for (int i = 0; i <= RUNS; i++) {
         double start = now();
-        if (!lp_bench_is_utf8(text, len)) return -1;
+        if (!is_utf8(text, len)) return -1;
         double seconds = now() - start;
         if (least < 0 || seconds < least) least = seconds;
     }
@@ -48,25 +39,24 @@ static double utf8_seconds(const uint8_t *text, size_t len) {
 
 /* Each call tests first whether the text is UTF-8, and the time of that test is taken off: the least one, so that what
    is left is never too little. */
-static void run(const char *what, uint64_t (*call)(const uint8_t *, size_t), const char *file,
-                const uint8_t *text, size_t len, double utf8) {
+static void run(const struct call *call, const char *file, const uint8_t *text, size_t len, double utf8) {
     double seconds[RUNS];
-    uint64_t answer = call(text, len);
+    uint64_t answer = call->call(text, len);
     for (int i = 0; i < RUNS; i++) {
         double start = now();
-        answer = call(text, len);
+        answer = call->call(text, len);
         seconds[i] = now() - start - utf8;
     }
-    show(what, file, (double)len, seconds, answer);
+    show(call->name, file, (double)len, seconds, answer);
 }
 
 /* The rate is that of the bytes written. */
 static void run_build(uint64_t count) {
     double seconds[RUNS];
-    uint64_t answer = lp_bench_build(count);
+    uint64_t answer = build(count);
     for (int i = 0; i < RUNS; i++) {
         double start = now();
-        answer = lp_bench_build(count);
+        answer = build(count);
         seconds[i] = now() - start;
     }
     show("build", "points", (double)answer, seconds, answer);
@@ -85,7 +75,7 @@ static uint8_t *read_file(const char *path, size_t *len) {
 }
 
 int main(int argc, char **argv) {
-    if (argc == 1) run_build(POINTS);
+    if (argc == 1 && build) run_build(POINTS);
     for (int i = 1; i < argc; i++) {
         size_t len;
         uint8_t *text = read_file(argv[i], &len);
@@ -93,11 +83,7 @@ int main(int argc, char **argv) {
         const char *file = slash ? slash + 1 : argv[i];
         double utf8 = utf8_seconds(text, len);
         if (utf8 < 0) { fprintf(stderr, "%s: not UTF-8\n", argv[i]); return 2; }
-        run("parse", lp_bench_parse, file, text, len, utf8);
-        run("next_into", lp_bench_next_into, file, text, len, utf8);
-        run("numbers", lp_bench_numbers, file, text, len, utf8);
-        run("split", lp_bench_split, file, text, len, utf8);
-        run("rebuild", lp_bench_rebuild, file, text, len, utf8);
+        for (const struct call *call = calls; call->name; call++) run(call, file, text, len, utf8);
         free(text);
     }
     return 0;

@@ -1,11 +1,11 @@
 #!/usr/bin/env python3
-"""The bench's figures: joins the rows of both drivers, and reads what was joined.
+"""The bench's figures: joins the rows of two drivers, and reads what was joined.
 
-    bench/figures.py LIBRARY CRATE OUT [NOTE..]
+    bench/figures.py OWN BESIDE OUT [NOTE..]
 
-LIBRARY and CRATE hold rows `call TAB file TAB MB/s TAB answer`, of any number of rounds; the best round
+OWN and BESIDE hold rows `call TAB file TAB MB/s TAB answer`, of any number of rounds; the best round
 of each call and file counts. OUT gets a line `# NOTE` for each NOTE, and then rows
-`corpus TAB call TAB library TAB crate`, where the last is empty if the crate has no such row.
+`corpus TAB call TAB own TAB beside`, where the last is empty if BESIDE has no such row.
 """
 
 import sys
@@ -21,11 +21,32 @@ CALLS = {
 }
 """The calls over a corpus, and what they are called where figures are shown."""
 
-BESIDE = {"numbers": "parse", "next_into": "parse"}
-"""The crate's call that stands beside a call of the library, where its name is another."""
+CALLERS = {
+    "lp_lines_next": "C, `lp_lines_next`",
+    "lp_lines_block": "C, `lp_lines_block`",
+    "lp_rebuild": "C, `lp_rebuild`",
+    "rust parse": "Rust, `parse_lines`",
+    "rust rebuild": "Rust, read and built",
+    "python parse": "Python, `parse`",
+    "python rebuild": "Python, `rebuild`",
+}
+"""The calls from other languages, in the same way."""
 
-SAME_ANSWERS = ("numbers", "split", "build")
-"""The calls whose answer is also the crate's."""
+BESIDE = {
+    "numbers": "parse",
+    "next_into": "parse",
+    "lp_lines_next": "library parse",
+    "lp_lines_block": "library parse",
+    "lp_rebuild": "library rebuild",
+    "rust parse": "crate parse",
+    "rust split": "crate split",
+    "rust rebuild": "crate rebuild",
+    "rust build": "crate build",
+}
+"""The call that a call is compared with, where its name is another."""
+
+SAME_ANSWERS = ("numbers", "split", "build", *(call for call in BESIDE if " " in call or call.startswith("lp_")))
+"""The calls whose answer is also that of the call that they are compared with."""
 
 
 class Figure(NamedTuple):
@@ -33,13 +54,13 @@ class Figure(NamedTuple):
 
     corpus: str
     call: str
-    library: float
-    crate: float | None
+    speed: float
+    beside: float | None
 
     @property
     def times(self) -> float | None:
-        """How many times the crate's speed that is."""
-        return None if self.crate is None else self.library / self.crate
+        """How many times the speed of the call beside it that is."""
+        return None if self.beside is None else self.speed / self.beside
 
 
 class Row(NamedTuple):
@@ -60,14 +81,14 @@ def best(path: Path) -> dict[tuple[str, str], Row]:
     return rows
 
 
-def joined(library: dict[tuple[str, str], Row], crate: dict[tuple[str, str], Row]) -> list[Figure]:
+def joined(own: dict[tuple[str, str], Row], others: dict[tuple[str, str], Row]) -> list[Figure]:
     """The figures of both."""
     figures = []
-    for (corpus, call), row in library.items():
-        beside = crate.get((corpus, BESIDE.get(call, call)))
+    for (corpus, call), row in own.items():
+        beside = others.get((corpus, BESIDE.get(call, call)))
         figures.append(Figure(corpus, call, row.speed, beside.speed if beside else None))
         if beside and call in SAME_ANSWERS and row.answer != beside.answer:
-            print(f"{call} of {corpus}: {row.answer}, but the crate {beside.answer}", file=sys.stderr)
+            print(f"{call} of {corpus}: {row.answer}, but {beside.answer} beside it", file=sys.stderr)
     return figures
 
 
@@ -78,28 +99,28 @@ def read(path: Path) -> tuple[list[str], list[Figure]]:
         if line.startswith("# "):
             notes.append(line.removeprefix("# "))
             continue
-        corpus, call, library, crate = line.split("\t")
-        figures.append(Figure(corpus, call, float(library), float(crate) if crate else None))
+        corpus, call, speed, beside = line.split("\t")
+        figures.append(Figure(corpus, call, float(speed), float(beside) if beside else None))
     return notes, figures
 
 
 def shown(figure: Figure) -> str:
     """A figure as a line for a terminal."""
-    text = f"{figure.corpus:<12} {figure.call:<10} {figure.library:8.1f} MB/s"
+    text = f"{figure.corpus:<12} {figure.call:<14} {figure.speed:8.1f} MB/s"
     if figure.times is None:
         return text
-    return f"{text}   the crate {figure.crate:8.1f} MB/s   {figure.times:6.2f} times"
+    return f"{text}   beside {figure.beside:8.1f} MB/s   {figure.times:6.2f} times"
 
 
 def main() -> None:
-    library, crate, out = map(Path, sys.argv[1:4])
-    figures = joined(best(library), best(crate))
+    own, beside, out = map(Path, sys.argv[1:4])
+    figures = joined(best(own), best(beside))
     with out.open("w") as file:
         file.writelines(f"# {note}\n" for note in sys.argv[4:])
         for figure in figures:
             print(shown(figure))
-            beside = "" if figure.crate is None else f"{figure.crate:.1f}"
-            file.write(f"{figure.corpus}\t{figure.call}\t{figure.library:.1f}\t{beside}\n")
+            other = "" if figure.beside is None else f"{figure.beside:.1f}"
+            file.write(f"{figure.corpus}\t{figure.call}\t{figure.speed:.1f}\t{other}\n")
 
 
 if __name__ == "__main__":

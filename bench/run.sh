@@ -1,13 +1,15 @@
 #!/usr/bin/env bash
-# Times this library over texts, and the Rust crate beside it where cargo can have it.
+# Times this library over texts, from Rattle, C, Rust and Python, and the Rust crate beside it where cargo can have it.
 #
-#   bench/run.sh           makes the corpora, times all, and writes figures.tsv for table.py and picture.py
+#   bench/run.sh           makes the corpora, times all, and writes figures.tsv and callers.tsv for table.py and picture.py
 #   bench/run.sh FILE..    times these files alone
 #
 # CARGO_FLAGS: more words for cargo, as where the crate lies if crates.io is out of reach.
+# PYTHON: python3 by default.
 # ROUNDS: how often both take turns, 3 by default; the best round of each counts.
 # SEED, SIZE: of the corpora, `bench` and 16000000 bytes by default. CORPORA: the folder to make them in, and keep.
-# FIGURES: where the figures are written, by default bench/figures.tsv, and nowhere if files are given.
+# FIGURES, CALLERS: where the figures are written, by default bench/figures.tsv and bench/callers.tsv, and nowhere if files
+# are given.
 set -eu
 here=$(cd "$(dirname "$0")" && pwd)
 top=$(dirname "$here")
@@ -17,9 +19,11 @@ built=$(mktemp -d)
 trap 'rm -rf "$built"' EXIT
 
 figures=${FIGURES:-$here/figures.tsv}
+callers=${CALLERS:-$here/callers.tsv}
 corpora="files that were given"
 if [ $# -gt 0 ]; then
     figures=${FIGURES:-$built/figures.tsv}
+    callers=${CALLERS:-$built/callers.tsv}
 else
     corpora="seed ${SEED:-bench}, ${SIZE:-16000000} bytes each"
     folder=${CORPORA:-$built/corpora}
@@ -28,37 +32,63 @@ else
     set -- "${files[@]}"
 fi
 
-for crate in influxdb_line_protocol lp_rebuild lp_bench; do
+for crate in influxdb_line_protocol lp_rebuild lp_bench lp_c; do
     (cd "$top/crates/$crate" && rt lib > "$built/rt.log" 2>&1) || { tail -n 20 "$built/rt.log" >&2; exit 1; }
 done
 heap=$(dirname "$(dirname "$(readlink -f "$(command -v rt)")")")/c/liblibc_c.a
-cc -O2 "$here/driver.c" "$top/crates/lp_bench/out/liblp_bench.a" "$heap" -o "$built/library"
-# The driver is built from a copy, since cargo writes its lock file beside it.
-cp -r "$here/crate" "$built/crate"
-# shellcheck disable=SC2086
-if ! (cd "$built/crate" && cargo build --release ${CARGO_FLAGS:-} > "$built/cargo.log" 2>&1); then
-    echo "cargo could not build the Rust crate:" >&2
-    tail -n 3 "$built/cargo.log" >&2
-fi
+archive=$top/crates/lp_c/out/liblp_c.a
+cc -O2 "$here"/{driver,library}.c "$top/crates/lp_bench/out/liblp_bench.a" "$heap" -o "$built/library"
+cc -O2 -I"$top/include" "$here"/{driver,callers}.c "$archive" "$heap" -o "$built/c"
+"$top/bindings/build.sh" "$archive" > "$built/build.log"
 
-# Both take turns, file by file, so that a machine that slows down for a while slows down both.
-: > "$built/library.rows"
-: > "$built/crate.rows"
-take_turns() {
-    "$built/library" "$@" >> "$built/library.rows"
-    if [ -x "$built/crate/target/release/lp_bench_crate" ]; then
-        "$built/crate/target/release/lp_bench_crate" "$@" >> "$built/crate.rows"
+# Builds the driver in Rust over the crate that its Cargo.toml names. From a copy, since cargo writes its lock file beside it.
+build_crate() {
+    # shellcheck disable=SC2086
+    if ! (cd "$built/$1" && LP_LIB_DIR=$(dirname "$archive") cargo build --release ${CARGO_FLAGS:-} > "$built/cargo.log" 2>&1); then
+        echo "cargo could not build $1:" >&2
+        tail -n 3 "$built/cargo.log" >&2
     fi
 }
+cp -r "$here/crate" "$built/crate"
+build_crate crate
+cp -r "$here/crate" "$built/rust"
+cp -r "$top/bindings/rust" "$built/bindings"
+sed -i 's|^influxdb-line-protocol = .*|influxdb-line-protocol = { path = "../bindings" }|' "$built/rust/Cargo.toml"
+build_crate rust
+
+# Runs a driver, if it was built: its rows go to the file of this name, with these words before the calls.
+take_turn() {
+    local name=$1 words=$2 driver=$3
+    shift 3
+    if [ -x "$driver" ]; then
+        "$driver" "$@" | sed "s/^/$words/" >> "$built/$name.rows"
+    fi
+}
+
+# All take turns, file by file, so that a machine that slows down for a while slows down all.
+take_turns() {
+    take_turn figures "" "$built/library" "$@"
+    take_turn crate "" "$built/crate/target/release/lp_bench_crate" "$@"
+    take_turn callers "" "$built/c" "$@"
+    take_turn callers "rust " "$built/rust/target/release/lp_bench_crate" "$@"
+    if [ $# -gt 0 ]; then
+        PYTHONPATH=$top/bindings/python "${PYTHON:-python3}" "$here/python.py" "$@" >> "$built/callers.rows"
+    fi
+}
+touch "$built"/{figures,crate,callers}.rows
 for _ in $(seq "${ROUNDS:-3}"); do
     for file in "$@"; do
         take_turns "$file"
     done
     take_turns
 done
+{ sed 's/^/library /' "$built/figures.rows" && sed 's/^/crate /' "$built/crate.rows"; } > "$built/beside.rows"
 
 processor=$(sed -n 's/^model name[^:]*: //p' /proc/cpuinfo | head -n 1)
-python3 "$here/figures.py" "$built/library.rows" "$built/crate.rows" "$figures" \
-    "$(date +%Y-%m-%d), ${processor:-a processor that tells no name}, best of ${ROUNDS:-3} rounds" \
-    "corpora: $corpora" \
+notes=(
+    "$(date +%Y-%m-%d), ${processor:-a processor that tells no name}, best of ${ROUNDS:-3} rounds"
+    "corpora: $corpora"
     "$(rt version | head -n 1), $(rustc --version 2> "$built/rustc.log" || echo 'no rustc')"
+)
+python3 "$here/figures.py" "$built/figures.rows" "$built/crate.rows" "$figures" "${notes[@]}"
+python3 "$here/figures.py" "$built/callers.rows" "$built/beside.rows" "$callers" "${notes[@]}" "$("${PYTHON:-python3}" --version)"

@@ -1,25 +1,24 @@
 #!/usr/bin/env python3
-"""Writes the table of figures.tsv into README.md, between its two marks.
+"""Writes the tables of figures.tsv and callers.tsv into README.md, each between its two marks.
 
-    bench/table.py [FIGURES [README]]
+    bench/table.py
 """
 
 import sys
 from pathlib import Path
 
-from figures import CALLS, Figure, read
+from figures import CALLERS, CALLS, Figure, read
 
-BEGIN = "<!-- The table of figures.tsv, as table.py writes it. -->"
+BEGIN = "<!-- The table of {}, as table.py writes it. -->"
 END = "<!-- The end of the table. -->"
 
 
 def cell(figure: Figure | None) -> str:
-    """How many times the crate's speed, and the library's speed."""
+    """How many times the speed beside it, and the speed."""
     if figure is None:
         return ""
-    if figure.times is None:
-        return f"{figure.library:.0f}"
-    return f"**{figure.times:.2f}x** {figure.library:.0f}"
+    speed = f"{figure.speed:.1f}" if figure.speed < 30 else f"{figure.speed:.0f}"
+    return speed if figure.times is None else f"**{figure.times:.2f}x** {speed}"
 
 
 def row(cells: list[str]) -> str:
@@ -27,29 +26,34 @@ def row(cells: list[str]) -> str:
     return f"| {' | '.join(cells)} |"
 
 
-def table(notes: list[str], figures: list[Figure]) -> list[str]:
-    """The lines of the table, with the notes above it and the built points after it."""
+def table(notes: list[str], figures: list[Figure], names: dict[str, str]) -> list[str]:
+    """The lines of the table of the calls that have names, with the notes above it and the built points after it."""
     by_place = {(figure.corpus, figure.call): figure for figure in figures}
-    calls = [call for call in CALLS if any(figure.call == call for figure in figures)]
-    corpora = dict.fromkeys(figure.corpus for figure in figures if figure.call in CALLS)
-    lines = [*(f"- {note}" for note in notes), "", row(["", *(CALLS[call] for call in calls)])]
+    calls = [call for call in names if any(figure.call == call for figure in figures)]
+    corpora = dict.fromkeys(figure.corpus for figure in figures if figure.call in names)
+    lines = [*(f"- {note}" for note in notes), "", row(["", *(names[call] for call in calls)])]
     lines.append(row(["---"] * (len(calls) + 1)))
     for corpus in corpora:
         lines.append(row([corpus, *(cell(by_place.get((corpus, call))) for call in calls)]))
-    built = by_place.get(("points", "build"))
-    return [*lines, "", f"build of points: {cell(built)}"] if built else lines
+    built = next((figure for figure in figures if figure.corpus == "points"), None)
+    return [*lines, "", f"{built.call} of points: {cell(built)}"] if built else lines
+
+
+def with_table(text: str, name: str, lines: list[str]) -> str:
+    """A text whose table of this file has these lines."""
+    before, begin, rest = text.partition(BEGIN.format(name))
+    _, end, after = rest.partition(END)
+    if not begin or not end:
+        sys.exit(f"the marks of the table of {name} are not there")
+    return "\n\n".join([f"{before}{begin}", "\n".join(lines), f"{end}{after}"])
 
 
 def main() -> None:
     here = Path(__file__).parent
-    given = [Path(word) for word in sys.argv[1:]]
-    figures, readme = [*given, *[here / "figures.tsv", here / "README.md"][len(given) :]]
-    before, begin, rest = readme.read_text().partition(BEGIN)
-    _, end, after = rest.partition(END)
-    if not begin or not end:
-        sys.exit(f"{readme}: the marks of the table are not there")
-    lines = "\n".join(table(*read(figures)))
-    readme.write_text(f"{before}{BEGIN}\n\n{lines}\n\n{END}{after}")
+    text = (here / "README.md").read_text()
+    for name, names in (("figures.tsv", CALLS), ("callers.tsv", CALLERS)):
+        text = with_table(text, name, table(*read(here / name), names))
+    (here / "README.md").write_text(text)
 
 
 if __name__ == "__main__":

@@ -18,7 +18,7 @@ trap 'rm -rf "$built"' EXIT
 export CARGO_TARGET_DIR=${CARGO_TARGET_DIR:-$built/target}
 # Cargo writes its lock file beside the crate, so the crate is copied.
 mkdir "$built/crate"
-cp -r "$here"/{Cargo.toml,build.rs,src,tests,examples,original} "$built/crate/"
+cp -r "$here"/{Cargo.toml,build.rs,src,tests,original} "$built/crate/"
 
 # Runs `cargo test` with these words in the copy, and tells how many tests passed.
 try() {
@@ -56,7 +56,7 @@ if [ -z "${ORIGINAL:-}" ]; then
     exit 0
 fi
 crate=$built/crate
-rm -r "$crate/tests" "$crate/examples"
+rm -r "$crate/tests"
 printf '\n[dev-dependencies]\ntest_helpers = { path = "original/test_helpers" }\n' >>"$crate/Cargo.toml"
 cp "$crate/original/shims.rs" "$crate/src/"
 take_tests test >"$built/reading.rs"

@@ -1,0 +1,100 @@
+/* The calls of lp_c that read and rebuild, with the sums that lp_bench gives for the same texts. */
+#include "driver.h"
+#include "influxdb_line_protocol.h"
+#include <stdlib.h>
+
+enum { ROWS = 32 };
+
+/* What is lent, for all texts: it grows where an item takes more. */
+static lp_row rows[ROWS];
+static lp_part *parts;
+static uint8_t *bytes;
+static size_t parts_len, bytes_len;
+
+static void *grown(void *old, size_t size) {
+    void *new = realloc(old, size);
+    if (!new) abort();
+    return new;
+}
+
+/* Lends at least so many parts and bytes. No row and no part keeps a text of the room that goes. */
+static void lend(size_t parts_wanted, size_t bytes_wanted) {
+    const lp_row empty = LP_EMPTY_ROW;
+    if (parts_wanted > parts_len) parts = grown(parts, (parts_len = parts_wanted) * sizeof *parts);
+    if (bytes_wanted > bytes_len) bytes = grown(bytes, bytes_len = bytes_wanted);
+    for (size_t at = 0; at < ROWS; at++) rows[at] = empty;
+    lp_empty_parts(parts, parts_len);
+}
+
+static void lend_more(uint32_t answer, const lp_line *line) {
+    if (answer == LP_MORE_PARTS) lend(line->tags + line->fields, 0);
+    else lend(0, line->copied_len);
+}
+
+static uint64_t of_part(const lp_part *part) {
+    if (part->kind == LP_INTEGER) return (uint64_t)part->integer;
+    if (part->kind == LP_UNSIGNED) return part->unsigned_integer;
+    return part->kind == LP_BOOLEAN ? part->boolean : part->text.text.len;
+}
+
+static uint64_t of_item(uint32_t answer, const lp_line *line, const lp_part *own) {
+    if (answer != LP_LINE) return 1;
+    uint64_t sum = line->measurement.text.len + (uint64_t)line->timestamp;
+    for (size_t at = 0; at < line->tags + line->fields; at++) sum += own[at].key.text.len + of_part(&own[at]);
+    return sum;
+}
+
+static uint64_t by_next(const uint8_t *text, size_t len) {
+    lp_lines lines = LP_NO_LINES;
+    uint64_t sum = 0;
+    lend(16 * ROWS, 256 * ROWS);
+    if (!lp_lines_begin(text, len, false, &lines)) return 0;
+    for (;;) {
+        lp_room room = { bytes, bytes_len };
+        uint32_t answer = lp_lines_next(&lines, &room, &rows[0].line, parts, parts_len);
+        if (answer == LP_END) return sum;
+        if (answer == LP_MORE_PARTS || answer == LP_MORE_ROOM) lend_more(answer, &rows[0].line);
+        else sum += of_item(answer, &rows[0].line, parts);
+    }
+}
+
+static uint64_t by_block(const uint8_t *text, size_t len) {
+    lp_lines lines = LP_NO_LINES;
+    uint64_t sum = 0;
+    uint32_t answer = LP_LINE;
+    lend(16 * ROWS, 256 * ROWS);
+    if (!lp_lines_begin(text, len, false, &lines)) return 0;
+    while (answer != LP_END) {
+        lp_room room = { bytes, bytes_len };
+        size_t filled = 0;
+        answer = lp_lines_block(&lines, &room, rows, ROWS, parts, parts_len, &filled);
+        for (size_t at = 0; at < filled; at++) sum += of_item(rows[at].answer, &rows[at].line, parts + rows[at].parts_at);
+        if (filled == 0 && answer != LP_END) lend_more(answer, &rows[0].line);
+    }
+    return sum;
+}
+
+static uint64_t rebuilt(const uint8_t *text, size_t len) {
+    lp_counts counts = { 2 * len, len, 0, 0 };
+    uint32_t answer;
+    do {
+        size_t batch = counts.batch_len, faults = counts.faults_len;
+        lend(0, batch + faults);
+        answer = lp_rebuild(false, text, len, bytes, batch, bytes + batch, faults, &counts);
+    } while (answer == LP_MORE_ROOM);
+    return answer == LP_WRITTEN ? counts.batch_len : 0;
+}
+
+const struct call calls[] = {
+    { "lp_lines_next", by_next },
+    { "lp_lines_block", by_block },
+    { "lp_rebuild", rebuilt },
+    { NULL, NULL },
+};
+
+bool is_utf8(const uint8_t *text, size_t len) {
+    lp_lines lines = LP_NO_LINES;
+    return lp_lines_begin(text, len, false, &lines);
+}
+
+uint64_t (*const build)(uint64_t count) = NULL;

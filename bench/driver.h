@@ -1,0 +1,18 @@
+/* What driver.c times. library.c and callers.c each say it of one archive. */
+#include <stdbool.h>
+#include <stddef.h>
+#include <stdint.h>
+
+struct call {
+    const char *name;
+    uint64_t (*call)(const uint8_t *text, size_t len);
+};
+
+/* The calls over a text; the last one has no name. Each tests first whether the text is UTF-8. */
+extern const struct call calls[];
+
+/* That test alone. */
+bool is_utf8(const uint8_t *text, size_t len);
+
+/* Builds so many points, and gives how many bytes they take. NULL: no points are built. */
+extern uint64_t (*const build)(uint64_t count);
