@@ -1,7 +1,7 @@
 #!/usr/bin/env bash
 # Compares the documents with what they copy: docs/DEFINITIONS.md with specs/, and the blocks of code in README.md and
 # CALLING.md with crates/lp_examples; and the imports of the library's modules with the layers of docs/ARCHITECTURE.md;
-# and the header for C with crates/lp_c. Needs Python 3.10, and no package.
+# the header for C with crates/lp_c; and the packages of bindings/ with the header. Needs Python 3.10, and no package.
 set -eu
 here=$(cd "$(dirname "$0")" && pwd)
 if ! python3 -c 'import sys; sys.exit(sys.version_info < (3, 10))' 2>/dev/null; then
@@ -12,3 +12,4 @@ python3 -B "$here/definitions.py"
 python3 -B "$here/blocks.py"
 python3 -B "$here/layers.py"
 python3 -B "$here/header.py"
+python3 -B "$here/bindings.py"

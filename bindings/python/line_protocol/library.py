@@ -22,7 +22,13 @@ LINE_LAYOUT = Struct("@QQQQ?7xQQQQQqII??6x")
 
 
 class Text(ctypes.Structure):
-    """struct lp_text, and struct lp_room."""
+    """struct lp_text."""
+
+    _fields_ = [("at", ctypes.c_void_p), ("len", ctypes.c_size_t)]
+
+
+class Room(ctypes.Structure):
+    """struct lp_room."""
 
     _fields_ = [("at", ctypes.c_void_p), ("len", ctypes.c_size_t)]
 
@@ -65,7 +71,9 @@ class Lines(ctypes.Structure):
 class Counts(ctypes.Structure):
     """struct lp_counts."""
 
-    _fields_ = [(name, ctypes.c_size_t) for name in ("batch_len", "faults_len", "carried", "refused")]
+    _fields_ = [
+        ("batch_len", ctypes.c_size_t), ("faults_len", ctypes.c_size_t), ("carried", ctypes.c_size_t),
+        ("refused", ctypes.c_size_t)]
 
 
 def _path() -> str:

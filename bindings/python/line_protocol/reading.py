@@ -48,7 +48,7 @@ class _Block:
 
     def read(self) -> Tuple[int, int]:
         """Reads items as long as there is room: how many, and the answer. More is lent where the first item does not fit."""
-        filled, room = ctypes.c_size_t(), lp.Text(self.room.at, self.room.count)
+        filled, room = ctypes.c_size_t(), lp.Room(self.room.at, self.room.count)
         answer = lp.LIBRARY.lp_lines_block(
             ctypes.byref(self.cursor), ctypes.byref(room), self.rows.at, self.rows.count, self.parts.at, self.parts.count,
             ctypes.byref(filled))

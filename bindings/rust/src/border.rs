@@ -22,6 +22,19 @@ pub(crate) mod kind {
     pub(crate) const BOOLEAN: u32 = 5;
 }
 
+/// What is wrong with a line.
+pub(crate) mod fault_kind {
+    pub(crate) const DUPLICATE_TAG: u32 = 1;
+    pub(crate) const MEASUREMENT_VALUE_INVALID: u32 = 2;
+    pub(crate) const FIELD_SET_MISSING: u32 = 3;
+    pub(crate) const INTEGER_VALUE_INVALID: u32 = 4;
+    pub(crate) const UINTEGER_VALUE_INVALID: u32 = 5;
+    pub(crate) const TIMESTAMP_VALUE_INVALID: u32 = 6;
+    pub(crate) const ENDS_WITH_BACKSLASH: u32 = 7;
+    pub(crate) const CANNOT_PARSE_ENTIRE_LINE: u32 = 8;
+    pub(crate) const TAG_SET_MALFORMED: u32 = 9;
+}
+
 /// A text that is borrowed, or that lies in a room.
 #[repr(C)]
 #[derive(Clone, Copy)]
@@ -217,12 +230,7 @@ fn put_into(call: PutOut, line: &Line<'_>, parts: &[Part<'_>], out: &mut [u8]) -
 }
 
 /// Hands on what `call` puts out, and its answer.
-pub(crate) fn put_out<T>(
-    call: PutOut,
-    line: &Line<'_>,
-    parts: &[Part<'_>],
-    take: impl FnOnce(u32, &[u8]) -> T,
-) -> T {
+pub(crate) fn put_out<T>(call: PutOut, line: &Line<'_>, parts: &[Part<'_>], take: impl FnOnce(u32, &[u8]) -> T) -> T {
     let mut small = [0; 256];
     let (answer, len) = put_into(call, line, parts, &mut small);
     if answer != answer::MORE_ROOM {

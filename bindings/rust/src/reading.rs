@@ -1,5 +1,5 @@
 //! The readers: what is read of a text, item by item.
-use crate::border::{self, answer, kind, Line, Lines, Part, Room, Row, View};
+use crate::border::{self, answer, fault_kind, kind, Line, Lines, Part, Room, Row, View};
 use crate::{Error, EscapedStr, FieldSet, FieldValue, ParsedLine, Result, Series, TagSet};
 use nom::error::ErrorKind;
 
@@ -69,15 +69,7 @@ impl<'a> ParseLines<'a> {
             let (rows_len, parts_len) = (self.rows.len(), self.parts.len());
             // SAFETY: each pointer is that of memory of this iterator, and these are apart; the text is UTF-8.
             self.answer = unsafe {
-                border::lp_lines_block(
-                    &mut self.lines,
-                    &mut room,
-                    rows,
-                    rows_len,
-                    parts,
-                    parts_len,
-                    &mut self.filled,
-                )
+                border::lp_lines_block(&mut self.lines, &mut room, rows, rows_len, parts, parts_len, &mut self.filled)
             };
             if self.filled > 0 {
                 return true;
@@ -191,15 +183,21 @@ unsafe fn fault(line: &Line<'_>) -> Error {
     // SAFETY: by the caller.
     let value = unsafe { line.fault_text.get() }.to_owned();
     match line.fault {
-        1 => Error::DuplicateTag { tag_key: value },
-        2 => Error::MeasurementValueInvalid,
-        3 => Error::FieldSetMissing,
-        4 => Error::IntegerValueInvalid { source: out_of_range(value.parse::<i64>()), value },
-        5 => Error::UIntegerValueInvalid { source: out_of_range(value.parse::<u64>()), value },
-        6 => Error::TimestampValueInvalid { source: out_of_range(value.parse::<i64>()), value },
-        7 => Error::EndsWithBackslash,
-        8 => Error::CannotParseEntireLine { trailing_content: value },
-        9 => Error::TagSetMalformed,
+        fault_kind::DUPLICATE_TAG => Error::DuplicateTag { tag_key: value },
+        fault_kind::MEASUREMENT_VALUE_INVALID => Error::MeasurementValueInvalid,
+        fault_kind::FIELD_SET_MISSING => Error::FieldSetMissing,
+        fault_kind::INTEGER_VALUE_INVALID => {
+            Error::IntegerValueInvalid { source: out_of_range(value.parse::<i64>()), value }
+        }
+        fault_kind::UINTEGER_VALUE_INVALID => {
+            Error::UIntegerValueInvalid { source: out_of_range(value.parse::<u64>()), value }
+        }
+        fault_kind::TIMESTAMP_VALUE_INVALID => {
+            Error::TimestampValueInvalid { source: out_of_range(value.parse::<i64>()), value }
+        }
+        fault_kind::ENDS_WITH_BACKSLASH => Error::EndsWithBackslash,
+        fault_kind::CANNOT_PARSE_ENTIRE_LINE => Error::CannotParseEntireLine { trailing_content: value },
+        fault_kind::TAG_SET_MALFORMED => Error::TagSetMalformed,
         _ => Error::GenericParsingError { kind: ErrorKind::TakeWhile1, trace: vec![] },
     }
 }
@@ -243,8 +241,7 @@ unsafe fn value<'a>(field: &Part<'a>) -> FieldValue<'a> {
 
 // The number that a literal spells.
 fn float(literal: &str) -> f64 {
-    decimal(literal.as_bytes())
-        .unwrap_or_else(|| literal.parse().expect("a literal that is read as a float is one"))
+    decimal(literal.as_bytes()).unwrap_or_else(|| literal.parse().expect("a literal that is read as a float is one"))
 }
 
 // The same, where both its digits as an integer and the power of ten that divides them are exact: then so is the rounding.
