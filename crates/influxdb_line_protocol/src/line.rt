@@ -22,6 +22,7 @@ use crate::{
 use smallvec::SmallVec;
 use std::alloc::Global;
 use std::marker::Model;
+use std::mem;
 
 // What comes before `rest`, which ends `line` and begins with a space.
 #[inline(always)]
@@ -284,10 +285,11 @@ impl<'a> Iterator for ParseLines<'a> {
 
     ghost remaining = { λ left. at_most (most_items left.text) };
 
-    // The item is made with an empty line in it, and filled in place: a line is large, and each move of it is a copy.
+    // The item is made with an empty line in it, and filled in place: a line is large, and each move of it is a copy. It is
+    // made before its text is found: locals are zeroed where a function starts, and only there does the compiler see that
+    // all of this one is written, and leave out the zeros.
     #[inline(always)]
     fn next(&mut self) -> Option<Result<ParsedLine<'a>>> {
-        let line = self.next_line()?;
         let mut item = Ok(ParsedLine {
             series: Series {
                 raw_input: "",
@@ -297,6 +299,11 @@ impl<'a> Iterator for ParseLines<'a> {
             field_set: SmallVec::new(self.alloc),
             timestamp: None,
         });
+        let Some(line) = self.next_line() else {
+            // It holds no memory, and to drop it would visit each place of its sets.
+            mem::forget(item);
+            return None;
+        };
         if let Ok(parsed) = &mut item {
             if let Err(fault) = fill(self.alloc, self.lines.dialect(), line, parsed, None) {
                 refuse(&mut item, fault);

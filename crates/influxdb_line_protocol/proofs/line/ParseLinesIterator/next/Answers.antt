@@ -9,9 +9,9 @@ use Rattle.influxdb_line_protocol.proofs.line.ParseLinesIterator.next.Goals as g
 pub returns-clause-steps : goal.returns-clause-steps
 returns-clause-steps c =
     let before = c.args.self.now in
-    let line = c.in_ok-line.line.now in
+    let line = c.in-Some.line.now in
     let item = c.match-item.item in
-    let given = c.in_ok-line.ensures.gives in
+    let given = c.in-Some.ensures.gives in
     let answers : Answers item (answer before.dialect line) = search rules in
     let light : is_light before.dialect line ≡ true → IsNotOutOfMemory item = search rules in
-    (given.0, λ others left. gave_item before line item others (given.1 others left) c.in_ok-line.ensures.fits answers light)
+    (given.0, λ others left. gave_item before line item others (given.1 others left) c.in-Some.ensures.fits answers light)
