@@ -9,7 +9,7 @@ use Rattle.influxdb_line_protocol.specs.declared.error.Error.{Error}
 use Rattle.influxdb_line_protocol.specs.declared.parsed.ParsedLine.{ParsedLine}
 use Rattle.influxdb_line_protocol.specs.format.Lines as format
 use Rattle.influxdb_line_protocol.specs.code.Parsed.{line_read}
-use Rattle.lp_c.specs.Blocks.{IsRow, ReadsBlock, Rows, is_item, parts_of, none, more}
+use Rattle.lp_c.specs.Blocks.{ReadsBlock, Rows, is_item, parts_of, more}
 use Rattle.lp_c.specs.Crossing.{AnswersItem, AnswersLine, ReadsItem, ShowsLine, field_shown, tag_shown}
 use Rattle.lp_c.specs.Numbers.{answer_number}
 use Rattle.lp_c.specs.declared.blocks.Row.{Row}

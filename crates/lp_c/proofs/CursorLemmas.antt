@@ -1,5 +1,5 @@
 -- What a cursor has left.
-use Rattle.std.proofs.Common.{◌≡◌, ℕ, List, [], Option, Some, None, Result, refl}
+use Rattle.std.proofs.Common.{ℕ, List, [], Option, Some, None, Result, refl}
 use Rattle.influxdb_line_protocol.specs.declared.error.Error.{Error}
 use Rattle.influxdb_line_protocol.specs.declared.parsed.ParsedLine.{ParsedLine}
 use Rattle.influxdb_line_protocol.specs.declared.split.Dialect.{Dialect}

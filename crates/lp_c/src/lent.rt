@@ -29,48 +29,46 @@ pub fn put<'a>(room: &mut Room<'a>, text: &[u8]) -> &'a [u8]
     front
 }
 
-// How many bytes of room a text takes.
-fn copied_text(text: &EscapedStr<'_>) -> usize
-    ensures { result ≡ copied_text (read_of text.now) }
+// How many bytes of room a text takes after `len` others.
+#[inline(always)]
+fn with_text(len: usize, text: &EscapedStr<'_>) -> usize
+    ensures { result ≡ min (len + copied_text (read_of text.now)) (2 ^ 64 - 1) }
 {
     match text {
-        EscapedStr::SingleSlice(_) => 0,
-        EscapedStr::CopiedValue(text) => text.len(),
+        EscapedStr::SingleSlice(_) => len,
+        EscapedStr::CopiedValue(text) => len.saturating_add(text.len()),
     }
 }
 
-// How many bytes of room a value takes.
-fn copied_value(value: &FieldValue<'_>) -> usize
-    ensures { result ≡ copied_value (value_of value.now) }
+// How many bytes of room a value takes after `len` others.
+#[inline(always)]
+fn with_value(len: usize, value: &FieldValue<'_>) -> usize
+    ensures { result ≡ min (len + copied_value (value_of value.now)) (2 ^ 64 - 1) }
 {
     match value {
-        FieldValue::String(text) => copied_text(text),
-        _ => 0,
+        FieldValue::String(text) => with_text(len, text),
+        _ => len,
     }
 }
 
-// How many bytes of room the tags take.
-fn copied_tags(tags: &[(EscapedStr<'_>, EscapedStr<'_>)]) -> usize
-    ensures { result ≡ min (sum_by (λ tag. copied_tag (tag_of tag)) tags.now) (2 ^ 64 - 1) }
+// How many bytes of room the tags take after `before` others.
+fn with_tags(before: usize, tags: &[(EscapedStr<'_>, EscapedStr<'_>)]) -> usize
+    ensures { result ≡ min (before + sum_by (λ tag. copied_tag (tag_of tag)) tags.now) (2 ^ 64 - 1) }
 {
-    let mut len = 0usize;
+    let mut len = before;
     for (key, value) in tags {
-        len = len
-            .saturating_add(copied_text(key))
-            .saturating_add(copied_text(value));
+        len = with_text(with_text(len, key), value);
     }
     len
 }
 
-// How many bytes of room the fields take.
-fn copied_fields(fields: &[(EscapedStr<'_>, FieldValue<'_>)]) -> usize
-    ensures { result ≡ min (sum_by (λ field. copied_field (field_of field)) fields.now) (2 ^ 64 - 1) }
+// How many bytes of room the fields take after `before` others.
+fn with_fields(before: usize, fields: &[(EscapedStr<'_>, FieldValue<'_>)]) -> usize
+    ensures { result ≡ min (before + sum_by (λ field. copied_field (field_of field)) fields.now) (2 ^ 64 - 1) }
 {
-    let mut len = 0usize;
+    let mut len = before;
     for (key, value) in fields {
-        len = len
-            .saturating_add(copied_text(key))
-            .saturating_add(copied_value(value));
+        len = with_value(with_text(len, key), value);
     }
     len
 }
@@ -237,12 +235,12 @@ fn count<'a>(parsed: &ParsedLine<'a>, line: &mut Line<'a>)
     let fields = parsed.field_set.as_slice();
     line.tags = tags.len();
     line.fields = fields.len();
-    line.copied_len = copied_text(&parsed.series.measurement)
-        .saturating_add(copied_tags(tags))
-        .saturating_add(copied_fields(fields));
+    let name = with_text(0, &parsed.series.measurement);
+    line.copied_len = with_fields(with_tags(name, tags), fields);
 }
 
 // Puts a line out, or says how much more it takes.
+#[inline(always)]
 pub fn put_line<'a>(
     parsed: &ParsedLine<'a>,
     room: &mut Room<'a>,
