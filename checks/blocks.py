@@ -1,11 +1,13 @@
 #!/usr/bin/env python3
-"""The blocks of code in README.md and CALLING.md, from the proved callers in crates/lp_examples.
+"""The blocks of code in the documents, from examples that are proved or tested: the callers in crates/lp_examples, and the
+examples of the packages in bindings/.
 
     checks/blocks.py            whether each block is a copy of its stretch; status 1 where one is not
     checks/blocks.py --write    writes the stretches into the documents
 
-In a document the line `<!-- block NAME -->` stands before a block. A stretch of a file of src/ stands from the line
-`// [NAME]` to `// [end]`. A NAME with a `/` is a whole file, from crates/lp_examples on.
+In a document the line `<!-- block NAME -->` stands before a block. A stretch of an example stands from the line `// [NAME]`
+to `// [end]`, or with `#` in the place of `//`. A NAME with a `/` is a whole file without these lines: of bindings/, or else
+from crates/lp_examples on.
 """
 
 import re
@@ -14,10 +16,11 @@ from pathlib import Path
 
 TOP = Path(__file__).resolve().parent.parent
 EXAMPLES = TOP / "crates" / "lp_examples"
-DOCUMENTS = ["README.md", "CALLING.md"]
-LANGUAGES = ("rust", "antt")  # of the blocks that must be copies
+PLACES = ["crates/lp_examples/src/*.rt", "bindings/c/example.c", "bindings/rust/examples/*.rs", "bindings/python/example.py"]
+DOCUMENTS = ["README.md", "CALLING.md", "docs/CALLERS.md"]
+LANGUAGES = ("rust", "antt", "c", "rs", "python")  # of the blocks that must be copies
 
-BEGIN = re.compile(r"^// \[(\w+)\]$")
+MARK = re.compile(r"^(?://|#) \[(\w+)\]$")
 BLOCK = re.compile(r"^<!-- block (\S+) -->$")
 
 
@@ -29,16 +32,16 @@ def stretches_of(path):
     """The stretches of a file, by their names."""
     found, name, lines = {}, None, []
     for number, line in enumerate(path.read_text(encoding="utf-8").splitlines(), 1):
-        begin = BEGIN.match(line)
-        if line == "// [end]":
+        mark = MARK.match(line)
+        if mark and mark.group(1) == "end":
             if name is None:
                 raise Fault(f"{path.name}:{number}: nothing ends here")
             found[name] = "\n".join(lines).strip("\n").splitlines()
             name, lines = None, []
-        elif begin:
-            if name or begin.group(1) in found:
-                raise Fault(f"{path.name}:{number}: `{begin.group(1)}` begins in another, or twice")
-            name = begin.group(1)
+        elif mark:
+            if name or mark.group(1) in found:
+                raise Fault(f"{path.name}:{number}: `{mark.group(1)}` begins in another, or twice")
+            name = mark.group(1)
         elif name:
             lines.append(line)
     if name:
@@ -49,7 +52,7 @@ def stretches_of(path):
 def stretches():
     """The stretches of all files, by their names."""
     found = {}
-    for path in sorted((EXAMPLES / "src").glob("*.rt")):
+    for path in (path for place in PLACES for path in sorted(TOP.glob(place))):
         for name, lines in stretches_of(path).items():
             if name in found:
                 raise Fault(f"{path.name}: `{name}` stands in another file too")
@@ -60,12 +63,12 @@ def stretches():
 def wanted(name, known, where):
     """The lines that a block of this name must have."""
     if "/" in name:
-        path = EXAMPLES / name
+        path = (TOP if name.startswith("bindings/") else EXAMPLES) / name
         if not path.is_file():
-            raise Fault(f"{where}: crates/lp_examples has no file {name}")
-        return path.read_text(encoding="utf-8").rstrip("\n").splitlines()
+            raise Fault(f"{where}: there is no file {name}")
+        return [line for line in path.read_text(encoding="utf-8").rstrip("\n").splitlines() if not MARK.match(line)]
     if name not in known:
-        raise Fault(f"{where}: crates/lp_examples has no stretch `{name}`")
+        raise Fault(f"{where}: no example has a stretch `{name}`")
     return known[name]
 
 
@@ -98,8 +101,8 @@ def first_difference(document, text):
     old, new = (TOP / document).read_text(encoding="utf-8").splitlines(), text.splitlines()
     for number, (a, b) in enumerate(zip(old, new), 1):
         if a != b:
-            return f"{document}:{number} is\n    {a}\nand crates/lp_examples has\n    {b}"
-    return f"{document} has {len(old)} lines, and with the blocks of crates/lp_examples {len(new)}"
+            return f"{document}:{number} is\n    {a}\nand the example has\n    {b}"
+    return f"{document} has {len(old)} lines, and with the blocks of the examples {len(new)}"
 
 
 def run(words):
@@ -113,7 +116,7 @@ def run(words):
             (TOP / document).write_text(text, encoding="utf-8")
         elif text != (TOP / document).read_text(encoding="utf-8"):
             raise Fault(first_difference(document, text) + "\nrun checks/blocks.py --write")
-    print(f"blocks: {len(quoted - {None})} are as crates/lp_examples has them")
+    print(f"blocks: {len(quoted - {None})} are as the examples have them")
 
 
 def main(words):

@@ -5,31 +5,40 @@
 
 #define TEXT(t) (int)(t).len, (const char *)(t).at
 
-static void print_part(const lp_part *part) {
-    printf(" %.*s=", TEXT(part->key.text));
-    if (part->kind == LP_INTEGER) printf("%lldi", (long long)part->integer);
-    else if (part->kind == LP_UNSIGNED) printf("%lluu", (unsigned long long)part->unsigned_integer);
-    else if (part->kind == LP_BOOLEAN) printf(part->boolean ? "true" : "false");
-    else printf("%.*s%s", TEXT(part->text.text), part->text.copied ? " (a copy)" : "");
+static void print_line(const lp_line *line, const lp_part *part) {
+    printf("%.*s:", TEXT(line->measurement.text));
+    for (size_t left = line->tags + line->fields; left > 0; left--, part++) {
+        printf(" %.*s=", TEXT(part->key.text));
+        if (part->kind == LP_INTEGER) printf("%lldi", (long long)part->integer);
+        else if (part->kind == LP_UNSIGNED) printf("%lluu", (unsigned long long)part->unsigned_integer);
+        else if (part->kind == LP_BOOLEAN) printf(part->boolean ? "true" : "false");
+        else printf("%.*s%s", TEXT(part->text.text), part->text.copied ? " (a copy)" : "");
+    }
+    if (line->has_timestamp) printf(" at %lld", (long long)line->timestamp);
+    printf("\n");
 }
+
+// [lines_in_c]
+/* Prints each line of a text, and each fault. False: the text is no UTF-8, a line takes more than is lent, or memory ran out. */
+static bool print_lines(const uint8_t *text, size_t len) {
+    lp_lines lines = LP_NO_LINES;
+    lp_line line = LP_EMPTY_LINE;
+    lp_part parts[8];  /* its tags and fields */
+    uint8_t bytes[64]; /* those of its texts that hold escapes, without them */
+    uint32_t answer = LP_LINE;
+    lp_empty_parts(parts, 8);
+    if (!lp_lines_begin(text, len, false, &lines)) return false;
+    while (answer == LP_LINE || answer == LP_FAULT) {
+        lp_room room = { bytes, sizeof bytes };
+        answer = lp_lines_next(&lines, &room, &line, parts, 8);
+        if (answer == LP_LINE) print_line(&line, parts);
+        if (answer == LP_FAULT) printf("fault %u <%.*s>\n", (unsigned)line.fault, TEXT(line.fault_text));
+    }
+    return answer == LP_END;
+}
+// [end]
 
 int main(void) {
     const char *text = "cpu,host=A\\ B,zone=w usage=64i,load=1.5e3,up=t,n=7u 5\nm 5\n# a comment\nm f=9223372036854775808i\n";
-    lp_lines lines = LP_NO_LINES;
-    lp_line line = LP_EMPTY_LINE;
-    lp_part parts[8];
-    uint8_t bytes[64];
-    lp_empty_parts(parts, 8);
-    if (!lp_lines_begin((const uint8_t *)text, strlen(text), false, &lines)) return 1;
-    for (;;) {
-        lp_room room = { bytes, sizeof bytes };
-        uint32_t answer = lp_lines_next(&lines, &room, &line, parts, 8);
-        if (answer == LP_LINE) {
-            printf("%.*s:", TEXT(line.measurement.text));
-            for (size_t i = 0; i < line.tags + line.fields; i++) print_part(&parts[i]);
-            if (line.has_timestamp) printf(" at %lld", (long long)line.timestamp);
-            printf("\n");
-        } else if (answer == LP_FAULT) printf("fault %u <%.*s>\n", (unsigned)line.fault, TEXT(line.fault_text));
-        else return answer == LP_END ? 0 : 1;
-    }
+    return !print_lines((const uint8_t *)text, strlen(text));
 }

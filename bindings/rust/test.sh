@@ -18,7 +18,7 @@ trap 'rm -rf "$built"' EXIT
 export CARGO_TARGET_DIR=${CARGO_TARGET_DIR:-$built/target}
 # Cargo writes its lock file beside the crate, so the crate is copied.
 mkdir "$built/crate"
-cp -r "$here"/{Cargo.toml,build.rs,src,tests,original} "$built/crate/"
+cp -r "$here"/{Cargo.toml,build.rs,src,tests,examples,original} "$built/crate/"
 
 # Runs `cargo test` with these words in the copy, and tells how many tests passed.
 try() {
@@ -50,13 +50,20 @@ take_examples() {
 }
 
 own=$(try)
+# shellcheck disable=SC2086
+if ! (cd "$built/crate" && cargo run -q --example lines ${CARGO_FLAGS:-}) >"$built/printed" 2>"$built/log" ||
+    ! printf 'disk usage at None\na fault: No fields were provided\n' | diff - "$built/printed"; then
+    cat "$built/log" >&2
+    echo "rust: the example does not print its items" >&2
+    exit 1
+fi
 said="$own own tests passed"
 if [ -z "${ORIGINAL:-}" ]; then
     echo "rust: $said; ORIGINAL names no folder, so the original crate's were not tried"
     exit 0
 fi
 crate=$built/crate
-rm -r "$crate/tests"
+rm -r "$crate/tests" "$crate/examples"
 printf '\n[dev-dependencies]\ntest_helpers = { path = "original/test_helpers" }\n' >>"$crate/Cargo.toml"
 cp "$crate/original/shims.rs" "$crate/src/"
 take_tests test >"$built/reading.rs"

@@ -1,5 +1,8 @@
 """What is read, in one block and over several."""
 
+import runpy
+from pathlib import Path
+
 import pytest
 
 from line_protocol import Fault, FaultKind, Line, Side, Unsigned, parse, split
@@ -98,3 +101,8 @@ def test_the_text_is_kept_while_it_is_read():
 
 def test_pieces():
     assert list(split("a f=1\n b f=\"x\ny\"\nc")) == ["a f=1", ' b f="x\ny"', "c"]
+
+
+def test_the_example_prints_its_items(capsys):
+    runpy.run_path(str(Path(__file__).parent.parent / "example.py"))
+    assert capsys.readouterr().out == "disk usage [('host', 'a')] [('free', 42.5)] None\na fault: FIELD_SET_MISSING \n"

@@ -1,0 +1,16 @@
+//! Writes a line, and prints each line of a text, and each fault.
+
+// [lines_in_rust]
+use influxdb_line_protocol::{parse_lines, LineProtocolBuilder};
+
+fn main() {
+    let lines = LineProtocolBuilder::new().measurement("disk usage").tag("host", "a").field("free", 42.5).close_line();
+    let text = String::from_utf8(lines.build()).expect("lines are UTF-8") + "m 5\n";
+    for item in parse_lines(&text) {
+        match item {
+            Ok(line) => println!("{} at {:?}", line.series.measurement, line.timestamp),
+            Err(fault) => println!("a fault: {fault}"),
+        }
+    }
+}
+// [end]
