@@ -19,6 +19,5 @@ rm -f "$told"
 [ "$failed" = 0 ]
 
 checks/differential.sh
-bindings/c/test.sh
-bindings/python/test.sh
+bindings/test.sh
 exec rt ci

@@ -1,8 +1,13 @@
 #!/usr/bin/env bash
-# Runs the tests of the callers in C, Python and Rust. Each says what it did; where its tools are missing, it says so and passes.
-# bindings/rust/test.sh says at its head what it can be told.
+# Builds the archive, and runs the tests of the callers in C, Python and Rust over it. Each says what it did; where its tools are
+# missing, it says so and passes. bindings/rust/test.sh says at its head what it can be told.
+#
+#     bindings/test.sh             makes the archive first
+#     bindings/test.sh ARCHIVE     takes one that was made before, of the name liblp_c.a
 set -eu
 here=$(cd "$(dirname "$0")" && pwd)
-"$here/c/test.sh"
-"$here/python/test.sh"
-"$here/rust/test.sh"
+"$here/build.sh" "$@"
+archive=$(realpath "${1:-$(dirname "$here")/crates/lp_c/out/liblp_c.a}")
+"$here/c/test.sh" "$archive"
+"$here/python/test.sh" "$archive"
+LP_LIB_DIR=$(dirname "$archive") "$here/rust/test.sh"

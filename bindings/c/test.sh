@@ -3,6 +3,9 @@
 # compares what the example prints with example.out, and lets lending.c read and writing.c write with little lent and memory
 # refused. threads.c is watched by the thread sanitizer, and by helgrind, which sees the library's own loads and stores too; and
 # the archive must hold no variable. The header goes through a C++ compiler too.
+#
+#     bindings/c/test.sh             makes the archive first
+#     bindings/c/test.sh ARCHIVE     takes one that was made before
 set -eu
 here=$(cd "$(dirname "$0")" && pwd)
 top=$(dirname "$(dirname "$here")")
@@ -10,7 +13,8 @@ if ! command -v "${CC:-cc}" >/dev/null; then
     echo "c: there is no cc here, so nothing was tried"
     exit 0
 fi
-"$(dirname "$here")/build.sh" >/dev/null
+"$(dirname "$here")/build.sh" "$@" >/dev/null
+archive=${1:-$top/crates/lp_c/out/liblp_c.a}
 built=$(mktemp -d)
 trap 'rm -rf "$built"' EXIT
 
@@ -19,7 +23,7 @@ build() {
     local name=$1
     shift
     "${CC:-cc}" -std=c11 -Wall -Wextra -Wpedantic -Werror -g "$@" -I"$top/include" "$here/$name.c" "$here/heap.c" \
-        "$top/crates/lp_c/out/liblp_c.a" -o "$built/$name"
+        "$archive" -o "$built/$name"
 }
 watched=("-fsanitize=address,undefined" -fno-sanitize-recover=all)
 
@@ -52,7 +56,7 @@ run_threads() {
         exit 1
     fi
 }
-if nm "$top/crates/lp_c/out/liblp_c.a" 2>/dev/null | grep -E ' [BbCDdGgSs] '; then
+if nm "$archive" 2>/dev/null | grep -E ' [BbCDdGgSs] '; then
     echo "c: the archive holds these variables, which threads would share" >&2
     exit 1
 fi

@@ -19,6 +19,11 @@ export CARGO_TARGET_DIR=${CARGO_TARGET_DIR:-$built/target}
 # Cargo writes its lock file beside the crate, so the crate is copied.
 mkdir "$built/crate"
 cp -r "$here"/{Cargo.toml,build.rs,src,tests,examples,original} "$built/crate/"
+# shellcheck disable=SC2086
+if ! (cd "$built/crate" && CARGO_NET_RETRY=1 cargo fetch ${CARGO_FLAGS:-}) >"$built/log" 2>&1; then
+    echo "rust: cargo cannot have the crates here, so nothing was tried: $(tail -n 1 "$built/log")"
+    exit 0
+fi
 
 # Runs `cargo test` with these words in the copy, and tells how many tests passed.
 try() {
