@@ -3,7 +3,7 @@
 
     bench/picture.py [FIGURES [PICTURE]]
 
-Each call has a panel with a scale of its own, in which a line stands at the crate's speed.
+Each call has a panel with a scale of its own, in which a line marks the crate's speed.
 """
 
 import sys
@@ -62,7 +62,7 @@ def picture(figures: list[Figure]) -> str:
     """The picture."""
     calls = [call for call in CALLS if any(figure.call == call and figure.times for figure in figures)]
     if not calls:
-        sys.exit("no figure of the crate stands beside the library's")
+        sys.exit("there is no figure of the crate beside the library's")
     corpora = list(dict.fromkeys(figure.corpus for figure in figures if figure.call in CALLS))
     width, height = NAMES + GAP + len(calls) * (PANEL + GAP), TOP + len(corpora) * ROW + BOTTOM
     parts = [text(12, 22, "Times the speed of the Rust crate influxdb-line-protocol (the dashed line)", "head")]

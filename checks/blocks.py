@@ -5,8 +5,8 @@ examples of the packages in bindings/.
     checks/blocks.py            whether each block is a copy of its stretch; status 1 where one is not
     checks/blocks.py --write    writes the stretches into the documents
 
-In a document the line `<!-- block NAME -->` stands before a block. A stretch of an example stands from the line `// [NAME]`
-to `// [end]`, or with `#` in the place of `//`. A NAME with a `/` is a whole file without these lines: of bindings/, or else
+In a document the line `<!-- block NAME -->` comes before a block. A stretch of an example goes from the line `// [NAME]` to
+`// [end]`, or with `#` in the place of `//`. A NAME with a `/` is a whole file without these lines: of bindings/, or else
 from crates/lp_examples on.
 """
 
@@ -55,7 +55,7 @@ def stretches():
     for path in (path for place in PLACES for path in sorted(TOP.glob(place))):
         for name, lines in stretches_of(path).items():
             if name in found:
-                raise Fault(f"{path.name}: `{name}` stands in another file too")
+                raise Fault(f"{path.name}: `{name}` is in another file too")
             found[name] = lines
     return found
 

@@ -1,5 +1,5 @@
-/* Reads a text with as little lent as can be, and more where more is asked for, also in blocks; then refuses each request for memory in turn.
- * Compile heap.c with -DLP_REFUSE. */
+/* Reads a text with as little lent as can be, and more where more is asked for, also in blocks; then refuses each request for
+ * memory in turn. Compile heap.c with -DLP_REFUSE. */
 #include "influxdb_line_protocol.h"
 #include <stdio.h>
 #include <stdlib.h>

@@ -42,7 +42,7 @@ def test_no_item(text):
     assert list(parse(text)) == []
 
 
-def test_faults_stand_in_their_places():
+def test_faults_are_in_their_places():
     items = list(parse("a f=1i\nm 5\nm f=9223372036854775808i\nm u=-1u\nm f=1 rest\nb f=2i"))
     assert [type(item) for item in items] == [Line, Fault, Fault, Fault, Fault, Line]
     assert items[1] == Fault(FaultKind.FIELD_SET_MISSING)

@@ -47,7 +47,7 @@ fn texts_longer_than_what_lies_on_the_stack() {
 }
 
 #[test]
-fn lines_go_behind_what_a_buffer_holds() {
+fn lines_go_after_what_a_buffer_holds() {
     let first = LineProtocolBuilder::new().measurement("a").field("f", 1.5).close_line().build();
     let both = LineProtocolBuilder::new_with(first).measurement("b").field("f", 1e21).close_line().build();
     assert_eq!(text(both), "a f=1.5\nb f=1000000000000000000000\n");
