@@ -23,13 +23,13 @@ impl<'a> Series<'a> {
     ///
     /// Where each key is greater than the one before it and no name is a copy, it is `raw_input`,
     /// borrowed; that takes no memory and is never refused. Else it is a text of its own, unescaped.
-    /// It is made of the fields as they stand: after a change of `measurement` or `tag_set`,
+    /// It is made of the fields as they are: after a change of `measurement` or `tag_set`,
     /// `raw_input` is still that of the line.
     ///
     /// # Errors
     ///
     /// `DuplicateTag` where the keys do not rise so and one is repeated: with the first key, in the
-    /// order of the tags, that stands at an earlier place too. `OutOfMemory` where a request for
+    /// order of the tags, that is at an earlier place too. `OutOfMemory` where a request for
     /// memory was refused. The series is dropped in both cases.
     pub fn generate_base(self, alloc: Global) -> Result<CowStr<'a>>
         ensures value { GivesBase result (base_of self.entry.raw_input.now (read_of self.entry.measurement)

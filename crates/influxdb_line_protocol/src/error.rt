@@ -27,7 +27,7 @@ pub enum ErrorKind {
 /// The fault of a line or of a series, or `OutOfMemory`.
 #[derive(Debug, Drop)]
 pub enum Error {
-    /// A series has no base: `tag_key` is the first key, in the order of the line, that stands at
+    /// A series has no base: `tag_key` is the first key, in the order of the line, that is at
     /// an earlier place too.
     DuplicateTag { tag_key: String },
     /// The line does not begin with a measurement.
@@ -118,7 +118,7 @@ impl<T: Drop> From<AllocFailed<T>> for Error {
 
 /// Lets go of what was read, where memory for more of it was refused.
 ///
-/// Few lines need it, and it is called apart, so that no drop stands where a field is read: its looks at single bytes of
+/// Few lines need it, and it is called apart, so that no drop is where a field is read: its looks at single bytes of
 /// a value would have the compiler carry each value in small pieces.
 #[cold]
 #[inline(never)]

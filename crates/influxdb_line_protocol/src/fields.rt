@@ -17,7 +17,7 @@ use std::alloc::Global;
 
 type Field<'a> = (EscapedStr<'a>, FieldValue<'a>);
 
-// A field at the start of `text`, and the rest. The copy of the key comes last: where no field stands, the key takes no memory.
+// A field at the start of `text`, and the rest. The copy of the key comes last: where no field is there, the key takes no memory.
 #[tactic(auto, unfolding(crate::specs::format::Lines::field))]
 #[inline(always)]
 fn field<'a>(alloc: Global, text: &'a str) -> Result<Option<(Field<'a>, &'a str)>>

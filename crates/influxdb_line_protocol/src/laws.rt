@@ -25,7 +25,7 @@ ghost use Rattle.influxdb_line_protocol.specs.format.Lines.{tag, field};
 /// admitted. So it is in both dialects: where a name is not admitted, the batch parses to other items.
 /// Some of these names no line has, so no text parses to such a point: a name that is empty or ends
 /// in a backslash, a measurement that begins with `#`, a name with a tab or a newline, or a
-/// measurement with a NUL, that does not stand directly after a backslash. Where the names of the
+/// measurement with a NUL, that is not directly after a backslash. Where the names of the
 /// first point that is not admitted are not among these, its line is answered `EndsWithBackslash` in
 /// the point's place.
 pub fn batch_reads_back()
@@ -46,7 +46,7 @@ pub fn parsed_names()
     ensures fields_end { StrictFieldsEnd }
 {}
 
-/// Each line that is read stands for a point: it has at least one field, its numbers and its timestamp
+/// Each line that is read gives a point: it has at least one field, its numbers and its timestamp
 /// are in the range of their types, and its floats are literals.
 pub fn lines_are_points()
     ensures { LinesArePoints }
@@ -98,7 +98,7 @@ pub fn utf8_by_pieces()
     ensures { Utf8ByPieces }
 {}
 
-/// Each text stands for exactly one logical text, whichever bytes a backslash may escape in it: a
+/// Each text has exactly one logical text, whichever bytes a backslash may escape in it: a
 /// backslash goes where one of these bytes follows, and every other byte stays.
 pub fn logical_text_is_unique()
     ensures { LogicalIsWithoutEscapes }

@@ -22,7 +22,7 @@ fn gets_backslash(kind: TokenKind, byte: u8) -> bool
     byte != b'\\' && kind.is_known(byte)
 }
 
-// Writes `text` with its backslashes. What stands between two of them is written as one run.
+// Writes `text` with its backslashes. What is between two of them is written as one run.
 fn show_escaped<W: fmt::Write>(
     kind: TokenKind,
     text: &str,

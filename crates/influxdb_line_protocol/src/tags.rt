@@ -19,7 +19,7 @@ use std::mem;
 
 type Tag<'a> = (EscapedStr<'a>, EscapedStr<'a>);
 
-// A tag at the start of `text`, and the rest. The copies come last: where no tag stands, it takes no memory.
+// A tag at the start of `text`, and the rest. The copies come last: where no tag is there, it takes no memory.
 #[tactic(auto, unfolding(crate::specs::format::Lines::tag))]
 #[inline(always)]
 fn tag<'a>(alloc: Global, text: &'a str) -> Result<Option<(Tag<'a>, &'a str)>>

@@ -30,11 +30,11 @@ is_strictly_sorted (k ∷ l ∷ keys) = is_lt (slice_cmp nat_cmp k l) && is_stri
 abbrev pub keys_of : List (Pair Text Text) → List (List ℕ)
 keys_of tags = map (λ t. t.key.bytes) tags
 
--- whether the text at this place stands at an earlier place too
+-- whether the text at this place is at an earlier place too
 abbrev pub is_repeated_at : List (List ℕ) → ℕ → Bool
 is_repeated_at keys place = list_any (bytes_eq (slice_index_or keys place [])) (take place keys)
 
--- the first place whose text stands at an earlier place too, and the length where there is none
+-- the first place whose text is at an earlier place too, and the length where there is none
 unfoldable pub first_repeated : List (List ℕ) → ℕ
 first_repeated keys = position_or_len (is_repeated_at keys) (range_with_len 0 (length keys))
 
@@ -68,7 +68,7 @@ base_of raw measurement tags =
     else owned (base_text measurement.bytes (in_order tags))
     else base_by_key measurement.bytes tags
 
--- the code fails so for this base: it is a repeated key; `OutOfMemory` may stand in the place of each
+-- the code fails so for this base: it is a repeated key; `OutOfMemory` may be in the place of each
 abbrev pub FailsForBase : Error → Base → Type 0
 FailsForBase (DuplicateTag key) base = base ≡ duplicate_key (string_bytes key)
 FailsForBase OutOfMemory base = Unit {0}

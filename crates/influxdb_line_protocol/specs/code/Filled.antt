@@ -19,7 +19,7 @@ abbrev pub FillsRead : {A : Type 0} → A → Result (Bor (List ℕ)) Error → 
 FillsRead x (Ok rest) wanted = wanted ≡ Ok (record { value = x; rest = rest.now })
 FillsRead x (Err e) wanted = IsFault e (λ fault. wanted ≡ Err fault)
 
--- this line was filled in, and it is the answer, or the fault is that one; `OutOfMemory` may stand in its place
+-- this line was filled in, and it is the answer, or the fault is that one; `OutOfMemory` may be in its place
 abbrev pub FillsLine : {X : Type 0} → ParsedLine → Result X Error → Result Line Fault → Type 0
 FillsLine parsed (Ok done) answer = answer ≡ Ok (line_read parsed)
 FillsLine parsed (Err e) answer = IsFault e (λ fault. answer ≡ Err fault)

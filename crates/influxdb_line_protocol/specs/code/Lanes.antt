@@ -7,7 +7,7 @@ use Rattle.std.specs.Simd.Lanes.{chunk, mask_l}
 abbrev pub AllPassBetween : (ℕ → Bool) → List ℕ → ℕ → ℕ → Type 0
 AllPassBetween test bytes at end = (k : ℕ) → at ≤ k → k < end → test (slice_index bytes k) ≡ true
 
--- from one place to another stands the longest run of bytes that pass the test
+-- from one place to another goes the longest run of bytes that pass the test
 pub record IsRunAt (test : ℕ → Bool) (bytes : List ℕ) (at end : ℕ) : Type 0 where
   pub ordered : at ≤ end
   pub within : end ≤ length bytes

@@ -7,7 +7,7 @@ abbrev pub listed : Marks → List ℕ
 listed m = m.first ∷ m.second ∷ m.third ∷ m.fourth ∷ []
 
 -- of the `n` bytes of the text from `at` on, `run` come before the first that passes the test
-pub record StandBefore (test : ℕ → Bool) (text : List ℕ) (at n run : ℕ) : Type 0 where
+pub record ComeBefore (test : ℕ → Bool) (text : List ℕ) (at n run : ℕ) : Type 0 where
   -- no more than there are
   pub within : run ≤ n
   -- each of them fails the test

@@ -26,7 +26,7 @@ abbrev pub side : OutOfRange → Side
 side Above = above
 side Below = below
 
--- the error is this fault; `OutOfMemory` may stand in its place; no line fails with a repeated key
+-- the error is this fault; `OutOfMemory` may be in its place; no line fails with a repeated key
 abbrev pub IsFault : Error → (Fault → Type 0) → Type 0
 IsFault (error.DuplicateTag key) Is = ⊥
 IsFault error.MeasurementValueInvalid Is = Is measurement_value_invalid

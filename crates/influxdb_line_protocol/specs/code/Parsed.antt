@@ -67,7 +67,7 @@ pub record IsReadLine (l : ParsedLine) : Type 0 where
   pub text : List ℕ
   pub answered : answer dialect (trimmed text) ≡ Ok (line_read l)
 
--- what the code answered is this answer, but `OutOfMemory` may stand in its place
+-- what the code answered is this answer, but `OutOfMemory` may be in its place
 abbrev pub Answers : Result ParsedLine Error → Result Line Fault → Type 0
 Answers (Ok line) answer = answer ≡ Ok (line_read line)
 Answers (Err e) answer = IsFault e (λ fault. answer ≡ Err fault)

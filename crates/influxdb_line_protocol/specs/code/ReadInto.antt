@@ -17,7 +17,7 @@ pub record IsEmptyLine (line : ParsedLine) : Type 0 where
   pub fields : line.field_set.items ≡ []
   pub timestamp : line.timestamp ≡ None
 
--- the item that an answer is, where a line that was read stands in this one
+-- the item that an answer is, where a line that was read is in this one
 abbrev pub item_in : {X : Type 0} → ParsedLine → Result X Error → Result ParsedLine Error
 item_in line (Ok done) = Ok line
 item_in line (Err e) = Err e

@@ -1,4 +1,4 @@
--- What a backslash does to the byte after it, and what a text with backslashes stands for.
+-- What a backslash does to the byte after it, and what the logical text of a text is.
 use Rattle.std.specs.Prelude.{◌≡◌, ℕ, ◌+◌, ◌<◌, ◌≤◌, ◌%◌, ◌==◌, ◌&&◌, Bool, false, not, List, [], ◌∷◌, ◌++◌, length}
 use Rattle.std.specs.Prelude.{take, slice_index, if◌then◌else◌}
 use Rattle.std.specs.List.{position_or_len, range_with_len, suffix_len, flat_map}
@@ -22,7 +22,7 @@ bare_after front (b ∷ bs) =
 abbrev pub bare : List ℕ → List ℕ
 bare text = bare_after [] text
 
--- whether a bare byte that passes the test stands at this place of the text
+-- whether a bare byte that passes the test is at this place of the text
 abbrev pub is_bare_at : (ℕ → Bool) → List ℕ → ℕ → Bool
 is_bare_at passes text place = passes (slice_index text place) && not (is_escaped_after (take place text))
 
@@ -36,7 +36,7 @@ pub record IsPassed (passes : ℕ → Bool) (text : List ℕ) (at : ℕ) : Type 
   pub is_bare : at < length text → IsBareAfter (take at text)
   pub passed : (k : ℕ) → k < at → is_bare_at passes text k ≡ false
 
--- what a text stands for: a backslash before one of the known bytes goes, every other byte stays
+-- the logical text of a text: a backslash before one of the known bytes goes, every other byte stays
 unfoldable pub without_escapes : List ℕ → List ℕ → List ℕ
 without_escapes known [] = []
 without_escapes known (b ∷ []) = b ∷ []
@@ -53,7 +53,7 @@ escaped_byte bytes b = if is_one_of bytes b then backslash ∷ b ∷ [] else b �
 unfoldable pub escaped : List ℕ → List ℕ → List ℕ
 escaped bytes text = flat_map (escaped_byte bytes) text
 
--- a walk that stands at a bare place: no stop is bare before it, and so many of the escapes before it are known
+-- a walk that is at a bare place: no stop is bare before it, and so many of the escapes before it are known
 pub record EscapeScan (known : List ℕ) (stops : ℕ → Bool) (text : List ℕ) (at found : ℕ) : Type 0 where
   pub within : at ≤ length text
   pub bare : is_escaped_after (take at text) ≡ false

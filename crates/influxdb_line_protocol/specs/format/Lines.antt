@@ -44,7 +44,7 @@ abbrev pub some_tags : {T : Type 0} → Option (List T) → List T
 some_tags None = []
 some_tags (Some tags) = tags
 
--- the point that a line stands for: that of its logical texts
+-- the point of a line: that of its logical texts
 abbrev pub point_of : Line → Point
 point_of l =
     record {
@@ -100,7 +100,7 @@ many one (suc n) line = one_and_more (one line) line (λ rest. many one n rest)
 abbrev pub separated_list : {A : Type 0} → (List ℕ → Reading A) → List ℕ → Reading (List A)
 separated_list one line = one line >>= λ x. prepend (x.value ∷ []) (many (after_comma one) (length x.rest) x.rest)
 
--- the tags after a comma: where the comma stands, a tag must follow
+-- the tags after a comma: where the comma is, a tag must follow
 abbrev pub tag_set : List ℕ → Result (Read (Option (List (Pair Text Text)))) Fault
 tag_set line = tags_after (byte comma line) line
   where

@@ -38,7 +38,7 @@ spelled_len kind text = first_bare (is_stop kind) text
 abbrev pub spelled : NameKind → List ℕ → List ℕ
 spelled kind text = take (spelled_len kind text) text
 
--- the logical text that a spelling stands for
+-- the logical text of a spelling
 abbrev pub logical : NameKind → List ℕ → List ℕ
 logical kind spelling = without_escapes (escapable kind) spelling
 

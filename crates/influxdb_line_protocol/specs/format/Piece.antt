@@ -23,7 +23,7 @@ pub record IsPlain (counted text : List ℕ) : Type 0 where
 abbrev pub Opens : List ℕ → List ℕ → Type 0
 Opens piece counted = IsBareAfter piece × HasMoreEquals counted
 
--- what stands between the quotes of a quoted stretch
+-- what is between the quotes of a quoted stretch
 abbrev pub IsQuoted : List ℕ → Type 0
 IsQuoted text = All (λ b. b ≢ quote) (bare text)
 

@@ -1,4 +1,4 @@
--- What bases tell of the series that they stand for.
+-- What bases tell of their series.
 use Rattle.std.specs.Prelude.{◌≡◌, ◌↔◌, ℕ, zero, suc, ◌+◌, ◌||◌, Bool, true, false, List, [], ◌∷◌, ◌++◌, length, drop, map, Option, Some}
 use Rattle.std.specs.Prelude.{None, Ok}
 use Rattle.std.specs.List.{list_any}
@@ -50,7 +50,7 @@ pub record IsClearSeries (raw : List ℕ) (measurement : Text) (tags : List (Pai
 abbrev pub is_tag_delimited : Pair Text Text → Bool
 is_tag_delimited t = is_one_of t.key.bytes equals || is_one_of t.value.bytes comma
 
--- whether a comma stands in the measurement or in a value, or an `=` in a key
+-- whether a comma is in the measurement or in a value, or an `=` in a key
 abbrev pub is_delimited : Text → List (Pair Text Text) → Bool
 is_delimited measurement tags = is_one_of measurement.bytes comma || list_any is_tag_delimited tags
 

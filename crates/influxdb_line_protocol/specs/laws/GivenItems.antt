@@ -27,7 +27,7 @@ AreItemsOf dialect [] [] = Unit {0}
 AreItemsOf dialect (line ∷ lines) (item ∷ items) = IsItemOf dialect line item × AreItemsOf dialect lines items
 AreItemsOf dialect lines items = ⊥
 
--- the items are these answers, one for each, in order, but `OutOfMemory` may stand in the place of each
+-- the items are these answers, one for each, in order, but `OutOfMemory` may be in the place of each
 abbrev pub AreAnswers : List (Result ParsedLine Error) → List (Result Line Fault) → Type 0
 AreAnswers [] [] = Unit {0}
 AreAnswers (item ∷ items) (answer ∷ answers) = Answers item answer × AreAnswers items answers
@@ -41,7 +41,7 @@ ItemsAreOfPieces =
     → Pieces dialect text pieces → Drains GivesItem (record { dialect = dialect; text = Some text }) items
     → AreItemsOf dialect (trimmed_lines pieces) items
 
--- So they are the answers for the text, but `OutOfMemory` may stand in the place of each.
+-- So they are the answers for the text, but `OutOfMemory` may be in the place of each.
 abbrev pub ItemsAreAnswers : Type 0
 ItemsAreAnswers =
     (dialect : Dialect) (text : List ℕ) (answers : List (Result Line Fault)) (items : List (Result ParsedLine Error))

@@ -11,23 +11,23 @@ use Rattle.influxdb_line_protocol.specs.format.Trimming.{trimmed}
 use Rattle.influxdb_line_protocol.specs.format.Lines.{separated_list}
 use Rattle.influxdb_line_protocol.specs.code.Light.{read_count}
 
--- what a text stands for, where a backslash may escape the known bytes
+-- the logical text of a text, where a backslash may escape the known bytes
 pub data IsLogical (known : List ℕ) : List ℕ → List ℕ → Type 0 where
-  -- nothing stands for nothing
+  -- that of nothing is nothing
   empty : IsLogical known [] []
-  -- a byte that is no backslash stands for itself
+  -- a byte that is no backslash stays
   plain : (b : ℕ) (spelled logical : List ℕ) → b ≢ backslash → IsLogical known spelled logical
       → IsLogical known (b ∷ spelled) (b ∷ logical)
-  -- a backslash and a known byte stand for that byte
+  -- of a backslash and a known byte, that byte stays
   escape : (c : ℕ) (spelled logical : List ℕ) → is_one_of known c ≡ true → IsLogical known spelled logical
       → IsLogical known (backslash ∷ c ∷ spelled) (c ∷ logical)
-  -- a backslash and another byte stand for both
+  -- a backslash and another byte both stay
   other : (c : ℕ) (spelled logical : List ℕ) → is_one_of known c ≡ false → IsLogical known spelled logical
       → IsLogical known (backslash ∷ c ∷ spelled) (backslash ∷ c ∷ logical)
-  -- a backslash that ends the text stands for itself
+  -- a backslash that ends the text stays
   end : IsLogical known (backslash ∷ []) (backslash ∷ [])
 
--- Each text stands for exactly one text, whichever bytes are known: the one without escapes.
+-- Each text has exactly one logical text, whichever bytes are known: the one without escapes.
 abbrev pub LogicalIsWithoutEscapes : Type 0
 LogicalIsWithoutEscapes =
     (known spelled logical : List ℕ) → IsLogical known spelled logical ↔ (logical ≡ without_escapes known spelled)
@@ -75,7 +75,7 @@ TheNextHasTheFault {A} one =
 abbrev pub TheFirstMisses : {A : Type 0} → (List ℕ → Reading A) → Type 0
 TheFirstMisses one = (text : List ℕ) → (separated_list one text ≡ miss) ↔ (one text ≡ miss)
 
--- As many are counted as the most that stand at the start of the text, whatever follows them.
+-- As many are counted as the most that are at the start of the text, whatever follows them.
 abbrev pub CountIsOfTheMost : {A : Type 0} → (List ℕ → Reading A) → Type 0
 CountIsOfTheMost {A} one =
     (text : List ℕ) → (xs : List A) × (rest : List ℕ) × LongestList one text xs rest × (read_count one text ≡ length xs)
@@ -107,7 +107,7 @@ TrimmedFrontIsLongest =
     (piece front other after : List ℕ)
     → piece ≡ front ++ trimmed piece → piece ≡ other ++ after → IsBlankFront other after → length other ≤ length front
 
--- after the front a bare byte stands that passes, or nothing
+-- after the front is a bare byte that passes, or nothing
 abbrev pub IsAtStop : (ℕ → Bool) → List ℕ → List ℕ → Type 0
 IsAtStop passes front [] = Unit {0}
 IsAtStop passes front (b ∷ rest) = IsBareAfter front × (passes b ≡ true)

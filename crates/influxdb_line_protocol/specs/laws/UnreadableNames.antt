@@ -14,7 +14,7 @@ pub data IsUnreadable : NameKind → List ℕ → Type 0 where
   ends : (kind : NameKind) (n : List ℕ) → ends_in_backslash n ≡ true → IsUnreadable kind n
   -- it is a measurement that begins with `#`
   begins : (n : List ℕ) → slice_index n 0 ≡ hash → IsUnreadable a_measurement n
-  -- it holds a tab or a newline, or a measurement a NUL, that does not stand directly after a backslash
+  -- it holds a tab or a newline, or a measurement a NUL, that is not directly after a backslash
   alone : (kind : NameKind) (front back : List ℕ) (b : ℕ) → is_one_of (never_in kind) b ≡ true → ends_in_backslash front ≡ false
       → IsUnreadable kind (front ++ b ∷ back)
 

@@ -3,7 +3,7 @@ ghost use Rattle.std.specs.Prelude.{◌≡◌, ◌+◌, ◌<◌, ◌≤◌, leng
 ghost use Rattle.std.specs.List.{count_by, list_all};
 ghost use Rattle.influxdb_line_protocol.specs.format.Bytes.{is_one_of};
 ghost use Rattle.influxdb_line_protocol.specs.code.Lanes.{mask_of};
-ghost use Rattle.influxdb_line_protocol.specs.code.Marks.{StandBefore, listed};
+ghost use Rattle.influxdb_line_protocol.specs.code.Marks.{ComeBefore, listed};
 
 use crate::lanes::first_set;
 use std::simd::prelude::*;
@@ -66,7 +66,7 @@ fn mask_of_4(marks: Marks, text: &[u8], at: usize) -> u64
 #[inline(always)]
 fn run_of_16(marks: Marks, text: &[u8], at: usize) -> usize
     requires { at + 16 ≤ length text.now }
-    ensures { StandBefore (is_one_of (listed marks)) text.now at 16 result }
+    ensures { ComeBefore (is_one_of (listed marks)) text.now at 16 result }
 {
     first_set(mask_of_16(marks, text, at), 16)
 }
@@ -75,7 +75,7 @@ fn run_of_16(marks: Marks, text: &[u8], at: usize) -> usize
 #[inline(always)]
 fn run_of_8(marks: Marks, text: &[u8], at: usize) -> usize
     requires { at + 8 ≤ length text.now }
-    ensures { StandBefore (is_one_of (listed marks)) text.now at 8 result }
+    ensures { ComeBefore (is_one_of (listed marks)) text.now at 8 result }
 {
     first_set(mask_of_8(marks, text, at), 8)
 }
@@ -84,7 +84,7 @@ fn run_of_8(marks: Marks, text: &[u8], at: usize) -> usize
 #[inline(always)]
 fn run_of_4(marks: Marks, text: &[u8], at: usize) -> usize
     requires { at + 4 ≤ length text.now }
-    ensures { StandBefore (is_one_of (listed marks)) text.now at 4 result }
+    ensures { ComeBefore (is_one_of (listed marks)) text.now at 4 result }
 {
     first_set(mask_of_4(marks, text, at), 4)
 }
@@ -92,7 +92,7 @@ fn run_of_4(marks: Marks, text: &[u8], at: usize) -> usize
 // How many bytes of the text come before the first mark, one by one.
 #[inline(always)]
 fn walked_before_first(marks: Marks, text: &[u8]) -> usize
-    ensures { StandBefore (is_one_of (listed marks)) text.now 0 (length text.now) result }
+    ensures { ComeBefore (is_one_of (listed marks)) text.now 0 (length text.now) result }
 {
     let mut at = 0;
     while at < text.len() && !is_mark(marks, text[at]) {
@@ -105,7 +105,7 @@ fn walked_before_first(marks: Marks, text: &[u8]) -> usize
 #[inline(always)]
 fn short_before_first(marks: Marks, text: &[u8]) -> usize
     requires { length text.now < 16 }
-    ensures { StandBefore (is_one_of (listed marks)) text.now 0 (length text.now) result }
+    ensures { ComeBefore (is_one_of (listed marks)) text.now 0 (length text.now) result }
 {
     let len = text.len();
     if len >= 8 {
@@ -130,7 +130,7 @@ fn short_before_first(marks: Marks, text: &[u8]) -> usize
 // How many bytes of the text come before the first mark. The last load may overlap the one before it.
 #[inline(always)]
 pub(crate) fn before_first(marks: Marks, text: &[u8]) -> usize
-    ensures { StandBefore (is_one_of (listed marks)) text.now 0 (length text.now) result }
+    ensures { ComeBefore (is_one_of (listed marks)) text.now 0 (length text.now) result }
 {
     let len = text.len();
     if len < 16 {

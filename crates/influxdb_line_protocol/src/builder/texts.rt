@@ -83,7 +83,7 @@ fn next_escape(kind: TokenKind, text: &[u8]) -> Option<(&[u8], u8, &[u8])>
     Some((&text[..at], text[at], &text[at + 1..]))
 }
 
-// Appends `text` with its backslashes. What stands between two of them is copied as one run.
+// Appends `text` with its backslashes. What is between two of them is copied as one run.
 #[inline(always)]
 fn put_runs<B: BufMut>(buf: &mut B, kind: TokenKind, text: &[u8])
     requires { length (escaped (known_of kind) text.now) ≤ B.room buf.old }

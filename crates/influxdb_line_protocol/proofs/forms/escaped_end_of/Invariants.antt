@@ -3,7 +3,7 @@ use Rattle.influxdb_line_protocol.specs.format.Escapes.{EscapeScan}
 use Rattle.influxdb_line_protocol.specs.code.Forms.{stops_of, known_of}
 use Rattle.influxdb_line_protocol.proofs.forms.escaped_end_of.Given as goal
 
--- the walk stands at a bare place, at the first backslash or after it
+-- the walk is at a bare place, at the first backslash or after it
 abbrev pub invariant-loop-end : goal.invariant-loop-end
 invariant-loop-end l = record {
   walked : EscapeScan (known_of l.kind) (stops_of l.kind) l.bytes l.end l.known;

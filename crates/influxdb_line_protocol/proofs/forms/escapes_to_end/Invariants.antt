@@ -3,7 +3,7 @@ use Rattle.influxdb_line_protocol.specs.code.Forms.{is_plain, stops_of, known_of
 use Rattle.influxdb_line_protocol.specs.format.Escapes.{EscapeScan}
 use Rattle.influxdb_line_protocol.proofs.forms.escapes_to_end.Given as goal
 
--- the walk stands at a bare place after plain bytes, and has met the first backslash or is there
+-- the walk is at a bare place after plain bytes, and has met the first backslash or is there
 abbrev pub invariant-loop-end : goal.invariant-loop-end
 invariant-loop-end l = record {
   walked : EscapeScan (known_of l.kind) (stops_of l.kind) l.bytes l.end l.known;

@@ -10,7 +10,7 @@ use Rattle.influxdb_line_protocol.proofs.lemmas.forms.FormLemmas.{known_is_ascii
 use Rattle.influxdb_line_protocol.proofs.forms.put.Goals as goal
 use Rattle.influxdb_line_protocol.proofs.forms.put.Goals.{then-is_known+in_ok-push_str, else-is_known}
 
--- where the search stops before the end stands a backslash
+-- where the search stops before the end is a backslash
 stops_at : (bytes : List ℕ) (at end : ℕ) → IsRunAt (is_plain (λ b. false)) bytes at end → end < length bytes → slice_index bytes end ≡ 92
 stops_at bytes at end run within = eqb-true _ _ (not-false _ (run.stops within))
 

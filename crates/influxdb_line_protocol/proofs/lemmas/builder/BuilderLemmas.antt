@@ -11,7 +11,7 @@ use Rattle.std.specs.Prelude.{count_by}
 use Rattle.std.proofs.lemmas.Grind.{common_steps}
 use Rattle.influxdb_line_protocol.specs.format.Bytes.{backslash, is_one_of}
 use Rattle.influxdb_line_protocol.specs.format.Escapes.{escaped}
-use Rattle.influxdb_line_protocol.specs.code.Marks.{StandBefore}
+use Rattle.influxdb_line_protocol.specs.code.Marks.{ComeBefore}
 
 -- the length with one byte more
 length_step : (p : ℕ → Bool) (b : ℕ) (v : Bool) (t text : List ℕ) → p b ≡ v
@@ -80,7 +80,7 @@ rest_of text n = take_all (length text - n) (drop n text) (omega (arith, length-
 
 -- the same, as the code finds the byte and slices after it
 pub escaped_first : (bytes text : List ℕ) (mark : ℕ → Bool) (at : ℕ)
-    → ((b : ℕ) → mark b ≡ is_one_of bytes b) → StandBefore mark text 0 (length text) at → at < length text
+    → ((b : ℕ) → mark b ≡ is_one_of bytes b) → ComeBefore mark text 0 (length text) at → at < length text
     → escaped bytes text
     ≡ take at text ++ backslash ∷ get_or text at 0 ∷ escaped bytes (take (length text - (at + 1)) (drop (at + 1) text))
 escaped_first bytes text mark at same run within =
@@ -92,7 +92,7 @@ escaped_first bytes text mark at same run within =
 
 -- where no byte is found, the text stays
 pub escaped_none : (bytes text : List ℕ) (mark : ℕ → Bool) (at : ℕ)
-    → ((b : ℕ) → mark b ≡ is_one_of bytes b) → StandBefore mark text 0 (length text) at → at ≡ length text
+    → ((b : ℕ) → mark b ≡ is_one_of bytes b) → ComeBefore mark text 0 (length text) at → at ≡ length text
     → escaped bytes text ≡ text
 escaped_none bytes text mark at same run all =
     escaped_same bytes text (λ k h. sym (same (get_or text k 0)) ∙ run.none k (omega arith) (omega arith))

@@ -12,7 +12,7 @@ use Rattle.std.specs.Prelude.{count_ones}
 use lib.Lanes.{chunk, zip2, mask_l, top}
 use Rattle.influxdb_line_protocol.specs.declared.builder.marks.Marks.{Marks}
 use Rattle.influxdb_line_protocol.specs.format.Bytes.{is_one_of}
-use Rattle.influxdb_line_protocol.specs.code.Marks.{StandBefore, listed}
+use Rattle.influxdb_line_protocol.specs.code.Marks.{ComeBefore, listed}
 use Rattle.influxdb_line_protocol.specs.code.Lanes.{first_set, mask_of}
 use Rattle.influxdb_line_protocol.proofs.lemmas.lanes.LaneLemmas.{lanes_of, lanes_or}
 use Rattle.influxdb_line_protocol.proofs.lemmas.lanes.MaskLemmas.{shifted, ones, lowest, mask_by_lanes}
@@ -75,9 +75,9 @@ mask_of_load m d i n room few =
     (lanes_or _ _ v (lanes_of v m.third long) (lanes_of v m.fourth long)))
 
 -- its lowest bit tells how many of the bytes come before the first mark
-pub stand_before : (q : ℕ → Bool) (d : List ℕ) (i n r : ℕ) → i + n ≤ length d → n ≤ 64
-    → r ≡ first_set (mask_of q d i n) n → StandBefore q d i n r
-stand_before q d i n r room few found =
+pub come_before : (q : ℕ → Bool) (d : List ℕ) (i n r : ℕ) → i + n ≤ length d → n ≤ 64
+    → r ≡ first_set (mask_of q d i n) n → ComeBefore q d i n r
+come_before q d i n r room few found =
     let counted = found ∙ lowest q d i n room few in
     record {
       within = run_in_chunk_le q d i n r 0 room counted;
@@ -129,8 +129,8 @@ not_free : (q : ℕ → Bool) (d : List ℕ) (k : ℕ) → k < length d → q (g
     → list_all (λ b. not (q b)) d ≡ false
 not_free q d k inside here = list_all_at (λ b. not (q b)) d k 0 inside (ap not here)
 
--- where the first mark stands decides
-pub first_decides : (q : ℕ → Bool) (d : List ℕ) (r : ℕ) → StandBefore q d 0 (length d) r → eqb r (length d) ≡ list_all (λ b. not (q b)) d
+-- where the first mark is decides
+pub first_decides : (q : ℕ → Bool) (d : List ℕ) (r : ℕ) → ComeBefore q d 0 (length d) r → eqb r (length d) ≡ list_all (λ b. not (q b)) d
 first_decides q d r run =
     elim (cases_eq r (length d)) [
       | inl whole ↦ eq-eqb r (length d) whole ∙ sym (free_whole q d (λ k inside. run.none k (omega arith) (omega arith)))

@@ -22,7 +22,7 @@ use Rattle.influxdb_line_protocol.specs.laws.NamesOfLines.{BeginsNoComment, IsPa
 use Rattle.influxdb_line_protocol.specs.code.Parsed.{IsReadLine, line_read, parsed_point}
 use Rattle.influxdb_line_protocol.specs.format.Trimming.{trimmed}
 use Rattle.influxdb_line_protocol.specs.code.WrittenAgain.{IsHeadOf}
-use Rattle.influxdb_line_protocol.proofs.lemmas.laws.batch_reads_back.NameReadsBack.{may_stand}
+use Rattle.influxdb_line_protocol.proofs.lemmas.laws.batch_reads_back.NameReadsBack.{may_hold}
 use Rattle.influxdb_line_protocol.proofs.lemmas.laws.parsed_names.KeptNames.{is_kept, name_kept}
 use Rattle.influxdb_line_protocol.proofs.lemmas.laws.parsed_names.ParsedNames.{ParsedPoint, line_parsed, trimmed_begins}
 use Rattle.influxdb_line_protocol.proofs.lemmas.laws.bases_tell_series.ParsedSeries.{read_series_are_parsed}
@@ -160,13 +160,13 @@ head_written raw m tags h few =
     }
 
 -- in a name without one no byte may only come after a backslash
-kept_alone : (kind : NameKind) (n : List ℕ) → delimiters n ≡ 0 → is_kept kind false n ≡ true → list_all (may_stand kind) n ≡ true
+kept_alone : (kind : NameKind) (n : List ℕ) → delimiters n ≡ 0 → is_kept kind false n ≡ true → list_all (may_hold kind) n ≡ true
 kept_alone kind [] none kept = refl
 kept_alone kind (b ∷ n) none kept =
     let step = uncounted (is_one_of (escapable a_tag_key)) b (is_one_of (escapable a_tag_key) b) n refl none in
-    let parts = and_parts (may_stand kind b || false) (is_kept kind (b == 92) n) kept in
+    let parts = and_parts (may_hold kind b || false) (is_kept kind (b == 92) n) kept in
     let other : (b == 92) ≡ false = ne_eqb b 92 (no_backslash b step.0) in
-    and_from (may_stand kind b) (list_all (may_stand kind) n) (alone (may_stand kind b) parts.0)
+    and_from (may_hold kind b) (list_all (may_hold kind) n) (alone (may_hold kind b) parts.0)
     (kept_alone kind n step.1 (rw other at parts.1))
   where
     alone : (m : Bool) → (m || false) ≡ true → m ≡ true
@@ -179,7 +179,7 @@ no_comment true = refl
 no_comment false = refl
 
 -- a name does not begin as a comment, or is no measurement
-begins : (kind : NameKind) (n : List ℕ) → BeginsNoComment kind n → list_all (may_stand kind) n ≡ true → 0 < length n
+begins : (kind : NameKind) (n : List ℕ) → BeginsNoComment kind n → list_all (may_hold kind) n ≡ true → 0 < length n
     → ends_in_backslash n ≡ false
     → is_admitted_name kind n ≡ true
 unfolding is_admitted_name

@@ -1,4 +1,4 @@
--- A string that is a part of the input and not one byte is written as it stands.
+-- A string that is a part of the input and not one byte is written as it is.
 use Rattle.std.proofs.Common.{◌≡◌, ℕ, suc, Bool, true, false, not, ◌&&◌, List, [], ◌∷◌, length, take}
 use Rattle.std.proofs.Common.{refl, ap, inl, inr, arith}
 use Rattle.std.specs.Prelude.{◌==◌}

@@ -98,7 +98,7 @@ built_length t flat =
     let value = escaped (escapable a_tag_value) t.value in
     omega (arith, length-append (built_tag t) flat, length-append key (61 ∷ value))
 
--- tags, and the text that they stand in
+-- tags, and the text that they are in
 tags_least : (tags : List (Pair Text Text)) (text : List ℕ) → SeparatedAfterComma tag tags text []
     → IsLeast text (flat_map built_tag (map logical_tag tags))
 tags_least [] text h = rw h (record { least = omega arith; same = λ e. refl })

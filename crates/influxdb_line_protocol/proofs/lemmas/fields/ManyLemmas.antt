@@ -69,7 +69,7 @@ pub record AtNext {A : Type 0} (one : List ℕ → Reading A) (text : List ℕ) 
   pub mark : byte comma rest ≡ reads comma place
   pub some : 0 < length done
 
--- where the next one may stand: at the start of all, or after those that were read and a comma
+-- where the next one may be: at the start of all, or after those that were read and a comma
 abbrev pub Reached : {A : Type 0} → (List ℕ → Reading A) → List ℕ → List A → List ℕ → List ℕ → Type 0
 Reached one text done rest place = ((done ≡ []) × (place ≡ text)) ⊎ AtNext one text done rest place
 
@@ -172,11 +172,11 @@ module _ {A : Type 0} (is_single : A → Bool) (one : List ℕ → Reading A)
           rw whole (copies_onto text (done ++ x ∷ []) (many (after_comma one) n after) some
           (not_all_last is_single done x h) (many_reads (after_comma one) n after))
 
-  -- what is read after a comma is read where the next one may stand
+  -- what is read after a comma is read where the next one may be
   next_is : (rest place : List ℕ) → byte comma rest ≡ reads comma place → after_comma one rest ≡ one place
   next_is rest place mark = rw mark refl
 
-  -- one more is read where it may stand
+  -- one more is read where it may be
   pub reached_more : (text : List ℕ) (done : List A) (rest place after : List ℕ) (y : A)
       → Reached one text done rest place → one place ≡ reads y after
       → length after < length place → SoFar one text (done ++ y ∷ []) after
@@ -186,20 +186,20 @@ module _ {A : Type 0} (is_single : A → Bool) (one : List ℕ → Reading A)
       so_far_more text done rest after y more.so_far (next_is rest place more.mark ∙ e)
       (omega (arith, ap length ends.is, length-append ends.front place))
 
-  -- what is fatal where the next one may stand is fatal for all
+  -- what is fatal where the next one may be is fatal for all
   pub reached_fatal : (text : List ℕ) (done : List A) (rest place : List ℕ) (e : Fault)
       → Reached one text done rest place → one place ≡ fatal e → separated_list one text ≡ fatal e
   reached_fatal text done rest place e (inl first) found = rw (rw first.1 at found) refl
   reached_fatal text done rest place e (inr more) found = so_far_fatal text done rest e more.so_far (next_is rest place more.mark ∙ found)
 
-  -- what is read where the next one may stand needs memory
+  -- what is read where the next one may be needs memory
   pub reached_needs : (room : ℕ) (text : List ℕ) (done : List A) (rest place : List ℕ)
       → Reached one text done rest place → NeedsMemory is_single (one place) → SetNeedsMemory room is_single one text
   reached_needs room text done rest place (inl first) needs = first_needs room text (rw first.1 at needs)
   reached_needs room text done rest place (inr more) needs = next_needs room text done rest more.so_far
       (rw (next_is rest place more.mark) needs)
 
-  -- nothing is read where the next one may stand: of the first, there is none; else these are all
+  -- nothing is read where the next one may be: of the first, there is none; else these are all
   pub reached_none : (text : List ℕ) (done : List A) (rest place : List ℕ) → Reached one text done rest place
       → one place ≡ miss → length done ≡ 0 → separated_list one text ≡ miss
   reached_none text done rest place (inl first) e none = rw (rw first.1 at e) refl

@@ -23,7 +23,7 @@ use Rattle.influxdb_line_protocol.specs.format.Lines.{byte, tag, field, after_co
 use Rattle.influxdb_line_protocol.specs.code.Light.{is_single_tag, is_single_field, is_single_value}
 use Rattle.influxdb_line_protocol.specs.code.Sets.{HasBackslash}
 
--- the rest stands at the end of the text
+-- the rest is the end of the text
 pub record EndsIn (text rest : List ℕ) : Type 0 where
   pub front : List ℕ
   pub is : text ≡ front ++ rest

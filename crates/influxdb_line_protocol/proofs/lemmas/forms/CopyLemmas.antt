@@ -1,4 +1,4 @@
--- What is left of a spelling to copy: the bytes from one place up to another as they are, and what the rest stands for.
+-- What is left of a spelling to copy: the bytes from one place up to another as they are, and the logical text of the rest.
 use Rattle.std.proofs.Common.{◌≡◌, ◌≢◌, ℕ, zero, suc, Bool, ◌+◌, ◌-◌, ◌<◌, ◌≤◌, List, [], ◌∷◌, ◌++◌, length, take}
 use Rattle.std.proofs.Common.{drop, get_or, slice_index, true, false, refl, sym, ap, ◌∙◌, arith, append_assoc}
 use Rattle.std.proofs.Common.{drop-cons, add-one, length-drop, add-zero, take-append-drop}

@@ -33,7 +33,7 @@ same_text : (a b : List ℕ) (s t : Bool) → a ≡ b → s ≡ t → let x : Te
     x ≡ record { bytes = b; is_single = t }
 same_text a b s t e f = cc
 
--- a known escape alone stands for its second byte
+-- the logical text of a known escape alone is its second byte
 escape_alone : (known text : List ℕ) → is_one_escape known text ≡ true → drop 1 text ≡ without_escapes known text
 unfolding without_escapes
 escape_alone known [] h = cc

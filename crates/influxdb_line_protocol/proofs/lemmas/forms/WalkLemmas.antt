@@ -30,7 +30,7 @@ escaped_after_pair c rest = escaped_is_flag (92 ∷ c ∷ rest) ∙ ap (λ f. fl
     none true = refl
     none false = refl
 
--- a text that is cut where the next byte is bare stands for what its parts stand for
+-- a text that is cut where the next byte is bare has the logical texts of its parts, joined
 pub without_escapes_append : (known front back : List ℕ) → is_escaped_after front ≡ false
     → without_escapes known (front ++ back) ≡ without_escapes known front ++ without_escapes known back
 unfolding without_escapes

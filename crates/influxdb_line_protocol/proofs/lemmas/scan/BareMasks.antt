@@ -103,7 +103,7 @@ pub escaped_is_not_bare : (passes : ℕ → Bool) (text : List ℕ) (k : ℕ) �
     → is_bare_at passes text k ≡ false
 escaped_is_not_bare passes text k h = ap (λ (f : Bool). passes (slice_index text k) && not f) h ∙ none_escaped (passes (slice_index text k))
 
--- after a load that begins at a bare place: a bare backslash at its end escapes one byte, and then stands a bare place
+-- after a load that begins at a bare place: a bare backslash at its end escapes one byte, and then comes a bare place
 module _ (text : List ℕ) (at : ℕ) (room : at + 64 < length text) (last : ℕ)
     (is : last ≡ cond (is_bare_at (λ b. b == 92) text (at + 63)) 1 0) where
   flag : is_escaped_after (take (at + 64) text) ≡ is_bare_at (λ b. b == 92) text (at + 63)

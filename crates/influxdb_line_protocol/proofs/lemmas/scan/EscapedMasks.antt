@@ -43,7 +43,7 @@ abbrev difference : Bool → Bool → List Bool → List Bool
 difference odd e [] = []
 difference odd e (m ∷ ms) = differs (differs e odd) m ∷ difference (not odd) (not e && m) ms
 
--- what is borrowed from a place: at an odd one where it is escaped, at an even one where it stands bare after a backslash
+-- what is borrowed from a place: at an odd one where it is escaped, at an even one where it is bare after a backslash
 abbrev borrow : Bool → Bool → Bool → Bool
 borrow true after e = e
 borrow false after e = after && not e

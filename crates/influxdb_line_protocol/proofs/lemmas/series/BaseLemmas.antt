@@ -117,7 +117,7 @@ pub insert_bytes : (es : List (Bor (List ℕ) × Bor (List ℕ))) (k v : Bor (Li
 insert_bytes [] k v = refl
 insert_bytes (e ∷ es) k v = rw (bytes_at (slice_cmp nat_cmp k.now e.0.now) _ _ _, insert_bytes es k v) refl
 
--- the map has a key exactly where it stood among the keys so far: one key more
+-- the map has a key exactly where it was among the keys so far: one key more
 some_or : (b : Bool) (o : Option (Bor (List ℕ))) (v : Bor (List ℕ)) (a : Bool) → is_some o ≡ a → is_some (cond b (Some v) o) ≡ (a || b)
 some_or true o v true h = refl
 some_or true o v false h = refl

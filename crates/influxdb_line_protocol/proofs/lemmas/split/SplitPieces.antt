@@ -243,7 +243,7 @@ cut_from_join dialect u t (p ∷ before) piece after h k j = elim (uncons dialec
   ]
 ]
 
--- what stands in a comment
+-- what is in a comment
 another_comment : (front old new : List ℕ) → begins_comment front ≡ true → All (λ b. b ≢ 10) new
     → IsLastPiece Strict (front ++ old) → IsComment (front ++ new)
 another_comment front old new f n (inl h) =

@@ -55,7 +55,7 @@ head_is : (text : List ℕ) → All (λ b. (b == 32 || b == 10) ≡ false) (bare
 head_is text none = All-weaker (λ b. (b == 32 || b == 10) ≡ false) (λ b. (b ≢ 32) × (b ≢ 10))
     (λ b h. grind (arith, nat_tests)) (bare text) none
 
--- bytes without a quote stand between quotes
+-- bytes without a quote are between quotes
 quoted_is : (text : List ℕ) → All (λ b. (b == 34) ≡ false) (bare text) → IsQuoted text
 quoted_is text none = All-weaker (λ b. (b == 34) ≡ false) (λ b. b ≢ 34) (λ b h. grind (arith, nat_tests)) (bare text) none
 

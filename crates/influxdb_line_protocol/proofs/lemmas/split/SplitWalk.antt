@@ -14,7 +14,7 @@ use Rattle.influxdb_line_protocol.proofs.lemmas.split.SplitShape.{IsHead-escaped
 use Rattle.influxdb_line_protocol.proofs.lemmas.split.SplitShape.{EndsPlain-start, EndsQuoted-escaped, EndsQuoted-bare}
 use Rattle.influxdb_line_protocol.proofs.lemmas.split.SplitShape.{EndsQuoted-start, EndsQuoted-close}
 
--- the part of a piece that its last byte stands in
+-- the part of a piece that its last byte is in
 pub data Part : Type 0 where
   Head Plain Quoted : Part
 

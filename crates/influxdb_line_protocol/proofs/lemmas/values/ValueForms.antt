@@ -13,7 +13,7 @@ use Rattle.influxdb_line_protocol.proofs.lemmas.literals.FloatLemmas.{float_miss
 use Rattle.influxdb_line_protocol.proofs.lemmas.values.ValueLemmas.{boolean_misses, digits_of_minus, digits_of_plain, integer_misses}
 use Rattle.influxdb_line_protocol.proofs.lemmas.values.ValueLemmas.{integer_unmarked, unsigned_misses, unsigned_unmarked}
 
--- where no integer stands, no digits do
+-- where no integer is, no digits are
 no_digits : (text : List ℕ) → integer_len text ≡ 0 → digits_len text ≡ 0
 no_digits text none =
     elim (cases_eq (slice_index text 0) 45) [
@@ -48,7 +48,7 @@ otherwise_miss (reads v rest) = refl
 number_byte : (b : ℕ) → (is_ascii_digit b || b == 45) ≡ true → (45 ≤ b) × (b ≤ 57)
 number_byte b first = (grind (arith, common_steps), grind (arith, common_steps))
 
--- no integer stands where the first byte is neither a digit nor `-`
+-- no integer is where the first byte is neither a digit nor `-`
 no_integer : (text : List ℕ) → (is_ascii_digit (slice_index text 0) || slice_index text 0 == 45) ≡ false → integer_len text ≡ 0
 no_integer [] other = refl
 no_integer (b ∷ rest) other =
@@ -107,7 +107,7 @@ false_form text first =
     × (slice_index text 0 ≢ 84) = (λ e. grind (arith, common_steps), λ e. grind (arith, common_steps)) in
     rw (no_true text other.0 other.1) refl
 
--- no string stands where the first byte is no quote
+-- no string is where the first byte is no quote
 no_string : (text : List ℕ) → slice_index text 0 ≢ 34 → string_at text ≡ miss
 unfolding string_at
 no_string [] other = refl

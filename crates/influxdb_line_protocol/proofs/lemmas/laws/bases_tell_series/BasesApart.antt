@@ -54,7 +54,7 @@ first_part c (x ∷ xs) (y ∷ ys) us vs h k p q e =
 abbrev is_parted : List ℕ × List ℕ → Bool
 is_parted e = is_one_of e.0 61 || is_one_of e.1 44
 
--- tags as they stand in a base begin with a comma
+-- tags as they are in a base begin with a comma
 tags_begin : (es : List (List ℕ × List ℕ)) → Begins 44 (flat_map based_tag es)
 tags_begin [] = tt
 tags_begin (e ∷ es) = refl
@@ -141,7 +141,7 @@ no_escape known (b ∷ []) none = refl
 no_escape known (b ∷ c ∷ []) none = rw (or_parts (b == 92) (is_one_of (c ∷ []) 92) none).0 refl
 no_escape known (b ∷ c ∷ d ∷ text) none = refl
 
--- before the first bare byte that passes stands none that would be bare
+-- before the first bare byte that passes is none that would be bare
 none_before : (passes : ℕ → Bool) (c : ℕ) (text : List ℕ) → passes c ≡ true → is_one_of text 92 ≡ false
     → is_one_of (take (bare_len passes false text) text) c ≡ false
 none_before passes c [] hit none = refl

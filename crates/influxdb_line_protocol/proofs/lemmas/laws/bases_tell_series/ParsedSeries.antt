@@ -106,13 +106,13 @@ tag_cut text x rest e =
           ∙ ap (λ (p : Pair Text Text). reads p kept) parts.0;
     }
 
--- a front of the text where these tags stand, each after a comma, and nothing after them
+-- a front of the text with these tags, each after a comma, and nothing after them
 record StandCut (tags : List (Pair Text Text)) (text rest : List ℕ) : Type 0 where
   front : List ℕ
   is : text ≡ front ++ rest
   stand : SeparatedAfterComma tag tags front []
 
--- tags stand in such a front
+-- tags are in such a front
 stand_cut : (tags : List (Pair Text Text)) (text rest : List ℕ) → SeparatedAfterComma tag tags text rest → StandCut tags text rest
 stand_cut [] text rest h = record { front = []; is = h; stand = refl }
 stand_cut (t ∷ tags) text rest h =
@@ -134,7 +134,7 @@ stand_room (t ∷ tags) text rest h =
     let more = stand_room tags h.1 rest h.4 in
     omega (arith, ap length h.2)
 
--- tags that stand up to the end of the text are read
+-- tags up to the end of the text are read
 many_read : (n : ℕ) (tags : List (Pair Text Text)) (text : List ℕ) → SeparatedAfterComma tag tags text [] → length tags ≤ n
     → many (after_comma tag) n text ≡ reads tags []
 many_read zero [] text h room = ap (λ (r : List ℕ). reads [] r) h

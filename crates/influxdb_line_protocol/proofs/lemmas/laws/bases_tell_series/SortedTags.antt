@@ -166,7 +166,7 @@ any_key : (q : List ℕ) (tags : List (Pair Text Text))
 any_key q [] = refl
 any_key q (t ∷ tags) = rw (any_key q tags) refl
 
--- no key stands at an earlier place
+-- no key is at an earlier place
 abbrev NoneRepeated : List (Pair Text Text) → Type 0
 NoneRepeated tags = (k : ℕ) → k < length tags → is_repeated_at (keys_of tags) k ≡ false
 

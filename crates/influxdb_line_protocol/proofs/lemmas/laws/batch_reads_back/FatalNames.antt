@@ -22,7 +22,7 @@ use Rattle.influxdb_line_protocol.specs.format.Lines.{answer}
 use Rattle.influxdb_line_protocol.specs.format.Items.{answers_of_piece, answers_of}
 use Rattle.influxdb_line_protocol.specs.laws.NamesOfLines.{IsParsedName}
 use Rattle.influxdb_line_protocol.proofs.lemmas.split.SplitPieces.{no_cut_within}
-use Rattle.influxdb_line_protocol.proofs.lemmas.laws.batch_reads_back.NameReadsBack.{may_stand}
+use Rattle.influxdb_line_protocol.proofs.lemmas.laws.batch_reads_back.NameReadsBack.{may_hold}
 use Rattle.influxdb_line_protocol.proofs.lemmas.laws.batch_reads_back.NameReadsBack.{escaped_plain}
 use Rattle.influxdb_line_protocol.proofs.lemmas.laws.batch_reads_back.Reaches.{reaches_start}
 use Rattle.influxdb_line_protocol.proofs.lemmas.laws.parsed_names.Spellings.{SpelledAs, never_unescapable, never_stops, spelling_as, Stops}
@@ -46,7 +46,7 @@ pub record Fails (line : List ℕ) : Type 0 where
   pub reached : IsClosed front
   pub answered : (dialect : Dialect) (rest : List ℕ) → StopsWith stop rest → answer dialect (front ++ rest) ≡ Err ends_with_backslash
 
--- a newline of a text stands in a front of it, or after that
+-- a newline of a text is in a front of it, or after that
 newline_place : (p q t x : List ℕ) → p ++ 10 ∷ t ≡ q ++ x → ((y : List ℕ) × (q ≡ p ++ 10 ∷ y))
     ⊎ ((y : List ℕ) × (p ≡ q ++ y) × (y ++ 10 ∷ t ≡ x))
 newline_place p [] t x e = inr (p, refl, e)
@@ -112,11 +112,11 @@ record FirstNever (kind : NameKind) (n : List ℕ) : Type 0 where
   stop : ℕ
   after : List ℕ
   is : n ≡ front ++ stop ∷ after
-  may : list_all (may_stand kind) front ≡ true
+  may : list_all (may_hold kind) front ≡ true
   never : is_one_of (never_in kind) stop ≡ true
 
 -- where not all bytes may stand alone there is one
-first_never : (kind : NameKind) (n : List ℕ) → list_all (may_stand kind) n ≡ false → FirstNever kind n
+first_never : (kind : NameKind) (n : List ℕ) → list_all (may_hold kind) n ≡ false → FirstNever kind n
 first_never kind [] h = absurd (false≢true (sym h))
 first_never kind (b ∷ n) h =
     elim (cases_Bool (is_one_of (never_in kind) b)) [
@@ -128,13 +128,13 @@ first_never kind (b ∷ n) h =
             stop = more.stop;
             after = more.after;
             is = ap (λ (xs : List ℕ). b ∷ xs) more.is;
-            may = and_from (may_stand kind b) _ (not_from_false _ other) more.may;
+            may = and_from (may_hold kind b) _ (not_from_false _ other) more.may;
             never = more.never;
           }
     ]
 
 -- a parsed name without such bytes is admitted
-admitted_from : (kind : NameKind) (n : List ℕ) → IsParsedName kind n → list_all (may_stand kind) n ≡ true → is_admitted_name kind n ≡ true
+admitted_from : (kind : NameKind) (n : List ℕ) → IsParsedName kind n → list_all (may_hold kind) n ≡ true → is_admitted_name kind n ≡ true
 unfolding is_admitted_name
 admitted_from a_measurement n h all =
     let some : (length n == 0) ≡ false = ne_eqb (length n) 0 (λ e. absurd (omega (arith, h.some))) in
@@ -170,7 +170,7 @@ first_same (b ∷ text) more h = refl
 -- a parsed name that is not admitted stops too early
 pub fatal_name : (kind : NameKind) (n : List ℕ) → IsParsedName kind n → is_admitted_name kind n ≡ false → FatalName kind n
 fatal_name kind n h bad =
-    let none : list_all (may_stand kind) n ≡ false = elim (cases_Bool (list_all (may_stand kind) n)) [
+    let none : list_all (may_hold kind) n ≡ false = elim (cases_Bool (list_all (may_hold kind) n)) [
       | inl all ↦ absurd (both_ways (is_admitted_name kind n) bad (admitted_from kind n h all))
       | inr some ↦ some
     ] in

@@ -30,7 +30,7 @@ use Rattle.influxdb_line_protocol.proofs.lemmas.split.SplitWalk.{Head-space, Hea
 use Rattle.influxdb_line_protocol.proofs.lemmas.split.SplitWalk.{Plain-comma, Plain-opens, Plain-other, Quoted-closes, Quoted-other}
 use Rattle.influxdb_line_protocol.specs.format.Trimming.{trimmed}
 use Rattle.influxdb_line_protocol.proofs.lemmas.laws.batch_reads_back.NameReadsBack.{admitted_parts, begins_otherwise}
-use Rattle.influxdb_line_protocol.proofs.lemmas.laws.batch_reads_back.NameReadsBack.{may_stand, spelling_nonempty}
+use Rattle.influxdb_line_protocol.proofs.lemmas.laws.batch_reads_back.NameReadsBack.{may_hold, spelling_nonempty}
 use Rattle.influxdb_line_protocol.proofs.lemmas.laws.batch_reads_back.NameReadsBack.{escaped_found, escaped_plain}
 use Rattle.influxdb_line_protocol.proofs.lemmas.line.TrimLemmas.{is_blank, trimmed_is}
 use Rattle.influxdb_line_protocol.proofs.lemmas.values.ValueLemmas.{fits_from_test}
@@ -258,10 +258,10 @@ reaches_line n ts f fs t named tagged first more stamped =
 
 -- the first byte of a measurement
 pub first_byte : (b : ℕ) (n : List ℕ) → is_admitted_name a_measurement (b ∷ n) ≡ true
-    → (may_stand a_measurement b ≡ true) × ((b == 35) ≡ false)
+    → (may_hold a_measurement b ≡ true) × ((b == 35) ≡ false)
 first_byte b n ok =
-    let all : list_all (may_stand a_measurement) (b ∷ n) ≡ true = (admitted_parts a_measurement (b ∷ n) ok).may in
-    ((and_parts (may_stand a_measurement b) (list_all (may_stand a_measurement) n) all).0, begins_otherwise b n ok)
+    let all : list_all (may_hold a_measurement) (b ∷ n) ≡ true = (admitted_parts a_measurement (b ∷ n) ok).may in
+    ((and_parts (may_hold a_measurement b) (list_all (may_hold a_measurement) n) all).0, begins_otherwise b n ok)
 
 -- no comment begins with a measurement
 measurement_is_no_comment : (n rest : List ℕ) → is_admitted_name a_measurement n ≡ true
@@ -272,7 +272,7 @@ measurement_is_no_comment (b ∷ n) rest ok =
     elim (cases_Bool (is_escapable a_measurement b)) [
       | inl known ↦ rw (escaped_found (escapable a_measurement) n b known) refl
       | inr plain ↦
-          let no_tab : b ≢ 9 = λ i. let h : may_stand a_measurement b ≡ false = ap (may_stand a_measurement) i in cc in
+          let no_tab : b ≢ 9 = λ i. let h : may_hold a_measurement b ≡ false = ap (may_hold a_measurement) i in cc in
           rw (
             escaped_plain (escapable a_measurement) n b plain,
             first.1,
@@ -291,7 +291,7 @@ measurement_untrimmed (b ∷ n) rest ok =
     elim (cases_Bool (is_escapable a_measurement b)) [
       | inl known ↦ rw (escaped_found (escapable a_measurement) n b known) refl
       | inr plain ↦
-          let may : may_stand a_measurement b ≡ true = first.0 in
+          let may : may_hold a_measurement b ≡ true = first.0 in
           let no_newline : (b == 10) ≡ false = grind (arith, common_steps) in
           let no_blank : is_blank b ≡ false = grind (arith, common_steps) in
           rw (escaped_plain (escapable a_measurement) n b plain, no_newline, first.1, no_blank) refl

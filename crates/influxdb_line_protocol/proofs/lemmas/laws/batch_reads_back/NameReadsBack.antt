@@ -17,12 +17,12 @@ use Rattle.influxdb_line_protocol.proofs.lemmas.names.NameLemmas.{escapable_back
 use Rattle.influxdb_line_protocol.proofs.lemmas.names.NameLemmas.{without_escapes_plain_byte, logical_ends, name_reads}
 use Rattle.influxdb_line_protocol.proofs.lemmas.scan.ScanLemmas.{bare_len, first_bare_len}
 
--- a byte that may stand in a name
-abbrev pub may_stand : NameKind → ℕ → Bool
-may_stand kind b = not (is_one_of (never_in kind) b)
+-- a byte that may be in a name
+abbrev pub may_hold : NameKind → ℕ → Bool
+may_hold kind b = not (is_one_of (never_in kind) b)
 
--- a stop byte that may stand in a name is escaped there
-pub stop_escapable : (kind : NameKind) (b : ℕ) → may_stand kind b ≡ true → is_escapable kind b ≡ false → is_stop kind b ≡ false
+-- a stop byte that may be in a name is escaped there
+pub stop_escapable : (kind : NameKind) (b : ℕ) → may_hold kind b ≡ true → is_escapable kind b ≡ false → is_stop kind b ≡ false
 stop_escapable a_measurement b may plain = grind (arith, common_steps)
 stop_escapable a_tag_key b may plain = grind (arith, common_steps)
 stop_escapable a_tag_value b may plain = grind (arith, common_steps)
@@ -60,19 +60,19 @@ unfolding escaped
 escaped_plain known text b plain = rw plain refl
 
 -- the spelling ends at the stop byte after it
-spelling_len : (kind : NameKind) (n rest : List ℕ) (stop : ℕ) → list_all (may_stand kind) n ≡ true → is_stop kind stop ≡ true
+spelling_len : (kind : NameKind) (n rest : List ℕ) (stop : ℕ) → list_all (may_hold kind) n ≡ true → is_stop kind stop ≡ true
     → bare_len (is_stop kind) false (spelling kind n ++ stop ∷ rest) ≡ length (spelling kind n)
 unfolding escaped
 spelling_len kind [] rest stop may ends = rw ends refl
 spelling_len kind (b ∷ n) rest stop may ends =
-    let parts = and_parts (may_stand kind b) (list_all (may_stand kind) n) may in
+    let parts = and_parts (may_hold kind b) (list_all (may_hold kind) n) may in
     let more = spelling_len kind n rest stop parts.1 ends in
     elim (cases_Bool (is_escapable kind b)) [
       | inl known ↦ rw (known, backslash_no_stop kind, and_right (is_stop kind b) false refl, more) refl
       | inr plain ↦ rw (plain, stop_escapable kind b parts.0 plain, plain_no_backslash kind b plain, more) refl
     ]
 
--- a text with escapes stands for the text
+-- the logical text of a text with escapes is the text
 pub without_escapes_escaped : (known n : List ℕ) → is_one_of known 92 ≡ true → without_escapes known (escaped known n) ≡ n
 unfolding escaped
 without_escapes_escaped known [] closed = without_escapes_same known [] (λ i l. absurd (omega arith))
@@ -99,7 +99,7 @@ spelling_nonempty kind (b ∷ n) some =
 pub record Admitted (kind : NameKind) (n : List ℕ) : Type 0 where
   pub some : length n ≢ 0
   pub ends : ends_in_backslash n ≡ false
-  pub may : list_all (may_stand kind) n ≡ true
+  pub may : list_all (may_hold kind) n ≡ true
 
 -- the parts of the test of a name
 pub admitted_parts : (kind : NameKind) (n : List ℕ) → is_admitted_name kind n ≡ true → Admitted kind n

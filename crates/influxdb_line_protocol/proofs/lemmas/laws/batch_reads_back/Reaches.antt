@@ -17,7 +17,7 @@ use Rattle.influxdb_line_protocol.proofs.lemmas.split.SplitWalk.{IsIn-escaped, I
 use Rattle.influxdb_line_protocol.proofs.lemmas.split.SplitWalk.{Plain-other}
 use Rattle.influxdb_line_protocol.proofs.lemmas.names.NameLemmas.{escapable_backslash}
 use Rattle.influxdb_line_protocol.proofs.lemmas.laws.batch_reads_back.NameReadsBack.{admitted_parts}
-use Rattle.influxdb_line_protocol.proofs.lemmas.laws.batch_reads_back.NameReadsBack.{may_stand}
+use Rattle.influxdb_line_protocol.proofs.lemmas.laws.batch_reads_back.NameReadsBack.{may_hold}
 use Rattle.influxdb_line_protocol.proofs.lemmas.laws.batch_reads_back.NameReadsBack.{escaped_found, escaped_plain, space_escapable}
 use Rattle.influxdb_line_protocol.proofs.lemmas.builder.BuilderLemmas.{escaped_nothing}
 
@@ -38,7 +38,7 @@ reaches_pair part e c piece b r =
       IsIn-escaped part e c (piece ++ 92 ∷ []) b flag (IsIn-backslash part e c piece r.0 r.1),
     )
 
--- a byte that changes nothing wherever it stands
+-- a byte that changes nothing wherever it is
 abbrev pub ChangesNothing : Part → ℕ → ℕ → ℕ → Type 0
 ChangesNothing part e c b = (b ≢ 92) × ((q : List ℕ) → IsBareAfter q → IsIn part e c q → IsIn part e c (q ++ b ∷ []))
 
@@ -68,15 +68,15 @@ module _ (part : Part) (e c : ℕ) (known : List ℕ) (may : ℕ → Bool)
       ]
 
 -- a name holds no newline, and its spaces and backslashes are escaped
-newline_never : (kind : NameKind) → may_stand kind 10 ≡ false
+newline_never : (kind : NameKind) → may_hold kind 10 ≡ false
 newline_never a_measurement = refl
 newline_never a_tag_key = refl
 newline_never a_tag_value = refl
 newline_never a_field_key = refl
 
 -- so its bare bytes are none of these
-pub no_newline : (kind : NameKind) (b : ℕ) → may_stand kind b ≡ true → b ≢ 10
-no_newline kind b may = λ e. cc (may, newline_never kind, ap (may_stand kind) e)
+pub no_newline : (kind : NameKind) (b : ℕ) → may_hold kind b ≡ true → b ≢ 10
+no_newline kind b may = λ e. cc (may, newline_never kind, ap (may_hold kind) e)
 
 -- nor is one a backslash
 pub no_backslash : (kind : NameKind) (b : ℕ) → is_escapable kind b ≡ false → b ≢ 92
@@ -90,7 +90,7 @@ no_space kind b plain = λ e. cc (plain, space_escapable kind, ap (is_escapable 
 pub reaches_name : (kind : NameKind) (n piece : List ℕ) → is_admitted_name kind n ≡ true → Reaches Head 0 0 piece
     → Reaches Head 0 0 (piece ++ spelling kind n)
 reaches_name kind n piece ok r =
-    reaches_escaped Head 0 0 (escapable kind) (may_stand kind)
+    reaches_escaped Head 0 0 (escapable kind) (may_hold kind)
     (λ b may plain. (no_backslash kind b plain, λ q f h. Head-other 0 0 q b f (no_space kind b plain) (no_newline kind b may) h))
     n piece (admitted_parts kind n ok).may r
 
@@ -98,7 +98,7 @@ reaches_name kind n piece ok r =
 pub reaches_key : (m : ℕ) (n piece : List ℕ) → is_admitted_name a_field_key n ≡ true → Reaches Plain m m piece
     → Reaches Plain m m (piece ++ spelling a_field_key n)
 reaches_key m n piece ok r =
-    reaches_escaped Plain m m (escapable a_field_key) (may_stand a_field_key)
+    reaches_escaped Plain m m (escapable a_field_key) (may_hold a_field_key)
     (λ b may plain. (
       no_backslash a_field_key b plain,
       λ q f h. Plain-other m m q b f (no_equals b plain) (no_comma b plain) (no_newline a_field_key b may)

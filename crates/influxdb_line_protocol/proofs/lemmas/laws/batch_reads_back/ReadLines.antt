@@ -1,4 +1,4 @@
--- What the line of a point is read as, and that it stands for the point.
+-- What the line of a point is read as, and that its point is that one.
 use Rattle.std.proofs.Common.{◌≡◌, ℕ, List, [], ◌∷◌, ◌++◌, map, refl, ap, Option, Some, None}
 use Rattle.std.specs.List.{flat_map}
 use Rattle.influxdb_line_protocol.specs.format.Names.{a_measurement, a_tag_key, a_tag_value, a_field_key, read_text}
@@ -39,7 +39,7 @@ read_line p =
       timestamp = p.timestamp;
     }
 
--- each part stands for what was written
+-- each part is what was written
 read_value_is : (v : Value (List ℕ)) → logical_value (read_value v) ≡ v
 read_value_is (integer z) = refl
 read_value_is (unsigned n) = refl
@@ -65,7 +65,7 @@ read_tags_are : (ts : List Tag) → map logical_tag (some_tags (read_tags ts)) �
 read_tags_are [] = refl
 read_tags_are (t ∷ ts) = map_back read_tag logical_tag read_tag_is (t ∷ ts)
 
--- the line stands for the point
+-- the point of the line is this one
 pub read_line_is : (p : Point) → point_of (read_line p) ≡ p
 read_line_is p =
     rw (logical_spelling a_measurement p.measurement, read_tags_are p.tags, map_back read_field logical_field read_field_is p.fields) refl

@@ -81,7 +81,7 @@ readable_point p h =
       fields = all_elements (IsParsedName a_field_key) (λ f. f.key) p.fields (parsed a_field_key);
     }
 
--- the line that a point among the items stands for
+-- the line of a point among the items
 line_of_item : (answers : List (Result Line Fault)) (p : Point) → Contains (map item_of answers) (Ok p) → (line : Line)
     × Contains answers (Ok line) × (point_of line ≡ p)
 line_of_item [] p h = absurd (nothing_in_nil _ h)

@@ -98,7 +98,7 @@ stamp_fault text e h =
       ]
     ]
 
--- the tags that stand in full are what commas join
+-- the tags in full are what commas join
 tags_read : (text : List ℕ) (tags : List (Pair Text Text)) (rest : List ℕ) → WholeList tag text tags rest
     → separated_list tag text ≡ reads tags rest
 tags_read text tags rest h = (the_most_is_read tag (λ t. (tag_no_longer t).holds) text tags rest).1 h

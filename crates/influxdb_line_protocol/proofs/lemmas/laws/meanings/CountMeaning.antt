@@ -1,4 +1,4 @@
--- As many tags and fields are counted as the most that stand at the start of a text.
+-- As many tags and fields are counted as the most that are at the start of a text.
 use Rattle.std.proofs.Common.{◌≡◌, ℕ, zero, suc, ◌<◌, ◌≤◌, List, [], ◌∷◌, length, refl, sym, ap, ◌∙◌, subst, arith}
 use Rattle.influxdb_line_protocol.specs.format.Readings.{Reading, miss, fatal, reads}
 use Rattle.influxdb_line_protocol.specs.format.Lines.{after_comma}
@@ -13,7 +13,7 @@ none_counted miss count none = refl
 none_counted (fatal e) count none = refl
 none_counted (reads x rest) count none = absurd (none x rest refl)
 
--- as many are counted as stand one after another, where none is read after them
+-- as many are counted as come one after another, where none is read after them
 chain_counted : {A : Type 0} (g : List ℕ → Reading A)
     → ((text : List ℕ) (x : A) (rest : List ℕ) → g text ≡ reads x rest → length rest < length text)
     → (n : ℕ) (xs : List A) (text rest : List ℕ) → Chain g g xs text rest → GivesNone (g rest) → length text ≤ n

@@ -1,4 +1,4 @@
--- A text stands for its text without escapes, and for no other.
+-- The logical text of a text is the one without escapes, and no other.
 use Rattle.std.proofs.Common.{◌≡◌, ◌≢◌, ◌↔◌, ℕ, List, [], ◌∷◌, false, refl, sym, ap, ◌∙◌, subst, inl, inr}
 use Rattle.std.specs.Prelude.{◌==◌}
 use Rattle.std.proofs.lemmas.Bool.{cases_Bool, eqb-true, eqb-false}
@@ -23,7 +23,7 @@ without_escapes_empty : (known : List ℕ) → without_escapes known [] ≡ []
 unfolding without_escapes
 without_escapes_empty known = refl
 
--- a text stands for no text but that without escapes
+-- a text has no logical text but that without escapes
 pub logical_is_unique : (known : List ℕ) (spelled logical : List ℕ) → IsLogical known spelled logical
     → logical ≡ without_escapes known spelled
 logical_is_unique known _ _ empty = sym (without_escapes_empty known)
@@ -50,7 +50,7 @@ stands_plain : (known : List ℕ) (b : ℕ) (rest : List ℕ) → b ≢ 92 → I
 stands_plain known b rest differs more =
     subst (IsLogical known (b ∷ rest)) (sym (without_escapes_plain_byte known b rest differs)) (plain b rest _ differs more)
 
--- a text stands for its text without escapes
+-- the text without escapes is a logical text
 pub stands_for_it : (known : List ℕ) (spelled : List ℕ) → IsLogical known spelled (without_escapes known spelled)
 stands_for_it known [] = subst (IsLogical known []) (sym (without_escapes_empty known)) empty
 stands_for_it known (b ∷ []) =
@@ -64,7 +64,7 @@ stands_for_it known (b ∷ c ∷ rest) =
       | inr e ↦ stands_plain known b (c ∷ rest) (eqb-false b 92 e) (stands_for_it known (c ∷ rest))
     ]
 
--- so it stands for exactly that one
+-- so it has exactly that one
 pub logical_is : (known spelled logical : List ℕ) → IsLogical known spelled logical ↔ (logical ≡ without_escapes known spelled)
 logical_is known spelled logical = (
   logical_is_unique known spelled logical,

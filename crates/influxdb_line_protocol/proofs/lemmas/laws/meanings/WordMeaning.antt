@@ -18,7 +18,7 @@ record Step (text : List ℕ) (n : ℕ) (word : List ℕ) (m : ℕ) : Type 0 whe
   front : (k : ℕ) → k ≤ length text → word ≡ take k text → k ≤ m
   one : (m ≡ n) ⊎ (word ≡ take m text)
 
--- a word that stands at the start of the text
+-- a word at the start of the text
 stands : (text word : List ℕ) → starts_with eqb text word ≡ true → word ≡ take (length word) text
 stands text word h =
     let is = (starts_is Decides-eqb text word (starts_with eqb text word) refl).0 h in

@@ -15,28 +15,28 @@ use Rattle.influxdb_line_protocol.specs.format.Names.{read_text, spelled, spelle
 use Rattle.influxdb_line_protocol.specs.format.Points.{never_in}
 use Rattle.influxdb_line_protocol.specs.laws.NamesOfLines.{IsParsedName, BeginsNoComment}
 use Rattle.influxdb_line_protocol.proofs.lemmas.names.NameLemmas.{name_misses, name_fatal, name_reads, logical_ends}
-use Rattle.influxdb_line_protocol.proofs.lemmas.laws.batch_reads_back.NameReadsBack.{may_stand}
+use Rattle.influxdb_line_protocol.proofs.lemmas.laws.batch_reads_back.NameReadsBack.{may_hold}
 use Rattle.influxdb_line_protocol.proofs.lemmas.scan.ScanLemmas.{bare_len, first_bare_len}
 
 -- whether each byte that may only come after a backslash does, from whether a backslash comes before the text
 abbrev pub is_kept : NameKind → Bool → List ℕ → Bool
 is_kept kind after [] = true
-is_kept kind after (b ∷ n) = (may_stand kind b || after) && is_kept kind (b == 92) n
+is_kept kind after (b ∷ n) = (may_hold kind b || after) && is_kept kind (b == 92) n
 
 -- whether each stop byte of a text is escaped, from whether the place before it is
 abbrev is_closed : NameKind → Bool → List ℕ → Bool
 is_closed kind escaped [] = true
 is_closed kind escaped (b ∷ text) = (not (is_stop kind b) || escaped) && is_closed kind (not escaped && b == 92) text
 
--- a byte that ends no name may stand in one
-unstopped_may : (kind : NameKind) (b : ℕ) → is_stop kind b ≡ false → may_stand kind b ≡ true
+-- a byte that ends no name may be in one
+unstopped_may : (kind : NameKind) (b : ℕ) → is_stop kind b ≡ false → may_hold kind b ≡ true
 unstopped_may a_measurement b h = grind (arith, common_steps)
 unstopped_may a_tag_key b h = grind (arith, common_steps)
 unstopped_may a_tag_value b h = grind (arith, common_steps)
 unstopped_may a_field_key b h = grind (arith, common_steps)
 
--- a byte that a backslash escapes may stand in a name
-pub escapable_may : (kind : NameKind) (b : ℕ) → is_escapable kind b ≡ true → may_stand kind b ≡ true
+-- a byte that a backslash escapes may be in a name
+pub escapable_may : (kind : NameKind) (b : ℕ) → is_escapable kind b ≡ true → may_hold kind b ≡ true
 escapable_may a_measurement b h = grind (arith, common_steps)
 escapable_may a_tag_key b h = grind (arith, common_steps)
 escapable_may a_tag_value b h = grind (arith, common_steps)
@@ -71,27 +71,27 @@ unfolding without_escapes
 logical_kept kind after [] h = refl
 logical_kept kind after (b ∷ []) h =
     let may = unstopped_may kind b (no_stop (is_stop kind b) (and_parts (not (is_stop kind b) || false) true h).0) in
-    and_from (may_stand kind b || after) true (or_left (may_stand kind b) after may) refl
+    and_from (may_hold kind b || after) true (or_left (may_hold kind b) after may) refl
 logical_kept kind after (b ∷ c ∷ rest) h =
     let parts = and_parts (not (is_stop kind b) || false) (is_closed kind (b == 92) (c ∷ rest)) h in
-    let may : may_stand kind b ≡ true = unstopped_may kind b (no_stop (is_stop kind b) parts.0) in
-    let first : (may_stand kind b || after) ≡ true = or_left (may_stand kind b) after may in
+    let may : may_hold kind b ≡ true = unstopped_may kind b (no_stop (is_stop kind b) parts.0) in
+    let first : (may_hold kind b || after) ≡ true = or_left (may_hold kind b) after may in
     elim (cases_Bool (b == 92)) [
       | inl e ↦
           let more : is_closed kind true (c ∷ rest) ≡ true = rw e at parts.1 in
           let closed : is_closed kind false rest ≡ true = (and_parts (not (is_stop kind c) || true) (is_closed kind false rest) more).1 in
           elim (cases_Bool (is_escapable kind c)) [
             | inl known ↦ rw (e, known)
-                (and_from (may_stand kind c || after) _
-                (or_left (may_stand kind c) after (escapable_may kind c known)) (logical_kept kind (c == 92) rest closed))
+                (and_from (may_hold kind c || after) _
+                (or_left (may_hold kind c) after (escapable_may kind c known)) (logical_kept kind (c == 92) rest closed))
             | inr unknown ↦ rw (e, unknown)
-                (and_from (may_stand kind b || after) _ first
-                (and_from (may_stand kind c || (b == 92)) _ (or_right (may_stand kind c) (b == 92) e)
+                (and_from (may_hold kind b || after) _ first
+                (and_from (may_hold kind c || (b == 92)) _ (or_right (may_hold kind c) (b == 92) e)
                 (logical_kept kind (c == 92) rest closed)))
           ]
       | inr e ↦
           let more : is_closed kind false (c ∷ rest) ≡ true = rw e at parts.1 in
-          rw e (and_from (may_stand kind b || after) _ first (logical_kept kind (b == 92) (c ∷ rest) more))
+          rw e (and_from (may_hold kind b || after) _ first (logical_kept kind (b == 92) (c ∷ rest) more))
     ]
 
 -- whether a text ends in a backslash, or, where it is empty, what is said of the place before it
@@ -116,12 +116,12 @@ kept_place : (kind : NameKind) (suffix : Bool) (front back : List ℕ) (b : ℕ)
     → is_kept kind suffix (front ++ b ∷ back) ≡ true → is_one_of (never_in kind) b ≡ true
     → ends_after suffix front ≡ true
 kept_place kind suffix [] back b h never =
-    elim (or_cases (may_stand kind b) suffix (and_parts (may_stand kind b || suffix) _ h).0) [
+    elim (or_cases (may_hold kind b) suffix (and_parts (may_hold kind b || suffix) _ h).0) [
       | inl may ↦ absurd (false≢true (sym (not_from_true _ never) ∙ may))
       | inr after ↦ after
     ]
 kept_place kind suffix (x ∷ front) back b h never = kept_place kind (x == 92) front back b
-    (and_parts (may_stand kind x || suffix) _ h).1 never
+    (and_parts (may_hold kind x || suffix) _ h).1 never
 
 -- and from all such bytes
 kept_from : (kind : NameKind) (after : Bool) (n : List ℕ)
@@ -129,11 +129,11 @@ kept_from : (kind : NameKind) (after : Bool) (n : List ℕ)
     → is_kept kind after n ≡ true
 kept_from kind after [] h = refl
 kept_from kind after (b ∷ n) h =
-    let first : (may_stand kind b || after) ≡ true = elim (cases_Bool (is_one_of (never_in kind) b)) [
-      | inl never ↦ or_right (may_stand kind b) after (h [] n b refl never)
-      | inr other ↦ or_left (may_stand kind b) after (not_from_false _ other)
+    let first : (may_hold kind b || after) ≡ true = elim (cases_Bool (is_one_of (never_in kind) b)) [
+      | inl never ↦ or_right (may_hold kind b) after (h [] n b refl never)
+      | inr other ↦ or_left (may_hold kind b) after (not_from_false _ other)
     ] in
-    and_from (may_stand kind b || after) _ first
+    and_from (may_hold kind b || after) _ first
     (kept_from kind (b == 92) n (λ front back c e never. h (b ∷ front) back c (ap (λ (xs : List ℕ). b ∷ xs) e) never))
 
 -- a parsed name, by the test of its bytes

@@ -20,7 +20,7 @@ use Rattle.influxdb_line_protocol.specs.format.Trimming.{trimmed}
 use Rattle.influxdb_line_protocol.specs.format.Lines.{spaces}
 use Rattle.influxdb_line_protocol.proofs.lemmas.names.NameLemmas.{escapable_backslash, without_escapes_plain_byte}
 use Rattle.influxdb_line_protocol.proofs.lemmas.names.NameLemmas.{without_escapes_known, logical_ends, name_fatal, name_reads}
-use Rattle.influxdb_line_protocol.proofs.lemmas.laws.batch_reads_back.NameReadsBack.{may_stand, stop_escapable, plain_no_backslash}
+use Rattle.influxdb_line_protocol.proofs.lemmas.laws.batch_reads_back.NameReadsBack.{may_hold, stop_escapable, plain_no_backslash}
 use Rattle.influxdb_line_protocol.proofs.lemmas.laws.batch_reads_back.NameReadsBack.{backslash_no_stop, escaped_found, escaped_plain}
 use Rattle.influxdb_line_protocol.proofs.lemmas.scan.ScanLemmas.{bare_len, first_bare_len}
 use Rattle.influxdb_line_protocol.proofs.lemmas.line.TrimLemmas.{is_blank, trimmed_is}
@@ -37,7 +37,7 @@ use Rattle.influxdb_line_protocol.proofs.lemmas.laws.parsed_names.KeptNames.{is_
 pub data SpelledAs (kind : NameKind) : List ℕ → List ℕ → Type 0 where
   done : SpelledAs kind [] []
   escape : (b : ℕ) (n s : List ℕ) → is_escapable kind b ≡ true → SpelledAs kind n s → SpelledAs kind (b ∷ n) (92 ∷ b ∷ s)
-  plain : (b : ℕ) (n s : List ℕ) → is_escapable kind b ≡ false → may_stand kind b ≡ true → SpelledAs kind n s
+  plain : (b : ℕ) (n s : List ℕ) → is_escapable kind b ≡ false → may_hold kind b ≡ true → SpelledAs kind n s
       → SpelledAs kind (b ∷ n) (b ∷ s)
   pair : (c : ℕ) (n s : List ℕ) → is_one_of (never_in kind) c ≡ true → SpelledAs kind n s → SpelledAs kind (92 ∷ c ∷ n) (92 ∷ c ∷ s)
 
@@ -65,8 +65,8 @@ may_alone : (m : Bool) → (m || false) ≡ true → m ≡ true
 may_alone true h = refl
 may_alone false h = absurd (false≢true h)
 
--- a name with a byte at the start that may stand alone
-spelled_more : (kind : NameKind) (b : ℕ) (n : List ℕ) → may_stand kind b ≡ true → (s : List ℕ) × SpelledAs kind n s
+-- a name with a byte at the start that may be bare
+spelled_more : (kind : NameKind) (b : ℕ) (n : List ℕ) → may_hold kind b ≡ true → (s : List ℕ) × SpelledAs kind n s
     → (s : List ℕ) × SpelledAs kind (b ∷ n) s
 spelled_more kind b n may more =
     elim (cases_Bool (is_escapable kind b)) [
@@ -78,13 +78,13 @@ spelled_more kind b n may more =
 pub spelled_as : (kind : NameKind) (n : List ℕ) → is_kept kind false n ≡ true → (s : List ℕ) × SpelledAs kind n s
 spelled_as kind [] h = ([], done)
 spelled_as kind (b ∷ []) h = spelled_more kind b []
-    (may_alone (may_stand kind b) (and_parts (may_stand kind b || false) true h).0) ([], done)
+    (may_alone (may_hold kind b) (and_parts (may_hold kind b || false) true h).0) ([], done)
 spelled_as kind (b ∷ c ∷ n) h =
-    let parts = and_parts (may_stand kind b || false) (is_kept kind (b == 92) (c ∷ n)) h in
-    let may = may_alone (may_stand kind b) parts.0 in
+    let parts = and_parts (may_hold kind b || false) (is_kept kind (b == 92) (c ∷ n)) h in
+    let may = may_alone (may_hold kind b) parts.0 in
     elim (cases_Bool (b == 92)) [
       | inl e ↦
-          let after = and_parts (may_stand kind c || (b == 92)) (is_kept kind (c == 92) n) parts.1 in
+          let after = and_parts (may_hold kind c || (b == 92)) (is_kept kind (c == 92) n) parts.1 in
           elim (cases_Bool (is_one_of (never_in kind) c)) [
             | inl never ↦
                 let more = spelled_as kind n (rw (never_backslash kind c never) at after.1) in (
@@ -97,12 +97,12 @@ spelled_as kind (b ∷ c ∷ n) h =
       | inr e ↦ spelled_more kind b (c ∷ n) may (spelled_as kind (c ∷ n) (rw e at parts.1))
     ]
 
--- the builder's spelling is one where each byte may stand alone
-pub spelling_as : (kind : NameKind) (n : List ℕ) → list_all (may_stand kind) n ≡ true → SpelledAs kind n (spelling kind n)
+-- the builder's spelling is one where each byte may be bare
+pub spelling_as : (kind : NameKind) (n : List ℕ) → list_all (may_hold kind) n ≡ true → SpelledAs kind n (spelling kind n)
 unfolding escaped
 spelling_as kind [] all = done
 spelling_as kind (b ∷ n) all =
-    let parts = and_parts (may_stand kind b) (list_all (may_stand kind) n) all in
+    let parts = and_parts (may_hold kind b) (list_all (may_hold kind) n) all in
     elim (cases_Bool (is_escapable kind b)) [
       | inl known ↦ rw (escaped_found (escapable kind) n b known) (escape b n (spelling kind n) known (spelling_as kind n parts.1))
       | inr other ↦ rw (escaped_plain (escapable kind) n b other) (plain b n (spelling kind n) other parts.0 (spelling_as kind n parts.1))
@@ -180,7 +180,7 @@ spelled_fatal {kind = kind} {n = n} {s = s} h some last rest ends =
 
 -- a spelling after a piece
 pub reaches_spelled : (part : Part) (e c : ℕ) {kind : NameKind} {n s : List ℕ}
-    → ((b : ℕ) → may_stand kind b ≡ true → is_escapable kind b ≡ false → ChangesNothing part e c b)
+    → ((b : ℕ) → may_hold kind b ≡ true → is_escapable kind b ≡ false → ChangesNothing part e c b)
     → SpelledAs kind n s → (piece : List ℕ) → Reaches part e c piece → Reaches part e c (piece ++ s)
 reaches_spelled part e c same done piece r = subst (Reaches part e c) (sym (append-nil piece)) r
 reaches_spelled part e c same (escape b n s known more) piece r =
@@ -199,7 +199,7 @@ BeginsLine [] = ⊥
 BeginsLine (b ∷ text) = is_one_of (35 ∷ 32 ∷ 9 ∷ 10 ∷ []) b ≡ false
 
 -- the first byte of a measurement that may are there
-begins_plain : (b : ℕ) → is_escapable a_measurement b ≡ false → may_stand a_measurement b ≡ true → b ≢ 35
+begins_plain : (b : ℕ) → is_escapable a_measurement b ≡ false → may_hold a_measurement b ≡ true → b ≢ 35
     → is_one_of (35 ∷ 32 ∷ 9 ∷ 10 ∷ []) b ≡ false
 begins_plain b other may no_hash = grind (arith, common_steps)
 

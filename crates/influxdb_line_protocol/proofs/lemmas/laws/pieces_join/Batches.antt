@@ -26,7 +26,7 @@ pub record HasAnswersBy (dialect : Dialect) (answer : List ℕ → Result Line F
   pub are : Pieces dialect text pieces
   pub answered : answers ≡ flat_map (piece_answers answer) pieces
 
--- the line of a point is a piece, nothing is trimmed off it, and its answer stands for the point
+-- the line of a point is a piece, nothing is trimmed off it, and its answer is the point
 pub record ReadsBack (dialect : Dialect) (answer : List ℕ → Result Line Fault) (p : Point) : Type 0 where
   pub line : Line
   pub is : point_of line ≡ p
