@@ -1,5 +1,6 @@
 pub mod Lanes
 pub mod Scan
+pub mod RawTokens
 pub mod Seen
 pub mod Forms
 pub mod Texts

@@ -1,21 +1,20 @@
 //! Names and texts between quotes: how far they are spelled, and what their spellings stand for.
 
-ghost use Rattle.std.specs.Prelude.{◌≡◌, ◌+◌, ◌<◌, ◌≤◌, [], true, false, not, length, take, drop, slice_index};
+ghost use Rattle.std.specs.Prelude.{◌≡◌, ◌+◌, ◌-◌, ◌<◌, ◌≤◌, [], true, false, not, length, take, drop, slice_index};
 ghost use Rattle.std.specs.Prelude.{string_bytes, IsCharBoundary, IfOk, IsOk};
 ghost use Rattle.std.specs.String.{string_capacity};
 ghost use Rattle.influxdb_line_protocol.specs.format.Bytes.{backslash, is_one_of};
 ghost use Rattle.influxdb_line_protocol.specs.format.Escapes.{EscapeScan, first_bare, without_escapes};
-ghost use Rattle.influxdb_line_protocol.specs.code.Forms.{stops_of, known_of, is_end, is_plain};
-ghost use Rattle.influxdb_line_protocol.specs.code.Lanes.{IsRunAt, mask_of};
+ghost use Rattle.influxdb_line_protocol.specs.code.Forms.{stops_of, known_of, is_plain};
+ghost use Rattle.influxdb_line_protocol.specs.code.Lanes.{IsRunAt};
+ghost use Rattle.influxdb_line_protocol.specs.code.Scan.{mask_at};
+ghost use Rattle.influxdb_line_protocol.specs.code.RawTokens.{is_escape_at, AreEscapes, IsFirstBackslash, IsScanned};
 ghost use Rattle.influxdb_line_protocol.specs.format.Names.{ends_in_backslash, is_shared, read_text};
 ghost use Rattle.influxdb_line_protocol.specs.code.Texts.{read_of};
 
 use crate::escaped::EscapedStr;
-use crate::lanes::{
-    HALF_LANES, LANES, MASKED, backslash_run, backslashes, backslashes_of, first_set, known_in,
-    plain_run, stops_in,
-};
-use crate::scan::{WIDE, bare, escapes_next, ones_below, places_of};
+use crate::lanes::{LANES, backslash_run, backslashes, first_set, known_in, plain_run, stops_in};
+use crate::scan::{WIDE, bare, escapes_next, lowest, places_of};
 use crate::sets::TokenKind;
 use std::alloc::{AllocError, Global};
 
@@ -28,8 +27,24 @@ pub(crate) struct Spelling<'a> {
     is_plain: bool,
     // How many bytes it takes without its escapes.
     len: usize,
+    // The place of its first backslash, or its end.
+    first: usize,
+    // The mask of its known escapes from there on, or 0 where it was not made.
+    escapes: u64,
     ghost told: { is_plain ≡ not (is_one_of text.now backslash) },
     ghost counted: { len ≡ length (without_escapes (known_of kind) text.now) },
+    ghost found: { IsFirstBackslash text.now first },
+    ghost masked: { 0 < escapes → AreEscapes (known_of kind) text.now first escapes },
+}
+
+// What was found of a spelling: where it ends, and the rest as it has it.
+#[derive(Clone, Copy)]
+struct Scanned {
+    end: usize,
+    is_plain: bool,
+    len: usize,
+    first: usize,
+    escapes: u64,
 }
 
 impl<'a> Spelling<'a> {
@@ -73,24 +88,27 @@ fn plain_end(kind: TokenKind, bytes: &[u8], at: usize) -> usize
 }
 
 // Goes over the 64 bytes from `at` on, up to one that ends the spelling or to the next bare place after them: how far,
-// and how many of the escapes before it are known.
+// how many of the escapes before it are known, and the mask of those that it went over.
 #[inline(always)]
-fn escapes_in_load(kind: TokenKind, bytes: &[u8], at: usize, found: usize) -> (usize, usize)
+fn escapes_in_load(kind: TokenKind, bytes: &[u8], at: usize, found: usize) -> (usize, usize, u64)
     requires walked { EscapeScan (known_of kind) (stops_of kind) bytes.now at found }
     requires room { at + WIDE < length bytes.now }
     ensures walked { EscapeScan (known_of kind) (stops_of kind) bytes.now result.0 result.1 }
     ensures stops { result.0 < at + WIDE → stops_of kind (slice_index bytes.now result.0) ≡ true }
     ensures further { at ≤ result.0 }
+    ensures mask { result.0 < at + WIDE
+        → result.2 ≡ mask_at (is_escape_at (known_of kind) bytes.now) at (result.0 - at) }
 {
     let backslashes = places_of(b'\\', bytes, at);
     let run = first_set(bare(stops_in(kind, bytes, at), backslashes), WIDE);
     // The bare backslashes of which the next byte is known.
     let known = bare(backslashes, backslashes) & known_in(kind, bytes, at + 1);
-    let found = found + ones_below(known, run);
+    let escapes = lowest(known, run);
+    let found = found + escapes.count_ones() as usize;
     if run < WIDE {
-        return (at + run, found);
+        return (at + run, found, escapes);
     }
-    (at + (WIDE + escapes_next(backslashes)), found)
+    (at + (WIDE + escapes_next(backslashes)), found, escapes)
 }
 
 // Goes on from escape to escape to the end of the spelling, with no regard to how many bytes are left: how far, and how
@@ -117,44 +135,51 @@ fn escapes_to_end(kind: TokenKind, bytes: &[u8], at: usize, found: usize) -> (us
     (end, known)
 }
 
-// How many bytes of `text` are spelled, where the first backslash stands at `at`, and how many they are without their
-// escapes.
+// What is spelled at the start of `text`, where the first backslash is at `at`.
 #[inline(always)]
-fn escaped_end_of(kind: TokenKind, text: &str, at: usize) -> (usize, usize)
+fn escaped_end_of(kind: TokenKind, text: &str, at: usize) -> Scanned
     requires run { IsRunAt (is_plain (stops_of kind)) text.now 0 at }
     requires within { at < length text.now }
     requires here { slice_index text.now at ≡ backslash }
-    ensures value { result.0 ≡ first_bare (stops_of kind) text.now }
-    ensures boundary { IsCharBoundary text.now result.0 }
-    ensures escaped { is_one_of (take result.0 text.now) backslash ≡ true }
-    ensures len { result.1 ≡ length (without_escapes (known_of kind) (take result.0 text.now)) }
+    ensures scanned { IsScanned kind text.now result }
+    ensures boundary { IsCharBoundary text.now result.end }
 {
     let bytes = text.as_bytes();
     let mut end = at;
     let mut known = 0;
     while bytes.len() - end > WIDE {
-        let (next, found) = escapes_in_load(kind, bytes, end, known);
+        let (next, found, escapes) = escapes_in_load(kind, bytes, end, known);
         if next < end + WIDE {
-            return (next, next - found);
+            return Scanned {
+                end: next,
+                is_plain: false,
+                len: next - found,
+                first: at,
+                escapes: if end == at { escapes } else { 0 },
+            };
         }
         end = next;
         known = found;
     }
     let (end, known) = escapes_to_end(kind, bytes, end, known);
-    (end, end - known)
+    Scanned {
+        end,
+        is_plain: false,
+        len: end - known,
+        first: at,
+        escapes: 0,
+    }
 }
 
 // The same, with a loop for each set of bytes that end one, which then compares with bytes that are known.
 #[cold]
 #[inline(never)]
-fn escaped_end(kind: TokenKind, text: &str, at: usize) -> (usize, usize)
+fn escaped_end(kind: TokenKind, text: &str, at: usize) -> Scanned
     requires run { IsRunAt (is_plain (stops_of kind)) text.now 0 at }
     requires within { at < length text.now }
     requires here { slice_index text.now at ≡ backslash }
-    ensures value { result.0 ≡ first_bare (stops_of kind) text.now }
-    ensures boundary { IsCharBoundary text.now result.0 }
-    ensures escaped { is_one_of (take result.0 text.now) backslash ≡ true }
-    ensures len { result.1 ≡ length (without_escapes (known_of kind) (take result.0 text.now)) }
+    ensures scanned { IsScanned kind text.now result }
+    ensures boundary { IsCharBoundary text.now result.end }
 {
     match kind {
         TokenKind::Measurement => escaped_end_of(TokenKind::Measurement, text, at),
@@ -164,21 +189,37 @@ fn escaped_end(kind: TokenKind, text: &str, at: usize) -> (usize, usize)
     }
 }
 
-// How many bytes of `text` are spelled, whether none is a backslash, and how many they are without their escapes.
+// What is spelled at the start of `text`.
 #[inline(always)]
-fn extent(kind: TokenKind, text: &str) -> (usize, bool, usize)
-    ensures value { result.0 ≡ first_bare (stops_of kind) text.now }
-    ensures boundary { IsCharBoundary text.now result.0 }
-    ensures plain { result.1 ≡ not (is_one_of (take result.0 text.now) backslash) }
-    ensures len { result.2 ≡ length (without_escapes (known_of kind) (take result.0 text.now)) }
+fn extent(kind: TokenKind, text: &str) -> Scanned
+    ensures scanned { IsScanned kind text.now result }
+    ensures boundary { IsCharBoundary text.now result.end }
 {
     let bytes = text.as_bytes();
     let end = plain_end(kind, bytes, 0);
     if end < bytes.len() && bytes[end] == b'\\' {
-        let (end, len) = escaped_end(kind, text, end);
-        return (end, false, len);
+        let Scanned {
+            end,
+            is_plain,
+            len,
+            first,
+            escapes,
+        } = escaped_end(kind, text, end);
+        return Scanned {
+            end,
+            is_plain,
+            len,
+            first,
+            escapes,
+        };
     }
-    (end, true, end)
+    Scanned {
+        end,
+        is_plain: true,
+        len: end,
+        first: end,
+        escapes: 0,
+    }
 }
 
 /// The spelled text at the start of `text`, also an empty one, and the rest.
@@ -188,13 +229,15 @@ pub(crate) fn front(kind: TokenKind, text: &str) -> (Spelling<'_>, &str)
     ensures text { result.0.text.now ≡ take (first_bare (stops_of kind) text.now) text.now }
     ensures rest { result.1.now ≡ drop (first_bare (stops_of kind) text.now) text.now }
 {
-    let (end, is_plain, len) = extent(kind, text);
-    let (text, rest) = text.split_at(end);
+    let scanned = extent(kind, text);
+    let (text, rest) = text.split_at(scanned.end);
     let spelled = Spelling {
         kind,
         text,
-        is_plain,
-        len,
+        is_plain: scanned.is_plain,
+        len: scanned.len,
+        first: scanned.first,
+        escapes: scanned.escapes,
     };
     (spelled, rest)
 }
@@ -244,35 +287,11 @@ fn backslash_at(bytes: &[u8], at: usize) -> usize
     backslash_tail(bytes, end)
 }
 
-// The mask of the backslashes of a text of 8 to 63 bytes, and 0 for any other.
+// Puts after `to`, which has room for it, the logical text of `spelled`, whose first backslash is at `first`. It asks for no
+// memory.
 #[inline(always)]
-fn text_mask(bytes: &[u8]) -> u64
-    ensures { HALF_LANES ≤ length bytes.now → length bytes.now < MASKED
-        → result ≡ mask_of (is_end (λ b. false)) bytes.now 0 (length bytes.now) }
-{
-    if bytes.len() < HALF_LANES || bytes.len() >= MASKED {
-        return 0;
-    }
-    backslashes_of(bytes)
-}
-
-// The first backslash from `at` on, or the end: by the mask of the text where it has one.
-#[inline(always)]
-fn next_backslash(bytes: &[u8], mask: u64, at: usize) -> usize
-    requires within { at ≤ length bytes.now }
-    requires mask { HALF_LANES ≤ length bytes.now → length bytes.now < MASKED
-        → mask ≡ mask_of (is_end (λ b. false)) bytes.now 0 (length bytes.now) }
-    ensures { IsRunAt (is_plain (λ b. false)) bytes.now at result }
-{
-    if bytes.len() < HALF_LANES || bytes.len() >= MASKED {
-        return backslash_at(bytes, at);
-    }
-    at + first_set(mask >> at, bytes.len() - at)
-}
-
-// Puts after `to`, which has room for it, the logical text of `spelled`. It asks for no memory.
-#[inline(always)]
-fn put(kind: TokenKind, spelled: &str, to: &mut String) -> Result<(), AllocError>
+fn put(kind: TokenKind, spelled: &str, first: usize, to: &mut String) -> Result<(), AllocError>
+    requires found { IsFirstBackslash spelled.now first }
     requires empty { string_bytes to.old ≡ [] }
     requires room { length (without_escapes (known_of kind) spelled.now) ≤ string_capacity to.old }
     ensures has_room { IsOk result }
@@ -280,27 +299,71 @@ fn put(kind: TokenKind, spelled: &str, to: &mut String) -> Result<(), AllocError
 {
     let bytes = spelled.as_bytes();
     let mut from = 0;
-    let mask = text_mask(bytes);
-    let mut at = next_backslash(bytes, mask, 0);
+    let mut at = first;
     while at + 1 < bytes.len() {
         if kind.is_known(bytes[at + 1]) {
             to.push_str(&spelled[from..at])?;
             from = at + 1;
         }
-        at = next_backslash(bytes, mask, at + 2);
+        at = backslash_at(bytes, at + 2);
     }
     to.push_str(&spelled[from..])?;
     Ok(())
 }
 
-// A copy of the logical text of `spelled`, which takes `len` bytes. It asks for memory once.
+// The same, by the mask of its known escapes from `first` on.
+#[inline(always)]
+fn put_by_mask(
+    kind: TokenKind,
+    spelled: &str,
+    first: usize,
+    escapes: u64,
+    to: &mut String,
+) -> Result<(), AllocError>
+    requires masked { AreEscapes (known_of kind) spelled.now first escapes }
+    requires empty { string_bytes to.old ≡ [] }
+    requires room { length (without_escapes (known_of kind) spelled.now) ≤ string_capacity to.old }
+    ensures has_room { IsOk result }
+    ensures text { string_bytes to.new ≡ without_escapes (known_of kind) spelled.now }
+{
+    let end = spelled.len();
+    let mut from = 0;
+    let mut at = first;
+    let mut left = escapes;
+    while left != 0 {
+        let run = left.trailing_zeros();
+        let escape = at + run as usize;
+        to.push_str(&spelled[from..escape])?;
+        from = escape + 1;
+        at = from;
+        left = (left >> run) >> 1;
+    }
+    to.push_str(&spelled[from..end])?;
+    Ok(())
+}
+
+// A copy of the logical text of `spelled`, which takes `len` bytes and has its first backslash at `first`, by the mask of its
+// known escapes where that was made. It asks for memory once.
 #[inline(never)]
-fn copy(alloc: Global, kind: TokenKind, spelled: &str, len: usize) -> Result<String, AllocError>
-    requires { len ≡ length (without_escapes (known_of kind) spelled.now) }
+fn copy(
+    alloc: Global,
+    kind: TokenKind,
+    spelled: &str,
+    len: usize,
+    first: usize,
+    escapes: u64,
+) -> Result<String, AllocError>
+    requires len { len ≡ length (without_escapes (known_of kind) spelled.now) }
+    requires found { IsFirstBackslash spelled.now first }
+    requires masked { 0 < escapes → AreEscapes (known_of kind) spelled.now first escapes }
     ensures { IfOk result (λ text. string_bytes text ≡ without_escapes (known_of kind) spelled.now) }
 {
     let mut text = String::with_capacity(alloc, len)?;
-    put(kind, spelled, &mut text)?;
+    if escapes != 0 {
+        put_by_mask(kind, spelled, first, escapes, &mut text)?;
+    } else {
+        put(kind, spelled, first, &mut text)?;
+    }
     Ok(text)
 }
 
@@ -320,5 +383,13 @@ pub(crate) fn escaped_str<'a>(
     if matches!(text.as_bytes(), [b'\\', byte] if spelled.kind.is_known(*byte)) {
         return Ok(EscapedStr::SingleSlice(&text[1..]));
     }
-    Ok(EscapedStr::CopiedValue(copy(alloc, spelled.kind, text, spelled.len)?))
+    let text = copy(
+        alloc,
+        spelled.kind,
+        text,
+        spelled.len,
+        spelled.first,
+        spelled.escapes,
+    )?;
+    Ok(EscapedStr::CopiedValue(text))
 }

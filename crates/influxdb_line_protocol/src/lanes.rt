@@ -10,11 +10,6 @@ use std::simd::prelude::*;
 
 pub(crate) const LANES: usize = 16;
 
-pub(crate) const HALF_LANES: usize = 8;
-
-/// A text of fewer bytes than this has a mask.
-pub(crate) const MASKED: usize = 64;
-
 /// The place of the lowest bit that is set, or `lanes`.
 #[inline(always)]
 pub(crate) fn first_set(mask: u64, lanes: usize) -> usize
@@ -129,16 +124,6 @@ pub(crate) fn backslashes(bytes: &[u8], at: usize) -> u64
     lanes.to_bitmask()
 }
 
-// The same among 8 bytes.
-#[inline(always)]
-fn backslashes_half(bytes: &[u8], at: usize) -> u64
-    requires { at + HALF_LANES ≤ length bytes.now }
-    ensures { result ≡ mask_of (is_end (λ b. false)) bytes.now at HALF_LANES }
-{
-    let lanes = u8x8::from_slice(&bytes[at..]).simd_eq(u8x8::splat(b'\\'));
-    lanes.to_bitmask()
-}
-
 /// How many of the 16 bytes from `at` on come before the first backslash.
 #[inline(always)]
 pub(crate) fn backslash_run(bytes: &[u8], at: usize) -> usize
@@ -146,47 +131,4 @@ pub(crate) fn backslash_run(bytes: &[u8], at: usize) -> usize
     ensures { IsRunIn (is_plain (λ b. false)) bytes.now at LANES result }
 {
     first_set(backslashes(bytes, at), LANES)
-}
-
-// The mask of the backslashes of a text of 16 to 63 bytes. The last load overlaps what was seen.
-#[inline(always)]
-fn backslashes_by_loads(bytes: &[u8]) -> u64
-    requires least { LANES ≤ length bytes.now }
-    requires most { length bytes.now < MASKED }
-    ensures { result ≡ mask_of (is_end (λ b. false)) bytes.now 0 (length bytes.now) }
-{
-    let mut mask = backslashes(bytes, 0);
-    let mut seen = LANES;
-    while bytes.len() - seen >= LANES {
-        mask += backslashes(bytes, seen) << seen;
-        seen += LANES;
-    }
-    let rest = backslashes(bytes, bytes.len() - LANES) >> (LANES - (bytes.len() - seen));
-    mask + (rest << seen)
-}
-
-// The mask of the backslashes of a text of 8 to 15 bytes, by two loads that overlap.
-#[inline(always)]
-fn backslashes_by_halves(bytes: &[u8]) -> u64
-    requires least { HALF_LANES ≤ length bytes.now }
-    requires most { length bytes.now < LANES }
-    ensures { result ≡ mask_of (is_end (λ b. false)) bytes.now 0 (length bytes.now) }
-{
-    let mask = backslashes_half(bytes, 0);
-    let rest = backslashes_half(bytes, bytes.len() - HALF_LANES) >> (LANES - bytes.len());
-    mask + (rest << HALF_LANES)
-}
-
-/// The mask of the backslashes of a text of 8 to 63 bytes.
-#[inline(always)]
-pub(crate) fn backslashes_of(bytes: &[u8]) -> u64
-    requires least { HALF_LANES ≤ length bytes.now }
-    requires most { length bytes.now < MASKED }
-    ensures { result ≡ mask_of (is_end (λ b. false)) bytes.now 0 (length bytes.now) }
-{
-    if bytes.len() < LANES {
-        backslashes_by_halves(bytes)
-    } else {
-        backslashes_by_loads(bytes)
-    }
 }

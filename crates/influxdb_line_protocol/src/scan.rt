@@ -53,16 +53,24 @@ pub(crate) fn escapes_next(backslashes: u64) -> usize
     (bare(backslashes, backslashes) >> (WIDE - 1)) as usize
 }
 
+/// The lowest `n` bits.
+#[inline(always)]
+pub(crate) fn lowest(mask: u64, n: usize) -> u64
+    requires { n ≤ WIDE }
+    ensures { result ≡ mask % 2 ^ n }
+{
+    if n < WIDE {
+        mask & ((1 << n) - 1)
+    } else {
+        mask
+    }
+}
+
 /// How many of the lowest `n` bits are set.
 #[inline(always)]
 pub(crate) fn ones_below(mask: u64, n: usize) -> usize
     requires { n ≤ WIDE }
     ensures { result ≡ count_ones (mask % 2 ^ n) }
 {
-    let low = if n < WIDE {
-        mask & ((1 << n) - 1)
-    } else {
-        mask
-    };
-    low.count_ones() as usize
+    lowest(mask, n).count_ones() as usize
 }

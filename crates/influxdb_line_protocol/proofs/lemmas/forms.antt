@@ -3,3 +3,4 @@ pub mod FormLemmas
 pub mod WalkLemmas
 pub mod WalkMasks
 pub mod CopyLemmas
+pub mod EscapeMasks

@@ -1,12 +1,13 @@
-use Rattle.std.proofs.Common.{◌≢◌, ◌<◌, length, slice_index, sym, arith, refl}
+use Rattle.std.proofs.Common.{◌≢◌, ◌<◌, length, slice_index, not, sym, ap, arith}
 use Rattle.influxdb_line_protocol.specs.code.Forms.{stops_of, known_of}
+use Rattle.influxdb_line_protocol.proofs.lemmas.forms.EscapeMasks.{first_backslash}
 use Rattle.influxdb_line_protocol.proofs.lemmas.forms.WalkLemmas.{run_ends, run_is_plain}
 use Rattle.influxdb_line_protocol.proofs.forms.extent.Goals as goal
 use Rattle.influxdb_line_protocol.proofs.forms.extent.Goals.{else-end-bytes-via-then-end-bytes+else-bytes-end-eq92}
 use Rattle.influxdb_line_protocol.proofs.forms.extent.Goals.{else-end-bytes-via-else-end-bytes}
 
-pub returns-clause-value : goal.returns-clause-value
-returns-clause-value c =
+pub returns-clause-scanned : goal.returns-clause-scanned
+returns-clause-scanned c =
     let kind = c.args.kind in
     let bytes = c.as_bytes-bytes.result.now in
     let end = c.plain_end-end.result in
@@ -15,22 +16,14 @@ returns-clause-value c =
       | else-end-bytes-via-else-end-bytes w ↦ absurd (omega arith)
     ] in
     let ends = run_ends (known_of kind) (stops_of kind) bytes end c.plain_end-end.ensures other in
-    rw (← c.as_bytes-bytes.ensures.value) (sym ends.0)
-
-pub returns-clause-plain : goal.returns-clause-plain
-returns-clause-plain c =
-    let kind = c.args.kind in
-    let none = run_is_plain (known_of kind) (stops_of kind) c.as_bytes-bytes.result.now c.plain_end-end.result c.plain_end-end.ensures in
-    rw (← c.as_bytes-bytes.ensures.value, none) refl
-
-pub returns-clause-len : goal.returns-clause-len
-returns-clause-len c =
-    let kind = c.args.kind in
-    let bytes = c.as_bytes-bytes.result.now in
-    let end = c.plain_end-end.result in
-    let other : end < length bytes → slice_index bytes end ≢ 92 = λ within. elim c.else-end-bytes.branch [
-      | else-end-bytes-via-then-end-bytes+else-bytes-end-eq92 w ↦ w.if-bytes-end-eq92.false
-      | else-end-bytes-via-else-end-bytes w ↦ absurd (omega arith)
-    ] in
-    let ends = run_ends (known_of kind) (stops_of kind) bytes end c.plain_end-end.ensures other in
-    rw (← c.as_bytes-bytes.ensures.value) (sym ends.1)
+    let none = run_is_plain (known_of kind) (stops_of kind) bytes end c.plain_end-end.ensures in
+    rw (← c.as_bytes-bytes.ensures.value) (
+    record {
+      end = sym ends.0;
+      plain = ap not (sym none);
+      len = sym ends.1;
+      found = first_backslash (stops_of kind) bytes end end c.plain_end-end.ensures.within (omega arith) c.plain_end-end.ensures
+          (λ short. absurd (omega arith));
+      masked = λ some. absurd (omega arith);
+    }
+    )

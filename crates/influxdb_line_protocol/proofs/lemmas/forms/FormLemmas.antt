@@ -20,6 +20,14 @@ backslash_goes_on TagValue = refl
 backslash_goes_on FieldKey = refl
 backslash_goes_on String = refl
 
+-- 0, which is read after the end of a text, is none of the bytes that a backslash may escape
+pub zero_is_not_known : (kind : TokenKind) → is_one_of (known_of kind) 0 ≡ false
+zero_is_not_known Measurement = refl
+zero_is_not_known TagKey = refl
+zero_is_not_known TagValue = refl
+zero_is_not_known FieldKey = refl
+zero_is_not_known String = refl
+
 -- a byte that a backslash may escape is a character
 pub known_is_ascii : (kind : TokenKind) (b : ℕ) → is_one_of (known_of kind) b ≡ true → b < 128
 known_is_ascii Measurement b h = grind (arith, common_steps)

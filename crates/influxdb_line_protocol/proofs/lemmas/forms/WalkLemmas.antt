@@ -14,6 +14,7 @@ use Rattle.influxdb_line_protocol.specs.format.Bytes.{is_one_of}
 use Rattle.influxdb_line_protocol.specs.format.Escapes.{is_escaped_after, is_bare_at, first_bare, without_escapes, EscapeScan}
 use Rattle.influxdb_line_protocol.specs.code.Forms.{is_plain}
 use Rattle.influxdb_line_protocol.specs.code.Lanes.{AllPassBetween, IsRunAt}
+use Rattle.influxdb_line_protocol.specs.code.RawTokens.{is_escape_at}
 use Rattle.influxdb_line_protocol.proofs.lemmas.forms.EscapeLemmas.{first_bare_is, is_escaped_more}
 use Rattle.influxdb_line_protocol.proofs.lemmas.names.NameLemmas.{without_escapes_plain_byte}
 use Rattle.influxdb_line_protocol.proofs.lemmas.split.SplitBare.{is_escaped-nil, is_escaped-append, is_escaped-after_other, flag_after}
@@ -53,21 +54,17 @@ without_escapes_append known (b ∷ c ∷ rest) back bare =
     ]
 
 module _ (known text : List ℕ) where
-  -- a known escape begins at a place
-  abbrev pub is_escape_at : ℕ → Bool
-  is_escape_at k = is_bare_at (λ b. b == 92) text k && is_one_of known (slice_index text (k + 1))
-
-  -- how many of so many places from one on begin one
+  -- at how many of so many places from one on a known escape begins
   abbrev pub escapes_from : ℕ → ℕ → ℕ
-  escapes_from at n = count_by is_escape_at (range_with_len at n)
+  escapes_from at n = count_by (is_escape_at known text) (range_with_len at n)
 
-  escapes_first : (at n : ℕ) → escapes_from at (suc n) ≡ cond (is_escape_at at) 1 0 + escapes_from (at + 1) n
-  escapes_first at n = sum_by-cons (λ k. cond (is_escape_at k) 1 0) at (range_with_len (at + 1) n)
+  escapes_first : (at n : ℕ) → escapes_from at (suc n) ≡ cond (is_escape_at known text at) 1 0 + escapes_from (at + 1) n
+  escapes_first at n = sum_by-cons (λ k. cond (is_escape_at known text k) 1 0) at (range_with_len (at + 1) n)
 
-  pub escapes_more : (n at : ℕ) → escapes_from at (suc n) ≡ escapes_from at n + cond (is_escape_at (at + n)) 1 0
+  pub escapes_more : (n at : ℕ) → escapes_from at (suc n) ≡ escapes_from at n + cond (is_escape_at known text (at + n)) 1 0
   escapes_more zero at =
       let place : at + 0 ≡ at = omega arith in
-      omega (arith, escapes_first at 0, ap (λ (k : ℕ). cond {A = ℕ} (is_escape_at k) 1 0) place)
+      omega (arith, escapes_first at 0, ap (λ (k : ℕ). cond {A = ℕ} (is_escape_at known text k) 1 0) place)
   escapes_more (suc n) at =
       let place : at + 1 + n ≡ at + suc n = omega arith in
       omega (
@@ -75,7 +72,7 @@ module _ (known text : List ℕ) where
         escapes_first at (suc n),
         escapes_first at n,
         escapes_more n (at + 1),
-        ap (λ (k : ℕ). cond {A = ℕ} (is_escape_at k) 1 0) place,
+        ap (λ (k : ℕ). cond {A = ℕ} (is_escape_at known text k) 1 0) place,
       )
 
 -- a bare byte that is no bare stop is no stop

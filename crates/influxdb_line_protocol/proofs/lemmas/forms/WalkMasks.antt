@@ -7,12 +7,13 @@ use Rattle.std.proofs.lemmas.Bool.{cases_eq}
 use Rattle.influxdb_line_protocol.specs.format.Bytes.{is_one_of}
 use Rattle.influxdb_line_protocol.specs.format.Escapes.{is_bare_at, IsPassed, EscapeScan}
 use Rattle.influxdb_line_protocol.specs.code.Lanes.{first_set, mask_of}
+use Rattle.influxdb_line_protocol.specs.code.RawTokens.{is_escape_at}
 use Rattle.influxdb_line_protocol.specs.code.Scan.{mask_at}
 use Rattle.influxdb_line_protocol.proofs.lemmas.scan.BareMasks.{at_most_one, escaped_is_not_bare, lowest_within, mask_next}
 use Rattle.influxdb_line_protocol.proofs.lemmas.scan.BareMasks.{next_bare, one_escaped, ones_low, to_next, to_stop}
 use Rattle.influxdb_line_protocol.proofs.lemmas.scan.EscapedMasks.{of_places}
 use Rattle.influxdb_line_protocol.proofs.lemmas.scan.MaskBits.{and_of_maps}
-use Rattle.influxdb_line_protocol.proofs.lemmas.forms.WalkLemmas.{is_escape_at, escapes_from, escapes_more, walk_to}
+use Rattle.influxdb_line_protocol.proofs.lemmas.forms.WalkLemmas.{escapes_from, escapes_more, walk_to}
 
 -- the mask of the bare backslashes of which the next byte is known
 pub escapes_mask : (known text : List ℕ) (at m k : ℕ) → at + 64 < length text → m ≡ mask_at (is_bare_at (λ b. b == 92) text) at 64

@@ -69,12 +69,15 @@ highest p at =
     bit_mask_l ms 63 ∙ ap (λ (t : Bool). cond t 1 0) (get_or-map-range_with_len p at 64 63 (at + 63) false (omega arith) refl) in
     omega arith
 
--- its lowest bits tell how many of the first places pass
+-- its lowest bits are the mask of the first places
+pub mask_low : (p : ℕ → Bool) (at w n : ℕ) → n ≤ w → mask_at p at w % 2 ^ n ≡ mask_at p at n
+mask_low p at w n few =
+    mask_mod (map p (range_with_len at w)) n (omega (arith, length-map-range_with_len p at w))
+    ∙ ap mask_l (take-map-range_with_len p at w n few)
+
+-- they tell how many of those pass
 pub ones_low : (p : ℕ → Bool) (at w n : ℕ) → n ≤ w → count_ones (mask_at p at w % 2 ^ n) ≡ count_by p (range_with_len at n)
-ones_low p at w n few =
-    ap count_ones (mask_mod (map p (range_with_len at w)) n (omega (arith, length-map-range_with_len p at w))
-    ∙ ap mask_l (take-map-range_with_len p at w n few))
-    ∙ ones-mask_l p (range_with_len at n)
+ones_low p at w n few = ap count_ones (mask_low p at w n few) ∙ ones-mask_l p (range_with_len at n)
 
 -- a mask of places from the next one on, as one of places from this one on
 range_next : {X : Type 0} (f : ℕ → X) (n at : ℕ) → map f (range_with_len (at + 1) n) ≡ map (λ k. f (k + 1)) (range_with_len at n)
