@@ -7,7 +7,8 @@ use Rattle.influxdb_line_protocol.specs.code.Forms.{known_of}
 use Rattle.influxdb_line_protocol.specs.code.Shown.{shown_escapes}
 use Rattle.influxdb_line_protocol.proofs.lemmas.series.ShownLemmas.{escaped_nil, keep_byte, escape_byte, shown_ascii}
 use Rattle.influxdb_line_protocol.proofs.shown.show_escaped.Goals as goal
-use Rattle.influxdb_line_protocol.proofs.shown.show_escaped.Goals.{then-gets_backslash+in_ok-write_str+in_ok-write_str-2, else-gets_backslash}
+use Rattle.influxdb_line_protocol.proofs.shown.show_escaped.Goals.{then-gets_backslash+in_ok-write_str+in_ok-write_str-2}
+use Rattle.influxdb_line_protocol.proofs.shown.show_escaped.Goals.{else-gets_backslash}
 
 pub loop-at-init : goal.loop-at-init
 loop-at-init g c = (omega arith, IsCharBoundary-start c.args.text.now c.utf8.text, [], escaped_nil _, search rules)
