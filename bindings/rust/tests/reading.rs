@@ -54,6 +54,25 @@ fn more_parts_and_more_room_than_are_lent_at_first() {
 }
 
 #[test]
+fn blocks_lose_nothing() {
+    for count in [1, 2, 3, 15, 16, 17, 1000] {
+        let item = |n: usize| match n % 5 {
+            3 => format!("m {n}\n"),
+            _ => format!("m,t=a\\ {n} f={n}i,g=\"\\\"{n}\" {n}\n"),
+        };
+        let text: String = (0..count).map(item).collect();
+        let items: Vec<_> = parse_lines(&text).collect();
+        assert_eq!(items.len(), count);
+        for (n, item) in items.iter().enumerate() {
+            match item {
+                Ok(line) => assert_eq!(line.to_string(), format!("m,t=a\\ {n} f={n}i,g=\\\"{n} {n}")),
+                Err(fault) => assert!(n % 5 == 3 && matches!(fault, Error::FieldSetMissing)),
+            }
+        }
+    }
+}
+
+#[test]
 fn parts_of_the_input_outlive_the_iterator() {
     let text = String::from("m,k=v s=\"t\"");
     let read = { parse_lines(&text).next() }.unwrap().unwrap();
