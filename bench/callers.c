@@ -74,14 +74,19 @@ static uint64_t by_block(const uint8_t *text, size_t len) {
     return sum;
 }
 
+static size_t larger(size_t a, size_t b) { return a > b ? a : b; }
+
+/* The room of the call before is lent again, so that only the first call for a text is made twice. */
 static uint64_t rebuilt(const uint8_t *text, size_t len) {
-    lp_counts counts = { 2 * len, len, 0, 0 };
+    static size_t batch, faults;
+    lp_counts counts = { 0, 0, 0, 0 };
     uint32_t answer;
-    do {
-        size_t batch = counts.batch_len, faults = counts.faults_len;
+    lend(0, larger(batch + faults, 1));
+    while ((answer = lp_rebuild(false, text, len, bytes, batch, bytes + batch, faults, &counts)) == LP_MORE_ROOM) {
+        batch = larger(batch, counts.batch_len);
+        faults = larger(faults, counts.faults_len);
         lend(0, batch + faults);
-        answer = lp_rebuild(false, text, len, bytes, batch, bytes + batch, faults, &counts);
-    } while (answer == LP_MORE_ROOM);
+    }
     return answer == LP_WRITTEN ? counts.batch_len : 0;
 }
 
