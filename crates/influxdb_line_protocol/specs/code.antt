@@ -23,5 +23,6 @@ pub mod Marks
 pub mod Stops
 pub mod Walks
 pub mod Ahead
+pub mod Searches
 pub mod Streams
 pub mod Lending

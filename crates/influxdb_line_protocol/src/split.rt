@@ -22,6 +22,10 @@ use memchr::{memchr, memchr2, memchr3};
 use std::marker::Model;
 use std::simd::prelude::*;
 
+mod resumed;
+
+pub(crate) use resumed::{Search, search_on};
+
 // How many bytes are looked at by wide loads, where they show nothing, before `memchr` searches on.
 const NEAR: usize = 320;
 
@@ -472,9 +476,9 @@ fn cut_by_stretches(text: &[u8]) -> Option<usize>
 
 // A newline, quote or backslash, and the mask of those that were seen after it.
 #[derive(Clone, Copy)]
-struct Mark {
-    at: usize,
-    later: u64,
+pub(crate) struct Mark {
+    pub(crate) at: usize,
+    pub(crate) later: u64,
 }
 
 // The mask of those of the 64 bytes from `at` on that are a newline, a quote or a backslash.
@@ -546,7 +550,7 @@ fn first_newline(text: &[u8]) -> Option<usize>
 
 /// The place of the newline that ends the first piece, or `None` where the text is one piece.
 #[inline(always)]
-pub(crate) fn late_cut(dialect: Dialect, text: &[u8]) -> Option<usize>
+fn late_cut(dialect: Dialect, text: &[u8]) -> Option<usize>
     ensures { IsFirstCut dialect text.now result }
 {
     match dialect {

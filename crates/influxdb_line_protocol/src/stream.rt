@@ -1,14 +1,11 @@
 //! Lines that come in parts.
 
-ghost use Rattle.std.specs.Prelude.{◌≡◌, ◌≢◌, false, ◌+◌, ◌≤◌, ◌++◌, [], length, take, OnOk, OnErr};
+ghost use Rattle.std.specs.Prelude.{◌≡◌, ◌++◌, [], OnOk, OnErr};
 ghost use Rattle.std.specs.Borrow.{sem};
-ghost use Rattle.std.specs.List.{All};
 ghost use Rattle.influxdb_line_protocol.specs.declared.split.Dialect.{Dialect};
-ghost use Rattle.influxdb_line_protocol.specs.format.Bytes.{newline};
-ghost use Rattle.influxdb_line_protocol.specs.format.Pieces.{IsFirstCut, IsLastPiece};
+ghost use Rattle.influxdb_line_protocol.specs.format.Pieces.{IsLastPiece};
 
-use crate::split::{Dialect, late_cut};
-use memchr::memchr;
+use crate::split::{Dialect, Search, search_on};
 use std::alloc::{AllocError, Global};
 use std::marker::Model;
 use std::str::{self, Utf8Error};
@@ -31,8 +28,8 @@ pub struct LineStream {
     buffer: Vec<u8>,
     // Where the bytes begin that are held.
     start: usize,
-    // So many bytes from there on hold no cut.
-    quiet: usize,
+    // What a search for a cut knows of them.
+    known: Search,
 }
 
 impl Model for LineStream {
@@ -43,27 +40,7 @@ impl Model for LineStream {
 
     ghost view = { λ s. record { dialect = s.dialect; bytes = drop s.start s.buffer.items } };
 
-    ghost invariant = { λ s. IsHeldAt s.dialect s.buffer.items s.start s.quiet };
-}
-
-// Whether a newline is among the bytes.
-fn has_newline(bytes: &[u8]) -> bool
-    ensures { result ≡ false → All (λ b. b ≢ newline) bytes.now }
-{
-    memchr(b'\n', bytes).is_some()
-}
-
-// The place of the newline that ends the first piece, where no cut is among the first `quiet` bytes.
-fn next_cut(dialect: Dialect, held: &[u8], quiet: usize) -> Option<usize>
-    requires within { quiet ≤ length held.now }
-    requires is_quiet { IsLastPiece dialect (take quiet held.now) }
-    ensures { IsFirstCut dialect held.now result }
-{
-    if has_newline(&held[quiet..]) {
-        late_cut(dialect, held)
-    } else {
-        None
-    }
+    ghost invariant = { λ s. IsHeldAt s.dialect s.buffer.items s.start s.known };
 }
 
 impl LineStream {
@@ -85,7 +62,7 @@ impl LineStream {
             dialect,
             buffer: Vec::new(alloc),
             start: 0,
-            quiet: 0,
+            known: Search::Begins(0),
         }
     }
 
@@ -115,16 +92,15 @@ impl LineStream {
     pub fn next(&mut self) -> Option<&[u8]>
         ensures* after { sem 𝓛 (EndsAsCut self.entry result) }
     {
-        let held = &self.buffer[self.start..];
-        match next_cut(self.dialect, held, self.quiet) {
-            Some(i) => {
+        match search_on(self.dialect, &self.buffer[self.start..], self.known) {
+            Ok(cut) => {
                 let from = self.start;
-                self.start = from + i + 1;
-                self.quiet = 0;
-                Some(&self.buffer[from..from + i])
+                self.start = from + cut.at + 1;
+                self.known = Search::Begins(cut.later);
+                Some(&self.buffer[from..from + cut.at])
             }
-            None => {
-                self.quiet = held.len();
+            Err(known) => {
+                self.known = known;
                 None
             }
         }
@@ -146,7 +122,7 @@ impl LineStream {
     {
         let from = self.start;
         self.start = self.buffer.len();
-        self.quiet = 0;
+        self.known = Search::Begins(0);
         &self.buffer[from..]
     }
 

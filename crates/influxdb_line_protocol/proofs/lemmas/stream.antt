@@ -1,3 +1,5 @@
-pub mod HeldBytes
+pub mod ResumedSearches
 pub mod StreamRuns
 pub mod StreamAnswers
+pub mod KnownTexts
+pub mod LongerTexts

@@ -1,10 +1,12 @@
 -- What a stream of pieces holds, and what a call takes of it.
-use Rattle.std.specs.Prelude.{◌≡◌, ℕ, ◌+◌, ◌≤◌, List, [], ◌∷◌, ◌++◌, length, take, drop, Option, Some, None, Result, Ok, Err}
+use Rattle.std.specs.Prelude.{◌≡◌, ℕ, ◌≤◌, List, [], ◌∷◌, ◌++◌, length, drop, Option, Some, None, Result, Ok, Err}
 use Rattle.std.specs.Borrow.{Bor}
 use Rattle.std.specs.Str.{IsUtf8}
 use Rattle.influxdb_line_protocol.specs.declared.split.Dialect.{Dialect}
 use Rattle.influxdb_line_protocol.specs.format.Bytes.{newline}
 use Rattle.influxdb_line_protocol.specs.format.Pieces.{IsCutPiece, IsLastPiece}
+use Rattle.influxdb_line_protocol.specs.declared.split.resumed.Search.{Search}
+use Rattle.influxdb_line_protocol.specs.code.Searches.{IsKnown}
 
 -- what a stream holds: the bytes that came after the newline of the last cut
 pub record Held : Type 0 where
@@ -45,7 +47,7 @@ abbrev pub GivesLastText : {E : Type 0} → Held → Result (Bor (List ℕ)) E �
 GivesLastText before (Ok text) after = GivesLast before text.now after × IsUtf8 text.now
 GivesLastText before (Err _) after = TakesLast before after × (¬ IsUtf8 before.bytes)
 
--- what is known of the buffer: the held bytes begin at `start`, and no cut is among the first `quiet` of them
-pub record IsHeldAt (dialect : Dialect) (items : List ℕ) (start quiet : ℕ) : Type 0 where
-  pub within : start + quiet ≤ length items
-  pub is_quiet : IsLastPiece dialect (take quiet (drop start items))
+-- what is known of the buffer: where the held bytes begin, and what a search for a cut knows of them
+pub record IsHeldAt (dialect : Dialect) (items : List ℕ) (start : ℕ) (known : Search) : Type 0 where
+  pub within : start ≤ length items
+  pub is_known : IsKnown dialect (drop start items) known

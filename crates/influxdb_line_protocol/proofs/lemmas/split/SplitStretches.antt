@@ -14,11 +14,12 @@ use Rattle.influxdb_line_protocol.specs.format.Escapes.{is_escaped_after, bare, 
 use Rattle.influxdb_line_protocol.specs.laws.Meanings.{IsAtStop, IsBeforeStop}
 use Rattle.influxdb_line_protocol.specs.format.Piece.{IsHead, IsPlain, IsQuoted, EndsPlain, EndsQuoted, EndsQuoted.opened, IsClosed}
 use Rattle.influxdb_line_protocol.specs.format.Pieces.{IsLastPiece, IsFirstCut}
+use Rattle.influxdb_line_protocol.specs.code.Searches.{IsPlainTo, IsBeforeQuote}
 use Rattle.influxdb_line_protocol.proofs.lemmas.split.SplitBare.{is_escaped-nil, is_escaped-append, is_escaped-push_other, flag_after}
 use Rattle.influxdb_line_protocol.proofs.lemmas.split.SplitShape.{last_place, IsHead-bare, EndsPlain-start}
 use Rattle.influxdb_line_protocol.proofs.lemmas.split.SplitShape.{EndsPlain-bare, EndsQuoted-close}
 use Rattle.influxdb_line_protocol.proofs.lemmas.split.SplitAppend.{EndsPlain-append}
-use Rattle.influxdb_line_protocol.proofs.lemmas.split.SplitWalk.{IsCountOf-append, IsIn, Plain, Head-space, Plain-other, HasMoreEquals-from}
+use Rattle.influxdb_line_protocol.proofs.lemmas.split.SplitWalk.{IsCountOf-append, Head-space, Plain-other, HasMoreEquals-from}
 use Rattle.influxdb_line_protocol.proofs.lemmas.laws.meanings.StopMeaning.{before_stop}
 
 -- what comes before the first bare byte that passes, and that byte
@@ -74,12 +75,6 @@ plain_is counted text none =
           absurd (none_before before after none_here);
     }
 
--- a head and a tail up to this place, which is bare and after a plain stretch, with these counts
-pub record IsPlainTo (text : List ℕ) (equal_signs commas at : ℕ) : Type 0 where
-  pub within : at ≤ length text
-  pub is_bare : IsBareAfter (take at text)
-  pub is_in : IsIn Plain equal_signs commas (take at text)
-
 -- where a head ends
 module _ (text : List ℕ) (n : ℕ) (to : n ≡ first_bare (λ b. b == 32 || b == 10) text) where
   -- it is a head
@@ -107,13 +102,6 @@ module _ (text : List ℕ) (n : ℕ) (to : n ≡ first_bare (λ b. b == 32 || b 
         is_bare = rw whole (is_escaped-push_other (take n text) 32 (omega arith));
         is_in = rw whole (Head-space 0 0 (take n text) bare_here (head_of, record { equals_is = refl; commas_is = refl }));
       }
-
--- a head and a tail up to a bare quote after a plain stretch, with these counts
-pub record IsBeforeQuote (text : List ℕ) (equal_signs commas at : ℕ) : Type 0 where
-  pub within : at < length text
-  pub here : slice_index text at ≡ 34
-  pub is_bare : IsBareAfter (take at text)
-  pub is_in : IsIn Plain equal_signs commas (take at text)
 
 -- where a plain stretch ends that begins after a piece
 module _ (text rest : List ℕ) (e c at n : ℕ) (p : IsPlainTo text e c at) (same : rest ≡ drop at text)

@@ -1,12 +1,11 @@
 -- What a walk knows, a byte further.
 use Rattle.std.proofs.Common.{◌≡◌, ◌≢◌, ℕ, ◌+◌, ◌<◌, ◌≤◌, Bool, true, cond, eqb, List, [], ◌∷◌, ◌++◌, ◌∙◌, ap, arith}
 use Rattle.std.proofs.Common.{add-zero, take, length, slice_index, inl, inr}
-use Rattle.std.specs.Prelude.{◌==◌}
 use Rattle.std.specs.List.{count_by}
 use Rattle.std.proofs.lemmas.List.{take_more}
 use Rattle.std.proofs.lemmas.List.Sums.{sum_by-append}
 use Rattle.std.proofs.lemmas.Bool.{ne_eqb, cases_Bool}
-use Rattle.influxdb_line_protocol.specs.format.Bytes.{comma, equals}
+use Rattle.influxdb_line_protocol.specs.code.Searches.{IsCountOf}
 use Rattle.influxdb_line_protocol.specs.format.Escapes.{is_escaped_after, bare, IsBareAfter}
 use Rattle.influxdb_line_protocol.specs.format.Piece.{IsHead, HasMoreEquals, EndsPlain, EndsQuoted}
 use Rattle.influxdb_line_protocol.proofs.lemmas.split.SplitBare.{bare-push_escaped, bare-push_bare}
@@ -17,11 +16,6 @@ use Rattle.influxdb_line_protocol.proofs.lemmas.split.SplitShape.{EndsQuoted-sta
 -- the part of a piece that its last byte is in
 pub data Part : Type 0 where
   Head Plain Quoted : Part
-
--- as many `=` and as many `,` are counted
-pub record IsCountOf (counted : List ℕ) (equal_signs commas : ℕ) : Type 0 where
-  pub equals_is : equal_signs ≡ count_by (λ b. b == equals) counted
-  pub commas_is : commas ≡ count_by (λ b. b == comma) counted
 
 -- the piece so far ends in this part, with these counts
 abbrev pub IsIn : Part → ℕ → ℕ → List ℕ → Type 0

@@ -7,7 +7,7 @@ use Rattle.std.proofs.lemmas.List.{get_or_append_left, take_at, take-append-le}
 use Rattle.std.proofs.lemmas.Str.{IsUtf8-append, IsUtf8-take, IsUtf8-drop, IsCharBoundary-after_ascii, IsCharBoundary-at_seam}
 use Rattle.influxdb_line_protocol.specs.format.Pieces.{IsCutPiece, Pieces, Pieces.cut, Pieces.last}
 use Rattle.influxdb_line_protocol.specs.laws.StreamLaws.{FrontsKeepTheirCuts, TakenIsFirst, RunsGivePieces, RunsEnd}
-use Rattle.influxdb_line_protocol.specs.laws.StreamLaws.{Utf8ByPieces, Run, Run.begun, Run.pushed, Run.taken}
+use Rattle.influxdb_line_protocol.specs.laws.StreamLaws.{Utf8ByPieces, Run.begun, Run.pushed, Run.taken}
 
 -- whatever comes then, the piece that was taken is the first
 pub taken_is_first : TakenIsFirst

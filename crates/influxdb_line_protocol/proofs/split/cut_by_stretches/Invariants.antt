@@ -1,6 +1,6 @@
 use Rattle.std.proofs.Common.{◌≤◌, ◌-◌, drop, length}
 use Rattle.influxdb_line_protocol.specs.code.Ahead.{IsAhead}
-use Rattle.influxdb_line_protocol.proofs.lemmas.split.SplitStretches.{IsPlainTo}
+use Rattle.influxdb_line_protocol.specs.code.Searches.{IsPlainTo}
 use Rattle.influxdb_line_protocol.proofs.split.cut_by_stretches.Given as goal
 
 abbrev pub invariant-loop-equals : goal.invariant-loop-equals

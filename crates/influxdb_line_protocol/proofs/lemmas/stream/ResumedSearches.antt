@@ -1,0 +1,174 @@
+-- A search for a cut, from stretch to stretch.
+use Rattle.std.proofs.Common.{◌≡◌, ◌≢◌, ℕ, zero, suc, ◌+◌, ◌<◌, ◌≤◌, Bool, true, false, List, length, take}
+use Rattle.std.proofs.Common.{drop, slice_index, Some, refl, sym, ap, ◌∙◌, subst, arith, zero-add, not, ◌&&◌, ◌-◌, ◌%◌, ◌/◌}
+use Rattle.std.specs.Prelude.{◌==◌, ◌||◌}
+use Rattle.std.specs.List.{count_by, range_with_len}
+use Rattle.std.proofs.lemmas.Bool.{both_ways, ne_eqb}
+use Rattle.std.proofs.lemmas.List.{get_or-drop, length-drop}
+use Rattle.std.proofs.lemmas.List.FromFn.{get_or-range_with_len}
+use Rattle.std.proofs.lemmas.List.Sums.{fails_before_first}
+use Rattle.influxdb_line_protocol.specs.declared.split.resumed.Part.{Part}
+use Rattle.influxdb_line_protocol.specs.declared.split.resumed.Part.TheVariants.{Head, Plain, Quoted}
+use Rattle.influxdb_line_protocol.specs.declared.split.Walk.{Walk}
+use Rattle.influxdb_line_protocol.specs.declared.split.resumed.Stretch.{Stretch}
+use Rattle.influxdb_line_protocol.specs.declared.split.Dialect.TheVariants.{Crate}
+use Rattle.influxdb_line_protocol.specs.format.Escapes.{bare, first_bare, is_bare_at, is_escaped_after, IsBareAfter, IsPassed}
+use Rattle.influxdb_line_protocol.specs.format.Pieces.{IsFirstCut, IsLastPiece}
+use Rattle.influxdb_line_protocol.specs.code.Searches.{BeginsAt, ends, IsBeforeQuote, IsPlainTo, IsStopped}
+use Rattle.influxdb_line_protocol.specs.code.Walks.{IsWalked}
+use Rattle.influxdb_line_protocol.proofs.lemmas.forms.EscapeLemmas.{is_escaped_more}
+use Rattle.influxdb_line_protocol.proofs.lemmas.split.SplitBare.{is_escaped-nil}
+use Rattle.influxdb_line_protocol.proofs.lemmas.split.SplitJumps.{passed_start}
+use Rattle.influxdb_line_protocol.proofs.lemmas.split.SplitStretches.{stretch_to, head_last, head_cut, head_space}
+use Rattle.influxdb_line_protocol.proofs.lemmas.split.SplitStretches.{plain_last, plain_cut, plain_quote, quoted_last, quoted_closes}
+
+-- no byte before the first bare one that passes is one
+none_before_first : (passes : ℕ → Bool) (text : List ℕ) (k : ℕ) → k < length text → k < first_bare passes text
+    → is_bare_at passes text k ≡ false
+unfolding first_bare
+none_before_first passes text k within h =
+    subst (λ (n : ℕ). is_bare_at passes text n ≡ false) (get_or-range_with_len 0 (length text) k 0 within ∙ zero-add k)
+    (fails_before_first (is_bare_at passes text) (range_with_len 0 (length text)) k 0 h)
+
+-- where no byte ends a stretch, each place of it is passed, up to a bare one
+pub passed_to : (passes : ℕ → Bool) (text : List ℕ) (n : ℕ) → length text ≡ first_bare passes text → n ≤ length text
+    → IsBareAfter (take n text) → IsPassed passes text n
+passed_to passes text n to h is_bare =
+    record {
+      within = h;
+      is_bare = λ _. is_bare;
+      passed = λ k l. none_before_first passes text k (omega arith) (omega (arith, to));
+    }
+
+-- pairs of backslashes after a bare place leave what comes after them bare
+pub even_backslashes : (text : List ℕ) (at pairs : ℕ) → at + (pairs + pairs) ≤ length text
+    → ((k : ℕ) → at ≤ k → k < length text → slice_index text k ≡ 92) → IsBareAfter (take at text)
+    → IsBareAfter (take (at + (pairs + pairs)) text)
+even_backslashes text at zero h all is_bare = subst (λ (n : ℕ). IsBareAfter (take n text)) (omega arith) is_bare
+even_backslashes text at (suc pairs) h all is_bare =
+    let n = at + (pairs + pairs) in
+    let before : IsBareAfter (take n text) = even_backslashes text at pairs (omega arith) all is_bare in
+    let first : is_escaped_after (take (n + 1) text) ≡ true = rw (is_escaped_more text n (omega arith), before, all n (omega arith) (omega arith)) refl in
+    let second : is_escaped_after (take ((n + 1) + 1) text) ≡ false = rw (is_escaped_more text (n + 1) (omega arith), first) refl in
+    subst (λ (m : ℕ). IsBareAfter (take m text)) (omega arith) second
+
+-- the byte that ends a stretch
+module _ (part : Part) (text rest : List ℕ) (e c at n : ℕ) (b : BeginsAt part text e c at) (same : rest ≡ drop at text)
+    (to : n ≡ first_bare (ends part) rest) where
+  -- it is one that does
+  pub ends_there : at + n < length text → ends part (slice_index text (at + n)) ≡ true
+  ends_there h =
+      let inside : n < length rest = omega (arith, ap length same, length-drop at text) in
+      let there : slice_index rest n ≡ slice_index text (at + n) = ap (λ (t : List ℕ). slice_index t n) same ∙ get_or-drop at text n 0 in
+      subst (λ (x : ℕ). ends part x ≡ true) there ((stretch_to (ends part) rest n to).stops inside)
+
+-- where no byte ends a stretch, the text is one piece
+pub stretch_last : (part : Part) (text rest : List ℕ) (e c at n : ℕ) → BeginsAt part text e c at → rest ≡ drop at text
+    → n ≡ first_bare (ends part) rest → length text ≤ at + n → IsLastPiece Crate text
+stretch_last Head text rest e c at n b same to past =
+    let start : rest ≡ text = same ∙ ap (λ (i : ℕ). drop i text) b in
+    head_last text n (subst (λ (t : List ℕ). n ≡ first_bare (ends Head) t) start to) (omega (arith, b))
+stretch_last Plain text rest e c at n b same to past = plain_last text rest e c at n b same to past
+stretch_last Quoted text rest e c at n b same to past =
+    quoted_last text rest e c b.0 n b.2 b.3 (same ∙ ap (λ (i : ℕ). drop i text) b.1) to (omega (arith, b.1))
+
+-- a newline that ends a stretch is the cut
+pub stretch_cut : (part : Part) (text rest : List ℕ) (e c at n : ℕ) → BeginsAt part text e c at → rest ≡ drop at text
+    → n ≡ first_bare (ends part) rest → at + n < length text → slice_index text (at + n) ≡ 10
+    → IsFirstCut Crate text (Some (at + n))
+stretch_cut Head text rest e c at n b same to h newline =
+    let start : rest ≡ text = same ∙ ap (λ (i : ℕ). drop i text) b in
+    let place : n ≡ at + n = omega (arith, b) in
+    subst (λ (i : ℕ). IsFirstCut Crate text (Some i)) place
+    (head_cut text n (subst (λ (t : List ℕ). n ≡ first_bare (ends Head) t) start to) (omega (arith, b))
+    (subst (λ (i : ℕ). slice_index text i ≡ 10) (sym place) newline))
+stretch_cut Plain text rest e c at n b same to h newline = plain_cut text rest e c at n b same to h newline
+stretch_cut Quoted text rest e c at n b same to h newline =
+    let quote = ends_there Quoted text rest e c at n b same to h in
+    absurd (both_ways (slice_index text (at + n) == 34) (rw newline refl) quote)
+
+-- a space that ends a head begins a plain stretch
+pub head_goes_on : (text rest : List ℕ) (at n : ℕ) → at ≡ 0 → rest ≡ drop at text → n ≡ first_bare (ends Head) rest
+    → at + n < length text → slice_index text (at + n) ≢ 10 → IsPlainTo text 0 0 ((at + n) + 1)
+head_goes_on text rest at n b same to h other =
+    let start : rest ≡ text = same ∙ ap (λ (i : ℕ). drop i text) b in
+    let place : n ≡ at + n = omega (arith, b) in
+    subst (λ (i : ℕ). IsPlainTo text 0 0 (i + 1)) place
+    (head_space text n (subst (λ (t : List ℕ). n ≡ first_bare (ends Head) t) start to) (omega (arith, b))
+    (subst (λ (i : ℕ). slice_index text i ≢ 10) (sym place) other))
+
+-- a quote that ends a quoted stretch begins a plain one
+pub quoted_goes_on : (text rest : List ℕ) (e c at n : ℕ) → BeginsAt Quoted text e c at → rest ≡ drop at text
+    → n ≡ first_bare (ends Quoted) rest → at + n < length text → IsPlainTo text e c ((at + n) + 1)
+quoted_goes_on text rest e c at n b same to h =
+    subst (λ (i : ℕ). IsPlainTo text e c ((i + n) + 1)) (sym b.1)
+    (quoted_closes text rest e c b.0 n b.2 b.3 (same ∙ ap (λ (i : ℕ). drop i text) b.1) to (omega (arith, b.1)))
+
+-- after a byte that is no backslash nothing is escaped
+pub bare_after_other : (text : List ℕ) (at : ℕ) → 0 < at → at ≤ length text → slice_index text (at - 1) ≢ 92 → IsBareAfter (take at text)
+bare_after_other text at some within other =
+    let last : (at - 1) + 1 ≡ at = omega arith in
+    let bare_here : is_escaped_after (take ((at - 1) + 1) text) ≡ false =
+    is_escaped_more text (at - 1) (omega arith)
+    ∙ ap (λ (t : Bool). not (is_escaped_after (take (at - 1) text)) && t) (ne_eqb (slice_index text (at - 1)) 92 other)
+    ∙ and_false (not (is_escaped_after (take (at - 1) text))) in
+    subst (λ (n : ℕ). IsBareAfter (take n text)) last bare_here
+  where
+    and_false : (t : Bool) → (t && false) ≡ false
+    and_false true = refl
+    and_false false = refl
+
+-- the last bare place, where a run of backslashes ends the text
+pub last_bare : (text : List ℕ) (at : ℕ) → at ≤ length text → ((k : ℕ) → at ≤ k → k < length text → slice_index text k ≡ 92)
+    → IsBareAfter (take at text) → IsBareAfter (take (length text - (length text - at) % 2) text)
+last_bare text at within all is_bare =
+    let pairs = (length text - at) / 2 in
+    subst (λ (n : ℕ). IsBareAfter (take n text)) (omega arith) (even_backslashes text at pairs (omega arith) all is_bare)
+
+-- at the start of a stretch nothing was searched
+pub stopped_at_start : (text : List ℕ) (part : Part) (e c at : ℕ) → BeginsAt part text e c at → at ≤ length text → e ≤ at → c ≤ at
+    → IsStopped text (record { part = part; at = at; searched = 0; equals = e; commas = c })
+stopped_at_start text part e c at begins within few_equals few_commas =
+    record {
+      begins = begins;
+      within = within;
+      few_equals = few_equals;
+      few_commas = few_commas;
+      passed = passed_start (ends part) (drop at text);
+      is_bare = is_escaped-nil;
+    }
+
+-- where the text ends in a stretch, the search goes on from the last bare place of it
+pub stopped_at_end : (text rest : List ℕ) (s : Stretch) (n m : ℕ) → IsStopped text s → rest ≡ drop s.at text
+    → n ≡ first_bare (ends s.part) rest → n ≡ length rest → m ≤ length rest → IsBareAfter (take m rest)
+    → IsStopped text (record { part = s.part; at = s.at; searched = m; equals = s.equals; commas = s.commas })
+stopped_at_end text rest s n m h same to past within is_bare =
+    record {
+      begins = h.begins;
+      within = h.within;
+      few_equals = h.few_equals;
+      few_commas = h.few_commas;
+      passed = subst (λ (t : List ℕ). IsPassed (ends s.part) t m) same (passed_to (ends s.part) rest m (sym past ∙ to) within is_bare);
+      is_bare = subst (λ (t : List ℕ). IsBareAfter (take m t)) same is_bare;
+    }
+
+-- the counts of a walk over a plain stretch that a quote ends are added before that quote
+pub quote_after : (text rest : List ℕ) (e c at n : ℕ) (part : Part) (walk : Walk) → part ≡ Plain → BeginsAt part text e c at
+    → rest ≡ drop at text → n ≡ first_bare (ends part) (drop at text) → walk.at ≡ first_bare (λ b. b == 10 || b == 34) rest
+    → IsWalked rest walk → at + n < length text → slice_index text (at + n) ≢ 10
+    → IsBeforeQuote text (e + walk.equals) (c + walk.commas) (at + n) × (walk.equals ≤ n) × (walk.commas ≤ n)
+quote_after text rest e c at n part walk is_plain begins same to there walked h other =
+    let plain : IsPlainTo text e c at = subst (λ (p : Part). BeginsAt p text e c at) is_plain begins in
+    let here : n ≡ first_bare (ends Plain) (drop at text) = subst (λ (p : Part). n ≡ first_bare (ends p) (drop at text)) is_plain to in
+    let ended : n ≡ first_bare (ends Plain) rest = here ∙ ap (first_bare (ends Plain)) (sym same) in
+    let place : walk.at ≡ n = there ∙ sym ended in
+    let inside : n < length rest = omega (arith, ap length same, length-drop at text) in
+    let byte : slice_index rest n ≡ slice_index text (at + n) = ap (λ (t : List ℕ). slice_index t n) same ∙ get_or-drop at text n 0 in
+    let no_newline : slice_index rest walk.at ≢ 10 = λ i. other (sym byte ∙ ap (λ (k : ℕ). slice_index rest k) (sym place) ∙ i) in
+    let front : bare (take walk.at rest) ≡ bare (take n rest) = ap (λ (k : ℕ). bare (take k rest)) place in (
+      plain_quote text rest e c at n plain same ended walk.equals walk.commas h other
+          (λ _. walked.equals_are (omega (arith, inside, place)) (λ _. no_newline) ∙ ap (count_by (λ b. b == 61)) front)
+          (λ _. walked.commas_are (omega (arith, inside, place)) (λ _. no_newline) ∙ ap (count_by (λ b. b == 44)) front),
+      omega (arith, walked.few_equals, place),
+      omega (arith, walked.few_commas, place),
+    )
