@@ -4,14 +4,12 @@ use Rattle.std.proofs.Common.{[], ◌∷◌, map, length, take, drop, sym, ap, �
 use Rattle.std.proofs.Common.{take-append-drop}
 use native.Mathlib.Nat.{pow-suc, mul_comm, zero-div, div-one, div-div-eq-div-mul, add-mul-mod_self_right}
 use Rattle.std.proofs.lemmas.Simd.{ones-mask_l, length-chunk, first_set_mask_l, run_in_chunk_le, run_in_chunk_fails}
-use Rattle.std.proofs.lemmas.Simd.{run_in_chunk_stops, mask_l-lt, map-map, mask_l-mod, get_or-chunk}
-use Rattle.std.proofs.lemmas.List.{drop-drop, drop-take, drop-map, drop_all, length-map, length-take, get_or_past, map-append}
+use Rattle.std.proofs.lemmas.Simd.{run_in_chunk_stops, map-map, mask_l-mod, get_or-chunk}
+use Rattle.std.proofs.lemmas.List.{drop-drop, drop-take, drop-map, drop_all, length-map, length-take, get_or_past}
 use Rattle.std.specs.List.{count_by, prefix_len}
 use Rattle.std.specs.Prelude.{count_ones}
 use lib.Lanes.{chunk, mask_l, top}
 use Rattle.influxdb_line_protocol.specs.code.Lanes.{first_set, mask_of, IsRunIn}
-use Rattle.std.proofs.Math.Nat.{mod-eq_of_lt, pow-le-pow_right}
-use Rattle.std.proofs.Math.Seq.{take-add}
 use Rattle.std.proofs.lemmas.Bool.{cases_lt, agree_below, agree_below_at}
 
 -- half of a mask is the mask without its lowest bit
@@ -131,51 +129,3 @@ mask_mod ms k within =
     ∙ ap (λ (n : ℕ). mask_l (take k ms) + mask_l (drop k ms) * 2 ^ n) long in
     ap (λ (n : ℕ). n % 2 ^ k) whole ∙ add-mul-mod_self_right (mask_l (take k ms)) (mask_l (drop k ms)) (2 ^ k)
     ∙ mask_l-mod (take k ms) k (omega (arith, long))
-
-module _ (test : ℕ → Bool) (bytes : List ℕ) (at n m : ℕ) (room : at + n + m ≤ length bytes) where
-  -- the mask of one load and that of the bytes after it
-  separated_list : mask_of test bytes at (n + m) ≡ mask_of test bytes at n + mask_of test bytes (at + n) m * 2 ^ n
-  separated_list =
-      let front = map test (chunk at n bytes) in
-      let back = map test (chunk (at + n) m bytes) in
-      let long : length front ≡ n = length-map (chunk at n bytes) test ∙ length-chunk at n bytes (omega arith) in
-      let both : chunk at (n + m) bytes ≡ chunk at n bytes ++ chunk (at + n) m bytes =
-      take-add n m (drop at bytes) ∙ ap (λ xs. chunk at n bytes ++ take m xs) (drop-drop n at bytes) in
-      ap (λ v. mask_l (map test v)) both
-      ∙ ap mask_l (map-append test (chunk at n bytes) (chunk (at + n) m bytes))
-      ∙ mask_l-append front back
-      ∙ ap (λ k. mask_l front + mask_l back * 2 ^ k) long
-
-  -- a mask of at most 64 bytes fits
-  small : n + m ≤ 64 → mask_of test bytes at (n + m) < 2 ^ 64
-  small few =
-      let all = map test (chunk at (n + m) bytes) in
-      let long : length all ≡ n + m = length-map (chunk at (n + m) bytes) test ∙ length-chunk at (n + m) bytes (omega arith) in
-      let below : mask_l all < 2 ^ (n + m) = rw long at (mask_l-lt all) in
-      omega (arith, below, pow-le-pow_right {n = 2} (omega arith) few)
-
-  -- so they are added
-  pub added : (s r : ℕ) → n + m ≤ 64 → s ≡ mask_of test bytes at n → r ≡ mask_of test bytes (at + n) m
-      → (s + r * 2 ^ n % 2 ^ 64 ≡ mask_of test bytes at (n + m)) × (s + r * 2 ^ n % 2 ^ 64 < 2 ^ 64)
-  added s r few first second =
-      let whole : s + r * 2 ^ n ≡ mask_of test bytes at (n + m) = rw (first, second) (sym separated_list) in
-      let under = small few in
-      let same : r * 2 ^ n % 2 ^ 64 ≡ r * 2 ^ n = mod-eq_of_lt (omega (arith, whole, under)) in
-      (rw same whole, rw same (omega (arith, whole, under)))
-
--- a load at the end, which overlaps what was seen, gives the mask of the bytes that were not
-pub last_added : (test : ℕ → Bool) (bytes : List ℕ) (seen n s r : ℕ) → n ≤ length bytes → length bytes ≤ 64
-    → seen ≤ length bytes → length bytes - seen ≤ n
-    → s ≡ mask_of test bytes 0 seen → r ≡ mask_of test bytes (length bytes - n) n
-    → let more = r / 2 ^ (n - (length bytes - seen)) * 2 ^ seen % 2 ^ 64 in
-    (s + more ≡ mask_of test bytes 0 (length bytes)) × (s + more < 2 ^ 64)
-last_added test bytes seen n s r fits few within overlaps first second =
-    let over = n - (length bytes - seen) in
-    let place : length bytes - n + over ≡ seen = omega arith in
-    let rest : n - over ≡ length bytes - seen = omega arith in
-    let after : r / 2 ^ over ≡ mask_of test bytes (0 + seen) (length bytes - seen) =
-    ap (λ x. x / 2 ^ over) second ∙ shifted test bytes (length bytes - n) n over (omega arith)
-    ∙ ap (λ x. mask_of test bytes x (n - over)) (omega arith) ∙ ap (mask_of test bytes (0 + seen)) rest in
-    let whole : seen + (length bytes - seen) ≡ length bytes = omega arith in
-    let sum = added test bytes 0 seen (length bytes - seen) (omega arith) s (r / 2 ^ over) (omega arith) first after in
-    (sum.0 ∙ ap (mask_of test bytes 0) whole, sum.1)
