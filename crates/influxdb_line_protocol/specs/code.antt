@@ -24,5 +24,8 @@ pub mod Stops
 pub mod Walks
 pub mod Ahead
 pub mod Searches
+pub mod Tracks
 pub mod Streams
 pub mod Lending
+pub mod Bounded
+pub mod LendingWithin

@@ -33,5 +33,5 @@ pub use line::{ParseLines, parse_lines, parse_lines_in};
 pub use literals::FloatText;
 pub use parsed::{FieldSet, ParsedLine, Series, TagSet};
 pub use split::{Dialect, SplitLines, split_lines, split_lines_in};
-pub use stream::LineStream;
+pub use stream::{BoundedLineStream, LineStream, TooLong};
 pub use values::FieldValue;

@@ -23,8 +23,10 @@ use std::marker::Model;
 use std::simd::prelude::*;
 
 mod resumed;
+mod tracked;
 
 pub(crate) use resumed::{Search, search_on};
+pub(crate) use tracked::{Track, track_on};
 
 // How many bytes are looked at by wide loads, where they show nothing, before `memchr` searches on.
 const NEAR: usize = 320;

@@ -1,14 +1,19 @@
 //! Lines that come in parts.
 
-ghost use Rattle.std.specs.Prelude.{◌≡◌, ◌++◌, [], OnOk, OnErr};
+ghost use Rattle.std.specs.Prelude.{◌≡◌, ◌++◌, [], length, OnOk, OnErr, Some};
 ghost use Rattle.std.specs.Borrow.{sem};
 ghost use Rattle.influxdb_line_protocol.specs.declared.split.Dialect.{Dialect};
+ghost use Rattle.influxdb_line_protocol.specs.code.Streams.{FindsCut};
 ghost use Rattle.influxdb_line_protocol.specs.format.Pieces.{IsLastPiece};
 
-use crate::split::{Dialect, Search, search_on};
+use crate::split::{Dialect, Mark, Search, search_on};
 use std::alloc::{AllocError, Global};
 use std::marker::Model;
 use std::str::{self, Utf8Error};
+
+mod bounded;
+
+pub use bounded::{BoundedLineStream, TooLong};
 
 /// The pieces of a text that comes in parts: what [`split_lines`](crate::split_lines) gives for all of it.
 ///
@@ -44,7 +49,7 @@ impl Model for LineStream {
 }
 
 impl LineStream {
-    ghost use Rattle.influxdb_line_protocol.specs.code.Lending.{EndsAsCut, EndsAsCutText};
+    ghost use Rattle.influxdb_line_protocol.specs.code.Lending.{EndsAsCut, EndsAsCutText, EndsAsTaken};
     ghost use Rattle.influxdb_line_protocol.specs.code.Lending.{EndsAsLast, EndsAsLastText};
 
     /// A stream that holds nothing, by the rules of the crate. No memory is taken.
@@ -88,22 +93,38 @@ impl LineStream {
         self.start = 0;
     }
 
-    /// The first piece that a newline ends, or `None` until that newline has come.
-    pub fn next(&mut self) -> Option<&[u8]>
-        ensures* after { sem 𝓛 (EndsAsCut self.entry result) }
+    // The cut that ends the first piece, or `None` until its newline has come.
+    fn cut(&mut self) -> Option<Mark>
+        ensures stays { self.new ≡ self.old }
+        ensures found { FindsCut self.old result }
     {
         match search_on(self.dialect, &self.buffer[self.start..], self.known) {
-            Ok(cut) => {
-                let from = self.start;
-                self.start = from + cut.at + 1;
-                self.known = Search::Begins(cut.later);
-                Some(&self.buffer[from..from + cut.at])
-            }
+            Ok(cut) => Some(cut),
             Err(known) => {
                 self.known = known;
                 None
             }
         }
+    }
+
+    // Takes the piece before the first cut.
+    fn take(&mut self, cut: Mark) -> &[u8]
+        requires { FindsCut self.old (Some cut) }
+        ensures len { length result.now ≡ cut.at }
+        ensures* after { sem 𝓛 (EndsAsTaken self.entry result) }
+    {
+        let from = self.start;
+        self.start = from + cut.at + 1;
+        self.known = Search::Begins(cut.later);
+        &self.buffer[from..from + cut.at]
+    }
+
+    /// The first piece that a newline ends, or `None` until that newline has come.
+    pub fn next(&mut self) -> Option<&[u8]>
+        ensures* after { sem 𝓛 (EndsAsCut self.entry result) }
+    {
+        let cut = self.cut()?;
+        Some(self.take(cut))
     }
 
     /// The same as text, or an error where the piece is not UTF-8. It is taken all the same, and the next ones are given.
@@ -120,10 +141,31 @@ impl LineStream {
         requires { IsLastPiece self.old.dialect self.old.bytes }
         ensures* after { sem 𝓛 (EndsAsLast self.entry result) }
     {
+        self.take_all()
+    }
+
+    // Takes all that is held.
+    fn take_all(&mut self) -> &[u8]
+        ensures* after { sem 𝓛 (EndsAsLast self.entry result) }
+    {
         let from = self.start;
         self.start = self.buffer.len();
         self.known = Search::Begins(0);
         &self.buffer[from..]
+    }
+
+    // What is held.
+    fn held(&self) -> &[u8]
+        ensures { result.now ≡ self.now.bytes }
+    {
+        &self.buffer[self.start..]
+    }
+
+    // The dialect whose rules hold.
+    fn dialect(&self) -> Dialect
+        ensures { result ≡ self.now.dialect }
+    {
+        self.dialect
     }
 
     /// The same as text, or an error where it is not UTF-8. It is taken all the same.

@@ -3,3 +3,6 @@ pub mod StreamRuns
 pub mod StreamAnswers
 pub mod KnownTexts
 pub mod LongerTexts
+pub mod PieceTracks
+pub mod TrackedPieces
+pub mod BoundedStreams

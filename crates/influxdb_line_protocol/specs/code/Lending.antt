@@ -2,7 +2,7 @@
 use Rattle.std.specs.Prelude.{ℕ, List, Option, Result}
 use Rattle.std.specs.Borrow.{Fml, Bor, MutBor}
 use Rattle.std.specs.Io.BufRead.{Rests}
-use Rattle.influxdb_line_protocol.specs.code.Streams.{GivesCut, GivesCutText, GivesLast, GivesLastText}
+use Rattle.influxdb_line_protocol.specs.code.Streams.{GivesCut, GivesCutText, GivesLast, GivesLastText, TakesPiece}
 use Rattle.influxdb_line_protocol.specs.declared.stream.LineStream.{LineStream}
 use Rattle.influxdb_line_protocol.specs.contracts.stream.LineStream.{the_row}
 
@@ -13,6 +13,10 @@ EndsAsCut stream result = Rests the_row stream (GivesCut stream.now result)
 -- it gave a piece as text
 abbrev pub EndsAsCutText : {E : Type 0} → MutBor LineStream → Option (Result (Bor (List ℕ)) E) → Fml
 EndsAsCutText stream result = Rests the_row stream (GivesCutText stream.now result)
+
+-- it gave the piece before a cut
+abbrev pub EndsAsTaken : MutBor LineStream → Bor (List ℕ) → Fml
+EndsAsTaken stream piece = Rests the_row stream (TakesPiece stream.now piece.now)
 
 -- it gave the last piece
 abbrev pub EndsAsLast : MutBor LineStream → Bor (List ℕ) → Fml

@@ -1,11 +1,13 @@
 -- What a stream of pieces holds, and what a call takes of it.
-use Rattle.std.specs.Prelude.{◌≡◌, ℕ, ◌≤◌, List, [], ◌∷◌, ◌++◌, length, drop, Option, Some, None, Result, Ok, Err}
+use Rattle.std.specs.Prelude.{◌≡◌, ℕ, ◌+◌, ◌≤◌, List, [], ◌∷◌, ◌++◌, length, drop, Option, Some, None, Result, Ok, Err}
 use Rattle.std.specs.Borrow.{Bor}
 use Rattle.std.specs.Str.{IsUtf8}
 use Rattle.influxdb_line_protocol.specs.declared.split.Dialect.{Dialect}
 use Rattle.influxdb_line_protocol.specs.format.Bytes.{newline}
-use Rattle.influxdb_line_protocol.specs.format.Pieces.{IsCutPiece, IsLastPiece}
+use Rattle.influxdb_line_protocol.specs.format.Pieces.{IsCutPiece, IsFirstCut, IsLastPiece}
+use Rattle.influxdb_line_protocol.specs.declared.split.Mark.{Mark}
 use Rattle.influxdb_line_protocol.specs.declared.split.resumed.Search.{Search}
+use Rattle.influxdb_line_protocol.specs.code.Seen.{AreSeen}
 use Rattle.influxdb_line_protocol.specs.code.Searches.{IsKnown}
 
 -- what a stream holds: the bytes that came after the newline of the last cut
@@ -33,6 +35,11 @@ abbrev pub GivesCutText : {E : Type 0} → Held → Option (Result (Bor (List �
 GivesCutText before None after = TakesNothing before after
 GivesCutText before (Some (Ok text)) after = TakesPiece before text.now after × IsUtf8 text.now
 GivesCutText before (Some (Err _)) after = (piece : List ℕ) × TakesPiece before piece after × (¬ IsUtf8 piece)
+
+-- a search found the first cut of what is held, and what it saw after it, or there is none yet
+abbrev pub FindsCut : Held → Option Mark → Type 0
+FindsCut held None = IsLastPiece held.dialect held.bytes
+FindsCut held (Some cut) = IsFirstCut held.dialect held.bytes (Some cut.at) × AreSeen (drop (cut.at + 1) held.bytes) cut.later
 
 -- all that was held is taken
 abbrev pub TakesLast : Held → Held → Type 0

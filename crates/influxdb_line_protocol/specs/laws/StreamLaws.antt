@@ -46,7 +46,8 @@ RunsEnd =
 abbrev pub HaveAnswers : Dialect → List (List ℕ) → List (Result Line Fault) → Type 0
 HaveAnswers dialect [] answers = answers ≡ []
 HaveAnswers dialect (text ∷ texts) answers =
-    (first others : List (Result Line Fault)) × HasAnswers dialect text first × HaveAnswers dialect texts others × (answers ≡ first ++ others)
+    (first others : List (Result Line Fault))
+    × HasAnswers dialect text first × HaveAnswers dialect texts others × (answers ≡ first ++ others)
 
 -- Each piece that a stream gave is read alone as it is read in all. So the answers of these pieces, and after them those of
 -- what is held and comes, are the answers of all.

@@ -52,7 +52,7 @@ never_comment Strict text after n e some (inr h) =
     (λ all. some (subst (All (λ b. b ≢ 10)) (sym e) (All-drop (λ b. b ≢ 10) n text all)))
 
 -- such a text begins no comment
-no_comment : (text : List ℕ) → NeverComment Strict text → begins_comment text ≡ false
+pub no_comment : (text : List ℕ) → NeverComment Strict text → begins_comment text ≡ false
 no_comment text never = ap begins_comment (sym (append-nil text)) ∙ never []
 
 -- and no front of it does

@@ -1,5 +1,6 @@
 -- What a search knows of a text holds of each text that begins with it.
-use Rattle.std.proofs.Common.{◌≡◌, ℕ, ◌<◌, ◌≤◌, Bool, true, false, cond, not, ◌&&◌, List, ◌++◌, length, map, take, drop, slice_index, sym, ap, ◌∙◌, subst}
+use Rattle.std.proofs.Common.{◌≡◌, ℕ, ◌<◌, ◌≤◌, Bool, true, false, cond, not, ◌&&◌, List, ◌++◌, length, map}
+use Rattle.std.proofs.Common.{take, drop, slice_index, sym, ap, ◌∙◌, subst}
 use Rattle.std.proofs.Common.{arith, append_assoc, length-append}
 use Rattle.std.proofs.lemmas.List.{take-append-le, drop-append-le, get_or_append_left}
 use Rattle.std.specs.Simd.Lanes.{mask_l}
@@ -82,7 +83,7 @@ stopped_longer text more s h =
     }
 
 -- that it begins no comment
-never_longer : (dialect : Dialect) (text more : List ℕ) → NeverComment dialect text → NeverComment dialect (text ++ more)
+pub never_longer : (dialect : Dialect) (text more : List ℕ) → NeverComment dialect text → NeverComment dialect (text ++ more)
 never_longer Crate text more h = tt
 never_longer Strict text more h = λ rest. ap begins_comment (append_assoc text more rest) ∙ h (more ++ rest)
 
@@ -105,7 +106,8 @@ known_longer dialect text more (Quiet n) h =
 known_longer dialect text more (Within s) h = (never_longer dialect text more h.0, stopped_longer text more s h.1)
 
 -- so it is of the bytes that a stream holds, whether a part comes after them or memory was refused
-pub held_longer : (dialect : Dialect) (items part new : List ℕ) (start : ℕ) (known : Search) (ok : Bool) → IsHeldAt dialect items start known
+pub held_longer : (dialect : Dialect) (items part new : List ℕ) (start : ℕ) (known : Search) (ok : Bool)
+    → IsHeldAt dialect items start known
     → new ≡ cond ok (items ++ part) items → IsHeldAt dialect new start known
 held_longer dialect items part new start known false h e = subst (λ (t : List ℕ). IsHeldAt dialect t start known) (sym e) h
 held_longer dialect items part new start known true h e =

@@ -48,7 +48,8 @@ even_backslashes text at zero h all is_bare = subst (λ (n : ℕ). IsBareAfter (
 even_backslashes text at (suc pairs) h all is_bare =
     let n = at + (pairs + pairs) in
     let before : IsBareAfter (take n text) = even_backslashes text at pairs (omega arith) all is_bare in
-    let first : is_escaped_after (take (n + 1) text) ≡ true = rw (is_escaped_more text n (omega arith), before, all n (omega arith) (omega arith)) refl in
+    let first : is_escaped_after (take (n + 1) text) ≡ true =
+    rw (is_escaped_more text n (omega arith), before, all n (omega arith) (omega arith)) refl in
     let second : is_escaped_after (take ((n + 1) + 1) text) ≡ false = rw (is_escaped_more text (n + 1) (omega arith), first) refl in
     subst (λ (m : ℕ). IsBareAfter (take m text)) (omega arith) second
 

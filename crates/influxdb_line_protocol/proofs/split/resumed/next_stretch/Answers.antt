@@ -30,9 +30,10 @@ returns-in-Quoted-clause-stopped c =
     let s = c.args.from in
     let text = c.args.text.now in
     let h = c.requires.stopped in
-    let begins : BeginsAt Quoted text s.equals s.commas s.at = subst (λ (p : Part). BeginsAt p text s.equals s.commas s.at) c.in-Quoted.is h.begins in
-    let to : c.args.len ≡ first_bare (ends Quoted) (drop s.at text) = subst (λ (p : Part). c.args.len ≡ first_bare (ends p) (drop s.at text))
-    c.in-Quoted.is c.requires.ended in
+    let begins : BeginsAt Quoted text s.equals s.commas s.at =
+    subst (λ (p : Part). BeginsAt p text s.equals s.commas s.at) c.in-Quoted.is h.begins in
+    let to : c.args.len ≡ first_bare (ends Quoted) (drop s.at text) =
+    subst (λ (p : Part). c.args.len ≡ first_bare (ends p) (drop s.at text)) c.in-Quoted.is c.requires.ended in
     stopped_at_start text Plain s.equals s.commas ((s.at + c.args.len) + 1)
     (quoted_goes_on text (drop s.at text) s.equals s.commas s.at c.args.len begins refl to c.requires.room)
     (omega (arith, c.requires.room)) (omega (arith, h.few_equals)) (omega (arith, h.few_commas))

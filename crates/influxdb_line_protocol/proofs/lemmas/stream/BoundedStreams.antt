@@ -1,0 +1,87 @@
+-- What a stream holds whose pieces have a greatest length.
+use Rattle.std.proofs.Common.{◌≡◌, ◌⊎◌, inl, inr, ℕ, ◌+◌, ◌<◌, List, [], ◌∷◌, ◌++◌, length, take, drop, refl, sym, ap, ◌∙◌, subst}
+use Rattle.std.proofs.Common.{append_assoc, length-append, arith, take-append-drop, Ok, Err}
+use Rattle.std.proofs.lemmas.List.{drop_more}
+use Rattle.influxdb_line_protocol.specs.declared.split.Dialect.{Dialect}
+use Rattle.influxdb_line_protocol.specs.declared.split.Dialect.TheVariants.{Crate, Strict}
+use Rattle.influxdb_line_protocol.specs.declared.split.resumed.Part.{Part}
+use Rattle.influxdb_line_protocol.specs.declared.split.resumed.Part.TheVariants.{Head, Plain, Quoted}
+use Rattle.influxdb_line_protocol.specs.declared.split.tracked.Track.{Track}
+use Rattle.influxdb_line_protocol.specs.declared.split.tracked.Track.TheVariants.{Comment, Blanks, Line}
+use Rattle.influxdb_line_protocol.specs.format.Piece.{IsClosed, IsOpen}
+use Rattle.influxdb_line_protocol.specs.declared.stream.bounded.Skipped.{Skipped}
+use Rattle.influxdb_line_protocol.specs.declared.stream.bounded.Skipped.TheVariants.{Nothing, Within, Ended}
+use Rattle.influxdb_line_protocol.specs.format.Pieces.{IsCutPiece, IsLastPiece}
+use Rattle.influxdb_line_protocol.specs.code.Streams.{Held, TakesPiece}
+use Rattle.influxdb_line_protocol.specs.code.Tracks.{EndsIn, IsTrackOf, TracksOn}
+use Rattle.influxdb_line_protocol.specs.code.Bounded.{CutsTo, HoldsBy}
+use Rattle.influxdb_line_protocol.proofs.lemmas.stream.KnownTexts.{no_comment}
+use Rattle.influxdb_line_protocol.proofs.lemmas.stream.TrackedPieces.{blanks_begin_none}
+
+-- a part that goes on in a piece that is too long
+pub skips_more : (limit : ℕ) (held : Held) (skipped : Skipped) (from to : Track) (part : List ℕ) → skipped ≡ Within from
+    → TracksOn part from (Err to) → (text : List ℕ) → HoldsBy limit held skipped text → HoldsBy limit held (Within to) (text ++ part)
+skips_more limit held skipped from to part is tracks text h =
+    let k = subst (λ (s : Skipped). HoldsBy limit held s text) is h in
+    (k.0, omega (arith, length-append text part, k.1), tracks held.dialect text k.2)
+
+-- a part that ends one
+pub skips_to_end : (limit : ℕ) (old new : Held) (skipped : Skipped) (from : Track) (part : List ℕ) (i : ℕ) → skipped ≡ Within from
+    → TracksOn part from (Ok i) → new.dialect ≡ old.dialect → new.bytes ≡ old.bytes ++ drop (i + 1) part
+    → (text : List ℕ) → HoldsBy limit old skipped text → HoldsBy limit new Ended (text ++ part)
+skips_to_end limit old new skipped from part i is tracks dialect bytes text h =
+    let k = subst (λ (s : Skipped). HoldsBy limit old s text) is h in
+    let after : new.bytes ≡ drop (i + 1) part = bytes ∙ ap (λ (t : List ℕ). t ++ drop (i + 1) part) k.0 in
+    let split : take i part ++ 10 ∷ drop (i + 1) part ≡ part =
+    ap (λ (b : ℕ). take i part ++ b ∷ drop (i + 1) part) (sym tracks.1)
+    ∙ ap (λ (t : List ℕ). take i part ++ t) (sym (drop_more part i 0 tracks.0)) ∙ take-append-drop i part in (
+      text ++ take i part,
+      omega (arith, length-append text (take i part), k.1),
+      (
+        sym (append_assoc text (take i part) (10 ∷ new.bytes)
+            ∙ (ap (λ (t : List ℕ). text ++ (take i part ++ 10 ∷ t)) after ∙ ap (λ (t : List ℕ). text ++ t) split)),
+        subst (λ (d : Dialect). IsCutPiece d (text ++ take i part)) (sym dialect) (tracks.2 old.dialect text k.2),
+      ),
+    )
+
+-- what is held was let go, since it is too long
+pub goes_within : (limit : ℕ) (held after : Held) (bytes : List ℕ) (d : Dialect) (track : Track) → bytes ≡ held.bytes
+    → d ≡ held.dialect → limit < length bytes → IsTrackOf d bytes track
+    → after ≡ record { dialect = held.dialect; bytes = [] } → HoldsBy limit after (Within track) held.bytes
+goes_within limit held after bytes d track same dialect long tracked empty = (
+  ap (λ (h : Held). h.bytes) empty,
+  subst (λ (t : List ℕ). limit < length t) same long,
+  subst (λ (e : Dialect). IsTrackOf e held.bytes track) (dialect ∙ sym (ap (λ (h : Held). h.dialect) empty))
+      (subst (λ (t : List ℕ). IsTrackOf d t track) same tracked),
+)
+
+-- the place after bytes of a piece that no newline has ended
+place_is_last : (part : Part) (e c : ℕ) (bytes : List ℕ) → EndsIn part e c bytes → IsClosed bytes ⊎ IsOpen bytes
+place_is_last Head e c bytes h = inl (inl h.0)
+place_is_last Plain e c bytes h = inl (inr (h.0, h.1))
+place_is_last Quoted e c bytes h = inr (h.0, h.1)
+
+-- bytes that have a track are one piece
+tracked_is_last : (dialect : Dialect) (bytes : List ℕ) (track : Track) → IsTrackOf dialect bytes track → IsLastPiece dialect bytes
+tracked_is_last dialect bytes Comment h = subst (λ (d : Dialect). IsLastPiece d bytes) (sym h.0) (inl h.1)
+tracked_is_last dialect bytes (Blanks place) h =
+    subst (λ (d : Dialect). IsLastPiece d bytes) (sym h.0)
+    (inr (blanks_begin_none bytes h.1, place_is_last place.part place.equals place.commas bytes h.2.ends_in))
+tracked_is_last Crate bytes (Line place) h = place_is_last place.part place.equals place.commas bytes h.1.ends_in
+tracked_is_last Strict bytes (Line place) h =
+    inr (no_comment bytes h.0, place_is_last place.part place.equals place.commas bytes h.1.ends_in)
+
+-- so is what is held where bytes were skipped
+pub within_is_last : (limit : ℕ) (held : Held) (skipped : Skipped) (track : Track) (text : List ℕ) → skipped ≡ Within track
+    → HoldsBy limit held skipped text → IsLastPiece held.dialect text
+within_is_last limit held skipped track text is h =
+    let k = subst (λ (s : Skipped). HoldsBy limit held s text) is h in
+    tracked_is_last held.dialect text track k.2
+
+-- a piece is taken where no bytes were skipped
+pub takes_within : (limit : ℕ) (held after : Held) (skipped : Skipped) (piece text : List ℕ) → skipped ≡ Nothing
+    → TakesPiece held piece after → HoldsBy limit held skipped text
+    → CutsTo held.dialect text piece after.bytes × HoldsBy limit after skipped after.bytes
+takes_within limit held after skipped piece text is takes h =
+    let same = subst (λ (s : Skipped). HoldsBy limit held s text) is h in
+    ((same ∙ takes.bytes, takes.is_cut), subst (λ (s : Skipped). HoldsBy limit after s after.bytes) (sym is) refl)

@@ -1,0 +1,31 @@
+use Rattle.std.proofs.Common.{◌<◌, length, List, ℕ, subst, sym, arith}
+use Rattle.influxdb_line_protocol.specs.format.Pieces.{IsLastPiece}
+use Rattle.influxdb_line_protocol.specs.code.Bounded.{CutsTo, HeldWithin, Holds, HoldsBy}
+use Rattle.influxdb_line_protocol.specs.code.Streams.{Held, TakesPiece}
+use Rattle.influxdb_line_protocol.proofs.lemmas.stream.BoundedStreams.{takes_within, within_is_last}
+use Rattle.influxdb_line_protocol.proofs.stream.bounded.BoundedLineStream.first.Goals as goal
+
+pub returns-in-Within-clause-finds : goal.returns-in-Within-clause-finds
+returns-in-Within-clause-finds c = λ text h.
+    let s = c.self.inside in (
+      h,
+      subst (λ (v : HeldWithin). IsLastPiece v.held.dialect text) c.self.view_is
+          (within_is_last s.limit s.stream s.skipped c.in-Within.field-0 text c.in-Within.is
+          (subst (λ (v : HeldWithin). Holds v text) (sym c.self.view_is) h)),
+    )
+
+pub returns-in-Some-2-clause-finds : goal.returns-in-Some-2-clause-finds
+returns-in-Some-2-clause-finds c =
+    let s = c.self.inside in
+    let piece = c.take.result.now in
+    let after = c.take.follows.lender-at-none in
+    let takes : TakesPiece s.stream piece after = subst (λ (h : Held). TakesPiece h piece after) c.cut.ensures.stays
+    c.take.follows.holds-at-none in
+    let long : s.limit < length piece = omega (arith, c.take.ensures.len, c.if-cut-self.false) in
+    subst
+    (λ (v : HeldWithin). (text : List ℕ) → Holds v text
+    → (x rest : List ℕ) × (v.limit < length x) × CutsTo v.held.dialect text x rest × HoldsBy s.limit after s.skipped rest)
+    c.self.view_is
+    (λ text h.
+    let w = takes_within s.limit s.stream after s.skipped piece text c.in-Nothing.is takes h in
+    (piece, after.bytes, long, w.0, w.1))

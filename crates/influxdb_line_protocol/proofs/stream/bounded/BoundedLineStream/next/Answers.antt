@@ -1,0 +1,35 @@
+use Rattle.std.proofs.Common.{◌≡◌, ◌≤◌, length, List, ℕ, Result, Some, refl, subst, ap, ◌∙◌, arith}
+use Rattle.influxdb_line_protocol.specs.declared.split.Mark.{Mark}
+use Rattle.influxdb_line_protocol.specs.declared.stream.bounded.TooLong.{TooLong}
+use Rattle.influxdb_line_protocol.specs.declared.stream.bounded.Skipped.TheVariants.{Nothing}
+use Rattle.influxdb_line_protocol.specs.code.Bounded.{CutsTo, FindsWithin, HeldWithin, Holds, HoldsBy}
+use Rattle.influxdb_line_protocol.proofs.lemmas.stream.BoundedStreams.{takes_within}
+use Rattle.influxdb_line_protocol.proofs.stream.bounded.BoundedLineStream.next.Goals as goal
+
+pub returns-in-Ok : goal.returns-in-Ok
+returns-in-Ok c =
+    let s = c.self.inside in
+    let now = c.args.self.now in
+    let piece = c.take.result.now in
+    let after = c.take.follows.lender-at-none in
+    let finds = subst (λ (r : Result Mark TooLong). FindsWithin now (Some r) c.first.new.self) c.in-Ok.is c.in_ok-cut.ensures.finds in
+    let same = c.self.view_is ∙ finds.0 in
+    let nothing : s.skipped ≡ Nothing = ap (λ (v : HeldWithin). v.skipped) same ∙ finds.1 in
+    let takes = c.take.follows.holds-at-none in
+    let short : length piece ≤ s.limit = omega (arith, c.take.ensures.len, finds.3, ap (λ (v : HeldWithin). v.limit) same) in (
+      (
+        refl,
+        (λ _. tt),
+        (
+          (takes.dialect ∙ ap (λ (v : HeldWithin). v.held.dialect) same, ap (λ (v : HeldWithin). v.limit) same),
+          subst
+              (λ (v : HeldWithin). (text : List ℕ) → Holds v text
+              → (rest : List ℕ) × (length piece ≤ v.limit) × CutsTo v.held.dialect text piece rest × HoldsBy s.limit after s.skipped rest)
+              same
+              (λ text h.
+              let w = takes_within s.limit s.stream after s.skipped piece text nothing takes h in
+              (after.bytes, short, w.0, w.1)),
+        ),
+      ),
+      record { after = tt },
+    )

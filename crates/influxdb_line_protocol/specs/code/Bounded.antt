@@ -1,0 +1,68 @@
+-- What a stream holds whose pieces have a greatest length, and what a call takes of it.
+use Rattle.std.specs.Prelude.{◌≡◌, ℕ, ◌<◌, ◌≤◌, List, [], ◌∷◌, ◌++◌, length, Option, Some, None, Result, Ok, Err}
+use Rattle.std.specs.Borrow.{Bor}
+use Rattle.influxdb_line_protocol.specs.declared.split.Dialect.{Dialect}
+use Rattle.influxdb_line_protocol.specs.declared.split.Mark.{Mark}
+use Rattle.influxdb_line_protocol.specs.declared.stream.bounded.Skipped.{Skipped}
+use Rattle.influxdb_line_protocol.specs.declared.stream.bounded.Skipped.TheVariants.{Nothing, Within, Ended}
+use Rattle.influxdb_line_protocol.specs.format.Bytes.{newline}
+use Rattle.influxdb_line_protocol.specs.format.Pieces.{IsCutPiece, IsLastPiece}
+use Rattle.influxdb_line_protocol.specs.code.Streams.{FindsCut, Held}
+use Rattle.influxdb_line_protocol.specs.code.Tracks.{IsTrackOf}
+
+-- the bytes that are kept, and what is known of those that were skipped
+pub record HeldWithin : Type 0 where
+  pub limit : ℕ
+  pub held : Held
+  pub skipped : Skipped
+
+-- a text is cut after its first piece
+abbrev pub CutsTo : Dialect → List ℕ → List ℕ → List ℕ → Type 0
+CutsTo dialect text piece rest = (text ≡ piece ++ newline ∷ rest) × IsCutPiece dialect piece
+
+-- the text that came after the last cut: what is kept, after the bytes of a piece that is too long
+abbrev pub HoldsBy : ℕ → Held → Skipped → List ℕ → Type 0
+HoldsBy limit held Nothing text = text ≡ held.bytes
+HoldsBy limit held (Within track) text = (held.bytes ≡ []) × (limit < length text) × IsTrackOf held.dialect text track
+HoldsBy limit held Ended text = (piece : List ℕ) × (limit < length piece) × CutsTo held.dialect text piece held.bytes
+
+-- the stream holds this text
+abbrev pub Holds : HeldWithin → List ℕ → Type 0
+Holds stream text = HoldsBy stream.limit stream.held stream.skipped text
+
+-- the dialect and the greatest length stay
+abbrev pub KeepsRules : HeldWithin → HeldWithin → Type 0
+KeepsRules before after = (after.held.dialect ≡ before.held.dialect) × (after.limit ≡ before.limit)
+
+-- of a text that the stream holds, a call gives the first piece that a newline ends, or in its place a fault where it is
+-- too long
+abbrev pub GivesOf : {E : Type 0} → HeldWithin → List ℕ → Option (Result (Bor (List ℕ)) E) → HeldWithin → Type 0
+GivesOf before text None after = Holds after text × IsLastPiece before.held.dialect text
+GivesOf before text (Some (Ok piece)) after =
+    (rest : List ℕ) × (length piece.now ≤ before.limit) × CutsTo before.held.dialect text piece.now rest × Holds after rest
+GivesOf before text (Some (Err _)) after =
+    (piece rest : List ℕ) × (before.limit < length piece) × CutsTo before.held.dialect text piece rest × Holds after rest
+
+-- a call finds the first cut, or takes the first piece where it is too long
+abbrev pub FindsWithin : {E : Type 0} → HeldWithin → Option (Result Mark E) → HeldWithin → Type 0
+FindsWithin before None after = (text : List ℕ) → Holds before text → Holds after text × IsLastPiece before.held.dialect text
+FindsWithin before (Some (Ok cut)) after =
+    (after ≡ before) × (before.skipped ≡ Nothing) × FindsCut before.held (Some cut) × (cut.at ≤ before.limit)
+FindsWithin before (Some (Err _)) after =
+    (text : List ℕ) → Holds before text
+    → (piece rest : List ℕ) × (before.limit < length piece) × CutsTo before.held.dialect text piece rest × Holds after rest
+
+-- so it is of each text that it may hold
+abbrev pub GivesWithin : {E : Type 0} → HeldWithin → Option (Result (Bor (List ℕ)) E) → HeldWithin → Type 0
+GivesWithin before result after = KeepsRules before after × ((text : List ℕ) → Holds before text → GivesOf before text result after)
+
+-- a call gives a text that is one piece, or a fault in its place
+abbrev pub IsLastOf : {E : Type 0} → ℕ → List ℕ → Result (Bor (List ℕ)) E → Type 0
+IsLastOf limit text (Ok piece) = (piece.now ≡ text) × (length text ≤ limit)
+IsLastOf limit text (Err _) = limit < length text
+
+-- a call gives the last piece, and the stream then holds nothing
+abbrev pub GivesLastWithin : {E : Type 0} → HeldWithin → Result (Bor (List ℕ)) E → HeldWithin → Type 0
+GivesLastWithin before result after =
+    KeepsRules before after × Holds after []
+    × ((text : List ℕ) → Holds before text → IsLastPiece before.held.dialect text → IsLastOf before.limit text result)

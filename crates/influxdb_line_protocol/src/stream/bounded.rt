@@ -1,0 +1,169 @@
+//! Lines that come in parts, of which a piece has a greatest length.
+
+ghost use Rattle.std.specs.Prelude.{◌≡◌, ◌++◌, ◌<◌, ◌≤◌, ℕ, List, [], false, length, true, OnOk, OnErr};
+ghost use Rattle.std.specs.Borrow.{sem};
+ghost use Rattle.influxdb_line_protocol.specs.code.Bounded.{FindsWithin, Holds, KeepsRules};
+ghost use Rattle.influxdb_line_protocol.specs.declared.stream.bounded.Skipped.{Skipped};
+ghost use Rattle.influxdb_line_protocol.specs.format.Pieces.{IsLastPiece};
+
+use super::LineStream;
+use crate::split::{Dialect, Mark, Track, track_on};
+use std::alloc::{AllocError, Global};
+use std::marker::Model;
+
+/// A piece was longer than it may be.
+#[derive(Clone, Copy, Debug, PartialEq, Eq)]
+pub struct TooLong;
+
+// What was skipped of a piece that is too long.
+#[derive(Clone, Copy)]
+enum Skipped {
+    // There is no such piece.
+    Nothing,
+    // Its bytes so far have this track.
+    Within(Track),
+    // All of it, with its newline.
+    Ended,
+}
+
+/// The pieces of a text that comes in parts, as [`LineStream`] gives them, but a piece of more bytes than the limit is one
+/// fault.
+///
+/// Once more bytes are held than a piece may have, and no newline that came ends it, they are let go, and so are those that
+/// come, up to the end of the piece. The next pieces are given.
+#[derive(Drop)]
+pub struct BoundedLineStream {
+    stream: LineStream,
+    limit: usize,
+    skipped: Skipped,
+}
+
+impl Model for BoundedLineStream {
+    ghost use Rattle.influxdb_line_protocol.specs.code.Bounded.{HeldWithin};
+
+    ghost Value = { HeldWithin };
+
+    ghost view = { λ s. record { limit = s.limit; held = s.stream; skipped = s.skipped } };
+}
+
+impl BoundedLineStream {
+    ghost use Rattle.influxdb_line_protocol.specs.code.LendingWithin.{EndsWithin, EndsLastWithin};
+
+    /// A stream that holds nothing, by the rules of a dialect, whose pieces have so many bytes at most. No memory is taken.
+    pub fn new_in(alloc: Global, dialect: Dialect, limit: usize) -> BoundedLineStream
+        ensures dialect { result.held.dialect ≡ dialect }
+        ensures limit { result.limit ≡ limit }
+        ensures holds { Holds result [] }
+    {
+        BoundedLineStream {
+            stream: LineStream::new_in(alloc, dialect),
+            limit,
+            skipped: Skipped::Nothing,
+        }
+    }
+
+    /// Takes the next part of the text.
+    ///
+    /// Where memory was refused, nothing is lost, and the same part can be given again.
+    pub fn push(&mut self, part: &[u8]) -> Result<(), AllocError>
+        ensures rules { KeepsRules self.old self.new }
+        ensures ok { OnOk result ((text : List ℕ) → Holds self.old text → Holds self.new (text ++ part.now)) }
+        ensures err { OnErr result ((text : List ℕ) → Holds self.old text → Holds self.new text) }
+    {
+        let Skipped::Within(track) = self.skipped else {
+            return self.stream.push(part);
+        };
+        if !track.has_room(part.len()) {
+            return Err(AllocError);
+        }
+        match track_on(part, track) {
+            Ok(end) => {
+                self.stream.push(&part[end + 1..])?;
+                self.skipped = Skipped::Ended;
+            }
+            Err(track) => self.skipped = Skipped::Within(track),
+        }
+        Ok(())
+    }
+
+    // Lets what is held go, where that is more than a piece may have.
+    fn let_go(&mut self)
+        requires nothing { self.old.skipped ≡ Skipped.Nothing }
+        requires is_last { IsLastPiece self.old.held.dialect self.old.held.bytes }
+        ensures rules { KeepsRules self.old self.new }
+        ensures holds { Holds self.new self.old.held.bytes }
+    {
+        if self.stream.held().len() <= self.limit {
+            return;
+        }
+        let first = Track::new(self.stream.dialect());
+        if let Err(track) = track_on(self.stream.held(), first) {
+            self.stream.take_all();
+            self.skipped = Skipped::Within(track);
+        }
+    }
+
+    // The cut of the first piece, or a fault where that is too long and was taken, or `None` until its newline has come.
+    fn first(&mut self) -> Option<Result<Mark, TooLong>>
+        ensures rules { KeepsRules self.old self.new }
+        ensures finds { FindsWithin self.old result self.new }
+    {
+        match self.skipped {
+            Skipped::Nothing => {}
+            Skipped::Within(_) => return None,
+            Skipped::Ended => {
+                self.skipped = Skipped::Nothing;
+                return Some(Err(TooLong));
+            }
+        }
+        match self.stream.cut() {
+            None => {
+                self.let_go();
+                None
+            }
+            Some(cut) if cut.at <= self.limit => Some(Ok(cut)),
+            Some(cut) => {
+                self.stream.take(cut);
+                Some(Err(TooLong))
+            }
+        }
+    }
+
+    /// The first piece that a newline ends, or a fault in its place where it is too long, or `None` until that newline has
+    /// come.
+    pub fn next(&mut self) -> Option<Result<&[u8], TooLong>>
+        ensures* after { sem 𝓛 (EndsWithin self.entry result) }
+    {
+        match self.first()? {
+            Ok(cut) => Some(Ok(self.stream.take(cut))),
+            Err(fault) => Some(Err(fault)),
+        }
+    }
+
+    // Takes what is held, where that is a piece that is too long, and says whether it was.
+    fn drops_last(&mut self) -> bool
+        ensures rules { KeepsRules self.old self.new }
+        ensures long { result ≡ true → Holds self.new [] × ((text : List ℕ) → Holds self.old text
+            → IsLastPiece self.old.held.dialect text → self.old.limit < length text) }
+        ensures short { result ≡ false → (self.new ≡ self.old) × (self.old.skipped ≡ Skipped.Nothing)
+            × (length self.old.held.bytes ≤ self.old.limit) }
+    {
+        if matches!(self.skipped, Skipped::Nothing) && self.stream.held().len() <= self.limit {
+            return false;
+        }
+        self.stream.take_all();
+        self.skipped = Skipped::Nothing;
+        true
+    }
+
+    /// The last piece, or a fault in its place where it is too long, once [`next`](Self::next) has given `None` and no more
+    /// parts come. Then nothing is held, and the parts of another text can be given.
+    pub fn finish(&mut self) -> Result<&[u8], TooLong>
+        ensures* after { sem 𝓛 (EndsLastWithin self.entry result) }
+    {
+        if self.drops_last() {
+            return Err(TooLong);
+        }
+        Ok(self.stream.take_all())
+    }
+}
