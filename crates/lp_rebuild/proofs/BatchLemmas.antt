@@ -1,17 +1,15 @@
 -- What is carried: lines that were read, and points that are admitted, so that the batch reads back.
-use Rattle.std.proofs.Common.{◌≡◌, ℕ, ◌==◌, ◌<◌, List, [], ◌∷◌, ◌++◌, length, map, Option, Some, None, Result, Ok, Err}
-use Rattle.std.proofs.Common.{refl, sym, ap, subst, ◌∙◌, arith, inl, inr}
+use Rattle.std.proofs.Common.{◌≡◌, ℕ, ◌==◌, List, [], ◌∷◌, ◌++◌, length, map, Some, Result, Ok, Err}
+use Rattle.std.proofs.Common.{refl, sym, ap, subst, ◌∙◌, inl, inr}
 use Rattle.std.specs.Prelude.{IfOk}
 use Rattle.std.specs.List.{flat_map, AllByRecursion}
 use Rattle.std.proofs.lemmas.Bool.{cases_Bool}
 use Rattle.influxdb_line_protocol.specs.declared.split.Dialect.{Dialect}
 use Rattle.influxdb_line_protocol.specs.declared.error.Error.{Error}
-use Rattle.influxdb_line_protocol.specs.declared.escaped.EscapedStr.{EscapedStr}
-use Rattle.influxdb_line_protocol.specs.declared.values.FieldValue.{FieldValue}
 use Rattle.influxdb_line_protocol.specs.declared.parsed.ParsedLine.{ParsedLine}
 use Rattle.influxdb_line_protocol.specs.format.Readings.{Fault}
 use Rattle.influxdb_line_protocol.specs.format.Points.{is_admitted_point, built_all}
-use Rattle.influxdb_line_protocol.specs.format.Lines.{Line, point_of, answer, logical_field}
+use Rattle.influxdb_line_protocol.specs.format.Lines.{Line, point_of, answer}
 use Rattle.influxdb_line_protocol.specs.code.Parsed.{IsReadLine}
 use Rattle.influxdb_line_protocol.specs.format.Trimming.{trimmed}
 use Rattle.influxdb_line_protocol.specs.format.Pieces.{Left}

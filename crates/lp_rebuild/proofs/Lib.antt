@@ -3,3 +3,9 @@ pub mod Moving
 pub mod Parts
 pub mod RebuildLemmas
 pub mod BatchLemmas
+pub mod PassLemmas
+pub mod ItemLemmas
+pub mod RelayLemmas
+pub mod RelaysSoFar
+pub mod RelaysOfText
+pub mod RelayEnds

@@ -1,10 +1,11 @@
 -- What several reads or writes, one after the other, move together.
 use Rattle.std.proofs.Common.{◌≡◌, ℕ, ◌+◌, ◌≤◌, List, [], ◌++◌, length, take, drop, Option, Result, Ok, Err, IfOk, sym}
-use Rattle.std.proofs.Common.{ap, subst, ◌∙◌, append-nil}
+use Rattle.std.proofs.Common.{ap, subst, ◌∙◌, append-nil, OnErr, take_all, le_refl}
 use Rattle.std.proofs.Math.Seq.{take-add}
 use Rattle.std.proofs.lemmas.List.{take-append-drop, drop-drop, drop_at, take-append-le}
-use Rattle.std.specs.Io.KnownBytes.{Consumes, Appends, ReadConsumes}
-use Rattle.std.proofs.KnownBytes.{Consumes-trans, Appends-trans}
+use Rattle.std.specs.Io.KnownBytes.{Consumes, Appends, Keeps, ReadConsumes}
+use Rattle.std.proofs.KnownBytes.{Consumes-trans, Appends-trans, Appends-kept}
+use Rattle.lp_rebuild.specs.Running.{AppendsFront}
 
 -- the first f bytes of xs were consumed, and ys has those and the next n that were
 pub read_more : (a b c : Option (List ℕ)) (xs ys : List ℕ) (f n : ℕ) → take f ys ≡ take f xs
@@ -34,3 +35,10 @@ pub read_in_place : {E : Type 0} (a b : Option (List ℕ)) (r : Result ℕ E) (f
 read_in_place a b (Ok n) front part rest at long fits read =
     subst (Consumes a b) (sym (ap (take n) (drop_at front (part ++ rest) at long) ∙ take-append-le n part rest fits)) read.0
 read_in_place a b (Err e) front part rest at long fits read = tt
+
+-- all bytes were appended, and then none: that is a front of them too
+pub whole_front : {T E : Type 0} (a b c : Option (List ℕ)) (bs : List ℕ) (r : Result T E) → Appends a b bs → Keeps b c
+    → OnErr r (AppendsFront a c bs)
+whole_front a b c bs (Ok x) p k = tt
+whole_front a b c bs (Err e) p k =
+    (length bs, subst (Appends a c) (sym (take_all (length bs) bs (le_refl _))) (Appends-kept a b c bs p k))

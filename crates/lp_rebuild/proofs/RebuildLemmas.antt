@@ -89,17 +89,17 @@ refused_fault old e new some r answer is =
     let f = error_is e answer some is in
     subst (λ a. Takes old a new) (sym f.1) (refused_answer old (Err f.0) new refl (subst (λ t. Refuses old t new) f.2 r))
 
-carried_cons : (answer : Result Line Fault) (answers : List (Result Line Fault))
+pub carried_cons : (answer : Result Line Fault) (answers : List (Result Line Fault))
     → carried_of (answer ∷ answers) ≡ cond (is_carried_answer answer) 1 0 + carried_of answers
 carried_cons answer answers = omega (arith, sum_by-append (λ (a : Result Line Fault). cond (is_carried_answer a) 1 0) (answer ∷ []) answers)
 
-refused_cons : (answer : Result Line Fault) (answers : List (Result Line Fault))
+pub refused_cons : (answer : Result Line Fault) (answers : List (Result Line Fault))
     → refused_of (answer ∷ answers) ≡ cond (not (is_carried_answer answer)) 1 0 + refused_of answers
 refused_cons answer answers = omega
     (arith, sum_by-append (λ (a : Result Line Fault). cond (not (is_carried_answer a)) 1 0) (answer ∷ []) answers)
 
 -- one of two
-one_of_two : (b : Bool) → cond b 1 0 + cond (not b) 1 0 ≡ 1
+pub one_of_two : (b : Bool) → cond b 1 0 + cond (not b) 1 0 ≡ 1
 one_of_two true = refl
 one_of_two false = refl
 
@@ -146,12 +146,12 @@ pub record Took (answers : List (Result Line Fault)) (so_far : Progress) : Type 
   pub refused : so_far.refused ≡ refused_of answers
 
 -- one is added where the test holds
-add_where : (b : Bool) (m n : ℕ) → m ≡ n → cond b (m + 1) m ≡ n + cond b 1 0
+pub add_where : (b : Bool) (m n : ℕ) → m ≡ n → cond b (m + 1) m ≡ n + cond b 1 0
 add_where true m n e = omega arith
 add_where false m n e = omega arith
 
 -- one is added where the test does not hold
-add_elsewhere : (b : Bool) (m n : ℕ) → m ≡ n → cond b m (m + 1) ≡ n + cond (not b) 1 0
+pub add_elsewhere : (b : Bool) (m n : ℕ) → m ≡ n → cond b m (m + 1) ≡ n + cond (not b) 1 0
 add_elsewhere true m n e = omega arith
 add_elsewhere false m n e = omega arith
 
@@ -171,7 +171,7 @@ Took-more answers answer old new h t =
     }
 
 -- blank pieces have no answers
-blank_answers : (dialect : Dialect) (pieces : List (List ℕ)) → All IsBlankPiece pieces → answers_of dialect pieces ≡ []
+pub blank_answers : (dialect : Dialect) (pieces : List (List ℕ)) → All IsBlankPiece pieces → answers_of dialect pieces ≡ []
 unfolding answers_of_piece
 blank_answers dialect [] h = refl
 blank_answers dialect (p ∷ pieces) h =
@@ -179,7 +179,7 @@ blank_answers dialect (p ∷ pieces) h =
     rw e (blank_answers dialect pieces (All-tail IsBlankPiece p pieces h))
 
 -- a piece that is not blank has one
-piece_answers : (dialect : Dialect) (piece : List ℕ) → 0 < length (trimmed piece)
+pub piece_answers : (dialect : Dialect) (piece : List ℕ) → 0 < length (trimmed piece)
     → answers_of_piece dialect piece ≡ answer dialect (trimmed piece) ∷ []
 unfolding answers_of_piece
 piece_answers dialect piece h =

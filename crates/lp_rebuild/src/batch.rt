@@ -30,11 +30,11 @@ pub struct Rebuilt {
 
 // What was rebuilt so far.
 #[derive(Drop)]
-struct Progress {
-    batch: Vec<u8>,
-    faults: String,
-    carried: usize,
-    refused: usize,
+pub(crate) struct Progress {
+    pub(crate) batch: Vec<u8>,
+    pub(crate) faults: String,
+    pub(crate) carried: usize,
+    pub(crate) refused: usize,
 }
 
 // What is wrong with a line that has a name that is not admitted.
@@ -53,7 +53,7 @@ fn carry(batch: Vec<u8>, line: &ParsedLine<'_>) -> Result<(Vec<u8>, bool), Alloc
 }
 
 // Writes a fault line for the next item.
-fn refuse<D: Display + Drop>(so_far: &mut Progress, text: D) -> Result<(), AllocError>
+pub(crate) fn refuse<D: Display + Drop>(so_far: &mut Progress, text: D) -> Result<(), AllocError>
     requires { so_far.old.carried + so_far.old.refused < usize.MAX }
     ensures { OnOk result (IfSome (D.output text) (λ bs. Refuses so_far.old bs so_far.new)) }
 {
@@ -99,7 +99,7 @@ fn take_fault(so_far: &mut Progress, error: &Error) -> Result<(), AllocError>
 
 // Takes the next item of a text: an answer, and the line that was read where it is no fault.
 #[inline(always)]
-fn take(
+pub(crate) fn take(
     alloc: Global,
     so_far: &mut Progress,
     answer: &influxdb_line_protocol::Result<()>,

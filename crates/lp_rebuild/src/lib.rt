@@ -1,7 +1,7 @@
 //! Rebuilds the lines of a text: those that can be written again go to one output, and every other
 //! one is a fault, numbered, in another.
 //!
-//! [`rebuild`] does it for a text, and [`run`] from a reader to two writers.
+//! [`rebuild`] does it for a text, [`run`] from a reader to two writers, and [`relay`] does so as the lines come.
 #![tactic(auto)]
 
 mod batch;
@@ -9,8 +9,10 @@ mod devices;
 mod failures;
 mod flushes;
 mod program;
+mod relaying;
 
 pub use batch::{Rebuilt, rebuild, rebuild_in};
 pub use devices::{DeviceFault, Kept, Reading, Sink, Source, Writing};
 pub use failures::Failures;
 pub use program::{RunFault, USAGE, dialect_of, run, run_in, status};
+pub use relaying::{Relayed, relay, relay_in};

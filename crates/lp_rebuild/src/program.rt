@@ -39,7 +39,7 @@ impl fmt::Display for RunFault {
 }
 
 // The room that each read is given.
-const BLOCK: usize = 65_536;
+pub(crate) const BLOCK: usize = 65_536;
 
 // Makes room for a block after the first `filled` bytes of `input`, which stay as they are.
 fn make_room(input: &mut Vec<u8>, filled: usize) -> Result<(), AllocError>
@@ -69,7 +69,7 @@ fn read_at<R: Source>(reader: &mut R, buf: &mut [u8], at: usize) -> Result<usize
 }
 
 // One read after the first `filled` bytes of `input`, which stay as they are.
-fn read_block<R: Source>(
+pub(crate) fn read_block<R: Source>(
     reader: &mut R,
     input: &mut Vec<u8>,
     filled: usize,
@@ -113,6 +113,20 @@ fn read_all<R: Source>(alloc: Global, reader: &mut R) -> Result<Vec<u8>, RunFaul
     Err(RunFault::OutOfMemory)
 }
 
+// Writes all of `bytes`.
+pub(crate) fn write_bytes<W: Sink>(sink: &mut W, bytes: &[u8]) -> Result<(), DeviceFault>
+    ensures ok { OnOk result (Appends (W.bytes sink.old) (W.bytes sink.new) bytes.now) }
+    ensures part { OnErr result (AppendsFront (W.bytes sink.old) (W.bytes sink.new) bytes.now) }
+    ensures counts { CountsFailure result (W.failures sink.old) (W.failures sink.new) }
+{
+    let mut rest = bytes;
+    while !rest.is_empty() {
+        let n = sink.write(rest)?;
+        rest = &rest[n..];
+    }
+    Ok(())
+}
+
 // Writes all of `bytes`, and flushes.
 fn write_all<W: Sink>(sink: &mut W, bytes: &[u8]) -> Result<(), DeviceFault>
     ensures ok { OnOk result (Appends (W.bytes sink.old) (W.bytes sink.new) bytes.now) }
@@ -120,11 +134,7 @@ fn write_all<W: Sink>(sink: &mut W, bytes: &[u8]) -> Result<(), DeviceFault>
     ensures counts { CountsFailure result (W.failures sink.old) (W.failures sink.new) }
     ensures flushed { OnOk result (W.is_flushed sink.new ≡ true) }
 {
-    let mut rest = bytes;
-    while !rest.is_empty() {
-        let n = sink.write(rest)?;
-        rest = &rest[n..];
-    }
+    write_bytes(sink, bytes)?;
     sink.flush()
 }
 

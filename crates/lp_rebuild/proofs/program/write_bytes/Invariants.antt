@@ -1,6 +1,6 @@
 use Rattle.std.proofs.Common.{◌≡◌, ℕ, take, drop, length}
 use Rattle.std.specs.Io.KnownBytes.{Appends}
-use Rattle.lp_rebuild.proofs.program.write_all.Given as goal
+use Rattle.lp_rebuild.proofs.program.write_bytes.Given as goal
 
 abbrev pub invariant-loop-rest : goal.invariant-loop-rest
 invariant-loop-rest g l =
