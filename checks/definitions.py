@@ -18,7 +18,7 @@ LIBRARIES = ["influxdb_line_protocol", "lp_rebuild", "lp_c"]
 HEAD = """\
 # Definitions
 
-What the contracts cite: each definition of `specs/`, by its own comment, in the order in which they stand on one
+What the contracts cite: each definition of `specs/`, by its own comment, in the order in which they rest on one
 another. [FORMAT.md](FORMAT.md) has the rules in plain words, with examples; a definition says the same thing exactly,
 and is read in the file that its subject links. [GLOSSARY.md](GLOSSARY.md) has the words of the comments. Where a
 definition has no comment, its type stands in its place.

@@ -1,6 +1,6 @@
 //! Callers of the library, each small and proved, that the documents quote.
 //!
-//! What stands from `// [NAME]` to `// [end]` is the block NAME of a document.
+//! What comes from `// [NAME]` to `// [end]` is the block NAME of a document.
 #![tactic(auto)]
 
 pub mod again;
@@ -12,6 +12,7 @@ pub mod given_back;
 pub mod keys;
 pub mod numbers;
 pub mod packets;
+pub mod parts;
 pub mod print;
 pub mod rebuilt;
 pub mod refusals;
