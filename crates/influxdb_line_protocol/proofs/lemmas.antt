@@ -1,6 +1,6 @@
 pub mod split
 pub mod stream
-pub mod forms
+pub mod tokens
 pub mod lanes
 pub mod scan
 pub mod names

@@ -2,7 +2,7 @@ pub mod Lanes
 pub mod Scan
 pub mod RawTokens
 pub mod Seen
-pub mod Forms
+pub mod Tokens
 pub mod Texts
 pub mod Faults
 pub mod Outcomes

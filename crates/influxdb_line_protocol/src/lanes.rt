@@ -1,7 +1,7 @@
-//! How many bytes of one load, from the first, go on a spelling, or hold no backslash.
+//! Which bytes of one load end a token or are backslashes.
 ghost use Rattle.std.specs.Prelude.{◌≡◌, ◌+◌, ◌<◌, ◌≤◌, bit_and, false, length, map, slice_index};
 ghost use Rattle.influxdb_line_protocol.specs.format.Bytes.{is_one_of};
-ghost use Rattle.influxdb_line_protocol.specs.code.Forms.{is_end, is_plain, known_of, stops_of};
+ghost use Rattle.influxdb_line_protocol.specs.code.Tokens.{is_end, is_plain, known_of, stops_of};
 ghost use Rattle.influxdb_line_protocol.specs.code.Lanes.{IsRunIn, first_set, mask_of};
 
 use crate::scan::WIDE;

@@ -10,7 +10,7 @@ mod digits;
 mod error;
 mod escaped;
 mod fields;
-mod forms;
+mod tokens;
 mod lanes;
 pub mod laws;
 mod line;

@@ -1,7 +1,7 @@
 //! Names: measurements, keys and tag values.
 
 ghost use Rattle.std.specs.Prelude.{◌≡◌, ◌≤◌, length, IfOk, IfSome, Err};
-ghost use Rattle.influxdb_line_protocol.specs.code.Forms.{stops_of, known_of};
+ghost use Rattle.influxdb_line_protocol.specs.code.Tokens.{stops_of, known_of};
 ghost use Rattle.influxdb_line_protocol.specs.code.Memory.{NeedsMemory};
 ghost use Rattle.influxdb_line_protocol.specs.format.Names.{escapable, is_stop, name, read_text};
 ghost use Rattle.influxdb_line_protocol.specs.code.Outcomes.{Gives, IsNotOutOfMemory, kind_of};
@@ -9,8 +9,8 @@ ghost use Rattle.influxdb_line_protocol.specs.code.Texts.{read_of};
 
 use crate::error::Error;
 use crate::escaped::EscapedStr;
-pub(crate) use crate::forms::escaped_str;
-use crate::forms::{Spelling, front};
+pub(crate) use crate::tokens::escaped_str;
+use crate::tokens::{RawToken, front};
 use crate::sets::TokenKind;
 use std::alloc::Global;
 
@@ -38,15 +38,15 @@ impl NameKind {
     }
 }
 
-/// The spelled text of a name at the start of `text`, and the rest. `None` where no name is there.
+/// The name at the start of `text` as a raw token, and the rest. `None` where no name is there.
 /// It takes no memory.
 #[inline(always)]
-pub(crate) fn spelled(kind: NameKind, text: &str) -> Result<Option<(Spelling<'_>, &str)>, Error>
+pub(crate) fn spelled(kind: NameKind, text: &str) -> Result<Option<(RawToken<'_>, &str)>, Error>
     ensures value { Gives (λ s. read_text (known_of s.kind) s.text.now) result (name (kind_of kind) text.now) }
     ensures tail { IfOk result (λ o. IfSome o (λ p. length p.1.now ≤ length text.now)) }
     ensures memory { IsNotOutOfMemory result }
 {
-    let (spelled, rest) = front(kind.token(), text);
+    let (spelled, rest) = take_token(kind.token(), text);
     if spelled.text.is_empty() {
         return Ok(None);
     }

@@ -2,7 +2,7 @@
 
 ghost use Rattle.std.specs.Prelude.{◌≡◌};
 ghost use Rattle.influxdb_line_protocol.specs.format.Bytes.{is_one_of};
-ghost use Rattle.influxdb_line_protocol.specs.code.Forms.{stops_of, known_of};
+ghost use Rattle.influxdb_line_protocol.specs.code.Tokens.{stops_of, known_of};
 
 /// A kind of token: a kind of name, or the text between quotes.
 #[derive(Clone, Copy)]

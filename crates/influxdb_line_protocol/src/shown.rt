@@ -6,7 +6,7 @@ ghost use Rattle.std.specs.List.{join_by};
 ghost use Rattle.std.specs.Option.{option_map};
 ghost use Rattle.influxdb_line_protocol.specs.format.Bytes.{comma, is_one_of};
 ghost use Rattle.influxdb_line_protocol.specs.format.Escapes.{escaped};
-ghost use Rattle.influxdb_line_protocol.specs.code.Forms.{known_of};
+ghost use Rattle.influxdb_line_protocol.specs.code.Tokens.{known_of};
 ghost use Rattle.influxdb_line_protocol.specs.code.Parsed.{field_of, tag_of, tags_of};
 ghost use Rattle.influxdb_line_protocol.specs.code.Shown.{comma_before, shown_escapes, shown_field, shown_tag, shown_timestamp};
 ghost use Rattle.influxdb_line_protocol.specs.code.Texts.{read_of};

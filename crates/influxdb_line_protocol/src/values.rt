@@ -21,7 +21,7 @@ ghost use Rattle.influxdb_line_protocol.specs.format.Values.{false_words};
 use crate::digits::{integer_value, unsigned_value};
 use crate::error::{Error, OutOfRange};
 use crate::escaped::EscapedStr;
-use crate::forms::{escaped_str, front};
+use crate::tokens::{escaped_str, take_token};
 use crate::literals::{FloatText, integer_len};
 use crate::sets::TokenKind;
 use crate::trim::{strip_byte, trim_start_spaces};
@@ -224,7 +224,7 @@ fn string<'a>(alloc: Global, text: &'a str) -> Result<Option<(FieldValue<'a>, &'
     let Some(opened) = strip_byte(b'"', text) else {
         return Ok(None);
     };
-    let (body, closing) = front(TokenKind::String, opened);
+    let (body, closing) = take_token(TokenKind::String, opened);
     let Some(rest) = strip_byte(b'"', closing) else {
         return Ok(None);
     };

@@ -1,10 +1,10 @@
 -- What a scan finds of the escapes of a name or a string.
 use Rattle.std.specs.Prelude.{◌≡◌, ℕ, ◌+◌, ◌-◌, ◌<◌, ◌≤◌, ◌==◌, ◌&&◌, Bool, false, not, List, length, take, slice_index}
-use Rattle.influxdb_line_protocol.specs.declared.forms.Scanned.{Scanned}
+use Rattle.influxdb_line_protocol.specs.declared.tokens.Scanned.{Scanned}
 use Rattle.influxdb_line_protocol.specs.declared.sets.TokenKind.{TokenKind}
 use Rattle.influxdb_line_protocol.specs.format.Bytes.{backslash, is_one_of}
 use Rattle.influxdb_line_protocol.specs.format.Escapes.{first_bare, is_bare_at, without_escapes}
-use Rattle.influxdb_line_protocol.specs.code.Forms.{is_plain, known_of, stops_of}
+use Rattle.influxdb_line_protocol.specs.code.Tokens.{is_plain, known_of, stops_of}
 use Rattle.influxdb_line_protocol.specs.code.Lanes.{IsRunAt}
 use Rattle.influxdb_line_protocol.specs.code.Scan.{mask_at}
 

@@ -6,7 +6,7 @@ ghost use Rattle.influxdb_line_protocol.specs.format.Bytes.{backslash, is_one_of
 ghost use Rattle.influxdb_line_protocol.specs.format.Escapes.{escaped};
 ghost use Rattle.influxdb_line_protocol.specs.code.Marks.{listed};
 ghost use Rattle.influxdb_line_protocol.specs.code.Built.{IsPlainText};
-ghost use Rattle.influxdb_line_protocol.specs.code.Forms.{known_of};
+ghost use Rattle.influxdb_line_protocol.specs.code.Tokens.{known_of};
 
 use super::buffer::BufMut;
 use super::marks::{self, Marks, before_first};

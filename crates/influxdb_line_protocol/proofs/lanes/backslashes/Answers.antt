@@ -2,7 +2,7 @@
 use Rattle.std.proofs.Common.{false, refl, arith}
 use Rattle.std.proofs.lemmas.Simd.{length-chunk}
 use lib.Lanes.{chunk}
-use Rattle.influxdb_line_protocol.specs.code.Forms.{is_end}
+use Rattle.influxdb_line_protocol.specs.code.Tokens.{is_end}
 use Rattle.influxdb_line_protocol.proofs.lemmas.lanes.LaneLemmas.{lanes_of}
 use Rattle.influxdb_line_protocol.proofs.lemmas.lanes.MaskLemmas.{mask_is}
 use Rattle.influxdb_line_protocol.proofs.lanes.backslashes.Goals as goal

@@ -2,7 +2,7 @@
 use Rattle.std.proofs.Common.{◌≡◌, refl, arith, inl, inr}
 use Rattle.std.proofs.lemmas.Simd.{length-chunk}
 use lib.Lanes.{chunk}
-use Rattle.influxdb_line_protocol.specs.code.Forms.{is_end, stops_of}
+use Rattle.influxdb_line_protocol.specs.code.Tokens.{is_end, stops_of}
 use Rattle.influxdb_line_protocol.specs.declared.sets.TokenKind.TheVariants.{Measurement, TagKey, TagValue, String}
 use Rattle.influxdb_line_protocol.proofs.lemmas.lanes.LaneLemmas.{lanes_looked, lanes_of, lanes_or}
 use Rattle.influxdb_line_protocol.proofs.lemmas.lanes.MaskLemmas.{mask_is}

@@ -1,5 +1,5 @@
 use Rattle.std.proofs.Common.{arith, ap, ◌∙◌}
-use Rattle.influxdb_line_protocol.specs.code.Forms.{is_end, stops_of}
+use Rattle.influxdb_line_protocol.specs.code.Tokens.{is_end, stops_of}
 use Rattle.influxdb_line_protocol.specs.code.Lanes.{first_set}
 use Rattle.influxdb_line_protocol.proofs.lemmas.lanes.MaskLemmas.{run_is}
 use Rattle.influxdb_line_protocol.proofs.lanes.plain_run.Goals as goal

@@ -15,7 +15,7 @@ use lib.Lanes.{mask_l}
 use Rattle.influxdb_line_protocol.specs.format.Escapes.{is_escaped_after, is_bare_at, IsBareAfter, IsPassed}
 use Rattle.influxdb_line_protocol.specs.code.Lanes.{first_set}
 use Rattle.influxdb_line_protocol.specs.code.Scan.{mask_at, TellsEscaped, TellsBare}
-use Rattle.influxdb_line_protocol.proofs.lemmas.forms.EscapeLemmas.{is_escaped_more}
+use Rattle.influxdb_line_protocol.proofs.lemmas.tokens.EscapeLemmas.{is_escaped_more}
 use Rattle.influxdb_line_protocol.proofs.lemmas.scan.EscapedMasks.{of_places}
 use Rattle.influxdb_line_protocol.proofs.lemmas.scan.MaskBits.{and_of_maps, not_of_map}
 use Rattle.influxdb_line_protocol.proofs.lemmas.lanes.MaskLemmas.{mask_mod}

@@ -13,7 +13,7 @@ use lib.Lanes.{zip2, mask_l}
 use Rattle.influxdb_line_protocol.specs.format.Escapes.{is_escaped_after}
 use Rattle.influxdb_line_protocol.specs.code.Lanes.{mask_of}
 use Rattle.influxdb_line_protocol.specs.code.Scan.{mask_at, TellsEscaped}
-use Rattle.influxdb_line_protocol.proofs.lemmas.forms.EscapeLemmas.{is_escaped_more}
+use Rattle.influxdb_line_protocol.proofs.lemmas.tokens.EscapeLemmas.{is_escaped_more}
 use Rattle.influxdb_line_protocol.proofs.lemmas.scan.MaskBits.{differs, mask_or, mask_xor}
 
 -- In what follows `ms` are the backslashes from a place on, `odd` says whether that place is an odd one, `after` whether a

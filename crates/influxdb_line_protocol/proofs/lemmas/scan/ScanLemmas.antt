@@ -6,7 +6,7 @@ use Rattle.std.proofs.lemmas.Bool.{cases_Bool}
 use Rattle.std.proofs.lemmas.List.{append_assoc, append-nil}
 use Rattle.influxdb_line_protocol.specs.format.Bytes.{backslash}
 use Rattle.influxdb_line_protocol.specs.format.Escapes.{is_escaped_after, first_bare}
-use Rattle.influxdb_line_protocol.proofs.lemmas.forms.EscapeLemmas.{is_escaped_push, first_bare_is}
+use Rattle.influxdb_line_protocol.proofs.lemmas.tokens.EscapeLemmas.{is_escaped_push, first_bare_is}
 
 -- whether the place after these bytes is escaped, from whether the place before them is
 abbrev pub escaped_from : Bool → List ℕ → Bool

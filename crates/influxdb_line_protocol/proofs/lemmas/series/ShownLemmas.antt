@@ -6,7 +6,7 @@ use Rattle.std.proofs.lemmas.List.{take_more}
 use Rattle.std.proofs.Math.Nat.{sub_self}
 use Rattle.influxdb_line_protocol.specs.format.Bytes.{is_one_of}
 use Rattle.influxdb_line_protocol.specs.format.Escapes.{escaped, escaped_byte}
-use Rattle.influxdb_line_protocol.specs.code.Forms.{known_of}
+use Rattle.influxdb_line_protocol.specs.code.Tokens.{known_of}
 use Rattle.influxdb_line_protocol.specs.code.Shown.{shown_escapes}
 use Rattle.influxdb_line_protocol.specs.declared.sets.TokenKind.{TokenKind}
 use Rattle.influxdb_line_protocol.specs.declared.sets.TokenKind.TheVariants.{Measurement, TagKey, TagValue, FieldKey, String}

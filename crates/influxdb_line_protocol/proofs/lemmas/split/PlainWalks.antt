@@ -19,7 +19,7 @@ use Rattle.influxdb_line_protocol.specs.code.Lanes.{first_set}
 use Rattle.influxdb_line_protocol.specs.code.Scan.{mask_at}
 use Rattle.influxdb_line_protocol.specs.code.Walks.{IsWalked}
 use Rattle.influxdb_line_protocol.specs.format.Escapes.{bare, is_bare_at, is_escaped_after, IsBareAfter, IsPassed}
-use Rattle.influxdb_line_protocol.proofs.lemmas.forms.EscapeLemmas.{is_escaped_more}
+use Rattle.influxdb_line_protocol.proofs.lemmas.tokens.EscapeLemmas.{is_escaped_more}
 use Rattle.influxdb_line_protocol.proofs.lemmas.scan.BareMasks.{escaped_is_not_bare, lowest_passes, none_before, ones_low, to_next, to_stop}
 use Rattle.influxdb_line_protocol.proofs.lemmas.split.AheadMasks.{ahead_of, ends_plain, escaped_place, mask_fits, nothing_ahead, seen_past}
 use Rattle.influxdb_line_protocol.proofs.lemmas.split.SeenMarks.{tz_below}

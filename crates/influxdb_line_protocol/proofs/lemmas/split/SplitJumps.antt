@@ -8,7 +8,7 @@ use Rattle.std.proofs.lemmas.Bool.Decides.{nat_tests}
 use Rattle.std.proofs.lemmas.List.{get_or-drop}
 use Rattle.memchr.specs.Find.{Nowhere, Passes, IsFirstByte}
 use Rattle.influxdb_line_protocol.specs.format.Escapes.{is_escaped_after, is_bare_at, first_bare, IsBareAfter, IsPassed}
-use Rattle.influxdb_line_protocol.proofs.lemmas.forms.EscapeLemmas.{is_escaped_more, first_bare_is}
+use Rattle.influxdb_line_protocol.proofs.lemmas.tokens.EscapeLemmas.{is_escaped_more, first_bare_is}
 use Rattle.influxdb_line_protocol.proofs.lemmas.split.SplitBare.{is_escaped-nil}
 
 -- a search looks for backslashes and for the bytes that pass

@@ -16,7 +16,7 @@ use Rattle.influxdb_line_protocol.specs.format.Escapes.{bare, first_bare, is_bar
 use Rattle.influxdb_line_protocol.specs.format.Pieces.{IsFirstCut, IsLastPiece}
 use Rattle.influxdb_line_protocol.specs.code.Searches.{BeginsAt, ends, IsBeforeQuote, IsPlainTo, IsStopped}
 use Rattle.influxdb_line_protocol.specs.code.Walks.{IsWalked}
-use Rattle.influxdb_line_protocol.proofs.lemmas.forms.EscapeLemmas.{is_escaped_more}
+use Rattle.influxdb_line_protocol.proofs.lemmas.tokens.EscapeLemmas.{is_escaped_more}
 use Rattle.influxdb_line_protocol.proofs.lemmas.split.SplitBare.{is_escaped-nil}
 use Rattle.influxdb_line_protocol.proofs.lemmas.split.SplitJumps.{passed_start}
 use Rattle.influxdb_line_protocol.proofs.lemmas.split.SplitStretches.{stretch_to, head_last, head_cut, head_space}

@@ -2,7 +2,7 @@ use Rattle.std.proofs.Common.{◌≡◌, ◌-◌, ◌≤◌, List, ℕ, ◌++◌
 use Rattle.std.specs.Fmt.{HasWritten, IsPlainFormatter}
 use Rattle.std.specs.Str.{IsCharBoundary}
 use Rattle.influxdb_line_protocol.specs.format.Escapes.{escaped}
-use Rattle.influxdb_line_protocol.specs.code.Forms.{known_of}
+use Rattle.influxdb_line_protocol.specs.code.Tokens.{known_of}
 use Rattle.influxdb_line_protocol.specs.code.Shown.{shown_escapes}
 use Rattle.influxdb_line_protocol.proofs.shown.show_escaped.Given as goal
 

@@ -1,7 +1,7 @@
 use Rattle.std.proofs.Common.{arith}
 use Rattle.influxdb_line_protocol.specs.format.Bytes.{is_one_of}
 use Rattle.influxdb_line_protocol.specs.code.Marks.{listed}
-use Rattle.influxdb_line_protocol.specs.code.Forms.{known_of}
+use Rattle.influxdb_line_protocol.specs.code.Tokens.{known_of}
 use Rattle.influxdb_line_protocol.proofs.lemmas.builder.BuilderLemmas.{escaped_first, escaped_none}
 use Rattle.influxdb_line_protocol.proofs.builder.texts.next_escape.Goals as goal
 

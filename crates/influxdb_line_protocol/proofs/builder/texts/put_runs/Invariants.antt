@@ -1,6 +1,6 @@
 use Rattle.std.proofs.Common.{◌≡◌, ◌+◌, ◌≤◌, ◌++◌, length}
 use Rattle.influxdb_line_protocol.specs.format.Escapes.{escaped}
-use Rattle.influxdb_line_protocol.specs.code.Forms.{known_of}
+use Rattle.influxdb_line_protocol.specs.code.Tokens.{known_of}
 use Rattle.influxdb_line_protocol.proofs.builder.texts.put_runs.Given as goal
 
 -- what is written and what is left to write make the whole, and there is room for the latter

@@ -1,0 +1,395 @@
+//! Tokens: names and the texts between quotes. Where each ends, and its logical text.
+
+ghost use Rattle.std.specs.Prelude.{◌≡◌, ◌+◌, ◌-◌, ◌<◌, ◌≤◌, [], true, false, not, length, take, drop, slice_index};
+ghost use Rattle.std.specs.Prelude.{string_bytes, IsCharBoundary, IfOk, IsOk};
+ghost use Rattle.std.specs.String.{string_capacity};
+ghost use Rattle.influxdb_line_protocol.specs.format.Bytes.{backslash, is_one_of};
+ghost use Rattle.influxdb_line_protocol.specs.format.Escapes.{EscapeScan, first_bare, without_escapes};
+ghost use Rattle.influxdb_line_protocol.specs.code.Tokens.{stops_of, known_of, is_plain};
+ghost use Rattle.influxdb_line_protocol.specs.code.Lanes.{IsRunAt};
+ghost use Rattle.influxdb_line_protocol.specs.code.Scan.{mask_at};
+ghost use Rattle.influxdb_line_protocol.specs.code.RawTokens.{is_escape_at, AreEscapes, IsFirstBackslash, IsScanned};
+ghost use Rattle.influxdb_line_protocol.specs.format.Names.{ends_in_backslash, is_shared, read_text};
+ghost use Rattle.influxdb_line_protocol.specs.code.Texts.{read_of};
+
+use crate::escaped::EscapedStr;
+use crate::lanes::{LANES, backslash_run, backslashes, first_set, known_in, plain_run, stops_in};
+use crate::scan::{WIDE, bare, escapes_next, lowest, places_of};
+use crate::sets::TokenKind;
+use std::alloc::{AllocError, Global};
+
+/// A token as it is in the input, with its escapes: a name, or the text between quotes.
+#[derive(Clone, Copy)]
+pub(crate) struct RawToken<'a> {
+    pub(crate) kind: TokenKind,
+    pub(crate) text: &'a str,
+    // Whether the text holds no backslash.
+    is_plain: bool,
+    // How many bytes it takes without its escapes.
+    len: usize,
+    // The place of its first backslash, or its end.
+    first: usize,
+    // The mask of its known escapes from there on, or 0 where it was not made.
+    escapes: u64,
+    ghost told: { is_plain ≡ not (is_one_of text.now backslash) },
+    ghost counted: { len ≡ length (without_escapes (known_of kind) text.now) },
+    ghost found: { IsFirstBackslash text.now first },
+    ghost masked: { 0 < escapes → AreEscapes (known_of kind) text.now first escapes },
+}
+
+// What a scan found of a token: where it ends, and the rest as `RawToken` has it.
+#[derive(Clone, Copy)]
+struct Scanned {
+    end: usize,
+    is_plain: bool,
+    len: usize,
+    first: usize,
+    escapes: u64,
+}
+
+impl<'a> RawToken<'a> {
+    /// Whether it ends in a backslash.
+    #[inline(always)]
+    pub(crate) fn ends_in_backslash(self) -> bool
+        ensures { result ≡ ends_in_backslash self.entry.text.now }
+    {
+        !self.is_plain && matches!(self.text.as_bytes(), [.., b'\\'])
+    }
+}
+
+// The end of the run of bytes from `at` on that neither end a token nor are backslashes, one by one.
+#[inline(always)]
+fn plain_tail(kind: TokenKind, bytes: &[u8], at: usize) -> usize
+    requires { at ≤ length bytes.now }
+    ensures { IsRunAt (is_plain (stops_of kind)) bytes.now at result }
+{
+    let mut end = at;
+    while end < bytes.len() && bytes[end] != b'\\' && !kind.is_stop(bytes[end]) {
+        end += 1;
+    }
+    end
+}
+
+// The same, 16 at a time.
+#[inline(always)]
+fn plain_end(kind: TokenKind, bytes: &[u8], at: usize) -> usize
+    requires { at ≤ length bytes.now }
+    ensures { IsRunAt (is_plain (stops_of kind)) bytes.now at result }
+{
+    let mut end = at;
+    while bytes.len() - end >= LANES {
+        let run = plain_run(kind, bytes, end);
+        if run < LANES {
+            return end + run;
+        }
+        end += LANES;
+    }
+    plain_tail(kind, bytes, end)
+}
+
+// Goes over the 64 bytes from `at` on, up to one that ends the token or to the next bare place after them: how far,
+// how many of the escapes before it are known, and the mask of those that it went over.
+#[inline(always)]
+fn escapes_in_load(kind: TokenKind, bytes: &[u8], at: usize, found: usize) -> (usize, usize, u64)
+    requires walked { EscapeScan (known_of kind) (stops_of kind) bytes.now at found }
+    requires room { at + WIDE < length bytes.now }
+    ensures walked { EscapeScan (known_of kind) (stops_of kind) bytes.now result.0 result.1 }
+    ensures stops { result.0 < at + WIDE → stops_of kind (slice_index bytes.now result.0) ≡ true }
+    ensures further { at ≤ result.0 }
+    ensures mask { result.0 < at + WIDE
+        → result.2 ≡ mask_at (is_escape_at (known_of kind) bytes.now) at (result.0 - at) }
+{
+    let backslashes = places_of(b'\\', bytes, at);
+    let run = first_set(bare(stops_in(kind, bytes, at), backslashes), WIDE);
+    // The bare backslashes of which the next byte is known.
+    let known = bare(backslashes, backslashes) & known_in(kind, bytes, at + 1);
+    let escapes = lowest(known, run);
+    let found = found + escapes.count_ones() as usize;
+    if run < WIDE {
+        return (at + run, found, escapes);
+    }
+    (at + (WIDE + escapes_next(backslashes)), found, escapes)
+}
+
+// Goes on from escape to escape to the end of the token, with no regard to how many bytes are left: how far, and how
+// many of the escapes before it are known.
+#[inline(never)]
+fn escapes_to_end(kind: TokenKind, bytes: &[u8], at: usize, found: usize) -> (usize, usize)
+    requires walked { EscapeScan (known_of kind) (stops_of kind) bytes.now at found }
+    ensures value { result.0 ≡ first_bare (stops_of kind) bytes.now }
+    ensures within { result.0 ≤ length bytes.now }
+    ensures stops { result.0 < length bytes.now → stops_of kind (slice_index bytes.now result.0) ≡ true }
+    ensures len { length (without_escapes (known_of kind) (take result.0 bytes.now)) + result.1 ≡ result.0 }
+    ensures further { at ≤ result.0 }
+    ensures moves { at < length bytes.now → slice_index bytes.now at ≡ backslash → at < result.0 }
+{
+    let mut end = plain_end(kind, bytes, at);
+    let mut known = found;
+    while end < bytes.len() && bytes[end] == b'\\' {
+        if end + 1 == bytes.len() {
+            return (end + 1, known);
+        }
+        known += usize::from(kind.is_known(bytes[end + 1]));
+        end = plain_end(kind, bytes, end + 2);
+    }
+    (end, known)
+}
+
+// Scans the token at the start of `text`, of which the first backslash is at `at`.
+#[inline(always)]
+fn escaped_end_of(kind: TokenKind, text: &str, at: usize) -> Scanned
+    requires run { IsRunAt (is_plain (stops_of kind)) text.now 0 at }
+    requires within { at < length text.now }
+    requires here { slice_index text.now at ≡ backslash }
+    ensures scanned { IsScanned kind text.now result }
+    ensures boundary { IsCharBoundary text.now result.end }
+{
+    let bytes = text.as_bytes();
+    let mut end = at;
+    let mut known = 0;
+    while bytes.len() - end > WIDE {
+        let (next, found, escapes) = escapes_in_load(kind, bytes, end, known);
+        if next < end + WIDE {
+            return Scanned {
+                end: next,
+                is_plain: false,
+                len: next - found,
+                first: at,
+                escapes: if end == at { escapes } else { 0 },
+            };
+        }
+        end = next;
+        known = found;
+    }
+    let (end, known) = escapes_to_end(kind, bytes, end, known);
+    Scanned {
+        end,
+        is_plain: false,
+        len: end - known,
+        first: at,
+        escapes: 0,
+    }
+}
+
+// The same, with a loop for each set of bytes that end one, which then compares with bytes that are known.
+#[cold]
+#[inline(never)]
+fn escaped_end(kind: TokenKind, text: &str, at: usize) -> Scanned
+    requires run { IsRunAt (is_plain (stops_of kind)) text.now 0 at }
+    requires within { at < length text.now }
+    requires here { slice_index text.now at ≡ backslash }
+    ensures scanned { IsScanned kind text.now result }
+    ensures boundary { IsCharBoundary text.now result.end }
+{
+    match kind {
+        TokenKind::Measurement => escaped_end_of(TokenKind::Measurement, text, at),
+        TokenKind::TagKey | TokenKind::FieldKey => { escaped_end_of(TokenKind::TagKey, text, at) }
+        TokenKind::TagValue => escaped_end_of(TokenKind::TagValue, text, at),
+        TokenKind::String => escaped_end_of(TokenKind::String, text, at),
+    }
+}
+
+// Scans the token at the start of `text`.
+#[inline(always)]
+fn scan_token(kind: TokenKind, text: &str) -> Scanned
+    ensures scanned { IsScanned kind text.now result }
+    ensures boundary { IsCharBoundary text.now result.end }
+{
+    let bytes = text.as_bytes();
+    let end = plain_end(kind, bytes, 0);
+    if end < bytes.len() && bytes[end] == b'\\' {
+        let Scanned {
+            end,
+            is_plain,
+            len,
+            first,
+            escapes,
+        } = escaped_end(kind, text, end);
+        return Scanned {
+            end,
+            is_plain,
+            len,
+            first,
+            escapes,
+        };
+    }
+    Scanned {
+        end,
+        is_plain: true,
+        len: end,
+        first: end,
+        escapes: 0,
+    }
+}
+
+/// The token at the start of `text`, also an empty one, and the rest.
+#[inline(always)]
+pub(crate) fn take_token(kind: TokenKind, text: &str) -> (RawToken<'_>, &str)
+    ensures kind { result.0.kind ≡ kind }
+    ensures text { result.0.text.now ≡ take (first_bare (stops_of kind) text.now) text.now }
+    ensures rest { result.1.now ≡ drop (first_bare (stops_of kind) text.now) text.now }
+{
+    let scanned = scan_token(kind, text);
+    let (text, rest) = text.split_at(scanned.end);
+    let spelled = RawToken {
+        kind,
+        text,
+        is_plain: scanned.is_plain,
+        len: scanned.len,
+        first: scanned.first,
+        escapes: scanned.escapes,
+    };
+    (spelled, rest)
+}
+
+// The first backslash from `at` on, or the end, one by one.
+#[inline(always)]
+fn backslash_walk(bytes: &[u8], at: usize) -> usize
+    requires { at ≤ length bytes.now }
+    ensures { IsRunAt (is_plain (λ b. false)) bytes.now at result }
+{
+    let mut end = at;
+    while end < bytes.len() && bytes[end] != b'\\' {
+        end += 1;
+    }
+    end
+}
+
+// The same of the last bytes, fewer than 16: by a load that overlaps what was seen, where the text has so many.
+#[inline(always)]
+fn backslash_tail(bytes: &[u8], at: usize) -> usize
+    requires within { at ≤ length bytes.now }
+    requires few { length bytes.now < at + LANES }
+    ensures { IsRunAt (is_plain (λ b. false)) bytes.now at result }
+{
+    if bytes.len() < LANES {
+        return backslash_walk(bytes, at);
+    }
+    let left = bytes.len() - at;
+    let mask = backslashes(bytes, bytes.len() - LANES) >> (LANES - left);
+    at + first_set(mask, left)
+}
+
+// The same, 16 at a time.
+#[inline(always)]
+fn backslash_at(bytes: &[u8], at: usize) -> usize
+    requires { at ≤ length bytes.now }
+    ensures { IsRunAt (is_plain (λ b. false)) bytes.now at result }
+{
+    let mut end = at;
+    while bytes.len() - end >= LANES {
+        let run = backslash_run(bytes, end);
+        if run < LANES {
+            return end + run;
+        }
+        end += LANES;
+    }
+    backslash_tail(bytes, end)
+}
+
+// Puts after `to`, which has room for it, the logical text of `spelled`, whose first backslash is at `first`. It asks for no
+// memory.
+#[inline(always)]
+fn put(kind: TokenKind, spelled: &str, first: usize, to: &mut String) -> Result<(), AllocError>
+    requires found { IsFirstBackslash spelled.now first }
+    requires empty { string_bytes to.old ≡ [] }
+    requires room { length (without_escapes (known_of kind) spelled.now) ≤ string_capacity to.old }
+    ensures has_room { IsOk result }
+    ensures text { string_bytes to.new ≡ without_escapes (known_of kind) spelled.now }
+{
+    let bytes = spelled.as_bytes();
+    let mut from = 0;
+    let mut at = first;
+    while at + 1 < bytes.len() {
+        if kind.is_known(bytes[at + 1]) {
+            to.push_str(&spelled[from..at])?;
+            from = at + 1;
+        }
+        at = backslash_at(bytes, at + 2);
+    }
+    to.push_str(&spelled[from..])?;
+    Ok(())
+}
+
+// The same, by the mask of its known escapes from `first` on.
+#[inline(always)]
+fn put_by_mask(
+    kind: TokenKind,
+    spelled: &str,
+    first: usize,
+    escapes: u64,
+    to: &mut String,
+) -> Result<(), AllocError>
+    requires masked { AreEscapes (known_of kind) spelled.now first escapes }
+    requires empty { string_bytes to.old ≡ [] }
+    requires room { length (without_escapes (known_of kind) spelled.now) ≤ string_capacity to.old }
+    ensures has_room { IsOk result }
+    ensures text { string_bytes to.new ≡ without_escapes (known_of kind) spelled.now }
+{
+    let end = spelled.len();
+    let mut from = 0;
+    let mut at = first;
+    let mut left = escapes;
+    while left != 0 {
+        let run = left.trailing_zeros();
+        let escape = at + run as usize;
+        to.push_str(&spelled[from..escape])?;
+        from = escape + 1;
+        at = from;
+        left = (left >> run) >> 1;
+    }
+    to.push_str(&spelled[from..end])?;
+    Ok(())
+}
+
+// A copy of the logical text of `spelled`, which takes `len` bytes and has its first backslash at `first`, by the mask of its
+// known escapes where that was made. It asks for memory once.
+#[inline(never)]
+fn copy(
+    alloc: Global,
+    kind: TokenKind,
+    spelled: &str,
+    len: usize,
+    first: usize,
+    escapes: u64,
+) -> Result<String, AllocError>
+    requires len { len ≡ length (without_escapes (known_of kind) spelled.now) }
+    requires found { IsFirstBackslash spelled.now first }
+    requires masked { 0 < escapes → AreEscapes (known_of kind) spelled.now first escapes }
+    ensures { IfOk result (λ text. string_bytes text ≡ without_escapes (known_of kind) spelled.now) }
+{
+    let mut text = String::with_capacity(alloc, len)?;
+    if escapes != 0 {
+        put_by_mask(kind, spelled, first, escapes, &mut text)?;
+    } else {
+        put(kind, spelled, first, &mut text)?;
+    }
+    Ok(text)
+}
+
+/// The logical text of `spelled`. Only a copy takes memory: one request, for just its length.
+#[inline(always)]
+pub(crate) fn escaped_str<'a>(
+    alloc: Global,
+    spelled: RawToken<'a>,
+) -> Result<EscapedStr<'a>, AllocError>
+    ensures text { IfOk result (λ text. read_of text ≡ read_text (known_of spelled.entry.kind) spelled.entry.text.now) }
+    ensures no_memory { is_shared (known_of spelled.entry.kind) spelled.entry.text.now ≡ true → IsOk result }
+{
+    let text = spelled.text;
+    if spelled.is_plain {
+        return Ok(EscapedStr::SingleSlice(text));
+    }
+    if matches!(text.as_bytes(), [b'\\', byte] if spelled.kind.is_known(*byte)) {
+        return Ok(EscapedStr::SingleSlice(&text[1..]));
+    }
+    let text = copy(
+        alloc,
+        spelled.kind,
+        text,
+        spelled.len,
+        spelled.first,
+        spelled.escapes,
+    )?;
+    Ok(EscapedStr::CopiedValue(text))
+}
