@@ -10,7 +10,6 @@ mod digits;
 mod error;
 mod escaped;
 mod fields;
-mod tokens;
 mod lanes;
 pub mod laws;
 mod line;
@@ -23,6 +22,7 @@ mod shown;
 mod split;
 mod stream;
 mod tags;
+mod tokens;
 mod trim;
 mod values;
 

@@ -9,9 +9,9 @@ ghost use Rattle.influxdb_line_protocol.specs.code.Texts.{read_of};
 
 use crate::error::Error;
 use crate::escaped::EscapedStr;
-pub(crate) use crate::tokens::escaped_str;
-use crate::tokens::{RawToken, front};
 use crate::sets::TokenKind;
+pub(crate) use crate::tokens::escaped_str;
+use crate::tokens::{RawToken, take_token};
 use std::alloc::Global;
 
 #[derive(Clone, Copy)]

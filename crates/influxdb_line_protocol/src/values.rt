@@ -21,9 +21,9 @@ ghost use Rattle.influxdb_line_protocol.specs.format.Values.{false_words};
 use crate::digits::{integer_value, unsigned_value};
 use crate::error::{Error, OutOfRange};
 use crate::escaped::EscapedStr;
-use crate::tokens::{escaped_str, take_token};
 use crate::literals::{FloatText, integer_len};
 use crate::sets::TokenKind;
+use crate::tokens::{escaped_str, take_token};
 use crate::trim::{strip_byte, trim_start_spaces};
 use std::alloc::{AllocError, Global};
 

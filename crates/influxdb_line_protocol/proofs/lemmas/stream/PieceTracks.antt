@@ -6,7 +6,7 @@ use Rattle.influxdb_line_protocol.specs.declared.split.resumed.Part.TheVariants.
 use Rattle.influxdb_line_protocol.specs.declared.split.tracked.Place.{Place}
 use Rattle.influxdb_line_protocol.specs.format.Escapes.{is_escaped_after, IsBareAfter}
 use Rattle.influxdb_line_protocol.specs.code.Tracks.{EndsIn, Steps}
-use Rattle.influxdb_line_protocol.proofs.lemmas.forms.EscapeLemmas.{is_escaped_push}
+use Rattle.influxdb_line_protocol.proofs.lemmas.tokens.EscapeLemmas.{is_escaped_push}
 use Rattle.influxdb_line_protocol.proofs.lemmas.split.SplitWalk as walk
 
 -- a bare byte escapes the next one where it is a backslash
