@@ -6,6 +6,8 @@ mod cut_anywhere;
 #[cfg(test)]
 mod in_parts;
 #[cfg(test)]
+mod long_lines;
+#[cfg(test)]
 mod long_pieces;
 #[cfg(test)]
 mod refused_parts;
