@@ -2,8 +2,8 @@
 use Rattle.std.proofs.Common.{◌≡◌, ℕ, List, [], ◌++◌, length, take, drop, Option, sym, ap, subst, ◌∙◌, append_assoc, append-nil}
 use Rattle.std.proofs.Common.{take-append-drop}
 use lib.Seq.{take-append_seam}
-use Rattle.std.specs.Io.KnownBytes.{Appends, Keeps}
-use Rattle.std.proofs.KnownBytes.{Appends-nil, Appends-trans, Appends-kept}
+use Rattle.std.specs.Io.KnownBytes.{Appends}
+use Rattle.std.proofs.KnownBytes.{Appends-nil, Appends-trans}
 use Rattle.lp_rebuild.specs.Running.{AppendsFront}
 use Rattle.lp_rebuild.specs.RelaySteps.{Passes}
 
@@ -20,11 +20,6 @@ passes_more a b c held added left more rest p q = (
   append_assoc p.0 q.0 rest ∙ ap (λ l. p.0 ++ l) q.2 ∙ sym (append_assoc p.0 left more) ∙ ap (λ l. l ++ more) p.2
       ∙ append_assoc held added more,
 )
-
--- a flush moves nothing
-pub passes_kept : (a b c : Option (List ℕ)) (held added left : List ℕ) → Passes a b held added left → Keeps b c
-    → Passes a c held added left
-passes_kept a b c held added left p k = (p.0, Appends-kept a b c p.0 p.1 k, p.2)
 
 -- a front of what is held was written
 pub passes_front : (a b : Option (List ℕ)) (held : List ℕ) → AppendsFront a b held → (left : List ℕ) × Passes a b held [] left
