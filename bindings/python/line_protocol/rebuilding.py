@@ -36,5 +36,5 @@ def rebuild(text: Union[str, bytes], *, strict: bool = False) -> Rebuilt:
     if answer != lp.WRITTEN:
         raise MemoryError("a request for memory was refused")
     return Rebuilt(
-        ctypes.string_at(batch, counts.batch_len).decode(), ctypes.string_at(faults, counts.faults_len).decode(),
+        str(memoryview(batch)[:counts.batch_len], "utf-8"), str(memoryview(faults)[:counts.faults_len], "utf-8"),
         counts.carried, counts.refused)
