@@ -10,6 +10,8 @@ mod changed;
 #[cfg(test)]
 mod failures;
 #[cfg(test)]
+mod relays;
+#[cfg(test)]
 mod runs;
 #[cfg(test)]
 mod series;

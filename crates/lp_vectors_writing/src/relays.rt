@@ -1,0 +1,204 @@
+//! Relays over devices that move some bytes at each call, and that fail at each call in turn. The answers come from the
+//! format's rules.
+
+use influxdb_line_protocol::Dialect;
+use lp_rebuild::{DeviceFault, Kept, RunFault, Source, rebuild, relay, relay_in};
+use lp_vectors::drops::{Basin, Trickle};
+use lp_vectors::fault::Fault;
+use std::alloc::Global;
+
+const TEXT: &[u8] = b"m a=T 5\n# c\nx\nw\\\t a=1i\n";
+
+const OUT: &[u8] = b"m a=true 5\n";
+
+const ERR: &[u8] =
+    b"item 2: A generic parsing error occurred: TakeWhile1\nitem 3: a name cannot be written again\n";
+
+// A source that gives so many bytes at its first call, and then all others.
+#[derive(Drop)]
+struct Cut<'a> {
+    left: &'a [u8],
+    first: usize,
+}
+
+impl<'a> Source for Cut<'a> {
+    ghost use Rattle.std.specs.Prelude.{None};
+
+    ghost bytes = { λ _. None };
+
+    ghost failures = { λ _. 0 };
+
+    fn read(&mut self, buf: &mut [u8]) -> Result<usize, DeviceFault> {
+        let n = self.first.min(self.left.len());
+        self.first = 0;
+        if n == 0 {
+            return self.left.read(buf);
+        }
+        let mut front = &self.left[..n];
+        let given = front.read(buf)?;
+        if given <= self.left.len() {
+            self.left = &self.left[given..];
+        }
+        Ok(given)
+    }
+}
+
+#[test]
+fn a_text_that_is_cut_at_each_place_is_relayed_as_it_is_rebuilt(
+    rt: HostRuntime,
+) -> Result<(), Fault> {
+    let alloc = rt.alloc();
+    for text in [
+        "m a=T 5\n# c\nx\nw\\\t a=1i\n",
+        "m s=\"a\nb\\\"\n\" 7\n\nn c=1i",
+        "m\\\n a=1i\n,x\nm é=1i\n",
+        "",
+    ] {
+        let rebuilt = rebuild(alloc, text)?;
+        for first in 0..text.len() {
+            let mut reader = Cut {
+                left: text.as_bytes(),
+                first,
+            };
+            let mut out = Kept::new(alloc);
+            let mut err = Kept::new(alloc);
+            let Ok(counts) = relay(alloc, &mut reader, &mut out, &mut err) else {
+                return Err(Fault::Unexpected);
+            };
+            assert_eq!(rt;
+                out.as_slice(),
+                rebuilt.batch.as_slice(),
+                "{text} cut at {first}"
+            );
+            assert_eq!(rt;
+                err.as_slice(),
+                rebuilt.faults.as_slice(),
+                "{text} cut at {first}"
+            );
+            assert_eq!(rt; counts.carried, rebuilt.carried);
+            assert_eq!(rt; counts.refused, rebuilt.refused);
+        }
+    }
+    Ok(())
+}
+
+#[test]
+fn a_text_of_many_blocks_is_relayed_as_it_is_rebuilt(rt: HostRuntime) -> Result<(), Fault> {
+    let alloc = rt.alloc();
+    let mut text = String::new(alloc);
+    for number in 0..12_000 {
+        writeln!(text, "measurement,tag=value field={number}i\nx")?;
+    }
+    let rebuilt = rebuild(alloc, &text)?;
+    let mut reader = text.as_bytes();
+    let mut out = Kept::new(alloc);
+    let mut err = Kept::new(alloc);
+    let Ok(counts) = relay(alloc, &mut reader, &mut out, &mut err) else {
+        return Err(Fault::Unexpected);
+    };
+    assert!(rt; out.as_slice() == rebuilt.batch.as_slice());
+    assert!(rt; err.as_slice() == rebuilt.faults.as_slice());
+    assert_eq!(rt; counts.carried, 12_000);
+    assert_eq!(rt; counts.refused, 12_000);
+    Ok(())
+}
+
+#[test]
+fn each_dialect_is_relayed(rt: HostRuntime) {
+    let alloc = rt.alloc();
+    for (dialect, wanted) in [
+        (Dialect::Crate, b"m a=1i\n".as_slice()),
+        (Dialect::Strict, b"".as_slice()),
+    ] {
+        let mut reader = b"m a=1i,\n".as_slice();
+        let mut out = Kept::new(alloc);
+        let mut err = Kept::new(alloc);
+        let answer = relay_in(alloc, dialect, &mut reader, &mut out, &mut err);
+        assert!(rt; answer.is_ok());
+        assert_eq!(rt; out.as_slice(), wanted);
+    }
+}
+
+#[test]
+fn a_piece_that_is_no_text_is_one_item(rt: HostRuntime) {
+    let alloc = rt.alloc();
+    for (input, wanted, faults) in [
+        (
+            b"m a=1i\n\xff\xc3\nn b=2i\n".as_slice(),
+            b"m a=1i\nn b=2i\n".as_slice(),
+            b"item 2: the line is not UTF-8\n".as_slice(),
+        ),
+        (
+            b"# \xff\nx\nm a=1i\n\xc3".as_slice(),
+            b"m a=1i\n".as_slice(),
+            b"item 1: the line is not UTF-8\nitem 2: A generic parsing error occurred: TakeWhile1\nitem 4: the line is not UTF-8\n".as_slice(),
+        ),
+    ] {
+        let mut reader = Trickle::new(input, 0);
+        let mut out = Kept::new(alloc);
+        let mut err = Kept::new(alloc);
+        let answer = relay(alloc, &mut reader, &mut out, &mut err);
+        assert!(rt; answer.is_ok());
+        assert_eq!(rt; out.as_slice(), wanted);
+        assert_eq!(rt; err.as_slice(), faults);
+    }
+}
+
+// A relay over the text: its fault, and what the sinks hold.
+#[derive(Drop)]
+struct Ended {
+    fault: Option<RunFault>,
+    out: Basin,
+    err: Basin,
+}
+
+// Relays the text, where each device fails at its call, and at none where that is 0.
+fn relay_with(alloc: Global, reader_at: usize, out_at: usize, err_at: usize) -> Ended {
+    let mut reader = Trickle::new(TEXT, reader_at);
+    let mut out = Basin::new(out_at);
+    let mut err = Basin::new(err_at);
+    let fault = relay(alloc, &mut reader, &mut out, &mut err).err();
+    Ended { fault, out, err }
+}
+
+// Each byte is a read of its own, after which the outputs are flushed, and so is the end.
+#[test]
+fn each_pause_of_the_input_flushes(rt: HostRuntime) {
+    let ended = relay_with(rt.alloc(), 0, 0, 0);
+    assert_eq!(rt; ended.fault, None);
+    assert_eq!(rt; ended.out.as_slice(), OUT);
+    assert_eq!(rt; ended.err.as_slice(), ERR);
+    assert_eq!(rt; ended.out.flushes(), TEXT.len() + 1);
+    assert_eq!(rt; ended.err.flushes(), TEXT.len() + 1);
+}
+
+#[test]
+fn what_came_before_a_fault_of_the_reader_is_written(rt: HostRuntime) {
+    let first = b"item 2: A generic parsing error occurred: TakeWhile1\n".as_slice();
+    for (reader_at, out, err) in [
+        (1, b"".as_slice(), b"".as_slice()),
+        (8, b"".as_slice(), b"".as_slice()),
+        (9, OUT, b"".as_slice()),
+        (15, OUT, first),
+        (24, OUT, ERR),
+    ] {
+        let ended = relay_with(rt.alloc(), reader_at, 0, 0);
+        assert_eq!(rt; ended.fault, Some(RunFault::Read), "at {reader_at}");
+        assert_eq!(rt; ended.out.as_slice(), out, "at {reader_at}");
+        assert_eq!(rt; ended.err.as_slice(), err, "at {reader_at}");
+    }
+}
+
+#[test]
+fn a_writer_that_fails_ends_it(rt: HostRuntime) {
+    for at in 1..TEXT.len() + 1 {
+        let ended = relay_with(rt.alloc(), 0, at, 0);
+        assert_eq!(rt; ended.fault, Some(RunFault::Write), "at {at}");
+        assert!(rt; OUT.starts_with(ended.out.as_slice()), "at {at}");
+        assert!(rt; ERR.starts_with(ended.err.as_slice()), "at {at}");
+        let ended = relay_with(rt.alloc(), 0, 0, at);
+        assert_eq!(rt; ended.fault, Some(RunFault::Write), "at {at}");
+        assert!(rt; OUT.starts_with(ended.out.as_slice()), "at {at}");
+        assert!(rt; ERR.starts_with(ended.err.as_slice()), "at {at}");
+    }
+}
