@@ -8,7 +8,7 @@ ghost use Rattle.influxdb_line_protocol.specs.format.Escapes.{EscapeScan, first_
 ghost use Rattle.influxdb_line_protocol.specs.code.Tokens.{stops_of, known_of, is_plain};
 ghost use Rattle.influxdb_line_protocol.specs.code.Lanes.{IsRunAt};
 ghost use Rattle.influxdb_line_protocol.specs.code.Scan.{mask_at};
-ghost use Rattle.influxdb_line_protocol.specs.code.RawTokens.{is_escape_at, AreEscapes, IsFirstBackslash, IsScanned};
+ghost use Rattle.influxdb_line_protocol.specs.code.RawTokens.{is_escape_at, AreBackslashes, AreEscapes, AreToldOf, IsFirstBackslash};
 ghost use Rattle.influxdb_line_protocol.specs.format.Names.{ends_in_backslash, is_shared, read_text};
 ghost use Rattle.influxdb_line_protocol.specs.code.Texts.{read_of};
 
@@ -23,27 +23,19 @@ use std::alloc::{AllocError, Global};
 pub(crate) struct RawToken<'a> {
     pub(crate) kind: TokenKind,
     pub(crate) text: &'a str,
-    // Whether the text holds no backslash.
-    is_plain: bool,
-    // How many bytes it takes without its escapes.
-    len: usize,
-    // The place of its first backslash, or its end.
-    first: usize,
-    // The mask of its known escapes from there on, or 0 where it was not made.
-    escapes: u64,
-    ghost told: { is_plain ≡ not (is_one_of text.now backslash) },
-    ghost counted: { len ≡ length (without_escapes (known_of kind) text.now) },
-    ghost found: { IsFirstBackslash text.now first },
-    ghost masked: { 0 < escapes → AreEscapes (known_of kind) text.now first escapes },
+    // `None` where it holds no backslash.
+    backslashes: Option<Backslashes>,
+    ghost told: { AreToldOf (known_of kind) text.now backslashes },
 }
 
-// What a scan found of a token: where it ends, and the rest as `RawToken` has it.
+// The backslashes of a token that holds some.
 #[derive(Clone, Copy)]
-struct Scanned {
-    end: usize,
-    is_plain: bool,
-    len: usize,
+struct Backslashes {
+    // The place of the first.
     first: usize,
+    // How many bytes the token takes without its escapes.
+    len: usize,
+    // The mask of its known escapes from the first backslash on, or 0 where it was not made.
     escapes: u64,
 }
 
@@ -53,7 +45,7 @@ impl<'a> RawToken<'a> {
     pub(crate) fn ends_in_backslash(self) -> bool
         ensures { result ≡ ends_in_backslash self.entry.text.now }
     {
-        !self.is_plain && matches!(self.text.as_bytes(), [.., b'\\'])
+        self.backslashes.is_some() && matches!(self.text.as_bytes(), [.., b'\\'])
     }
 }
 
@@ -135,14 +127,15 @@ fn escapes_to_end(kind: TokenKind, bytes: &[u8], at: usize, found: usize) -> (us
     (end, known)
 }
 
-// Scans the token at the start of `text`, of which the first backslash is at `at`.
+// The end of the token at the start of `text`, of which the first backslash is at `at`, and its backslashes.
 #[inline(always)]
-fn escaped_end_of(kind: TokenKind, text: &str, at: usize) -> Scanned
+fn escaped_end_of(kind: TokenKind, text: &str, at: usize) -> (usize, Backslashes)
     requires run { IsRunAt (is_plain (stops_of kind)) text.now 0 at }
     requires within { at < length text.now }
     requires here { slice_index text.now at ≡ backslash }
-    ensures scanned { IsScanned kind text.now result }
-    ensures boundary { IsCharBoundary text.now result.end }
+    ensures end { result.0 ≡ first_bare (stops_of kind) text.now }
+    ensures backslashes { AreBackslashes (known_of kind) (take result.0 text.now) result.1 }
+    ensures boundary { IsCharBoundary text.now result.0 }
 {
     let bytes = text.as_bytes();
     let mut end = at;
@@ -150,36 +143,35 @@ fn escaped_end_of(kind: TokenKind, text: &str, at: usize) -> Scanned
     while bytes.len() - end > WIDE {
         let (next, found, escapes) = escapes_in_load(kind, bytes, end, known);
         if next < end + WIDE {
-            return Scanned {
-                end: next,
-                is_plain: false,
-                len: next - found,
+            let backslashes = Backslashes {
                 first: at,
+                len: next - found,
                 escapes: if end == at { escapes } else { 0 },
             };
+            return (next, backslashes);
         }
         end = next;
         known = found;
     }
     let (end, known) = escapes_to_end(kind, bytes, end, known);
-    Scanned {
-        end,
-        is_plain: false,
-        len: end - known,
+    let backslashes = Backslashes {
         first: at,
+        len: end - known,
         escapes: 0,
-    }
+    };
+    (end, backslashes)
 }
 
 // The same, with a loop for each set of bytes that end one, which then compares with bytes that are known.
 #[cold]
 #[inline(never)]
-fn escaped_end(kind: TokenKind, text: &str, at: usize) -> Scanned
+fn escaped_end(kind: TokenKind, text: &str, at: usize) -> (usize, Backslashes)
     requires run { IsRunAt (is_plain (stops_of kind)) text.now 0 at }
     requires within { at < length text.now }
     requires here { slice_index text.now at ≡ backslash }
-    ensures scanned { IsScanned kind text.now result }
-    ensures boundary { IsCharBoundary text.now result.end }
+    ensures end { result.0 ≡ first_bare (stops_of kind) text.now }
+    ensures backslashes { AreBackslashes (known_of kind) (take result.0 text.now) result.1 }
+    ensures boundary { IsCharBoundary text.now result.0 }
 {
     match kind {
         TokenKind::Measurement => escaped_end_of(TokenKind::Measurement, text, at),
@@ -189,37 +181,20 @@ fn escaped_end(kind: TokenKind, text: &str, at: usize) -> Scanned
     }
 }
 
-// Scans the token at the start of `text`.
+// The end of the token at the start of `text`, and its backslashes.
 #[inline(always)]
-fn scan_token(kind: TokenKind, text: &str) -> Scanned
-    ensures scanned { IsScanned kind text.now result }
-    ensures boundary { IsCharBoundary text.now result.end }
+fn scan_token(kind: TokenKind, text: &str) -> (usize, Option<Backslashes>)
+    ensures end { result.0 ≡ first_bare (stops_of kind) text.now }
+    ensures backslashes { AreToldOf (known_of kind) (take result.0 text.now) result.1 }
+    ensures boundary { IsCharBoundary text.now result.0 }
 {
     let bytes = text.as_bytes();
     let end = plain_end(kind, bytes, 0);
     if end < bytes.len() && bytes[end] == b'\\' {
-        let Scanned {
-            end,
-            is_plain,
-            len,
-            first,
-            escapes,
-        } = escaped_end(kind, text, end);
-        return Scanned {
-            end,
-            is_plain,
-            len,
-            first,
-            escapes,
-        };
+        let (end, backslashes) = escaped_end(kind, text, end);
+        return (end, Some(backslashes));
     }
-    Scanned {
-        end,
-        is_plain: true,
-        len: end,
-        first: end,
-        escapes: 0,
-    }
+    (end, None)
 }
 
 /// The token at the start of `text`, also an empty one, and the rest.
@@ -229,17 +204,14 @@ pub(crate) fn take_token(kind: TokenKind, text: &str) -> (RawToken<'_>, &str)
     ensures text { result.0.text.now ≡ take (first_bare (stops_of kind) text.now) text.now }
     ensures rest { result.1.now ≡ drop (first_bare (stops_of kind) text.now) text.now }
 {
-    let scanned = scan_token(kind, text);
-    let (text, rest) = text.split_at(scanned.end);
-    let spelled = RawToken {
+    let (end, backslashes) = scan_token(kind, text);
+    let (text, rest) = text.split_at(end);
+    let token = RawToken {
         kind,
         text,
-        is_plain: scanned.is_plain,
-        len: scanned.len,
-        first: scanned.first,
-        escapes: scanned.escapes,
+        backslashes,
     };
-    (spelled, rest)
+    (token, rest)
 }
 
 // The first backslash from `at` on, or the end, one by one.
@@ -367,29 +339,41 @@ fn copy(
     Ok(text)
 }
 
-/// The logical text of `spelled`. Only a copy takes memory: one request, for just its length.
+// The logical text of `text`, which has these backslashes.
+#[inline(always)]
+fn unescaped<'a>(
+    alloc: Global,
+    kind: TokenKind,
+    text: &'a str,
+    backslashes: Backslashes,
+) -> Result<EscapedStr<'a>, AllocError>
+    requires { AreBackslashes (known_of kind) text.now backslashes }
+    ensures text { IfOk result (λ r. read_of r ≡ read_text (known_of kind) text.now) }
+    ensures no_memory { is_shared (known_of kind) text.now ≡ true → IsOk result }
+{
+    if matches!(text.as_bytes(), [b'\\', byte] if kind.is_known(*byte)) {
+        return Ok(EscapedStr::SingleSlice(&text[1..]));
+    }
+    let Backslashes {
+        first,
+        len,
+        escapes,
+    } = backslashes;
+    let text = copy(alloc, kind, text, len, first, escapes)?;
+    Ok(EscapedStr::CopiedValue(text))
+}
+
+/// The logical text of a token. Only a copy takes memory: one request, for just its length.
 #[inline(always)]
 pub(crate) fn escaped_str<'a>(
     alloc: Global,
-    spelled: RawToken<'a>,
+    token: RawToken<'a>,
 ) -> Result<EscapedStr<'a>, AllocError>
-    ensures text { IfOk result (λ text. read_of text ≡ read_text (known_of spelled.entry.kind) spelled.entry.text.now) }
-    ensures no_memory { is_shared (known_of spelled.entry.kind) spelled.entry.text.now ≡ true → IsOk result }
+    ensures text { IfOk result (λ text. read_of text ≡ read_text (known_of token.entry.kind) token.entry.text.now) }
+    ensures no_memory { is_shared (known_of token.entry.kind) token.entry.text.now ≡ true → IsOk result }
 {
-    let text = spelled.text;
-    if spelled.is_plain {
-        return Ok(EscapedStr::SingleSlice(text));
+    match token.backslashes {
+        Some(backslashes) => unescaped(alloc, token.kind, token.text, backslashes),
+        None => Ok(EscapedStr::SingleSlice(token.text)),
     }
-    if matches!(text.as_bytes(), [b'\\', byte] if spelled.kind.is_known(*byte)) {
-        return Ok(EscapedStr::SingleSlice(&text[1..]));
-    }
-    let text = copy(
-        alloc,
-        spelled.kind,
-        text,
-        spelled.len,
-        spelled.first,
-        spelled.escapes,
-    )?;
-    Ok(EscapedStr::CopiedValue(text))
 }

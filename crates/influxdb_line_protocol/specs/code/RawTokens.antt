@@ -1,10 +1,10 @@
 -- What a scan finds of the escapes of a name or a string.
-use Rattle.std.specs.Prelude.{◌≡◌, ℕ, ◌+◌, ◌-◌, ◌<◌, ◌≤◌, ◌==◌, ◌&&◌, Bool, false, not, List, length, take, slice_index}
-use Rattle.influxdb_line_protocol.specs.declared.tokens.Scanned.{Scanned}
-use Rattle.influxdb_line_protocol.specs.declared.sets.TokenKind.{TokenKind}
+use Rattle.std.specs.Prelude.{◌≡◌, ℕ, ◌+◌, ◌-◌, ◌<◌, ◌≤◌, ◌==◌, ◌&&◌, Bool, false, true, List, length, slice_index, Option}
+use Rattle.std.specs.Option.{ForNone, ForSome}
+use Rattle.influxdb_line_protocol.specs.declared.tokens.Backslashes.{Backslashes}
 use Rattle.influxdb_line_protocol.specs.format.Bytes.{backslash, is_one_of}
-use Rattle.influxdb_line_protocol.specs.format.Escapes.{first_bare, is_bare_at, without_escapes}
-use Rattle.influxdb_line_protocol.specs.code.Tokens.{is_plain, known_of, stops_of}
+use Rattle.influxdb_line_protocol.specs.format.Escapes.{is_bare_at, without_escapes}
+use Rattle.influxdb_line_protocol.specs.code.Tokens.{is_plain}
 use Rattle.influxdb_line_protocol.specs.code.Lanes.{IsRunAt}
 use Rattle.influxdb_line_protocol.specs.code.Scan.{mask_at}
 
@@ -23,10 +23,13 @@ pub record AreEscapes (known text : List ℕ) (first mask : ℕ) : Type 0 where
 abbrev pub IsFirstBackslash : List ℕ → ℕ → Type 0
 IsFirstBackslash text place = IsRunAt (is_plain (λ b. false)) text 0 place
 
--- what was found of the raw token at the start of a text: it goes up to the first bare stop, and the rest is as it says
-pub record IsScanned (kind : TokenKind) (text : List ℕ) (scanned : Scanned) : Type 0 where
-  pub end : scanned.end ≡ first_bare (stops_of kind) text
-  pub plain : scanned.is_plain ≡ not (is_one_of (take scanned.end text) backslash)
-  pub len : scanned.len ≡ length (without_escapes (known_of kind) (take scanned.end text))
-  pub found : IsFirstBackslash (take scanned.end text) scanned.first
-  pub masked : 0 < scanned.escapes → AreEscapes (known_of kind) (take scanned.end text) scanned.first scanned.escapes
+-- what is kept of the backslashes of a text that holds some
+pub record AreBackslashes (known text : List ℕ) (backslashes : Backslashes) : Type 0 where
+  pub some : is_one_of text backslash ≡ true
+  pub found : IsFirstBackslash text backslashes.first
+  pub len : backslashes.len ≡ length (without_escapes known text)
+  pub masked : 0 < backslashes.escapes → AreEscapes known text backslashes.first backslashes.escapes
+
+-- what is kept of the backslashes of a text: nothing where it holds none
+abbrev pub AreToldOf : List ℕ → List ℕ → Option Backslashes → Type 0
+AreToldOf known text told = ForNone told (is_one_of text backslash ≡ false) × ForSome told (AreBackslashes known text)

@@ -1,12 +1,12 @@
 use Rattle.std.proofs.Common.{◌≡◌, ℕ, ◌+◌, ◌-◌, ◌<◌, ◌≤◌, List, length, take, slice_index, true, false, not, ◌∙◌, sym, ap}
 use Rattle.std.proofs.Common.{arith, inl, inr, refl}
 use Rattle.std.proofs.lemmas.Bool.{false≢true, cases_eq}
-use Rattle.influxdb_line_protocol.specs.declared.tokens.Scanned.{Scanned}
+use Rattle.influxdb_line_protocol.specs.declared.tokens.Backslashes.{Backslashes}
 use Rattle.influxdb_line_protocol.specs.declared.sets.TokenKind.{TokenKind}
-use Rattle.influxdb_line_protocol.specs.format.Escapes.{first_bare, without_escapes}
+use Rattle.influxdb_line_protocol.specs.format.Escapes.{without_escapes}
 use Rattle.influxdb_line_protocol.specs.code.Tokens.{is_plain, stops_of, known_of}
 use Rattle.influxdb_line_protocol.specs.code.Lanes.{IsRunAt}
-use Rattle.influxdb_line_protocol.specs.code.RawTokens.{AreEscapes, IsScanned}
+use Rattle.influxdb_line_protocol.specs.code.RawTokens.{AreBackslashes, AreEscapes}
 use Rattle.influxdb_line_protocol.proofs.lemmas.tokens.EscapeLemmas.{is_one_of_front}
 use Rattle.influxdb_line_protocol.proofs.lemmas.tokens.EscapeMasks.{cut_escapes, first_backslash}
 use Rattle.influxdb_line_protocol.proofs.lemmas.tokens.TokenLemmas.{backslash_goes_on}
@@ -23,24 +23,18 @@ loop-end-init c =
       after = omega arith;
     }
 
--- what is scanned is what the walk ended with, where the first backslash is before its end
-scanned : (kind : TokenKind) (text : List ℕ) (at found : ℕ) (scanned : Scanned) → slice_index text at ≡ 92 → at < scanned.end
-    → (first_bare (stops_of kind) text ≡ scanned.end)
-    × (length (without_escapes (known_of kind) (take scanned.end text)) + found ≡ scanned.end)
-    → scanned.is_plain ≡ false → at < length text → scanned.len ≡ scanned.end - found
-    → (0 < scanned.escapes → AreEscapes (known_of kind) (take scanned.end text) scanned.first scanned.escapes)
-    → IsRunAt (is_plain (stops_of kind)) text 0 scanned.first → scanned.first ≡ at → scanned.end ≤ length text
-    → IsScanned kind text scanned
-scanned kind text at found s here after ends plain within counted masked run first fits =
-    let holds = is_one_of_front text at s.end 92 after within here in
-    record {
-      end = sym ends.0;
-      plain = plain ∙ ap not (sym holds);
-      len = omega (arith, counted, ends.1);
-      found = first_backslash (stops_of kind) text s.end s.first fits (omega (arith, after, first)) run
-          (λ _. ap (slice_index text) first ∙ here);
-      masked = masked;
-    }
+-- the backslashes are those of the walk, where the first is before its end
+told : (kind : TokenKind) (text : List ℕ) (at end found : ℕ) (told : Backslashes) → slice_index text at ≡ 92 → at < end → end ≤ length text
+    → length (without_escapes (known_of kind) (take end text)) + found ≡ end → told.len ≡ end - found → told.first ≡ at
+    → (0 < told.escapes → AreEscapes (known_of kind) (take end text) told.first told.escapes)
+    → IsRunAt (is_plain (stops_of kind)) text 0 told.first → AreBackslashes (known_of kind) (take end text) told
+told kind text at end found t here after fits counted len first masked run = record {
+  some = is_one_of_front text at end 92 after (omega (arith, after, fits)) here;
+  found = first_backslash (stops_of kind) text end t.first fits (omega (arith, after, first)) run
+      (λ _. ap (slice_index text) first ∙ here);
+  len = omega (arith, len, counted);
+  masked = masked;
+}
 
 -- the first backslash is before the stop of a load
 after_first : (kind : TokenKind) (bytes : List ℕ) (at next : ℕ) → at ≤ next → slice_index bytes at ≡ 92
@@ -51,15 +45,21 @@ after_first kind bytes at next further here stop = elim (cases_eq next at) [
   | inr other ↦ omega arith
 ]
 
-pub returns-then-end-at-clause-scanned : goal.returns-then-end-at-clause-scanned
-returns-then-end-at-clause-scanned c =
+pub returns-then-end-at-clause-end : goal.returns-then-end-at-clause-end
+returns-then-end-at-clause-end c =
+    let load = c.escapes_in_load-next.ensures in
+    let bytes = c.as_bytes-bytes.result.now in
+    rw (← c.as_bytes-bytes.ensures.value) (sym (walk_ends (known_of c.args.kind) (stops_of c.args.kind) bytes _ _ load.walked
+    (λ _. load.stops c.if-next-end.true)).0)
+
+pub returns-then-end-at-clause-backslashes : goal.returns-then-end-at-clause-backslashes
+returns-then-end-at-clause-backslashes c =
     let kind = c.args.kind in
     let bytes = c.as_bytes-bytes.result.now in
     let at = c.args.at in
     let next = c.escapes_in_load-next.result.0 in
     let load = c.escapes_in_load-next.ensures in
     let here : slice_index bytes at ≡ 92 = rw c.as_bytes-bytes.ensures.value c.requires.here in
-    let within : at < length bytes = rw c.as_bytes-bytes.ensures.value c.requires.within in
     let run = rw (← c.as_bytes-bytes.ensures.value) at c.requires.run in
     let stop = load.stops c.if-next-end.true in
     let ends = walk_ends (known_of kind) (stops_of kind) bytes next _ load.walked (λ _. stop) in
@@ -67,26 +67,34 @@ returns-then-end-at-clause-scanned c =
     let mask = rw c.if-end-at.true at (load.mask c.if-next-end.true) in
     let cut = cut_escapes (known_of kind) bytes next load.walked.within load.walked.bare (stops_of kind) at
     c.escapes_in_load-next.result.2 run (omega (arith, after)) (omega (arith, c.if-next-end.true, c.if-end-at.true)) mask in
-    rw (← c.as_bytes-bytes.ensures.value) (scanned kind bytes at _ _ here after ends refl within refl (λ _. cut) run refl load.walked.within)
+    rw (← c.as_bytes-bytes.ensures.value) (told kind bytes at next _ _ here after load.walked.within ends.1 refl refl (λ _. cut) run)
 
-pub returns-else-end-at-clause-scanned : goal.returns-else-end-at-clause-scanned
-returns-else-end-at-clause-scanned c =
+pub returns-else-end-at-clause-end : goal.returns-else-end-at-clause-end
+returns-else-end-at-clause-end c =
+    let load = c.escapes_in_load-next.ensures in
+    let bytes = c.as_bytes-bytes.result.now in
+    rw (← c.as_bytes-bytes.ensures.value) (sym (walk_ends (known_of c.args.kind) (stops_of c.args.kind) bytes _ _ load.walked
+    (λ _. load.stops c.if-next-end.true)).0)
+
+pub returns-else-end-at-clause-backslashes : goal.returns-else-end-at-clause-backslashes
+returns-else-end-at-clause-backslashes c =
     let kind = c.args.kind in
     let bytes = c.as_bytes-bytes.result.now in
     let at = c.args.at in
     let next = c.escapes_in_load-next.result.0 in
     let load = c.escapes_in_load-next.ensures in
     let here : slice_index bytes at ≡ 92 = rw c.as_bytes-bytes.ensures.value c.requires.here in
-    let within : at < length bytes = rw c.as_bytes-bytes.ensures.value c.requires.within in
     let stop = load.stops c.if-next-end.true in
     let ends = walk_ends (known_of kind) (stops_of kind) bytes next _ load.walked (λ _. stop) in
     let after = after_first kind bytes at next (omega (arith, load.further, c.loop-end.invariant.after)) here stop in
-    rw (← c.as_bytes-bytes.ensures.value)
-    (scanned kind bytes at _ _ here after ends refl within refl (λ some. absurd (omega arith))
-    (rw (← c.as_bytes-bytes.ensures.value) at c.requires.run) refl load.walked.within)
+    rw (← c.as_bytes-bytes.ensures.value) (told kind bytes at next _ _ here after load.walked.within ends.1 refl refl
+    (λ some. absurd (omega arith)) (rw (← c.as_bytes-bytes.ensures.value) at c.requires.run))
 
-pub returns-clause-scanned : goal.returns-clause-scanned
-returns-clause-scanned c =
+pub returns-clause-end : goal.returns-clause-end
+returns-clause-end c = rw (← c.as_bytes-bytes.ensures.value) c.escapes_to_end-end.ensures.value
+
+pub returns-clause-backslashes : goal.returns-clause-backslashes
+returns-clause-backslashes c =
     let kind = c.args.kind in
     let bytes = c.as_bytes-bytes.result.now in
     let at = c.args.at in
@@ -98,6 +106,5 @@ returns-clause-scanned c =
       | inl e ↦ rw (← e) (tail.moves (rw e within) (rw e here))
       | inr other ↦ omega (arith, tail.further, c.loop-end.invariant.after)
     ] in
-    rw (← c.as_bytes-bytes.ensures.value)
-    (scanned kind bytes at _ _ here after (sym tail.value, tail.len) refl within refl (λ some. absurd (omega arith))
-    (rw (← c.as_bytes-bytes.ensures.value) at c.requires.run) refl tail.within)
+    rw (← c.as_bytes-bytes.ensures.value) (told kind bytes at end _ _ here after tail.within tail.len refl refl
+    (λ some. absurd (omega arith)) (rw (← c.as_bytes-bytes.ensures.value) at c.requires.run))

@@ -1,17 +1,11 @@
-use Rattle.std.proofs.Common.{◌≡◌, false, true, refl, arith}
-use Rattle.std.proofs.lemmas.Grind.{common_steps}
-use Rattle.influxdb_line_protocol.specs.format.Bytes.{is_one_of}
+use Rattle.std.proofs.Common.{refl}
 use Rattle.influxdb_line_protocol.specs.code.Tokens.{known_of}
-use Rattle.influxdb_line_protocol.specs.format.Names.{is_one_escape}
-use Rattle.influxdb_line_protocol.proofs.lemmas.tokens.TokenLemmas.{read_escape, read_plain}
+use Rattle.influxdb_line_protocol.proofs.lemmas.tokens.TokenLemmas.{read_plain}
 use Rattle.influxdb_line_protocol.proofs.tokens.escaped_str.Goals as goal
 
-pub returns-then-spelled-clause-text : goal.returns-then-spelled-clause-text
-returns-then-spelled-clause-text c =
-    let none : is_one_of c.args.spelled.text.now 92 ≡ false = grind (arith, common_steps) in
-    read_plain (known_of c.args.spelled.kind) c.args.spelled.text.now c.args.spelled.text.now none refl
+pub unescaped-requires : goal.unescaped-requires
+unescaped-requires c = c.args.token.told.1 c.in-Some.backslashes c.in-Some.is
 
-pub returns-then-matches-clause-text : goal.returns-then-matches-clause-text
-returns-then-matches-clause-text c =
-    let known : is_one_escape (known_of c.args.spelled.kind) c.args.spelled.text.now ≡ true = grind (arith, common_steps) in
-    read_escape (known_of c.args.spelled.kind) c.args.spelled.text.now c.range_from.result.now known c.range_from.ensures.value
+pub returns-in-None-clause-text : goal.returns-in-None-clause-text
+returns-in-None-clause-text c =
+    read_plain (known_of c.args.token.kind) c.args.token.text.now c.args.token.text.now (c.args.token.told.0 c.in-None.is) refl

@@ -6,8 +6,8 @@ use Rattle.influxdb_line_protocol.proofs.tokens.scan_token.Goals as goal
 use Rattle.influxdb_line_protocol.proofs.tokens.scan_token.Goals.{else-end-bytes-via-then-end-bytes+else-bytes-end-eq92}
 use Rattle.influxdb_line_protocol.proofs.tokens.scan_token.Goals.{else-end-bytes-via-else-end-bytes}
 
-pub returns-clause-scanned : goal.returns-clause-scanned
-returns-clause-scanned c =
+pub returns-clause-end : goal.returns-clause-end
+returns-clause-end c =
     let kind = c.args.kind in
     let bytes = c.as_bytes-bytes.result.now in
     let end = c.plain_end-end.result in
@@ -15,15 +15,11 @@ returns-clause-scanned c =
       | else-end-bytes-via-then-end-bytes+else-bytes-end-eq92 w ↦ w.if-bytes-end-eq92.false
       | else-end-bytes-via-else-end-bytes w ↦ absurd (omega arith)
     ] in
-    let ends = run_ends (known_of kind) (stops_of kind) bytes end c.plain_end-end.ensures other in
-    let none = run_is_plain (known_of kind) (stops_of kind) bytes end c.plain_end-end.ensures in
-    rw (← c.as_bytes-bytes.ensures.value) (
-    record {
-      end = sym ends.0;
-      plain = ap not (sym none);
-      len = sym ends.1;
-      found = first_backslash (stops_of kind) bytes end end c.plain_end-end.ensures.within (omega arith) c.plain_end-end.ensures
-          (λ short. absurd (omega arith));
-      masked = λ some. absurd (omega arith);
-    }
-    )
+    rw (← c.as_bytes-bytes.ensures.value)
+    (sym (run_ends (known_of kind) (stops_of kind) bytes end c.plain_end-end.ensures other).0)
+
+pub returns-clause-backslashes : goal.returns-clause-backslashes
+returns-clause-backslashes c =
+    let bytes = c.as_bytes-bytes.result.now in
+    let none = run_is_plain (known_of c.args.kind) (stops_of c.args.kind) bytes c.plain_end-end.result c.plain_end-end.ensures in
+    rw (← c.as_bytes-bytes.ensures.value) ((λ _. none), (λ x some. absurd (cc)))

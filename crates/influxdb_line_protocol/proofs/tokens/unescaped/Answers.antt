@@ -1,0 +1,12 @@
+use Rattle.std.proofs.Common.{◌≡◌, false, true, refl, arith}
+use Rattle.std.proofs.lemmas.Grind.{common_steps}
+use Rattle.influxdb_line_protocol.specs.format.Bytes.{is_one_of}
+use Rattle.influxdb_line_protocol.specs.code.Tokens.{known_of}
+use Rattle.influxdb_line_protocol.specs.format.Names.{is_one_escape}
+use Rattle.influxdb_line_protocol.proofs.lemmas.tokens.TokenLemmas.{read_escape, read_plain}
+use Rattle.influxdb_line_protocol.proofs.tokens.unescaped.Goals as goal
+
+pub returns-then-matches-clause-text : goal.returns-then-matches-clause-text
+returns-then-matches-clause-text c =
+    let known : is_one_escape (known_of c.args.kind) c.args.text.now ≡ true = grind (arith, common_steps) in
+    read_escape (known_of c.args.kind) c.args.text.now c.range_from.result.now known c.range_from.ensures.value
