@@ -14,7 +14,7 @@ import line_protocol
 
 CALLS = {
     "python parse": lambda data: sum(1 for _ in line_protocol.parse(data)),
-    "python rebuild": lambda data: len(line_protocol.rebuild(data).batch.encode()),
+    "python rebuild": lambda data: len(line_protocol.rebuild(data).batch),
 }
 
 

@@ -106,6 +106,9 @@ def _load() -> ctypes.CDLL:
 
 
 LIBRARY = _load()
+_NEW_BYTES = ctypes.PYFUNCTYPE(ctypes.py_object, ctypes.c_void_p, ctypes.c_ssize_t)(
+    ("PyBytes_FromStringAndSize", ctypes.pythonapi))
+_UTF8_OF = ctypes.PYFUNCTYPE(ctypes.c_void_p, ctypes.py_object, ctypes.c_void_p)(("PyUnicode_AsUTF8AndSize", ctypes.pythonapi))
 _NOTHING = ctypes.create_string_buffer(1)
 NOWHERE = ctypes.addressof(_NOTHING)
 
@@ -119,8 +122,20 @@ def encoded(text: Union[str, bytes]) -> bytes:
     return text.encode() if isinstance(text, str) else bytes(text)
 
 
-def address(data: bytes) -> int:
-    """Where bytes lie. They must be kept as long as the address is used."""
+def unwritten(size: int) -> bytes:
+    """Memory of so many bytes, which are not zeroed first, for a call to write to."""
+    return _NEW_BYTES(None, size)
+
+
+def as_utf8(text: Union[str, bytes]) -> Union[str, bytes]:
+    """What holds the UTF-8 of a text: the text itself where it is ASCII, or bytes."""
+    return text if isinstance(text, str) and text.isascii() else encoded(text)
+
+
+def address(data: Union[str, bytes]) -> int:
+    """Where bytes, or the characters of ASCII, lie. They must be kept as long as the address is used."""
+    if isinstance(data, str):
+        return _UTF8_OF(data, None)
     return ctypes.cast(ctypes.c_char_p(data), ctypes.c_void_p).value or NOWHERE
 
 

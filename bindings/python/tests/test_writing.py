@@ -1,6 +1,8 @@
 """What is written, and what is refused."""
 
+import copy
 import math
+from concurrent.futures import ThreadPoolExecutor
 
 import pytest
 
@@ -91,9 +93,31 @@ def test_a_text_is_rebuilt():
     assert rebuild("") == Rebuilt("", "", 0, 0)
 
 
-def test_faults_that_take_more_room_than_the_text():
-    rebuilt = rebuild("x\n" * 1000)
-    assert (rebuilt.carried, rebuilt.refused, rebuilt.faults.count("\n")) == (0, 1000, 1000)
+def test_bytes_are_rebuilt_as_bytes():
+    text = "é,ü=ö\\ ß x=1i\nm é\n"
+    rebuilt = rebuild(text)
+    assert rebuilt.batch == "é,ü=ö\\ ß x=1i\n" and rebuilt.refused == 1
+    assert rebuild(text.encode()) == Rebuilt(rebuilt.batch.encode(), rebuilt.faults.encode(), 1, 1)
+
+
+def test_what_was_rebuilt_stays_as_it_is():
+    first = rebuild(b"m f=1i\nm f\n"), rebuild("m f=1i\nm f\n")
+    wanted = copy.deepcopy(first)
+    rebuild("other g=t\n" * 100 + "x\n" * 100)
+    assert first == wanted
+
+
+@pytest.mark.parametrize("text", ["x\n" * 1000, "m " + ",".join(["a=t"] * 1000)])
+def test_what_takes_more_room_than_the_text(text):
+    rebuilt = rebuild(text)
+    assert len(rebuilt.batch) + len(rebuilt.faults) > len(text) * 3 // 2 + 64
+    assert (rebuilt.carried, rebuilt.refused) == (rebuilt.batch.count("\n"), rebuilt.faults.count("\n"))
+
+
+def test_threads_rebuild_side_by_side():
+    texts = [f"m,t=a{number} f={number}i\nm {number}\n" * 2000 for number in range(8)]
+    with ThreadPoolExecutor(4) as threads:
+        assert list(threads.map(rebuild, texts * 4)) == [rebuild(text) for text in texts] * 4
 
 
 def test_bytes_that_are_no_text_are_not_rebuilt():
