@@ -6,12 +6,13 @@ examples of the packages in bindings/.
     checks/blocks.py --write    writes the stretches into the documents
 
 In a document the line `<!-- block NAME -->` comes before a block. A stretch of an example goes from the line `// [NAME]` to
-`// [end]`, or with `#` in the place of `//`. A NAME with a `/` is a whole file without these lines: of bindings/, or else
-from crates/lp_examples on.
+`// [end]`, or with `#` in the place of `//`; the spaces that begin all its lines are left out. A NAME with a `/` is a whole file
+without these lines: of bindings/, or else from crates/lp_examples on.
 """
 
 import re
 import sys
+import textwrap
 from pathlib import Path
 
 TOP = Path(__file__).resolve().parent.parent
@@ -20,7 +21,7 @@ PLACES = ["crates/lp_examples/src/*.rt", "bindings/c/example.c", "bindings/rust/
 DOCUMENTS = ["README.md", "CALLING.md", "docs/CALLERS.md"]
 LANGUAGES = ("rust", "antt", "c", "rs", "python")  # of the blocks that must be copies
 
-MARK = re.compile(r"^(?://|#) \[(\w+)\]$")
+MARK = re.compile(r"^ *(?://|#) \[(\w+)\]$")
 BLOCK = re.compile(r"^<!-- block (\S+) -->$")
 
 
@@ -36,7 +37,7 @@ def stretches_of(path):
         if mark and mark.group(1) == "end":
             if name is None:
                 raise Fault(f"{path.name}:{number}: nothing ends here")
-            found[name] = "\n".join(lines).strip("\n").splitlines()
+            found[name] = textwrap.dedent("\n".join(lines)).strip("\n").splitlines()
             name, lines = None, []
         elif mark:
             if name or mark.group(1) in found:

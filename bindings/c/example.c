@@ -18,25 +18,29 @@ static void print_line(const lp_line *line, const lp_part *part) {
     printf("\n");
 }
 
-// [lines_in_c]
+static void print_fault(const lp_line *line) {
+    printf("fault %u <%.*s>\n", (unsigned)line->fault, TEXT(line->fault_text));
+}
+
 /* Prints each line of a text, and each fault. False: the text is no UTF-8, a line takes more than is lent, or memory ran out. */
 static bool print_lines(const uint8_t *text, size_t len) {
     lp_lines lines = LP_NO_LINES;
     lp_line line = LP_EMPTY_LINE;
-    lp_part parts[8];  /* its tags and fields */
-    uint8_t bytes[64]; /* those of its texts that hold escapes, without them */
-    uint32_t answer = LP_LINE;
+    uint32_t answer;
+    // [lines_in_c]
+    lp_part parts[8];  /* lent for the tags and fields of a line */
+    uint8_t bytes[64]; /* and for those of its texts that hold escapes, without them */
     lp_empty_parts(parts, 8);
     if (!lp_lines_begin(text, len, false, &lines)) return false;
-    while (answer == LP_LINE || answer == LP_FAULT) {
+    do {
         lp_room room = { bytes, sizeof bytes };
         answer = lp_lines_next(&lines, &room, &line, parts, 8);
         if (answer == LP_LINE) print_line(&line, parts);
-        if (answer == LP_FAULT) printf("fault %u <%.*s>\n", (unsigned)line.fault, TEXT(line.fault_text));
-    }
+        if (answer == LP_FAULT) print_fault(&line);
+    } while (answer == LP_LINE || answer == LP_FAULT);
+    // [end]
     return answer == LP_END;
 }
-// [end]
 
 int main(void) {
     const char *text = "cpu,host=A\\ B,zone=w usage=64i,load=1.5e3,up=t,n=7u 5\nm 5\n# a comment\nm f=9223372036854775808i\n";

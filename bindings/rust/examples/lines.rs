@@ -1,9 +1,9 @@
 //! Writes a line, and prints each line of a text, and each fault.
 
-// [lines_in_rust]
-use influxdb_line_protocol::{parse_lines, LineProtocolBuilder};
-
 fn main() {
+    // [lines_in_rust]
+    use influxdb_line_protocol::{parse_lines, LineProtocolBuilder};
+
     let lines = LineProtocolBuilder::new().measurement("disk usage").tag("host", "a").field("free", 42.5).close_line();
     let text = String::from_utf8(lines.build()).expect("lines are UTF-8") + "m 5\n";
     for item in parse_lines(&text) {
@@ -12,5 +12,5 @@ fn main() {
             Err(fault) => println!("a fault: {fault}"),
         }
     }
+    // [end]
 }
-// [end]
