@@ -1,5 +1,5 @@
 #!/usr/bin/env bash
-# The test command: first the checks that the gate cannot make, then the gate. The gate's last line stands last.
+# The test command: first the checks that the gate cannot make, then the gate. The gate's last line comes last.
 # The misuses are tried beside the checks of arguments and refusals, and told after them.
 set -eu
 cd "$(dirname "$0")"

@@ -136,7 +136,7 @@ TRUTHS = ("t", "T", "true", "True", "TRUE", "f", "F", "false", "False", "FALSE")
 
 
 def quoted(dice: Dice) -> str:
-    """A string, in which some quotes and backslashes stand, and now and then a newline."""
+    """A string, in which some quotes and backslashes are, and now and then a newline."""
     text = phrase(dice, 3, 11, STRING_GAPS)
     return f'"{text}\n{phrase(dice, 1, 4, STRING_GAPS)}"' if dice.happens(0.1) else f'"{text}"'
 

@@ -21,12 +21,12 @@ HEAD = """\
 What the contracts cite: each definition of `specs/`, by its own comment, in the order in which they rest on one
 another. [FORMAT.md](FORMAT.md) has the rules in plain words, with examples; a definition says the same thing exactly,
 and is read in the file that its subject links. [GLOSSARY.md](GLOSSARY.md) has the words of the comments. Where a
-definition has no comment, its type stands in its place.
+definition has no comment, its type is in its place.
 
 `checks/definitions.py --write` writes this page, and the test command compares it with `specs/`.
 """
 
-# The rooms of specs/, and what stands in them.
+# The rooms of specs/, and what is in them.
 PARTS = {
     "format": ("The format", "They speak of texts alone, and of no type of the code but `Dialect`."),
     "code": ("What the code holds, finds and returns", "They tie the code's types and searches to the format."),
@@ -170,7 +170,7 @@ def chapters(found):
     for subject in found:
         room = ROOMS.get(subject.crate) or Path(subject.file).parent.name
         if room not in made:
-            sys.exit(f"definitions: {subject.file} stands in a room that PARTS of checks/definitions.py does not have")
+            sys.exit(f"definitions: {subject.file} is in a room that PARTS of checks/definitions.py does not have")
         made[room].append(subject)
     return made
 
@@ -223,7 +223,7 @@ def list_text():
 
 
 def differ(wanted):
-    """Where the list that stands differs from the wanted one, in words; nothing where it does not."""
+    """Where the list as it is differs from the one that is due, in words; nothing where it does not."""
     if not LIST.exists():
         return "it is not there"
     found = LIST.read_text(encoding="utf-8")

@@ -40,7 +40,7 @@ static bool begins(const struct report *report, uint64_t place, const char *text
     return len_of(report, place) >= strlen(text) && !memcmp(entry(report, place), text, strlen(text));
 }
 
-/* Nothing was left out for want of room. */
+/* Nothing was left out for lack of room. */
 static void must_fit(const struct report *report) {
     MUST(report->count <= ENTRIES);
     MUST(report->count == 0 || report->ends[report->count - 1] <= ROOM);

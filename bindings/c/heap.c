@@ -1,4 +1,4 @@
-/* The three functions that the archive wants of its program: the heap, over malloc. With -DLP_REFUSE the request number
+/* The three functions that the archive needs of its program: the heap, over malloc. With -DLP_REFUSE the request number
  * lp_refused, counted from 0, is refused. */
 #include <stddef.h>
 #include <stdint.h>

@@ -1,4 +1,4 @@
-//! Links the static library of crates/lp_checks, and the C code for memory that it stands on.
+//! Links the static library of crates/lp_checks, and the C code for memory that it uses.
 
 fn main() {
     for name in ["LP_CHECKS_LIBRARY", "LP_CHECKS_HEAP"] {

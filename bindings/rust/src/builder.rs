@@ -172,7 +172,7 @@ fn write_all<const N: usize>(out: &mut impl Write, texts: [&str; N]) -> io::Resu
     texts.iter().try_for_each(|text| out.write_all(text.as_bytes()))
 }
 
-// A line that the library writes around a piece that is wanted: `m f=true`.
+// A line that the library writes around a piece that is asked for: `m f=true`.
 const FRAME: Line<'_> = Line { measurement: View::new("m"), fields: 1, ..Line::EMPTY };
 const FIELD: Part<'_> = Part { key: View::new("f"), kind: kind::BOOLEAN, boolean: true, ..Part::EMPTY };
 

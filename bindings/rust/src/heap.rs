@@ -1,4 +1,4 @@
-//! The three heap functions that the archive wants, over the C library's.
+//! The three heap functions that the archive needs, over the C library's.
 use std::{ffi::c_void, ptr};
 
 extern "C" {

@@ -34,14 +34,14 @@ fn must_count(what: &str, ours: usize, theirs: usize) -> Outcome<()> {
 struct Told<'t>(&'t str);
 
 impl<'t> Told<'t> {
-    // Takes a text that must stand here.
+    // Takes a text that must be here.
     fn take(&mut self, wanted: &str) -> Outcome<()> {
         match self.0.strip_prefix(wanted) {
             Some(rest) => {
                 self.0 = rest;
                 Ok(())
             }
-            None => Err(format!("here {:?} stands where {wanted:?} should", self.0)),
+            None => Err(format!("here is {:?} where {wanted:?} should be", self.0)),
         }
     }
 
@@ -166,7 +166,7 @@ fn compare_line<'t>(text: &str, line: &ParsedLine<'_>, told: &'t str) -> Outcome
         .iter()
         .find(|literal| !text.contains(&format!("={literal}")))
     {
-        Some(literal) => Err(format!("{literal:?} does not stand in the text")),
+        Some(literal) => Err(format!("{literal:?} is not in the text")),
         None => Ok(literals),
     }
 }

@@ -20,7 +20,7 @@ pub enum OutOfRange {
 /// What was missing where a line could not be read at all.
 #[derive(Clone, Copy, Debug, PartialEq, Eq)]
 pub enum ErrorKind {
-    /// At least one space was wanted.
+    /// At least one space.
     TakeWhile1,
 }
 

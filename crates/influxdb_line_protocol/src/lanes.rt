@@ -22,7 +22,7 @@ pub(crate) fn first_set(mask: u64, lanes: usize) -> usize
     }
 }
 
-// The bytes that end a key, and the backslash, each at its low half. Where there is none stands 0, whose own place the
+// The bytes that end a key, and the backslash, each at its low half. Where there is none is 0, whose own place the
 // space has.
 const KEY_ENDS: [u8; 16] = *b" \0\0\0\0\0\0\0\0\t\n\0\\=\0\0";
 

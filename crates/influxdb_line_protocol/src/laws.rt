@@ -2,9 +2,9 @@
 
 ghost use Rattle.influxdb_line_protocol.specs.laws.Laws.{AdmittedBatchesReadBack, OtherBatchesDoNotReadBack};
 ghost use Rattle.influxdb_line_protocol.specs.laws.Laws.{ItemsHaveReadableNames, OtherPointsEndWithBackslash};
-ghost use Rattle.influxdb_line_protocol.specs.laws.Laws.{NamesAreParsed, ParsedNamesStandInLines, StrictFieldsEnd};
+ghost use Rattle.influxdb_line_protocol.specs.laws.Laws.{NamesAreParsed, ParsedNamesAreInLines, StrictFieldsEnd};
 ghost use Rattle.influxdb_line_protocol.specs.laws.Laws.{PiecesExist, PiecesAreUnique, PiecesAreTheText, PiecesJoin};
-ghost use Rattle.influxdb_line_protocol.specs.laws.Laws.{AnswersJoin, CommentsStandAlone};
+ghost use Rattle.influxdb_line_protocol.specs.laws.Laws.{AnswersJoin, CommentTextIsIgnored};
 ghost use Rattle.influxdb_line_protocol.specs.laws.PointsOfLines.{LinesArePoints};
 ghost use Rattle.influxdb_line_protocol.specs.laws.GivenItems.{ItemsAreOfPieces, ItemsAreAnswers, ItemsSoFar, GivenLinesWereRead};
 ghost use Rattle.influxdb_line_protocol.specs.laws.BaseLaws.{ClearSeriesHaveBases, SameSeriesHaveOneBase, TagsByKeyAreSorted};
@@ -42,7 +42,7 @@ pub fn batch_reads_back()
 /// of a line, or a space does.
 pub fn parsed_names()
     ensures all { NamesAreParsed }
-    ensures each { ParsedNamesStandInLines }
+    ensures each { ParsedNamesAreInLines }
     ensures fields_end { StrictFieldsEnd }
 {}
 
@@ -74,7 +74,7 @@ pub fn pieces_join()
     ensures text { PiecesAreTheText }
     ensures join { PiecesJoin }
     ensures items { AnswersJoin }
-    ensures comment { CommentsStandAlone }
+    ensures comment { CommentTextIsIgnored }
 {}
 
 /// The first cut of a text is the first cut of each text that begins with it.

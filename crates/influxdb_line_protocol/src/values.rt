@@ -175,9 +175,9 @@ fn float(text: &str, whole: usize) -> Option<(FieldValue<'_>, &str)>
     Some((FieldValue::F64(value), rest))
 }
 
-// Whether `byte` stands at `place`.
+// Whether `byte` is at `place`.
 #[inline(always)]
-fn stands_at(bytes: &[u8], place: usize, byte: u8) -> bool
+fn has_byte_at(bytes: &[u8], place: usize, byte: u8) -> bool
     requires { 0 < byte }
     ensures { result ≡ (slice_index bytes.now place == byte) }
 {
@@ -205,10 +205,10 @@ fn number<'a>(alloc: Global, text: &'a str) -> Result<Option<(FieldValue<'a>, &'
         return Ok(None);
     }
     let bytes = text.as_bytes();
-    if stands_at(bytes, whole, b'i') {
+    if has_byte_at(bytes, whole, b'i') {
         return integer(alloc, text, whole);
     }
-    if stands_at(bytes, whole, b'u') && !stands_at(bytes, 0, b'-') {
+    if has_byte_at(bytes, whole, b'u') && !has_byte_at(bytes, 0, b'-') {
         return unsigned(alloc, text, whole);
     }
     Ok(float(text, whole))
@@ -345,7 +345,7 @@ pub(crate) fn value<'a>(
     if begins_number(bytes) {
         return number(alloc, text);
     }
-    if stands_at(bytes, 0, b'"') {
+    if has_byte_at(bytes, 0, b'"') {
         return string(alloc, text);
     }
     Ok(boolean(text))

@@ -171,14 +171,14 @@ AnswersItem (Some (Ok parsed)) room answer line parts =
     CountsLine (line_read parsed) line × AnswersLine (line_read parsed) room answer line parts
 AnswersItem (Some (Err error)) room answer line parts = AnswersFault (fault_seen error) room answer line
 
--- whether more parts or more room is wanted
+-- whether more parts or more room is needed
 abbrev pub is_more : Answer → Bool
 is_more Answer.MoreParts = true
 is_more Answer.MoreRoom = true
 is_more answer = false
 
 -- the number is that of the answer for the next item, whichever that is; the cursor moves past the item as the parser does,
--- but stays where more is wanted
+-- but stays where more is needed
 pub record ReadsItem (before : Lines) (room : ℕ) (number : ℕ) (line : Line) (parts : List Part) (after : Lines) : Type 0 where
   pub item : Option (Result ParsedLine Error)
   pub answer : Answer

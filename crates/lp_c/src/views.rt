@@ -111,7 +111,7 @@ impl Answer {
         self as u32
     }
 
-    /// Whether more parts or more room is wanted.
+    /// Whether more parts or more room is needed.
     pub fn is_more(self) -> bool
         ensures { result ≡ is_more self }
     {

@@ -4,7 +4,7 @@
 use influxdb_line_protocol::FieldValue;
 use std::num::{nearest_i64_to_f64, nearest_u64_to_f64};
 
-/// The number of a value, where it is one. A float is its text, and a caller that wants its number parses that.
+/// The number of a value, where it is one. A float is its text, and a caller that needs its number parses that.
 pub fn number(value: &FieldValue<'_>) -> Option<f64> {
     match value {
         FieldValue::I64(number) => Some(nearest_i64_to_f64(*number)),

@@ -25,7 +25,7 @@ fn repeated(
 
 #[test]
 fn long_sets_are_read_whole(rt: HostRuntime) -> Result<(), Fault> {
-    // What is repeated stands between two texts, in the line and in what is told of it.
+    // What is repeated is between two texts, in the line and in what is told of it.
     for (before, part, after, told_before, told_part, told_after) in [
         ("m a=1i", ",b=2u", "", "S<m> S<a>=1i", " S<b>=2u", ""),
         (

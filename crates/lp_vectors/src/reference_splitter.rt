@@ -3,7 +3,7 @@
 use crate::fault::Fault;
 use influxdb_line_protocol::split_lines;
 
-/// The part of a piece that a byte stands in.
+/// The part of a piece that a byte is in.
 #[derive(Clone, Copy)]
 enum Part {
     Head,

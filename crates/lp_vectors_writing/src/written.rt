@@ -1,10 +1,10 @@
-//! Lines that were read, written again: most as they stand.
+//! Lines that were read, written again: most as they are.
 
 use lp_rebuild::rebuild;
 use lp_vectors::fault::Fault;
 
 #[test]
-fn lines_are_written_as_they_stand(rt: HostRuntime) -> Result<(), Fault> {
+fn lines_are_written_as_they_are(rt: HostRuntime) -> Result<(), Fault> {
     for text in [
         "m f=1i",
         "m,k=v f=1i",

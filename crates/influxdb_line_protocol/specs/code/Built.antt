@@ -35,7 +35,7 @@ pub record Writes {B S T : Type 0} (bytes : B → List ℕ) (room : B → ℕ) (
   -- a text is too long exactly where no `usize` holds its length, and then no call is accepted
   pub too_long :
       MatchResult result (λ _. length text < 2 ^ 64) (λ r. (r.cause ≡ TooLong) ↔ (2 ^ 64 ≤ length text))
-  -- any other refusal is for want of room
+  -- any other refusal is for lack of room
   pub refused : IfErr result (λ r. r.cause ≢ TooLong → room before < length text)
   -- and its cause is one that the buffer gives
   pub cause : IfErr result (λ r. r.cause ≢ TooLong → refuses r.cause)

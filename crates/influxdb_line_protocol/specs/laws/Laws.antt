@@ -63,8 +63,8 @@ NamesAreParsed =
     → IsParsedName kind n
 
 -- Each such name is a name of that kind in some line, and the text of that line is UTF-8 where the name is.
-abbrev pub ParsedNamesStandInLines : Type 0
-ParsedNamesStandInLines =
+abbrev pub ParsedNamesAreInLines : Type 0
+ParsedNamesAreInLines =
     (dialect : Dialect) (kind : NameKind) (n : List ℕ) → IsParsedName kind n
     → (text : List ℕ) × (line : Line) × HasAnswers dialect text (Ok line ∷ []) × Contains (names_of kind (point_of line)) n
     × (IsUtf8 n → IsUtf8 text)
@@ -104,8 +104,8 @@ AnswersJoin =
     → HasAnswers dialect u first → HasAnswers dialect t others → HasAnswers dialect (u ++ newline ∷ t) (first ++ others)
 
 -- In the strict dialect, other bytes after the `#` of a comment change no other piece and no answer.
-abbrev pub CommentsStandAlone : Type 0
-CommentsStandAlone =
+abbrev pub CommentTextIsIgnored : Type 0
+CommentTextIsIgnored =
     (front old new : List ℕ) (before after : List (List ℕ)) (text : List ℕ) (answers : List (Result Line Fault))
     → begins_comment front ≡ true → All (λ b. b ≢ newline) new → Pieces Strict text (before ++ (front ++ old) ∷ after)
     → HasAnswers Strict text answers

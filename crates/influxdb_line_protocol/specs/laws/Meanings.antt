@@ -45,7 +45,7 @@ SeparatedBy one (x ∷ xs) text rest = (after : List ℕ) × (one text ≡ reads
 
 -- they are there, and no greater number of them is
 pub record LongestList {A : Type 0} (one : List ℕ → Reading A) (text : List ℕ) (xs : List A) (rest : List ℕ) : Type 0 where
-  pub stand : SeparatedBy one xs text rest
+  pub separated : SeparatedBy one xs text rest
   pub most : (others : List A) (after : List ℕ) → SeparatedBy one others text after → length others ≤ length xs
 
 -- one more has this fault: at the front where none is there, and else after a comma
@@ -56,7 +56,7 @@ NextHasFault one (x ∷ xs) rest e = (after : List ℕ) × (rest ≡ comma ∷ a
 -- they are one or more, the most that are at the start of the text, and one more has no fault
 pub record WholeList {A : Type 0} (one : List ℕ → Reading A) (text : List ℕ) (xs : List A) (rest : List ℕ) : Type 0 where
   pub some : 0 < length xs
-  pub stand_most : LongestList one text xs rest
+  pub longest : LongestList one text xs rest
   pub no_fault : (e : Fault) → ¬ NextHasFault one xs rest e
 
 -- Values are read exactly where they are the most that are at the start of the text, one or more, joined by commas,

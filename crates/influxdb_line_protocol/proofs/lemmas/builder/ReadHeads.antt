@@ -26,7 +26,7 @@ use Rattle.influxdb_line_protocol.proofs.lemmas.laws.batch_reads_back.NameReadsB
 use Rattle.influxdb_line_protocol.proofs.lemmas.laws.parsed_names.KeptNames.{is_kept, name_kept}
 use Rattle.influxdb_line_protocol.proofs.lemmas.laws.parsed_names.ParsedNames.{ParsedPoint, line_parsed, trimmed_begins}
 use Rattle.influxdb_line_protocol.proofs.lemmas.laws.bases_tell_series.ParsedSeries.{read_series_are_parsed}
-use Rattle.influxdb_line_protocol.proofs.lemmas.laws.bases_tell_series.BasesTellSeries.{tag_parts, tags_stand, value_part}
+use Rattle.influxdb_line_protocol.proofs.lemmas.laws.bases_tell_series.BasesTellSeries.{tag_parts, tags_separated, value_part}
 use Rattle.influxdb_line_protocol.proofs.lemmas.builder.BuilderLemmas.{escaped_uncounted, uncounted}
 use Rattle.influxdb_line_protocol.proofs.lemmas.names.NameLemmas.{without_escapes_plain_byte}
 use Rattle.influxdb_line_protocol.proofs.lemmas.fields.ReadingLemmas.{name_parts}
@@ -44,12 +44,12 @@ no_backslash : (b : ℕ) → is_one_of (escapable a_tag_key) b ≡ false → b �
 no_backslash b none = λ e. let h : is_one_of (escapable a_tag_key) b ≡ true = ap (is_one_of (escapable a_tag_key)) e in cc
 
 -- a spelling without one is its own logical text
-stands_for_itself : (known text : List ℕ) → delimiters text ≡ 0 → without_escapes known text ≡ text
+is_own_logical : (known text : List ℕ) → delimiters text ≡ 0 → without_escapes known text ≡ text
 unfolding without_escapes
-stands_for_itself known [] none = refl
-stands_for_itself known (b ∷ text) none =
+is_own_logical known [] none = refl
+is_own_logical known (b ∷ text) none =
     let step = uncounted (is_one_of (escapable a_tag_key)) b (is_one_of (escapable a_tag_key) b) text refl none in
-    without_escapes_plain_byte known b text (no_backslash b step.0) ∙ ap (λ (xs : List ℕ). b ∷ xs) (stands_for_itself known text step.1)
+    without_escapes_plain_byte known b text (no_backslash b step.0) ∙ ap (λ (xs : List ℕ). b ∷ xs) (is_own_logical known text step.1)
 
 -- what a measurement escapes, a key does
 in_measurement : (b : ℕ) → is_one_of (escapable a_tag_key) b ≡ false → is_one_of (escapable a_measurement) b ≡ false
@@ -121,9 +121,9 @@ tags_are (t ∷ tags) text h =
           let no_key : delimiters key ≡ 0 = omega (arith, count, more.least, few) in
           let no_value : delimiters value ≡ 0 = omega (arith, count, more.least, few) in
           let rest = more.written (omega (arith, count, more.least, few)) in
-          let shown : t.key.bytes ≡ key = ap (λ (x : Text). x.bytes) p.key_is ∙ stands_for_itself (escapable a_tag_key) key no_key in
+          let shown : t.key.bytes ≡ key = ap (λ (x : Text). x.bytes) p.key_is ∙ is_own_logical (escapable a_tag_key) key no_key in
           let read : t.value.bytes ≡ value = ap (λ (x : Text). x.bytes) p.value_is
-          ∙ stands_for_itself (escapable a_tag_value) value no_value in
+          ∙ is_own_logical (escapable a_tag_value) value no_value in
           record {
             names = ((ap delimiters shown ∙ no_key, ap delimiters read ∙ no_value), rest.names);
             is = tag_written text after key v value h.1 (flat_map built_tag (map logical_tag tags)) t.key.bytes
@@ -145,13 +145,13 @@ pub head_written : (raw : List ℕ) (m : Text) (tags : List (Pair Text Text)) �
 head_written raw m tags h few =
     let p = name_parts a_measurement raw m h.after h.measurement_is in
     let first = spelled a_measurement raw in
-    let set = tags_are tags h.after (tags_stand h) in
+    let set = tags_are tags h.after (tags_separated h) in
     let split : raw ≡ first ++ h.after = sym (take-append-drop (spelled_len a_measurement raw) raw)
     ∙ ap (λ (r : List ℕ). first ++ r) (sym p.1) in
     let count : delimiters raw ≡ delimiters first + delimiters h.after = ap delimiters split ∙ both first h.after in
     let none : delimiters first ≡ 0 = omega (arith, count, set.least, few) in
     let rest = set.written (omega (arith, count, set.least, few)) in
-    let shown : m.bytes ≡ first = ap (λ (x : Text). x.bytes) p.0 ∙ stands_for_itself (escapable a_measurement) first none in
+    let shown : m.bytes ≡ first = ap (λ (x : Text). x.bytes) p.0 ∙ is_own_logical (escapable a_measurement) first none in
     let same : spelling a_measurement m.bytes ≡ first = ap (spelling a_measurement) shown ∙ measurement_same first none in
     record {
       measurement_is = ap delimiters shown ∙ none;

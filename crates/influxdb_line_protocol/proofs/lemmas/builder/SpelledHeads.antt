@@ -16,7 +16,7 @@ use Rattle.influxdb_line_protocol.specs.code.Parsed.{IsReadLine, line_read, pars
 use Rattle.influxdb_line_protocol.specs.format.Points.{Pair, built_tag, spelling}
 use Rattle.influxdb_line_protocol.specs.format.Readings.{Text}
 use Rattle.influxdb_line_protocol.specs.format.Trimming.{trimmed}
-use Rattle.influxdb_line_protocol.proofs.lemmas.laws.bases_tell_series.BasesTellSeries.{tag_parts, tags_stand, value_part}
+use Rattle.influxdb_line_protocol.proofs.lemmas.laws.bases_tell_series.BasesTellSeries.{tag_parts, tags_separated, value_part}
 use Rattle.influxdb_line_protocol.proofs.lemmas.names.NameLemmas.{without_escapes_known, without_escapes_plain_byte}
 use Rattle.influxdb_line_protocol.proofs.lemmas.laws.batch_reads_back.NameReadsBack.{escaped_found, escaped_plain}
 use Rattle.influxdb_line_protocol.proofs.lemmas.laws.bases_tell_series.ParsedSeries.{read_series_are_parsed}
@@ -133,7 +133,7 @@ series_least raw m tags h e =
     let p = name_parts a_measurement raw m h.after h.measurement_is in
     let first = spelled a_measurement raw in
     let name = name_least (escapable a_measurement) first m.bytes refl (ap (λ (x : Text). x.bytes) p.0) in
-    let set = tags_least tags h.after (tags_stand h) in
+    let set = tags_least tags h.after (tags_separated h) in
     let split : raw ≡ first ++ h.after = sym (take-append-drop (spelled_len a_measurement raw) raw)
     ∙ ap (λ (r : List ℕ). first ++ r) (sym p.1) in
     let long : length raw ≡ length first + length h.after = ap length split ∙ length-append first h.after in

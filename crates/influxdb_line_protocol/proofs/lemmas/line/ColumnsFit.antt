@@ -17,7 +17,7 @@ use Rattle.influxdb_line_protocol.specs.code.Lookups.{some_items}
 use Rattle.influxdb_line_protocol.specs.laws.Meanings.{SeparatedBy, SeparatedAfterComma}
 use Rattle.influxdb_line_protocol.specs.code.Parsed.{Answers, field_of, line_read, tag_of, tags_of}
 use Rattle.influxdb_line_protocol.specs.code.ParseSteps.{CanCountColumns}
-use Rattle.influxdb_line_protocol.proofs.lemmas.laws.bases_tell_series.BasesTellSeries.{set_stands}
+use Rattle.influxdb_line_protocol.proofs.lemmas.laws.bases_tell_series.BasesTellSeries.{set_separated}
 use Rattle.influxdb_line_protocol.proofs.lemmas.laws.meanings.JoinedMeaning.{the_most_is_read}
 use Rattle.influxdb_line_protocol.proofs.lemmas.laws.parsed_names.Inversions.{bound}
 use Rattle.influxdb_line_protocol.proofs.lemmas.laws.parsed_names.ParsedNames.{answer_parts}
@@ -47,7 +47,7 @@ field_room dialect text rest fs h =
     let parts = bound (separated_list field text) (λ xs. reads xs.value (without_comma dialect xs.value xs.rest)) fs rest h in
     let same : parts.value ≡ fs = cc (parts.second) in
     let full = (the_most_is_read field (λ t. (field_no_longer t).holds) text parts.value parts.after).0 parts.first in
-    omega (arith, ap length same, room_of field (λ t. (field_no_longer t).holds) parts.value text parts.after full.stand_most.stand)
+    omega (arith, ap length same, room_of field (λ t. (field_no_longer t).holds) parts.value text parts.after full.longest.separated)
 
 -- the tags and the fields of a line
 line_room : (dialect : Dialect) (text : List ℕ) (l : Line) → answer dialect text ≡ Ok l
@@ -55,8 +55,8 @@ line_room : (dialect : Dialect) (text : List ℕ) (l : Line) → answer dialect 
 line_room dialect text l h =
     let parts = answer_parts dialect text l h in
     let front = name_ends a_measurement text l.measurement parts.measurement_rest parts.measurement in
-    let stand = set_stands parts.measurement_rest parts.tags_rest l.tags parts.tags in
-    let tags = room_after tag (λ t. (tag_no_longer t).holds) (some_tags l.tags) parts.measurement_rest parts.tags_rest stand in
+    let separated = set_separated parts.measurement_rest parts.tags_rest l.tags parts.tags in
+    let tags = room_after tag (λ t. (tag_no_longer t).holds) (some_tags l.tags) parts.measurement_rest parts.tags_rest separated in
     let fields = field_room dialect (drop (spaces parts.tags_rest) parts.tags_rest) parts.fields_rest l.fields parts.fields in
     omega (
       arith,

@@ -28,15 +28,15 @@ no_number text none =
     rw (integer_misses text none, unsigned_misses text (no_digits text none), float_misses text no_float) refl
 
 -- without either mark, or with `-` at the start of `u`, it is a float or nothing
-pub float_stands : (text : List ℕ) → slice_index text (integer_len text) ≢ 105
+pub float_is : (text : List ℕ) → slice_index text (integer_len text) ≢ 105
     → (slice_index text (integer_len text) ≢ 117) ⊎ (slice_index text 0 ≡ 45)
     → (integer_at text otherwise unsigned_at text otherwise float_at text) ≡ float_at text
-float_stands text no_i (inl no_u) =
+float_is text no_i (inl no_u) =
     rw (integer_unmarked text no_i) (elim (cases_eq (slice_index text 0) 45) [
       | inl minus ↦ rw (unsigned_misses text (digits_of_minus text minus)) refl
       | inr plain ↦ rw (unsigned_unmarked text (λ mark. no_u (rw (digits_of_plain text plain) at mark))) refl
     ])
-float_stands text no_i (inr minus) = rw (integer_unmarked text no_i, unsigned_misses text (digits_of_minus text minus)) refl
+float_is text no_i (inr minus) = rw (integer_unmarked text no_i, unsigned_misses text (digits_of_minus text minus)) refl
 
 -- a miss after a reading changes nothing
 otherwise_miss : (r : Reading (Value Text)) → (r otherwise miss) ≡ r

@@ -137,10 +137,10 @@ pub integer_decides : (text : List ℕ) (other : Reading (Value Text)) → 0 < i
     → (integer_at text otherwise other) ≡ integer_at text
 unfolding integer_at
 integer_decides text other some mark =
-    let stands = ne_eqb (integer_len text) 0 (λ e. absurd (omega arith)) in
+    let taken = ne_eqb (integer_len text) 0 (λ e. absurd (omega arith)) in
     elim (cases_Bool (fits_i64 (signed_digits_value 10 (take (integer_len text) text)))) [
-      | inl fits ↦ rw (stands, eq-eqb (slice_index text (integer_len text)) 105 mark, fits) refl
-      | inr none ↦ rw (stands, eq-eqb (slice_index text (integer_len text)) 105 mark, none) refl
+      | inl fits ↦ rw (taken, eq-eqb (slice_index text (integer_len text)) 105 mark, fits) refl
+      | inr none ↦ rw (taken, eq-eqb (slice_index text (integer_len text)) 105 mark, none) refl
     ]
 
 -- after a letter a text may be cut

@@ -17,17 +17,17 @@ returns-then-begins_number-clause-memory c =
     rw (number_form text (rw c.as_bytes-bytes.ensures.value at (sym c.begins_number.ensures
     ∙ c.if-begins_number.true))) c.number.ensures.memory
 
-pub returns-then-stands_at-clause-value : goal.returns-then-stands_at-clause-value
-returns-then-stands_at-clause-value c =
+pub returns-then-has_byte_at-clause-value : goal.returns-then-has_byte_at-clause-value
+returns-then-has_byte_at-clause-value c =
     let text = c.args.text.now in
     rw (string_form text (eqb-true _ 34
-    (rw c.as_bytes-bytes.ensures.value at (sym c.stands_at.ensures ∙ c.if-stands_at.true)))) c.string.ensures.value
+    (rw c.as_bytes-bytes.ensures.value at (sym c.has_byte_at.ensures ∙ c.if-has_byte_at.true)))) c.string.ensures.value
 
-pub returns-then-stands_at-clause-memory : goal.returns-then-stands_at-clause-memory
-returns-then-stands_at-clause-memory c =
+pub returns-then-has_byte_at-clause-memory : goal.returns-then-has_byte_at-clause-memory
+returns-then-has_byte_at-clause-memory c =
     let text = c.args.text.now in
     rw (string_form text (eqb-true _ 34
-    (rw c.as_bytes-bytes.ensures.value at (sym c.stands_at.ensures ∙ c.if-stands_at.true)))) c.string.ensures.memory
+    (rw c.as_bytes-bytes.ensures.value at (sym c.has_byte_at.ensures ∙ c.if-has_byte_at.true)))) c.string.ensures.memory
 
 pub returns-clause-value : goal.returns-clause-value
 returns-clause-value c =
@@ -35,5 +35,5 @@ returns-clause-value c =
     let other : (is_ascii_digit (slice_index text 0) || slice_index text 0 == 45) ≡ false =
     rw c.as_bytes-bytes.ensures.value at (sym c.begins_number.ensures ∙ c.if-begins_number.false) in
     let no_quote : slice_index text 0 ≢ 34 = eqb-false _ 34
-    (rw c.as_bytes-bytes.ensures.value at (sym c.stands_at.ensures ∙ c.if-stands_at.false)) in
+    (rw c.as_bytes-bytes.ensures.value at (sym c.has_byte_at.ensures ∙ c.if-has_byte_at.false)) in
     rw (boolean_form text other no_quote) c.boolean.ensures.value

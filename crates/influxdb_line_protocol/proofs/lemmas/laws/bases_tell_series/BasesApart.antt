@@ -22,7 +22,7 @@ use Rattle.influxdb_line_protocol.proofs.lemmas.fields.ReadingLemmas.{name_parts
 use Rattle.influxdb_line_protocol.proofs.lemmas.scan.ScanLemmas.{bare_len, first_bare_len}
 use Rattle.influxdb_line_protocol.proofs.lemmas.laws.bases_tell_series.SortedTags.{by_key_permutes}
 use Rattle.influxdb_line_protocol.proofs.lemmas.laws.bases_tell_series.BasesTellSeries.{base_is, tag_parts}
-use Rattle.influxdb_line_protocol.proofs.lemmas.laws.bases_tell_series.BasesTellSeries.{tags_stand, value_part}
+use Rattle.influxdb_line_protocol.proofs.lemmas.laws.bases_tell_series.BasesTellSeries.{tags_separated, value_part}
 
 -- nothing, or a text that begins with this byte
 abbrev Begins : ℕ → List ℕ → Type 0
@@ -204,7 +204,7 @@ plain_series_are_clear raw m tags none h =
     let p = name_parts a_measurement raw m h.after h.measurement_is in
     let after : is_one_of h.after 92 ≡ false = ap (λ (r : List ℕ). is_one_of r 92) p.1
     ∙ none_dropped 92 (spelled_len a_measurement raw) raw none in
-    let more = plain_tags tags h.after (tags_stand h) after in
+    let more = plain_tags tags h.after (tags_separated h) after in
     let first : m.bytes ≡ spelled a_measurement raw = ap (λ (x : Text). x.bytes) p.0 ∙ plain_name a_measurement raw none in (
       or_from (is_one_escape (escapable a_measurement) (spelled a_measurement raw))
           (list_any is_tag_one_escape (spelled_tags (length tags) (drop (spelled_len a_measurement raw) raw)))

@@ -119,15 +119,15 @@ ok_parts x y r s e =
     (ap (λ (a : Read (Option (List (Pair Text Text)))). a.value) same, ap (λ (a : Read (Option (List (Pair Text Text)))). a.rest) same)
 
 -- joined tags come after commas, with the comma before them
-stand_after : (tags : List (Pair Text Text)) (text mark rest : List ℕ) → text ≡ 44 ∷ mark → 0 < length tags
+separated_after : (tags : List (Pair Text Text)) (text mark rest : List ℕ) → text ≡ 44 ∷ mark → 0 < length tags
     → SeparatedBy tag tags mark rest → SeparatedAfterComma tag tags text rest
-stand_after [] text mark rest e some h = absurd (omega arith)
-stand_after (t ∷ tags) text mark rest e some h = (mark, h.0, e, h.1, h.2)
+separated_after [] text mark rest e some h = absurd (omega arith)
+separated_after (t ∷ tags) text mark rest e some h = (mark, h.0, e, h.1, h.2)
 
 -- the tags of a set are there, each after a comma, before what it leaves
-pub set_stands : (text left : List ℕ) (set : Option (List (Pair Text Text)))
+pub set_separated : (text left : List ℕ) (set : Option (List (Pair Text Text)))
     → tag_set text ≡ Ok (record { value = set; rest = left }) → SeparatedAfterComma tag (some_tags set) text left
-set_stands text left set e = go (byte 44 text) refl
+set_separated text left set e = go (byte 44 text) refl
   where
     none : text ≡ left → None ≡ set → SeparatedAfterComma tag (some_tags set) text left
     none is same = rw (← same) is
@@ -139,8 +139,8 @@ set_stands text left set e = go (byte 44 text) refl
     after c mark (reads xs rest) m j =
         let same = ok_parts (Some xs) set rest left (rw (m, j) at e) in
         let full = (the_most_is_read tag (λ t. (tag_no_longer t).holds) mark xs rest).0 j in
-        let stand = stand_after xs text mark rest (byte_parts 44 text c mark m).1 full.some full.stand_most.stand in
-        rw (← same.0) (subst (λ (r : List ℕ). SeparatedAfterComma tag xs text r) same.1 stand)
+        let separated = separated_after xs text mark rest (byte_parts 44 text c mark m).1 full.some full.longest.separated in
+        rw (← same.0) (subst (λ (r : List ℕ). SeparatedAfterComma tag xs text r) same.1 separated)
 
     go : (r : Reading ℕ) → byte 44 text ≡ r → SeparatedAfterComma tag (some_tags set) text left
     go miss m = let same = ok_parts None set text left (rw m at e) in none same.1 same.0
@@ -148,9 +148,9 @@ set_stands text left set e = go (byte 44 text) refl
     go (reads c mark) m = after c mark (separated_list tag mark) m refl
 
 -- the tags of a parsed series come after its measurement
-pub tags_stand : {raw : List ℕ} {m : Text} {tags : List (Pair Text Text)} (h : IsParsedSeries raw m tags)
+pub tags_separated : {raw : List ℕ} {m : Text} {tags : List (Pair Text Text)} (h : IsParsedSeries raw m tags)
     → SeparatedAfterComma tag tags h.after []
-tags_stand h = rw (← h.tags_are) (set_stands h.after [] h.set h.set_is)
+tags_separated h = rw (← h.tags_are) (set_separated h.after [] h.set h.set_is)
 
 -- a clear series whose names are parts of its raw text is spelled as they are
 raw_is : (raw : List ℕ) (m : Text) (tags : List (Pair Text Text)) → IsClearSeries raw m tags
@@ -166,7 +166,7 @@ raw_is raw m tags h single =
     ∙ single_same (escapable a_measurement) (spelled a_measurement raw) apart.0
     (ap (λ (x : Text). x.is_single) (sym p.0) ∙ singles.0) in
     let more : h.parsed.after ≡ flat_map based_tag (in_order tags) =
-    spells tags h.parsed.after (tags_stand h.parsed)
+    spells tags h.parsed.after (tags_separated h.parsed)
     (ap (λ (r : List ℕ). list_any is_tag_one_escape (spelled_tags (length tags) r)) p.1 ∙ apart.1) singles.1 in
     let split : raw ≡ spelled a_measurement raw ++ h.parsed.after =
     sym (take-append-drop (spelled_len a_measurement raw) raw) ∙ ap (λ (r : List ℕ). spelled a_measurement raw ++ r) (sym p.1) in

@@ -12,7 +12,7 @@ use Rattle.influxdb_line_protocol.specs.format.Names.{NameKind, a_measurement, a
 use Rattle.influxdb_line_protocol.specs.format.Names.{escapable, is_stop, logical, name, read_text, spelled, spelled_len}
 use Rattle.influxdb_line_protocol.specs.format.Points.{Pair}
 use Rattle.influxdb_line_protocol.specs.format.Readings.{Reading, Text, reads}
-use Rattle.influxdb_line_protocol.proofs.lemmas.laws.bases_tell_series.BasesTellSeries.{set_stands}
+use Rattle.influxdb_line_protocol.proofs.lemmas.laws.bases_tell_series.BasesTellSeries.{set_separated}
 use Rattle.influxdb_line_protocol.proofs.lemmas.laws.parsed_names.ParsedNames.{answer_parts}
 use Rattle.influxdb_line_protocol.proofs.lemmas.fields.ReadingLemmas.{bind_reads, byte_parts, name_parts, reads_parts}
 use Rattle.influxdb_line_protocol.proofs.lemmas.laws.meanings.ShorterRests.{tag_no_longer}
@@ -107,31 +107,31 @@ tag_cut text x rest e =
     }
 
 -- a front of the text with these tags, each after a comma, and nothing after them
-record StandCut (tags : List (Pair Text Text)) (text rest : List ℕ) : Type 0 where
+record SeparatedCut (tags : List (Pair Text Text)) (text rest : List ℕ) : Type 0 where
   front : List ℕ
   is : text ≡ front ++ rest
-  stand : SeparatedAfterComma tag tags front []
+  separated : SeparatedAfterComma tag tags front []
 
 -- tags are in such a front
-stand_cut : (tags : List (Pair Text Text)) (text rest : List ℕ) → SeparatedAfterComma tag tags text rest → StandCut tags text rest
-stand_cut [] text rest h = record { front = []; is = h; stand = refl }
-stand_cut (t ∷ tags) text rest h =
+separated_cut : (tags : List (Pair Text Text)) (text rest : List ℕ) → SeparatedAfterComma tag tags text rest → SeparatedCut tags text rest
+separated_cut [] text rest h = record { front = []; is = h; separated = refl }
+separated_cut (t ∷ tags) text rest h =
     let first = tag_cut h.0 t h.1 h.3 in
-    let more = stand_cut tags h.1 rest h.4 in
+    let more = separated_cut tags h.1 rest h.4 in
     let split : h.0 ≡ (first.front ++ more.front) ++ rest =
     first.is ∙ ap (λ (r : List ℕ). first.front ++ r) more.is ∙ sym (append_assoc first.front more.front rest) in
     record {
       front = 44 ∷ first.front ++ more.front;
       is = h.2 ∙ ap (λ (r : List ℕ). 44 ∷ r) split;
-      stand = (first.front ++ more.front, more.front, refl, first.again more.front rest more.is, more.stand);
+      separated = (first.front ++ more.front, more.front, refl, first.again more.front rest more.is, more.separated);
     }
 
 -- no fewer bytes are there than tags
-stand_room : (tags : List (Pair Text Text)) (text rest : List ℕ) → SeparatedAfterComma tag tags text rest → length tags ≤ length text
-stand_room [] text rest h = omega arith
-stand_room (t ∷ tags) text rest h =
+separated_room : (tags : List (Pair Text Text)) (text rest : List ℕ) → SeparatedAfterComma tag tags text rest → length tags ≤ length text
+separated_room [] text rest h = omega arith
+separated_room (t ∷ tags) text rest h =
     let less = (tag_no_longer h.0).holds t h.1 h.3 in
-    let more = stand_room tags h.1 rest h.4 in
+    let more = separated_room tags h.1 rest h.4 in
     omega (arith, ap length h.2)
 
 -- tags up to the end of the text are read
@@ -156,7 +156,7 @@ set_tags (t ∷ tags) = refl
 set_read : (tags : List (Pair Text Text)) (text : List ℕ) → SeparatedAfterComma tag tags text []
     → tag_set text ≡ Ok (record { value = set_of tags; rest = [] })
 set_read [] text h = rw h refl
-set_read (t ∷ tags) text h = rw (h.2, h.3, many_read (length h.1) tags h.1 h.4 (stand_room tags h.1 [] h.4)) refl
+set_read (t ∷ tags) text h = rw (h.2, h.3, many_read (length h.1) tags h.1 h.4 (separated_room tags h.1 [] h.4)) refl
 
 -- the front before a rest of the line
 pub front_is : (line front rest : List ℕ) → line ≡ front ++ rest → front_before line rest ≡ front
@@ -169,7 +169,8 @@ read_series_are_parsed dialect line l e =
     let parts = answer_parts dialect line l e in
     let tags = some_tags l.tags in
     let m = name_cut a_measurement line l.measurement parts.measurement_rest parts.measurement in
-    let set = stand_cut tags parts.measurement_rest parts.tags_rest (set_stands parts.measurement_rest parts.tags_rest l.tags parts.tags) in
+    let set = separated_cut tags parts.measurement_rest parts.tags_rest
+    (set_separated parts.measurement_rest parts.tags_rest l.tags parts.tags) in
     let whole : line ≡ (m.front ++ set.front) ++ parts.tags_rest =
     m.is ∙ ap (λ (r : List ℕ). m.front ++ r) set.is ∙ sym (append_assoc m.front set.front parts.tags_rest) in
     let series : l.series ≡ m.front ++ set.front = parts.series ∙ front_is line (m.front ++ set.front) parts.tags_rest whole in
@@ -177,7 +178,7 @@ read_series_are_parsed dialect line l e =
       after = set.front;
       set = set_of tags;
       measurement_is = m.again set.front parts.tags_rest set.is;
-      set_is = set_read tags set.front set.stand;
+      set_is = set_read tags set.front set.separated;
       tags_are = set_tags tags;
     } in (
       subst (λ (s : List ℕ). IsParsedSeries s l.measurement tags) (sym series) parsed,

@@ -115,7 +115,7 @@ record FirstNever (kind : NameKind) (n : List ℕ) : Type 0 where
   may : list_all (may_hold kind) front ≡ true
   never : is_one_of (never_in kind) stop ≡ true
 
--- where not all bytes may stand alone there is one
+-- where not all bytes may be without a backslash there is one
 first_never : (kind : NameKind) (n : List ℕ) → list_all (may_hold kind) n ≡ false → FirstNever kind n
 first_never kind [] h = absurd (false≢true (sym h))
 first_never kind (b ∷ n) h =

@@ -287,7 +287,7 @@ module _ (dialect : Dialect) (text : List ℕ) where
       let f = (the_next_has_the_fault field (λ t. (field_no_longer t).holds) (after_spaces after) d).0 e in
       (Err d, fatal_field m tags after f.0 f.1 d h gap f.2 f.3)
   by_fields series m tags after is h gap (reads fields last) e =
-      let stand = (the_most_is_read field (λ t. (field_no_longer t).holds) (after_spaces after) fields last).0 e in
+      let separated = (the_most_is_read field (λ t. (field_no_longer t).holds) (after_spaces after) fields last).0 e in
       let rest = without_comma dialect fields last in
       by_stamp (λ t. record { series = series; measurement = m; tags = tags; fields = fields; timestamp = t }) rest
       (λ t. record {
@@ -296,7 +296,7 @@ module _ (dialect : Dialect) (text : List ℕ) where
         series_reads = h;
         gap = gap;
         after_fields = last;
-        fields_read = stand;
+        fields_read = separated;
         rest_is =
             refl;
       })

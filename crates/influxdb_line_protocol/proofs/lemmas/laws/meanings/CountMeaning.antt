@@ -5,7 +5,7 @@ use Rattle.influxdb_line_protocol.specs.format.Lines.{after_comma}
 use Rattle.influxdb_line_protocol.specs.code.Light.{one_and_after, many_count, read_count}
 use Rattle.influxdb_line_protocol.specs.laws.Meanings.{CountIsOfTheMost}
 use Rattle.influxdb_line_protocol.proofs.lemmas.laws.meanings.JoinedMeaning.{Chain, GivesNone, next, next_same}
-use Rattle.influxdb_line_protocol.proofs.lemmas.laws.meanings.JoinedMeaning.{after_shorter, whole_is, stand_most}
+use Rattle.influxdb_line_protocol.proofs.lemmas.laws.meanings.JoinedMeaning.{after_shorter, whole_is, longest}
 
 -- none is counted where none is read
 none_counted : {A : Type 0} (r : Reading A) (count : List ℕ → ℕ) → GivesNone r → one_and_after r count ≡ 0
@@ -41,4 +41,4 @@ module _ {A : Type 0} (one : List ℕ → Reading A)
   pub count_is_of_the_most : CountIsOfTheMost one
   count_is_of_the_most text =
       let w = whole_is one no_longer text in
-      (w.xs, w.rest, stand_most one no_longer text w.xs w.rest w.chain w.none, whole_counted text w.xs w.rest w.chain w.none)
+      (w.xs, w.rest, longest one no_longer text w.xs w.rest w.chain w.none, whole_counted text w.xs w.rest w.chain w.none)

@@ -195,16 +195,16 @@ module _ {A : Type 0} where
       (p.0, h.0, p.1, p.2, to_after one xs h.0 rest h.2)
 
   -- with the first
-  from_stand : (one : List ℕ → Reading A) (xs : List A) (text rest : List ℕ) → SeparatedBy one xs text rest
+  from_separated : (one : List ℕ → Reading A) (xs : List A) (text rest : List ℕ) → SeparatedBy one xs text rest
       → Chain one (after_comma one) xs text rest
-  from_stand one [] text rest h = h
-  from_stand one (x ∷ xs) text rest h = (h.0, h.1, from_after one xs h.0 rest h.2)
+  from_separated one [] text rest h = h
+  from_separated one (x ∷ xs) text rest h = (h.0, h.1, from_after one xs h.0 rest h.2)
 
   -- and back
-  to_stand : (one : List ℕ → Reading A) (xs : List A) (text rest : List ℕ)
+  to_separated : (one : List ℕ → Reading A) (xs : List A) (text rest : List ℕ)
       → Chain one (after_comma one) xs text rest → SeparatedBy one xs text rest
-  to_stand one [] text rest h = h
-  to_stand one (x ∷ xs) text rest h = (h.0, h.1, to_after one xs h.0 rest h.2)
+  to_separated one [] text rest h = h
+  to_separated one (x ∷ xs) text rest h = (h.0, h.1, to_after one xs h.0 rest h.2)
 
   -- the two ways to say that the next has a fault
   from_fault : (one : List ℕ → Reading A) (xs : List A) (rest : List ℕ) (e : Fault) → NextHasFault one xs rest e
@@ -222,8 +222,8 @@ module _ {A : Type 0} where
   none_after_most : (one : List ℕ → Reading A) (text : List ℕ) (xs : List A) (rest : List ℕ) → LongestList one text xs rest
       → GivesNone (next one (after_comma one) xs rest)
   none_after_most one text xs rest h y after e =
-      let pushed = chain_push one (after_comma one) xs text rest y after (from_stand one xs text rest h.stand) e in
-      let fits = h.most (xs ++ y ∷ []) after (to_stand one (xs ++ y ∷ []) text after pushed) in
+      let pushed = chain_push one (after_comma one) xs text rest y after (from_separated one xs text rest h.separated) e in
+      let fits = h.most (xs ++ y ∷ []) after (to_separated one (xs ++ y ∷ []) text after pushed) in
       absurd (omega (arith, length-append xs (y ∷ [])))
 
   -- a reading that gives none and has no fault misses
@@ -268,14 +268,14 @@ module _ {A : Type 0} where
         subst (λ (ys : List A). separated_list one text ≡ outcome ys rest (next one (after_comma one) ys rest)) same.0
         (subst (λ (t : List ℕ). separated_list one text ≡ outcome w.xs t (next one (after_comma one) w.xs t)) same.1 w.ends)
 
-    -- they are there, and no more do
-    pub stand_most : (text : List ℕ) (xs : List A) (rest : List ℕ) → Chain one (after_comma one) xs text rest
+    -- they are there, and no more are
+    pub longest : (text : List ℕ) (xs : List A) (rest : List ℕ) → Chain one (after_comma one) xs text rest
         → GivesNone (next one (after_comma one) xs rest) → LongestList one text xs rest
-    stand_most text xs rest h none =
+    longest text xs rest h none =
         record {
-          stand = to_stand one xs text rest h;
+          separated = to_separated one xs text rest h;
           most = λ others suffix k. chain_most one (after_comma one) xs others text rest suffix h
-              (from_stand one others text suffix k) none;
+              (from_separated one others text suffix k) none;
         }
 
     in_full : (text : List ℕ) (xs : List A) (rest : List ℕ) → separated_list one text ≡ reads xs rest → WholeList one text xs rest
@@ -286,15 +286,15 @@ module _ {A : Type 0} where
         (subst (λ (t : List ℕ). WholeList one text w.xs t) p.1
         (record {
           some = p.2;
-          stand_most = stand_most text w.xs w.rest w.chain w.none;
+          longest = longest text w.xs w.rest w.chain w.none;
           no_fault = λ f k. let d = sym p.3 ∙ from_fault one w.xs w.rest f k in cc;
         }))
 
     full_is_read : (text : List ℕ) (xs : List A) (rest : List ℕ) → WholeList one text xs rest → separated_list one text ≡ reads xs rest
     full_is_read text xs rest h =
-        let none = none_after_most one text xs rest h.stand_most in
+        let none = none_after_most one text xs rest h.longest in
         let last = misses (next one (after_comma one) xs rest) none (λ f k. h.no_fault f (to_fault one xs rest f k)) in
-        read_is text xs rest (from_stand one xs text rest h.stand_most.stand) none ∙ ap (outcome xs rest) last
+        read_is text xs rest (from_separated one xs text rest h.longest.separated) none ∙ ap (outcome xs rest) last
         ∙ outcome_is_reads xs rest h.some
 
     pub the_most_is_read : TheMostIsRead one
@@ -303,7 +303,7 @@ module _ {A : Type 0} where
     fault_is : (text : List ℕ) (e : Fault) (xs : List A) (rest : List ℕ) → LongestList one text xs rest
         → NextHasFault one xs rest e → separated_list one text ≡ fatal e
     fault_is text e xs rest h k =
-        read_is text xs rest (from_stand one xs text rest h.stand) (none_after_most one text xs rest h)
+        read_is text xs rest (from_separated one xs text rest h.separated) (none_after_most one text xs rest h)
         ∙ ap (outcome xs rest) (from_fault one xs rest e k) ∙ outcome_is_fatal xs rest e
 
     pub the_next_has_the_fault : TheNextHasTheFault one
@@ -311,7 +311,7 @@ module _ {A : Type 0} where
       (λ h.
           let w = whole_is text in
           let last = outcome_fatal w.xs w.rest (next one (after_comma one) w.xs w.rest) e (sym w.ends ∙ h) in
-          (w.xs, w.rest, stand_most text w.xs w.rest w.chain w.none, to_fault one w.xs w.rest e last)),
+          (w.xs, w.rest, longest text w.xs w.rest w.chain w.none, to_fault one w.xs w.rest e last)),
       (λ h. fault_is text e h.0 h.1 h.2 h.3),
     )
 

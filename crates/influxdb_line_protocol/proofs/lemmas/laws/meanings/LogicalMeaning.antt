@@ -36,37 +36,37 @@ logical_is_unique known _ _ (other c s l is more) =
 logical_is_unique known _ _ end = sym (without_escapes_end known 92)
 
 -- what begins with a backslash and another byte, from what follows them
-stands_escaped : (known : List ℕ) (c : ℕ) (rest : List ℕ) → IsLogical known rest (without_escapes known rest)
+logical_escaped : (known : List ℕ) (c : ℕ) (rest : List ℕ) → IsLogical known rest (without_escapes known rest)
     → IsLogical known (92 ∷ c ∷ rest) (without_escapes known (92 ∷ c ∷ rest))
-stands_escaped known c rest more =
+logical_escaped known c rest more =
     elim (cases_Bool (is_one_of known c)) [
       | inl is ↦ subst (IsLogical known (92 ∷ c ∷ rest)) (sym (without_escapes_known known c rest is)) (escape c rest _ is more)
       | inr is ↦ subst (IsLogical known (92 ∷ c ∷ rest)) (sym (without_escapes_other known c rest is)) (other c rest _ is more)
     ]
 
 -- what begins with another byte, from what follows it
-stands_plain : (known : List ℕ) (b : ℕ) (rest : List ℕ) → b ≢ 92 → IsLogical known rest (without_escapes known rest)
+logical_plain : (known : List ℕ) (b : ℕ) (rest : List ℕ) → b ≢ 92 → IsLogical known rest (without_escapes known rest)
     → IsLogical known (b ∷ rest) (without_escapes known (b ∷ rest))
-stands_plain known b rest differs more =
+logical_plain known b rest differs more =
     subst (IsLogical known (b ∷ rest)) (sym (without_escapes_plain_byte known b rest differs)) (plain b rest _ differs more)
 
 -- the text without escapes is a logical text
-pub stands_for_it : (known : List ℕ) (spelled : List ℕ) → IsLogical known spelled (without_escapes known spelled)
-stands_for_it known [] = subst (IsLogical known []) (sym (without_escapes_empty known)) empty
-stands_for_it known (b ∷ []) =
+pub has_logical : (known : List ℕ) (spelled : List ℕ) → IsLogical known spelled (without_escapes known spelled)
+has_logical known [] = subst (IsLogical known []) (sym (without_escapes_empty known)) empty
+has_logical known (b ∷ []) =
     elim (cases_Bool (b == 92)) [
       | inl e ↦ rw (eqb-true b 92 e) (subst (IsLogical known (92 ∷ [])) (sym (without_escapes_end known 92)) end)
-      | inr e ↦ stands_plain known b [] (eqb-false b 92 e) (stands_for_it known [])
+      | inr e ↦ logical_plain known b [] (eqb-false b 92 e) (has_logical known [])
     ]
-stands_for_it known (b ∷ c ∷ rest) =
+has_logical known (b ∷ c ∷ rest) =
     elim (cases_Bool (b == 92)) [
-      | inl e ↦ rw (eqb-true b 92 e) (stands_escaped known c rest (stands_for_it known rest))
-      | inr e ↦ stands_plain known b (c ∷ rest) (eqb-false b 92 e) (stands_for_it known (c ∷ rest))
+      | inl e ↦ rw (eqb-true b 92 e) (logical_escaped known c rest (has_logical known rest))
+      | inr e ↦ logical_plain known b (c ∷ rest) (eqb-false b 92 e) (has_logical known (c ∷ rest))
     ]
 
 -- so it has exactly that one
 pub logical_is : (known spelled logical : List ℕ) → IsLogical known spelled logical ↔ (logical ≡ without_escapes known spelled)
 logical_is known spelled logical = (
   logical_is_unique known spelled logical,
-  (λ e. subst (IsLogical known spelled) (sym e) (stands_for_it known spelled)),
+  (λ e. subst (IsLogical known spelled) (sym e) (has_logical known spelled)),
 )

@@ -19,14 +19,14 @@ record Step (text : List ℕ) (n : ℕ) (word : List ℕ) (m : ℕ) : Type 0 whe
   one : (m ≡ n) ⊎ (word ≡ take m text)
 
 -- a word at the start of the text
-stands : (text word : List ℕ) → starts_with eqb text word ≡ true → word ≡ take (length word) text
-stands text word h =
+starts : (text word : List ℕ) → starts_with eqb text word ≡ true → word ≡ take (length word) text
+starts text word h =
     let is = (starts_is Decides-eqb text word (starts_with eqb text word) refl).0 h in
     sym (ap (take (length word)) is ∙ take_at word (drop (length word) text) (length word) refl)
 
--- and one that does not
-stands_not : (text word : List ℕ) (k : ℕ) → k ≤ length text → starts_with eqb text word ≡ false → word ≡ take k text → ⊥
-stands_not text word k fits h e =
+-- and one that is not there
+starts_not : (text word : List ℕ) (k : ℕ) → k ≤ length text → starts_with eqb text word ≡ false → word ≡ take k text → ⊥
+starts_not text word k fits h e =
     let is : text ≡ word ++ drop k text = sym (take-append-drop k text) ∙ ap (λ (w : List ℕ). w ++ drop k text) (sym e) in
     both_ways (starts_with eqb text word) h ((starts_is Decides-eqb text word (starts_with eqb text word) refl).1 (drop k text) is)
 
@@ -38,7 +38,7 @@ step_is text n word =
         | inl longer ↦ rw (here, longer) (record {
           more = let less = ltb-true n (length word) longer in omega arith;
           front = λ k fits e. omega (arith, ap length e, length-take-le k text fits);
-          one = inr (stands text word here);
+          one = inr (starts text word here);
         })
         | inr short ↦ rw (here, short) (record {
           more = omega arith;
@@ -47,7 +47,7 @@ step_is text n word =
         })
       ]
       | inr other ↦
-          rw other (record { more = omega arith; front = λ k fits e. absurd (stands_not text word k fits other e); one = inl refl })
+          rw other (record { more = omega arith; front = λ k fits e. absurd (starts_not text word k fits other e); one = inl refl })
     ]
 
 -- what is known of the longest of a front and words

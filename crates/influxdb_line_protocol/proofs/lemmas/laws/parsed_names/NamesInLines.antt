@@ -17,7 +17,7 @@ use Rattle.influxdb_line_protocol.specs.format.Pieces.{IsLastPiece, Pieces.last,
 use Rattle.influxdb_line_protocol.specs.format.Lines.{Line, tag, field, tag_set, field_set, front_before, answer}
 use Rattle.influxdb_line_protocol.specs.format.Items.{HasAnswers, answers_of_piece}
 use Rattle.influxdb_line_protocol.specs.laws.NamesOfLines.{IsParsedName}
-use Rattle.influxdb_line_protocol.specs.laws.Laws.{ParsedNamesStandInLines}
+use Rattle.influxdb_line_protocol.specs.laws.Laws.{ParsedNamesAreInLines}
 use Rattle.influxdb_line_protocol.proofs.lemmas.split.SplitBare.{is_escaped-push_other}
 use Rattle.influxdb_line_protocol.proofs.lemmas.split.SplitWalk.{Plain-equals}
 use Rattle.influxdb_line_protocol.proofs.lemmas.laws.batch_reads_back.Reaches.{Reaches, reaches_start}
@@ -146,9 +146,9 @@ module _ {m k v f m' k' v' f' : List ℕ} (first : Spelled a_measurement m' m) (
       refl
 
   -- and its only one
-  stands : (dialect : Dialect) → HasAnswers dialect (whole m k v f) (Ok (line_of m k v f) ∷ [])
+  only_answer : (dialect : Dialect) → HasAnswers dialect (whole m k v f) (Ok (line_of m k v f) ∷ [])
   unfolding answers_of_piece
-  stands dialect =
+  only_answer dialect =
       record {
         pieces = whole m k v f ∷ [];
         are = last (whole m k v f) (last_piece dialect (whole m k v f) (line_no_comment (whole m k v f) begins) reaches_end);
@@ -181,40 +181,40 @@ whole_utf8 {m = m} {k = k} {v = v} {f = f} a b c d =
     IsUtf8-append m (44 ∷ from_key k v f) a (utf8_push 44 (from_key k v f) (omega arith) from_k)
 
 -- each parsed name, in the line whose other names are one letter
-pub parsed_names_stand_in_lines : ParsedNamesStandInLines
-parsed_names_stand_in_lines dialect a_measurement n h =
+pub parsed_names_are_in_lines : ParsedNamesAreInLines
+parsed_names_are_in_lines dialect a_measurement n h =
     let s = has_spelling a_measurement n h in
     let x : List ℕ = 120 ∷ [] in (
       whole s.0 x x x,
       line_of s.0 x x x,
-      stands s.1 h.begins (letter a_tag_key) (letter a_tag_value) (letter a_field_key) dialect,
+      only_answer s.1 h.begins (letter a_tag_key) (letter a_tag_value) (letter a_field_key) dialect,
       one_element _ n (spelled_logical s.1.spelled),
       λ u. whole_utf8 (spelling_utf8 s.1.spelled u) x_utf8 x_utf8 x_utf8,
     )
-parsed_names_stand_in_lines dialect a_tag_key n h =
+parsed_names_are_in_lines dialect a_tag_key n h =
     let s = has_spelling a_tag_key n h in
     let x : List ℕ = 120 ∷ [] in (
       whole x s.0 x x,
       line_of x s.0 x x,
-      stands (letter a_measurement) (omega arith) s.1 (letter a_tag_value) (letter a_field_key) dialect,
+      only_answer (letter a_measurement) (omega arith) s.1 (letter a_tag_value) (letter a_field_key) dialect,
       one_element _ n (spelled_logical s.1.spelled),
       λ u. whole_utf8 x_utf8 (spelling_utf8 s.1.spelled u) x_utf8 x_utf8,
     )
-parsed_names_stand_in_lines dialect a_tag_value n h =
+parsed_names_are_in_lines dialect a_tag_value n h =
     let s = has_spelling a_tag_value n h in
     let x : List ℕ = 120 ∷ [] in (
       whole x x s.0 x,
       line_of x x s.0 x,
-      stands (letter a_measurement) (omega arith) (letter a_tag_key) s.1 (letter a_field_key) dialect,
+      only_answer (letter a_measurement) (omega arith) (letter a_tag_key) s.1 (letter a_field_key) dialect,
       one_element _ n (spelled_logical s.1.spelled),
       λ u. whole_utf8 x_utf8 x_utf8 (spelling_utf8 s.1.spelled u) x_utf8,
     )
-parsed_names_stand_in_lines dialect a_field_key n h =
+parsed_names_are_in_lines dialect a_field_key n h =
     let s = has_spelling a_field_key n h in
     let x : List ℕ = 120 ∷ [] in (
       whole x x x s.0,
       line_of x x x s.0,
-      stands (letter a_measurement) (omega arith) (letter a_tag_key) (letter a_tag_value) s.1 dialect,
+      only_answer (letter a_measurement) (omega arith) (letter a_tag_key) (letter a_tag_value) s.1 dialect,
       one_element _ n (spelled_logical s.1.spelled),
       λ u. whole_utf8 x_utf8 x_utf8 x_utf8 (spelling_utf8 s.1.spelled u),
     )

@@ -8,7 +8,7 @@ use Rattle.std.proofs.lemmas.List.Elements.{All-head, All-tail}
 use Rattle.influxdb_line_protocol.specs.declared.split.Dialect.{Dialect}
 use Rattle.influxdb_line_protocol.specs.declared.split.Dialect.TheVariants.{Strict}
 use Rattle.influxdb_line_protocol.specs.format.Items.{answers_of, answers_of_piece}
-use Rattle.influxdb_line_protocol.specs.laws.Laws.{CommentsStandAlone}
+use Rattle.influxdb_line_protocol.specs.laws.Laws.{CommentTextIsIgnored}
 use Rattle.influxdb_line_protocol.specs.format.Lines.{Line}
 use Rattle.influxdb_line_protocol.specs.format.Pieces.{begins_comment, IsComment}
 use Rattle.influxdb_line_protocol.specs.format.Readings.{Fault}
@@ -65,8 +65,8 @@ answers_without dialect before piece after none =
     ∙ ap (λ (l : List (Result Line Fault)). answers_of dialect before ++ (l ++ answers_of dialect after)) none
 
 -- other bytes after the `#` of a comment leave the other pieces and all answers as they are
-pub comments_stand_alone : CommentsStandAlone
-comments_stand_alone front old new before after text answers f n h k =
+pub comment_text_is_ignored : CommentTextIsIgnored
+comment_text_is_ignored front old new before after text answers f n h k =
     let other = comment_replaced before front old new after text f n h in
     let was = piece_is_comment before (front ++ old) after text (begins_comment-append front old f) h in
     let now = piece_is_comment before (front ++ new) after other.0 (begins_comment-append front new f) other.1 in (
