@@ -263,7 +263,8 @@ fn is_long_false(bytes: &[u8]) -> bool
 // Whether a word for true may begin with the first of `bytes`.
 #[inline(always)]
 fn begins_true(bytes: &[u8]) -> bool
-    ensures { result ≡ is_one_of (codes "tT") (slice_index bytes.now 0) }
+    ensures value { result ≡ is_one_of (codes "tT") (slice_index bytes.now 0) }
+    ensures ascii { result ≡ true → (0 < length bytes.now) × (slice_index bytes.now 0 < 128) }
 {
     matches!(bytes, [b't' | b'T', ..])
 }
@@ -271,7 +272,8 @@ fn begins_true(bytes: &[u8]) -> bool
 // Whether a word for false may begin with the first of `bytes`.
 #[inline(always)]
 fn begins_false(bytes: &[u8]) -> bool
-    ensures { result ≡ is_one_of (codes "fF") (slice_index bytes.now 0) }
+    ensures value { result ≡ is_one_of (codes "fF") (slice_index bytes.now 0) }
+    ensures ascii { result ≡ true → (0 < length bytes.now) × (slice_index bytes.now 0 < 128) }
 {
     matches!(bytes, [b'f' | b'F', ..])
 }

@@ -10,7 +10,7 @@ use Rattle.influxdb_line_protocol.specs.format.Readings.{Fault, measurement_valu
 use Rattle.influxdb_line_protocol.specs.format.Readings.{tag_set_malformed, take_while1, timestamp_value_invalid}
 use Rattle.influxdb_line_protocol.specs.format.Readings.{cannot_parse_entire_line, Text, Read, Reading, miss, fatal, reads}
 use Rattle.influxdb_line_protocol.specs.format.Readings.{◌>>=◌, or_fault}
-use Rattle.influxdb_line_protocol.specs.format.Names.{a_measurement, a_tag_key, a_tag_value, a_field_key, name}
+use Rattle.influxdb_line_protocol.specs.format.Names.{NameKind, a_measurement, a_tag_key, a_tag_value, a_field_key, name}
 use Rattle.influxdb_line_protocol.specs.format.Values.{Value, integer, unsigned, float, string, boolean, value}
 use Rattle.influxdb_line_protocol.specs.format.Values.{integer_len, fits_i64, side_of}
 use Rattle.influxdb_line_protocol.specs.format.Points.{Pair, Point}
@@ -59,21 +59,21 @@ abbrev pub byte : ℕ → List ℕ → Reading ℕ
 byte b [] = miss
 byte b (c ∷ rest) = if c == b then reads b rest else miss
 
+-- a key of this kind, an equals sign and such a value
+abbrev pub key_value : {V : Type 0} → NameKind → (List ℕ → Reading V) → List ℕ → Reading (Pair Text V)
+key_value kind part line = do
+  key ← name kind line
+  after ← byte equals key.rest
+  x ← part after.rest
+  reads (record { key = key.value; value = x.value }) x.rest
+
 -- a tag
 unfoldable pub tag : List ℕ → Reading (Pair Text Text)
-tag line = do
-  key ← name a_tag_key line
-  after ← byte equals key.rest
-  x ← name a_tag_value after.rest
-  reads (record { key = key.value; value = x.value }) x.rest
+tag line = key_value a_tag_key (name a_tag_value) line
 
 -- a field
 unfoldable pub field : List ℕ → Reading (Pair Text (Value Text))
-field line = do
-  key ← name a_field_key line
-  after ← byte equals key.rest
-  x ← value after.rest
-  reads (record { key = key.value; value = x.value }) x.rest
+field line = key_value a_field_key value line
 
 -- a comma, and what comes after it
 abbrev pub after_comma : {A : Type 0} → (List ℕ → Reading A) → List ℕ → Reading A

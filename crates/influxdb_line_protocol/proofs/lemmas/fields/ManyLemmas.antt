@@ -177,48 +177,45 @@ module _ {A : Type 0} (is_single : A → Bool) (one : List ℕ → Reading A)
   next_is rest place mark = rw mark refl
 
   -- one more is read where it may be
-  pub reached_more : (text : List ℕ) (done : List A) (rest place after : List ℕ) (y : A)
+  pub reached_more : {text : List ℕ} {done : List A} {rest place : List ℕ} (after : List ℕ) (y : A)
       → Reached one text done rest place → one place ≡ reads y after
       → length after < length place → SoFar one text (done ++ y ∷ []) after
-  reached_more text done rest place after y (inl first) e less = rw first.0 (so_far_start y text after (rw first.1 at e))
-  reached_more text done rest place after y (inr more) e less =
+  reached_more {text} {done} {rest} {place} after y (inl first) e less = rw first.0 (so_far_start y text after (rw first.1 at e))
+  reached_more {text} {done} {rest} {place} after y (inr more) e less =
       let ends = byte_ends 44 rest 44 place more.mark in
       so_far_more text done rest after y more.so_far (next_is rest place more.mark ∙ e)
       (omega (arith, ap length ends.is, length-append ends.front place))
 
   -- what is fatal where the next one may be is fatal for all
-  pub reached_fatal : (text : List ℕ) (done : List A) (rest place : List ℕ) (e : Fault)
+  pub reached_fatal : {text : List ℕ} {done : List A} {rest place : List ℕ} (e : Fault)
       → Reached one text done rest place → one place ≡ fatal e → separated_list one text ≡ fatal e
-  reached_fatal text done rest place e (inl first) found = rw (rw first.1 at found) refl
-  reached_fatal text done rest place e (inr more) found = so_far_fatal text done rest e more.so_far (next_is rest place more.mark ∙ found)
+  reached_fatal {text} {done} {rest} {place} e (inl first) found = rw (rw first.1 at found) refl
+  reached_fatal {text} {done} {rest} {place} e (inr more) found =
+      so_far_fatal text done rest e more.so_far (next_is rest place more.mark ∙ found)
 
   -- what is read where the next one may be needs memory
-  pub reached_needs : (room : ℕ) (text : List ℕ) (done : List A) (rest place : List ℕ)
+  pub reached_needs : {text : List ℕ} {done : List A} {rest place : List ℕ} (room : ℕ)
       → Reached one text done rest place → NeedsMemory is_single (one place) → SetNeedsMemory room is_single one text
-  reached_needs room text done rest place (inl first) needs = first_needs room text (rw first.1 at needs)
-  reached_needs room text done rest place (inr more) needs = next_needs room text done rest more.so_far
+  reached_needs {text} {done} {rest} {place} room (inl first) needs = first_needs room text (rw first.1 at needs)
+  reached_needs {text} {done} {rest} {place} room (inr more) needs = next_needs room text done rest more.so_far
       (rw (next_is rest place more.mark) needs)
 
-  -- nothing is read where the next one may be: of the first, there is none; else these are all
-  pub reached_none : (text : List ℕ) (done : List A) (rest place : List ℕ) → Reached one text done rest place
-      → one place ≡ miss → length done ≡ 0 → separated_list one text ≡ miss
-  reached_none text done rest place (inl first) e none = rw (rw first.1 at e) refl
-  reached_none text done rest place (inr more) e none = absurd (let some = more.some in omega arith)
-
-  pub reached_all : (text : List ℕ) (done : List A) (rest place : List ℕ) → Reached one text done rest place
+  -- nothing is read where the next one may be: these are all
+  pub reached_all : {text : List ℕ} {done : List A} {rest place : List ℕ} → Reached one text done rest place
       → one place ≡ miss → 0 < length done → separated_list one text ≡ reads done rest
-  reached_all text done rest place (inl first) e some = absurd (let none = ap length first.0 in omega arith)
-  reached_all text done rest place (inr more) e some = so_far_end text done rest more.so_far (next_is rest place more.mark ∙ e)
+  reached_all {text} {done} {rest} {place} (inl first) e some = absurd (let none = ap length first.0 in omega arith)
+  reached_all {text} {done} {rest} {place} (inr more) e some = so_far_end text done rest more.so_far (next_is rest place more.mark ∙ e)
 
   -- where no comma comes after them, these are all
-  pub last_read : (text : List ℕ) (done : List A) (rest : List ℕ) → SoFar one text done rest
+  pub last_read : {text : List ℕ} {done : List A} {rest : List ℕ} → SoFar one text done rest
       → byte comma rest ≡ miss → separated_list one text ≡ reads done rest
-  last_read text done rest so_far none = so_far_end text done rest so_far (rw none refl)
+  last_read {text} {done} {rest} so_far none = so_far_end text done rest so_far (rw none refl)
 
   -- there is one more than there is room for
-  pub more_than_room : (room : ℕ) (text : List ℕ) (done : List A) (rest : List ℕ) → SoFar one text done rest
+  pub more_than_room : {text : List ℕ} {done : List A} {rest : List ℕ} (room : ℕ) → SoFar one text done rest
       → room < length done → SetNeedsMemory room is_single one text
-  more_than_room room text done rest so_far over = inl (lt-leb (read_count one text) room (let counted = so_far.counted in omega arith))
+  more_than_room {text} {done} {rest} room so_far over =
+      inl (lt-leb (read_count one text) room (let counted = so_far.counted in omega arith))
 
   -- what is after as many as are at the start ends the text
   onto_reads : (xs : List A) (r : Reading (List A)) (ys : List A) (rest : List ℕ) → prepend xs r ≡ reads ys rest

@@ -1,25 +1,24 @@
 -- What comes after a reading ends the text, and a copy is read from a text with a backslash.
 use Rattle.std.proofs.Common.{◌≡◌, ℕ, ◌+◌, List, [], ◌∷◌, ◌++◌, length, take, drop, Bool, true, false, not, ◌&&◌, inl}
 use Rattle.std.proofs.Common.{inr, sym, ◌∙◌, ap, refl, append_assoc}
-use Rattle.std.specs.Prelude.{◌==◌, ◌^◌, ◌⊎◌, slice_index, nat_lt, Result, Ok, Err}
+use Rattle.std.specs.Prelude.{if◌then◌else◌, ◌==◌, ◌⊎◌, nat_lt, Result, Ok, Err}
 use Rattle.std.specs.Result.{IsErrAnd}
 use Rattle.influxdb_line_protocol.specs.declared.error.Error.{Error}
 use Rattle.influxdb_line_protocol.specs.declared.error.Error.TheVariants.{OutOfMemory}
-use Rattle.std.specs.Str.Parse.{signed_digits_value, digits_value}
 use Rattle.std.specs.List.{list_any}
 use Rattle.std.proofs.lemmas.Bool.{cases_Bool, or_right, or_parts, eqb-true}
 use Rattle.std.proofs.lemmas.List.{take-append-drop}
 use Rattle.influxdb_line_protocol.specs.format.Bytes.{is_one_of}
-use Rattle.influxdb_line_protocol.specs.format.Readings.{Text, Read, Reading, miss, fatal, reads, ◌>>=◌, ◌otherwise◌}
+use Rattle.influxdb_line_protocol.specs.format.Readings.{Fault, Text, Read, Reading, miss, fatal, reads, ◌>>=◌, ◌otherwise◌}
 use Rattle.influxdb_line_protocol.specs.format.Names.{NameKind, name, a_tag_key, a_tag_value, a_field_key, escapable, spelled}
 use Rattle.influxdb_line_protocol.specs.format.Names.{spelled_len, read_text, is_shared, is_one_escape, ends_in_backslash}
 use Rattle.influxdb_line_protocol.specs.format.Names.{logical}
-use Rattle.influxdb_line_protocol.specs.format.Values.{Value, integer, unsigned, float, string, boolean, value, integer_at}
-use Rattle.influxdb_line_protocol.specs.format.Values.{unsigned_at, float_at, string_at, boolean_at, integer_len, digits_len}
-use Rattle.influxdb_line_protocol.specs.format.Values.{float_len, body_len, word_len, fits_i64, quotable, true_words}
+use Rattle.influxdb_line_protocol.specs.format.Values.{Value, float, string, boolean, value, integer_at}
+use Rattle.influxdb_line_protocol.specs.format.Values.{unsigned_at, float_at, string_at, boolean_at}
+use Rattle.influxdb_line_protocol.specs.format.Values.{float_len, body_len, word_len, quotable, true_words}
 use Rattle.influxdb_line_protocol.specs.format.Values.{false_words}
 use Rattle.influxdb_line_protocol.specs.format.Points.{Pair}
-use Rattle.influxdb_line_protocol.specs.format.Lines.{byte, tag, field, after_comma}
+use Rattle.influxdb_line_protocol.specs.format.Lines.{byte, key_value, tag, field, after_comma}
 use Rattle.influxdb_line_protocol.specs.code.Light.{is_single_tag, is_single_field, is_single_value}
 use Rattle.influxdb_line_protocol.specs.code.Sets.{HasBackslash}
 
@@ -125,13 +124,13 @@ byte_parts b (c ∷ cs) x rest e =
 pub byte_ends : (b : ℕ) (text : List ℕ) (x : ℕ) (rest : List ℕ) → byte b text ≡ reads x rest → EndsIn text rest
 byte_ends b text x rest e = record { front = b ∷ []; is = (byte_parts b text x rest e).1 }
 
--- what is known of a value that is read
-pub record ValueRead (text : List ℕ) (v : Value Text) (rest : List ℕ) : Type 0 where
+-- what is known of a tag, a field or a value that is read
+pub record PairRead {A : Type 0} (is_single : A → Bool) (text : List ℕ) (x : A) (rest : List ℕ) : Type 0 where
   pub ends : EndsIn text rest
-  pub copied : is_single_value v ≡ false → HasBackslash text
+  pub copied : is_single x ≡ false → HasBackslash text
 
 single_read : (text : List ℕ) (v : Value Text) (n : ℕ) (w : Value Text) (rest : List ℕ) → is_single_value v ≡ true
-    → reads v (drop n text) ≡ reads w rest → ValueRead text w rest
+    → reads v (drop n text) ≡ reads w rest → PairRead is_single_value text w rest
 single_read text v n w rest single e =
     let parts = reads_parts v w (drop n text) rest e in
     record {
@@ -139,31 +138,23 @@ single_read text v n w rest single e =
       copied = λ h. absurd (let same : is_single_value v ≡ is_single_value w = ap is_single_value parts.0 in cc);
     }
 
-integer_read : (text : List ℕ) (v : Value Text) (rest : List ℕ) → integer_at text ≡ reads v rest → ValueRead text v rest
+-- a number that fits is read, where its mark is there
+number_read : (text : List ℕ) (v : Value Text) (rest : List ℕ) (marked fits : Bool) (w : Value Text) (n : ℕ) (fault : Fault)
+    → is_single_value w ≡ true → (if marked then if fits then reads w (drop n text) else fatal fault else miss) ≡ reads v rest
+    → PairRead is_single_value text v rest
+number_read text v rest true true w n fault single e = single_read text w n v rest single e
+number_read text v rest true false w n fault single e = absurd (cc)
+number_read text v rest false fits w n fault single e = absurd (cc)
+
+integer_read : (text : List ℕ) (v : Value Text) (rest : List ℕ) → integer_at text ≡ reads v rest → PairRead is_single_value text v rest
 unfolding integer_at
-integer_read text v rest e =
-    elim (cases_Bool (not (integer_len text == 0) && slice_index text (integer_len text) == 105)) [
-      | inl marked ↦ elim (cases_Bool (fits_i64 (signed_digits_value 10 (take (integer_len text) text)))) [
-        | inl fits ↦ single_read text (integer (signed_digits_value 10 (take (integer_len text) text)))
-            (integer_len text + 1) v rest refl (rw (marked, fits) at e)
-        | inr out ↦ absurd (let m = rw (marked, out) at e in cc)
-      ]
-      | inr other ↦ absurd (let m = rw other at e in cc)
-    ]
+integer_read text v rest e = number_read text v rest _ _ _ _ _ refl e
 
-unsigned_read : (text : List ℕ) (v : Value Text) (rest : List ℕ) → unsigned_at text ≡ reads v rest → ValueRead text v rest
+unsigned_read : (text : List ℕ) (v : Value Text) (rest : List ℕ) → unsigned_at text ≡ reads v rest → PairRead is_single_value text v rest
 unfolding unsigned_at
-unsigned_read text v rest e =
-    elim (cases_Bool (not (digits_len text == 0) && slice_index text (digits_len text) == 117)) [
-      | inl marked ↦ elim (cases_Bool (nat_lt (digits_value 10 (take (digits_len text) text)) (2 ^ 64))) [
-        | inl fits ↦ single_read text (unsigned (digits_value 10 (take (digits_len text) text)))
-            (digits_len text + 1) v rest refl (rw (marked, fits) at e)
-        | inr out ↦ absurd (let m = rw (marked, out) at e in cc)
-      ]
-      | inr other ↦ absurd (let m = rw other at e in cc)
-    ]
+unsigned_read text v rest e = number_read text v rest _ _ _ _ _ refl e
 
-float_read : (text : List ℕ) (v : Value Text) (rest : List ℕ) → float_at text ≡ reads v rest → ValueRead text v rest
+float_read : (text : List ℕ) (v : Value Text) (rest : List ℕ) → float_at text ≡ reads v rest → PairRead is_single_value text v rest
 unfolding float_at
 float_read text v rest e =
     elim (cases_Bool (float_len text == 0)) [
@@ -172,7 +163,7 @@ float_read text v rest e =
     ]
 
 boolean_read : (b : Bool) (words : List (List ℕ)) (text : List ℕ) (v : Value Text) (rest : List ℕ)
-    → boolean_at b words text ≡ reads v rest → ValueRead text v rest
+    → boolean_at b words text ≡ reads v rest → PairRead is_single_value text v rest
 unfolding boolean_at
 boolean_read b words text v rest e =
     elim (cases_Bool (word_len words text == 0)) [
@@ -180,7 +171,7 @@ boolean_read b words text v rest e =
       | inr some ↦ single_read text (boolean b) (word_len words text) v rest refl (rw some at e)
     ]
 
-string_read : (text : List ℕ) (v : Value Text) (rest : List ℕ) → string_at text ≡ reads v rest → ValueRead text v rest
+string_read : (text : List ℕ) (v : Value Text) (rest : List ℕ) → string_at text ≡ reads v rest → PairRead is_single_value text v rest
 unfolding string_at
 string_read [] v rest e = absurd (cc)
 string_read (b ∷ after) v rest e =
@@ -205,7 +196,7 @@ either_reads miss s x rest e = inr e
 either_reads (fatal fault) s x rest e = absurd (cc)
 either_reads (reads y end) s x rest e = inl e
 
-pub value_read : (text : List ℕ) (v : Value Text) (rest : List ℕ) → value text ≡ reads v rest → ValueRead text v rest
+pub value_read : (text : List ℕ) (v : Value Text) (rest : List ℕ) → value text ≡ reads v rest → PairRead is_single_value text v rest
 unfolding value
 value_read text v rest e = elim (either_reads _ _ v rest e) [
   | inr h ↦ boolean_read false false_words text v rest h
@@ -221,59 +212,46 @@ value_read text v rest e = elim (either_reads _ _ v rest e) [
   ]
 ]
 
--- what is known of a tag or a field that is read
-pub record PairRead {A : Type 0} (is_single : A → Bool) (text : List ℕ) (x : A) (rest : List ℕ) : Type 0 where
-  pub ends : EndsIn text rest
-  pub copied : is_single x ≡ false → HasBackslash text
-
 -- where neither part is a copy, the pair is not
-pair_copied : (a b c d : Bool) → a ≡ c → b ≡ d → (a && b) ≡ false → (c ≡ false) ⊎ (d ≡ false)
-pair_copied a b c d e f h = elim (cases_Bool c) [
-  | inr k ↦ inl k
-  | inl k ↦ inr (sym f ∙ (rw (e ∙ k) at h))
-]
+pair_copied : (c d : Bool) → (c && d) ≡ false → (c ≡ false) ⊎ (d ≡ false)
+pair_copied true d h = inr h
+pair_copied false d h = inl refl
+
+-- a pair that is read, where such values are
+pair_read : {V : Type 0} (kind : NameKind) (part : List ℕ → Reading V) (is_single : V → Bool)
+    → ((text : List ℕ) (v : V) (rest : List ℕ) → part text ≡ reads v rest → PairRead is_single text v rest)
+    → (text : List ℕ) (x : Pair Text V) (rest : List ℕ) → key_value kind part text ≡ reads x rest
+    → PairRead (λ p. p.key.is_single && is_single p.value) text x rest
+pair_read {V} kind part is_single read text x rest e =
+    let k = bind_reads (name kind text) _ x rest e in
+    let mark = bind_reads (byte 61 k.mid) _ x rest k.next in
+    let v = bind_reads (part mark.mid) _ x rest mark.next in
+    let pair : Pair Text V = record { key = k.first; value = v.first } in
+    let parts = reads_parts pair x v.mid rest v.next in
+    let key_ends = name_ends kind text k.first k.mid k.was in
+    let mark_ends = EndsIn-end text k.mid mark.mid key_ends (byte_ends 61 k.mid mark.first mark.mid mark.was) in
+    let value_is = read mark.mid v.first v.mid v.was in
+    record {
+      ends = rw parts.1 at (EndsIn-end text mark.mid v.mid mark_ends value_is.ends);
+      copied = λ h. elim (pair_copied k.first.is_single (is_single v.first)
+          (ap (λ (p : Pair Text V). p.key.is_single && is_single p.value) parts.0 ∙ h)) [
+            | inl key ↦ name_copied kind text k.first k.mid k.was key
+            | inr after ↦ backslash_at_end text mark.mid mark_ends (value_is.copied after)
+          ];
+    }
 
 pub tag_read : (text : List ℕ) (x : Pair Text Text) (rest : List ℕ) → tag text ≡ reads x rest → PairRead is_single_tag text x rest
 unfolding tag
 tag_read text x rest e =
-    let k = bind_reads (name a_tag_key text) _ x rest e in
-    let mark = bind_reads (byte 61 k.mid) _ x rest k.next in
-    let v = bind_reads (name a_tag_value mark.mid) _ x rest mark.next in
-    let pair : Pair Text Text = record { key = k.first; value = v.first } in
-    let parts = reads_parts pair x v.mid rest v.next in
-    let key_ends = name_ends a_tag_key text k.first k.mid k.was in
-    let mark_ends = EndsIn-end text k.mid mark.mid key_ends (byte_ends 61 k.mid mark.first mark.mid mark.was) in
-    let value_ends = EndsIn-end text mark.mid v.mid mark_ends (name_ends a_tag_value mark.mid v.first v.mid v.was) in
-    record {
-      ends = rw parts.1 at value_ends;
-      copied = λ h. elim (pair_copied k.first.is_single v.first.is_single k.first.is_single v.first.is_single refl
-          refl (ap is_single_tag parts.0 ∙ h)) [
-            | inl key ↦ name_copied a_tag_key text k.first k.mid k.was key
-            | inr after ↦ backslash_at_end text mark.mid mark_ends (name_copied a_tag_value mark.mid v.first v.mid v.was after)
-          ];
-    }
+    pair_read a_tag_key (name a_tag_value) (λ v. v.is_single) (λ text v rest e. record {
+      ends = name_ends a_tag_value text v rest e;
+      copied = name_copied a_tag_value text v rest e;
+    }) text x rest e
 
 pub field_read : (text : List ℕ) (x : Pair Text (Value Text)) (rest : List ℕ) → field text ≡ reads x rest
     → PairRead is_single_field text x rest
 unfolding field
-field_read text x rest e =
-    let k = bind_reads (name a_field_key text) _ x rest e in
-    let mark = bind_reads (byte 61 k.mid) _ x rest k.next in
-    let v = bind_reads (value mark.mid) _ x rest mark.next in
-    let pair : Pair Text (Value Text) = record { key = k.first; value = v.first } in
-    let parts = reads_parts pair x v.mid rest v.next in
-    let key_ends = name_ends a_field_key text k.first k.mid k.was in
-    let mark_ends = EndsIn-end text k.mid mark.mid key_ends (byte_ends 61 k.mid mark.first mark.mid mark.was) in
-    let value_is = value_read mark.mid v.first v.mid v.was in
-    let value_ends = EndsIn-end text mark.mid v.mid mark_ends value_is.ends in
-    record {
-      ends = rw parts.1 at value_ends;
-      copied = λ h. elim (pair_copied k.first.is_single (is_single_value v.first) k.first.is_single
-          (is_single_value v.first) refl refl (ap is_single_field parts.0 ∙ h)) [
-            | inl key ↦ name_copied a_field_key text k.first k.mid k.was key
-            | inr after ↦ backslash_at_end text mark.mid mark_ends (value_is.copied after)
-          ];
-    }
+field_read text x rest e = pair_read a_field_key value is_single_value value_read text x rest e
 
 -- the same after a comma
 pub after_comma_read : {A : Type 0} (is_single : A → Bool) (one : List ℕ → Reading A)

@@ -5,7 +5,7 @@ use Rattle.std.proofs.Common.{subst, zero-add, inl, inr, arith}
 use Rattle.std.specs.Prelude.{◌==◌}
 use Rattle.std.specs.Int.{w64, trailing_zeros}
 use Rattle.std.specs.List.{count_by, range_with_len}
-use Rattle.std.proofs.lemmas.Bool.{and_parts, cases_lt, ne_eqb, not-true}
+use Rattle.std.proofs.lemmas.Bool.{and_parts, and_right, cases_lt, ne_eqb, not-true}
 use Rattle.std.proofs.lemmas.Bool.Decides.{nat_tests}
 use Rattle.std.proofs.lemmas.List.{drop-drop, length-take}
 use Rattle.std.proofs.lemmas.List.FromFn.{length-map-range_with_len}
@@ -42,11 +42,7 @@ pub bare_past : (text : List ℕ) (at : ℕ) → at < length text → ends_plain
 bare_past text at h stops =
     let other : slice_index text at == 92 ≡ false = grind (arith, nat_tests) in
     is_escaped_more text at h ∙ ap (λ (t : Bool). not (is_escaped_after (take at text)) && t) other
-    ∙ and_false (not (is_escaped_after (take at text)))
-  where
-    and_false : (t : Bool) → (t && false) ≡ false
-    and_false true = refl
-    and_false false = refl
+    ∙ and_right (not (is_escaped_after (take at text))) false refl
 
 -- what a load showed after the end of a stretch
 pub seen_after : (text : List ℕ) (at run : ℕ) (a : Ahead) (are : IsAhead (drop at text) a) → IsBareAfter (take at text)

@@ -1,9 +1,9 @@
 -- A search that jumps from backslash to backslash finds the first bare byte that passes a test.
 use Rattle.std.proofs.Common.{◌≡◌, ◌≢◌, ℕ, zero, suc, ◌+◌, ◌-◌, ◌<◌, ◌≤◌, List, length, take, drop, slice_index, min}
-use Rattle.std.proofs.Common.{Bool, true, false, ◌&&◌, ◌||◌, Some, None, length-drop, refl, sym, ap, ◌∙◌, subst, inl}
+use Rattle.std.proofs.Common.{Bool, true, false, ◌||◌, Some, None, length-drop, refl, sym, ap, ◌∙◌, subst, inl}
 use Rattle.std.proofs.Common.{inr, arith}
 use Rattle.std.specs.Prelude.{◌==◌}
-use Rattle.std.proofs.lemmas.Bool.{cases_Bool, eqb-true, eqb-false, ne_eqb}
+use Rattle.std.proofs.lemmas.Bool.{and_right, cases_Bool, eqb-true, eqb-false, ne_eqb}
 use Rattle.std.proofs.lemmas.Bool.Decides.{nat_tests}
 use Rattle.std.proofs.lemmas.List.{get_or-drop}
 use Rattle.memchr.specs.Find.{Nowhere, Passes, IsFirstByte}
@@ -37,11 +37,7 @@ module _ (passes : ℕ → Bool) (text : List ℕ) where
 
   -- an escaped byte
   escaped_at : (at : ℕ) → is_escaped_after (take at text) ≡ true → is_bare_at passes text at ≡ false
-  escaped_at at h = rw h (and_false (passes (slice_index text at)))
-    where
-      and_false : (t : Bool) → (t && false) ≡ false
-      and_false true = refl
-      and_false false = refl
+  escaped_at at h = rw h (and_right (passes (slice_index text at)) false refl)
 
   -- a byte that is no backslash and does not pass
   passed_byte : (at : ℕ) → at < length text → slice_index text at ≢ 92 → passes (slice_index text at) ≡ false

@@ -10,11 +10,13 @@ use Rattle.std.proofs.lemmas.Bool.{cases_eq}
 use Rattle.std.proofs.lemmas.List.Elements.{All-nil, All-tail, All-weaker}
 use Rattle.memchr.specs.Find.{IsFirstByte, Nowhere, Passes, is_byte3}
 use Rattle.influxdb_line_protocol.specs.declared.split.Dialect.TheVariants.{Crate}
+use Rattle.influxdb_line_protocol.specs.declared.split.Walk.{Walk}
 use Rattle.influxdb_line_protocol.specs.format.Escapes.{is_escaped_after, bare, first_bare, IsBareAfter}
 use Rattle.influxdb_line_protocol.specs.laws.Meanings.{IsAtStop, IsBeforeStop}
 use Rattle.influxdb_line_protocol.specs.format.Piece.{IsHead, IsPlain, IsQuoted, EndsPlain, EndsQuoted, EndsQuoted.opened, IsClosed}
 use Rattle.influxdb_line_protocol.specs.format.Pieces.{IsLastPiece, IsFirstCut}
 use Rattle.influxdb_line_protocol.specs.code.Searches.{IsPlainTo, IsBeforeQuote}
+use Rattle.influxdb_line_protocol.specs.code.Walks.{IsWalked}
 use Rattle.influxdb_line_protocol.proofs.lemmas.split.SplitBare.{is_escaped-nil, is_escaped-append, is_escaped-push_other, flag_after}
 use Rattle.influxdb_line_protocol.proofs.lemmas.split.SplitShape.{last_place, IsHead-bare, EndsPlain-start}
 use Rattle.influxdb_line_protocol.proofs.lemmas.split.SplitShape.{EndsPlain-bare, EndsQuoted-close}
@@ -137,14 +139,15 @@ module _ (text rest : List ℕ) (e c at n : ℕ) (p : IsPlainTo text e c at) (sa
   pub plain_cut : at + n < length text → slice_index text (at + n) ≡ 10 → IsFirstCut Crate text (Some (at + n))
   plain_cut h newline = (h, newline, (inr (p.is_in.0 ++ bare (take n rest), ends_plain), bare_here h))
 
-  -- at a quote, where what is counted of the stretch is added
-  pub plain_quote : (x y : ℕ) → at + n < length text → slice_index text (at + n) ≢ 10
-      → (n < length rest → x ≡ count_by (λ b. b == 61) (bare (take n rest)))
-      → (n < length rest → y ≡ count_by (λ b. b == 44) (bare (take n rest)))
-      → IsBeforeQuote text (e + x) (c + y) (at + n)
-  plain_quote x y h other equals_is commas_is =
+  -- at a quote, where what a walk over the stretch counted is added
+  pub plain_quote : (walk : Walk) → walk.at ≡ n → IsWalked rest walk → at + n < length text → slice_index text (at + n) ≢ 10
+      → IsBeforeQuote text (e + walk.equals) (c + walk.commas) (at + n)
+  plain_quote walk place walked h other =
       let there : slice_index rest n ≡ slice_index text (at + n) = ap (λ (t : List ℕ). slice_index t n) same ∙ get_or-drop at text n 0 in
       let stops = stretch.stops (within_rest h) in
+      let inside : walk.at < length rest = omega (arith, within_rest h, place) in
+      let no_newline : slice_index rest walk.at ≢ 10 = λ i. other (sym there ∙ ap (λ (k : ℕ). slice_index rest k) (sym place) ∙ i) in
+      let front : bare (take walk.at rest) ≡ bare (take n rest) = ap (λ (k : ℕ). bare (take k rest)) place in
       record {
         within = h;
         here = grind (arith, nat_tests);
@@ -152,9 +155,9 @@ module _ (text rest : List ℕ) (e c at n : ℕ) (p : IsPlainTo text e c at) (sa
         is_in = (
           p.is_in.0 ++ bare (take n rest),
           ends_plain,
-          IsCountOf-append p.is_in.0 (bare (take n rest)) e c x y p.is_in.2 (record {
-            equals_is = equals_is (within_rest h);
-            commas_is = commas_is (within_rest h);
+          IsCountOf-append p.is_in.0 (bare (take n rest)) e c walk.equals walk.commas p.is_in.2 (record {
+            equals_is = walked.equals_are inside (λ _. no_newline) ∙ ap (count_by (λ b. b == 61)) front;
+            commas_is = walked.commas_are inside (λ _. no_newline) ∙ ap (count_by (λ b. b == 44)) front;
           }),
         );
       }

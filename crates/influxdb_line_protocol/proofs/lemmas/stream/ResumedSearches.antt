@@ -2,8 +2,8 @@
 use Rattle.std.proofs.Common.{◌≡◌, ◌≢◌, ℕ, zero, suc, ◌+◌, ◌<◌, ◌≤◌, Bool, true, false, List, length, take}
 use Rattle.std.proofs.Common.{drop, slice_index, Some, refl, sym, ap, ◌∙◌, subst, arith, zero-add, not, ◌&&◌, ◌-◌, ◌%◌, ◌/◌}
 use Rattle.std.specs.Prelude.{◌==◌, ◌||◌}
-use Rattle.std.specs.List.{count_by, range_with_len}
-use Rattle.std.proofs.lemmas.Bool.{both_ways, ne_eqb}
+use Rattle.std.specs.List.{range_with_len}
+use Rattle.std.proofs.lemmas.Bool.{and_right, both_ways, ne_eqb}
 use Rattle.std.proofs.lemmas.List.{get_or-drop, length-drop}
 use Rattle.std.proofs.lemmas.List.FromFn.{get_or-range_with_len}
 use Rattle.std.proofs.lemmas.List.Sums.{fails_before_first}
@@ -12,7 +12,7 @@ use Rattle.influxdb_line_protocol.specs.declared.split.resumed.Part.TheVariants.
 use Rattle.influxdb_line_protocol.specs.declared.split.Walk.{Walk}
 use Rattle.influxdb_line_protocol.specs.declared.split.resumed.Stretch.{Stretch}
 use Rattle.influxdb_line_protocol.specs.declared.split.Dialect.TheVariants.{Crate}
-use Rattle.influxdb_line_protocol.specs.format.Escapes.{bare, first_bare, is_bare_at, is_escaped_after, IsBareAfter, IsPassed}
+use Rattle.influxdb_line_protocol.specs.format.Escapes.{first_bare, is_bare_at, is_escaped_after, IsBareAfter, IsPassed}
 use Rattle.influxdb_line_protocol.specs.format.Pieces.{IsFirstCut, IsLastPiece}
 use Rattle.influxdb_line_protocol.specs.code.Searches.{BeginsAt, ends, IsBeforeQuote, IsPlainTo, IsStopped}
 use Rattle.influxdb_line_protocol.specs.code.Walks.{IsWalked}
@@ -112,12 +112,8 @@ bare_after_other text at some within other =
     let bare_here : is_escaped_after (take ((at - 1) + 1) text) ≡ false =
     is_escaped_more text (at - 1) (omega arith)
     ∙ ap (λ (t : Bool). not (is_escaped_after (take (at - 1) text)) && t) (ne_eqb (slice_index text (at - 1)) 92 other)
-    ∙ and_false (not (is_escaped_after (take (at - 1) text))) in
+    ∙ and_right (not (is_escaped_after (take (at - 1) text))) false refl in
     subst (λ (n : ℕ). IsBareAfter (take n text)) last bare_here
-  where
-    and_false : (t : Bool) → (t && false) ≡ false
-    and_false true = refl
-    and_false false = refl
 
 -- the last bare place, where a run of backslashes ends the text
 pub last_bare : (text : List ℕ) (at : ℕ) → at ≤ length text → ((k : ℕ) → at ≤ k → k < length text → slice_index text k ≡ 92)
@@ -162,14 +158,8 @@ quote_after text rest e c at n part walk is_plain begins same to there walked h 
     let plain : IsPlainTo text e c at = subst (λ (p : Part). BeginsAt p text e c at) is_plain begins in
     let here : n ≡ first_bare (ends Plain) (drop at text) = subst (λ (p : Part). n ≡ first_bare (ends p) (drop at text)) is_plain to in
     let ended : n ≡ first_bare (ends Plain) rest = here ∙ ap (first_bare (ends Plain)) (sym same) in
-    let place : walk.at ≡ n = there ∙ sym ended in
-    let inside : n < length rest = omega (arith, ap length same, length-drop at text) in
-    let byte : slice_index rest n ≡ slice_index text (at + n) = ap (λ (t : List ℕ). slice_index t n) same ∙ get_or-drop at text n 0 in
-    let no_newline : slice_index rest walk.at ≢ 10 = λ i. other (sym byte ∙ ap (λ (k : ℕ). slice_index rest k) (sym place) ∙ i) in
-    let front : bare (take walk.at rest) ≡ bare (take n rest) = ap (λ (k : ℕ). bare (take k rest)) place in (
-      plain_quote text rest e c at n plain same ended walk.equals walk.commas h other
-          (λ _. walked.equals_are (omega (arith, inside, place)) (λ _. no_newline) ∙ ap (count_by (λ b. b == 61)) front)
-          (λ _. walked.commas_are (omega (arith, inside, place)) (λ _. no_newline) ∙ ap (count_by (λ b. b == 44)) front),
+    let place : walk.at ≡ n = there ∙ sym ended in (
+      plain_quote text rest e c at n plain same ended walk place walked h other,
       omega (arith, walked.few_equals, place),
       omega (arith, walked.few_commas, place),
     )

@@ -1,5 +1,5 @@
 -- The first bytes of a value decide its form.
-use Rattle.std.proofs.Common.{◌≡◌, ◌≢◌, ◌⊎◌, ◌∙◌, ℕ, ◌≤◌, List, [], ◌∷◌, true, false, slice_index, refl, sym, arith, inl, inr}
+use Rattle.std.proofs.Common.{◌≡◌, ◌≢◌, ◌⊎◌, ◌∙◌, ℕ, ◌<◌, ◌≤◌, List, [], ◌∷◌, true, false, slice_index, refl, sym, arith, inl, inr}
 use Rattle.std.specs.Prelude.{◌==◌, ◌||◌, codes}
 use Rattle.std.specs.Char.{is_ascii_digit}
 use Rattle.std.proofs.lemmas.Bool.{cases_eq, eq-eqb, eqb-false, ne_eqb, or_parts}
@@ -11,7 +11,7 @@ use Rattle.influxdb_line_protocol.specs.format.Values.{integer_len, digits_len, 
 use Rattle.influxdb_line_protocol.specs.format.Values.{false_words}
 use Rattle.influxdb_line_protocol.proofs.lemmas.literals.FloatLemmas.{float_misses}
 use Rattle.influxdb_line_protocol.proofs.lemmas.values.ValueLemmas.{boolean_misses, digits_of_minus, digits_of_plain, integer_misses}
-use Rattle.influxdb_line_protocol.proofs.lemmas.values.ValueLemmas.{integer_unmarked, unsigned_misses, unsigned_unmarked}
+use Rattle.influxdb_line_protocol.proofs.lemmas.values.ValueLemmas.{integer_unmarked, unsigned_decides, unsigned_misses, unsigned_unmarked}
 
 -- where no integer is, no digits are
 no_digits : (text : List ℕ) → integer_len text ≡ 0 → digits_len text ≡ 0
@@ -26,6 +26,14 @@ pub no_number : (text : List ℕ) → integer_len text ≡ 0 → (integer_at tex
 no_number text none =
     let no_float : float_len text ≡ 0 = rw (eq-eqb (integer_len text) 0 none) refl in
     rw (integer_misses text none, unsigned_misses text (no_digits text none), float_misses text no_float) refl
+
+-- digits and `u`, without `-`
+pub unsigned_is : (text : List ℕ) → 0 < integer_len text → slice_index text (integer_len text) ≢ 105
+    → slice_index text (integer_len text) ≡ 117 → slice_index text 0 ≢ 45
+    → (integer_at text otherwise unsigned_at text otherwise float_at text) ≡ unsigned_at text
+unsigned_is text some no_i mark plain =
+    let same = digits_of_plain text plain in
+    unsigned_decides text (float_at text) (integer_unmarked text no_i) (rw same some) (rw same mark)
 
 -- without either mark, or with `-` at the start of `u`, it is a float or nothing
 pub float_is : (text : List ℕ) → slice_index text (integer_len text) ≢ 105

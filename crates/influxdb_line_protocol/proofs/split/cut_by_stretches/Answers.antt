@@ -45,12 +45,8 @@ returns-in_err-get-3 c =
     let text = c.args.text.now in
     let plain = c.plain_run-plain in
     let end = l.at + c.plain_run-plain.result.at in
-    let quote =
-    plain_quote text _ l.equals l.commas l.at c.plain_run-plain.result.at l.invariant.plain (take_rest text l.at)
-    c.plain_run-plain.ensures.value
-    plain.result.equals plain.result.commas (grind (arith, common_steps)) (λ h. grind (arith, common_steps))
-    (λ h. plain.ensures.walked.equals_are h (λ _. grind (arith, common_steps)))
-    (λ h. plain.ensures.walked.commas_are h (λ _. grind (arith, common_steps))) in
+    let quote = plain_quote text _ l.equals l.commas l.at plain.result.at l.invariant.plain (take_rest text l.at) plain.ensures.value
+    plain.result refl plain.ensures.walked (grind (arith, common_steps)) (λ h. grind (arith, common_steps)) in
     rw c.from_residual-in_err-get-3.ensures
     (quoted_last text _ (l.equals + plain.result.equals) (l.commas + plain.result.commas) end c.quoted_run-run.result.0
     c.if-commas-equals.true quote (take_rest text (end + 1)) c.quoted_run-run.ensures.value (grind (arith, common_steps)))
@@ -61,12 +57,8 @@ loop-equals-preserved-then-commas-equals c =
     let text = c.args.text.now in
     let plain = c.plain_run-plain in
     let end = l.at + c.plain_run-plain.result.at in
-    let quote =
-    plain_quote text _ l.equals l.commas l.at c.plain_run-plain.result.at l.invariant.plain (take_rest text l.at)
-    c.plain_run-plain.ensures.value
-    plain.result.equals plain.result.commas (grind (arith, common_steps)) (λ h. grind (arith, common_steps))
-    (λ h. plain.ensures.walked.equals_are h (λ _. grind (arith, common_steps)))
-    (λ h. plain.ensures.walked.commas_are h (λ _. grind (arith, common_steps))) in
+    let quote = plain_quote text _ l.equals l.commas l.at plain.result.at l.invariant.plain (take_rest text l.at) plain.ensures.value
+    plain.result refl plain.ensures.walked (grind (arith, common_steps)) (λ h. grind (arith, common_steps)) in
     record {
       plain = quoted_closes text _ (l.equals + plain.result.equals) (l.commas + plain.result.commas) end c.quoted_run-run.result.0
           c.if-commas-equals.true quote (take_rest text (end + 1)) c.quoted_run-run.ensures.value (grind (arith, common_steps));
@@ -80,12 +72,8 @@ loop-equals-preserved c =
     let text = c.args.text.now in
     let plain = c.plain_run-plain in
     let end = l.at + c.plain_run-plain.result.at in
-    let quote =
-    plain_quote text _ l.equals l.commas l.at c.plain_run-plain.result.at l.invariant.plain (take_rest text l.at)
-    c.plain_run-plain.ensures.value
-    plain.result.equals plain.result.commas (grind (arith, common_steps)) (λ h. grind (arith, common_steps))
-    (λ h. plain.ensures.walked.equals_are h (λ _. grind (arith, common_steps)))
-    (λ h. plain.ensures.walked.commas_are h (λ _. grind (arith, common_steps))) in
+    let quote = plain_quote text _ l.equals l.commas l.at plain.result.at l.invariant.plain (take_rest text l.at) plain.ensures.value
+    plain.result refl plain.ensures.walked (grind (arith, common_steps)) (λ h. grind (arith, common_steps)) in
     record {
       plain = quote_opens_nothing text (l.equals + plain.result.equals) (l.commas + plain.result.commas) end (omega arith) quote;
       seen = ahead_on text _ l.at plain.result.at _ plain.result.later (take_rest text l.at) refl plain.ensures.walked.seen;

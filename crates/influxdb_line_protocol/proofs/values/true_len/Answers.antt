@@ -1,14 +1,6 @@
-use Rattle.std.proofs.Common.{◌≡◌, ◌<◌, ℕ, List, [], ◌∷◌, length, true, ◌∙◌, arith, slice_index, sym}
-use Rattle.std.specs.Prelude.{codes}
-use Rattle.std.proofs.lemmas.Grind.{common_steps}
+use Rattle.std.proofs.Common.{arith}
 use Rattle.std.proofs.lemmas.Str.{IsCharBoundary-after_ascii, IsCharBoundary-start}
-use Rattle.influxdb_line_protocol.specs.format.Bytes.{is_one_of}
 use Rattle.influxdb_line_protocol.proofs.values.true_len.Goals as goal
-
--- one of these letters is no byte of a longer character
-letter_there : (text : List ℕ) → is_one_of (codes "tT") (slice_index text 0) ≡ true → (0 < length text) × (slice_index text 0 < 128)
-letter_there [] first = absurd (cc)
-letter_there (b ∷ rest) first = (omega arith, grind (arith, common_steps))
 
 pub returns-then-is_long_true-clause-boundary : goal.returns-then-is_long_true-clause-boundary
 returns-then-is_long_true-clause-boundary c =
@@ -17,9 +9,8 @@ returns-then-is_long_true-clause-boundary c =
 
 pub returns-then-begins_true-clause-boundary : goal.returns-then-begins_true-clause-boundary
 returns-then-begins_true-clause-boundary c =
-    let first = rw c.as_bytes-bytes.ensures.value at (sym c.begins_true.ensures ∙ c.if-begins_true.true) in
-    let there = letter_there c.args.text.now first in
-    IsCharBoundary-after_ascii c.args.text.now 0 c.utf8.text there.0 there.1
+    let first = rw c.as_bytes-bytes.ensures.value at (c.begins_true.ensures.ascii c.if-begins_true.true) in
+    IsCharBoundary-after_ascii c.args.text.now 0 c.utf8.text (omega arith) (omega arith)
 
 pub returns-else-begins_true-clause-boundary : goal.returns-else-begins_true-clause-boundary
 returns-else-begins_true-clause-boundary c = IsCharBoundary-start c.args.text.now c.utf8.text

@@ -26,20 +26,11 @@ returns-in-Some-clause-value c =
     let read = unsigned_reads text some mark (omega (arith, value)) in
     rw (value.1, c.range_from.ensures.value, c.requires.whole) read
 
-pub returns-in-None-clause-value : goal.returns-in-None-clause-value
-returns-in-None-clause-value c =
+pub returns-in-None : goal.returns-in-None
+returns-in-None c =
     let text = c.args.text.now in
     let front = rw c.requires.whole at c.split_at.ensures.front in
     let some : 0 < digits_len text = omega (arith, c.requires.whole, c.requires.some) in
     let mark = rw c.requires.whole at c.requires.mark in
     let refused = unsigned_overflows text some mark (rw front at c.in-None.ensures) in
-    rw (refused, ← front) (search rules)
-
-pub returns-in-None-clause-memory : goal.returns-in-None-clause-memory
-returns-in-None-clause-memory c = λ out.
-    let text = c.args.text.now in
-    let front = rw c.requires.whole at c.split_at.ensures.front in
-    let some : 0 < digits_len text = omega (arith, c.requires.whole, c.requires.some) in
-    let mark = rw c.requires.whole at c.requires.mark in
-    let refused = unsigned_overflows text some mark (rw front at c.in-None.ensures) in
-    rw refused refl
+    rw refused (record { value = rw (← front) (search rules); less = search rules; memory = λ out. refl })

@@ -5,29 +5,15 @@ use Rattle.std.proofs.lemmas.Bool.{eqb-true, eqb-false}
 use Rattle.influxdb_line_protocol.proofs.lemmas.values.ValueForms.{number_form, string_form, boolean_form}
 use Rattle.influxdb_line_protocol.proofs.values.value.Goals as goal
 
-pub returns-then-begins_number-clause-value : goal.returns-then-begins_number-clause-value
-returns-then-begins_number-clause-value c =
-    let text = c.args.text.now in
-    rw (number_form text (rw c.as_bytes-bytes.ensures.value at (sym c.begins_number.ensures
-    ∙ c.if-begins_number.true))) c.number.ensures.value
+pub returns-then-begins_number : goal.returns-then-begins_number
+returns-then-begins_number c =
+    rw (number_form c.args.text.now
+    (rw c.as_bytes-bytes.ensures.value at (sym c.begins_number.ensures ∙ c.if-begins_number.true))) c.number.ensures
 
-pub returns-then-begins_number-clause-memory : goal.returns-then-begins_number-clause-memory
-returns-then-begins_number-clause-memory c =
-    let text = c.args.text.now in
-    rw (number_form text (rw c.as_bytes-bytes.ensures.value at (sym c.begins_number.ensures
-    ∙ c.if-begins_number.true))) c.number.ensures.memory
-
-pub returns-then-has_byte_at-clause-value : goal.returns-then-has_byte_at-clause-value
-returns-then-has_byte_at-clause-value c =
-    let text = c.args.text.now in
-    rw (string_form text (eqb-true _ 34
-    (rw c.as_bytes-bytes.ensures.value at (sym c.has_byte_at.ensures ∙ c.if-has_byte_at.true)))) c.string.ensures.value
-
-pub returns-then-has_byte_at-clause-memory : goal.returns-then-has_byte_at-clause-memory
-returns-then-has_byte_at-clause-memory c =
-    let text = c.args.text.now in
-    rw (string_form text (eqb-true _ 34
-    (rw c.as_bytes-bytes.ensures.value at (sym c.has_byte_at.ensures ∙ c.if-has_byte_at.true)))) c.string.ensures.memory
+pub returns-then-has_byte_at : goal.returns-then-has_byte_at
+returns-then-has_byte_at c =
+    rw (string_form c.args.text.now (eqb-true _ 34
+    (rw c.as_bytes-bytes.ensures.value at (sym c.has_byte_at.ensures ∙ c.if-has_byte_at.true)))) c.string.ensures
 
 pub returns-clause-value : goal.returns-clause-value
 returns-clause-value c =

@@ -4,7 +4,7 @@ use Rattle.influxdb_line_protocol.specs.format.Readings.{Fault, Read, Reading, m
 use Rattle.influxdb_line_protocol.specs.format.Names.{NameKind, a_tag_key, a_tag_value, a_field_key, name}
 use Rattle.influxdb_line_protocol.specs.format.Values.{value, integer_at, unsigned_at, float_at, string_at, boolean_at}
 use Rattle.influxdb_line_protocol.specs.format.Values.{body_len, true_words, false_words}
-use Rattle.influxdb_line_protocol.specs.format.Lines.{byte, field, tag}
+use Rattle.influxdb_line_protocol.specs.format.Lines.{byte, key_value, tag, field}
 
 -- what the reading leaves is no longer than the text
 pub record IsNoLonger {A : Type 0} (text : List ℕ) (r : Reading A) : Type 0 where
@@ -97,20 +97,21 @@ value_no_longer text =
     let five = one_of_two text _ (boolean_at true true_words text) four (boolean_no_longer true true_words text) in
     one_of_two text _ (boolean_at false false_words text) five (boolean_no_longer false false_words text)
 
+-- the rest after a key and such a value
+key_value_no_longer : {V : Type 0} (kind : NameKind) (part : List ℕ → Reading V) → ((text : List ℕ) → IsNoLonger text (part text))
+    → (text : List ℕ) → IsNoLonger text (key_value kind part text)
+key_value_no_longer kind part part_no_longer text =
+    and_then text (name kind text) _ (name_no_longer kind text) λ key.
+    and_then key.rest (byte 61 key.rest) _ (byte_no_longer 61 key.rest) λ after.
+    and_then after.rest (part after.rest) _ (part_no_longer after.rest) λ x.
+    some_left x.rest _ x.rest (omega arith)
+
 -- the rest after a tag
 pub tag_no_longer : (text : List ℕ) → IsNoLonger text (tag text)
 unfolding tag
-tag_no_longer text =
-    and_then text (name a_tag_key text) _ (name_no_longer a_tag_key text) λ key.
-    and_then key.rest (byte 61 key.rest) _ (byte_no_longer 61 key.rest) λ after.
-    and_then after.rest (name a_tag_value after.rest) _ (name_no_longer a_tag_value after.rest) λ x.
-    some_left x.rest _ x.rest (omega arith)
+tag_no_longer text = key_value_no_longer a_tag_key (name a_tag_value) (name_no_longer a_tag_value) text
 
 -- the rest after a field
 pub field_no_longer : (text : List ℕ) → IsNoLonger text (field text)
 unfolding field
-field_no_longer text =
-    and_then text (name a_field_key text) _ (name_no_longer a_field_key text) λ key.
-    and_then key.rest (byte 61 key.rest) _ (byte_no_longer 61 key.rest) λ after.
-    and_then after.rest (value after.rest) _ (value_no_longer after.rest) λ x.
-    some_left x.rest _ x.rest (omega arith)
+field_no_longer text = key_value_no_longer a_field_key value value_no_longer text

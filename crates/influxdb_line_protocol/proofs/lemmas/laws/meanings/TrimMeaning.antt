@@ -31,27 +31,6 @@ record Fronts (text : List ℕ) : Type 0 where
   outside : Front text
   inside : InComment text
 
--- what is left, by the first byte
-left_newline : (c : Bool) (b : ℕ) (text : List ℕ) → (b == 10) ≡ true → left_of c (b ∷ text) ≡ left_of false text
-left_newline c b text h = rw h refl
-
--- a comment begins
-left_hash : (b : ℕ) (text : List ℕ) → (b == 10) ≡ false → (b == 35) ≡ true → left_of false (b ∷ text) ≡ left_of true text
-left_hash b text h k = rw (h, k) refl
-
--- a comment goes on
-left_inside : (b : ℕ) (text : List ℕ) → (b == 10) ≡ false → left_of true (b ∷ text) ≡ left_of true text
-left_inside b text h = rw h refl
-
--- a space or a tab goes
-left_blank : (b : ℕ) (text : List ℕ) → (b == 10) ≡ false → (b == 35) ≡ false → is_blank b ≡ true
-    → left_of false (b ∷ text) ≡ left_of false text
-left_blank b text h k m = rw (h, k, m) refl
-
--- any other byte stays, with what follows it
-left_kept : (b : ℕ) (text : List ℕ) → (b == 10) ≡ false → (b == 35) ≡ false → is_blank b ≡ false → left_of false (b ∷ text) ≡ b ∷ text
-left_kept b text h k m = rw (h, k, m) refl
-
 -- a blank and such a front
 front_blank : (b : ℕ) (text : List ℕ) → is_one_of (32 ∷ 9 ∷ 10 ∷ []) b ≡ true
     → left_of false (b ∷ text) ≡ left_of false text → Front text → Front (b ∷ text)
@@ -108,8 +87,8 @@ fronts_newline : (b : ℕ) (text : List ℕ) → (b == 10) ≡ true → Fronts t
 fronts_newline b text h f =
     let b_is : b ≡ 10 = eqb-true b 10 h in
     let known : is_one_of (32 ∷ 9 ∷ 10 ∷ []) b ≡ true = rw b_is refl in
-    let outside = front_blank b text known (left_newline false b text h) f.outside in
-    record { outside = outside; inside = comment_ends b text b_is (left_newline true b text h ∙ sym (left_newline false b text h)) outside }
+    let outside = front_blank b text known (rw h refl) f.outside in
+    record { outside = outside; inside = comment_ends b text b_is (rw h refl) outside }
 
 -- a space or a tab is a blank
 blank_known : (b : ℕ) → is_blank b ≡ true → is_one_of (32 ∷ 9 ∷ 10 ∷ []) b ≡ true
@@ -121,14 +100,14 @@ fronts_other b text h f =
     record {
       outside =
           elim (cases_Bool (b == 35)) [
-            | inl sharp ↦ front_comment b text (eqb-true b 35 sharp) (left_hash b text h sharp) f.inside
+            | inl sharp ↦ front_comment b text (eqb-true b 35 sharp) (rw (h, sharp) refl) f.inside
             | inr plain ↦
                 elim (cases_Bool (is_blank b)) [
-                  | inl m ↦ front_blank b text (blank_known b m) (left_blank b text h plain m) f.outside
-                  | inr m ↦ front_none (b ∷ text) (left_kept b text h plain m)
+                  | inl m ↦ front_blank b text (blank_known b m) (rw (h, plain, m) refl) f.outside
+                  | inr m ↦ front_none (b ∷ text) (rw (h, plain, m) refl)
                 ]
           ];
-      inside = comment_more b text (eqb-false b 10 h) (left_inside b text h) f.inside;
+      inside = comment_more b text (eqb-false b 10 h) (rw h refl) f.inside;
     }
 
 -- each text has both
@@ -154,7 +133,7 @@ trimmed_is_after piece =
 skip_comment : (end rest : List ℕ) → All (λ b. b ≢ 10) end → left_of true (end ++ rest) ≡ left_of true rest
 skip_comment [] rest plain = refl
 skip_comment (b ∷ end) rest plain =
-    left_inside b (end ++ rest) (ne_eqb b 10 (plain 0 0 (omega arith))) ∙ skip_comment end rest (λ k d l. plain (suc k) d (omega arith))
+    rw (ne_eqb b 10 (plain 0 0 (omega arith))) (skip_comment end rest (λ k d l. plain (suc k) d (omega arith)))
 
 -- at the end of a line a comment ends
 at_line_end : (text : List ℕ) → IsLineEnd text → left_of true text ≡ left_of false text
@@ -173,8 +152,8 @@ known_blank b on h = grind (arith, common_steps)
 blank_skipped : (b : ℕ) (text : List ℕ) → is_one_of (32 ∷ 9 ∷ 10 ∷ []) b ≡ true → left_of false (b ∷ text) ≡ left_of false text
 blank_skipped b text h =
     elim (cases_Bool (b == 10)) [
-      | inl cut ↦ left_newline false b text cut
-      | inr on ↦ left_blank b text on (known_no_hash b h) (known_blank b on h)
+      | inl cut ↦ rw cut refl
+      | inr on ↦ rw (on, known_no_hash b h, known_blank b on h) refl
     ]
 
 -- a front of blanks and comments is skipped
