@@ -1,6 +1,6 @@
 -- How a rebuild goes over the pieces of a text.
 use Rattle.std.proofs.Common.{◌≡◌, ◌≢◌, ℕ, ◌+◌, ◌==◌, ◌<◌, Bool, true, false, not, cond, List, [], ◌∷◌, ◌++◌, length}
-use Rattle.std.proofs.Common.{codes, Result, Ok, Err, string_bytes, refl, sym, ap, subst, ◌∙◌, arith, append_assoc}
+use Rattle.std.proofs.Common.{Result, Ok, Err, string_bytes, refl, sym, ap, subst, ◌∙◌, arith, append_assoc}
 use Rattle.std.proofs.Common.{append-nil, eq-eqb}
 use Rattle.std.specs.List.{All, flat_map}
 use Rattle.std.proofs.lemmas.Grind.{flat_map-append}
@@ -20,7 +20,7 @@ use Rattle.influxdb_line_protocol.specs.format.Readings.{measurement_value_inval
 use Rattle.influxdb_line_protocol.specs.format.Readings.{take_while1, cannot_parse_entire_line}
 use Rattle.influxdb_line_protocol.specs.format.Points.{Point, built, built_all, is_admitted_point}
 use Rattle.influxdb_line_protocol.specs.format.Lines.{Line, point_of, answer}
-use Rattle.influxdb_line_protocol.specs.code.Parsed.{Answers, line_read, parsed_point}
+use Rattle.influxdb_line_protocol.specs.code.Parsed.{Answers}
 use Rattle.influxdb_line_protocol.specs.code.Faults.{error_text, fault_text}
 use Rattle.influxdb_line_protocol.specs.format.Trimming.{trimmed}
 use Rattle.influxdb_line_protocol.specs.format.Pieces.{Left, Pieces, PiecesLeft}
@@ -48,24 +48,6 @@ refused_answer old (Err fault) new e r =
       carried = r.carried;
       refused = r.refused;
     }
-
--- a line that is carried was written again
-pub carried_line : (old : Progress) (line : ParsedLine) (new : Progress) → is_admitted_point (parsed_point line) ≡ true
-    → new.batch.items ≡ old.batch.items ++ built (parsed_point line)
-    → string_bytes new.faults ≡ string_bytes old.faults → new.carried ≡ old.carried + 1 → new.refused ≡ old.refused
-    → Takes old (Ok (line_read line)) new
-carried_line old line new e batch faults carried refused =
-    record {
-      batch = rw e (batch ∙ ap (λ (l : List ℕ). old.batch.items ++ l) (sym (append-nil (built (parsed_point line)))));
-      faults = rw e (faults ∙ sym (append-nil (string_bytes old.faults)));
-      carried = rw e carried;
-      refused = rw e refused;
-    }
-
--- a line that is not carried was refused
-pub refused_line : (old : Progress) (line : ParsedLine) (new : Progress) → is_admitted_point (parsed_point line) ≡ false
-    → Refuses old (codes "a name cannot be written again") new → Takes old (Ok (line_read line)) new
-refused_line old line new e r = refused_answer old (Ok (line_read line)) new e r
 
 -- the text of an error other than `OutOfMemory` is that of its fault
 pub error_is : (e : Error) (answer : Result Line Fault) → e ≢ error.OutOfMemory
@@ -191,11 +173,6 @@ pub record SoFar (dialect : Dialect) (text : List ℕ) (others : List (List ℕ)
   pub front : List (List ℕ)
   pub pieces : Pieces dialect text (front ++ others)
   pub took : Took (answers_of dialect front) so_far
-
--- before the first piece
-pub SoFar-none : (dialect : Dialect) (text : List ℕ) (pieces : List (List ℕ)) (so_far : Progress)
-    → Pieces dialect text pieces → Took [] so_far → SoFar dialect text pieces so_far
-SoFar-none dialect text pieces so_far h t = record { front = []; pieces = h; took = t }
 
 regrouped : (front skipped : List (List ℕ)) (piece : List ℕ) (others : List (List ℕ))
     → front ++ (skipped ++ piece ∷ others) ≡ (front ++ (skipped ++ piece ∷ [])) ++ others
