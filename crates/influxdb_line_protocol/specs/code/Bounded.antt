@@ -30,14 +30,18 @@ HoldsBy limit held Ended text = (piece : List ℕ) × (limit < length piece) × 
 abbrev pub Holds : HeldWithin → List ℕ → Type 0
 Holds stream text = HoldsBy stream.limit stream.held stream.skipped text
 
+-- how many bytes are kept
+abbrev pub kept : HeldWithin → ℕ
+kept stream = length stream.held.bytes
+
 -- the dialect and the greatest length stay
 abbrev pub KeepsRules : HeldWithin → HeldWithin → Type 0
 KeepsRules before after = (after.held.dialect ≡ before.held.dialect) × (after.limit ≡ before.limit)
 
 -- of a text that the stream holds, a call gives the first piece that a newline ends, or in its place a fault where it is
--- too long
+-- too long; where it gives none, no more bytes are kept than a piece may have
 abbrev pub GivesOf : {E : Type 0} → HeldWithin → List ℕ → Option (Result (Bor (List ℕ)) E) → HeldWithin → Type 0
-GivesOf before text None after = Holds after text × IsLastPiece before.held.dialect text
+GivesOf before text None after = Holds after text × IsLastPiece before.held.dialect text × (kept after ≤ before.limit)
 GivesOf before text (Some (Ok piece)) after =
     (rest : List ℕ) × (length piece.now ≤ before.limit) × CutsTo before.held.dialect text piece.now rest × Holds after rest
 GivesOf before text (Some (Err _)) after =
@@ -45,16 +49,19 @@ GivesOf before text (Some (Err _)) after =
 
 -- a call finds the first cut, or takes the first piece where it is too long
 abbrev pub FindsWithin : {E : Type 0} → HeldWithin → Option (Result Mark E) → HeldWithin → Type 0
-FindsWithin before None after = (text : List ℕ) → Holds before text → Holds after text × IsLastPiece before.held.dialect text
+FindsWithin before None after =
+    (text : List ℕ) → Holds before text → Holds after text × IsLastPiece before.held.dialect text × (kept after ≤ before.limit)
 FindsWithin before (Some (Ok cut)) after =
     (after ≡ before) × (before.skipped ≡ Nothing) × FindsCut before.held (Some cut) × (cut.at ≤ before.limit)
 FindsWithin before (Some (Err _)) after =
     (text : List ℕ) → Holds before text
     → (piece rest : List ℕ) × (before.limit < length piece) × CutsTo before.held.dialect text piece rest × Holds after rest
 
--- so it is of each text that it may hold
+-- so it is of each text that it may hold, and no more bytes are kept than before
 abbrev pub GivesWithin : {E : Type 0} → HeldWithin → Option (Result (Bor (List ℕ)) E) → HeldWithin → Type 0
-GivesWithin before result after = KeepsRules before after × ((text : List ℕ) → Holds before text → GivesOf before text result after)
+GivesWithin before result after =
+    KeepsRules before after × (kept after ≤ kept before)
+    × ((text : List ℕ) → Holds before text → GivesOf before text result after)
 
 -- a call gives a text that is one piece, or a fault in its place
 abbrev pub IsLastOf : {E : Type 0} → ℕ → List ℕ → Result (Bor (List ℕ)) E → Type 0

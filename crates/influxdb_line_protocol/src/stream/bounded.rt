@@ -1,8 +1,8 @@
 //! Lines that come in parts, of which a piece has a greatest length.
 
-ghost use Rattle.std.specs.Prelude.{◌≡◌, ◌++◌, ◌<◌, ◌≤◌, ℕ, List, [], false, length, true, OnOk, OnErr};
+ghost use Rattle.std.specs.Prelude.{◌≡◌, ◌+◌, ◌++◌, ◌<◌, ◌≤◌, ℕ, List, [], false, length, true, OnOk, OnErr};
 ghost use Rattle.std.specs.Borrow.{sem};
-ghost use Rattle.influxdb_line_protocol.specs.code.Bounded.{FindsWithin, Holds, KeepsRules};
+ghost use Rattle.influxdb_line_protocol.specs.code.Bounded.{FindsWithin, Holds, kept, KeepsRules};
 ghost use Rattle.influxdb_line_protocol.specs.declared.stream.bounded.Skipped.{Skipped};
 ghost use Rattle.influxdb_line_protocol.specs.format.Pieces.{IsLastPiece};
 
@@ -69,6 +69,7 @@ impl BoundedLineStream {
         ensures rules { KeepsRules self.old self.new }
         ensures ok { OnOk result ((text : List ℕ) → Holds self.old text → Holds self.new (text ++ part.now)) }
         ensures err { OnErr result ((text : List ℕ) → Holds self.old text → Holds self.new text) }
+        ensures few { kept self.new ≤ kept self.old + length part.now }
     {
         let Skipped::Within(track) = self.skipped else {
             return self.stream.push(part);
@@ -92,6 +93,7 @@ impl BoundedLineStream {
         requires is_last { IsLastPiece self.old.held.dialect self.old.held.bytes }
         ensures rules { KeepsRules self.old self.new }
         ensures holds { Holds self.new self.old.held.bytes }
+        ensures few { (kept self.new ≤ kept self.old) × (kept self.new ≤ self.old.limit) }
     {
         if self.stream.held().len() <= self.limit {
             return;
@@ -106,6 +108,7 @@ impl BoundedLineStream {
     // The cut of the first piece, or a fault where that is too long and was taken, or `None` until its newline has come.
     fn first(&mut self) -> Option<Result<Mark, TooLong>>
         ensures rules { KeepsRules self.old self.new }
+        ensures few { kept self.new ≤ kept self.old }
         ensures finds { FindsWithin self.old result self.new }
     {
         match self.skipped {

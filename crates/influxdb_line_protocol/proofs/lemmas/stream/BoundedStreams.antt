@@ -1,6 +1,6 @@
 -- What a stream holds whose pieces have a greatest length.
-use Rattle.std.proofs.Common.{◌≡◌, ◌⊎◌, inl, inr, ℕ, ◌+◌, ◌<◌, List, [], ◌∷◌, ◌++◌, length, take, drop, refl, sym, ap, ◌∙◌, subst}
-use Rattle.std.proofs.Common.{append_assoc, length-append, arith, take-append-drop, Ok, Err}
+use Rattle.std.proofs.Common.{◌≡◌, ◌⊎◌, inl, inr, ℕ, ◌+◌, ◌<◌, ◌≤◌, List, [], ◌∷◌, ◌++◌, length, take, drop, refl, sym, ap, ◌∙◌, subst}
+use Rattle.std.proofs.Common.{append_assoc, length-append, arith, slice_index, take-append-drop, Ok, Err}
 use Rattle.std.proofs.lemmas.List.{drop_more}
 use Rattle.influxdb_line_protocol.specs.declared.split.Dialect.{Dialect}
 use Rattle.influxdb_line_protocol.specs.declared.split.Dialect.TheVariants.{Crate, Strict}
@@ -15,6 +15,7 @@ use Rattle.influxdb_line_protocol.specs.format.Pieces.{IsCutPiece, IsLastPiece}
 use Rattle.influxdb_line_protocol.specs.code.Streams.{Held, TakesPiece}
 use Rattle.influxdb_line_protocol.specs.code.Tracks.{EndsIn, IsTrackOf, TracksOn}
 use Rattle.influxdb_line_protocol.specs.code.Bounded.{CutsTo, HoldsBy}
+use Rattle.influxdb_line_protocol.proofs.lemmas.split.SplitPieces.{no_cut_within}
 use Rattle.influxdb_line_protocol.proofs.lemmas.stream.KnownTexts.{no_comment}
 use Rattle.influxdb_line_protocol.proofs.lemmas.stream.TrackedPieces.{blanks_begin_none}
 
@@ -25,6 +26,12 @@ skips_more limit held skipped from to part is tracks text h =
     let k = subst (λ (s : Skipped). HoldsBy limit held s text) is h in
     (k.0, omega (arith, length-append text part, k.1), tracks held.dialect text k.2)
 
+-- the bytes before a newline, and those after it
+parted : (bytes : List ℕ) (i : ℕ) → i < length bytes → slice_index bytes i ≡ 10 → take i bytes ++ 10 ∷ drop (i + 1) bytes ≡ bytes
+parted bytes i within here =
+    ap (λ (b : ℕ). take i bytes ++ b ∷ drop (i + 1) bytes) (sym here)
+    ∙ ap (λ (t : List ℕ). take i bytes ++ t) (sym (drop_more bytes i 0 within)) ∙ take-append-drop i bytes
+
 -- a part that ends one
 pub skips_to_end : (limit : ℕ) (old new : Held) (skipped : Skipped) (from : Track) (part : List ℕ) (i : ℕ) → skipped ≡ Within from
     → TracksOn part from (Ok i) → new.dialect ≡ old.dialect → new.bytes ≡ old.bytes ++ drop (i + 1) part
@@ -32,9 +39,7 @@ pub skips_to_end : (limit : ℕ) (old new : Held) (skipped : Skipped) (from : Tr
 skips_to_end limit old new skipped from part i is tracks dialect bytes text h =
     let k = subst (λ (s : Skipped). HoldsBy limit old s text) is h in
     let after : new.bytes ≡ drop (i + 1) part = bytes ∙ ap (λ (t : List ℕ). t ++ drop (i + 1) part) k.0 in
-    let split : take i part ++ 10 ∷ drop (i + 1) part ≡ part =
-    ap (λ (b : ℕ). take i part ++ b ∷ drop (i + 1) part) (sym tracks.1)
-    ∙ ap (λ (t : List ℕ). take i part ++ t) (sym (drop_more part i 0 tracks.0)) ∙ take-append-drop i part in (
+    let split = parted part i tracks.0 tracks.1 in (
       text ++ take i part,
       omega (arith, length-append text (take i part), k.1),
       (
@@ -77,6 +82,25 @@ pub within_is_last : (limit : ℕ) (held : Held) (skipped : Skipped) (track : Tr
 within_is_last limit held skipped track text is h =
     let k = subst (λ (s : Skipped). HoldsBy limit held s text) is h in
     tracked_is_last held.dialect text track k.2
+
+-- then none are kept
+pub within_keeps_none : (limit : ℕ) (held : Held) (skipped : Skipped) (track : Track) (text : List ℕ) → skipped ≡ Within track
+    → HoldsBy limit held skipped text → length held.bytes ≡ 0
+within_keeps_none limit held skipped track text is h =
+    let k = subst (λ (s : Skipped). HoldsBy limit held s text) is h in
+    ap (λ (t : List ℕ). length t) k.0
+
+-- what is one piece has no newline that ends it
+pub no_end_within : (dialect : Dialect) (bytes : List ℕ) (track : Track) (i : ℕ) → IsTrackOf dialect [] track
+    → TracksOn bytes track (Ok i) → IsLastPiece dialect bytes → ⊥
+no_end_within dialect bytes track i begins tracks is_last =
+    no_cut_within dialect (take i bytes) (drop (i + 1) bytes) (tracks.2 dialect [] begins)
+    (subst (λ (t : List ℕ). IsLastPiece dialect t) (sym (parted bytes i tracks.0 tracks.1)) is_last)
+
+-- fewer bytes are kept once a piece is taken
+pub taking_keeps_fewer : (held after : Held) (piece : List ℕ) → TakesPiece held piece after → length after.bytes ≤ length held.bytes
+taking_keeps_fewer held after piece takes =
+    omega (arith, ap (λ (t : List ℕ). length t) takes.bytes, length-append piece (10 ∷ after.bytes))
 
 -- a piece is taken where no bytes were skipped
 pub takes_within : (limit : ℕ) (held after : Held) (skipped : Skipped) (piece text : List ℕ) → skipped ≡ Nothing

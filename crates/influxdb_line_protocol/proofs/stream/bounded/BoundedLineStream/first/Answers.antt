@@ -1,17 +1,19 @@
-use Rattle.std.proofs.Common.{◌<◌, length, List, ℕ, subst, sym, arith}
+use Rattle.std.proofs.Common.{◌<◌, ◌≤◌, length, List, ℕ, subst, sym, arith}
 use Rattle.influxdb_line_protocol.specs.format.Pieces.{IsLastPiece}
-use Rattle.influxdb_line_protocol.specs.code.Bounded.{CutsTo, HeldWithin, Holds, HoldsBy}
+use Rattle.influxdb_line_protocol.specs.code.Bounded.{CutsTo, HeldWithin, Holds, HoldsBy, kept}
 use Rattle.influxdb_line_protocol.specs.code.Streams.{Held, TakesPiece}
-use Rattle.influxdb_line_protocol.proofs.lemmas.stream.BoundedStreams.{takes_within, within_is_last}
+use Rattle.influxdb_line_protocol.proofs.lemmas.stream.BoundedStreams.{takes_within, within_is_last, within_keeps_none}
 use Rattle.influxdb_line_protocol.proofs.stream.bounded.BoundedLineStream.first.Goals as goal
 
 pub returns-in-Within-clause-finds : goal.returns-in-Within-clause-finds
 returns-in-Within-clause-finds c = λ text h.
-    let s = c.self.inside in (
+    let s = c.self.inside in
+    let holds = subst (λ (v : HeldWithin). Holds v text) (sym c.self.view_is) h in
+    let none = within_keeps_none s.limit s.stream s.skipped c.in-Within.field-0 text c.in-Within.is holds in (
       h,
       subst (λ (v : HeldWithin). IsLastPiece v.held.dialect text) c.self.view_is
-          (within_is_last s.limit s.stream s.skipped c.in-Within.field-0 text c.in-Within.is
-          (subst (λ (v : HeldWithin). Holds v text) (sym c.self.view_is) h)),
+          (within_is_last s.limit s.stream s.skipped c.in-Within.field-0 text c.in-Within.is holds),
+      subst (λ (v : HeldWithin). kept v ≤ v.limit) c.self.view_is (omega (arith, none)),
     )
 
 pub returns-in-Some-2-clause-finds : goal.returns-in-Some-2-clause-finds

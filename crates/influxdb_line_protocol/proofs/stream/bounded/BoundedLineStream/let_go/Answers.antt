@@ -1,7 +1,9 @@
 use Rattle.std.proofs.Common.{◌<◌, [], length, List, ℕ, subst, sym, ◌∙◌}
+use Rattle.influxdb_line_protocol.specs.declared.split.Dialect.{Dialect}
+use Rattle.influxdb_line_protocol.specs.format.Pieces.{IsLastPiece}
 use Rattle.influxdb_line_protocol.specs.code.Bounded.{HeldWithin, HoldsBy}
 use Rattle.influxdb_line_protocol.specs.declared.stream.bounded.Skipped.TheVariants.{Within}
-use Rattle.influxdb_line_protocol.proofs.lemmas.stream.BoundedStreams.{goes_within}
+use Rattle.influxdb_line_protocol.proofs.lemmas.stream.BoundedStreams.{goes_within, no_end_within}
 use Rattle.influxdb_line_protocol.proofs.stream.bounded.BoundedLineStream.let_go.Goals as goal
 
 pub returns-in-Err-clause-holds : goal.returns-in-Err-clause-holds
@@ -13,3 +15,13 @@ returns-in-Err-clause-holds c =
     (goes_within s.limit s.stream after c.held-2.result.now c.dialect.result c.in-Err.track c.held-2.ensures c.dialect.ensures
     (subst (λ (t : List ℕ). s.limit < length t) (c.held.ensures ∙ sym c.held-2.ensures) c.if-held-self.false)
     tracked c.take_all.follows.holds-at-none.1)
+
+pub returns-in_default-clause-few : goal.returns-in_default-clause-few
+returns-in_default-clause-few c =
+    let s = c.self.inside in
+    let bytes = c.held-2.result.now in
+    let is_last = subst (λ (v : HeldWithin). IsLastPiece v.held.dialect v.held.bytes) (sym c.self.view_is) c.requires.is_last in
+    let of_held = subst (λ (t : List ℕ). IsLastPiece s.stream.dialect t) (sym c.held-2.ensures) is_last in
+    absurd
+    (no_end_within c.dialect.result bytes c.new-first.result c.in_default.field-0 c.new-first.ensures.track c.in_default.ensures
+    (subst (λ (d : Dialect). IsLastPiece d bytes) (sym c.dialect.ensures) of_held))

@@ -2,8 +2,8 @@ use Rattle.std.proofs.Common.{◌≡◌, ◌≤◌, length, List, ℕ, Result, S
 use Rattle.influxdb_line_protocol.specs.declared.split.Mark.{Mark}
 use Rattle.influxdb_line_protocol.specs.declared.stream.bounded.TooLong.{TooLong}
 use Rattle.influxdb_line_protocol.specs.declared.stream.bounded.Skipped.TheVariants.{Nothing}
-use Rattle.influxdb_line_protocol.specs.code.Bounded.{CutsTo, FindsWithin, HeldWithin, Holds, HoldsBy}
-use Rattle.influxdb_line_protocol.proofs.lemmas.stream.BoundedStreams.{takes_within}
+use Rattle.influxdb_line_protocol.specs.code.Bounded.{CutsTo, FindsWithin, HeldWithin, Holds, HoldsBy, kept}
+use Rattle.influxdb_line_protocol.proofs.lemmas.stream.BoundedStreams.{takes_within, taking_keeps_fewer}
 use Rattle.influxdb_line_protocol.proofs.stream.bounded.BoundedLineStream.next.Goals as goal
 
 pub returns-in-Ok : goal.returns-in-Ok
@@ -22,6 +22,7 @@ returns-in-Ok c =
         (λ _. tt),
         (
           (takes.dialect ∙ ap (λ (v : HeldWithin). v.held.dialect) same, ap (λ (v : HeldWithin). v.limit) same),
+          subst (λ (v : HeldWithin). length after.bytes ≤ kept v) same (taking_keeps_fewer s.stream after piece takes),
           subst
               (λ (v : HeldWithin). (text : List ℕ) → Holds v text
               → (rest : List ℕ) × (length piece ≤ v.limit) × CutsTo v.held.dialect text piece rest × HoldsBy s.limit after s.skipped rest)
