@@ -1,14 +1,16 @@
 #!/usr/bin/env bash
-# Runs the program with each list of arguments that it knows, and with some that it does not.
+# Runs both programs with each list of arguments that they know, and with some that they do not.
 #
-#   checks/arguments.sh [PROGRAM]
+#   checks/arguments.sh [REBUILD RELAY]
 #
-# PROGRAM is a built program, such as ./lp_rebuild. Without it the sources are compiled unproved by `rt try`, which
-# takes seconds; the gate proves them. For a wrong argument a given PROGRAM must also leave the input unread.
+# REBUILD and RELAY are built programs, such as ./lp_rebuild and ./lp_relay. Without them the sources are compiled unproved
+# by `rt try`, which takes seconds; the gate proves them. For a wrong argument a given program must also leave the input
+# unread. A given RELAY is also run where its input fails and where its output is full or closed.
 set -eu
 top=$(cd "$(dirname "$0")/.." && pwd)
 PATH=$PATH:/opt/rattle/bin
-program=${1:+$(readlink -f "$1")}
+rebuild=${1:+$(readlink -f "$1")}
+relay=${2:+$(readlink -f "$2")}
 work=$(mktemp -d)
 trap 'rm -rf "$work"' EXIT
 
@@ -17,7 +19,7 @@ run() {
     if [ -n "$program" ]; then
         { "$program" "$@" >"$work/out" 2>"$work/err" && status=0 || status=$?; cat >"$work/left"; } <"$work/input"
     else
-        (cd "$top/crates/lp_rebuild_program" && rt try -- "$@" <"$work/input" >"$work/out" 2>"$work/said") && status=0 || status=$?
+        (cd "$top/crates/$crate" && rt try -- "$@" <"$work/input" >"$work/out" 2>"$work/said") && status=0 || status=$?
         grep -v -e '^checked: ' -e '^run=' "$work/said" >"$work/err" || true
     fi
 }
@@ -31,12 +33,12 @@ wanted() {
     printf 'm a=1i,\n' >"$work/input"
     run "$@"
     if [ "$status" != "$status_wanted" ] || ! cmp -s "$work/out" "$work/out_wanted" || ! cmp -s "$work/err" "$work/err_wanted"; then
-        echo "arguments: with the arguments ($*) the status is $status, where $status_wanted is wanted, and"
+        echo "arguments: with the arguments ($*) the status of $crate is $status, where $status_wanted is wanted, and"
         diff "$work/out_wanted" "$work/out" && diff "$work/err_wanted" "$work/err"
         exit 1
     fi
     if [ -n "$program" ] && [ "$status" = 2 ] && ! cmp -s "$work/input" "$work/left"; then
-        echo "arguments: with the arguments ($*) some of the input was read"
+        echo "arguments: with the arguments ($*) $crate read some of the input"
         exit 1
     fi
     lists=$((lists + 1))
@@ -44,15 +46,56 @@ wanted() {
 
 newline='
 '
-usage="usage: lp_rebuild [--strict]$newline"
+loose="m a=1i$newline"
+strict_fault="item 1: Could not parse entire line. Found trailing content: ','$newline"
 lists=0
-wanted 0 "m a=1i$newline" ""
-wanted 1 "" "item 1: Could not parse entire line. Found trailing content: ','$newline" --strict
-wanted 2 "" "$usage" --loose
-wanted 2 "" "$usage" --strict --strict
-# An argument that is not UTF-8 cannot be read; `rt try` takes none.
-if [ -n "$program" ]; then
-    wanted 2 "" "$usage" "$(printf '\377')"
-    wanted 2 "" "$usage" ""
+
+# wanted_of_both USAGE: what both programs answer alike.
+wanted_of_both() {
+    wanted 0 "$loose" ""
+    wanted 1 "" "$strict_fault" --strict
+    wanted 2 "" "$1" --loose
+    wanted 2 "" "$1" --strict --strict
+    # An argument that is not UTF-8 cannot be read; `rt try` takes none.
+    if [ -n "$program" ]; then
+        wanted 2 "" "$1" "$(printf '\377')"
+        wanted 2 "" "$1" ""
+    fi
+}
+
+crate=lp_rebuild_program
+program=$rebuild
+wanted_of_both "usage: lp_rebuild [--strict]$newline"
+
+crate=lp_relay
+program=$relay
+usage="usage: lp_relay [--strict]${newline}       lp_relay --help$newline"
+wanted_of_both "$usage"
+wanted 2 "" "$usage" --help --strict
+run --help
+if [ "$status" != 0 ] || [ -s "$work/err" ] || ! printf '%s' "$usage" | cmp -s - <(head -n 2 "$work/out"); then
+    echo "arguments: --help does not begin with the usage, or its status is $status"
+    exit 1
 fi
+lists=$((lists + 1))
 echo "arguments: $lists lists answered"
+[ -n "$relay" ] || exit 0
+
+# ends STATUS FAULT: how the relay that was run last ended.
+ends() {
+    if [ "$status" != "$1" ] || [ "$(tail -n 1 "$work/err")" != "$2" ]; then
+        echo "arguments: the relay ends with status $status, where $1 is wanted, and says $(tail -n 1 "$work/err")"
+        exit 1
+    fi
+}
+yes 'm a=1i' | head -n 100000 >"$work/long"
+"$relay" <"$work" >"$work/out" 2>"$work/err" && status=0 || status=$?
+ends 2 "lp_relay: cannot read the input"
+"$relay" <"$work/long" >/dev/full 2>"$work/err" && status=0 || status=$?
+ends 2 "lp_relay: cannot write the output"
+"$relay" --help </dev/null >/dev/full 2>"$work/err" && status=0 || status=$?
+ends 2 ""
+{ "$relay" <"$work/long" 2>"$work/err" && echo 0 >"$work/status" || echo $? >"$work/status"; } | head -n 1 >"$work/out"
+status=$(cat "$work/status")
+ends 2 "lp_relay: cannot write the output"
+echo "arguments: the relay ends where its input fails and where its output is full or closed"

@@ -13,7 +13,7 @@ from pathlib import Path
 
 TOP = Path(__file__).resolve().parent.parent
 LIST = TOP / "docs" / "DEFINITIONS.md"
-LIBRARIES = ["influxdb_line_protocol", "lp_rebuild", "lp_c"]
+LIBRARIES = ["influxdb_line_protocol", "lp_rebuild", "lp_relay", "lp_c"]
 
 HEAD = """\
 # Definitions
@@ -32,12 +32,13 @@ PARTS = {
     "code": ("What the code holds, finds and returns", "They tie the code's types and searches to the format."),
     "laws": ("The laws", "What the definitions say of one another, and the words of these statements."),
     "program": ("The program", "The definitions of `lp_rebuild`."),
+    "relay": ("The relay", "The definitions of the program `lp_relay`."),
     "callers": ("Callers in C", "The definitions of `lp_c`."),
 }
 
 
 # The parts of the crates above the library.
-ROOMS = {"lp_rebuild": "program", "lp_c": "callers"}
+ROOMS = {"lp_rebuild": "program", "lp_relay": "relay", "lp_c": "callers"}
 
 
 @dataclass
