@@ -10,7 +10,7 @@ from typing import AnyStr, Generic, List
 from . import library as lp
 
 _KEPT = threading.local()
-"""For each thread, the memory that its last call wrote to: new memory from the system takes a third of the time of a call."""
+"""For each thread, the memory that its last call wrote to: new memory from the system takes much of the time of a call."""
 
 _MOST_KEPT = 1 << 26
 """Where it is more bytes than this, none is kept."""
