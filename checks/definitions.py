@@ -28,7 +28,7 @@ definition has no comment, its type is in its place.
 
 # The rooms of specs/, and what is in them.
 PARTS = {
-    "format": ("The format", "They speak of texts alone, and of no type of the code but `Dialect`."),
+    "format": ("The format", "They speak of texts alone, and of no type of the code."),
     "code": ("What the code holds, finds and returns", "They tie the code's types and searches to the format."),
     "laws": ("The laws", "What the definitions say of one another, and the words of these statements."),
     "program": ("The program", "The definitions of `lp_rebuild`."),

@@ -1,11 +1,12 @@
 #!/usr/bin/env python3
-"""Whether the imports of the library's modules go down the layers of docs/ARCHITECTURE.md.
+"""Whether the imports of the library's modules go down the layers of docs/ARCHITECTURE.md, and the format names no code.
 
     checks/layers.py            prints each import that goes up a layer or closes a cycle; status 1 where there is one
     checks/layers.py --all      prints every import between modules, with what is imported
 
 A module is a file of crates/influxdb_line_protocol/src with the files in its folder. An import is a path from `crate`,
-in a `use` or in the code; what `lib.rt` hands on counts for the module that it is of. A ghost `use` is none.
+in a `use` or in the code; what `lib.rt` hands on counts for the module that it is of. A ghost `use` is none. The definitions of
+specs/format/ may import each other and std, and nothing else.
 """
 
 import re
@@ -15,6 +16,7 @@ from pathlib import Path
 TOP = Path(__file__).resolve().parent.parent
 CRATE = "influxdb_line_protocol"
 SOURCE = TOP / "crates" / CRATE / "src"
+FORMAT = TOP / "crates" / CRATE / "specs" / "format"
 MAP = TOP / "docs" / "ARCHITECTURE.md"
 
 
@@ -138,6 +140,14 @@ def report(graph, layer, circles, everything):
     return wrong
 
 
+def format_imports():
+    """What the definitions of the format import beside each other and std."""
+    for path in sorted(FORMAT.glob("*.antt")):
+        for name in re.findall(r"^use Rattle\.([\w.]+)", path.read_text(encoding="utf-8"), re.M):
+            if not name.startswith(("std.", f"{CRATE}.specs.format.")):
+                yield f"format: {path.name} imports {name}"
+
+
 def main(words):
     if words not in ([], ["--all"]):
         print(__doc__, file=sys.stderr)
@@ -153,8 +163,10 @@ def main(words):
     wrong = report(graph, layer, circles, words == ["--all"])
     for circle in circles:
         print(f"each of these reaches each other: {' '.join(circle)}")
+    strange = list(format_imports())
+    print("".join(f"{line}\n" for line in strange), end="")
     print(f"layers: {len(names)} modules, {wrong} imports that go up or close a cycle in one layer")
-    return 1 if wrong or circles else 0
+    return 1 if wrong or circles or strange else 0
 
 
 if __name__ == "__main__":

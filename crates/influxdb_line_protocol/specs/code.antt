@@ -1,3 +1,4 @@
+pub mod Rules
 pub mod Lanes
 pub mod Scan
 pub mod RawTokens

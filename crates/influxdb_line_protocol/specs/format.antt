@@ -1,4 +1,5 @@
 pub mod Bytes
+pub mod Dialects
 pub mod Escapes
 pub mod Readings
 pub mod Names

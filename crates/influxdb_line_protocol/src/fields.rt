@@ -1,6 +1,7 @@
 //! The fields of a line.
 
 ghost use Rattle.std.specs.Prelude.{◌≡◌, ◌<◌, ◌≤◌, [], ◌∷◌, ◌++◌, length, IfErr, IfOk, IfSome, OnErr, OnOk, Err};
+ghost use Rattle.influxdb_line_protocol.specs.code.Rules.{rules_of};
 ghost use Rattle.influxdb_line_protocol.specs.code.Filled.{Fills};
 ghost use Rattle.influxdb_line_protocol.specs.code.Light.{is_single_field};
 ghost use Rattle.influxdb_line_protocol.specs.format.Lines.{field, field_set, separated_list, without_comma};
@@ -89,7 +90,7 @@ fn fields<'a>(alloc: Global, text: &'a str, set: &mut FieldSet<'a>) -> Result<Op
 // field that is the only one.
 #[inline(always)]
 fn without_comma<'a>(dialect: Dialect, fields: &FieldSet<'_>, rest: &'a str) -> &'a str
-    ensures { result.now ≡ without_comma dialect (fields_of fields.now) rest.now }
+    ensures { result.now ≡ without_comma (rules_of dialect) (fields_of fields.now) rest.now }
 {
     match dialect {
         Dialect::Crate if fields.len() == 1 => strip_byte(b',', rest).unwrap_or(rest),
@@ -109,7 +110,7 @@ pub(crate) fn field_set<'a>(
     set: &mut FieldSet<'a>,
 ) -> Result<Option<&'a str>>
     requires { set.old.items ≡ [] }
-    ensures value { Fills (fields_of set.new) result (field_set dialect text.now) }
+    ensures value { Fills (fields_of set.new) result (field_set (rules_of dialect) text.now) }
     ensures memory { result ≡ Err Error.OutOfMemory → SetNeedsMemory set.old.capacity is_single_field field text.now }
     ensures room { set.old.capacity ≤ set.new.capacity }
 {

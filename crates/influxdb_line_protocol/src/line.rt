@@ -3,7 +3,8 @@
 ghost use Rattle.std.specs.Prelude.{◌≡◌, ◌<◌, ◌≤◌, ◌++◌, ◌^◌, ℕ, List, [], length, max, slice_index, true, Err, None};
 ghost use Rattle.std.specs.Prelude.{Some, IfSome, MatchOption};
 ghost use Rattle.std.specs.Option.{option_map};
-ghost use Rattle.influxdb_line_protocol.specs.declared.split.Dialect.{Dialect};
+ghost use Rattle.influxdb_line_protocol.specs.format.Dialects.{Crate};
+ghost use Rattle.influxdb_line_protocol.specs.code.Rules.{rules_of};
 ghost use Rattle.influxdb_line_protocol.specs.format.Lines.{answer, front_before};
 ghost use Rattle.influxdb_line_protocol.specs.format.Bytes.{space};
 ghost use Rattle.influxdb_line_protocol.specs.code.Outcomes.{IsNotOutOfMemory};
@@ -47,8 +48,8 @@ fn fill<'a>(
 ) -> Result<()>
     requires no_tags { MatchOption parsed.old.series.tag_set ⊥ (λ tags. tags.items ≡ []) }
     requires no_fields { parsed.old.field_set.items ≡ [] }
-    ensures value { FillsLine parsed.new result (answer dialect line.now) }
-    ensures light { is_light_in (room_of parsed.old.series.tag_set) parsed.old.field_set.capacity dialect
+    ensures value { FillsLine parsed.new result (answer (rules_of dialect) line.now) }
+    ensures light { is_light_in (room_of parsed.old.series.tag_set) parsed.old.field_set.capacity (rules_of dialect)
         line.now ≡ true → IsNotOutOfMemory result }
     ensures tag_room { KeepsTagRoom parsed.old parsed.new }
     ensures field_room { parsed.old.field_set.capacity ≤ parsed.new.field_set.capacity }
@@ -208,7 +209,7 @@ impl<'a> ParseLines<'a> {
 /// at most 8 tags and 4 fields asks for none where each name and string of it is a part of the
 /// input, or where it holds no backslash and its fault carries no text.
 pub fn parse_lines(alloc: Global, input: &str) -> ParseLines<'_>
-    ensures { result ≡ record { dialect = Dialect.Crate; text = Some input.now } }
+    ensures { result ≡ record { dialect = Crate; text = Some input.now } }
 {
     parse_lines_in(alloc, Dialect::Crate, input)
 }
@@ -225,7 +226,7 @@ pub fn parse_lines(alloc: Global, input: &str) -> ParseLines<'_>
 /// ```
 #[inline]
 pub fn parse_lines_in(alloc: Global, dialect: Dialect, input: &str) -> ParseLines<'_>
-    ensures { result ≡ record { dialect = dialect; text = Some input.now } }
+    ensures { result ≡ record { dialect = rules_of dialect; text = Some input.now } }
 {
     ParseLines {
         lines: split_lines_in(dialect, input),

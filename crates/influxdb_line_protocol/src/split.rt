@@ -14,7 +14,8 @@ ghost use Rattle.influxdb_line_protocol.specs.code.Seen.{AreSeen};
 ghost use Rattle.influxdb_line_protocol.specs.code.Stops.{is_stop, is_mark};
 ghost use Rattle.influxdb_line_protocol.specs.code.Walks.{IsWalked};
 ghost use Rattle.influxdb_line_protocol.specs.format.Pieces.{begins_comment, IsFirstCut, GivesPiece, most_pieces};
-ghost use Rattle.influxdb_line_protocol.specs.declared.split.Dialect.{Dialect};
+ghost use Rattle.influxdb_line_protocol.specs.format.Dialects.{Crate};
+ghost use Rattle.influxdb_line_protocol.specs.code.Rules.{rules_of};
 
 use crate::lanes::first_set;
 use crate::scan::{WIDE, bare, escapes_next, ones_below, places_of};
@@ -447,7 +448,7 @@ fn plain_run(text: &[u8], ahead: Ahead) -> Walk
 /// comments. It goes from stretch to stretch: no stretch is searched twice, and each byte is counted at most once.
 #[inline(never)]
 fn cut_by_stretches(text: &[u8]) -> Option<usize>
-    ensures { IsFirstCut Dialect.Crate text.now result }
+    ensures { IsFirstCut Crate text.now result }
 {
     let head = head_len(text);
     if *text.get(head)? == b'\n' {
@@ -553,7 +554,7 @@ fn first_newline(text: &[u8]) -> Option<usize>
 /// The place of the newline that ends the first piece, or `None` where the text is one piece.
 #[inline(always)]
 fn late_cut(dialect: Dialect, text: &[u8]) -> Option<usize>
-    ensures { IsFirstCut dialect text.now result }
+    ensures { IsFirstCut (rules_of dialect) text.now result }
 {
     match dialect {
         Dialect::Crate => cut_by_stretches(text),
@@ -566,7 +567,7 @@ fn late_cut(dialect: Dialect, text: &[u8]) -> Option<usize>
 #[inline(always)]
 fn first_cut(dialect: Dialect, text: &[u8], seen: u64) -> Option<Mark>
     requires { AreSeen text.now seen }
-    ensures cut { IsFirstCut dialect text.now (option_map (λ m. m.at) result) }
+    ensures cut { IsFirstCut (rules_of dialect) text.now (option_map (λ m. m.at) result) }
     ensures later { IfSome result (λ m. AreSeen (drop (m.at + 1) text.now) m.later) }
 {
     let found = first_mark(text, seen)?;
@@ -594,10 +595,11 @@ impl<'a> Model for SplitLines<'a> {
     ghost use Rattle.std.specs.Prelude.{option_map, IfSome};
     ghost use Rattle.influxdb_line_protocol.specs.format.Pieces.{Left};
     ghost use Rattle.influxdb_line_protocol.specs.code.Seen.{AreSeen};
+    ghost use Rattle.influxdb_line_protocol.specs.code.Rules.{rules_of};
 
     ghost Value = { Left };
 
-    ghost view = { λ s. record { dialect = s.dialect; text = option_map (λ x. x.now) s.rest } };
+    ghost view = { λ s. record { dialect = rules_of s.dialect; text = option_map (λ x. x.now) s.rest } };
 
     ghost invariant = { λ s. IfSome s.rest (λ text. AreSeen text.now s.seen) };
 }
@@ -611,7 +613,7 @@ impl<'a> Model for SplitLines<'a> {
 /// split_lines("m s=\"a\nb\"\nn c=1i")  gives  "m s=\"a\nb\""  and  "n c=1i"
 /// ```
 pub fn split_lines(input: &str) -> SplitLines<'_>
-    ensures { result ≡ record { dialect = Dialect.Crate; text = Some input.now } }
+    ensures { result ≡ record { dialect = Crate; text = Some input.now } }
 {
     split_lines_in(Dialect::Crate, input)
 }
@@ -626,7 +628,7 @@ pub fn split_lines(input: &str) -> SplitLines<'_>
 /// split_lines_in(Dialect::Strict, "# a=\"\nm b=1i")  gives  "# a=\""  and  "m b=1i"
 /// ```
 pub fn split_lines_in(dialect: Dialect, input: &str) -> SplitLines<'_>
-    ensures { result ≡ record { dialect = dialect; text = Some input.now } }
+    ensures { result ≡ record { dialect = rules_of dialect; text = Some input.now } }
 {
     SplitLines {
         dialect,
@@ -655,7 +657,7 @@ impl<'a> SplitLines<'a> {
 
     // The dialect whose rules hold.
     pub(crate) fn dialect(&self) -> Dialect
-        ensures { result ≡ self.now.dialect }
+        ensures { rules_of result ≡ self.now.dialect }
     {
         self.dialect
     }

@@ -2,7 +2,8 @@
 
 ghost use Rattle.std.specs.Prelude.{◌≡◌, ◌++◌, [], length, OnOk, OnErr, Some};
 ghost use Rattle.std.specs.Borrow.{sem};
-ghost use Rattle.influxdb_line_protocol.specs.declared.split.Dialect.{Dialect};
+ghost use Rattle.influxdb_line_protocol.specs.format.Dialects.{Crate};
+ghost use Rattle.influxdb_line_protocol.specs.code.Rules.{rules_of};
 ghost use Rattle.influxdb_line_protocol.specs.code.Streams.{FindsCut};
 ghost use Rattle.influxdb_line_protocol.specs.format.Pieces.{IsLastPiece};
 
@@ -39,13 +40,14 @@ pub struct LineStream {
 
 impl Model for LineStream {
     ghost use Rattle.std.specs.Prelude.{drop};
+    ghost use Rattle.influxdb_line_protocol.specs.code.Rules.{rules_of};
     ghost use Rattle.influxdb_line_protocol.specs.code.Streams.{Held, IsHeldAt};
 
     ghost Value = { Held };
 
-    ghost view = { λ s. record { dialect = s.dialect; bytes = drop s.start s.buffer.items } };
+    ghost view = { λ s. record { dialect = rules_of s.dialect; bytes = drop s.start s.buffer.items } };
 
-    ghost invariant = { λ s. IsHeldAt s.dialect s.buffer.items s.start s.known };
+    ghost invariant = { λ s. IsHeldAt (rules_of s.dialect) s.buffer.items s.start s.known };
 }
 
 impl LineStream {
@@ -54,14 +56,14 @@ impl LineStream {
 
     /// A stream that holds nothing, by the rules of the crate. No memory is taken.
     pub fn new(alloc: Global) -> LineStream
-        ensures { result ≡ record { dialect = Dialect.Crate; bytes = [] } }
+        ensures { result ≡ record { dialect = Crate; bytes = [] } }
     {
         LineStream::new_in(alloc, Dialect::Crate)
     }
 
     /// A stream that holds nothing, by the rules of a dialect. No memory is taken.
     pub fn new_in(alloc: Global, dialect: Dialect) -> LineStream
-        ensures { result ≡ record { dialect = dialect; bytes = [] } }
+        ensures { result ≡ record { dialect = rules_of dialect; bytes = [] } }
     {
         LineStream {
             dialect,
@@ -163,7 +165,7 @@ impl LineStream {
 
     // The dialect whose rules hold.
     fn dialect(&self) -> Dialect
-        ensures { result ≡ self.now.dialect }
+        ensures { rules_of result ≡ self.now.dialect }
     {
         self.dialect
     }

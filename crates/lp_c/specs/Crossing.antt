@@ -3,7 +3,7 @@ use Rattle.std.specs.Prelude.{◌≡◌, ◌<◌, ◌+◌, ◌-◌, ◌^◌, ◌
 use Rattle.std.specs.Prelude.{length, map, take, drop, min, string_bytes, if◌then◌else◌}
 use Rattle.std.specs.List.{sum_by}
 use Rattle.std.specs.Option.{option_map, is_some}
-use Rattle.influxdb_line_protocol.specs.declared.split.Dialect.{Dialect}
+use Rattle.influxdb_line_protocol.specs.format.Dialects.{Dialect, Crate, Strict}
 use Rattle.influxdb_line_protocol.specs.declared.parsed.ParsedLine.{ParsedLine}
 use Rattle.influxdb_line_protocol.specs.declared.error.Error.{Error}
 use Rattle.influxdb_line_protocol.specs.declared.error.Error.TheVariants as error
@@ -30,8 +30,8 @@ use Rattle.lp_c.specs.declared.views.View.{View}
 
 -- the dialect that a cursor names
 abbrev pub dialect_of : Bool → Dialect
-dialect_of true = Dialect.Strict
-dialect_of false = Dialect.Crate
+dialect_of true = Strict
+dialect_of false = Crate
 
 -- the text that a cursor has left
 abbrev pub left_text : Bool → List ℕ → Option (List ℕ)

@@ -1,6 +1,7 @@
 //! The calls that read.
 
 ghost use Rattle.std.specs.Prelude.{◌≡◌, ◌≤◌, ◌+◌, ◌↔◌, length, false, IsFalse, IsTrue, IsUtf8, Some, option_map};
+ghost use Rattle.influxdb_line_protocol.specs.code.Rules.{rules_of};
 ghost use Rattle.influxdb_line_protocol.specs.code.ParseSteps.{GivesItem};
 ghost use Rattle.influxdb_line_protocol.specs.code.ReadInto.{item_in};
 ghost use Rattle.lp_c.specs.Numbers.{answer_number};
@@ -43,7 +44,7 @@ pub extern "C" fn lp_lines_begin<'a>(text: &'a [u8], strict: bool, lines: &mut L
 
 // The dialect that a cursor names.
 fn dialect_of(strict: bool) -> Dialect
-    ensures { result ≡ dialect_of strict }
+    ensures { rules_of result ≡ dialect_of strict }
 {
     if strict {
         Dialect::Strict

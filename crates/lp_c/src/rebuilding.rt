@@ -1,6 +1,7 @@
 //! A text that is rebuilt: its lines are written again into a buffer that the caller lends, and its faults into another.
 
 ghost use Rattle.std.specs.Prelude.{◌≡◌, ◌≢◌, ◌⊎◌, IsUtf8};
+ghost use Rattle.influxdb_line_protocol.specs.code.Rules.{rules_of};
 ghost use Rattle.lp_c.specs.declared.views.Answer.TheVariants.{NotUtf8, OutOfMemory};
 ghost use Rattle.lp_c.specs.Numbers.{answer_number};
 ghost use Rattle.lp_c.specs.Rebuilding.{Counted, PutsBoth, RebuildsInto, dialect_of};
@@ -54,7 +55,7 @@ fn put_both(rebuilt: &Rebuilt, batch: &mut [u8], faults: &mut [u8]) -> u32
 
 // The dialect that is asked for.
 fn dialect_of(strict: bool) -> Dialect
-    ensures { result ≡ dialect_of strict }
+    ensures { rules_of result ≡ dialect_of strict }
 {
     if strict {
         Dialect::Strict

@@ -7,7 +7,7 @@ use Rattle.std.proofs.lemmas.Bool.{cases_Bool}
 use Rattle.std.proofs.lemmas.Grind.{flat_map-append}
 use Rattle.std.proofs.lemmas.List.Sums.{sum_by-append}
 use Rattle.std.proofs.lemmas.Str.{IsUtf8-from_is_utf8, is_utf8-from_IsUtf8}
-use Rattle.influxdb_line_protocol.specs.declared.split.Dialect.{Dialect}
+use Rattle.influxdb_line_protocol.specs.format.Dialects.{Dialect}
 use Rattle.influxdb_line_protocol.specs.format.Points.{built}
 use Rattle.influxdb_line_protocol.specs.format.Items.{answers_of_piece}
 use Rattle.lp_rebuild.specs.Relaying.{Item, items_of_piece, items_of, is_carried_item, item_point, items_batch, item_fault, item_faults}

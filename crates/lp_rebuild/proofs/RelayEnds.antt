@@ -1,7 +1,7 @@
 -- How a relay ends.
 use Rattle.std.proofs.Common.{◌≡◌, ℕ, ◌+◌, ◌<◌, ◌⊎◌, ◌≤◌, ◌∙◌, [], Option, Some, None, IfSome, Result, Ok, Err, IsErrAnd}
 use Rattle.std.proofs.Common.{true, refl, sym, subst, arith, inl, inr}
-use Rattle.influxdb_line_protocol.specs.declared.split.Dialect.{Dialect}
+use Rattle.influxdb_line_protocol.specs.format.Dialects.{Dialect}
 use Rattle.influxdb_line_protocol.specs.laws.Laws.{PiecesAreUnique}
 use Rattle.influxdb_line_protocol.specs.laws.StreamLaws.{Utf8ByPieces}
 use Rattle.lp_rebuild.specs.declared.program.RunFault.{RunFault}

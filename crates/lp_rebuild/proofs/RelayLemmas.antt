@@ -7,7 +7,7 @@ use Rattle.std.specs.Borrow.{Bor}
 use Rattle.std.specs.List.{All}
 use Rattle.std.specs.Io.KnownBytes.{Appends}
 use Rattle.std.proofs.KnownBytes.{Appends-nil}
-use Rattle.influxdb_line_protocol.specs.declared.split.Dialect.{Dialect}
+use Rattle.influxdb_line_protocol.specs.format.Dialects.{Dialect}
 use Rattle.influxdb_line_protocol.specs.declared.error.Error.{Error}
 use Rattle.influxdb_line_protocol.specs.declared.parsed.ParsedLine.{ParsedLine}
 use Rattle.influxdb_line_protocol.specs.format.Readings.{Fault}

@@ -4,7 +4,7 @@ use Rattle.std.proofs.Common.{append-nil, arith, take}
 use Rattle.std.specs.Io.KnownBytes.{Consumes, IsAtEnd}
 use Rattle.std.proofs.KnownBytes.{Consumes-nil, Consumes-trans, Consumes-whole}
 use Rattle.std.proofs.lemmas.Grind.{flat_map-append}
-use Rattle.influxdb_line_protocol.specs.declared.split.Dialect.{Dialect}
+use Rattle.influxdb_line_protocol.specs.format.Dialects.{Dialect}
 use Rattle.influxdb_line_protocol.specs.format.Pieces.{IsLastPiece, Pieces, Pieces.cut, Pieces.last}
 use Rattle.influxdb_line_protocol.specs.code.Streams.{Held}
 use Rattle.influxdb_line_protocol.specs.laws.Laws.{PiecesExist}

@@ -1,8 +1,7 @@
 -- What a text gives when it is rebuilt: the lines that are carried, written again, and a fault line for each other one.
 use Rattle.std.specs.Prelude.{◌≡◌, ℕ, ◌+◌, Bool, false, not, List, [], ◌∷◌, ◌++◌, codes, map, Result, Ok, Err, decimal, if◌then◌else◌}
 use Rattle.std.specs.List.{flat_map, count_by}
-use Rattle.influxdb_line_protocol.specs.declared.split.Dialect.{Dialect}
-use Rattle.influxdb_line_protocol.specs.declared.split.Dialect.TheVariants.{Crate}
+use Rattle.influxdb_line_protocol.specs.format.Dialects.{Dialect, Crate}
 use Rattle.influxdb_line_protocol.specs.format.Bytes.{newline}
 use Rattle.influxdb_line_protocol.specs.format.Readings.{Fault}
 use Rattle.influxdb_line_protocol.specs.format.Points.{Point, is_admitted_point, built_all}

@@ -3,7 +3,7 @@ use Rattle.std.specs.Prelude.{◌≡◌, ℕ, ◌+◌, Bool, false, not, List, [
 use Rattle.std.specs.Prelude.{if◌then◌else◌}
 use Rattle.std.specs.List.{flat_map, count_by}
 use Rattle.std.specs.Str.{is_utf8}
-use Rattle.influxdb_line_protocol.specs.declared.split.Dialect.{Dialect}
+use Rattle.influxdb_line_protocol.specs.format.Dialects.{Dialect}
 use Rattle.influxdb_line_protocol.specs.format.Readings.{Fault}
 use Rattle.influxdb_line_protocol.specs.format.Points.{Point, built_all}
 use Rattle.influxdb_line_protocol.specs.format.Lines.{Line}

@@ -2,8 +2,7 @@
 use Rattle.std.specs.Prelude.{◌≡◌, ◌≢◌, ◌⊎◌, ◌↔◌, ℕ, ◌+◌, ◌<◌, ◌≤◌, List, [], ◌∷◌, bytes_eq, take, codes, Option, Some}
 use Rattle.std.specs.Prelude.{None, Result, Ok, Err, IfOk, IfErr, IfSome, ◌==◌, Bool, true, OnOk, if◌then◌else◌}
 use Rattle.std.specs.Borrow.{Bor}
-use Rattle.influxdb_line_protocol.specs.declared.split.Dialect.{Dialect}
-use Rattle.influxdb_line_protocol.specs.declared.split.Dialect.TheVariants.{Crate, Strict}
+use Rattle.influxdb_line_protocol.specs.format.Dialects.{Dialect, Crate, Strict}
 use Rattle.std.specs.Str.{IsUtf8}
 use Rattle.std.specs.Io.KnownBytes.{Appends, Keeps}
 use Rattle.lp_rebuild.specs.declared.program.RunFault.{RunFault}

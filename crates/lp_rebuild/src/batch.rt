@@ -1,5 +1,6 @@
 //! The lines of a text, written again.
 ghost use Rattle.std.specs.Prelude.{◌≡◌, ◌+◌, ◌<◌, ◌++◌, IfOk, IfSome, OnOk, Result, Ok, Err};
+ghost use Rattle.influxdb_line_protocol.specs.code.Rules.{rules_of};
 ghost use Rattle.influxdb_line_protocol.specs.format.Readings.{Fault};
 ghost use Rattle.influxdb_line_protocol.specs.format.Points.{built_if_admitted, is_admitted_point};
 ghost use Rattle.influxdb_line_protocol.specs.format.Lines.{Line};
@@ -148,8 +149,8 @@ pub fn rebuild(alloc: Global, input: &str) -> Result<Rebuilt, AllocError>
 /// Where a request for memory is refused, as for [`rebuild`].
 #[inline]
 pub fn rebuild_in(alloc: Global, dialect: Dialect, input: &str) -> Result<Rebuilt, AllocError>
-    ensures rebuilds { IfOk result (λ r. RebuildsIn dialect input.now r) }
-    ensures reads_back { IfOk result (λ r. ReadsBackIn dialect input.now r) }
+    ensures rebuilds { IfOk result (λ r. RebuildsIn (rules_of dialect) input.now r) }
+    ensures reads_back { IfOk result (λ r. ReadsBackIn (rules_of dialect) input.now r) }
 {
     laws::batch_reads_back();
     laws::items_are_answers();

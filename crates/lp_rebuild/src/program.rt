@@ -1,6 +1,7 @@
 //! From a reader to two writers.
-ghost use Rattle.std.specs.Prelude.{◌≡◌, ◌+◌, ◌<◌, ◌≤◌, take, drop, length, vec_len, true, IfOk, OnOk, OnErr};
+ghost use Rattle.std.specs.Prelude.{◌≡◌, ◌+◌, ◌<◌, ◌≤◌, take, drop, length, option_map, vec_len, true, IfOk, OnOk, OnErr};
 ghost use Rattle.std.specs.Io.KnownBytes.{Appends, Consumes, IsAtEnd};
+ghost use Rattle.influxdb_line_protocol.specs.code.Rules.{rules_of};
 ghost use Rattle.lp_rebuild.specs.Devices.{CountsFailure};
 ghost use Rattle.lp_rebuild.specs.Running.{AppendsFront, CountsReadFault, Runs, RunsIn, asked_dialect, reader_told, status_of, writer_told};
 
@@ -179,7 +180,7 @@ pub fn run_in<R: Source, W: Sink, E: Sink>(
     out: &mut W,
     err: &mut E,
 ) -> Result<Rebuilt, RunFault>
-    ensures { RunsIn dialect result
+    ensures { RunsIn (rules_of dialect) result
         (reader_told R.bytes R.failures reader.old) (reader_told R.bytes R.failures reader.new)
         (writer_told W.bytes W.failures W.is_flushed out.old) (writer_told W.bytes W.failures W.is_flushed out.new)
         (writer_told E.bytes E.failures E.is_flushed err.old) (writer_told E.bytes E.failures E.is_flushed err.new) }
@@ -225,7 +226,7 @@ pub const USAGE: &str = "usage: lp_rebuild [--strict]";
 /// dialect_of(&["--strict", "--strict"])  gives  None
 /// ```
 pub fn dialect_of(words: &[&str]) -> Option<Dialect>
-    ensures { result ≡ asked_dialect words.now }
+    ensures { option_map rules_of result ≡ asked_dialect words.now }
 {
     match words {
         [] => Some(Dialect::Crate),

@@ -1,5 +1,6 @@
 //! From a reader to two writers, line by line as they come.
 ghost use Rattle.std.specs.Prelude.{◌≡◌, ◌+◌, ◌<◌, ◌≤◌, ◌++◌, List, [], ℕ, Some, map, string_bytes, true, IfOk, OnOk, OnErr};
+ghost use Rattle.influxdb_line_protocol.specs.code.Rules.{rules_of};
 ghost use Rattle.influxdb_line_protocol.specs.format.Pieces.{IsLastPiece};
 ghost use Rattle.influxdb_line_protocol.specs.format.Items.{answers_of_piece};
 ghost use Rattle.lp_rebuild.specs.Relaying.{items_of_piece};
@@ -47,9 +48,9 @@ fn take_text(
     text: &str,
 ) -> Result<(), AllocError>
     requires room { so_far.old.carried + so_far.old.refused < usize.MAX }
-    requires piece { IsLastPiece dialect text.now }
+    requires piece { IsLastPiece (rules_of dialect) text.now }
     ensures taken { OnOk result
-        (TakesItems (made so_far.old) (map Some (answers_of_piece dialect text.now)) (made so_far.new)) }
+        (TakesItems (made so_far.old) (map Some (answers_of_piece (rules_of dialect) text.now)) (made so_far.new)) }
     ensures counted { OnOk result
         (so_far.new.carried + so_far.new.refused ≤ so_far.old.carried + so_far.old.refused + 1) }
 {
@@ -74,9 +75,9 @@ fn take_piece(
     piece: Result<&str, Utf8Error>,
 ) -> Result<(), AllocError>
     requires fits { so_far.old.carried + so_far.old.refused ≤ usize.MAX }
-    requires piece { IfOk piece (λ text. IsLastPiece dialect text.now) }
+    requires piece { IfOk piece (λ text. IsLastPiece (rules_of dialect) text.now) }
     ensures taken { OnOk result
-        ((bytes : List ℕ) → ShowsPiece piece.entry bytes → TakesItems (made so_far.old) (items_of_piece dialect bytes) (made so_far.new)) }
+        ((bytes : List ℕ) → ShowsPiece piece.entry bytes → TakesItems (made so_far.old) (items_of_piece (rules_of dialect) bytes) (made so_far.new)) }
     ensures fits { OnOk result (so_far.new.carried + so_far.new.refused ≤ usize.MAX) }
 {
     if so_far.carried + so_far.refused == usize::MAX {
@@ -164,11 +165,11 @@ fn relay_pieces<W: Sink, E: Sink>(
     out: &mut W,
     err: &mut E,
 ) -> Result<(), RunFault>
-    requires dialect { stream.old.dialect ≡ dialect }
+    requires dialect { stream.old.dialect ≡ rules_of dialect }
     requires fits { so_far.old.carried + so_far.old.refused ≤ usize.MAX }
     ensures ok { OnOk result (RelaysPieces stream.old stream.new (made so_far.old) (made so_far.new)
         (W.bytes out.old) (W.bytes out.new) (E.bytes err.old) (E.bytes err.new)) }
-    ensures last { OnOk result (IsLastPiece dialect stream.new.bytes) }
+    ensures last { OnOk result (IsLastPiece (rules_of dialect) stream.new.bytes) }
     ensures fits { OnOk result (so_far.new.carried + so_far.new.refused ≤ usize.MAX) }
     ensures part { OnErr result (RelaysSome stream.old (made so_far.old)
         (W.bytes out.old) (W.bytes out.new) (E.bytes err.old) (E.bytes err.new)) }
@@ -194,14 +195,14 @@ fn relay_part<W: Sink, E: Sink>(
     out: &mut W,
     err: &mut E,
 ) -> Result<(), RunFault>
-    requires dialect { stream.old.dialect ≡ dialect }
+    requires dialect { stream.old.dialect ≡ rules_of dialect }
     requires fits { so_far.old.carried + so_far.old.refused ≤ usize.MAX }
-    ensures ok { OnOk result (RelaysPieces (holds dialect (stream.old.bytes ++ part.now)) stream.new
+    ensures ok { OnOk result (RelaysPieces (holds (rules_of dialect) (stream.old.bytes ++ part.now)) stream.new
         (made so_far.old) (made so_far.new)
         (W.bytes out.old) (W.bytes out.new) (E.bytes err.old) (E.bytes err.new)) }
-    ensures last { OnOk result (IsLastPiece dialect stream.new.bytes) }
+    ensures last { OnOk result (IsLastPiece (rules_of dialect) stream.new.bytes) }
     ensures fits { OnOk result (so_far.new.carried + so_far.new.refused ≤ usize.MAX) }
-    ensures part { OnErr result (RelaysSome (holds dialect (stream.old.bytes ++ part.now))
+    ensures part { OnErr result (RelaysSome (holds (rules_of dialect) (stream.old.bytes ++ part.now))
         (made so_far.old)
         (W.bytes out.old) (W.bytes out.new) (E.bytes err.old) (E.bytes err.new)) }
     ensures counts { CountsWriteFault result
@@ -226,15 +227,15 @@ fn finish<W: Sink, E: Sink>(
     out: &mut W,
     err: &mut E,
 ) -> Result<(), RunFault>
-    requires dialect { stream.old.dialect ≡ dialect }
-    requires last { IsLastPiece dialect stream.old.bytes }
+    requires dialect { stream.old.dialect ≡ rules_of dialect }
+    requires last { IsLastPiece (rules_of dialect) stream.old.bytes }
     requires fits { so_far.old.carried + so_far.old.refused ≤ usize.MAX }
     ensures ok { OnOk result (RelaysItems (made so_far.old) (made so_far.new)
-        (W.bytes out.old) (W.bytes out.new) (E.bytes err.old) (E.bytes err.new) (items_of_piece dialect stream.old.bytes)) }
+        (W.bytes out.old) (W.bytes out.new) (E.bytes err.old) (E.bytes err.new) (items_of_piece (rules_of dialect) stream.old.bytes)) }
     ensures none { OnOk result
         ((so_far.new.batch.items ≡ []) × (string_bytes so_far.new.faults ≡ [])) }
     ensures part { OnErr result (RelaysPart (made so_far.old)
-        (W.bytes out.old) (W.bytes out.new) (E.bytes err.old) (E.bytes err.new) (items_of_piece dialect stream.old.bytes)) }
+        (W.bytes out.old) (W.bytes out.new) (E.bytes err.old) (E.bytes err.new) (items_of_piece (rules_of dialect) stream.old.bytes)) }
     ensures counts { CountsWriteFault result
         (W.failures out.old) (W.failures out.new) (E.failures err.old) (E.failures err.new) }
     ensures flushed { OnOk result ((W.is_flushed out.new ≡ true) × (E.is_flushed err.new ≡ true)) }
@@ -291,7 +292,7 @@ pub fn relay_in<R: Source, W: Sink, E: Sink>(
     out: &mut W,
     err: &mut E,
 ) -> Result<Relayed, RunFault>
-    ensures { RelaysIn dialect result
+    ensures { RelaysIn (rules_of dialect) result
         (reader_told R.bytes R.failures reader.old) (reader_told R.bytes R.failures reader.new)
         (writer_told W.bytes W.failures W.is_flushed out.old) (writer_told W.bytes W.failures W.is_flushed out.new)
         (writer_told E.bytes E.failures E.is_flushed err.old) (writer_told E.bytes E.failures E.is_flushed err.new) }

@@ -1,7 +1,7 @@
 -- What a stream holds whose pieces have a greatest length, and what a call takes of it.
 use Rattle.std.specs.Prelude.{◌≡◌, ℕ, ◌<◌, ◌≤◌, List, [], ◌∷◌, ◌++◌, length, Option, Some, None, Result, Ok, Err}
 use Rattle.std.specs.Borrow.{Bor}
-use Rattle.influxdb_line_protocol.specs.declared.split.Dialect.{Dialect}
+use Rattle.influxdb_line_protocol.specs.format.Dialects.{Dialect}
 use Rattle.influxdb_line_protocol.specs.declared.split.Mark.{Mark}
 use Rattle.influxdb_line_protocol.specs.declared.stream.bounded.Skipped.{Skipped}
 use Rattle.influxdb_line_protocol.specs.declared.stream.bounded.Skipped.TheVariants.{Nothing, Within, Ended}

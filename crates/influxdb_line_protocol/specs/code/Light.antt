@@ -1,7 +1,7 @@
 -- Which lines are answered without memory.
 use Rattle.std.specs.Prelude.{ℕ, zero, suc, ◌&&◌, Bool, true, false, not, List, length, drop, Result, Ok, Err, nat_le}
 use Rattle.std.specs.List.{list_all}
-use Rattle.influxdb_line_protocol.specs.declared.split.Dialect.{Dialect}
+use Rattle.influxdb_line_protocol.specs.format.Dialects.{Dialect}
 use Rattle.influxdb_line_protocol.specs.format.Bytes.{backslash, comma, space, is_one_of}
 use Rattle.influxdb_line_protocol.specs.format.Readings.{Text, Fault, measurement_value_invalid, field_set_missing}
 use Rattle.influxdb_line_protocol.specs.format.Readings.{ends_with_backslash, tag_set_malformed, take_while1, Read, Reading}

@@ -2,7 +2,7 @@
 use Rattle.std.specs.Prelude.{◌≡◌, ℕ, Bool, true, false, List, map, Result, Ok, Err}
 use Rattle.std.specs.Option.{option_map}
 use Rattle.smallvec.specs.SmallVec.{SmallVec}
-use Rattle.influxdb_line_protocol.specs.declared.split.Dialect.{Dialect}
+use Rattle.influxdb_line_protocol.specs.format.Dialects.{Dialect}
 use Rattle.influxdb_line_protocol.specs.declared.error.Error.{Error}
 use Rattle.influxdb_line_protocol.specs.declared.escaped.EscapedStr.{EscapedStr}
 use Rattle.influxdb_line_protocol.specs.declared.values.FieldValue.{FieldValue}

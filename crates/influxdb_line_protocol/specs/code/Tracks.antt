@@ -1,8 +1,7 @@
 -- What the bytes of a piece that are not kept say of the byte after them.
 use Rattle.std.specs.Prelude.{◌≡◌, ◌⊎◌, ℕ, ◌<◌, max, List, [], ◌∷◌, ◌++◌, length, take, slice_index, Option, Some, None, Result, Ok, Err}
 use Rattle.std.specs.List.{All}
-use Rattle.influxdb_line_protocol.specs.declared.split.Dialect.{Dialect}
-use Rattle.influxdb_line_protocol.specs.declared.split.Dialect.TheVariants.{Strict}
+use Rattle.influxdb_line_protocol.specs.format.Dialects.{Dialect, Strict}
 use Rattle.influxdb_line_protocol.specs.declared.split.resumed.Part.{Part}
 use Rattle.influxdb_line_protocol.specs.declared.split.resumed.Part.TheVariants.{Head, Plain, Quoted}
 use Rattle.influxdb_line_protocol.specs.declared.split.tracked.Place.{Place}

@@ -3,8 +3,7 @@ use Rattle.std.specs.Prelude.{ℕ, zero, suc, ℤ, ◌-◌, ◌==◌, ◌||◌, 
 use Rattle.std.specs.Prelude.{if◌then◌else◌, Option, Some, None, Result, Ok, Err}
 use Rattle.std.specs.List.{prefix_len}
 use Rattle.std.specs.Str.Parse.{signed_digits_value}
-use Rattle.influxdb_line_protocol.specs.declared.split.Dialect.{Dialect}
-use Rattle.influxdb_line_protocol.specs.declared.split.Dialect.TheVariants.{Crate}
+use Rattle.influxdb_line_protocol.specs.format.Dialects.{Dialect, Crate}
 use Rattle.influxdb_line_protocol.specs.format.Bytes.{space, comma, equals}
 use Rattle.influxdb_line_protocol.specs.format.Readings.{Fault, measurement_value_invalid, field_set_missing}
 use Rattle.influxdb_line_protocol.specs.format.Readings.{tag_set_malformed, take_while1, timestamp_value_invalid}

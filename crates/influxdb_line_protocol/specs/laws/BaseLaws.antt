@@ -4,7 +4,7 @@ use Rattle.std.specs.Prelude.{None, Ok}
 use Rattle.std.specs.List.{list_any}
 use Rattle.std.specs.List.Sorted.{IsPermutation}
 use Rattle.std.specs.Option.{is_some}
-use Rattle.influxdb_line_protocol.specs.declared.split.Dialect.{Dialect}
+use Rattle.influxdb_line_protocol.specs.format.Dialects.{Dialect}
 use Rattle.influxdb_line_protocol.specs.code.Bases.{Base, borrowed, owned, duplicate_key, base_of, by_key, first_repeated}
 use Rattle.influxdb_line_protocol.specs.code.Bases.{in_order, keys_of, is_strictly_sorted}
 use Rattle.influxdb_line_protocol.specs.format.Bytes.{backslash, comma, equals, is_one_of}

@@ -2,8 +2,7 @@
 use Rattle.std.specs.Prelude.{◌≡◌, ◌≢◌, ◌↔◌, ℕ, true, false, List, [], ◌∷◌, ◌++◌, map, Result, Ok, Err}
 use Rattle.std.specs.List.{All, AllByRecursion, Contains, list_all, join_with_byte}
 use Rattle.std.specs.Str.{IsUtf8}
-use Rattle.influxdb_line_protocol.specs.declared.split.Dialect.{Dialect}
-use Rattle.influxdb_line_protocol.specs.declared.split.Dialect.TheVariants.{Strict}
+use Rattle.influxdb_line_protocol.specs.format.Dialects.{Dialect, Strict}
 use Rattle.influxdb_line_protocol.specs.format.Bytes.{newline}
 use Rattle.influxdb_line_protocol.specs.format.Readings.{Fault, ends_with_backslash}
 use Rattle.influxdb_line_protocol.specs.format.Points.{Point, IsPoint, is_admitted_point, built_all}

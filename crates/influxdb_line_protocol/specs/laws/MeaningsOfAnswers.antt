@@ -1,6 +1,6 @@
 -- What the answer for a trimmed text means: the table of answers, row by row.
 use Rattle.std.specs.Prelude.{◌≡◌, ◌↔◌, ℕ, List, [], ◌∷◌, ◌++◌, drop, Option, Some, None, Result, Ok, Err}
-use Rattle.influxdb_line_protocol.specs.declared.split.Dialect.{Dialect}
+use Rattle.influxdb_line_protocol.specs.format.Dialects.{Dialect}
 use Rattle.influxdb_line_protocol.specs.format.Bytes.{comma, space}
 use Rattle.influxdb_line_protocol.specs.format.Readings.{Side, Fault, measurement_value_invalid, field_set_missing, ends_with_backslash}
 use Rattle.influxdb_line_protocol.specs.format.Readings.{tag_set_malformed, take_while1, timestamp_value_invalid}

@@ -1,6 +1,6 @@
 -- Which names the lines of a text have, and where their fields end.
 use Rattle.std.specs.Prelude.{◌≡◌, ◌≢◌, ◌⊎◌, ℕ, ◌<◌, true, false, List, [], ◌∷◌, ◌++◌, length, drop, map, slice_index, Ok}
-use Rattle.influxdb_line_protocol.specs.declared.split.Dialect.TheVariants.{Strict}
+use Rattle.influxdb_line_protocol.specs.format.Dialects.{Strict}
 use Rattle.influxdb_line_protocol.specs.format.Bytes.{space, hash, is_one_of}
 use Rattle.influxdb_line_protocol.specs.format.Readings.{reads}
 use Rattle.influxdb_line_protocol.specs.format.Names.{NameKind, a_measurement, a_tag_key, a_tag_value, a_field_key, ends_in_backslash, name}

@@ -1,6 +1,6 @@
 -- What the points of lines are.
 use Rattle.std.specs.Prelude.{◌≡◌, ℕ, List, Ok}
-use Rattle.influxdb_line_protocol.specs.declared.split.Dialect.{Dialect}
+use Rattle.influxdb_line_protocol.specs.format.Dialects.{Dialect}
 use Rattle.influxdb_line_protocol.specs.format.Points.{IsPoint}
 use Rattle.influxdb_line_protocol.specs.format.Lines.{Line, point_of, answer}
 

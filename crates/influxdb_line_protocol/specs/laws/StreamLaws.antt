@@ -1,7 +1,7 @@
 -- What the pieces that a stream gives are of all that was pushed.
 use Rattle.std.specs.Prelude.{◌≡◌, ℕ, List, [], ◌∷◌, ◌++◌, Some, ◌↔◌, Result}
 use Rattle.std.specs.Str.{IsUtf8}
-use Rattle.influxdb_line_protocol.specs.declared.split.Dialect.{Dialect}
+use Rattle.influxdb_line_protocol.specs.format.Dialects.{Dialect}
 use Rattle.influxdb_line_protocol.specs.format.Bytes.{newline}
 use Rattle.influxdb_line_protocol.specs.format.Pieces.{IsCutPiece, IsLastPiece, IsFirstCut, Pieces}
 use Rattle.influxdb_line_protocol.specs.format.Readings.{Fault}

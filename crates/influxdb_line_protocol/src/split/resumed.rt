@@ -8,7 +8,8 @@ ghost use Rattle.std.specs.Prelude.{◌≡◌, ◌≢◌, ◌+◌, ◌<◌, ◌�
 ghost use Rattle.std.specs.List.{All};
 ghost use Rattle.influxdb_line_protocol.specs.format.Bytes.{backslash, newline};
 ghost use Rattle.influxdb_line_protocol.specs.format.Escapes.{first_bare, IsBareAfter, IsPassed};
-ghost use Rattle.influxdb_line_protocol.specs.declared.split.Dialect.{Dialect};
+ghost use Rattle.influxdb_line_protocol.specs.format.Dialects.{Crate};
+ghost use Rattle.influxdb_line_protocol.specs.code.Rules.{rules_of};
 ghost use Rattle.influxdb_line_protocol.specs.code.Searches.{ends, IsKnown, IsStopped, SearchesOn};
 
 use super::{Dialect, Mark, NOTHING, PLAIN, Stops, far_len, first_cut, late_cut, plain_run};
@@ -139,7 +140,7 @@ fn next_stretch(text: &[u8], from: Stretch, len: usize) -> Stretch
 // known now, where the text is one piece.
 fn cut_from(text: &[u8], from: Stretch) -> Result<Mark, Search>
     requires { IsStopped text.now from }
-    ensures { SearchesOn Dialect.Crate text.now result }
+    ensures { SearchesOn Crate text.now result }
 {
     let mut stretch = from;
     loop {
@@ -165,8 +166,8 @@ fn cut_from(text: &[u8], from: Stretch) -> Result<Mark, Search>
 /// The place of the newline that ends the first piece, by what is known of the text; or what is known now, where the text
 /// is one piece.
 pub(crate) fn search_on(dialect: Dialect, text: &[u8], known: Search) -> Result<Mark, Search>
-    requires { IsKnown dialect text.now known }
-    ensures { SearchesOn dialect text.now result }
+    requires { IsKnown (rules_of dialect) text.now known }
+    ensures { SearchesOn (rules_of dialect) text.now result }
 {
     match known {
         Search::Within(stretch) => cut_from(text, stretch),

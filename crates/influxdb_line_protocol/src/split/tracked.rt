@@ -1,6 +1,7 @@
 //! The track of a piece whose bytes are not kept: what they say of the byte that comes next.
 
 ghost use Rattle.std.specs.Prelude.{◌≡◌, ◌+◌, ◌<◌, ◌≤◌, ◌^◌, [], false, true, length, IfSome};
+ghost use Rattle.influxdb_line_protocol.specs.code.Rules.{rules_of};
 ghost use Rattle.influxdb_line_protocol.specs.code.Tracks.{IsTrackOf, Leads, most_counted, Steps, TracksOn};
 
 use super::Dialect;
@@ -135,7 +136,7 @@ fn after(track: Track, byte: u8) -> Option<Track>
 impl Track {
     /// The track of no bytes.
     pub(crate) fn new(dialect: Dialect) -> Track
-        ensures track { IsTrackOf dialect [] result }
+        ensures track { IsTrackOf (rules_of dialect) [] result }
         ensures few { most_counted result ≡ 0 }
     {
         let place = Place {

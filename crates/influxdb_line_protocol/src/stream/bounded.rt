@@ -2,6 +2,7 @@
 
 ghost use Rattle.std.specs.Prelude.{◌≡◌, ◌+◌, ◌++◌, ◌<◌, ◌≤◌, ℕ, List, [], false, length, true, OnOk, OnErr};
 ghost use Rattle.std.specs.Borrow.{sem};
+ghost use Rattle.influxdb_line_protocol.specs.code.Rules.{rules_of};
 ghost use Rattle.influxdb_line_protocol.specs.code.Bounded.{FindsWithin, Holds, kept, KeepsRules};
 ghost use Rattle.influxdb_line_protocol.specs.declared.stream.bounded.Skipped.{Skipped};
 ghost use Rattle.influxdb_line_protocol.specs.format.Pieces.{IsLastPiece};
@@ -51,7 +52,7 @@ impl BoundedLineStream {
 
     /// A stream that holds nothing, by the rules of a dialect, whose pieces have so many bytes at most. No memory is taken.
     pub fn new_in(alloc: Global, dialect: Dialect, limit: usize) -> BoundedLineStream
-        ensures dialect { result.held.dialect ≡ dialect }
+        ensures dialect { result.held.dialect ≡ rules_of dialect }
         ensures limit { result.limit ≡ limit }
         ensures holds { Holds result [] }
     {

@@ -6,8 +6,7 @@ use Rattle.std.proofs.lemmas.Bool.{cases_Bool}
 use Rattle.std.proofs.lemmas.List.{take_all, take_more}
 use Rattle.std.proofs.lemmas.List.Elements.{All-nil, All-push}
 use Rattle.memchr.specs.Find.{IsFirstByte, Nowhere, Passes, is_byte3}
-use Rattle.influxdb_line_protocol.specs.declared.split.Dialect.{Dialect}
-use Rattle.influxdb_line_protocol.specs.declared.split.Dialect.TheVariants.{Crate, Strict}
+use Rattle.influxdb_line_protocol.specs.format.Dialects.{Dialect, Crate, Strict}
 use Rattle.influxdb_line_protocol.specs.format.Pieces.{begins_comment, IsFirstCut}
 use Rattle.influxdb_line_protocol.proofs.lemmas.split.SplitPieces.{cut_of_comment, cut_of_other}
 use Rattle.influxdb_line_protocol.proofs.lemmas.split.SplitStretches.{quiet_cut, quiet_last}

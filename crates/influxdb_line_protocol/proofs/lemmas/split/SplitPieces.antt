@@ -6,8 +6,7 @@ use Rattle.std.specs.List.{All, count_by}
 use Rattle.std.proofs.lemmas.List.{append_cancel_left, take_at, drop_more, take-append-drop}
 use Rattle.std.proofs.lemmas.List.Elements.{All-head, All-tail, All-nil, All-cons, All-push, All-take, All-append}
 use Rattle.std.proofs.lemmas.Bool.{cases_lt, cases_eq, cases_Bool, false≢true, both_ways}
-use Rattle.influxdb_line_protocol.specs.declared.split.Dialect.{Dialect}
-use Rattle.influxdb_line_protocol.specs.declared.split.Dialect.TheVariants.{Crate, Strict}
+use Rattle.influxdb_line_protocol.specs.format.Dialects.{Dialect, Crate, Strict}
 use Rattle.influxdb_line_protocol.specs.format.Escapes.{is_escaped_after}
 use Rattle.influxdb_line_protocol.specs.format.Piece.{IsHead, EndsPlain, EndsQuoted}
 use Rattle.influxdb_line_protocol.specs.format.Pieces.{begins_comment, IsComment, IsCutPiece, IsLastPiece, IsFirstCut, Pieces}

@@ -9,8 +9,8 @@ use Rattle.std.proofs.lemmas.List.{take-append-drop, take-take, drop-take, take_
 use Rattle.std.proofs.lemmas.Bool.{cases_eq}
 use Rattle.std.proofs.lemmas.List.Elements.{All-nil, All-tail, All-weaker}
 use Rattle.memchr.specs.Find.{IsFirstByte, Nowhere, Passes, is_byte3}
-use Rattle.influxdb_line_protocol.specs.declared.split.Dialect.TheVariants.{Crate}
 use Rattle.influxdb_line_protocol.specs.declared.split.Walk.{Walk}
+use Rattle.influxdb_line_protocol.specs.format.Dialects.{Crate}
 use Rattle.influxdb_line_protocol.specs.format.Escapes.{is_escaped_after, bare, first_bare, IsBareAfter}
 use Rattle.influxdb_line_protocol.specs.laws.Meanings.{IsAtStop, IsBeforeStop}
 use Rattle.influxdb_line_protocol.specs.format.Piece.{IsHead, IsPlain, IsQuoted, EndsPlain, EndsQuoted, EndsQuoted.opened, IsClosed}

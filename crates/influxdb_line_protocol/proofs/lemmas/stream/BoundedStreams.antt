@@ -2,8 +2,7 @@
 use Rattle.std.proofs.Common.{◌≡◌, ◌⊎◌, inl, inr, ℕ, ◌+◌, ◌<◌, ◌≤◌, List, [], ◌∷◌, ◌++◌, length, take, drop, refl, sym, ap, ◌∙◌, subst}
 use Rattle.std.proofs.Common.{append_assoc, length-append, arith, slice_index, take-append-drop, Ok, Err}
 use Rattle.std.proofs.lemmas.List.{drop_more}
-use Rattle.influxdb_line_protocol.specs.declared.split.Dialect.{Dialect}
-use Rattle.influxdb_line_protocol.specs.declared.split.Dialect.TheVariants.{Crate, Strict}
+use Rattle.influxdb_line_protocol.specs.format.Dialects.{Dialect, Crate, Strict}
 use Rattle.influxdb_line_protocol.specs.declared.split.resumed.Part.{Part}
 use Rattle.influxdb_line_protocol.specs.declared.split.resumed.Part.TheVariants.{Head, Plain, Quoted}
 use Rattle.influxdb_line_protocol.specs.declared.split.tracked.Track.{Track}

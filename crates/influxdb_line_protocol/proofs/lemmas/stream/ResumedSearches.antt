@@ -11,7 +11,7 @@ use Rattle.influxdb_line_protocol.specs.declared.split.resumed.Part.{Part}
 use Rattle.influxdb_line_protocol.specs.declared.split.resumed.Part.TheVariants.{Head, Plain, Quoted}
 use Rattle.influxdb_line_protocol.specs.declared.split.Walk.{Walk}
 use Rattle.influxdb_line_protocol.specs.declared.split.resumed.Stretch.{Stretch}
-use Rattle.influxdb_line_protocol.specs.declared.split.Dialect.TheVariants.{Crate}
+use Rattle.influxdb_line_protocol.specs.format.Dialects.{Crate}
 use Rattle.influxdb_line_protocol.specs.format.Escapes.{first_bare, is_bare_at, is_escaped_after, IsBareAfter, IsPassed}
 use Rattle.influxdb_line_protocol.specs.format.Pieces.{IsFirstCut, IsLastPiece}
 use Rattle.influxdb_line_protocol.specs.code.Searches.{BeginsAt, ends, IsBeforeQuote, IsPlainTo, IsStopped}

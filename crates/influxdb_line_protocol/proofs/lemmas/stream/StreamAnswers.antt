@@ -1,7 +1,7 @@
 -- The answers of the pieces that a stream gives are those of all that was pushed.
 use Rattle.std.proofs.Common.{◌≡◌, ℕ, List, [], ◌∷◌, ◌++◌, subst, sym, ap, ◌∙◌, append_assoc, append-nil, refl, Result}
 use Rattle.std.proofs.lemmas.Grind.{flat_map-append}
-use Rattle.influxdb_line_protocol.specs.declared.split.Dialect.{Dialect}
+use Rattle.influxdb_line_protocol.specs.format.Dialects.{Dialect}
 use Rattle.influxdb_line_protocol.specs.format.Readings.{Fault}
 use Rattle.influxdb_line_protocol.specs.format.Lines.{Line}
 use Rattle.influxdb_line_protocol.specs.format.Items.{HasAnswers, answers_of, answers_of_piece}

@@ -1,3 +1,4 @@
+use Rattle.influxdb_line_protocol.specs.code.Rules.{rules_of}
 use Rattle.std.proofs.Common.{◌≡◌, ◌<◌, ap, not, Err, length, ◌∙◌, arith}
 use Rattle.std.specs.Option.{option_map}
 use Rattle.std.proofs.lemmas.Grind.{common_steps}
@@ -18,7 +19,7 @@ use Rattle.influxdb_line_protocol.proofs.line.fill.Goals as goal
 pub returns-in_err-measurement-clause-light : goal.returns-in_err-measurement-clause-light
 returns-in_err-measurement-clause-light c = λ light refused.
     let same = passed_on c.from_residual.result c.in_err-measurement.field-0.0 c.from_residual.ensures.1 refused in
-    let heavy = measurement_needs c.args.dialect c.args.line.now (room_of c.args.parsed.now.series.tag_set)
+    let heavy = measurement_needs (rules_of c.args.dialect) c.args.line.now (room_of c.args.parsed.now.series.tag_set)
     c.args.parsed.now.field_set.capacity
     (c.in_err-measurement.ensures.memory (ap Err same)) in
     cc
@@ -27,7 +28,7 @@ pub returns-in_err-rest-clause-light : goal.returns-in_err-rest-clause-light
 returns-in_err-rest-clause-light c = λ light refused.
     let e = rw c.in-Some.is at c.in_ok-measurement.ensures.value in
     let same = passed_on c.from_residual-in_err-rest.result c.in_err-rest.field-0.0 c.from_residual-in_err-rest.ensures.1 refused in
-    let heavy = tags_need c.args.dialect c.args.line.now (room_of c.args.parsed.now.series.tag_set) c.args.parsed.now.field_set.capacity
+    let heavy = tags_need (rules_of c.args.dialect) c.args.line.now (room_of c.args.parsed.now.series.tag_set) c.args.parsed.now.field_set.capacity
     (read_of c.in-Some.measurement) c.in-Some.rest.now e (c.in_err-rest.ensures.memory (ap Err same)) in
     cc
 
@@ -36,7 +37,7 @@ front_before-parsed-requires-clause-ends c =
     let e = rw c.in-Some.is at c.in_ok-measurement.ensures.value in
     let gap = byte_there 32 c.in_ok-rest.rest.now c.strip_byte.result c.strip_byte.ensures.value
     (c.is_none.ensures ∙ ap not c.if-is_none.false) in
-    let ends = series_ends c.args.dialect c.args.line.now (read_of c.in-Some.measurement) c.in-Some.rest.now
+    let ends = series_ends (rules_of c.args.dialect) c.args.line.now (read_of c.in-Some.measurement) c.in-Some.rest.now
     (record { value = option_map tags_of c.tag_set.new.set; rest = c.in_ok-rest.rest.now }) gap.0 e c.in_ok-rest.ensures.value gap.1 in
     (ends.front, ends.is)
 
@@ -47,7 +48,7 @@ returns-in_err-rest-2-clause-light c = λ light refused.
     (c.is_none.ensures ∙ ap not c.if-is_none.false) in
     let same = passed_on c.from_residual-in_err-rest-2.result c.in_err-rest-2.field-0.0 c.from_residual-in_err-rest-2.ensures.1 refused in
     let needs = rw c.trim_start_spaces.ensures at (c.in_err-rest-2.ensures.memory (ap Err same)) in
-    let heavy = fields_need c.args.dialect c.args.line.now (read_of c.in-Some.measurement) c.in-Some.rest.now
+    let heavy = fields_need (rules_of c.args.dialect) c.args.line.now (read_of c.in-Some.measurement) c.in-Some.rest.now
     (record { value = option_map tags_of c.tag_set.new.set; rest = c.in_ok-rest.rest.now }) gap.0 e c.in_ok-rest.ensures.value gap.1
     (room_of c.args.parsed.now.series.tag_set) c.args.parsed.now.field_set.capacity needs in
     cc
@@ -60,8 +61,8 @@ returns-in_err-timestamp-clause-value c =
     let f = rw (c.in-Some-2.is, c.trim_start_spaces.ensures) at c.in_ok-rest-2.ensures.value in
     let p = err_from_is_err_and c.from_residual-in_err-timestamp.result c.from_residual-in_err-timestamp.ensures.1 in
     let failed = carried_on c.in_err-timestamp.field-0.0 (λ fault. timestamp c.in-Some-2.rest.now ≡ Err fault)
-    (λ fault. answer c.args.dialect c.args.line.now ≡ Err fault)
-    (timestamp_fault c.args.dialect c.args.line.now (read_of c.in-Some.measurement) c.in-Some.rest.now
+    (λ fault. answer (rules_of c.args.dialect) c.args.line.now ≡ Err fault)
+    (timestamp_fault (rules_of c.args.dialect) c.args.line.now (read_of c.in-Some.measurement) c.in-Some.rest.now
     (record { value = option_map tags_of c.tag_set.new.set; rest = c.in_ok-rest.rest.now }) gap.0 e c.in_ok-rest.ensures.value gap.1
     (fields_of c.field_set.new.set) c.in-Some-2.rest.now f)
     c.in_err-timestamp.ensures.value in
@@ -76,7 +77,7 @@ returns-in_err-timestamp-clause-light c = λ light refused.
     let same = passed_on c.from_residual-in_err-timestamp.result c.in_err-timestamp.field-0.0
     c.from_residual-in_err-timestamp.ensures.1 refused in
     let needs = timestamp_carries c.in-Some-2.rest.now (c.in_err-timestamp.ensures.memory (ap Err same)) in
-    let heavy = timestamp_needs c.args.dialect c.args.line.now (read_of c.in-Some.measurement) c.in-Some.rest.now
+    let heavy = timestamp_needs (rules_of c.args.dialect) c.args.line.now (read_of c.in-Some.measurement) c.in-Some.rest.now
     (record { value = option_map tags_of c.tag_set.new.set; rest = c.in_ok-rest.rest.now }) gap.0 e c.in_ok-rest.ensures.value gap.1
     (fields_of c.field_set.new.set) c.in-Some-2.rest.now f
     (room_of c.args.parsed.now.series.tag_set) c.args.parsed.now.field_set.capacity needs.0 needs.1 needs.2 in
@@ -89,7 +90,7 @@ returns-in_err-trailing_content-clause-light c = λ light refused.
     (c.is_none.ensures ∙ ap not c.if-is_none.false) in
     let f = rw (c.in-Some-2.is, c.trim_start_spaces.ensures) at c.in_ok-rest-2.ensures.value in
     let some : 0 < length c.in_ok-timestamp.rest.now = grind (arith, common_steps) in
-    let heavy = trailing_needs c.args.dialect c.args.line.now (read_of c.in-Some.measurement) c.in-Some.rest.now
+    let heavy = trailing_needs (rules_of c.args.dialect) c.args.line.now (read_of c.in-Some.measurement) c.in-Some.rest.now
     (record { value = option_map tags_of c.tag_set.new.set; rest = c.in_ok-rest.rest.now }) gap.0 e c.in_ok-rest.ensures.value gap.1
     (fields_of c.field_set.new.set) c.in-Some-2.rest.now f
     (room_of c.args.parsed.now.series.tag_set) c.args.parsed.now.field_set.capacity
@@ -105,7 +106,7 @@ returns-then-not-is_empty-clause-value c =
     let f = rw (c.in-Some-2.is, c.trim_start_spaces.ensures) at c.in_ok-rest-2.ensures.value in
     let some : 0 < length c.in_ok-timestamp.rest.now = grind (arith, common_steps) in
     rw c.in_ok-trailing_content.ensures.ok
-    (trailing_fault c.args.dialect c.args.line.now (read_of c.in-Some.measurement) c.in-Some.rest.now
+    (trailing_fault (rules_of c.args.dialect) c.args.line.now (read_of c.in-Some.measurement) c.in-Some.rest.now
     (record { value = option_map tags_of c.tag_set.new.set; rest = c.in_ok-rest.rest.now }) gap.0 e c.in_ok-rest.ensures.value gap.1
     (fields_of c.field_set.new.set) c.in-Some-2.rest.now f
     (record { value = c.in_ok-timestamp.timestamp; rest = c.in_ok-timestamp.rest.now }) c.in_ok-timestamp.ensures.value some)

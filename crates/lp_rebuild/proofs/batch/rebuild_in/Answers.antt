@@ -1,3 +1,4 @@
+use Rattle.influxdb_line_protocol.specs.code.Rules.{rules_of}
 use Rattle.std.proofs.Common.{arith, ap, refl, ◌∙◌}
 use Rattle.influxdb_line_protocol.specs.code.ReadInto.{item_in}
 use Rattle.lp_rebuild.proofs.RebuildLemmas.{SoFar-item, SoFar-end}
@@ -13,7 +14,7 @@ loop-answer-preserved c =
       dialect = s.0 ∙ h.dialect;
       room = omega (arith, c.in_ok-taken.ensures.counted, c.in-Some.ensures.fewer);
       done = λ others left.
-          SoFar-item c.args.dialect c.args.input.now c.loop-answer.lines item others c.loop-answer.so_far
+          SoFar-item (rules_of c.args.dialect) c.args.input.now c.loop-answer.lines item others c.loop-answer.so_far
           c.take-taken.new.so_far h.dialect h.done (s.1 others left) c.in_ok-taken.ensures.taken;
     }
 
@@ -26,11 +27,11 @@ pub returns-clause-rebuilds : goal.returns-clause-rebuilds
 returns-clause-rebuilds c =
     let h = c.loop-answer.invariant in
     let s = c.in_default.ensures.gives.0 in
-    SoFar-end c.args.dialect c.args.input.now s.skipped c.loop-answer.so_far s.blank (h.done s.skipped s.left) _
+    SoFar-end (rules_of c.args.dialect) c.args.input.now s.skipped c.loop-answer.so_far s.blank (h.done s.skipped s.left) _
     refl (ap (λ v. v.items) c.into_bytes.ensures.value) refl refl
 
 pub returns-clause-reads_back : goal.returns-clause-reads_back
 returns-clause-reads_back c =
     batch_reads_back c.batch_reads_back.ensures.admitted c.lines_are_points.ensures c.pieces_join.ensures.one
-    c.args.dialect c.args.input.now _
+    (rules_of c.args.dialect) c.args.input.now _
     (returns-clause-rebuilds c)

@@ -1,3 +1,4 @@
+use Rattle.influxdb_line_protocol.specs.code.Rules.{rules_of}
 use Rattle.std.proofs.Common.{◌∙◌, rules}
 use Rattle.lp_rebuild.proofs.Parts.{at_fault, at_no_fault, batch_part, faults_part}
 use Rattle.lp_rebuild.proofs.program.run_in.Goals as goal
@@ -15,7 +16,7 @@ returns-then-is_err g c =
       faults = search rules;
       flushed = search rules;
       part = λ failed.
-          batch_part c.args.dialect _ _ _ _ _ _ _ _ _ read.ok read.end
+          batch_part (rules_of c.args.dialect) _ _ _ _ _ _ _ _ _ read.ok read.end
           (c.in-Ok.ensures.cases.0 ∙ c.as_slice.ensures.value) c.in-Ok-rebuild_in.ensures.rebuilds
           c.as_slice-2.ensures.value (at_fault c.write_all.result c.if-is_err.ensures.value c.write_all.ensures.part);
       write = search rules;
@@ -35,7 +36,7 @@ returns-then-is_err-2 g c =
       faults = search rules;
       flushed = search rules;
       part = λ failed.
-          faults_part c.args.dialect _ _ _ _ _ _ _ _ _ _ _ read.ok read.end
+          faults_part (rules_of c.args.dialect) _ _ _ _ _ _ _ _ _ _ _ read.ok read.end
           (c.in-Ok.ensures.cases.0 ∙ c.as_slice.ensures.value) c.in-Ok-rebuild_in.ensures.rebuilds
           c.as_slice-2.ensures.value c.as_slice-3.ensures.value
           (at_no_fault c.write_all.result c.if-is_err.ensures.value c.write_all.ensures.ok)

@@ -1,3 +1,4 @@
+use Rattle.influxdb_line_protocol.specs.code.Rules.{rules_of}
 use Rattle.std.proofs.Common.{◌∙◌, ap, refl, subst, sym, take, arith}
 use Rattle.std.specs.Io.KnownBytes.{Consumes}
 use Rattle.lp_rebuild.proofs.RelaysSoFar.{end_fronts, none_is_last, reads_none, so_far_all, so_far_fronts, so_far_more, so_far_none}
@@ -11,9 +12,9 @@ loop-init g c =
     let made = c.nothing_made-so_far.ensures in
     record {
       dialect = ap (λ h. h.dialect) c.new_in-stream.ensures;
-      last = none_is_last c.pieces_join.ensures.some c.args.dialect _ none;
+      last = none_is_last c.pieces_join.ensures.some (rules_of c.args.dialect) _ none;
       fits = omega (arith, ap (λ m. m.carried) made, ap (λ m. m.refused) made);
-      so_far = so_far_none c.args.dialect _ _ _ _ _ none made;
+      so_far = so_far_none (rules_of c.args.dialect) _ _ _ _ _ none made;
       reader_unfailed = refl;
       out_unfailed = refl;
       err_unfailed = refl;
@@ -22,19 +23,19 @@ loop-init g c =
 pub returns-in_err-n : goal.returns-in_err-n
 returns-in_err-n g c =
     let h = c.loop.invariant in
-    handed_on c.args.dialect c.from_residual.result c.in_err-n.field-0.0 _ _ _ _ _ _ c.from_residual.ensures.1
-    (read_fault c.utf8_by_pieces.ensures c.pieces_join.ensures.one c.args.dialect c.in_err-n.field-0.0 _ _ _ _ _ _ _
-    (so_far_fronts c.pieces_join.ensures.some c.runs_give_pieces.ensures.runs c.args.dialect _ _ _ _ _ _ _ _ h.so_far)
+    handed_on (rules_of c.args.dialect) c.from_residual.result c.in_err-n.field-0.0 _ _ _ _ _ _ c.from_residual.ensures.1
+    (read_fault c.utf8_by_pieces.ensures c.pieces_join.ensures.one (rules_of c.args.dialect) c.in_err-n.field-0.0 _ _ _ _ _ _ _
+    (so_far_fronts c.pieces_join.ensures.some c.runs_give_pieces.ensures.runs (rules_of c.args.dialect) _ _ _ _ _ _ _ _ h.so_far)
     c.in_err-n.ensures.counts h.reader_unfailed h.out_unfailed h.err_unfailed)
 
 pub returns-in_err-finish : goal.returns-in_err-finish
 returns-in_err-finish g c =
     let h = c.loop.invariant in
     let read = c.in_ok-n.ensures in
-    handed_on c.args.dialect c.from_residual-in_err-finish.result c.in_err-finish.field-0.0 _ _ _ _ _ _
+    handed_on (rules_of c.args.dialect) c.from_residual-in_err-finish.result c.in_err-finish.field-0.0 _ _ _ _ _ _
     c.from_residual-in_err-finish.ensures.1
-    (write_fault c.utf8_by_pieces.ensures c.pieces_join.ensures.one c.args.dialect c.in_err-finish.field-0.0 _ _ _ _ _ _ _ _
-    (end_fronts c.runs_give_pieces.ensures.end c.args.dialect _ _ _ _ _ _ _ _ _ _ _ h.so_far
+    (write_fault c.utf8_by_pieces.ensures c.pieces_join.ensures.one (rules_of c.args.dialect) c.in_err-finish.field-0.0 _ _ _ _ _ _ _ _
+    (end_fronts c.runs_give_pieces.ensures.end (rules_of c.args.dialect) _ _ _ _ _ _ _ _ _ _ _ h.so_far
     (reads_none _ _ _ c.in_ok-n.n c.if-n-eq0.true read.ok) (read.end c.if-n-eq0.true) h.last c.in_err-finish.ensures.part)
     c.in_err-finish.ensures.counts h.out_unfailed h.err_unfailed (read.counts ∙ h.reader_unfailed))
 
@@ -43,8 +44,8 @@ returns-then-n-eq0 g c =
     let h = c.loop.invariant in
     let read = c.in_ok-n.ensures in
     let done = c.in_ok-finish.ensures in
-    ended c.utf8_by_pieces.ensures c.pieces_join.ensures.one c.args.dialect _ _ _ _ _ _ _
-    (so_far_all c.runs_give_pieces.ensures.end c.args.dialect _ _ _ _ _ _ _ _ _ _ _ _ _ h.so_far
+    ended c.utf8_by_pieces.ensures c.pieces_join.ensures.one (rules_of c.args.dialect) _ _ _ _ _ _ _
+    (so_far_all c.runs_give_pieces.ensures.end (rules_of c.args.dialect) _ _ _ _ _ _ _ _ _ _ _ _ _ h.so_far
     (reads_none _ _ _ c.in_ok-n.n c.if-n-eq0.true read.ok) (read.end c.if-n-eq0.true) h.last done.ok done.none.0 done.none.1 refl refl)
     done.flushed (read.counts ∙ h.reader_unfailed) (done.counts.0 ∙ h.out_unfailed) (done.counts.1 ∙ h.err_unfailed)
 
@@ -52,10 +53,10 @@ pub returns-in_err-relay_part : goal.returns-in_err-relay_part
 returns-in_err-relay_part g c =
     let h = c.loop.invariant in
     let read = c.in_ok-n.ensures in
-    handed_on c.args.dialect c.from_residual-in_err-relay_part.result c.in_err-relay_part.field-0.0 _ _ _ _ _ _
+    handed_on (rules_of c.args.dialect) c.from_residual-in_err-relay_part.result c.in_err-relay_part.field-0.0 _ _ _ _ _ _
     c.from_residual-in_err-relay_part.ensures.1
-    (write_fault c.utf8_by_pieces.ensures c.pieces_join.ensures.one c.args.dialect c.in_err-relay_part.field-0.0 _ _ _ _ _ _ _ _
-    (some_fronts c.pieces_join.ensures.some c.runs_give_pieces.ensures.runs c.args.dialect _ _ _ _ _ _ _ _ _ _ _ _ h.so_far
+    (write_fault c.utf8_by_pieces.ensures c.pieces_join.ensures.one (rules_of c.args.dialect) c.in_err-relay_part.field-0.0 _ _ _ _ _ _ _ _
+    (some_fronts c.pieces_join.ensures.some c.runs_give_pieces.ensures.runs (rules_of c.args.dialect) _ _ _ _ _ _ _ _ _ _ _ _ h.so_far
     (subst (λ bs. Consumes (g.R.Source.bytes c.loop.reader) (g.R.Source.bytes c.read_block.new.reader) (take c.in_ok-n.n bs))
     (sym c.deref.ensures.value) read.ok)
     c.in_err-relay_part.ensures.part)
@@ -70,7 +71,7 @@ loop-preserved g c =
       dialect = relayed.ok.taken.0;
       last = relayed.last;
       fits = omega (arith, relayed.fits);
-      so_far = so_far_more c.args.dialect _ _ _ _ _ _ _ _ _ _ _ _ _ _ h.so_far
+      so_far = so_far_more (rules_of c.args.dialect) _ _ _ _ _ _ _ _ _ _ _ _ _ _ h.so_far
           (subst (λ bs. Consumes (g.R.Source.bytes c.loop.reader) (g.R.Source.bytes c.read_block.new.reader) (take c.in_ok-n.n bs))
           (sym c.deref.ensures.value) read.ok)
           relayed.ok;
@@ -82,6 +83,6 @@ loop-preserved g c =
 pub returns : goal.returns
 returns g c =
     let h = c.loop.invariant in
-    read_fault c.utf8_by_pieces.ensures c.pieces_join.ensures.one c.args.dialect _ _ _ _ _ _ _ _
-    (so_far_fronts c.pieces_join.ensures.some c.runs_give_pieces.ensures.runs c.args.dialect _ _ _ _ _ _ _ _ h.so_far)
+    read_fault c.utf8_by_pieces.ensures c.pieces_join.ensures.one (rules_of c.args.dialect) _ _ _ _ _ _ _ _
+    (so_far_fronts c.pieces_join.ensures.some c.runs_give_pieces.ensures.runs (rules_of c.args.dialect) _ _ _ _ _ _ _ _ h.so_far)
     refl h.reader_unfailed h.out_unfailed h.err_unfailed

@@ -1,3 +1,4 @@
+use Rattle.influxdb_line_protocol.specs.code.Rules.{rules_of}
 use Rattle.std.proofs.Common.{◌∙◌, refl, subst, arith}
 use Rattle.influxdb_line_protocol.specs.code.Streams.{GivesCutText}
 use Rattle.lp_rebuild.specs.RelaySteps.{made}
@@ -25,7 +26,7 @@ loop-piece-preserved g c =
     record {
       dialect = (given_piece c.loop-piece.stream _ c.in-Some.piece gives).1.dialect ∙ h.dialect;
       fits = omega (arith, fits, poured.ok.carried, poured.ok.refused);
-      relays = pieces_more c.args.dialect c.args.stream.now c.loop-piece.stream _ (made c.args.so_far.now) (made c.loop-piece.so_far)
+      relays = pieces_more (rules_of c.args.dialect) c.args.stream.now c.loop-piece.stream _ (made c.args.so_far.now) (made c.loop-piece.so_far)
           (made c.take_piece.new.so_far) (made c.pour_full.new.so_far) _ _ _ _ _ _ c.in-Some.piece h.dialect h.relays gives
           (at_no_fault c.take_piece.result c.if-is_err.ensures.value c.take_piece.ensures.taken) poured.ok;
       out_unfailed = poured.counts.0 ∙ h.out_unfailed;
@@ -38,6 +39,6 @@ returns-in_err-pour_full-clause-part g c =
     let gives = subst (λ r. GivesCutText c.loop-piece.stream r c.next_text.follows.lender-at-none) c.in-Some.is
     c.next_text.follows.holds-at-none in
     on_err c.from_residual.result
-    (pieces_part c.args.dialect c.args.stream.now c.loop-piece.stream _ (made c.args.so_far.now) (made c.loop-piece.so_far)
+    (pieces_part (rules_of c.args.dialect) c.args.stream.now c.loop-piece.stream _ (made c.args.so_far.now) (made c.loop-piece.so_far)
     (made c.take_piece.new.so_far) _ _ _ _ _ _ c.in-Some.piece h.dialect h.relays gives
     (at_no_fault c.take_piece.result c.if-is_err.ensures.value c.take_piece.ensures.taken) c.in_err-pour_full.ensures.part)

@@ -1,10 +1,11 @@
+use Rattle.influxdb_line_protocol.specs.code.Rules.{rules_of}
 use Rattle.std.proofs.Common.{◌≡◌, ◌+◌, ◌<◌, ◌^◌, length}
 use Rattle.lp_rebuild.specs.RelaySteps.{RelaysPieces, made}
 use Rattle.lp_rebuild.proofs.relaying.relay_pieces.Given as goal
 
 abbrev pub invariant-loop-piece : goal.invariant-loop-piece
 invariant-loop-piece g l = record {
-  dialect : l.stream.dialect ≡ l.fn.dialect;
+  dialect : l.stream.dialect ≡ rules_of l.fn.dialect;
   fits : l.so_far.carried + l.so_far.refused < 2 ^ 64;
   relays : RelaysPieces l.initial.stream l.stream (made l.initial.so_far) (made l.so_far)
       (g.W.Sink.bytes l.initial.out) (g.W.Sink.bytes l.out) (g.E.Sink.bytes l.initial.err) (g.E.Sink.bytes l.err);

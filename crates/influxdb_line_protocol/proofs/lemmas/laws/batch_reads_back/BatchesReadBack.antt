@@ -1,7 +1,7 @@
 -- Batches of points with admitted names read back.
 use Rattle.std.proofs.Common.{◌≡◌, ℕ, List, [], ◌∷◌, Ok, Result}
 use Rattle.std.specs.List.{AllByRecursion}
-use Rattle.influxdb_line_protocol.specs.declared.split.Dialect.{Dialect}
+use Rattle.influxdb_line_protocol.specs.format.Dialects.{Dialect}
 use Rattle.influxdb_line_protocol.specs.format.Readings.{Fault}
 use Rattle.influxdb_line_protocol.specs.format.Points.{Point, line_of}
 use Rattle.influxdb_line_protocol.specs.format.Lines.{Line, answer}

@@ -7,8 +7,7 @@ use Rattle.std.specs.List.{AllByRecursion, flat_map}
 use Rattle.std.proofs.lemmas.Bool.{ne_eqb}
 use Rattle.std.proofs.lemmas.List.{append_assoc, append-nil, length-append, take_all, drop_all}
 use Rattle.influxdb_line_protocol.specs.format.Bytes.{comma}
-use Rattle.influxdb_line_protocol.specs.declared.split.Dialect.{Dialect}
-use Rattle.influxdb_line_protocol.specs.declared.split.Dialect.TheVariants.{Crate, Strict}
+use Rattle.influxdb_line_protocol.specs.format.Dialects.{Dialect, Crate, Strict}
 use Rattle.influxdb_line_protocol.specs.format.Names.{a_tag_key, a_tag_value, a_field_key, is_stop}
 use Rattle.influxdb_line_protocol.specs.format.Readings.{Text, miss, reads}
 use Rattle.influxdb_line_protocol.specs.format.Values.{Value, integer_len, fits_i64}

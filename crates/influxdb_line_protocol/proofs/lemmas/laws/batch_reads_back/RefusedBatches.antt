@@ -7,7 +7,7 @@ use Rattle.std.specs.List.{AllByRecursion, Contains, list_all, flat_map}
 use Rattle.std.proofs.lemmas.Bool.{cases_Bool, false≢true, both_ways, and_from, eq-eqb}
 use Rattle.std.proofs.lemmas.List.{length-append}
 use Rattle.influxdb_line_protocol.proofs.lemmas.split.SplitWalk.{Head, Plain}
-use Rattle.influxdb_line_protocol.specs.declared.split.Dialect.{Dialect}
+use Rattle.influxdb_line_protocol.specs.format.Dialects.{Dialect}
 use Rattle.influxdb_line_protocol.specs.format.Readings.{Fault, ends_with_backslash, Text, fatal, reads}
 use Rattle.influxdb_line_protocol.specs.format.Names.{a_measurement, a_field_key}
 use Rattle.influxdb_line_protocol.specs.format.Names.{name}

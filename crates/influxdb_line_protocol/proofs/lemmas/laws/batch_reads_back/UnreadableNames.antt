@@ -4,7 +4,7 @@ use Rattle.std.proofs.Common.{append_assoc, Ok, Err, Result}
 use Rattle.std.specs.List.{AllByRecursion, Contains}
 use Rattle.std.proofs.lemmas.Bool.{cases_Bool, both_ways}
 use Rattle.std.proofs.lemmas.Grind.{flat_map-append}
-use Rattle.influxdb_line_protocol.specs.declared.split.Dialect.{Dialect}
+use Rattle.influxdb_line_protocol.specs.format.Dialects.{Dialect}
 use Rattle.influxdb_line_protocol.specs.format.Readings.{Fault, ends_with_backslash}
 use Rattle.influxdb_line_protocol.specs.format.Names.{NameKind, a_measurement, a_tag_key, a_tag_value, a_field_key, ends_in_backslash}
 use Rattle.influxdb_line_protocol.specs.format.Points.{Point, IsPoint, is_admitted_point, built, built_all, line_of}

@@ -7,7 +7,7 @@ use Rattle.std.specs.List.{AllByRecursion}
 use Rattle.std.specs.Str.Parse.{digits_value, signed_digits_value}
 use Rattle.std.proofs.lemmas.Bool.{eqb-false}
 use Rattle.std.proofs.lemmas.Bool.Decides.{nat_tests}
-use Rattle.influxdb_line_protocol.specs.declared.split.Dialect.{Dialect}
+use Rattle.influxdb_line_protocol.specs.format.Dialects.{Dialect}
 use Rattle.influxdb_line_protocol.specs.format.Bytes.{equals, letter_i, letter_u, quote}
 use Rattle.influxdb_line_protocol.specs.format.Readings.{Fault, integer_value_invalid, uinteger_value_invalid}
 use Rattle.influxdb_line_protocol.specs.format.Readings.{timestamp_value_invalid, above, Text, Read, Reading, miss, fatal}

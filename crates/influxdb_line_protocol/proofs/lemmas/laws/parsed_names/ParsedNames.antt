@@ -7,8 +7,7 @@ use Rattle.std.specs.List.{AllByRecursion, Contains}
 use Rattle.std.proofs.lemmas.Bool.{cases_Bool, or_parts}
 use Rattle.std.proofs.lemmas.Bool.{eqb-false, eqb-true}
 use Rattle.std.proofs.lemmas.List.Elements.{Contains-append_cases}
-use Rattle.influxdb_line_protocol.specs.declared.split.Dialect.{Dialect}
-use Rattle.influxdb_line_protocol.specs.declared.split.Dialect.TheVariants.{Strict}
+use Rattle.influxdb_line_protocol.specs.format.Dialects.{Dialect, Strict}
 use Rattle.influxdb_line_protocol.specs.format.Bytes.{space, equals}
 use Rattle.influxdb_line_protocol.specs.format.Readings.{Fault, measurement_value_invalid, field_set_missing, take_while1}
 use Rattle.influxdb_line_protocol.specs.format.Readings.{Text, Read, Reading, miss, fatal, reads, ◌>>=◌, or_fault}

@@ -5,8 +5,7 @@ use Rattle.std.specs.List.{All}
 use Rattle.std.proofs.lemmas.Bool.{cases_Bool, false≢true, ne_eqb}
 use Rattle.std.proofs.lemmas.Grind.{common_steps, flat_map-append}
 use Rattle.std.proofs.lemmas.List.Elements.{All-head, All-tail}
-use Rattle.influxdb_line_protocol.specs.declared.split.Dialect.{Dialect}
-use Rattle.influxdb_line_protocol.specs.declared.split.Dialect.TheVariants.{Strict}
+use Rattle.influxdb_line_protocol.specs.format.Dialects.{Dialect, Strict}
 use Rattle.influxdb_line_protocol.specs.format.Items.{answers_of, answers_of_piece}
 use Rattle.influxdb_line_protocol.specs.laws.Laws.{CommentTextIsIgnored}
 use Rattle.influxdb_line_protocol.specs.format.Lines.{Line}

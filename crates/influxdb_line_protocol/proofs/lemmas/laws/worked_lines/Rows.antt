@@ -2,7 +2,7 @@
 use Rattle.std.proofs.Common.{◌≡◌, ℕ, List, [], ◌∷◌, refl, Ok, Err, Some, None, true, false}
 use Rattle.std.specs.Prelude.{codes, pos, negsuc}
 use Rattle.std.specs.Fmt.{digits}
-use Rattle.influxdb_line_protocol.specs.declared.split.Dialect.TheVariants.{Crate, Strict}
+use Rattle.influxdb_line_protocol.specs.format.Dialects.{Crate, Strict}
 use Rattle.influxdb_line_protocol.specs.format.Readings.{Text, reads, fatal, miss, above, below, measurement_value_invalid}
 use Rattle.influxdb_line_protocol.specs.format.Readings.{field_set_missing, tag_set_malformed, take_while1}
 use Rattle.influxdb_line_protocol.specs.format.Readings.{cannot_parse_entire_line, ends_with_backslash, integer_value_invalid}

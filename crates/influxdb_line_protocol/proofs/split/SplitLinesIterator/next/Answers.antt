@@ -1,3 +1,4 @@
+use Rattle.influxdb_line_protocol.specs.code.Rules.{rules_of}
 use Rattle.std.proofs.Common.{◌+◌, subst, arith}
 use Rattle.std.proofs.lemmas.Str.{IsCharBoundary-after_ascii}
 use Rattle.std.specs.Str.{IsCharBoundary}
@@ -17,7 +18,7 @@ returns-in-Some-clause-steps c = (
   cc,
   λ others left.
       rw (← c.self.view_is, c.in_ok-text.was)
-      (Pieces-cut_at c.self.inside.dialect c.as_bytes.result.now c.in_ok-text.text.now c.range.result.now
+      (Pieces-cut_at (rules_of c.self.inside.dialect) c.as_bytes.result.now c.in_ok-text.text.now c.range.result.now
       c.range_from.result.now c.in-Some.cut.at others c.as_bytes.ensures.value c.in-Some.ensures.cut
       c.range.ensures.value c.range_from.ensures.value left),
 )
@@ -27,5 +28,5 @@ returns-in-None-clause-steps c = (
   cc,
   λ others none.
       rw (← c.self.view_is, c.in_ok-text.was, none)
-      (last c.in_ok-text.text.now (subst (IsLastPiece c.self.inside.dialect) c.as_bytes.ensures.value c.in-None.ensures.cut)),
+      (last c.in_ok-text.text.now (subst (IsLastPiece (rules_of c.self.inside.dialect)) c.as_bytes.ensures.value c.in-None.ensures.cut)),
 )

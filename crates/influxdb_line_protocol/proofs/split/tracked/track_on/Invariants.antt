@@ -1,5 +1,5 @@
 use Rattle.std.proofs.Common.{◌+◌, ◌≤◌, ◌++◌, take, List, ℕ}
-use Rattle.influxdb_line_protocol.specs.declared.split.Dialect.{Dialect}
+use Rattle.influxdb_line_protocol.specs.format.Dialects.{Dialect}
 use Rattle.influxdb_line_protocol.specs.code.Tracks.{IsTrackOf, most_counted}
 use Rattle.influxdb_line_protocol.proofs.split.tracked.track_on.Given as goal
 

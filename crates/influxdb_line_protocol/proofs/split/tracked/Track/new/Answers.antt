@@ -1,13 +1,14 @@
-use Rattle.std.proofs.Common.{subst, sym}
+use Rattle.std.proofs.Common.{ap, subst, sym}
 use Rattle.std.proofs.lemmas.List.Elements.{All-nil}
 use Rattle.std.proofs.Common.{◌≡◌, ◌⊎◌, []}
 use Rattle.influxdb_line_protocol.specs.declared.split.Dialect.{Dialect}
+use Rattle.influxdb_line_protocol.specs.code.Rules.{rules_of}
 use Rattle.influxdb_line_protocol.specs.code.Searches.{NeverComment}
 use Rattle.influxdb_line_protocol.proofs.lemmas.stream.TrackedPieces.{first_place}
 use Rattle.influxdb_line_protocol.proofs.split.tracked.Track.new.Goals as goal
 
 pub returns-in-Crate-clause-track : goal.returns-in-Crate-clause-track
-returns-in-Crate-clause-track c = (subst (λ (d : Dialect). NeverComment d []) (sym c.in-Crate.is) tt, first_place)
+returns-in-Crate-clause-track c = (subst (λ (d : Dialect). NeverComment (rules_of d) []) (sym c.in-Crate.is) tt, first_place)
 
 pub returns-in-Strict-clause-track : goal.returns-in-Strict-clause-track
-returns-in-Strict-clause-track c = (c.in-Strict.is, All-nil (λ b. (b ≡ 32) ⊎ (b ≡ 9)), first_place)
+returns-in-Strict-clause-track c = (ap rules_of c.in-Strict.is, All-nil (λ b. (b ≡ 32) ⊎ (b ≡ 9)), first_place)

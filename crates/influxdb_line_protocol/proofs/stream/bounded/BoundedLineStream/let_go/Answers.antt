@@ -1,5 +1,6 @@
+use Rattle.influxdb_line_protocol.specs.code.Rules.{rules_of}
 use Rattle.std.proofs.Common.{◌<◌, [], length, List, ℕ, subst, sym, ◌∙◌}
-use Rattle.influxdb_line_protocol.specs.declared.split.Dialect.{Dialect}
+use Rattle.influxdb_line_protocol.specs.format.Dialects.{Dialect}
 use Rattle.influxdb_line_protocol.specs.format.Pieces.{IsLastPiece}
 use Rattle.influxdb_line_protocol.specs.code.Bounded.{HeldWithin, HoldsBy}
 use Rattle.influxdb_line_protocol.specs.declared.stream.bounded.Skipped.TheVariants.{Within}
@@ -10,9 +11,9 @@ pub returns-in-Err-clause-holds : goal.returns-in-Err-clause-holds
 returns-in-Err-clause-holds c =
     let s = c.self.inside in
     let after = c.take_all.follows.lender-at-none in
-    let tracked = c.in-Err.ensures c.dialect.result [] c.new-first.ensures.track in
+    let tracked = c.in-Err.ensures (rules_of c.dialect.result) [] c.new-first.ensures.track in
     subst (λ (v : HeldWithin). HoldsBy s.limit after (Within c.in-Err.track) v.held.bytes) c.self.view_is
-    (goes_within s.limit s.stream after c.held-2.result.now c.dialect.result c.in-Err.track c.held-2.ensures c.dialect.ensures
+    (goes_within s.limit s.stream after c.held-2.result.now (rules_of c.dialect.result) c.in-Err.track c.held-2.ensures c.dialect.ensures
     (subst (λ (t : List ℕ). s.limit < length t) (c.held.ensures ∙ sym c.held-2.ensures) c.if-held-self.false)
     tracked c.take_all.follows.holds-at-none.1)
 
@@ -23,5 +24,5 @@ returns-in_default-clause-few c =
     let is_last = subst (λ (v : HeldWithin). IsLastPiece v.held.dialect v.held.bytes) (sym c.self.view_is) c.requires.is_last in
     let of_held = subst (λ (t : List ℕ). IsLastPiece s.stream.dialect t) (sym c.held-2.ensures) is_last in
     absurd
-    (no_end_within c.dialect.result bytes c.new-first.result c.in_default.field-0 c.new-first.ensures.track c.in_default.ensures
+    (no_end_within (rules_of c.dialect.result) bytes c.new-first.result c.in_default.field-0 c.new-first.ensures.track c.in_default.ensures
     (subst (λ (d : Dialect). IsLastPiece d bytes) (sym c.dialect.ensures) of_held))
