@@ -25,28 +25,26 @@ static void show(const char *call, const char *file, double bytes, double second
     fflush(stdout);
 }
 
-/* The least time of the test for UTF-8, or -1 where the text is not UTF-8. */
+/* The time of the test for UTF-8. */
 static double utf8_seconds(const uint8_t *text, size_t len) {
-    double least = -1;
-    for (int i = 0; i <= RUNS; i++) {
-        double start = now();
-        if (!is_utf8(text, len)) return -1;
-        double seconds = now() - start;
-        if (least < 0 || seconds < least) least = seconds;
-    }
-    return least;
+    double start = now();
+    is_utf8(text, len);
+    return now() - start;
 }
 
-/* Each call tests first whether the text is UTF-8, and the time of that test is taken off: the least one, so that what
-   is left is never too little. */
-static void run(const struct call *call, const char *file, const uint8_t *text, size_t len, double utf8) {
-    double seconds[RUNS];
+/* Each call tests first whether the text is UTF-8, and the time of that test is taken off: the least one beside these runs,
+   so that what is left is never too little where the machine becomes faster or slower. */
+static void run(const struct call *call, const char *file, const uint8_t *text, size_t len) {
+    double seconds[RUNS], least = utf8_seconds(text, len);
     uint64_t answer = call->call(text, len);
     for (int i = 0; i < RUNS; i++) {
         double start = now();
         answer = call->call(text, len);
-        seconds[i] = now() - start - utf8;
+        seconds[i] = now() - start;
+        double utf8 = utf8_seconds(text, len);
+        if (utf8 < least) least = utf8;
     }
+    for (int i = 0; i < RUNS; i++) seconds[i] -= least;
     show(call->name, file, (double)len, seconds, answer);
 }
 
@@ -81,9 +79,8 @@ int main(int argc, char **argv) {
         uint8_t *text = read_file(argv[i], &len);
         const char *slash = strrchr(argv[i], '/');
         const char *file = slash ? slash + 1 : argv[i];
-        double utf8 = utf8_seconds(text, len);
-        if (utf8 < 0) { fprintf(stderr, "%s: not UTF-8\n", argv[i]); return 2; }
-        for (const struct call *call = calls; call->name; call++) run(call, file, text, len, utf8);
+        if (!is_utf8(text, len)) { fprintf(stderr, "%s: not UTF-8\n", argv[i]); return 2; }
+        for (const struct call *call = calls; call->name; call++) run(call, file, text, len);
         free(text);
     }
     return 0;

@@ -32,12 +32,24 @@ CALLERS = {
 }
 """The calls from other languages, in the same way."""
 
+STREAMS = {
+    "stream": "`LineStream`",
+    "stream bytes": "`LineStream`, byte by byte",
+    "relay": "`relay`",
+    "relay bytes": "`relay`, byte by byte",
+}
+"""The calls over a text that comes in parts, in the same way."""
+
 BESIDE = {
     "numbers": "parse",
     "next_into": "parse",
     "lp_lines_next": "library parse",
     "lp_lines_block": "library parse",
     "lp_rebuild": "library rebuild",
+    "stream": "library split",
+    "stream bytes": "library split",
+    "relay": "library rebuild",
+    "relay bytes": "library rebuild",
     "rust parse": "crate parse",
     "rust split": "crate split",
     "rust rebuild": "crate rebuild",
@@ -45,7 +57,7 @@ BESIDE = {
 }
 """The call that a call is compared with, where its name is another."""
 
-SAME_ANSWERS = ("numbers", "split", "build", *(call for call in BESIDE if " " in call or call.startswith("lp_")))
+SAME_ANSWERS = ("numbers", "split", "build", *(call for call in BESIDE if BESIDE[call].startswith(("library ", "crate "))))
 """The calls whose answer is also that of the call that they are compared with."""
 
 

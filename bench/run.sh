@@ -1,15 +1,15 @@
 #!/usr/bin/env bash
 # Times this library over texts, from Rattle, C, Rust and Python, and the Rust crate beside it where cargo can have it.
 #
-#   bench/run.sh           makes the corpora, times all, and writes figures.tsv and callers.tsv for table.py and picture.py
+#   bench/run.sh           makes the corpora, times all, and writes the .tsv files that table.py and picture.py read
 #   bench/run.sh FILE..    times these files alone
 #
 # CARGO_FLAGS: more words for cargo, as where the crate lies if crates.io is out of reach.
 # PYTHON: python3 by default.
 # ROUNDS: how often both take turns, 3 by default; the best round of each counts.
 # SEED, SIZE: of the corpora, `bench` and 16000000 bytes by default. CORPORA: the folder to make them in, and keep.
-# FIGURES, CALLERS: where the figures are written, by default bench/figures.tsv and bench/callers.tsv, and nowhere if files
-# are given.
+# FIGURES, CALLERS, STREAMS: where the figures are written, by default bench/figures.tsv, bench/callers.tsv and
+# bench/streams.tsv, and nowhere if files are given.
 set -eu
 here=$(cd "$(dirname "$0")" && pwd)
 top=$(dirname "$here")
@@ -20,10 +20,12 @@ trap 'rm -rf "$built"' EXIT
 
 figures=${FIGURES:-$here/figures.tsv}
 callers=${CALLERS:-$here/callers.tsv}
+streams=${STREAMS:-$here/streams.tsv}
 corpora="files that were given"
 if [ $# -gt 0 ]; then
     figures=${FIGURES:-$built/figures.tsv}
     callers=${CALLERS:-$built/callers.tsv}
+    streams=${STREAMS:-$built/streams.tsv}
 else
     corpora="seed ${SEED:-bench}, ${SIZE:-16000000} bytes each"
     folder=${CORPORA:-$built/corpora}
@@ -32,12 +34,13 @@ else
     set -- "${files[@]}"
 fi
 
-for crate in influxdb_line_protocol lp_rebuild lp_bench lp_c; do
+for crate in influxdb_line_protocol lp_rebuild lp_bench lp_bench_streams lp_c; do
     (cd "$top/crates/$crate" && rt lib > "$built/rt.log" 2>&1) || { tail -n 20 "$built/rt.log" >&2; exit 1; }
 done
 heap=$(dirname "$(dirname "$(readlink -f "$(command -v rt)")")")/c/liblibc_c.a
 archive=$top/crates/lp_c/out/liblp_c.a
 cc -O2 "$here"/{driver,library}.c "$top/crates/lp_bench/out/liblp_bench.a" "$heap" -o "$built/library"
+cc -O2 "$here"/{driver,streams}.c "$top/crates/lp_bench_streams/out/liblp_bench_streams.a" "$heap" -o "$built/streams"
 cc -O2 -I"$top/include" "$here"/{driver,callers}.c "$archive" "$heap" -o "$built/c"
 "$top/bindings/build.sh" "$archive" > "$built/build.log"
 
@@ -68,6 +71,7 @@ take_turn() {
 # All take turns, file by file, so that a machine that slows down for a while slows down all.
 take_turns() {
     take_turn figures "" "$built/library" "$@"
+    [ $# -eq 0 ] || take_turn streams "" "$built/streams" "$@"
     take_turn crate "" "$built/crate/target/release/lp_bench_crate" "$@"
     take_turn callers "" "$built/c" "$@"
     take_turn callers "rust " "$built/rust/target/release/lp_bench_crate" "$@"
@@ -75,7 +79,7 @@ take_turns() {
         PYTHONPATH=$top/bindings/python "${PYTHON:-python3}" "$here/python.py" "$@" >> "$built/callers.rows"
     fi
 }
-touch "$built"/{figures,crate,callers}.rows
+touch "$built"/{figures,crate,callers,streams}.rows
 for _ in $(seq "${ROUNDS:-3}"); do
     for file in "$@"; do
         take_turns "$file"
@@ -92,3 +96,4 @@ notes=(
 )
 python3 "$here/figures.py" "$built/figures.rows" "$built/crate.rows" "$figures" "${notes[@]}"
 python3 "$here/figures.py" "$built/callers.rows" "$built/beside.rows" "$callers" "${notes[@]}" "$("${PYTHON:-python3}" --version)"
+python3 "$here/figures.py" "$built/streams.rows" "$built/beside.rows" "$streams" "${notes[@]}"

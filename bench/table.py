@@ -1,5 +1,5 @@
 #!/usr/bin/env python3
-"""Writes the tables of figures.tsv and callers.tsv into README.md, each between its two marks.
+"""Writes the tables of figures.tsv, callers.tsv and streams.tsv into README.md, each between its two marks.
 
     bench/table.py
 """
@@ -7,7 +7,7 @@
 import sys
 from pathlib import Path
 
-from figures import CALLERS, CALLS, Figure, read
+from figures import CALLERS, CALLS, STREAMS, Figure, read
 
 BEGIN = "<!-- The table of {}, as table.py writes it. -->"
 END = "<!-- The end of the table. -->"
@@ -51,7 +51,7 @@ def with_table(text: str, name: str, lines: list[str]) -> str:
 def main() -> None:
     here = Path(__file__).parent
     text = (here / "README.md").read_text()
-    for name, names in (("figures.tsv", CALLS), ("callers.tsv", CALLERS)):
+    for name, names in (("figures.tsv", CALLS), ("callers.tsv", CALLERS), ("streams.tsv", STREAMS)):
         text = with_table(text, name, table(*read(here / name), names))
     (here / "README.md").write_text(text)
 

@@ -1,0 +1,68 @@
+//! What is timed of texts that come in parts, for a driver in C: a stream's pieces, and relays. No call keeps anything.
+#![tactic(auto)]
+
+ghost use Rattle.influxdb_line_protocol.specs.format.Pieces.{IsLastPiece};
+
+use influxdb_line_protocol::LineStream;
+use lp_rebuild::{DeviceFault, Kept, Source, relay};
+use std::alloc::Global;
+
+// Takes the pieces that a stream can give, and counts them.
+fn taken(stream: &mut LineStream) -> u64
+    ensures { IsLastPiece stream.new.dialect stream.new.bytes }
+{
+    let mut count = 0u64;
+    while let Some(_) = stream.next() {
+        count = count.wrapping_add(1);
+    }
+    count
+}
+
+/// Takes the pieces of a text that comes in parts of so many bytes, and counts them; 0 where memory was refused, or `len` is 0.
+#[unsafe(no_mangle)]
+pub extern "C" fn lp_bench_stream(alloc: Global, text: &[u8], len: usize) -> u64 {
+    if len == 0 {
+        return 0;
+    }
+    let mut stream = LineStream::new(alloc);
+    let mut count = 1u64;
+    for part in text.chunks(len) {
+        if stream.push(part).is_err() {
+            return 0;
+        }
+        count = count.wrapping_add(taken(&mut stream));
+    }
+    count
+}
+
+// A text that gives so many bytes at each read.
+#[derive(Drop)]
+struct InParts<'a> {
+    left: &'a [u8],
+    len: usize,
+}
+
+impl<'a> Source for InParts<'a> {
+    ghost use Rattle.std.specs.Prelude.{None};
+
+    ghost bytes = { λ _. None };
+
+    ghost failures = { λ _. 0 };
+
+    fn read(&mut self, buf: &mut [u8]) -> Result<usize, DeviceFault> {
+        let len = self.len.min(buf.len());
+        self.left.read(&mut buf[..len])
+    }
+}
+
+/// Relays a text that comes in parts of so many bytes, and gives the number of bytes written; 0 where memory was refused.
+#[unsafe(no_mangle)]
+pub extern "C" fn lp_bench_relay(alloc: Global, text: &[u8], len: usize) -> u64 {
+    let mut reader = InParts { left: text, len };
+    let mut out = Kept::new(alloc);
+    let mut err = Kept::new(alloc);
+    match relay(alloc, &mut reader, &mut out, &mut err) {
+        Ok(_) => out.as_slice().len() as u64,
+        Err(_) => 0,
+    }
+}
