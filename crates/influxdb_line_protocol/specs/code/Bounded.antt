@@ -1,5 +1,5 @@
 -- What a stream holds whose pieces have a greatest length, and what a call takes of it.
-use Rattle.std.specs.Prelude.{◌≡◌, ℕ, ◌<◌, ◌≤◌, List, [], ◌∷◌, ◌++◌, length, Option, Some, None, Result, Ok, Err}
+use Rattle.std.specs.Prelude.{◌≡◌, ℕ, ◌-◌, ◌^◌, ◌<◌, ◌≤◌, List, [], ◌∷◌, ◌++◌, length, Option, Some, None, Result, Ok, Err}
 use Rattle.std.specs.Borrow.{Bor}
 use Rattle.influxdb_line_protocol.specs.format.Dialects.{Dialect}
 use Rattle.influxdb_line_protocol.specs.declared.split.Mark.{Mark}
@@ -16,6 +16,10 @@ pub record HeldWithin : Type 0 where
   pub held : Held
   pub skipped : Skipped
 
+-- a piece is too long: it has more bytes than the limit, unless that is `usize::MAX`, which is no limit
+abbrev pub IsTooLong : ℕ → List ℕ → Type 0
+IsTooLong limit piece = (limit < length piece) × (limit < 2 ^ 64 - 1)
+
 -- a text is cut after its first piece
 abbrev pub CutsTo : Dialect → List ℕ → List ℕ → List ℕ → Type 0
 CutsTo dialect text piece rest = (text ≡ piece ++ newline ∷ rest) × IsCutPiece dialect piece
@@ -23,8 +27,8 @@ CutsTo dialect text piece rest = (text ≡ piece ++ newline ∷ rest) × IsCutPi
 -- the text that came after the last cut: what is kept, after the bytes of a piece that is too long
 abbrev pub HoldsBy : ℕ → Held → Skipped → List ℕ → Type 0
 HoldsBy limit held Nothing text = text ≡ held.bytes
-HoldsBy limit held (Within track) text = (held.bytes ≡ []) × (limit < length text) × IsTrackOf held.dialect text track
-HoldsBy limit held Ended text = (piece : List ℕ) × (limit < length piece) × CutsTo held.dialect text piece held.bytes
+HoldsBy limit held (Within track) text = (held.bytes ≡ []) × IsTooLong limit text × IsTrackOf held.dialect text track
+HoldsBy limit held Ended text = (piece : List ℕ) × IsTooLong limit piece × CutsTo held.dialect text piece held.bytes
 
 -- the stream holds this text
 abbrev pub Holds : HeldWithin → List ℕ → Type 0
@@ -45,7 +49,7 @@ GivesOf before text None after = Holds after text × IsLastPiece before.held.dia
 GivesOf before text (Some (Ok piece)) after =
     (rest : List ℕ) × (length piece.now ≤ before.limit) × CutsTo before.held.dialect text piece.now rest × Holds after rest
 GivesOf before text (Some (Err _)) after =
-    (piece rest : List ℕ) × (before.limit < length piece) × CutsTo before.held.dialect text piece rest × Holds after rest
+    (piece rest : List ℕ) × IsTooLong before.limit piece × CutsTo before.held.dialect text piece rest × Holds after rest
 
 -- a call finds the first cut, or takes the first piece where it is too long
 abbrev pub FindsWithin : {E : Type 0} → HeldWithin → Option (Result Mark E) → HeldWithin → Type 0
@@ -55,7 +59,7 @@ FindsWithin before (Some (Ok cut)) after =
     (after ≡ before) × (before.skipped ≡ Nothing) × FindsCut before.held (Some cut) × (cut.at ≤ before.limit)
 FindsWithin before (Some (Err _)) after =
     (text : List ℕ) → Holds before text
-    → (piece rest : List ℕ) × (before.limit < length piece) × CutsTo before.held.dialect text piece rest × Holds after rest
+    → (piece rest : List ℕ) × IsTooLong before.limit piece × CutsTo before.held.dialect text piece rest × Holds after rest
 
 -- so it is of each text that it may hold, and no more bytes are kept than before
 abbrev pub GivesWithin : {E : Type 0} → HeldWithin → Option (Result (Bor (List ℕ)) E) → HeldWithin → Type 0
@@ -66,7 +70,7 @@ GivesWithin before result after =
 -- a call gives a text that is one piece, or a fault in its place
 abbrev pub IsLastOf : {E : Type 0} → ℕ → List ℕ → Result (Bor (List ℕ)) E → Type 0
 IsLastOf limit text (Ok piece) = (piece.now ≡ text) × (length text ≤ limit)
-IsLastOf limit text (Err _) = limit < length text
+IsLastOf limit text (Err _) = IsTooLong limit text
 
 -- a call gives the last piece, and the stream then holds nothing
 abbrev pub GivesLastWithin : {E : Type 0} → HeldWithin → Result (Bor (List ℕ)) E → HeldWithin → Type 0

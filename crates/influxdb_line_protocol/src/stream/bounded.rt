@@ -3,7 +3,7 @@
 ghost use Rattle.std.specs.Prelude.{◌≡◌, ◌+◌, ◌++◌, ◌<◌, ◌≤◌, ℕ, List, [], false, length, true, OnOk, OnErr};
 ghost use Rattle.std.specs.Borrow.{sem};
 ghost use Rattle.influxdb_line_protocol.specs.code.Rules.{rules_of};
-ghost use Rattle.influxdb_line_protocol.specs.code.Bounded.{FindsWithin, Holds, kept, KeepsRules};
+ghost use Rattle.influxdb_line_protocol.specs.code.Bounded.{FindsWithin, Holds, IsTooLong, kept, KeepsRules};
 ghost use Rattle.influxdb_line_protocol.specs.declared.stream.bounded.Skipped.{Skipped};
 ghost use Rattle.influxdb_line_protocol.specs.format.Pieces.{IsLastPiece};
 
@@ -50,7 +50,8 @@ impl Model for BoundedLineStream {
 impl BoundedLineStream {
     ghost use Rattle.influxdb_line_protocol.specs.code.LendingWithin.{EndsWithin, EndsLastWithin};
 
-    /// A stream that holds nothing, by the rules of a dialect, whose pieces have so many bytes at most. No memory is taken.
+    /// A stream that holds nothing, by the rules of a dialect, whose pieces have so many bytes at most. A limit of
+    /// `usize::MAX` is none: no piece is too long. No memory is taken.
     pub fn new_in(alloc: Global, dialect: Dialect, limit: usize) -> BoundedLineStream
         ensures dialect { result.held.dialect ≡ rules_of dialect }
         ensures limit { result.limit ≡ limit }
@@ -148,7 +149,7 @@ impl BoundedLineStream {
     fn drops_last(&mut self) -> bool
         ensures rules { KeepsRules self.old self.new }
         ensures long { result ≡ true → Holds self.new [] × ((text : List ℕ) → Holds self.old text
-            → IsLastPiece self.old.held.dialect text → self.old.limit < length text) }
+            → IsLastPiece self.old.held.dialect text → IsTooLong self.old.limit text) }
         ensures short { result ≡ false → (self.new ≡ self.old) × (self.old.skipped ≡ Skipped.Nothing)
             × (length self.old.held.bytes ≤ self.old.limit) }
     {

@@ -13,17 +13,21 @@ use Rattle.influxdb_line_protocol.specs.declared.stream.bounded.Skipped.TheVaria
 use Rattle.influxdb_line_protocol.specs.format.Pieces.{IsCutPiece, IsLastPiece}
 use Rattle.influxdb_line_protocol.specs.code.Streams.{Held, TakesPiece}
 use Rattle.influxdb_line_protocol.specs.code.Tracks.{EndsIn, IsTrackOf, TracksOn}
-use Rattle.influxdb_line_protocol.specs.code.Bounded.{CutsTo, HoldsBy}
+use Rattle.influxdb_line_protocol.specs.code.Bounded.{CutsTo, HoldsBy, IsTooLong}
 use Rattle.influxdb_line_protocol.proofs.lemmas.split.SplitPieces.{no_cut_within}
 use Rattle.influxdb_line_protocol.proofs.lemmas.stream.KnownTexts.{no_comment}
 use Rattle.influxdb_line_protocol.proofs.lemmas.stream.TrackedPieces.{blanks_begin_none}
+
+-- a piece that is too long is so with more bytes
+longer_is_too_long : (limit : ℕ) (text part : List ℕ) → IsTooLong limit text → IsTooLong limit (text ++ part)
+longer_is_too_long limit text part h = (omega (arith, length-append text part, h.0), h.1)
 
 -- a part that goes on in a piece that is too long
 pub skips_more : (limit : ℕ) (held : Held) (skipped : Skipped) (from to : Track) (part : List ℕ) → skipped ≡ Within from
     → TracksOn part from (Err to) → (text : List ℕ) → HoldsBy limit held skipped text → HoldsBy limit held (Within to) (text ++ part)
 skips_more limit held skipped from to part is tracks text h =
     let k = subst (λ (s : Skipped). HoldsBy limit held s text) is h in
-    (k.0, omega (arith, length-append text part, k.1), tracks held.dialect text k.2)
+    (k.0, longer_is_too_long limit text part k.1, tracks held.dialect text k.2)
 
 -- the bytes before a newline, and those after it
 parted : (bytes : List ℕ) (i : ℕ) → i < length bytes → slice_index bytes i ≡ 10 → take i bytes ++ 10 ∷ drop (i + 1) bytes ≡ bytes
@@ -40,7 +44,7 @@ skips_to_end limit old new skipped from part i is tracks dialect bytes text h =
     let after : new.bytes ≡ drop (i + 1) part = bytes ∙ ap (λ (t : List ℕ). t ++ drop (i + 1) part) k.0 in
     let split = parted part i tracks.0 tracks.1 in (
       text ++ take i part,
-      omega (arith, length-append text (take i part), k.1),
+      longer_is_too_long limit text (take i part) k.1,
       (
         sym (append_assoc text (take i part) (10 ∷ new.bytes)
             ∙ (ap (λ (t : List ℕ). text ++ (take i part ++ 10 ∷ t)) after ∙ ap (λ (t : List ℕ). text ++ t) split)),
@@ -50,11 +54,11 @@ skips_to_end limit old new skipped from part i is tracks dialect bytes text h =
 
 -- what is held was let go, since it is too long
 pub goes_within : (limit : ℕ) (held after : Held) (bytes : List ℕ) (d : Dialect) (track : Track) → bytes ≡ held.bytes
-    → d ≡ held.dialect → limit < length bytes → IsTrackOf d bytes track
+    → d ≡ held.dialect → IsTooLong limit bytes → IsTrackOf d bytes track
     → after ≡ record { dialect = held.dialect; bytes = [] } → HoldsBy limit after (Within track) held.bytes
 goes_within limit held after bytes d track same dialect long tracked empty = (
   ap (λ (h : Held). h.bytes) empty,
-  subst (λ (t : List ℕ). limit < length t) same long,
+  subst (λ (t : List ℕ). IsTooLong limit t) same long,
   subst (λ (e : Dialect). IsTrackOf e held.bytes track) (dialect ∙ sym (ap (λ (h : Held). h.dialect) empty))
       (subst (λ (t : List ℕ). IsTrackOf d t track) same tracked),
 )

@@ -1,6 +1,6 @@
 use Rattle.std.proofs.Common.{◌<◌, ◌≤◌, length, List, ℕ, subst, sym, arith}
 use Rattle.influxdb_line_protocol.specs.format.Pieces.{IsLastPiece}
-use Rattle.influxdb_line_protocol.specs.code.Bounded.{CutsTo, HeldWithin, Holds, HoldsBy, kept}
+use Rattle.influxdb_line_protocol.specs.code.Bounded.{CutsTo, HeldWithin, Holds, HoldsBy, IsTooLong, kept}
 use Rattle.influxdb_line_protocol.specs.code.Streams.{Held, TakesPiece}
 use Rattle.influxdb_line_protocol.proofs.lemmas.stream.BoundedStreams.{takes_within, within_is_last, within_keeps_none}
 use Rattle.influxdb_line_protocol.proofs.stream.bounded.BoundedLineStream.first.Goals as goal
@@ -23,10 +23,11 @@ returns-in-Some-2-clause-finds c =
     let after = c.take.follows.lender-at-none in
     let takes : TakesPiece s.stream piece after = subst (λ (h : Held). TakesPiece h piece after) c.cut.ensures.stays
     c.take.follows.holds-at-none in
-    let long : s.limit < length piece = omega (arith, c.take.ensures.len, c.if-cut-self.false) in
+    let longer : s.limit < length piece = omega (arith, c.take.ensures.len, c.if-cut-self.false) in
+    let long : IsTooLong s.limit piece = (longer, omega (arith, longer, c.take.type_inv.0)) in
     subst
     (λ (v : HeldWithin). (text : List ℕ) → Holds v text
-    → (x rest : List ℕ) × (v.limit < length x) × CutsTo v.held.dialect text x rest × HoldsBy s.limit after s.skipped rest)
+    → (x rest : List ℕ) × IsTooLong v.limit x × CutsTo v.held.dialect text x rest × HoldsBy s.limit after s.skipped rest)
     c.self.view_is
     (λ text h.
     let w = takes_within s.limit s.stream after s.skipped piece text c.in-Nothing.is takes h in
