@@ -1,5 +1,5 @@
 -- What a stream holds whose pieces have a greatest length, and what a call takes of it.
-use Rattle.std.specs.Prelude.{◌≡◌, ℕ, ◌-◌, ◌^◌, ◌<◌, ◌≤◌, List, [], ◌∷◌, ◌++◌, length, Option, Some, None, Result, Ok, Err}
+use Rattle.std.specs.Prelude.{◌≡◌, ℕ, ◌+◌, ◌-◌, ◌^◌, ◌<◌, ◌≤◌, List, [], ◌∷◌, ◌++◌, length, Option, Some, None, Result, Ok, Err, IfSome}
 use Rattle.std.specs.Borrow.{Bor}
 use Rattle.influxdb_line_protocol.specs.format.Dialects.{Dialect}
 use Rattle.influxdb_line_protocol.specs.declared.split.Mark.{Mark}
@@ -38,6 +38,16 @@ Holds stream text = HoldsBy stream.limit stream.held stream.skipped text
 abbrev pub kept : HeldWithin → ℕ
 kept stream = length stream.held.bytes
 
+-- 1 where a piece that is too long was skipped to its end, and its fault is to come
+abbrev pub faults_to_come : Skipped → ℕ
+faults_to_come Nothing = 0
+faults_to_come (Within track) = 0
+faults_to_come Ended = 1
+
+-- so many pieces and faults are given at most before another part comes
+abbrev pub most_given : HeldWithin → ℕ
+most_given stream = kept stream + faults_to_come stream.skipped
+
 -- the dialect and the greatest length stay
 abbrev pub KeepsRules : HeldWithin → HeldWithin → Type 0
 KeepsRules before after = (after.held.dialect ≡ before.held.dialect) × (after.limit ≡ before.limit)
@@ -61,10 +71,10 @@ FindsWithin before (Some (Err _)) after =
     (text : List ℕ) → Holds before text
     → (piece rest : List ℕ) × IsTooLong before.limit piece × CutsTo before.held.dialect text piece rest × Holds after rest
 
--- so it is of each text that it may hold, and no more bytes are kept than before
+-- so it is of each text that it may hold; no more bytes are kept than before, and once one is given, fewer can be
 abbrev pub GivesWithin : {E : Type 0} → HeldWithin → Option (Result (Bor (List ℕ)) E) → HeldWithin → Type 0
 GivesWithin before result after =
-    KeepsRules before after × (kept after ≤ kept before)
+    KeepsRules before after × (kept after ≤ kept before) × IfSome result (λ _. most_given after < most_given before)
     × ((text : List ℕ) → Holds before text → GivesOf before text result after)
 
 -- a call gives a text that is one piece, or a fault in its place

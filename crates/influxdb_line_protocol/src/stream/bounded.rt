@@ -1,9 +1,9 @@
 //! Lines that come in parts, of which a piece has a greatest length.
 
-ghost use Rattle.std.specs.Prelude.{◌≡◌, ◌+◌, ◌++◌, ◌<◌, ◌≤◌, ℕ, List, [], false, length, true, OnOk, OnErr};
+ghost use Rattle.std.specs.Prelude.{◌≡◌, ◌+◌, ◌++◌, ◌<◌, ◌≤◌, ℕ, List, [], false, length, true, IfSome, OnOk, OnErr};
 ghost use Rattle.std.specs.Borrow.{sem};
 ghost use Rattle.influxdb_line_protocol.specs.code.Rules.{rules_of};
-ghost use Rattle.influxdb_line_protocol.specs.code.Bounded.{FindsWithin, Holds, IsTooLong, kept, KeepsRules};
+ghost use Rattle.influxdb_line_protocol.specs.code.Bounded.{FindsWithin, Holds, IsTooLong, kept, KeepsRules, most_given};
 ghost use Rattle.influxdb_line_protocol.specs.declared.stream.bounded.Skipped.{Skipped};
 ghost use Rattle.influxdb_line_protocol.specs.format.Pieces.{IsLastPiece};
 
@@ -111,6 +111,7 @@ impl BoundedLineStream {
     fn first(&mut self) -> Option<Result<Mark, TooLong>>
         ensures rules { KeepsRules self.old self.new }
         ensures few { kept self.new ≤ kept self.old }
+        ensures fewer { IfSome result (λ found. OnErr found (most_given self.new < most_given self.old)) }
         ensures finds { FindsWithin self.old result self.new }
     {
         match self.skipped {

@@ -101,7 +101,7 @@ no_end_within dialect bytes track i begins tracks is_last =
     (subst (λ (t : List ℕ). IsLastPiece dialect t) (sym (parted bytes i tracks.0 tracks.1)) is_last)
 
 -- fewer bytes are kept once a piece is taken
-pub taking_keeps_fewer : (held after : Held) (piece : List ℕ) → TakesPiece held piece after → length after.bytes ≤ length held.bytes
+pub taking_keeps_fewer : (held after : Held) (piece : List ℕ) → TakesPiece held piece after → length after.bytes < length held.bytes
 taking_keeps_fewer held after piece takes =
     omega (arith, ap (λ (t : List ℕ). length t) takes.bytes, length-append piece (10 ∷ after.bytes))
 

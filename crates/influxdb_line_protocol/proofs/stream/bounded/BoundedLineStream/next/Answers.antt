@@ -1,8 +1,8 @@
-use Rattle.std.proofs.Common.{◌≡◌, ◌≤◌, length, List, ℕ, Result, Some, refl, subst, ap, ◌∙◌, arith}
+use Rattle.std.proofs.Common.{◌≡◌, ◌+◌, ◌<◌, ◌≤◌, length, List, ℕ, Result, Some, refl, subst, ap, ◌∙◌, arith}
 use Rattle.influxdb_line_protocol.specs.declared.split.Mark.{Mark}
 use Rattle.influxdb_line_protocol.specs.declared.stream.bounded.TooLong.{TooLong}
 use Rattle.influxdb_line_protocol.specs.declared.stream.bounded.Skipped.TheVariants.{Nothing}
-use Rattle.influxdb_line_protocol.specs.code.Bounded.{CutsTo, FindsWithin, HeldWithin, Holds, HoldsBy, kept}
+use Rattle.influxdb_line_protocol.specs.code.Bounded.{CutsTo, FindsWithin, HeldWithin, Holds, HoldsBy, faults_to_come, kept, most_given}
 use Rattle.influxdb_line_protocol.proofs.lemmas.stream.BoundedStreams.{takes_within, taking_keeps_fewer}
 use Rattle.influxdb_line_protocol.proofs.stream.bounded.BoundedLineStream.next.Goals as goal
 
@@ -16,13 +16,15 @@ returns-in-Ok c =
     let same = c.self.view_is ∙ finds.0 in
     let nothing : s.skipped ≡ Nothing = ap (λ (v : HeldWithin). v.skipped) same ∙ finds.1 in
     let takes = c.take.follows.holds-at-none in
+    let fewer = taking_keeps_fewer s.stream after piece takes in
     let short : length piece ≤ s.limit = omega (arith, c.take.ensures.len, finds.3, ap (λ (v : HeldWithin). v.limit) same) in (
       (
         refl,
         (λ _. tt),
         (
           (takes.dialect ∙ ap (λ (v : HeldWithin). v.held.dialect) same, ap (λ (v : HeldWithin). v.limit) same),
-          subst (λ (v : HeldWithin). length after.bytes ≤ kept v) same (taking_keeps_fewer s.stream after piece takes),
+          subst (λ (v : HeldWithin). length after.bytes ≤ kept v) same (omega (arith, fewer)),
+          subst (λ (v : HeldWithin). length after.bytes + faults_to_come s.skipped < most_given v) same (omega (arith, fewer)),
           subst
               (λ (v : HeldWithin). (text : List ℕ) → Holds v text
               → (rest : List ℕ) × (length piece ≤ v.limit) × CutsTo v.held.dialect text piece rest × HoldsBy s.limit after s.skipped rest)
