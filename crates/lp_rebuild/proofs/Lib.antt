@@ -1,4 +1,8 @@
 pub mod Steps
+pub mod CutLemmas
+pub mod PartLemmas
+pub mod PartEndLemmas
+pub mod WalkLemmas
 pub mod Moving
 pub mod Parts
 pub mod RebuildLemmas

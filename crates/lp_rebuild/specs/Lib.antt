@@ -1,3 +1,5 @@
+pub mod Cuts
+pub mod CutSteps
 pub mod Devices
 pub mod Rebuilding
 pub mod RebuildSteps

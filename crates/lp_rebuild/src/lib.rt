@@ -5,6 +5,7 @@
 #![tactic(auto)]
 
 mod batch;
+mod cuts;
 mod devices;
 mod failures;
 mod flushes;
@@ -12,6 +13,7 @@ mod program;
 mod relaying;
 
 pub use batch::{Rebuilt, rebuild, rebuild_in};
+pub use cuts::part_ends;
 pub use devices::{DeviceFault, Kept, Reading, Sink, Source, Writing};
 pub use failures::Failures;
 pub use program::{RunFault, USAGE, dialect_of, run, run_in, status};
