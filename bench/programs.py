@@ -30,15 +30,24 @@ def write_input(path: Path, size: int) -> int:
         return file.tell()
 
 
+def memory(pid: int) -> int:
+    """How many KiB a process has taken at most so far, and 0 where it has ended. `wait4` would count the parent's too."""
+    lines = Path(f"/proc/{pid}/status").read_text().splitlines()
+    return max((int(line.split()[1]) for line in lines if line.startswith("VmHWM:")), default=0)
+
+
 def run(program: str, path: Path) -> tuple[float, int]:
-    """The seconds that a run takes, and how many KiB of memory at most."""
+    """The seconds that a run takes, and how many KiB of memory it took at most, seen each hundredth of a second."""
+    most = 0
     with path.open("rb") as text, Path(os.devnull).open("wb") as nowhere:
         start = time.monotonic()
         child = subprocess.Popen([program], stdin=text, stdout=nowhere, stderr=nowhere)
-        _, status, usage = os.wait4(child.pid, 0)
-    if status != 0:
-        sys.exit(f"{program}: status {status}")
-    return time.monotonic() - start, usage.ru_maxrss
+        while child.poll() is None:
+            most = max(most, memory(child.pid))
+            time.sleep(0.01)
+    if child.returncode != 0:
+        sys.exit(f"{program}: status {child.returncode}")
+    return time.monotonic() - start, most
 
 
 def main() -> None:
