@@ -79,7 +79,10 @@ answers_joined : PiecesAreUnique → (dialect : Dialect) (parts pieces : List (L
     → HavePieces dialect parts pieces → HaveAnswers dialect parts answers → answers ≡ answers_of dialect pieces
 answers_joined unique dialect [] pieces answers h has = has ∙ ap (answers_of dialect) (sym h)
 answers_joined unique dialect (part ∷ []) pieces answers h has =
-    has.4 ∙ ap (λ (l : List (Result Line Fault)). has.0 ++ l) has.3 ∙ append-nil has.0 ∙ answers_are unique dialect part pieces has.0 h has.2
+    has.4
+    ∙ ap (λ (l : List (Result Line Fault)). has.0 ++ l) has.3
+    ∙ append-nil has.0
+    ∙ answers_are unique dialect part pieces has.0 h has.2
 answers_joined unique dialect (part ∷ (next ∷ parts)) pieces answers h has =
     let first : has.0 ≡ answers_of dialect h.0 =
     answers_are unique dialect part (h.0 ++ [] ∷ []) has.0 h.2 has.2 ∙ answers_before dialect h.0 in

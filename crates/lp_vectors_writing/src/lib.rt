@@ -10,6 +10,8 @@ mod changed;
 #[cfg(test)]
 mod failures;
 #[cfg(test)]
+mod part_tables;
+#[cfg(test)]
 mod relays;
 #[cfg(test)]
 mod runs;

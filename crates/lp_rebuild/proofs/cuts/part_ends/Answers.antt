@@ -22,8 +22,8 @@ loop-k-init c =
 
 pub walk_to-requires-clause-first : goal.walk_to-requires-clause-first
 walk_to-requires-clause-first c = λ other cut_there there.
-    none_passed (rules_of c.args.dialect) c.args.input.now c.args.count c.loop-k.k c.loop-k.ends.items c.loop-k.walk.at c.loop-k.invariant.so_far
-    c.loop-k.invariant.found c.loop-k-test.true other cut_there (subst (λ (n : ℕ). n ≤ other) c.even_end.ensures there)
+    none_passed (rules_of c.args.dialect) c.args.input.now c.args.count c.loop-k.k c.loop-k.ends.items c.loop-k.walk.at
+    c.loop-k.invariant.so_far c.loop-k.invariant.found c.loop-k-test.true other cut_there (subst (λ (n : ℕ). n ≤ other) c.even_end.ensures there)
 
 pub loop-k-preserved : goal.loop-k-preserved
 loop-k-preserved c =
@@ -62,7 +62,8 @@ returns-clause-pieces c =
 
 pub returns-clause-answers : goal.returns-clause-answers
 returns-clause-answers c =
-    parts_answer c.pieces_join.ensures.one (rules_of c.args.dialect) c.args.input.now (parts_from 0 c.args.input.now c.push-2.new.self.items)
+    parts_answer c.pieces_join.ensures.one (rules_of c.args.dialect) c.args.input.now
+    (parts_from 0 c.args.input.now c.push-2.new.self.items)
     (subst (λ (l : List ℕ). JoinsPieces (rules_of c.args.dialect) c.args.input.now (parts_from 0 c.args.input.now l))
     (sym c.in_ok-push-2.ensures.items)
     (ends_join c.pieces_join.ensures.some c.pieces_join.ensures.one (rules_of c.args.dialect) c.args.input.now c.args.count
