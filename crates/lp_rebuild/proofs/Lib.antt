@@ -10,6 +10,7 @@ pub mod BatchLemmas
 pub mod PassLemmas
 pub mod ItemLemmas
 pub mod RelayLemmas
+pub mod RelayPieces
 pub mod RelaysSoFar
 pub mod RelaysOfText
 pub mod RelayEnds

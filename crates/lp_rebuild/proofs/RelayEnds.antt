@@ -9,7 +9,7 @@ use Rattle.lp_rebuild.specs.declared.program.RunFault.TheVariants.{Read, NotUtf8
 use Rattle.lp_rebuild.specs.declared.relaying.Relayed.{Relayed}
 use Rattle.lp_rebuild.specs.Running.{CountsReadFault, ReaderTold, WriterTold}
 use Rattle.lp_rebuild.specs.RelaySteps.{CountsWriteFault}
-use Rattle.lp_rebuild.specs.Relays.{RelaysAll, RelaysFronts, RelaysIn}
+use Rattle.lp_rebuild.specs.Relays.{RelaysAll, RelaysFronts, RelaysWithin}
 use Rattle.lp_rebuild.proofs.RelaysOfText.{all_rebuilt, fronts_rebuilt}
 
 -- counts that are the same have not risen
@@ -33,47 +33,47 @@ if_some None P Q f h = tt
 if_some (Some x) P Q f h = f x h
 
 -- a fault of the reader, or memory that was refused
-pub read_fault : Utf8ByPieces → PiecesAreUnique → (dialect : Dialect) (fault : RunFault) (count : ℕ) (reader reader_after : ReaderTold)
+pub read_fault : Utf8ByPieces → PiecesAreUnique → (dialect : Dialect) (limit : Option ℕ) (fault : RunFault) (count : ℕ) (reader reader_after : ReaderTold)
     (out out_after err err_after : WriterTold)
-    → IfSome reader.bytes (λ bs. RelaysFronts dialect bs out.bytes out_after.bytes err.bytes err_after.bytes)
+    → IfSome reader.bytes (λ bs. RelaysFronts dialect limit bs out.bytes out_after.bytes err.bytes err_after.bytes)
     → CountsReadFault {T = ℕ} (Err fault) count reader_after.failures → count ≡ reader.failures
     → out_after.failures ≡ out.failures → err_after.failures ≡ err.failures
-    → RelaysIn dialect (Err fault) reader reader_after out out_after err err_after
-read_fault utf8 unique dialect Read count reader reader_after out out_after err err_after fronts c e o f =
+    → RelaysWithin dialect limit (Err fault) reader reader_after out out_after err err_after
+read_fault utf8 unique dialect limit Read count reader reader_after out out_after err err_after fronts c e o f =
     record {
       all = tt;
       flushed = tt;
       part = fronts;
       rebuilt = tt;
-      rebuilt_part = if_some reader.bytes _ _ (λ bs h. fronts_rebuilt utf8 unique dialect bs _ _ _ _ h) fronts;
+      rebuilt_part = if_some reader.bytes _ _ (λ bs h. fronts_rebuilt utf8 unique dialect limit bs _ _ _ _ h) fronts;
       read = (λ h. omega (arith, c, e), λ h. refl);
       write = (λ h. absurd (cc), λ h. absurd (none_rose _ _ _ _ o f h));
       utf8 = λ h. cc;
       counts = (omega (arith, o), omega (arith, f));
     }
-read_fault utf8 unique dialect OutOfMemory count reader reader_after out out_after err err_after fronts c e o f =
+read_fault utf8 unique dialect limit OutOfMemory count reader reader_after out out_after err err_after fronts c e o f =
     record {
       all = tt;
       flushed = tt;
       part = fronts;
       rebuilt = tt;
-      rebuilt_part = if_some reader.bytes _ _ (λ bs h. fronts_rebuilt utf8 unique dialect bs _ _ _ _ h) fronts;
+      rebuilt_part = if_some reader.bytes _ _ (λ bs h. fronts_rebuilt utf8 unique dialect limit bs _ _ _ _ h) fronts;
       read = (λ h. absurd (cc), λ h. absurd (omega (arith, c, e, h)));
       write = (λ h. absurd (cc), λ h. absurd (none_rose _ _ _ _ o f h));
       utf8 = λ h. cc;
       counts = (omega (arith, o), omega (arith, f));
     }
-read_fault utf8 unique dialect NotUtf8 count reader reader_after out out_after err err_after fronts c e o f = absurd c
-read_fault utf8 unique dialect Write count reader reader_after out out_after err err_after fronts c e o f = absurd c
+read_fault utf8 unique dialect limit NotUtf8 count reader reader_after out out_after err err_after fronts c e o f = absurd c
+read_fault utf8 unique dialect limit Write count reader reader_after out out_after err err_after fronts c e o f = absurd c
 
 -- a fault of a writer, or memory that was refused
-pub write_fault : Utf8ByPieces → PiecesAreUnique → (dialect : Dialect) (fault : RunFault) (out_count err_count : ℕ)
+pub write_fault : Utf8ByPieces → PiecesAreUnique → (dialect : Dialect) (limit : Option ℕ) (fault : RunFault) (out_count err_count : ℕ)
     (reader reader_after : ReaderTold) (out out_after err err_after : WriterTold)
-    → IfSome reader.bytes (λ bs. RelaysFronts dialect bs out.bytes out_after.bytes err.bytes err_after.bytes)
+    → IfSome reader.bytes (λ bs. RelaysFronts dialect limit bs out.bytes out_after.bytes err.bytes err_after.bytes)
     → CountsWriteFault {T = Unit {0}} (Err fault) out_count out_after.failures err_count err_after.failures
     → out_count ≡ out.failures → err_count ≡ err.failures → reader_after.failures ≡ reader.failures
-    → RelaysIn dialect (Err fault) reader reader_after out out_after err err_after
-write_fault utf8 unique dialect Write o f reader reader_after out out_after err err_after fronts c e k r =
+    → RelaysWithin dialect limit (Err fault) reader reader_after out out_after err err_after
+write_fault utf8 unique dialect limit Write o f reader reader_after out out_after err err_after fronts c e k r =
     let same = subst (λ n. CountsWriteFault {T = Unit {0}} (Err Write) n out_after.failures f err_after.failures) e c in
     let rose = subst (λ n. CountsWriteFault {T = Unit {0}} (Err Write) out.failures out_after.failures n err_after.failures) k same in
     record {
@@ -81,41 +81,41 @@ write_fault utf8 unique dialect Write o f reader reader_after out out_after err 
       flushed = tt;
       part = fronts;
       rebuilt = tt;
-      rebuilt_part = if_some reader.bytes _ _ (λ bs h. fronts_rebuilt utf8 unique dialect bs _ _ _ _ h) fronts;
+      rebuilt_part = if_some reader.bytes _ _ (λ bs h. fronts_rebuilt utf8 unique dialect limit bs _ _ _ _ h) fronts;
       read = (λ h. absurd (cc), λ h. absurd (omega (arith, r, h)));
       write = (λ h. one_rose _ _ _ _ rose, λ h. refl);
       utf8 = λ h. cc;
       counts = none_fell _ _ _ _ rose;
     }
-write_fault utf8 unique dialect OutOfMemory o f reader reader_after out out_after err err_after fronts c e k r =
+write_fault utf8 unique dialect limit OutOfMemory o f reader reader_after out out_after err err_after fronts c e k r =
     record {
       all = tt;
       flushed = tt;
       part = fronts;
       rebuilt = tt;
-      rebuilt_part = if_some reader.bytes _ _ (λ bs h. fronts_rebuilt utf8 unique dialect bs _ _ _ _ h) fronts;
+      rebuilt_part = if_some reader.bytes _ _ (λ bs h. fronts_rebuilt utf8 unique dialect limit bs _ _ _ _ h) fronts;
       read = (λ h. absurd (cc), λ h. absurd (omega (arith, r, h)));
       write = (λ h. absurd (cc), λ h. absurd (none_rose _ _ _ _ (c.0 ∙ e) (c.1 ∙ k) h));
       utf8 = λ h. cc;
       counts = (omega (arith, c.0, e), omega (arith, c.1, k));
     }
-write_fault utf8 unique dialect NotUtf8 o f reader reader_after out out_after err err_after fronts c e k r = absurd c
-write_fault utf8 unique dialect Read o f reader reader_after out out_after err err_after fronts c e k r = absurd c
+write_fault utf8 unique dialect limit NotUtf8 o f reader reader_after out out_after err err_after fronts c e k r = absurd c
+write_fault utf8 unique dialect limit Read o f reader reader_after out out_after err err_after fronts c e k r = absurd c
 
 -- all was written
-pub ended : Utf8ByPieces → PiecesAreUnique → (dialect : Dialect) (counts : Relayed) (reader reader_after : ReaderTold)
+pub ended : Utf8ByPieces → PiecesAreUnique → (dialect : Dialect) (limit : Option ℕ) (counts : Relayed) (reader reader_after : ReaderTold)
     (out out_after err err_after : WriterTold)
     → IfSome reader.bytes (λ bs.
-    (reader_after.bytes ≡ Some []) × RelaysAll dialect bs counts out.bytes out_after.bytes err.bytes err_after.bytes)
+    (reader_after.bytes ≡ Some []) × RelaysAll dialect limit bs counts out.bytes out_after.bytes err.bytes err_after.bytes)
     → (out_after.is_flushed ≡ true) × (err_after.is_flushed ≡ true) → reader_after.failures ≡ reader.failures
     → out_after.failures ≡ out.failures → err_after.failures ≡ err.failures
-    → RelaysIn dialect (Ok counts) reader reader_after out out_after err err_after
-ended utf8 unique dialect counts reader reader_after out out_after err err_after all flushed r o f =
+    → RelaysWithin dialect limit (Ok counts) reader reader_after out out_after err err_after
+ended utf8 unique dialect limit counts reader reader_after out out_after err err_after all flushed r o f =
     record {
       all = all;
       flushed = flushed;
       part = tt;
-      rebuilt = if_some reader.bytes _ _ (λ bs h. all_rebuilt utf8 unique dialect bs counts _ _ _ _ h.1) all;
+      rebuilt = if_some reader.bytes _ _ (λ bs h. all_rebuilt utf8 unique dialect limit bs counts _ _ _ _ h.1) all;
       rebuilt_part = tt;
       read = (λ h. absurd (cc), λ h. absurd (omega (arith, r, h)));
       write = (λ h. absurd (cc), λ h. absurd (none_rose _ _ _ _ o f h));
@@ -124,10 +124,10 @@ ended utf8 unique dialect counts reader reader_after out out_after err err_after
     }
 
 -- a fault that was handed on
-pub handed_on : (dialect : Dialect) (result : Result Relayed RunFault) (fault : RunFault) (reader reader_after : ReaderTold)
+pub handed_on : (dialect : Dialect) (limit : Option ℕ) (result : Result Relayed RunFault) (fault : RunFault) (reader reader_after : ReaderTold)
     (out out_after err err_after : WriterTold) → IsErrAnd result (λ e. e ≡ fault)
-    → RelaysIn dialect (Err fault) reader reader_after out out_after err err_after
-    → RelaysIn dialect result reader reader_after out out_after err err_after
-handed_on dialect (Ok counts) fault reader reader_after out out_after err err_after is h = absurd is
-handed_on dialect (Err e) fault reader reader_after out out_after err err_after is h =
-    subst (λ f. RelaysIn dialect (Err f) reader reader_after out out_after err err_after) (sym is) h
+    → RelaysWithin dialect limit (Err fault) reader reader_after out out_after err err_after
+    → RelaysWithin dialect limit result reader reader_after out out_after err err_after
+handed_on dialect limit (Ok counts) fault reader reader_after out out_after err err_after is h = absurd is
+handed_on dialect limit (Err e) fault reader reader_after out out_after err err_after is h =
+    subst (λ f. RelaysWithin dialect limit (Err f) reader reader_after out out_after err err_after) (sym is) h

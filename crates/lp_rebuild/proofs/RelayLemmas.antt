@@ -1,9 +1,8 @@
 -- The steps of a relay, one after another.
 use Rattle.std.proofs.Common.{◌≡◌, ℕ, ◌+◌, List, [], ◌∷◌, ◌++◌, length, map, string_bytes, codes}
-use Rattle.std.proofs.Common.{Option, Some, None, Result, Ok, Err, refl, sym, ap, subst, ◌∙◌, arith, append_assoc, append-nil}
+use Rattle.std.proofs.Common.{Option, Some, None, Result, Ok, Err, refl, sym, ap, subst, ◌∙◌, arith, append-nil}
 use Rattle.std.proofs.Common.{OnErr}
 use Rattle.std.specs.Str.{IsUtf8}
-use Rattle.std.specs.Borrow.{Bor}
 use Rattle.std.specs.List.{All}
 use Rattle.std.specs.Io.KnownBytes.{Appends}
 use Rattle.std.proofs.KnownBytes.{Appends-nil}
@@ -15,23 +14,21 @@ use Rattle.influxdb_line_protocol.specs.format.Points.{built_all}
 use Rattle.influxdb_line_protocol.specs.format.Lines.{Line, answer}
 use Rattle.influxdb_line_protocol.specs.format.Trimming.{trimmed}
 use Rattle.influxdb_line_protocol.specs.format.Items.{answers_of_piece}
-use Rattle.influxdb_line_protocol.specs.format.Pieces.{IsCutPiece, IsLastPiece, Left, Pieces.last, PiecesLeft}
+use Rattle.influxdb_line_protocol.specs.format.Pieces.{IsLastPiece, Left, Pieces.last, PiecesLeft}
 use Rattle.influxdb_line_protocol.specs.code.Parsed.{Answers}
 use Rattle.influxdb_line_protocol.specs.code.ParseSteps.{GivesItem, HadBlankPieces, IsBlankPiece}
-use Rattle.influxdb_line_protocol.specs.code.Streams.{Held, TakesPiece, GivesCutText, GivesLastText}
 use Rattle.influxdb_line_protocol.specs.laws.Laws.{PiecesExist, PiecesAreUnique}
-use Rattle.influxdb_line_protocol.specs.laws.StreamLaws.{Run, Run.taken}
 use Rattle.lp_rebuild.specs.declared.batch.Progress.{Progress}
 use Rattle.lp_rebuild.specs.Rebuilding.{carried_point, fault_of, is_carried_answer}
 use Rattle.lp_rebuild.specs.RebuildSteps.{Refuses, Takes}
 use Rattle.lp_rebuild.specs.Running.{AppendsFront}
-use Rattle.lp_rebuild.specs.Relaying.{Item, items_of_piece, items_of, items_batch, item_faults, carried_items, refused_items}
-use Rattle.lp_rebuild.specs.RelaySteps.{Made, made, holds, Passes, RelaysItems, RelaysPart, RelaysPieces, RelaysSome, ShowsPiece}
-use Rattle.lp_rebuild.specs.RelaySteps.{TakesItems, TakesPieces}
+use Rattle.lp_rebuild.specs.Relaying.{Item, answered, not_utf8, too_long, items_of_bytes, items_batch, item_faults, carried_items}
+use Rattle.lp_rebuild.specs.Relaying.{refused_items}
+use Rattle.lp_rebuild.specs.RelaySteps.{Made, made, Passes, RelaysItems, RelaysPart, TakesItems}
 use Rattle.lp_rebuild.proofs.RebuildLemmas.{add_where, add_elsewhere, blank_answers, piece_answers}
 use Rattle.lp_rebuild.proofs.PassLemmas.{passes_none, passes_more, passes_front}
 use Rattle.lp_rebuild.proofs.ItemLemmas.{batch_append, faults_append, carried_append, refused_append, items_add_up}
-use Rattle.lp_rebuild.proofs.ItemLemmas.{items_of_text, item_of_bytes, items_push}
+use Rattle.lp_rebuild.proofs.ItemLemmas.{items_of_text, item_of_no_text}
 
 -- nothing was taken
 takes_nothing : (old : Made) → TakesItems old [] old
@@ -45,7 +42,7 @@ takes_nothing old =
 
 -- an answer is one item
 takes_answer : (old : Progress) (answer : Result Line Fault) (new : Progress) → Takes old answer new
-    → TakesItems (made old) (Some answer ∷ []) (made new)
+    → TakesItems (made old) (answered answer ∷ []) (made new)
 takes_answer old answer new t =
     record {
       batch = t.batch ∙ ap (λ l. old.batch.items ++ built_all l) (sym (append-nil (carried_point answer)));
@@ -56,9 +53,20 @@ takes_answer old answer new t =
     }
 
 -- a piece that is not UTF-8 is one item
-takes_bytes : (old new : Progress) → Refuses old (codes "the line is not UTF-8") new
-    → TakesItems (made old) (None ∷ []) (made new)
-takes_bytes old new r =
+takes_no_text : (old new : Progress) → Refuses old (codes "the line is not UTF-8") new
+    → TakesItems (made old) (not_utf8 ∷ []) (made new)
+takes_no_text old new r =
+    record {
+      batch = r.batch ∙ sym (append-nil old.batch.items);
+      faults = r.faults ∙ ap (λ l. string_bytes old.faults ++ l) (sym (append-nil _));
+      carried = omega (arith, r.carried);
+      refused = r.refused;
+    }
+
+-- so is one that is too long
+pub takes_too_long : (old new : Progress) → Refuses old (codes "the line is too long") new
+    → TakesItems (made old) (too_long ∷ []) (made new)
+takes_too_long old new r =
     record {
       batch = r.batch ∙ sym (append-nil old.batch.items);
       faults = r.faults ∙ ap (λ l. string_bytes old.faults ++ l) (sym (append-nil _));
@@ -104,31 +112,29 @@ piece_blank unique dialect piece h blank =
 pub takes_text : (dialect : Dialect) (piece : List ℕ) (item : Result ParsedLine Error) (old new : Progress)
     → ((answer : Result Line Fault) × Answers item answer × (answers_of_piece dialect piece ≡ answer ∷ []))
     → ((answer : Result Line Fault) → Answers item answer → Takes old answer new)
-    → TakesItems (made old) (map Some (answers_of_piece dialect piece)) (made new)
+    → TakesItems (made old) (map answered (answers_of_piece dialect piece)) (made new)
 takes_text dialect piece item old new is takes =
-    subst (λ (l : List (Result Line Fault)). TakesItems (made old) (map Some l) (made new)) (sym is.2)
+    subst (λ (l : List (Result Line Fault)). TakesItems (made old) (map answered l) (made new)) (sym is.2)
     (takes_answer old is.0 new (takes is.0 is.1))
 
 -- a blank text has none
 pub takes_blank : (dialect : Dialect) (piece : List ℕ) (old : Progress) → answers_of_piece dialect piece ≡ []
-    → TakesItems (made old) (map Some (answers_of_piece dialect piece)) (made old)
+    → TakesItems (made old) (map answered (answers_of_piece dialect piece)) (made old)
 takes_blank dialect piece old is =
-    subst (λ (l : List (Result Line Fault)). TakesItems (made old) (map Some l) (made old)) (sym is) (takes_nothing (made old))
+    subst (λ (l : List (Result Line Fault)). TakesItems (made old) (map answered l) (made old)) (sym is) (takes_nothing (made old))
 
 -- the items of a piece are those of its text
-pub takes_piece : (dialect : Dialect) (text : Bor (List ℕ)) (old new : Made) (piece : List ℕ)
-    → TakesItems old (map Some (answers_of_piece dialect text.now)) new → (text.now ≡ piece) × IsUtf8 piece
-    → TakesItems old (items_of_piece dialect piece) new
-takes_piece dialect text old new piece t shows =
+pub takes_bytes : (dialect : Dialect) (text piece : List ℕ) (old new : Made) → text ≡ piece → IsUtf8 piece
+    → TakesItems old (map answered (answers_of_piece dialect text)) new → TakesItems old (items_of_bytes dialect piece) new
+takes_bytes dialect text piece old new same u t =
     subst (λ l. TakesItems old l new)
-    (ap (λ (p : List ℕ). map Some (answers_of_piece dialect p)) shows.0 ∙ sym (items_of_text dialect piece shows.1)) t
+    (ap (λ (p : List ℕ). map answered (answers_of_piece dialect p)) same ∙ sym (items_of_text dialect piece u)) t
 
 -- a piece that is not UTF-8 was refused
-pub takes_no_text : {E : Type 0} (dialect : Dialect) (e : E) (old new : Progress) (piece : List ℕ)
-    → Refuses old (codes "the line is not UTF-8") new → ShowsPiece (Err e) piece
-    → TakesItems (made old) (items_of_piece dialect piece) (made new)
-takes_no_text dialect e old new piece r shows =
-    subst (λ l. TakesItems (made old) l (made new)) (sym (item_of_bytes dialect piece shows)) (takes_bytes old new r)
+pub takes_bad_bytes : (dialect : Dialect) (piece : List ℕ) (old new : Progress) → (¬ IsUtf8 piece)
+    → Refuses old (codes "the line is not UTF-8") new → TakesItems (made old) (items_of_bytes dialect piece) (made new)
+takes_bad_bytes dialect piece old new bad r =
+    subst (λ l. TakesItems (made old) l (made new)) (sym (item_of_no_text dialect piece bad)) (takes_no_text old new r)
 
 -- what was taken is held
 pub relays_taken : (old new : Made) (a e : Option (List ℕ)) (xs : List Item) → TakesItems old xs new → RelaysItems old new a a e e xs
@@ -206,28 +212,6 @@ part_of_faults old a b e f bytes faults is faults_are whole part =
       faults = p.1;
     }
 
--- no piece was taken
-pub takes_none : (h : Held) → TakesPieces h [] h
-takes_none h = (refl, λ given first r. subst (λ l. Run h.dialect given l h.bytes) (sym (append-nil first)) r)
-
--- one piece more
-pub takes_one : (before mid after : Held) (pieces : List (List ℕ)) (piece : List ℕ) → TakesPieces before pieces mid
-    → TakesPiece mid piece after → TakesPieces before (pieces ++ piece ∷ []) after
-takes_one before mid after pieces piece t p = (
-  p.dialect ∙ t.0,
-  λ given first r.
-      subst (λ l. Run before.dialect given l after.bytes) (append_assoc first pieces (piece ∷ []))
-      (taken given (first ++ pieces) piece after.bytes
-      (subst (Run before.dialect given (first ++ pieces)) p.bytes (t.1 given first r))
-      (subst (λ d. IsCutPiece d piece) t.0 p.is_cut)),
-)
-
--- the piece that a call gave
-pub given_piece : {E : Type 0} (before after : Held) (piece : Result (Bor (List ℕ)) E) → GivesCutText before (Some piece) after
-    → (bytes : List ℕ) × TakesPiece before bytes after × ShowsPiece piece bytes
-given_piece before after (Ok text) h = (text.now, h.0, (refl, h.1))
-given_piece before after (Err e) h = (h.0, h.1, h.2)
-
 -- nothing was written, whatever is made then
 pub part_of_none : (old : Made) (a e : Option (List ℕ)) (xs : List Item) → RelaysPart old a a e e xs
 part_of_none old a e xs =
@@ -257,90 +241,6 @@ part_poured old now next a b c e f g xs ys p t q =
 -- nothing was made so far
 pub relays_none : (old : Made) (a e : Option (List ℕ)) → RelaysItems old old a a e e []
 relays_none old a e = relays_taken old old a e [] (takes_nothing old)
-
--- no piece was taken so far
-pub pieces_none : (before : Held) (old : Made) (a e : Option (List ℕ)) → RelaysPieces before before old old a a e e
-pieces_none before old a e = record { pieces = []; taken = takes_none before; relays = relays_none old a e }
-
--- the items of the pieces that were taken, and of one more
-pieces_push : (before mid : Held) (dialect : Dialect) (pieces : List (List ℕ)) (piece : List ℕ) → TakesPieces before pieces mid
-    → mid.dialect ≡ dialect
-    → items_of before.dialect pieces ++ items_of_piece dialect piece ≡ items_of before.dialect (pieces ++ piece ∷ [])
-pieces_push before mid dialect pieces piece t same =
-    ap (λ d. items_of before.dialect pieces ++ items_of_piece d piece) (sym same ∙ t.0)
-    ∙ sym (items_push before.dialect pieces piece)
-
--- a piece more was taken, and what is held was written
-pub pieces_more : {E : Type 0} (dialect : Dialect) (before mid after : Held) (old now next poured : Made)
-    (a b c e f g : Option (List ℕ)) (piece : Result (Bor (List ℕ)) E) → mid.dialect ≡ dialect
-    → RelaysPieces before mid old now a b e f → GivesCutText mid (Some piece) after
-    → ((bytes : List ℕ) → ShowsPiece piece bytes → TakesItems now (items_of_piece dialect bytes) next)
-    → RelaysItems next poured b c f g [] → RelaysPieces before after old poured a c e g
-pieces_more dialect before mid after old now next poured a b c e f g piece same p gives takes q =
-    let one = given_piece mid after piece gives in
-    record {
-      pieces = p.pieces ++ one.0 ∷ [];
-      taken = takes_one before mid after p.pieces one.0 p.taken one.1;
-      relays = subst (λ l. RelaysItems old poured a c e g l) (pieces_push before mid dialect p.pieces one.0 p.taken same)
-          (relays_poured old now next poured a b c e f g _ _ p.relays (takes one.0 one.2) q);
-    }
-
--- the same, where a beginning of it was written
-pub pieces_part : {E : Type 0} (dialect : Dialect) (before mid after : Held) (old now next : Made)
-    (a b c e f g : Option (List ℕ)) (piece : Result (Bor (List ℕ)) E) → mid.dialect ≡ dialect
-    → RelaysPieces before mid old now a b e f → GivesCutText mid (Some piece) after
-    → ((bytes : List ℕ) → ShowsPiece piece bytes → TakesItems now (items_of_piece dialect bytes) next)
-    → RelaysPart next b c f g [] → RelaysSome before old a c e g
-pieces_part dialect before mid after old now next a b c e f g piece same p gives takes q =
-    let one = given_piece mid after piece gives in
-    record {
-      after = after;
-      pieces = p.pieces ++ one.0 ∷ [];
-      taken = takes_one before mid after p.pieces one.0 p.taken one.1;
-      part = subst (λ l. RelaysPart old a c e g l) (pieces_push before mid dialect p.pieces one.0 p.taken same)
-          (part_poured old now next a b c e f g _ _ p.relays (takes one.0 one.2) q);
-    }
-
--- the pieces that were taken so far
-pub pieces_so_far : (before mid : Held) (old now : Made) (a b e f : Option (List ℕ)) → RelaysPieces before mid old now a b e f
-    → RelaysSome before old a b e f
-pieces_so_far before mid old now a b e f p =
-    record { after = mid; pieces = p.pieces; taken = p.taken; part = part_so_far old now a b e f _ p.relays }
-
--- pieces were taken, and then what is held was written
-pub pieces_poured : (begun before after : Held) (old new poured : Made) (a b c e f g : Option (List ℕ)) → begun ≡ before
-    → RelaysPieces begun after old new a b e f → RelaysItems new poured b c f g [] → RelaysPieces before after old poured a c e g
-pieces_poured begun before after old new poured a b c e f g same p q =
-    subst (λ h. RelaysPieces h after old poured a c e g) same
-    (record {
-      pieces = p.pieces;
-      taken = p.taken;
-      relays = subst (λ l. RelaysItems old poured a c e g l) (append-nil (items_of begun.dialect p.pieces))
-          (relays_more old new poured a b c e f g _ [] p.relays q);
-    })
-
--- the same, where a beginning of it was written
-pub pieces_poured_part : (begun before after : Held) (old new : Made) (a b c e f g : Option (List ℕ)) → begun ≡ before
-    → RelaysPieces begun after old new a b e f → RelaysPart new b c f g [] → RelaysSome before old a c e g
-pieces_poured_part begun before after old new a b c e f g same p q =
-    subst (λ h. RelaysSome h old a c e g) same
-    (record {
-      after = after;
-      pieces = p.pieces;
-      taken = p.taken;
-      part = subst (λ l. RelaysPart old a c e g l) (append-nil (items_of begun.dialect p.pieces))
-          (part_more old new a b c e f g _ [] p.relays q);
-    })
-
--- the last piece, as a call gave it
-pub last_piece : {E : Type 0} (before after : Held) (piece : Result (Bor (List ℕ)) E) → GivesLastText before piece after
-    → ShowsPiece piece before.bytes
-last_piece before after (Ok text) h = (h.0.0, subst IsUtf8 h.0.0 h.1)
-last_piece before after (Err e) h = h.1
-
--- a stream is told by its dialect and what it holds
-pub held_is : (h : Held) (dialect : Dialect) (bytes : List ℕ) → h.dialect ≡ dialect → h.bytes ≡ bytes → h ≡ holds dialect bytes
-held_is h dialect bytes d e = ap (λ x. holds x h.bytes) d ∙ ap (holds dialect) e
 
 -- a fact at a fault
 pub on_err : {T E P : Type 0} (r : Result T E) → P → OnErr r P

@@ -1,31 +1,25 @@
 -- What each step of a relay takes of the stream, and what it writes or holds of it.
-use Rattle.std.specs.Prelude.{◌≡◌, ◌⊎◌, ℕ, ◌+◌, ◌++◌, List, [], string_bytes, Option, Result, Ok, Err}
+use Rattle.std.specs.Prelude.{◌≡◌, ◌⊎◌, ℕ, ◌+◌, ◌++◌, List, [], ◌∷◌, string_bytes, Option, Result, Ok, Err}
 use Rattle.std.specs.Borrow.{Bor}
-use Rattle.std.specs.Str.{IsUtf8}
 use Rattle.std.specs.Io.KnownBytes.{Appends}
 use Rattle.influxdb_line_protocol.specs.format.Dialects.{Dialect}
-use Rattle.influxdb_line_protocol.specs.code.Streams.{Held}
+use Rattle.influxdb_line_protocol.specs.format.Pieces.{IsLastPiece}
+use Rattle.influxdb_line_protocol.specs.code.Bounded.{HeldWithin, Holds}
 use Rattle.influxdb_line_protocol.specs.laws.StreamLaws.{Run}
 use Rattle.lp_rebuild.specs.declared.batch.Progress.{Progress}
 use Rattle.lp_rebuild.specs.declared.program.RunFault.{RunFault}
 use Rattle.lp_rebuild.specs.declared.program.RunFault.TheVariants.{Read, NotUtf8, OutOfMemory, Write}
-use Rattle.lp_rebuild.specs.Relaying.{Item, items_of, items_batch, item_faults, carried_items, refused_items}
+use Rattle.lp_rebuild.specs.Relaying.{Item, too_long, items_of_bytes, items_of, items_batch, item_faults, carried_items, refused_items}
 
--- the piece that was taken is this text, or was no text
-abbrev pub ShowsPiece : {E : Type 0} → Result (Bor (List ℕ)) E → List ℕ → Type 0
-ShowsPiece (Ok text) piece = (text.now ≡ piece) × IsUtf8 piece
-ShowsPiece (Err _) piece = ¬ IsUtf8 piece
+-- the items of what a call gave: those of a piece, or that of one that is too long
+abbrev pub items_given : {E : Type 0} → Dialect → Result (Bor (List ℕ)) E → List Item
+items_given dialect (Ok piece) = items_of_bytes dialect piece.now
+items_given dialect (Err _) = too_long ∷ []
 
--- a stream of this dialect that holds these bytes
-abbrev pub holds : Dialect → List ℕ → Held
-holds dialect bytes = record { dialect = dialect; bytes = bytes }
-
--- these pieces were taken, one after another, after whatever came before
-abbrev pub TakesPieces : Held → List (List ℕ) → Held → Type 0
-TakesPieces before pieces after =
-    (after.dialect ≡ before.dialect)
-    × ((given : List ℕ) (first : List (List ℕ)) → Run before.dialect given first before.bytes
-    → Run before.dialect given (first ++ pieces) after.bytes)
+-- these pieces were taken of a text, one after another, after whatever came before, and the rest is left
+abbrev pub TakesPieces : Dialect → (text : List ℕ) → List (List ℕ) → (rest : List ℕ) → Type 0
+TakesPieces dialect text pieces rest =
+    (given : List ℕ) (first : List (List ℕ)) → Run dialect given first text → Run dialect given (first ++ pieces) rest
 
 -- what was made so far and is not written yet, and how many items that was made of, together with what was written
 pub record Made : Type 0 where
@@ -68,18 +62,28 @@ pub record RelaysPart (old : Made) (out out_after err err_after : Option (List �
   pub batch : Passes out out_after old.batch (items_batch items) batch_left
   pub faults : Passes err err_after old.faults (item_faults (old.carried + old.refused + 1) items) faults_left
 
--- pieces were taken, and their lines were written, or are held
-pub record RelaysPieces (before after : Held) (old new : Made) (out out_after err err_after : Option (List ℕ)) : Type 0 where
+-- pieces of a text were taken, their lines were written, or are held, and the stream holds the rest
+pub record RelaysPieces (dialect : Dialect) (limit : Option ℕ) (text : List ℕ) (after : HeldWithin) (old new : Made)
+    (out out_after err err_after : Option (List ℕ)) : Type 0 where
   pub pieces : List (List ℕ)
-  pub taken : TakesPieces before pieces after
-  pub relays : RelaysItems old new out out_after err err_after (items_of before.dialect pieces)
+  pub rest : List ℕ
+  pub holds : Holds after rest
+  pub taken : TakesPieces dialect text pieces rest
+  pub relays : RelaysItems old new out out_after err err_after (items_of dialect limit pieces)
 
--- pieces were taken, and a beginning of their lines was written
-pub record RelaysSome (before : Held) (old : Made) (out out_after err err_after : Option (List ℕ)) : Type 0 where
-  pub after : Held
+-- so were all that a newline ends
+abbrev pub RelaysAllPieces : Dialect → Option ℕ → (text : List ℕ) → (after : HeldWithin) → (old new : Made)
+    → (out out_after err err_after : Option (List ℕ)) → Type 0
+RelaysAllPieces dialect limit text after old new out out_after err err_after =
+    (relays : RelaysPieces dialect limit text after old new out out_after err err_after) × IsLastPiece dialect relays.rest
+
+-- pieces of a text were taken, and a beginning of their lines was written
+pub record RelaysSome (dialect : Dialect) (limit : Option ℕ) (text : List ℕ) (old : Made)
+    (out out_after err err_after : Option (List ℕ)) : Type 0 where
   pub pieces : List (List ℕ)
-  pub taken : TakesPieces before pieces after
-  pub part : RelaysPart old out out_after err err_after (items_of before.dialect pieces)
+  pub rest : List ℕ
+  pub taken : TakesPieces dialect text pieces rest
+  pub part : RelaysPart old out out_after err err_after (items_of dialect limit pieces)
 
 -- `Write` adds one failure to the count of one writer, and nothing else changes a count; no other fault but `OutOfMemory` comes
 abbrev pub CountsWriteFault : {T : Type 0} → Result T RunFault → (out out_after err err_after : ℕ) → Type 0

@@ -1,6 +1,7 @@
--- What bytes give when they are relayed: the items of their pieces, of which one that is not UTF-8 is one item without an answer.
-use Rattle.std.specs.Prelude.{◌≡◌, ℕ, ◌+◌, Bool, false, not, List, [], ◌∷◌, ◌++◌, codes, map, Option, Some, None, Result}
-use Rattle.std.specs.Prelude.{if◌then◌else◌}
+-- What bytes give when they are relayed: the items of their pieces, of which one that is too long, or is not UTF-8, is one item
+-- without an answer.
+use Rattle.std.specs.Prelude.{◌≡◌, ℕ, ◌+◌, ◌-◌, ◌^◌, ◌==◌, nat_lt, Bool, false, not, List, [], ◌∷◌, ◌++◌, length, codes, map}
+use Rattle.std.specs.Prelude.{Option, Some, None, Result, if◌then◌else◌}
 use Rattle.std.specs.List.{flat_map, count_by}
 use Rattle.std.specs.Str.{is_utf8}
 use Rattle.influxdb_line_protocol.specs.format.Dialects.{Dialect}
@@ -11,33 +12,49 @@ use Rattle.influxdb_line_protocol.specs.format.Pieces.{Pieces}
 use Rattle.influxdb_line_protocol.specs.format.Items.{answers_of_piece}
 use Rattle.lp_rebuild.specs.Rebuilding.{carried_point, fault_line, fault_of, is_carried_answer}
 
--- an item: an answer, or none for a piece that is not UTF-8
-abbrev pub Item : Type 0
-Item = Option (Result Line Fault)
+-- an item: an answer, or a piece that has none, since it is not UTF-8 or is too long
+pub data Item : Type 0 where
+  answered : Result Line Fault → Item
+  not_utf8 too_long : Item
 
--- the items of a piece: its answers where it is UTF-8, and else one item without an answer
-unfoldable pub items_of_piece : Dialect → List ℕ → List Item
-items_of_piece dialect piece = if is_utf8 piece then map Some (answers_of_piece dialect piece) else None ∷ []
+-- the greatest length of a piece, where it has one: `usize::MAX` is none
+abbrev pub limit_of : ℕ → Option ℕ
+limit_of limit = if limit == 2 ^ 64 - 1 then None else Some limit
+
+-- whether a piece has more bytes than it may have
+abbrev pub is_too_long : Option ℕ → List ℕ → Bool
+is_too_long None piece = false
+is_too_long (Some limit) piece = nat_lt limit (length piece)
+
+-- the items of a piece that is not too long: its answers where it is UTF-8, and else one item without an answer
+unfoldable pub items_of_bytes : Dialect → List ℕ → List Item
+items_of_bytes dialect piece = if is_utf8 piece then map answered (answers_of_piece dialect piece) else not_utf8 ∷ []
+
+-- the items of a piece: where it is too long, one item without an answer, whatever its bytes are
+unfoldable pub items_of_piece : Dialect → Option ℕ → List ℕ → List Item
+items_of_piece dialect limit piece = if is_too_long limit piece then too_long ∷ [] else items_of_bytes dialect piece
 
 -- the items of pieces, in order
-abbrev pub items_of : Dialect → List (List ℕ) → List Item
-items_of dialect pieces = flat_map (items_of_piece dialect) pieces
+abbrev pub items_of : Dialect → Option ℕ → List (List ℕ) → List Item
+items_of dialect limit pieces = flat_map (items_of_piece dialect limit) pieces
 
 -- the items of bytes are those of their pieces, in order
-pub record HasByteItems (dialect : Dialect) (bytes : List ℕ) (items : List Item) : Type 0 where
+pub record HasByteItems (dialect : Dialect) (limit : Option ℕ) (bytes : List ℕ) (items : List Item) : Type 0 where
   pub pieces : List (List ℕ)
   pub are : Pieces dialect bytes pieces
-  pub items_are : items ≡ items_of dialect pieces
+  pub items_are : items ≡ items_of dialect limit pieces
 
 -- whether an item is carried
 abbrev pub is_carried_item : Item → Bool
-is_carried_item (Some answer) = is_carried_answer answer
-is_carried_item None = false
+is_carried_item (answered answer) = is_carried_answer answer
+is_carried_item not_utf8 = false
+is_carried_item too_long = false
 
 -- the point of an item that is carried
 abbrev pub item_point : Item → List Point
-item_point (Some answer) = carried_point answer
-item_point None = []
+item_point (answered answer) = carried_point answer
+item_point not_utf8 = []
+item_point too_long = []
 
 -- the lines of the items that are carried, written again
 abbrev pub items_batch : List Item → List ℕ
@@ -45,8 +62,9 @@ items_batch items = built_all (flat_map item_point items)
 
 -- the fault line of an item that is not carried
 abbrev pub item_fault : ℕ → Item → List ℕ
-item_fault number (Some answer) = fault_of number answer
-item_fault number None = fault_line number (codes "the line is not UTF-8")
+item_fault number (answered answer) = fault_of number answer
+item_fault number not_utf8 = fault_line number (codes "the line is not UTF-8")
+item_fault number too_long = fault_line number (codes "the line is too long")
 
 -- the fault lines of the items that are not carried, where the first item has this number
 abbrev pub item_faults : ℕ → List Item → List ℕ

@@ -1,7 +1,8 @@
 //! Rebuilds the lines of a text: those that can be written again go to one output, and every other
 //! one is a fault, numbered, in another.
 //!
-//! [`rebuild`] does it for a text, [`run`] from a reader to two writers, and [`relay`] does so as the lines come.
+//! [`rebuild`] does it for a text, [`run`] from a reader to two writers, and [`relay`] does so as the lines come, of which
+//! [`relay_within`] passes over those that are too long.
 #![tactic(auto)]
 
 mod batch;
@@ -17,4 +18,4 @@ pub use cuts::part_ends;
 pub use devices::{DeviceFault, Kept, Reading, Sink, Source, Writing};
 pub use failures::Failures;
 pub use program::{RunFault, USAGE, dialect_of, run, run_in, status};
-pub use relaying::{Relayed, relay, relay_in};
+pub use relaying::{Relayed, relay, relay_in, relay_within};

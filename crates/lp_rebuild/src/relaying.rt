@@ -1,20 +1,23 @@
 //! From a reader to two writers, line by line as they come.
-ghost use Rattle.std.specs.Prelude.{◌≡◌, ◌+◌, ◌<◌, ◌≤◌, ◌++◌, List, [], ℕ, Some, map, string_bytes, true, IfOk, OnOk, OnErr};
+ghost use Rattle.std.specs.Prelude.{◌≡◌, ◌+◌, ◌<◌, ◌≤◌, ◌++◌, List, [], ℕ, map, string_bytes, true, IfOk, OnOk, OnErr};
+ghost use Rattle.influxdb_line_protocol.specs.code.Bounded.{Holds, KeepsRules};
 ghost use Rattle.influxdb_line_protocol.specs.code.Rules.{rules_of};
 ghost use Rattle.influxdb_line_protocol.specs.format.Pieces.{IsLastPiece};
 ghost use Rattle.influxdb_line_protocol.specs.format.Items.{answers_of_piece};
-ghost use Rattle.lp_rebuild.specs.Relaying.{items_of_piece};
-ghost use Rattle.lp_rebuild.specs.RelaySteps.{CountsWriteFault, RelaysItems, RelaysPart, RelaysPieces, RelaysSome};
-ghost use Rattle.lp_rebuild.specs.RelaySteps.{ShowsPiece, TakesItems, holds, made, made_of_none};
-ghost use Rattle.lp_rebuild.specs.Relays.{Relays, RelaysIn};
+ghost use Rattle.lp_rebuild.specs.Relaying.{answered, items_of_bytes, items_of_piece, limit_of};
+ghost use Rattle.lp_rebuild.specs.RelaySteps.{CountsWriteFault, RelaysAllPieces, RelaysItems, RelaysPart, RelaysSome};
+ghost use Rattle.lp_rebuild.specs.RelaySteps.{TakesItems, items_given, made, made_of_none};
+ghost use Rattle.lp_rebuild.specs.Relays.{Relays, RelaysIn, RelaysWithin};
 ghost use Rattle.lp_rebuild.specs.Running.{reader_told, writer_told};
 
 use crate::batch::{Progress, refuse, take};
 use crate::program::{BLOCK, read_block, write_bytes};
 use crate::{RunFault, Sink, Source};
-use influxdb_line_protocol::{Dialect, LineStream, ParsedLine, laws, parse_lines_in};
+use influxdb_line_protocol::{
+    BoundedLineStream, Dialect, ParsedLine, TooLong, laws, parse_lines_in,
+};
 use std::alloc::{AllocError, Global};
-use std::str::Utf8Error;
+use std::str;
 
 /// How many items a relay wrote again, and how many it refused.
 #[derive(Clone, Copy, Debug, PartialEq, Eq)]
@@ -27,6 +30,9 @@ pub struct Relayed {
 
 // What is wrong with a piece that is no text.
 const NOT_UTF8: &str = "the line is not UTF-8";
+
+// What is wrong with a piece that is too long.
+const TOO_LONG: &str = "the line is too long";
 
 // Before the first item. It takes no memory.
 fn nothing_made(alloc: Global) -> Progress
@@ -50,7 +56,7 @@ fn take_text(
     requires room { so_far.old.carried + so_far.old.refused < usize.MAX }
     requires piece { IsLastPiece (rules_of dialect) text.now }
     ensures taken { OnOk result
-        (TakesItems (made so_far.old) (map Some (answers_of_piece (rules_of dialect) text.now)) (made so_far.new)) }
+        (TakesItems (made so_far.old) (map answered (answers_of_piece (rules_of dialect) text.now)) (made so_far.new)) }
     ensures counted { OnOk result
         (so_far.new.carried + so_far.new.refused ≤ so_far.old.carried + so_far.old.refused + 1) }
 {
@@ -67,25 +73,45 @@ fn take_text(
     }
 }
 
-// Takes a piece: its text, or where it is not UTF-8 a fault. It is refused where its number would not fit.
+// Takes the bytes of a piece: their text, or where they are not UTF-8 a fault.
+fn take_bytes(
+    alloc: Global,
+    dialect: Dialect,
+    so_far: &mut Progress,
+    piece: &[u8],
+) -> Result<(), AllocError>
+    requires room { so_far.old.carried + so_far.old.refused < usize.MAX }
+    requires piece { IsLastPiece (rules_of dialect) piece.now }
+    ensures taken { OnOk result
+        (TakesItems (made so_far.old) (items_of_bytes (rules_of dialect) piece.now) (made so_far.new)) }
+    ensures counted { OnOk result
+        (so_far.new.carried + so_far.new.refused ≤ so_far.old.carried + so_far.old.refused + 1) }
+{
+    match str::from_utf8(piece) {
+        Ok(text) => take_text(alloc, dialect, so_far, text),
+        Err(_) => refuse(so_far, NOT_UTF8),
+    }
+}
+
+// Takes a piece: its bytes, or where it is too long a fault. It is refused where its number would not fit.
 fn take_piece(
     alloc: Global,
     dialect: Dialect,
     so_far: &mut Progress,
-    piece: Result<&str, Utf8Error>,
+    piece: Result<&[u8], TooLong>,
 ) -> Result<(), AllocError>
     requires fits { so_far.old.carried + so_far.old.refused ≤ usize.MAX }
-    requires piece { IfOk piece (λ text. IsLastPiece (rules_of dialect) text.now) }
+    requires piece { IfOk piece (λ bytes. IsLastPiece (rules_of dialect) bytes.now) }
     ensures taken { OnOk result
-        ((bytes : List ℕ) → ShowsPiece piece.entry bytes → TakesItems (made so_far.old) (items_of_piece (rules_of dialect) bytes) (made so_far.new)) }
+        (TakesItems (made so_far.old) (items_given (rules_of dialect) piece.entry) (made so_far.new)) }
     ensures fits { OnOk result (so_far.new.carried + so_far.new.refused ≤ usize.MAX) }
 {
     if so_far.carried + so_far.refused == usize::MAX {
         return Err(AllocError);
     }
     match piece {
-        Ok(text) => take_text(alloc, dialect, so_far, text),
-        Err(_) => refuse(so_far, NOT_UTF8),
+        Ok(bytes) => take_bytes(alloc, dialect, so_far, bytes),
+        Err(TooLong) => refuse(so_far, TOO_LONG),
     }
 }
 
@@ -160,23 +186,27 @@ fn pour_and_flush<W: Sink, E: Sink>(
 fn relay_pieces<W: Sink, E: Sink>(
     alloc: Global,
     dialect: Dialect,
-    stream: &mut LineStream,
+    stream: &mut BoundedLineStream,
     so_far: &mut Progress,
     out: &mut W,
     err: &mut E,
 ) -> Result<(), RunFault>
-    requires dialect { stream.old.dialect ≡ rules_of dialect }
+    requires dialect { stream.old.held.dialect ≡ rules_of dialect }
+    requires holds { (text : List ℕ) × Holds stream.old text }
     requires fits { so_far.old.carried + so_far.old.refused ≤ usize.MAX }
-    ensures ok { OnOk result (RelaysPieces stream.old stream.new (made so_far.old) (made so_far.new)
+    ensures rules { OnOk result (KeepsRules stream.old stream.new) }
+    ensures ok { OnOk result ((text : List ℕ) → Holds stream.old text
+        → RelaysAllPieces (rules_of dialect) (limit_of stream.old.limit) text stream.new
+        (made so_far.old) (made so_far.new)
         (W.bytes out.old) (W.bytes out.new) (E.bytes err.old) (E.bytes err.new)) }
-    ensures last { OnOk result (IsLastPiece (rules_of dialect) stream.new.bytes) }
     ensures fits { OnOk result (so_far.new.carried + so_far.new.refused ≤ usize.MAX) }
-    ensures part { OnErr result (RelaysSome stream.old (made so_far.old)
+    ensures part { OnErr result ((text : List ℕ) → Holds stream.old text
+        → RelaysSome (rules_of dialect) (limit_of stream.old.limit) text (made so_far.old)
         (W.bytes out.old) (W.bytes out.new) (E.bytes err.old) (E.bytes err.new)) }
     ensures counts { CountsWriteFault result
         (W.failures out.old) (W.failures out.new) (E.failures err.old) (E.failures err.new) }
 {
-    while let Some(piece) = stream.next_text() {
+    while let Some(piece) = stream.next() {
         if take_piece(alloc, dialect, so_far, piece).is_err() {
             return Err(RunFault::OutOfMemory);
         }
@@ -189,21 +219,23 @@ fn relay_pieces<W: Sink, E: Sink>(
 fn relay_part<W: Sink, E: Sink>(
     alloc: Global,
     dialect: Dialect,
-    stream: &mut LineStream,
+    stream: &mut BoundedLineStream,
     so_far: &mut Progress,
     part: &[u8],
     out: &mut W,
     err: &mut E,
 ) -> Result<(), RunFault>
-    requires dialect { stream.old.dialect ≡ rules_of dialect }
+    requires dialect { stream.old.held.dialect ≡ rules_of dialect }
+    requires holds { (text : List ℕ) × Holds stream.old text }
     requires fits { so_far.old.carried + so_far.old.refused ≤ usize.MAX }
-    ensures ok { OnOk result (RelaysPieces (holds (rules_of dialect) (stream.old.bytes ++ part.now)) stream.new
+    ensures rules { OnOk result (KeepsRules stream.old stream.new) }
+    ensures ok { OnOk result ((text : List ℕ) → Holds stream.old text
+        → RelaysAllPieces (rules_of dialect) (limit_of stream.old.limit) (text ++ part.now) stream.new
         (made so_far.old) (made so_far.new)
         (W.bytes out.old) (W.bytes out.new) (E.bytes err.old) (E.bytes err.new)) }
-    ensures last { OnOk result (IsLastPiece (rules_of dialect) stream.new.bytes) }
     ensures fits { OnOk result (so_far.new.carried + so_far.new.refused ≤ usize.MAX) }
-    ensures part { OnErr result (RelaysSome (holds (rules_of dialect) (stream.old.bytes ++ part.now))
-        (made so_far.old)
+    ensures part { OnErr result ((text : List ℕ) → Holds stream.old text
+        → RelaysSome (rules_of dialect) (limit_of stream.old.limit) (text ++ part.now) (made so_far.old)
         (W.bytes out.old) (W.bytes out.new) (E.bytes err.old) (E.bytes err.new)) }
     ensures counts { CountsWriteFault result
         (W.failures out.old) (W.failures out.new) (E.failures err.old) (E.failures err.new) }
@@ -222,25 +254,29 @@ fn relay_part<W: Sink, E: Sink>(
 fn finish<W: Sink, E: Sink>(
     alloc: Global,
     dialect: Dialect,
-    stream: &mut LineStream,
+    stream: &mut BoundedLineStream,
     so_far: &mut Progress,
     out: &mut W,
     err: &mut E,
 ) -> Result<(), RunFault>
-    requires dialect { stream.old.dialect ≡ rules_of dialect }
-    requires last { IsLastPiece (rules_of dialect) stream.old.bytes }
+    requires dialect { stream.old.held.dialect ≡ rules_of dialect }
+    requires holds { (text : List ℕ) × Holds stream.old text × IsLastPiece (rules_of dialect) text }
     requires fits { so_far.old.carried + so_far.old.refused ≤ usize.MAX }
-    ensures ok { OnOk result (RelaysItems (made so_far.old) (made so_far.new)
-        (W.bytes out.old) (W.bytes out.new) (E.bytes err.old) (E.bytes err.new) (items_of_piece (rules_of dialect) stream.old.bytes)) }
+    ensures ok { OnOk result ((text : List ℕ) → Holds stream.old text → IsLastPiece (rules_of dialect) text
+        → RelaysItems (made so_far.old) (made so_far.new)
+        (W.bytes out.old) (W.bytes out.new) (E.bytes err.old) (E.bytes err.new)
+        (items_of_piece (rules_of dialect) (limit_of stream.old.limit) text)) }
     ensures none { OnOk result
         ((so_far.new.batch.items ≡ []) × (string_bytes so_far.new.faults ≡ [])) }
-    ensures part { OnErr result (RelaysPart (made so_far.old)
-        (W.bytes out.old) (W.bytes out.new) (E.bytes err.old) (E.bytes err.new) (items_of_piece (rules_of dialect) stream.old.bytes)) }
+    ensures part { OnErr result ((text : List ℕ) → Holds stream.old text → IsLastPiece (rules_of dialect) text
+        → RelaysPart (made so_far.old)
+        (W.bytes out.old) (W.bytes out.new) (E.bytes err.old) (E.bytes err.new)
+        (items_of_piece (rules_of dialect) (limit_of stream.old.limit) text)) }
     ensures counts { CountsWriteFault result
         (W.failures out.old) (W.failures out.new) (E.failures err.old) (E.failures err.new) }
     ensures flushed { OnOk result ((W.is_flushed out.new ≡ true) × (E.is_flushed err.new ≡ true)) }
 {
-    if take_piece(alloc, dialect, so_far, stream.finish_text()).is_err() {
+    if take_piece(alloc, dialect, so_far, stream.finish()).is_err() {
         return Err(RunFault::OutOfMemory);
     }
     pour_and_flush(so_far, out, err)
@@ -297,10 +333,42 @@ pub fn relay_in<R: Source, W: Sink, E: Sink>(
         (writer_told W.bytes W.failures W.is_flushed out.old) (writer_told W.bytes W.failures W.is_flushed out.new)
         (writer_told E.bytes E.failures E.is_flushed err.old) (writer_told E.bytes E.failures E.is_flushed err.new) }
 {
+    relay_within(alloc, dialect, usize::MAX, reader, out, err)
+}
+
+/// Relays the lines that `reader` gives, as they come, by the rules of a dialect, where a line has at most `limit` bytes.
+/// Newlines within its strings are among them, and the one that ends it is not.
+///
+/// A longer one is one item, whose fault line is `item N: the line is too long`, also where it is a comment, blank or not
+/// UTF-8. Its bytes are passed over up to its end, and the lines before and after it are read as ever. A limit of
+/// `usize::MAX` is none.
+///
+/// Of the input, `limit` bytes and two blocks are held at most: of the line that has not ended yet no more than `limit`
+/// bytes, the block that comes after them, and that block as it was read. The buffer of the first two grows by doubling,
+/// and has lines too that were taken already, so it may have room for four times as many. All else is as for
+/// [`relay_in`].
+///
+/// # Errors
+///
+/// Those of [`relay`]. `OutOfMemory` also comes where no `usize` may hold how many equal signs or commas a line has that is
+/// too long.
+pub fn relay_within<R: Source, W: Sink, E: Sink>(
+    alloc: Global,
+    dialect: Dialect,
+    limit: usize,
+    reader: &mut R,
+    out: &mut W,
+    err: &mut E,
+) -> Result<Relayed, RunFault>
+    ensures { RelaysWithin (rules_of dialect) (limit_of limit) result
+        (reader_told R.bytes R.failures reader.old) (reader_told R.bytes R.failures reader.new)
+        (writer_told W.bytes W.failures W.is_flushed out.old) (writer_told W.bytes W.failures W.is_flushed out.new)
+        (writer_told E.bytes E.failures E.is_flushed err.old) (writer_told E.bytes E.failures E.is_flushed err.new) }
+{
     laws::pieces_join();
     laws::runs_give_pieces();
     laws::utf8_by_pieces();
-    let mut stream = LineStream::new_in(alloc, dialect);
+    let mut stream = BoundedLineStream::new_in(alloc, dialect, limit);
     let mut so_far = nothing_made(alloc);
     let mut block = Vec::new(alloc);
     for _ in 0..u64::MAX {
