@@ -5,7 +5,8 @@
 #
 # REBUILD and RELAY are built programs, such as ./lp_rebuild and ./lp_relay. Without them the sources are compiled unproved
 # by `rt try`, which takes seconds; the gate proves them. For a wrong argument a given program must also leave the input
-# unread. A given RELAY is also run where its input fails and where its output is full or closed.
+# unread. A given RELAY is also run where its input fails, where its output is full or closed, and where standard error is a
+# terminal.
 set -eu
 top=$(cd "$(dirname "$0")/.." && pwd)
 PATH=$PATH:/opt/rattle/bin
@@ -69,9 +70,26 @@ wanted_of_both "usage: lp_rebuild [--strict]$newline"
 
 crate=lp_relay
 program=$relay
-usage="usage: lp_relay [--strict]${newline}       lp_relay --help$newline"
+usage="usage: lp_relay [--strict] [--progress]${newline}       lp_relay --help$newline"
 wanted_of_both "$usage"
+# Where standard error is no terminal, no progress is shown.
+wanted 0 "$loose" "" --progress
+wanted 1 "" "$strict_fault" --strict --progress
+wanted 2 "" "$usage" --progress --progress
 wanted 2 "" "$usage" --help --strict
+# `rt try` compiles the program anew for each list, so these are for a built one.
+if [ -n "$program" ]; then
+    wanted 1 "" "$strict_fault" --progress --strict
+    wanted 2 "" "$usage" --progress --strict --progress
+    wanted 2 "" "$usage" --strict --progress --strict
+    wanted 2 "" "$usage" --progress --loose
+    wanted 2 "" "$usage" --Progress
+    wanted 2 "" "$usage" --progress=1
+    wanted 2 "" "$usage" progress
+    wanted 2 "" "$usage" --strict --help
+    wanted 2 "" "$usage" --progress --help
+    wanted 2 "" "$usage" --help --help
+fi
 run --help
 if [ "$status" != 0 ] || [ -s "$work/err" ] || ! printf '%s' "$usage" | cmp -s - <(head -n 2 "$work/out"); then
     echo "arguments: --help does not begin with the usage, or its status is $status"
@@ -99,3 +117,16 @@ ends 2 ""
 status=$(cat "$work/status")
 ends 2 "lp_relay: cannot write the output"
 echo "arguments: the relay ends where its input fails and where its output is full or closed"
+
+# Standard error is a terminal: progress is shown once a second has passed, and cleared before the fault line.
+mkfifo "$work/fifo"
+{ printf 'm a=1i\n'; sleep 2.5; printf 'm a=,\n'; } >"$work/fifo" &
+command="'$relay' --progress <'$work/fifo' >'$work/out'"
+script -qec "$command" /dev/null </dev/null >"$work/err" && status=0 || status=$?
+printf '\r\033[K%s\r\033[K%s\r\n' "13 bytes read, 1 lines written, faults: 0, 0.0 MB/s" "item 2: No fields were provided" >"$work/err_wanted"
+if [ "$status" != 1 ] || ! cmp -s "$work/err" "$work/err_wanted" || ! printf 'm a=1i\n' | cmp -s - "$work/out"; then
+    echo "arguments: on a terminal the relay ends with status $status, where 1 is wanted, and shows"
+    cat -v "$work/err"
+    exit 1
+fi
+echo "arguments: the relay shows its progress on a terminal, and nowhere else"

@@ -2,13 +2,17 @@
 //! fault line for each other to standard error.
 #![tactic(auto)]
 
+mod asked;
+mod meter;
 mod words;
 
-use influxdb_line_protocol::Dialect;
-use lp_rebuild::{Reading, Writing, relay_in};
+use asked::relay_as_asked;
+use lp_rebuild::{Reading, Relayed, RunFault, Writing};
+use meter::{Counted, Meter, MeteredSink, MeteredSource};
 use std::env;
+use std::io::IsTerminal;
 use std::process::ExitCode;
-use words::{HELP, Task, USAGE, status_of_relay, task_of};
+use words::{HELP, Settings, Task, USAGE, status_of_relay, task_of};
 
 // What the arguments ask for, or `None` where they ask for nothing, or cannot be read.
 fn asked_of(rt: &HostRuntime) -> Option<Task> {
@@ -22,12 +26,38 @@ fn asked_of(rt: &HostRuntime) -> Option<Task> {
     task_of(words.as_slice())
 }
 
-// Relays standard input, and answers with the exit status.
-fn relay_input(rt: &HostRuntime, dialect: Dialect) -> u8 {
+// Relays standard input.
+fn relay_quietly(rt: &HostRuntime, settings: Settings) -> Result<Relayed, RunFault> {
     let mut reader = Reading::new(rt.stdin());
     let mut out = Writing::new(rt.stdout());
     let mut err = Writing::new(rt.stderr());
-    let answer = relay_in(rt.alloc(), dialect, &mut reader, &mut out, &mut err);
+    relay_as_asked(rt.alloc(), settings, &mut reader, &mut out, &mut err)
+}
+
+// Relays standard input, and shows on the terminal how far it is.
+fn relay_with_progress(rt: &HostRuntime, settings: Settings) -> Result<Relayed, RunFault> {
+    let meter = Meter::new(rt);
+    let is_out_shown = rt.stdout().is_terminal();
+    let mut reader = MeteredSource::new(&meter, Reading::new(rt.stdin()));
+    let mut out = MeteredSink::new(
+        &meter,
+        Counted::Lines,
+        is_out_shown,
+        Writing::new(rt.stdout()),
+    );
+    let mut err = MeteredSink::new(&meter, Counted::Faults, true, Writing::new(rt.stderr()));
+    let answer = relay_as_asked(rt.alloc(), settings, &mut reader, &mut out, &mut err);
+    meter.clear();
+    answer
+}
+
+// Relays standard input, and answers with the exit status.
+fn relay_input(rt: &HostRuntime, settings: Settings) -> u8 {
+    let answer = if settings.progress && rt.stderr().is_terminal() {
+        relay_with_progress(rt, settings)
+    } else {
+        relay_quietly(rt, settings)
+    };
     if let Err(fault) = &answer {
         let _ = eprintln!(rt; "lp_relay: {fault}");
     }
@@ -44,7 +74,7 @@ fn print_help(rt: &HostRuntime) -> u8 {
 
 fn main(rt: HostRuntime) -> ExitCode {
     let status = match asked_of(&rt) {
-        Some(Task::Relay(dialect)) => relay_input(&rt, dialect),
+        Some(Task::Relay(settings)) => relay_input(&rt, settings),
         Some(Task::Help) => print_help(&rt),
         None => {
             let _ = eprintln!(rt; "{USAGE}");

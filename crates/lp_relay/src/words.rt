@@ -1,44 +1,120 @@
 //! What the words after the program's name ask for, and its exit status.
 ghost use Rattle.std.specs.Prelude.{◌≡◌};
-ghost use Rattle.lp_relay.specs.Words.{asked_task, relay_status};
+ghost use Rattle.lp_relay.specs.Words.{asked_settings, asked_task, given_settings, nothing_given, relay_status};
 
 use influxdb_line_protocol::Dialect;
 use lp_rebuild::{Relayed, RunFault};
 
-/// How the program is called: the line that it prints where its words ask for nothing, without the newline.
-pub const USAGE: &str = "usage: lp_relay [--strict]\n       lp_relay --help";
+/// How the program is called: the lines that it prints where its words ask for nothing, without the last newline.
+pub const USAGE: &str = "usage: lp_relay [--strict] [--progress]\n       lp_relay --help";
 
 /// What `--help` prints after that, without the last newline.
 pub const HELP: &str =
     "Relays lines of InfluxDB line protocol from standard input to standard output as they come,
 and writes `item N: FAULT` to standard error for each item that it cannot write again.
 
-  --strict   reads the strict dialect
-  --help     prints this
+  --strict     reads the strict dialect
+  --progress   shows on standard error, where that is a terminal, how far the relay is: the bytes
+               read, the lines written, the faults, and MB/s, each second while input comes
+  --help       prints this
+
+The options come in any order, each at most once.
 
 Status 0: every item was carried; 1: some item was not; 2: the input could not be read, memory
 ran out, the output could not be written, or the arguments are wrong.";
 
+/// How the relay is to run.
+#[derive(Clone, Copy, Debug, PartialEq, Eq)]
+pub struct Settings {
+    /// The dialect whose rules hold.
+    pub dialect: Dialect,
+    /// Whether progress is shown.
+    pub progress: bool,
+}
+
 /// What the program is to do.
 #[derive(Clone, Copy, Debug, PartialEq, Eq)]
 pub enum Task {
-    /// Relay the input by the rules of a dialect.
-    Relay(Dialect),
+    /// Relay the input.
+    Relay(Settings),
     /// Print how the program is called.
     Help,
 }
 
+/// The options that words gave so far.
+#[derive(Clone, Copy, Debug, PartialEq, Eq)]
+pub(crate) struct Given {
+    strict: bool,
+    progress: bool,
+}
+
+impl Given {
+    fn nothing() -> Self
+        ensures { result ≡ nothing_given }
+    {
+        Given {
+            strict: false,
+            progress: false,
+        }
+    }
+
+    fn settings(self) -> Settings
+        ensures { result ≡ given_settings self }
+    {
+        Settings {
+            dialect: if self.strict {
+                Dialect::Strict
+            } else {
+                Dialect::Crate
+            },
+            progress: self.progress,
+        }
+    }
+}
+
+// The settings that words ask for after the options given. No option is taken twice, so it calls itself a few times at most.
+fn settings_after(given: Given, words: &[&str]) -> Option<Settings>
+    ensures { result ≡ asked_settings given words.now }
+{
+    match words {
+        [] => Some(given.settings()),
+        [word, rest @ ..] if *word == "--strict" && !given.strict => {
+            settings_after(
+                Given {
+                    strict: true,
+                    ..given
+                },
+                rest,
+            )
+        }
+        [word, rest @ ..] if *word == "--progress" && !given.progress => {
+            settings_after(
+                Given {
+                    progress: true,
+                    ..given
+                },
+                rest,
+            )
+        }
+        _ => None,
+    }
+}
+
 /// What the words after the program's name ask for, or `None` where they are not as [`USAGE`] says.
 ///
-/// It takes no memory.
+/// The options come in any order, each at most once, and `--help` comes alone. It takes no memory.
+///
+/// ```text
+/// task_of(&["--progress", "--strict"])  gives  a relay of the strict dialect that shows progress
+/// task_of(&["--strict", "--strict"])    gives  None
+/// task_of(&["--help", "--strict"])      gives  None
+/// ```
 pub fn task_of(words: &[&str]) -> Option<Task>
     ensures { result ≡ asked_task words.now }
 {
     match words {
-        [] => Some(Task::Relay(Dialect::Crate)),
-        [word] if *word == "--strict" => Some(Task::Relay(Dialect::Strict)),
         [word] if *word == "--help" => Some(Task::Help),
-        _ => None,
+        _ => settings_after(Given::nothing(), words).map(Task::Relay),
     }
 }
 

@@ -1,0 +1,183 @@
+//! How far a relay is, as one line on a terminal.
+//!
+//! A [`Meter`] counts what the devices of a relay move. They hand on each call to a device of their own, so that what a
+//! relay promises of its bytes and failures is promised of theirs.
+use lp_rebuild::{DeviceFault, Sink, Source};
+use std::cell::Cell;
+use std::time::{Clock, Duration, Instant};
+
+// Back to the start of the line, which is then cleared.
+const CLEAR: &str = "\r\x1b[K";
+
+/// What a relay moved so far, and the line that shows it.
+#[derive(Drop)]
+pub(crate) struct Meter<'a, R> {
+    rt: &'a R,
+    started: Option<Instant>,
+    /// How many whole seconds had passed when the line was shown last.
+    shown_at: Cell<u64>,
+    /// Whether the line is on the terminal.
+    is_shown: Cell<bool>,
+    bytes: Cell<u64>,
+    lines: Cell<u64>,
+    faults: Cell<u64>,
+}
+
+impl<'a, R: Clock + Eprint> Meter<'a, R> {
+    /// A meter that starts now. Where the clock cannot be read it shows nothing.
+    pub(crate) fn new(rt: &'a R) -> Self {
+        Meter {
+            rt,
+            started: Instant::now(rt).ok(),
+            shown_at: Cell::new(0),
+            is_shown: Cell::new(false),
+            bytes: Cell::new(0),
+            lines: Cell::new(0),
+            faults: Cell::new(0),
+        }
+    }
+
+    /// Clears the line, where it is on the terminal.
+    pub(crate) fn clear(&self) {
+        if self.is_shown.replace(false) {
+            let _ = eprint!(self.rt; "{CLEAR}");
+        }
+    }
+
+    // Counts bytes that were read, and shows the line where a second has passed since it was shown last.
+    fn on_read(&self, n: usize) {
+        add(&self.bytes, n);
+        let Some(started) = self.started else {
+            return;
+        };
+        let Ok(elapsed) = started.elapsed(self.rt) else {
+            return;
+        };
+        if self.shown_at.get() < elapsed.as_secs() {
+            self.shown_at.set(elapsed.as_secs());
+            self.show(elapsed);
+        }
+    }
+
+    // Writes the line over the one that was there.
+    fn show(&self, elapsed: Duration) {
+        let bytes = self.bytes.get();
+        let lines = self.lines.get();
+        let faults = self.faults.get();
+        let rate = tenths_of_megabytes_a_second(bytes, elapsed);
+        let whole = rate / 10;
+        let tenth = rate % 10;
+        self.is_shown.set(true);
+        let _ = eprint!(self.rt;
+            "{CLEAR}{bytes} bytes read, {lines} lines written, faults: {faults}, {whole}.{tenth} MB/s"
+        );
+    }
+}
+
+// Tenths of megabytes, of a million bytes each, in a second of the time that has passed.
+fn tenths_of_megabytes_a_second(bytes: u64, elapsed: Duration) -> u64 {
+    let milliseconds = elapsed
+        .as_secs()
+        .saturating_mul(1000)
+        .saturating_add(u64::from(elapsed.subsec_millis()));
+    bytes / milliseconds.saturating_mul(100).max(1)
+}
+
+// Counts more of them.
+fn add(count: &Cell<u64>, more: usize) {
+    count.set(count.get().saturating_add(more as u64));
+}
+
+// How many newlines there are.
+fn newlines(bytes: &[u8]) -> usize {
+    bytes.iter().filter(|byte| **byte == b'\n').count()
+}
+
+/// A source that shows on a meter what is read of another.
+#[derive(Drop)]
+pub(crate) struct MeteredSource<'a, R, S> {
+    meter: &'a Meter<'a, R>,
+    inner: S,
+}
+
+impl<'a, R: Clock + Eprint, S: Source> MeteredSource<'a, R, S> {
+    pub(crate) fn new(meter: &'a Meter<'a, R>, inner: S) -> Self {
+        MeteredSource { meter, inner }
+    }
+}
+
+impl<'a, R: Clock + Eprint, S: Source> Source for MeteredSource<'a, R, S> {
+    ghost bytes = { λ s. S.bytes s.inner };
+
+    ghost failures = { λ s. S.failures s.inner };
+
+    fn read(&mut self, buf: &mut [u8]) -> Result<usize, DeviceFault> {
+        let answer = self.inner.read(buf);
+        if let Ok(n) = answer {
+            self.meter.on_read(n);
+        }
+        answer
+    }
+}
+
+/// What the lines of a sink are.
+#[derive(Clone, Copy, PartialEq, Eq)]
+pub(crate) enum Counted {
+    /// Lines that were written again.
+    Lines,
+    /// Fault lines.
+    Faults,
+}
+
+/// A sink that shows on a meter how many lines are written to another.
+#[derive(Drop)]
+pub(crate) struct MeteredSink<'a, R, S> {
+    meter: &'a Meter<'a, R>,
+    counted: Counted,
+    /// Whether it writes to the terminal that shows the line, which is then cleared before each write.
+    is_on_terminal: bool,
+    inner: S,
+}
+
+impl<'a, R: Clock + Eprint, S: Sink> MeteredSink<'a, R, S> {
+    pub(crate) fn new(
+        meter: &'a Meter<'a, R>,
+        counted: Counted,
+        is_on_terminal: bool,
+        inner: S,
+    ) -> Self {
+        MeteredSink {
+            meter,
+            counted,
+            is_on_terminal,
+            inner,
+        }
+    }
+}
+
+impl<'a, R: Clock + Eprint, S: Sink> Sink for MeteredSink<'a, R, S> {
+    ghost bytes = { λ s. S.bytes s.inner };
+
+    ghost failures = { λ s. S.failures s.inner };
+
+    ghost is_flushed = { λ s. S.is_flushed s.inner };
+
+    fn write(&mut self, buf: &[u8]) -> Result<usize, DeviceFault> {
+        if self.is_on_terminal {
+            self.meter.clear();
+        }
+        let answer = self.inner.write(buf);
+        if let Ok(n) = answer {
+            let count = match self.counted {
+                Counted::Lines => &self.meter.lines,
+                Counted::Faults => &self.meter.faults,
+            };
+            add(count, newlines(&buf[..n]));
+        }
+        answer
+    }
+
+    fn flush(&mut self) -> Result<(), DeviceFault> {
+        self.inner.flush()
+    }
+}
