@@ -123,7 +123,8 @@ mkfifo "$work/fifo"
 { printf 'm a=1i\n'; sleep 2.5; printf 'm a=,\n'; } >"$work/fifo" &
 command="'$relay' --progress <'$work/fifo' >'$work/out'"
 script -qec "$command" /dev/null </dev/null >"$work/err" && status=0 || status=$?
-printf '\r\033[K%s\r\033[K%s\r\n' "13 bytes read, 1 lines written, faults: 0, 0.0 MB/s" "item 2: No fields were provided" >"$work/err_wanted"
+printf '\r\033[K%s\r\033[K%s\r\n' "13 bytes read, 1 lines written, faults: 0, 0.0 MB/s" \
+    "item 2: No fields were provided" >"$work/err_wanted"
 if [ "$status" != 1 ] || ! cmp -s "$work/err" "$work/err_wanted" || ! printf 'm a=1i\n' | cmp -s - "$work/out"; then
     echo "arguments: on a terminal the relay ends with status $status, where 1 is wanted, and shows"
     cat -v "$work/err"
