@@ -1,6 +1,7 @@
 //! Tests over tables of what is read: worked texts, with what each must give. What the other crates of tests share is public.
 #![tactic(auto)]
 
+pub mod cuts;
 #[cfg(test)]
 mod dialects;
 pub mod drops;
@@ -19,12 +20,14 @@ mod long;
 mod names;
 #[cfg(test)]
 mod pieces;
+pub mod random;
 #[cfg(test)]
 mod reference_splitter;
 #[cfg(test)]
 mod remainders;
 pub mod render;
 pub mod short_line;
+pub mod short_texts;
 #[cfg(test)]
 mod tags;
 #[cfg(test)]

@@ -1,6 +1,7 @@
 //! The pieces of a text byte by byte, to be held against those that the splitter finds by jumps.
 
 use crate::fault::Fault;
+use crate::short_texts::{COUNTS, short_text};
 use influxdb_line_protocol::split_lines;
 
 /// The part of a piece that a byte is in.
@@ -76,14 +77,9 @@ fn is_split_so(text: &str) -> bool {
 fn short_texts_have_the_same_pieces_by_jumps(rt: HostRuntime) -> Result<(), Fault> {
     let mut buffer = [b'a'; 6];
     let mut texts = 0usize;
-    for (len, count) in [1u32, 7, 49, 343, 2401, 16_807, 117_649].iter().enumerate() {
+    for (len, (count, _)) in COUNTS.iter().enumerate() {
         for number in 0..*count {
-            let mut digits = number;
-            for byte in buffer[..len].iter_mut() {
-                *byte = b"\\ =,\"\na"[digits as usize % 7];
-                digits /= 7;
-            }
-            let text = str::from_utf8(&buffer[..len])?;
+            let text = short_text(&mut buffer[..len], b"\\ =,\"\na", number)?;
             assert!(rt; is_split_so(text), "of {text}");
             texts = texts.saturating_add(1);
         }

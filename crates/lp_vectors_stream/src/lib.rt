@@ -10,5 +10,7 @@ mod long_lines;
 #[cfg(test)]
 mod long_pieces;
 #[cfg(test)]
+mod random_cuts;
+#[cfg(test)]
 mod refused_parts;
 pub mod taken;

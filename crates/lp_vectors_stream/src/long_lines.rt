@@ -1,7 +1,9 @@
 //! Streams whose pieces have a greatest length: a longer one is one fault, and the others are given.
 
-use influxdb_line_protocol::{BoundedLineStream, Dialect, TooLong, split_lines_in};
+use crate::taken::gives_short_pieces;
+use influxdb_line_protocol::{BoundedLineStream, Dialect, TooLong};
 use lp_vectors::fault::Fault;
+use lp_vectors::short_texts::{COUNTS, short_text};
 
 #[test]
 fn a_long_piece_is_one_fault(rt: HostRuntime) -> Result<(), Fault> {
@@ -39,38 +41,7 @@ fn a_long_comment_is_skipped_where_the_dialect_is_strict(rt: HostRuntime) -> Res
     Ok(())
 }
 
-// Whether a stream gives the pieces of the text of at most so many bytes, and faults in the place of the others, where the
-// text comes byte by byte.
-fn gives_short_pieces(
-    stream: &mut BoundedLineStream,
-    dialect: Dialect,
-    limit: usize,
-    text: &str,
-) -> Result<bool, Fault> {
-    let mut pieces = split_lines_in(dialect, text);
-    for byte in text.as_bytes().chunks(1) {
-        stream.push(byte)?;
-        // A byte ends one piece at most.
-        if let Some(answer) = stream.next() {
-            let wanted = pieces.next().ok_or(Fault::Unexpected)?.as_bytes();
-            let is_right = match answer {
-                Ok(piece) => piece == wanted && wanted.len() <= limit,
-                Err(TooLong) => wanted.len() > limit,
-            };
-            if !is_right {
-                return Ok(false);
-            }
-        }
-    }
-    let wanted = pieces.next().ok_or(Fault::Unexpected)?.as_bytes();
-    let is_right = match stream.finish() {
-        Ok(piece) => piece == wanted && wanted.len() <= limit,
-        Err(TooLong) => wanted.len() > limit,
-    };
-    Ok(is_right && pieces.next().is_none())
-}
-
-// Tries each text of at most six bytes over these, and gives how many there are.
+// Tries each text of at most six bytes over these, byte by byte, and gives how many there are.
 fn all_give_short_pieces(
     stream: &mut BoundedLineStream,
     dialect: Dialect,
@@ -79,15 +50,10 @@ fn all_give_short_pieces(
 ) -> Result<usize, Fault> {
     let mut buffer = [b'a'; 6];
     let mut texts = 0usize;
-    for (len, count) in [1u32, 7, 49, 343, 2401, 16_807, 117_649].iter().enumerate() {
+    for (len, (count, _)) in COUNTS.iter().enumerate() {
         for number in 0..*count {
-            let mut digits = number;
-            for byte in buffer[..len].iter_mut() {
-                *byte = bytes[digits as usize % 7];
-                digits /= 7;
-            }
-            let text = str::from_utf8(&buffer[..len])?;
-            if !gives_short_pieces(stream, dialect, limit, text)? {
+            let text = short_text(&mut buffer[..len], bytes, number)?;
+            if !gives_short_pieces(stream, dialect, limit, text, u64::MAX)? {
                 return Err(Fault::Unexpected);
             }
             texts = texts.saturating_add(1);

@@ -2,7 +2,11 @@
 
 ghost use Rattle.influxdb_line_protocol.specs.format.Pieces.{IsLastPiece};
 
-use influxdb_line_protocol::{LineStream, SplitLines};
+use influxdb_line_protocol::{
+    BoundedLineStream, Dialect, LineStream, SplitLines, TooLong, split_lines_in,
+};
+use lp_vectors::cuts::Parts;
+use std::alloc::AllocError;
 
 /// Takes each piece that a newline ends, and says whether they are the next ones of these.
 pub fn takes_pieces(stream: &mut LineStream, pieces: &mut SplitLines<'_>) -> bool
@@ -22,4 +26,80 @@ pub fn takes_last(stream: &mut LineStream, pieces: &mut SplitLines<'_>) -> bool 
     let last = stream.finish();
     let wanted = pieces.next();
     same && wanted.is_some_and(|wanted| wanted.as_bytes() == last) && pieces.next().is_none()
+}
+
+/// Whether a stream that holds nothing gives the pieces of a text that comes in these [`Parts`].
+pub fn gives_pieces(
+    stream: &mut LineStream,
+    dialect: Dialect,
+    text: &str,
+    cuts: u64,
+) -> Result<bool, AllocError> {
+    let mut pieces = split_lines_in(dialect, text);
+    for part in Parts::new(text.as_bytes(), cuts) {
+        stream.push(part)?;
+        if !takes_pieces(stream, &mut pieces) {
+            return Ok(false);
+        }
+    }
+    Ok(takes_last(stream, &mut pieces))
+}
+
+// Whether this is the next piece, or a fault in its place where it has more bytes than the limit.
+fn is_answer(answer: Result<&[u8], TooLong>, limit: usize, pieces: &mut SplitLines<'_>) -> bool {
+    let Some(wanted) = pieces.next() else {
+        return false;
+    };
+    let wanted = wanted.as_bytes();
+    match answer {
+        Ok(piece) => piece == wanted && wanted.len() <= limit,
+        Err(TooLong) => wanted.len() > limit,
+    }
+}
+
+/// Takes each answer that there is once this part has come, and says whether they are those of the next pieces. A byte ends
+/// one piece at most.
+pub fn takes_answers(
+    stream: &mut BoundedLineStream,
+    limit: usize,
+    part: &[u8],
+    pieces: &mut SplitLines<'_>,
+) -> bool {
+    for _ in 0..=part.len() {
+        let Some(answer) = stream.next() else {
+            return true;
+        };
+        if !is_answer(answer, limit, pieces) {
+            return false;
+        }
+    }
+    false
+}
+
+/// Takes the answer for the last piece, and says whether it is that of the last one of these.
+pub fn takes_last_answer(
+    stream: &mut BoundedLineStream,
+    limit: usize,
+    pieces: &mut SplitLines<'_>,
+) -> bool {
+    is_answer(stream.finish(), limit, pieces) && pieces.next().is_none()
+}
+
+/// Whether a stream that holds nothing gives the pieces of at most so many bytes of a text that comes in these [`Parts`], and
+/// faults in the place of the others.
+pub fn gives_short_pieces(
+    stream: &mut BoundedLineStream,
+    dialect: Dialect,
+    limit: usize,
+    text: &str,
+    cuts: u64,
+) -> Result<bool, AllocError> {
+    let mut pieces = split_lines_in(dialect, text);
+    for part in Parts::new(text.as_bytes(), cuts) {
+        stream.push(part)?;
+        if !takes_answers(stream, limit, part, &mut pieces) {
+            return Ok(false);
+        }
+    }
+    Ok(takes_last_answer(stream, limit, &mut pieces))
 }
