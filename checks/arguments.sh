@@ -70,13 +70,18 @@ wanted_of_both "usage: lp_rebuild [--strict]$newline"
 
 crate=lp_relay
 program=$relay
-usage="usage: lp_relay [--strict] [--progress]${newline}       lp_relay --help$newline"
+usage="usage: lp_relay [--strict] [--max-line BYTES] [--progress]${newline}       lp_relay --help$newline"
 wanted_of_both "$usage"
 # Where standard error is no terminal, no progress is shown.
 wanted 0 "$loose" "" --progress
 wanted 1 "" "$strict_fault" --strict --progress
 wanted 2 "" "$usage" --progress --progress
 wanted 2 "" "$usage" --help --strict
+# The line of the input has seven bytes.
+wanted 0 "$loose" "" --max-line 7
+wanted 1 "" "item 1: the line is too long$newline" --max-line 6
+wanted 2 "" "$usage" --max-line
+wanted 2 "" "$usage" --max-line +7
 # `rt try` compiles the program anew for each list, so these are for a built one.
 if [ -n "$program" ]; then
     wanted 1 "" "$strict_fault" --progress --strict
@@ -89,6 +94,28 @@ if [ -n "$program" ]; then
     wanted 2 "" "$usage" --strict --help
     wanted 2 "" "$usage" --progress --help
     wanted 2 "" "$usage" --help --help
+    wanted 0 "$loose" "" --max-line 0000000000000000000000000007
+    wanted 0 "$loose" "" --max-line 18446744073709551615
+    wanted 0 "$loose" "" --progress --max-line 7
+    wanted 1 "" "$strict_fault" --max-line 7 --strict
+    wanted 1 "" "$strict_fault" --strict --progress --max-line 7
+    wanted 1 "" "item 1: the line is too long$newline" --max-line 0
+    wanted 1 "" "item 1: the line is too long$newline" --strict --max-line 6 --progress
+    wanted 2 "" "$usage" --max-line 18446744073709551616
+    wanted 2 "" "$usage" --max-line -7
+    wanted 2 "" "$usage" --max-line ''
+    wanted 2 "" "$usage" --max-line ' 7'
+    wanted 2 "" "$usage" --max-line 7B
+    wanted 2 "" "$usage" --max-line 0x7
+    wanted 2 "" "$usage" --max-line 7.0
+    wanted 2 "" "$usage" --max-line 1_000
+    wanted 2 "" "$usage" --max-line --strict
+    wanted 2 "" "$usage" --max-line=7
+    wanted 2 "" "$usage" --max-line 7 7
+    wanted 2 "" "$usage" --max-line 7 --max-line 7
+    wanted 2 "" "$usage" --max-line 16777216 --strict --max-line 16777216
+    wanted 2 "" "$usage" --max-line 7 --help
+    wanted 2 "" "$usage" 7 --max-line
 fi
 run --help
 if [ "$status" != 0 ] || [ -s "$work/err" ] || ! printf '%s' "$usage" | cmp -s - <(head -n 2 "$work/out"); then

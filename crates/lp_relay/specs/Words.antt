@@ -1,7 +1,10 @@
 -- What words ask of the program for a relay, and its exit status.
-use Rattle.std.specs.Prelude.{ℕ, Bool, true, false, not, ◌&&◌, List, [], ◌∷◌, bytes_eq, codes, Option, Some, None, option_map}
-use Rattle.std.specs.Prelude.{Result, Ok, Err, ◌==◌, if◌then◌else◌}
+use Rattle.std.specs.Prelude.{ℕ, ◌^◌, nat_lt, Bool, true, false, not, ◌&&◌, List, [], ◌∷◌, length, bytes_eq, codes}
+use Rattle.std.specs.Prelude.{Option, Some, None, is_none, option_map, option_and_then, unwrap_or, Result, Ok, Err}
+use Rattle.std.specs.Prelude.{◌==◌, if◌then◌else◌}
 use Rattle.std.specs.Borrow.{Bor}
+use Rattle.std.specs.Str.{all_ascii_digits}
+use Rattle.std.specs.Str.Parse.{digits_value}
 use Rattle.influxdb_line_protocol.specs.declared.split.Dialect.TheVariants.{Crate, Strict}
 use Rattle.lp_rebuild.specs.declared.program.RunFault.{RunFault}
 use Rattle.lp_rebuild.specs.declared.relaying.Relayed.{Relayed}
@@ -12,21 +15,44 @@ use Rattle.lp_relay.specs.declared.words.Task.TheVariants.{Relay, Help}
 
 -- no option was given
 abbrev pub nothing_given : Given
-nothing_given = record { strict = false; progress = false }
+nothing_given = record { strict = false; max_line = None; progress = false }
+
+-- how many bytes a line may have where no option says it: 16 MiB
+abbrev pub default_max_line : ℕ
+default_max_line = 2 ^ 24
 
 -- the settings of the options that were given: those that were not have their defaults
 abbrev pub given_settings : Given → Settings
-given_settings given = record { dialect = if given.strict then Strict else Crate; progress = given.progress }
+given_settings given = record {
+  dialect = if given.strict then Strict else Crate;
+  max_line = unwrap_or given.max_line default_max_line;
+  progress = given.progress;
+}
 
--- the settings that words ask for after the options given: each word is an option that was not given before it
-abbrev pub asked_settings : Given → List (Bor (List ℕ)) → Option Settings
-asked_settings given [] = Some (given_settings given)
-asked_settings given (word ∷ words) =
-    if bytes_eq word.now (codes "--strict") && not given.strict
-    then asked_settings (record given { strict = true }) words
-    else (if bytes_eq word.now (codes "--progress") && not given.progress
-    then asked_settings (record given { progress = true }) words
-    else None)
+-- the number that a word writes: one digit or more and nothing else, where a usize holds it
+abbrev pub decimal : List ℕ → Option ℕ
+decimal word =
+    if nat_lt 0 (length word) && all_ascii_digits word && nat_lt (digits_value 10 word) (2 ^ 64)
+    then Some (digits_value 10 word) else None
+
+-- the settings that words ask for after the options given: each option is one that was not given before it
+abbrev mutual
+  pub asked_settings : Given → List (Bor (List ℕ)) → Option Settings
+  asked_settings given [] = Some (given_settings given)
+  asked_settings given (word ∷ words) =
+      if bytes_eq word.now (codes "--strict") && not given.strict
+      then asked_settings (record given { strict = true }) words
+      else (if bytes_eq word.now (codes "--progress") && not given.progress
+      then asked_settings (record given { progress = true }) words
+      else (if bytes_eq word.now (codes "--max-line") && is_none given.max_line
+      then asked_after_max_line given words
+      else None))
+
+  -- the same where `--max-line` was the word before these, of which the first is its number
+  pub asked_after_max_line : Given → List (Bor (List ℕ)) → Option Settings
+  asked_after_max_line given [] = None
+  asked_after_max_line given (word ∷ words) =
+      option_and_then (λ bytes. asked_settings (record given { max_line = Some bytes }) words) (decimal word.now)
 
 -- whether words are `--help` alone
 abbrev pub asks_help : List (Bor (List ℕ)) → Bool

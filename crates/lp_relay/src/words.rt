@@ -1,33 +1,40 @@
 //! What the words after the program's name ask for, and its exit status.
 ghost use Rattle.std.specs.Prelude.{◌≡◌};
-ghost use Rattle.lp_relay.specs.Words.{asked_settings, asked_task, given_settings, nothing_given, relay_status};
+ghost use Rattle.lp_relay.specs.Words.{asked_settings, asked_task, decimal, given_settings, nothing_given, relay_status};
 
 use influxdb_line_protocol::Dialect;
 use lp_rebuild::{Relayed, RunFault};
 
 /// How the program is called: the lines that it prints where its words ask for nothing, without the last newline.
-pub const USAGE: &str = "usage: lp_relay [--strict] [--progress]\n       lp_relay --help";
+pub const USAGE: &str =
+    "usage: lp_relay [--strict] [--max-line BYTES] [--progress]\n       lp_relay --help";
 
 /// What `--help` prints after that, without the last newline.
 pub const HELP: &str =
     "Relays lines of InfluxDB line protocol from standard input to standard output as they come,
 and writes `item N: FAULT` to standard error for each item that it cannot write again.
 
-  --strict     reads the strict dialect
-  --progress   shows on standard error, where that is a terminal, how far the relay is: the bytes
-               read, the lines written, the faults, and MB/s, each second while input comes
-  --help       prints this
+  --strict           reads the strict dialect
+  --max-line BYTES   a longer line is passed over, and is a fault: 16777216 where it is not given
+  --progress         shows on standard error, where that is a terminal, how far the relay is: bytes
+                     read, lines written, faults, and MB/s, each second while input comes
+  --help             prints this
 
 The options come in any order, each at most once.
 
 Status 0: every item was carried; 1: some item was not; 2: the input could not be read, memory
 ran out, the output could not be written, or the arguments are wrong.";
 
+/// The greatest length of a line, in bytes, where the words give none: 16 MiB.
+pub const DEFAULT_MAX_LINE: usize = 16_777_216;
+
 /// How the relay is to run.
 #[derive(Clone, Copy, Debug, PartialEq, Eq)]
 pub struct Settings {
     /// The dialect whose rules hold.
     pub dialect: Dialect,
+    /// How many bytes a line may have.
+    pub max_line: usize,
     /// Whether progress is shown.
     pub progress: bool,
 }
@@ -45,6 +52,7 @@ pub enum Task {
 #[derive(Clone, Copy, Debug, PartialEq, Eq)]
 pub(crate) struct Given {
     strict: bool,
+    max_line: Option<usize>,
     progress: bool,
 }
 
@@ -54,6 +62,7 @@ impl Given {
     {
         Given {
             strict: false,
+            max_line: None,
             progress: false,
         }
     }
@@ -67,9 +76,20 @@ impl Given {
             } else {
                 Dialect::Crate
             },
+            max_line: self.max_line.unwrap_or(DEFAULT_MAX_LINE),
             progress: self.progress,
         }
     }
+}
+
+// The number that a word writes in decimal digits, and nothing else; `None` where there is none, or no usize holds it.
+fn decimal_of(word: &str) -> Option<usize>
+    ensures { result ≡ decimal word.now }
+{
+    if word.as_bytes().starts_with(b"+") {
+        return None;
+    }
+    word.parse::<usize>().ok()
 }
 
 // The settings that words ask for after the options given. No option is taken twice, so it calls itself a few times at most.
@@ -96,17 +116,24 @@ fn settings_after(given: Given, words: &[&str]) -> Option<Settings>
                 rest,
             )
         }
+        [word, number, rest @ ..] if *word == "--max-line" && given.max_line.is_none() => {
+            let max_line = Some(decimal_of(number)?);
+            settings_after(Given { max_line, ..given }, rest)
+        }
         _ => None,
     }
 }
 
 /// What the words after the program's name ask for, or `None` where they are not as [`USAGE`] says.
 ///
-/// The options come in any order, each at most once, and `--help` comes alone. It takes no memory.
+/// The options come in any order, each at most once, and `--help` comes alone. After `--max-line` comes a decimal number
+/// that a `usize` holds: digits alone, of which the first may be zeros. It takes no memory.
 ///
 /// ```text
+/// task_of(&[])                          gives  a relay of the crate's dialect with the default length
 /// task_of(&["--progress", "--strict"])  gives  a relay of the strict dialect that shows progress
 /// task_of(&["--strict", "--strict"])    gives  None
+/// task_of(&["--max-line", "+80"])       gives  None
 /// task_of(&["--help", "--strict"])      gives  None
 /// ```
 pub fn task_of(words: &[&str]) -> Option<Task>
