@@ -10,6 +10,7 @@ mod changed;
 #[cfg(test)]
 mod failures;
 #[cfg(test)]
+mod long_relays;
 mod part_tables;
 #[cfg(test)]
 mod relays;
