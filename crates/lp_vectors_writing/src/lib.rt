@@ -11,6 +11,7 @@ mod changed;
 mod failures;
 #[cfg(test)]
 mod long_relays;
+#[cfg(test)]
 mod part_tables;
 #[cfg(test)]
 mod relays;
