@@ -70,7 +70,9 @@ wanted_of_both "usage: lp_rebuild [--strict]$newline"
 
 crate=lp_relay
 program=$relay
-usage="usage: lp_relay [--strict] [--max-line BYTES] [--progress]${newline}       lp_relay --help$newline"
+usage="usage: lp_relay [--strict] [--max-line BYTES] [--progress]
+       lp_relay [--strict] --cut PARTS
+       lp_relay --help$newline"
 wanted_of_both "$usage"
 # Where standard error is no terminal, no progress is shown.
 wanted 0 "$loose" "" --progress
@@ -81,6 +83,8 @@ wanted 2 "" "$usage" --help --strict
 wanted 0 "$loose" "" --max-line 7
 wanted 1 "" "item 1: the line is too long$newline" --max-line 6
 wanted 2 "" "$usage" --max-line
+wanted 0 "0${newline}8$newline" "" --cut 2
+wanted 2 "" "$usage" --cut
 wanted 2 "" "$usage" --max-line +7
 # `rt try` compiles the program anew for each list, so these are for a built one.
 if [ -n "$program" ]; then
@@ -118,7 +122,7 @@ if [ -n "$program" ]; then
     wanted 2 "" "$usage" 7 --max-line
 fi
 run --help
-if [ "$status" != 0 ] || [ -s "$work/err" ] || ! printf '%s' "$usage" | cmp -s - <(head -n 2 "$work/out"); then
+if [ "$status" != 0 ] || [ -s "$work/err" ] || ! printf '%s' "$usage" | cmp -s - <(head -n 3 "$work/out"); then
     echo "arguments: --help does not begin with the usage, or its status is $status"
     exit 1
 fi

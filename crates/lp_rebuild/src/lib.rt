@@ -17,5 +17,5 @@ pub use batch::{Rebuilt, rebuild, rebuild_in};
 pub use cuts::part_ends;
 pub use devices::{DeviceFault, Kept, Reading, Sink, Source, Writing};
 pub use failures::Failures;
-pub use program::{RunFault, USAGE, dialect_of, run, run_in, status};
+pub use program::{RunFault, USAGE, dialect_of, read_all, run, run_in, status};
 pub use relaying::{Relayed, relay, relay_in, relay_within};

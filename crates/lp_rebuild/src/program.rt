@@ -93,8 +93,16 @@ pub(crate) fn read_block<R: Source>(
     }
 }
 
-// All that the reader has left.
-fn read_all<R: Source>(alloc: Global, reader: &mut R) -> Result<Vec<u8>, RunFault>
+/// All bytes that `reader` has left.
+///
+/// They are held once, with room for a block after them, in a buffer that grows by doubling. A reader that never ends uses up
+/// the memory.
+///
+/// # Errors
+///
+/// * `Read` where `reader` failed, and only there.
+/// * `OutOfMemory` where memory was refused.
+pub fn read_all<R: Source>(alloc: Global, reader: &mut R) -> Result<Vec<u8>, RunFault>
     ensures ok { IfOk result (λ input. Consumes (R.bytes reader.old) (R.bytes reader.new) input.items) }
     ensures end { OnOk result (IsAtEnd (R.bytes reader.new)) }
     ensures counts { CountsReadFault result (R.failures reader.old) (R.failures reader.new) }

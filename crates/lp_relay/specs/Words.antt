@@ -5,13 +5,14 @@ use Rattle.std.specs.Prelude.{◌==◌, if◌then◌else◌}
 use Rattle.std.specs.Borrow.{Bor}
 use Rattle.std.specs.Str.{all_ascii_digits}
 use Rattle.std.specs.Str.Parse.{digits_value}
+use Rattle.influxdb_line_protocol.specs.declared.split.Dialect.{Dialect}
 use Rattle.influxdb_line_protocol.specs.declared.split.Dialect.TheVariants.{Crate, Strict}
 use Rattle.lp_rebuild.specs.declared.program.RunFault.{RunFault}
 use Rattle.lp_rebuild.specs.declared.relaying.Relayed.{Relayed}
 use Rattle.lp_relay.specs.declared.words.Given.{Given}
 use Rattle.lp_relay.specs.declared.words.Settings.{Settings}
 use Rattle.lp_relay.specs.declared.words.Task.{Task}
-use Rattle.lp_relay.specs.declared.words.Task.TheVariants.{Relay, Help}
+use Rattle.lp_relay.specs.declared.words.Task.TheVariants.{Relay, Cut, Help}
 
 -- no option was given
 abbrev pub nothing_given : Given
@@ -60,9 +61,24 @@ asks_help [] = false
 asks_help (word ∷ []) = bytes_eq word.now (codes "--help")
 asks_help (word ∷ next ∷ words) = false
 
+-- `--cut` and a number ask for the ends of so many parts
+abbrev pub cut_task : Dialect → List ℕ → List ℕ → Option Task
+cut_task dialect word count = if bytes_eq word (codes "--cut") then option_map (Cut dialect) (decimal count) else None
+
+-- the cut that words ask for: these two words, alone or after `--strict`
+abbrev pub asked_cut : List (Bor (List ℕ)) → Option Task
+asked_cut [] = None
+asked_cut (word ∷ []) = None
+asked_cut (word ∷ count ∷ []) = cut_task Crate word.now count.now
+asked_cut (strict ∷ word ∷ count ∷ []) =
+    if bytes_eq strict.now (codes "--strict") then cut_task Strict word.now count.now else None
+asked_cut (strict ∷ word ∷ count ∷ next ∷ words) = None
+
 -- what the words after the program's name ask for
 abbrev pub asked_task : List (Bor (List ℕ)) → Option Task
-asked_task words = if asks_help words then Some Help else option_map Relay (asked_settings nothing_given words)
+asked_task words =
+    if asks_help words then Some Help
+    else (if is_none (asked_cut words) then option_map Relay (asked_settings nothing_given words) else asked_cut words)
 
 -- 0 where every item was carried, 1 where some item was not, 2 for a fault of the relay
 abbrev pub relay_status : Result Relayed RunFault → ℕ

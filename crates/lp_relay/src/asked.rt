@@ -1,11 +1,14 @@
-//! A relay as the words ask for it.
+//! What the words ask for, done.
+ghost use Rattle.std.specs.Prelude.{IfOk, IfSome};
 ghost use Rattle.influxdb_line_protocol.specs.code.Rules.{rules_of};
+ghost use Rattle.lp_rebuild.specs.Cuts.{ArePartEnds};
 ghost use Rattle.lp_rebuild.specs.Relaying.{limit_of};
 ghost use Rattle.lp_rebuild.specs.Relays.{RelaysWithin};
 ghost use Rattle.lp_rebuild.specs.Running.{reader_told, writer_told};
 
 use crate::words::Settings;
-use lp_rebuild::{Relayed, RunFault, Sink, Source, relay_within};
+use influxdb_line_protocol::Dialect;
+use lp_rebuild::{Relayed, RunFault, Sink, Source, part_ends, read_all, relay_within};
 use std::alloc::Global;
 
 /// Relays the lines that `reader` gives, as [`relay_within`] does, by these settings.
@@ -26,4 +29,25 @@ pub fn relay_as_asked<R: Source, W: Sink, E: Sink>(
         (writer_told E.bytes E.failures E.is_flushed err.old) (writer_told E.bytes E.failures E.is_flushed err.new) }
 {
     relay_within(alloc, settings.dialect, settings.max_line, reader, out, err)
+}
+
+/// Where all that `reader` has left can be cut into so many parts, as [`part_ends`] says. All of it is held.
+///
+/// # Errors
+///
+/// `Read` where `reader` failed, and `OutOfMemory` where memory was refused.
+pub fn part_ends_of<R: Source>(
+    alloc: Global,
+    dialect: Dialect,
+    count: usize,
+    reader: &mut R,
+) -> Result<Vec<usize>, RunFault>
+    ensures { IfOk result (λ ends. IfSome (R.bytes reader.old) (λ bs.
+        ArePartEnds (rules_of dialect) bs count ends.items)) }
+{
+    let input = read_all(alloc, reader)?;
+    match part_ends(alloc, dialect, input.as_slice(), count) {
+        Ok(ends) => Ok(ends),
+        Err(_) => Err(RunFault::OutOfMemory),
+    }
 }

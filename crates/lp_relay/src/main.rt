@@ -6,7 +6,8 @@ mod asked;
 mod meter;
 mod words;
 
-use asked::relay_as_asked;
+use asked::{part_ends_of, relay_as_asked};
+use influxdb_line_protocol::Dialect;
 use lp_rebuild::{Reading, Relayed, RunFault, Writing};
 use meter::{Counted, Meter, MeteredSink, MeteredSource};
 use std::env;
@@ -64,6 +65,28 @@ fn relay_input(rt: &HostRuntime, settings: Settings) -> u8 {
     status_of_relay(&answer)
 }
 
+// Prints where standard input can be cut into parts, a line for each end.
+fn print_ends(rt: &HostRuntime, dialect: Dialect, count: usize) -> Result<(), RunFault> {
+    let mut reader = Reading::new(rt.stdin());
+    for end in part_ends_of(rt.alloc(), dialect, count, &mut reader)? {
+        if println!(rt; "{end}").is_err() {
+            return Err(RunFault::Write);
+        }
+    }
+    Ok(())
+}
+
+// Says where standard input can be cut into parts, and answers with the exit status.
+fn cut_input(rt: &HostRuntime, dialect: Dialect, count: usize) -> u8 {
+    match print_ends(rt, dialect, count) {
+        Ok(()) => 0,
+        Err(fault) => {
+            let _ = eprintln!(rt; "lp_relay: {fault}");
+            2
+        }
+    }
+}
+
 // Prints how the program is called, and answers with the exit status.
 fn print_help(rt: &HostRuntime) -> u8 {
     match println!(rt; "{USAGE}\n{HELP}") {
@@ -75,6 +98,7 @@ fn print_help(rt: &HostRuntime) -> u8 {
 fn main(rt: HostRuntime) -> ExitCode {
     let status = match asked_of(&rt) {
         Some(Task::Relay(settings)) => relay_input(&rt, settings),
+        Some(Task::Cut(dialect, count)) => cut_input(&rt, dialect, count),
         Some(Task::Help) => print_help(&rt),
         None => {
             let _ = eprintln!(rt; "{USAGE}");

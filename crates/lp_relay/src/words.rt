@@ -1,13 +1,15 @@
 //! What the words after the program's name ask for, and its exit status.
 ghost use Rattle.std.specs.Prelude.{◌≡◌};
-ghost use Rattle.lp_relay.specs.Words.{asked_settings, asked_task, decimal, given_settings, nothing_given, relay_status};
+ghost use Rattle.lp_relay.specs.Words.{asked_cut, asked_settings, asked_task, cut_task, decimal};
+ghost use Rattle.lp_relay.specs.Words.{given_settings, nothing_given, relay_status};
 
 use influxdb_line_protocol::Dialect;
 use lp_rebuild::{Relayed, RunFault};
 
 /// How the program is called: the lines that it prints where its words ask for nothing, without the last newline.
-pub const USAGE: &str =
-    "usage: lp_relay [--strict] [--max-line BYTES] [--progress]\n       lp_relay --help";
+pub const USAGE: &str = "usage: lp_relay [--strict] [--max-line BYTES] [--progress]
+       lp_relay [--strict] --cut PARTS
+       lp_relay --help";
 
 /// What `--help` prints after that, without the last newline.
 pub const HELP: &str =
@@ -18,6 +20,8 @@ and writes `item N: FAULT` to standard error for each item that it cannot write 
   --max-line BYTES   a longer line is passed over, and is a fault: 16777216 where it is not given
   --progress         shows on standard error, where that is a terminal, how far the relay is: bytes
                      read, lines written, faults, and MB/s, each second while input comes
+  --cut PARTS        prints where the input, which is held whole, can be cut into so many parts of
+                     about one length, to be relayed apart: the end of each, in bytes, a line each
   --help             prints this
 
 The options come in any order, each at most once.
@@ -44,6 +48,8 @@ pub struct Settings {
 pub enum Task {
     /// Relay the input.
     Relay(Settings),
+    /// Print where the input can be cut, by the rules of a dialect, into so many parts.
+    Cut(Dialect, usize),
     /// Print how the program is called.
     Help,
 }
@@ -124,6 +130,29 @@ fn settings_after(given: Given, words: &[&str]) -> Option<Settings>
     }
 }
 
+// The cut that two words ask for.
+fn cut_task_of(dialect: Dialect, word: &str, count: &str) -> Option<Task>
+    ensures { result ≡ cut_task dialect word.now count.now }
+{
+    if word != "--cut" {
+        return None;
+    }
+    Some(Task::Cut(dialect, decimal_of(count)?))
+}
+
+// The cut that words ask for.
+fn cut_of(words: &[&str]) -> Option<Task>
+    ensures { result ≡ asked_cut words.now }
+{
+    match words {
+        [word, count] => cut_task_of(Dialect::Crate, word, count),
+        [strict, word, count] if *strict == "--strict" => {
+            cut_task_of(Dialect::Strict, word, count)
+        }
+        _ => None,
+    }
+}
+
 /// What the words after the program's name ask for, or `None` where they are not as [`USAGE`] says.
 ///
 /// The options come in any order, each at most once, and `--help` comes alone. After `--max-line` comes a decimal number
@@ -134,6 +163,7 @@ fn settings_after(given: Given, words: &[&str]) -> Option<Settings>
 /// task_of(&["--progress", "--strict"])  gives  a relay of the strict dialect that shows progress
 /// task_of(&["--strict", "--strict"])    gives  None
 /// task_of(&["--max-line", "+80"])       gives  None
+/// task_of(&["--cut", "4"])              gives  the ends of 4 parts of the input
 /// task_of(&["--help", "--strict"])      gives  None
 /// ```
 pub fn task_of(words: &[&str]) -> Option<Task>
@@ -141,7 +171,10 @@ pub fn task_of(words: &[&str]) -> Option<Task>
 {
     match words {
         [word] if *word == "--help" => Some(Task::Help),
-        _ => settings_after(Given::nothing(), words).map(Task::Relay),
+        _ => match cut_of(words) {
+            Some(task) => Some(task),
+            None => settings_after(Given::nothing(), words).map(Task::Relay),
+        },
     }
 }
 
