@@ -83,7 +83,7 @@ wanted 2 "" "$usage" --help --strict
 wanted 0 "$loose" "" --max-line 7
 wanted 1 "" "item 1: the line is too long$newline" --max-line 6
 wanted 2 "" "$usage" --max-line
-wanted 0 "0${newline}8$newline" "" --cut 2
+wanted 0 "8${newline}8$newline" "" --cut 2
 wanted 2 "" "$usage" --cut
 wanted 2 "" "$usage" --max-line +7
 # `rt try` compiles the program anew for each list, so these are for a built one.
