@@ -5,6 +5,7 @@ use Rattle.std.specs.Borrow.{Bor}
 use Rattle.influxdb_line_protocol.specs.format.Dialects.{Dialect}
 use Rattle.influxdb_line_protocol.specs.format.Pieces.{IsCutPiece, IsLastPiece}
 use Rattle.influxdb_line_protocol.specs.code.Bounded.{GivesOf, HeldWithin, Holds, IsLastOf, IsTooLong}
+use Rattle.influxdb_line_protocol.specs.declared.stream.bounded.TooLong.{TooLong}
 use Rattle.influxdb_line_protocol.specs.laws.StreamLaws.{Run, Run.taken}
 use Rattle.lp_rebuild.specs.Relaying.{limit_of, items_of_bytes, items_of_piece, items_of}
 use Rattle.lp_rebuild.specs.RelaySteps.{Made, RelaysItems, RelaysPart, RelaysPieces, RelaysAllPieces, RelaysSome, TakesItems}
@@ -23,8 +24,8 @@ pub record Given {E : Type 0} (dialect : Dialect) (limit : ℕ) (text : List ℕ
   pub items : items_given dialect result ≡ items_of_piece dialect (limit_of limit) piece
 
 -- a call gave one
-pub given_piece : {E : Type 0} (dialect : Dialect) (limit : ℕ) (before after : HeldWithin) (text : List ℕ)
-    (result : Result (Bor (List ℕ)) E) → before.held.dialect ≡ dialect → before.limit ≡ limit
+pub given_piece : (dialect : Dialect) (limit : ℕ) (before after : HeldWithin) (text : List ℕ)
+    (result : Result (Bor (List ℕ)) TooLong) → before.held.dialect ≡ dialect → before.limit ≡ limit
     → GivesOf before text (Some result) after → Given dialect limit text result after
 given_piece dialect limit before after text (Ok piece) same bound h =
     record {
@@ -46,10 +47,10 @@ given_piece dialect limit before after text (Err e) same bound h =
     }
 
 -- the items of the last piece
-pub last_items : {E : Type 0} (dialect : Dialect) (limit : ℕ) (text : List ℕ) (result : Result (Bor (List ℕ)) E)
+pub last_items : (dialect : Dialect) (limit : ℕ) (text : List ℕ) (result : Result (Bor (List ℕ)) TooLong)
     → IsLastOf limit text result → items_given dialect result ≡ items_of_piece dialect (limit_of limit) text
 last_items dialect limit text (Ok piece) h = ap (items_of_bytes dialect) h.0 ∙ sym (items_of_short dialect limit text h.1)
-last_items dialect limit text (Err e) h = sym (item_of_long dialect limit text h)
+last_items dialect limit text (Err e) h = sym (item_of_long dialect limit text h.0)
 
 -- no piece was taken
 takes_none : (dialect : Dialect) (text : List ℕ) → TakesPieces dialect text [] text

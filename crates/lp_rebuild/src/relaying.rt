@@ -111,7 +111,7 @@ fn take_piece(
     }
     match piece {
         Ok(bytes) => take_bytes(alloc, dialect, so_far, bytes),
-        Err(TooLong) => refuse(so_far, TOO_LONG),
+        Err(_) => refuse(so_far, TOO_LONG),
     }
 }
 
@@ -350,8 +350,8 @@ pub fn relay_in<R: Source, W: Sink, E: Sink>(
 ///
 /// # Errors
 ///
-/// Those of [`relay`]. `OutOfMemory` also comes where no `usize` may hold how many equal signs or commas a line has that is
-/// too long.
+/// Those of [`relay`]. `OutOfMemory` also comes where no `usize` may hold how many newlines, equal signs or commas a line has
+/// that is too long.
 pub fn relay_within<R: Source, W: Sink, E: Sink>(
     alloc: Global,
     dialect: Dialect,
