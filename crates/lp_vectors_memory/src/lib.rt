@@ -8,6 +8,8 @@ mod own_heap;
 #[cfg(test)]
 mod refused;
 #[cfg(test)]
+mod refused_relays;
+#[cfg(test)]
 mod refused_runs;
 #[cfg(test)]
 mod used_again;

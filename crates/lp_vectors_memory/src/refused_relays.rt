@@ -1,0 +1,138 @@
+//! Relays at which requests for memory are refused. Each answers with `OutOfMemory` and nothing else, and has then written a
+//! beginning of what it would have written. The answers come from the format's rules.
+
+use lp_rebuild::{DeviceFault, RunFault, Source, relay};
+use lp_vectors::drops::Basin;
+use lp_vectors::exhausted_memory::ExhaustedMemory;
+use lp_vectors::fault::Fault;
+use std::alloc::Global;
+
+const TEXT: &[u8] = b"m a=T 5\n# c\nx\nw\\\t a=1i\n";
+
+const OUT: &[u8] = b"m a=true 5\n";
+
+const ERR: &[u8] =
+    b"item 2: A generic parsing error occurred: TakeWhile1\nitem 3: a name cannot be written again\n";
+
+const FIRST: &[u8] = b"item 2: A generic parsing error occurred: TakeWhile1\n";
+
+// The bytes of a text, one at each call. At one of these calls, counted from 1, all memory is taken but for about so many
+// bytes.
+#[derive(Drop)]
+struct Hoarding<'a> {
+    alloc: Global,
+    left: &'a [u8],
+    calls: usize,
+    hoards_at: usize,
+    bytes_left: usize,
+    exhausted: Option<ExhaustedMemory>,
+}
+
+impl<'a> Source for Hoarding<'a> {
+    ghost use Rattle.std.specs.Prelude.{None};
+
+    ghost bytes = { λ _. None };
+
+    ghost failures = { λ _. 0 };
+
+    fn read(&mut self, buf: &mut [u8]) -> Result<usize, DeviceFault> {
+        self.calls = self.calls.saturating_add(1);
+        if self.calls == self.hoards_at && self.bytes_left < 4_096 {
+            self.exhausted = ExhaustedMemory::leaving_bytes(self.alloc, self.bytes_left).ok();
+        }
+        match (self.left, buf) {
+            ([byte, rest @ ..], [place, ..]) => {
+                *place = *byte;
+                self.left = rest;
+                Ok(1)
+            }
+            _ => Ok(0),
+        }
+    }
+}
+
+// A relay of the text: its fault, and what the sinks hold.
+#[derive(Drop)]
+struct Ended {
+    fault: Option<RunFault>,
+    out: Basin,
+    err: Basin,
+}
+
+// Relays the text, of which all memory but for about so many bytes is taken at one read.
+fn relay_with(alloc: Global, hoards_at: usize, bytes_left: usize) -> Ended {
+    let mut reader = Hoarding {
+        alloc,
+        left: TEXT,
+        calls: 0,
+        hoards_at,
+        bytes_left,
+        exhausted: None,
+    };
+    let (mut out, mut err) = (Basin::new(0), Basin::new(0));
+    let fault = relay(alloc, &mut reader, &mut out, &mut err).err();
+    Ended { fault, out, err }
+}
+
+// Each byte is a part of its own, after which all lines that have ended are written: the first one at the 8th byte, and the
+// fault of the third at the 14th.
+#[test]
+fn a_relay_that_is_refused_memory_has_written_the_lines_before(rt: HostRuntime) {
+    for hoards_at in 1..TEXT.len() + 2 {
+        for bytes_left in [0, 16, 32, 64, 96, 128, 256, 1_536] {
+            let ended = relay_with(rt.alloc(), hoards_at, bytes_left);
+            if ended.fault.is_none() {
+                assert_eq!(rt; ended.out.as_slice(), OUT, "{bytes_left} at {hoards_at}");
+                assert_eq!(rt; ended.err.as_slice(), ERR, "{bytes_left} at {hoards_at}");
+            } else {
+                assert_eq!(rt;
+                    ended.fault,
+                    Some(RunFault::OutOfMemory),
+                    "{bytes_left} at {hoards_at}"
+                );
+            }
+            assert!(rt;
+                OUT.starts_with(ended.out.as_slice()),
+                "{bytes_left} at {hoards_at}"
+            );
+            assert!(rt;
+                ERR.starts_with(ended.err.as_slice()),
+                "{bytes_left} at {hoards_at}"
+            );
+            if hoards_at > 8 {
+                assert_eq!(rt; ended.out.as_slice(), OUT, "{bytes_left} at {hoards_at}");
+            }
+            if hoards_at > 14 {
+                assert!(rt;
+                    ended.err.as_slice().starts_with(FIRST),
+                    "{bytes_left} at {hoards_at}"
+                );
+            }
+        }
+    }
+}
+
+// At the first read the buffer of the stream has no room, and with no more than a few bytes it gets none.
+#[test]
+fn a_relay_whose_first_byte_has_no_room_has_written_nothing(rt: HostRuntime) {
+    let ended = relay_with(rt.alloc(), 1, 0);
+    assert_eq!(rt; ended.fault, Some(RunFault::OutOfMemory));
+    assert!(rt; ended.out.as_slice().is_empty());
+    assert!(rt; ended.err.as_slice().is_empty());
+}
+
+#[test]
+fn a_relay_that_has_no_room_for_a_block_has_written_nothing(rt: HostRuntime) -> Result<(), Fault> {
+    for granted in [[].as_slice(), [512usize].as_slice()] {
+        let mut reader = b"m a=1i\n".as_slice();
+        let mut out = Basin::new(0);
+        let mut err = Basin::new(0);
+        let exhausted = ExhaustedMemory::leaving(rt.alloc(), granted)?;
+        let answer = relay(rt.alloc(), &mut reader, &mut out, &mut err);
+        drop(exhausted);
+        assert_eq!(rt; answer.err(), Some(RunFault::OutOfMemory));
+        assert!(rt; out.as_slice().is_empty());
+        assert!(rt; err.as_slice().is_empty());
+    }
+    Ok(())
+}
