@@ -9,6 +9,7 @@ pub mod RebuildLemmas
 pub mod BatchLemmas
 pub mod PassLemmas
 pub mod ItemLemmas
+pub mod FaultLines
 pub mod RelayLemmas
 pub mod RelayPieces
 pub mod RelaysSoFar

@@ -3,7 +3,7 @@ use Rattle.std.proofs.Common.{subst, sym}
 use Rattle.std.proofs.lemmas.Result.{on_ok_weaker}
 use Rattle.lp_rebuild.specs.RelaySteps.{TakesItems, items_given, made}
 use Rattle.lp_rebuild.proofs.RelayLemmas.{takes_too_long}
-use Rattle.lp_rebuild.proofs.relaying.take_piece.Goals as goal
+use Rattle.lp_rebuild.proofs.taking.take_piece.Goals as goal
 
 pub returns-in-Ok-clause-taken : goal.returns-in-Ok-clause-taken
 returns-in-Ok-clause-taken c =

@@ -3,7 +3,7 @@ use Rattle.std.proofs.Common.{◌≡◌, ◌+◌, ◌<◌, ◌^◌}
 use Rattle.lp_rebuild.specs.Relaying.{limit_of}
 use Rattle.lp_rebuild.specs.RelaySteps.{made}
 use Rattle.lp_rebuild.proofs.RelaysSoFar.{RelaysSoFar}
-use Rattle.lp_rebuild.proofs.relaying.relay_within.Given as goal
+use Rattle.lp_rebuild.proofs.relaying.relay_numbered.Given as goal
 
 abbrev pub invariant-loop : goal.invariant-loop
 invariant-loop g l = record {

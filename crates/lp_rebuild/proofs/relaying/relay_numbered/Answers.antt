@@ -5,7 +5,7 @@ use Rattle.lp_rebuild.specs.Relaying.{limit_of}
 use Rattle.lp_rebuild.proofs.RelaysSoFar.{end_fronts, reads_none, so_far_all, so_far_fronts, so_far_more, so_far_none}
 use Rattle.lp_rebuild.proofs.RelaysSoFar.{some_fronts}
 use Rattle.lp_rebuild.proofs.RelayEnds.{ended, handed_on, read_fault, write_fault}
-use Rattle.lp_rebuild.proofs.relaying.relay_within.Goals as goal
+use Rattle.lp_rebuild.proofs.relaying.relay_numbered.Goals as goal
 
 pub loop-init : goal.loop-init
 loop-init g c =
