@@ -314,8 +314,8 @@ fn count_few(byte: u8, text: &[u8]) -> usize
     count
 }
 
-// How many bytes are this one.
-fn count_of(byte: u8, text: &[u8]) -> usize
+/// How many bytes are this one.
+pub(crate) fn count_of(byte: u8, text: &[u8]) -> usize
     ensures few { result ≤ length text.now }
     ensures value { result ≡ count_by (λ b. b == byte) text.now }
 {

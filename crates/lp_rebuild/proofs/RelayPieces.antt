@@ -3,11 +3,12 @@ use Rattle.std.proofs.Common.{◌≡◌, ℕ, ◌+◌, ◌≤◌, List, [], ◌�
 use Rattle.std.proofs.Common.{refl, sym, ap, subst, ◌∙◌, arith, append_assoc, append-nil}
 use Rattle.std.specs.Borrow.{Bor}
 use Rattle.influxdb_line_protocol.specs.format.Dialects.{Dialect}
+use Rattle.influxdb_line_protocol.specs.format.Bytes.{newlines_in}
 use Rattle.influxdb_line_protocol.specs.format.Pieces.{IsCutPiece, IsLastPiece}
 use Rattle.influxdb_line_protocol.specs.code.Bounded.{GivesOf, HeldWithin, Holds, IsLastOf, IsTooLong}
+use Rattle.influxdb_line_protocol.specs.declared.stream.bounded.TooLong.{TooLong}
 use Rattle.influxdb_line_protocol.specs.laws.StreamLaws.{Run, Run.taken}
 use Rattle.lp_rebuild.specs.declared.batch.Place.{Place}
-use Rattle.lp_rebuild.specs.LineFaults.{newlines_in}
 use Rattle.lp_rebuild.specs.Relaying.{Item, limit_of, items_of_bytes, items_of_piece, items_of}
 use Rattle.lp_rebuild.specs.RelaySteps.{Made, RelaysItems, RelaysPart, RelaysPieces, RelaysAllPieces, RelaysSome, TakesItems}
 use Rattle.lp_rebuild.specs.RelaySteps.{TakesPieces, faults_at, faults_from, faults_next, faults_past, items_given, newlines_given}
@@ -17,7 +18,7 @@ use Rattle.lp_rebuild.proofs.FaultLines.{faults_from_append, faults_from_push, p
 use Rattle.lp_rebuild.proofs.RelayLemmas.{part_of_none, part_poured, part_so_far, part_then, relays_none, relays_poured, relays_then}
 
 -- the piece that a call gave, or that is too long, and the rest, which the stream then holds
-pub record Given {E : Type 0} (dialect : Dialect) (limit : ℕ) (text : List ℕ) (result : Result (Bor (List ℕ)) E) (after : HeldWithin)
+pub record Given (dialect : Dialect) (limit : ℕ) (text : List ℕ) (result : Result (Bor (List ℕ)) TooLong) (after : HeldWithin)
     : Type 0 where
   pub piece : List ℕ
   pub rest : List ℕ
@@ -28,8 +29,8 @@ pub record Given {E : Type 0} (dialect : Dialect) (limit : ℕ) (text : List ℕ
   pub newlines : newlines_given result ≡ newlines_in piece
 
 -- a call gave one
-pub given_piece : {E : Type 0} (dialect : Dialect) (limit : ℕ) (before after : HeldWithin) (text : List ℕ)
-    (result : Result (Bor (List ℕ)) E) → before.held.dialect ≡ dialect → before.limit ≡ limit
+pub given_piece : (dialect : Dialect) (limit : ℕ) (before after : HeldWithin) (text : List ℕ)
+    (result : Result (Bor (List ℕ)) TooLong) → before.held.dialect ≡ dialect → before.limit ≡ limit
     → GivesOf before text (Some result) after → Given dialect limit text result after
 given_piece dialect limit before after text (Ok piece) same bound h =
     record {
@@ -49,14 +50,14 @@ given_piece dialect limit before after text (Err e) same bound h =
       is_cut = subst (λ d. IsCutPiece d h.0) same h.3.1;
       holds = h.4;
       items = sym (item_of_long dialect limit h.0 (subst (λ n. IsTooLong n h.0) bound h.2));
-      newlines = ?;
+      newlines = h.5;
     }
 
 -- the items of the last piece
-pub last_items : {E : Type 0} (dialect : Dialect) (limit : ℕ) (text : List ℕ) (result : Result (Bor (List ℕ)) E)
+pub last_items : (dialect : Dialect) (limit : ℕ) (text : List ℕ) (result : Result (Bor (List ℕ)) TooLong)
     → IsLastOf limit text result → items_given dialect result ≡ items_of_piece dialect (limit_of limit) text
 last_items dialect limit text (Ok piece) h = ap (items_of_bytes dialect) h.0 ∙ sym (items_of_short dialect limit text h.1)
-last_items dialect limit text (Err e) h = sym (item_of_long dialect limit text h)
+last_items dialect limit text (Err e) h = sym (item_of_long dialect limit text h.0)
 
 -- no piece was taken
 takes_none : (dialect : Dialect) (text : List ℕ) → TakesPieces dialect text [] text
@@ -116,8 +117,8 @@ some_none dialect limit text old a e =
     record { pieces = []; rest = text; taken = takes_none dialect text; part = part_of_none old a e [] [] }
 
 -- a piece more was taken, and what is held was written
-pub pieces_more : {E : Type 0} (dialect : Dialect) (limit : ℕ) (text : List ℕ) (before after : HeldWithin) (old now next poured : Made)
-    (a b c e f g : Option (List ℕ)) (result : Result (Bor (List ℕ)) E)
+pub pieces_more : (dialect : Dialect) (limit : ℕ) (text : List ℕ) (before after : HeldWithin) (old now next poured : Made)
+    (a b c e f g : Option (List ℕ)) (result : Result (Bor (List ℕ)) TooLong)
     → (p : RelaysPieces dialect (limit_of limit) text before old now a b e f) → Given dialect limit p.rest result after
     → TakesItems now (items_given dialect result) next → poured.place ≡ place_after now.place (newlines_given result)
     → RelaysItems next poured b c f g [] []
@@ -139,8 +140,8 @@ pieces_more dialect limit text before after old now next poured a b c e f g resu
     }
 
 -- the same, where a beginning of it was written
-pub pieces_part : {E : Type 0} (dialect : Dialect) (limit : ℕ) (text : List ℕ) (before after : HeldWithin) (old now next : Made)
-    (a b c e f g : Option (List ℕ)) (result : Result (Bor (List ℕ)) E)
+pub pieces_part : (dialect : Dialect) (limit : ℕ) (text : List ℕ) (before after : HeldWithin) (old now next : Made)
+    (a b c e f g : Option (List ℕ)) (result : Result (Bor (List ℕ)) TooLong)
     → (p : RelaysPieces dialect (limit_of limit) text before old now a b e f) → Given dialect limit p.rest result after
     → TakesItems now (items_given dialect result) next → RelaysPart next b c f g [] []
     → RelaysSome dialect (limit_of limit) text old a c e g

@@ -1,14 +1,10 @@
 -- The fault lines of a relay that name lines of its input.
-use Rattle.std.specs.Prelude.{ℕ, ◌+◌, ◌==◌, List, [], ◌∷◌, ◌++◌, codes, decimal, Option, if◌then◌else◌}
-use Rattle.std.specs.List.{flat_map, count_by}
+use Rattle.std.specs.Prelude.{ℕ, ◌+◌, List, [], ◌∷◌, ◌++◌, codes, decimal, Option, if◌then◌else◌}
+use Rattle.std.specs.List.{flat_map}
 use Rattle.influxdb_line_protocol.specs.format.Dialects.{Dialect}
-use Rattle.influxdb_line_protocol.specs.format.Bytes.{newline}
+use Rattle.influxdb_line_protocol.specs.format.Bytes.{newline, newlines_in}
 use Rattle.lp_rebuild.specs.Rebuilding.{refusal_text}
 use Rattle.lp_rebuild.specs.Relaying.{Item, answered, not_utf8, too_long, is_carried_item, items_of_piece}
-
--- how many newlines the bytes have
-abbrev pub newlines_in : List ℕ → ℕ
-newlines_in bytes = count_by (λ b. b == newline) bytes
 
 -- a line that names the line of the input on which the piece of an item begins, and says what is wrong with the item
 abbrev pub fault_line_on : ℕ → List ℕ → List ℕ

@@ -3,7 +3,9 @@ use Rattle.std.specs.Prelude.{◌≡◌, ◌⊎◌, ℕ, ◌+◌, ◌++◌, List
 use Rattle.std.specs.Borrow.{Bor}
 use Rattle.std.specs.Io.KnownBytes.{Appends}
 use Rattle.influxdb_line_protocol.specs.format.Dialects.{Dialect}
+use Rattle.influxdb_line_protocol.specs.format.Bytes.{newlines_in}
 use Rattle.influxdb_line_protocol.specs.format.Pieces.{IsLastPiece}
+use Rattle.influxdb_line_protocol.specs.declared.stream.bounded.TooLong.{TooLong}
 use Rattle.influxdb_line_protocol.specs.code.Bounded.{HeldWithin, Holds}
 use Rattle.influxdb_line_protocol.specs.laws.StreamLaws.{Run}
 use Rattle.lp_rebuild.specs.declared.batch.Place.{Place}
@@ -14,19 +16,19 @@ use Rattle.lp_rebuild.specs.declared.relaying.Numbering.TheVariants.{Items, Line
 use Rattle.lp_rebuild.specs.declared.program.RunFault.{RunFault}
 use Rattle.lp_rebuild.specs.declared.program.RunFault.TheVariants.{Read, NotUtf8, OutOfMemory, Write}
 use Rattle.lp_rebuild.specs.RebuildSteps.{fault_line_at}
-use Rattle.lp_rebuild.specs.LineFaults.{item_text, newlines_in}
+use Rattle.lp_rebuild.specs.LineFaults.{item_text}
 use Rattle.lp_rebuild.specs.Relaying.{Item, too_long, is_carried_item, items_of_bytes, items_of_piece, items_of, items_batch, carried_items}
 use Rattle.lp_rebuild.specs.Relaying.{refused_items}
 
 -- the items of what a call gave: those of a piece, or that of one that is too long
-abbrev pub items_given : {E : Type 0} → Dialect → Result (Bor (List ℕ)) E → List Item
+abbrev pub items_given : Dialect → Result (Bor (List ℕ)) TooLong → List Item
 items_given dialect (Ok piece) = items_of_bytes dialect piece.now
 items_given dialect (Err _) = too_long ∷ []
 
 -- the newlines of what a call gave
-abbrev pub newlines_given : {E : Type 0} → Result (Bor (List ℕ)) E → ℕ
+abbrev pub newlines_given : Result (Bor (List ℕ)) TooLong → ℕ
 newlines_given (Ok piece) = newlines_in piece.now
-newlines_given (Err _) = 0
+newlines_given (Err fault) = fault.newlines
 
 -- these pieces were taken of a text, one after another, after whatever came before, and the rest is left
 abbrev pub TakesPieces : Dialect → (text : List ℕ) → List (List ℕ) → (rest : List ℕ) → Type 0

@@ -276,8 +276,8 @@ pub fn relay_in<R: Source, W: Sink, E: Sink>(
 ///
 /// # Errors
 ///
-/// Those of [`relay`]. `OutOfMemory` also comes where no `usize` may hold how many equal signs or commas a line has that is
-/// too long.
+/// Those of [`relay`]. `OutOfMemory` also comes where no `usize` may hold how many newlines, equal signs or commas a line has
+/// that is too long.
 pub fn relay_within<R: Source, W: Sink, E: Sink>(
     alloc: Global,
     dialect: Dialect,

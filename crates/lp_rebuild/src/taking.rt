@@ -1,9 +1,9 @@
 //! What a relay takes of a piece of its input.
 ghost use Rattle.std.specs.Prelude.{◌≡◌, ◌+◌, ◌<◌, ◌≤◌, length, map, IfOk, OnOk};
 ghost use Rattle.influxdb_line_protocol.specs.code.Rules.{rules_of};
+ghost use Rattle.influxdb_line_protocol.specs.format.Bytes.{newlines_in};
 ghost use Rattle.influxdb_line_protocol.specs.format.Pieces.{IsLastPiece};
 ghost use Rattle.influxdb_line_protocol.specs.format.Items.{answers_of_piece};
-ghost use Rattle.lp_rebuild.specs.LineFaults.{newlines_in};
 ghost use Rattle.lp_rebuild.specs.Relaying.{answered, items_of_bytes};
 ghost use Rattle.lp_rebuild.specs.RelaySteps.{TakesItems, first_place, items_given, made, made_of_none, newlines_given, place_after};
 
@@ -105,7 +105,7 @@ fn place_after(place: Place, piece: Result<&[u8], TooLong>) -> Result<Place, All
     };
     let newlines = match piece {
         Ok(bytes) => newlines_in(bytes),
-        Err(_) => return Err(AllocError),
+        Err(fault) => fault.newlines,
     };
     let end = line.checked_add(newlines).ok_or(AllocError)?;
     Ok(Place::OnLine(end.checked_add(1).ok_or(AllocError)?))

@@ -1,4 +1,5 @@
-//! Streams whose pieces have a greatest length: a longer one is one fault, and the others are given.
+//! Streams whose pieces have a greatest length: a longer one is one fault, which says how many newlines it has, and the
+//! others are given.
 
 use crate::taken::gives_short_pieces;
 use influxdb_line_protocol::{BoundedLineStream, Dialect, TooLong};
@@ -16,11 +17,39 @@ fn a_long_piece_is_one_fault(rt: HostRuntime) -> Result<(), Fault> {
     stream.push(b"\n\"\\")?;
     assert!(rt; stream.next().is_none());
     stream.push(b"\n\nn b=2i\nlonger c=3i\nd")?;
-    assert!(rt; stream.next() == Some(Err(TooLong)));
+    assert!(rt; stream.next() == Some(Err(TooLong { newlines: 5 })));
     assert!(rt; stream.next() == Some(Ok(b"n b=2i".as_slice())));
-    assert!(rt; stream.next() == Some(Err(TooLong)));
+    assert!(rt; stream.next() == Some(Err(TooLong { newlines: 0 })));
     assert!(rt; stream.next().is_none());
     assert!(rt; stream.finish() == Ok(b"d".as_slice()));
+    Ok(())
+}
+
+#[test]
+fn a_long_piece_that_comes_as_one_part_says_its_newlines(rt: HostRuntime) -> Result<(), Fault> {
+    let mut stream = BoundedLineStream::new_in(rt.alloc(), Dialect::Crate, 3);
+    stream.push(b"m s=\"a\n\nb\"\nn t=\"\n\"\no\nlast\\\nlast\\\n\\\n")?;
+    assert!(rt; stream.next() == Some(Err(TooLong { newlines: 2 })));
+    assert!(rt; stream.next() == Some(Err(TooLong { newlines: 1 })));
+    assert!(rt; stream.next() == Some(Ok(b"o".as_slice())));
+    assert!(rt; stream.finish() == Err(TooLong { newlines: 3 }));
+    assert!(rt; stream.next().is_none());
+    assert!(rt; stream.finish() == Ok(b"".as_slice()));
+    Ok(())
+}
+
+#[test]
+fn a_long_last_piece_that_was_let_go_says_its_newlines(rt: HostRuntime) -> Result<(), Fault> {
+    let mut stream = BoundedLineStream::new_in(rt.alloc(), Dialect::Crate, 3);
+    stream.push(b"a\nm s=\"\nb")?;
+    assert!(rt; stream.next() == Some(Ok(b"a".as_slice())));
+    assert!(rt; stream.next().is_none());
+    stream.push(b"\n\nc")?;
+    assert!(rt; stream.next().is_none());
+    stream.push(b"d\n")?;
+    assert!(rt; stream.finish() == Err(TooLong { newlines: 4 }));
+    stream.push(b"longer\n")?;
+    assert!(rt; stream.next() == Some(Err(TooLong { newlines: 0 })));
     Ok(())
 }
 
@@ -32,10 +61,10 @@ fn a_long_comment_is_skipped_where_the_dialect_is_strict(rt: HostRuntime) -> Res
     stream.push(b"  #\"\\")?;
     assert!(rt; stream.next().is_none());
     stream.push(b"\nm\nlast")?;
-    assert!(rt; stream.next() == Some(Err(TooLong)));
+    assert!(rt; stream.next() == Some(Err(TooLong { newlines: 0 })));
     assert!(rt; stream.next() == Some(Ok(b"m".as_slice())));
     assert!(rt; stream.next().is_none());
-    assert!(rt; stream.finish() == Err(TooLong));
+    assert!(rt; stream.finish() == Err(TooLong { newlines: 0 }));
     assert!(rt; stream.next().is_none());
     assert!(rt; stream.finish() == Ok(b"".as_slice()));
     Ok(())

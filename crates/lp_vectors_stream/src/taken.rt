@@ -45,7 +45,12 @@ pub fn gives_pieces(
     Ok(takes_last(stream, &mut pieces))
 }
 
-// Whether this is the next piece, or a fault in its place where it has more bytes than the limit.
+// How many newlines there are.
+fn newlines_in(bytes: &[u8]) -> usize {
+    bytes.iter().filter(|byte| **byte == b'\n').count()
+}
+
+// Whether this is the next piece, or where it has more bytes than the limit a fault with the number of its newlines.
 fn is_answer(answer: Result<&[u8], TooLong>, limit: usize, pieces: &mut SplitLines<'_>) -> bool {
     let Some(wanted) = pieces.next() else {
         return false;
@@ -53,7 +58,7 @@ fn is_answer(answer: Result<&[u8], TooLong>, limit: usize, pieces: &mut SplitLin
     let wanted = wanted.as_bytes();
     match answer {
         Ok(piece) => piece == wanted && wanted.len() <= limit,
-        Err(TooLong) => wanted.len() > limit,
+        Err(fault) => wanted.len() > limit && fault.newlines == newlines_in(wanted),
     }
 }
 
@@ -86,7 +91,7 @@ pub fn takes_last_answer(
 }
 
 /// Whether a stream that holds nothing gives the pieces of at most so many bytes of a text that comes in these [`Parts`], and
-/// faults in the place of the others.
+/// in the place of each other one a fault with the number of its newlines.
 pub fn gives_short_pieces(
     stream: &mut BoundedLineStream,
     dialect: Dialect,

@@ -5,7 +5,8 @@ use Rattle.influxdb_line_protocol.specs.format.Dialects.{Dialect}
 use Rattle.influxdb_line_protocol.specs.declared.split.Mark.{Mark}
 use Rattle.influxdb_line_protocol.specs.declared.stream.bounded.Skipped.{Skipped}
 use Rattle.influxdb_line_protocol.specs.declared.stream.bounded.Skipped.TheVariants.{Nothing, Within, Ended}
-use Rattle.influxdb_line_protocol.specs.format.Bytes.{newline}
+use Rattle.influxdb_line_protocol.specs.declared.stream.bounded.TooLong.{TooLong}
+use Rattle.influxdb_line_protocol.specs.format.Bytes.{newline, newlines_in}
 use Rattle.influxdb_line_protocol.specs.format.Pieces.{IsCutPiece, IsLastPiece}
 use Rattle.influxdb_line_protocol.specs.code.Streams.{FindsCut, Held}
 use Rattle.influxdb_line_protocol.specs.code.Tracks.{IsTrackOf}
@@ -24,11 +25,13 @@ IsTooLong limit piece = (limit < length piece) × (limit < 2 ^ 64 - 1)
 abbrev pub CutsTo : Dialect → List ℕ → List ℕ → List ℕ → Type 0
 CutsTo dialect text piece rest = (text ≡ piece ++ newline ∷ rest) × IsCutPiece dialect piece
 
--- the text that came after the last cut: what is kept, after the bytes of a piece that is too long
+-- the text that came after the last cut: what is kept, after the bytes of a piece that is too long, whose newlines are counted
 abbrev pub HoldsBy : ℕ → Held → Skipped → List ℕ → Type 0
 HoldsBy limit held Nothing text = text ≡ held.bytes
-HoldsBy limit held (Within track) text = (held.bytes ≡ []) × IsTooLong limit text × IsTrackOf held.dialect text track
-HoldsBy limit held Ended text = (piece : List ℕ) × IsTooLong limit piece × CutsTo held.dialect text piece held.bytes
+HoldsBy limit held (Within track newlines) text =
+    (held.bytes ≡ []) × IsTooLong limit text × IsTrackOf held.dialect text track × (newlines ≡ newlines_in text)
+HoldsBy limit held (Ended newlines) text =
+    (piece : List ℕ) × IsTooLong limit piece × CutsTo held.dialect text piece held.bytes × (newlines ≡ newlines_in piece)
 
 -- the stream holds this text
 abbrev pub Holds : HeldWithin → List ℕ → Type 0
@@ -41,8 +44,8 @@ kept stream = length stream.held.bytes
 -- 1 where a piece that is too long was skipped to its end, and its fault is to come
 abbrev pub faults_to_come : Skipped → ℕ
 faults_to_come Nothing = 0
-faults_to_come (Within track) = 0
-faults_to_come Ended = 1
+faults_to_come (Within track newlines) = 0
+faults_to_come (Ended newlines) = 1
 
 -- so many pieces and faults are given at most before another part comes
 abbrev pub most_given : HeldWithin → ℕ
@@ -53,37 +56,39 @@ abbrev pub KeepsRules : HeldWithin → HeldWithin → Type 0
 KeepsRules before after = (after.held.dialect ≡ before.held.dialect) × (after.limit ≡ before.limit)
 
 -- of a text that the stream holds, a call gives the first piece that a newline ends, or in its place a fault where it is
--- too long; where it gives none, no more bytes are kept than a piece may have
-abbrev pub GivesOf : {E : Type 0} → HeldWithin → List ℕ → Option (Result (Bor (List ℕ)) E) → HeldWithin → Type 0
+-- too long, which has the number of its newlines; where it gives none, no more bytes are kept than a piece may have
+abbrev pub GivesOf : HeldWithin → List ℕ → Option (Result (Bor (List ℕ)) TooLong) → HeldWithin → Type 0
 GivesOf before text None after = Holds after text × IsLastPiece before.held.dialect text × (kept after ≤ before.limit)
 GivesOf before text (Some (Ok piece)) after =
     (rest : List ℕ) × (length piece.now ≤ before.limit) × CutsTo before.held.dialect text piece.now rest × Holds after rest
-GivesOf before text (Some (Err _)) after =
+GivesOf before text (Some (Err fault)) after =
     (piece rest : List ℕ) × IsTooLong before.limit piece × CutsTo before.held.dialect text piece rest × Holds after rest
+    × (fault.newlines ≡ newlines_in piece)
 
 -- a call finds the first cut, or takes the first piece where it is too long
-abbrev pub FindsWithin : {E : Type 0} → HeldWithin → Option (Result Mark E) → HeldWithin → Type 0
+abbrev pub FindsWithin : HeldWithin → Option (Result Mark TooLong) → HeldWithin → Type 0
 FindsWithin before None after =
     (text : List ℕ) → Holds before text → Holds after text × IsLastPiece before.held.dialect text × (kept after ≤ before.limit)
 FindsWithin before (Some (Ok cut)) after =
     (after ≡ before) × (before.skipped ≡ Nothing) × FindsCut before.held (Some cut) × (cut.at ≤ before.limit)
-FindsWithin before (Some (Err _)) after =
+FindsWithin before (Some (Err fault)) after =
     (text : List ℕ) → Holds before text
     → (piece rest : List ℕ) × IsTooLong before.limit piece × CutsTo before.held.dialect text piece rest × Holds after rest
+    × (fault.newlines ≡ newlines_in piece)
 
 -- so it is of each text that it may hold; no more bytes are kept than before, and once one is given, fewer can be
-abbrev pub GivesWithin : {E : Type 0} → HeldWithin → Option (Result (Bor (List ℕ)) E) → HeldWithin → Type 0
+abbrev pub GivesWithin : HeldWithin → Option (Result (Bor (List ℕ)) TooLong) → HeldWithin → Type 0
 GivesWithin before result after =
     KeepsRules before after × (kept after ≤ kept before) × IfSome result (λ _. most_given after < most_given before)
     × ((text : List ℕ) → Holds before text → GivesOf before text result after)
 
--- a call gives a text that is one piece, or a fault in its place
-abbrev pub IsLastOf : {E : Type 0} → ℕ → List ℕ → Result (Bor (List ℕ)) E → Type 0
+-- a call gives a text that is one piece, or a fault in its place, which has the number of its newlines
+abbrev pub IsLastOf : ℕ → List ℕ → Result (Bor (List ℕ)) TooLong → Type 0
 IsLastOf limit text (Ok piece) = (piece.now ≡ text) × (length text ≤ limit)
-IsLastOf limit text (Err _) = IsTooLong limit text
+IsLastOf limit text (Err fault) = IsTooLong limit text × (fault.newlines ≡ newlines_in text)
 
 -- a call gives the last piece, and the stream then holds nothing
-abbrev pub GivesLastWithin : {E : Type 0} → HeldWithin → Result (Bor (List ℕ)) E → HeldWithin → Type 0
+abbrev pub GivesLastWithin : HeldWithin → Result (Bor (List ℕ)) TooLong → HeldWithin → Type 0
 GivesLastWithin before result after =
     KeepsRules before after × Holds after []
     × ((text : List ℕ) → Holds before text → IsLastPiece before.held.dialect text → IsLastOf before.limit text result)

@@ -1,6 +1,6 @@
 -- The bytes that mean something in line protocol, by their names.
 use Rattle.std.specs.Prelude.{ℕ, Bool, List, ◌==◌}
-use Rattle.std.specs.List.{list_any}
+use Rattle.std.specs.List.{count_by, list_any}
 
 -- the byte NUL
 abbrev pub nul : ℕ
@@ -53,3 +53,7 @@ letter_u = 117
 -- whether the byte is one of these
 abbrev pub is_one_of : List ℕ → ℕ → Bool
 is_one_of bytes b = list_any (λ c. c == b) bytes
+
+-- how many newlines the bytes have
+abbrev pub newlines_in : List ℕ → ℕ
+newlines_in bytes = count_by (λ b. b == newline) bytes

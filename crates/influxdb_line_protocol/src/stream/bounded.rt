@@ -1,34 +1,46 @@
 //! Lines that come in parts, of which a piece has a greatest length.
 
-ghost use Rattle.std.specs.Prelude.{◌≡◌, ◌+◌, ◌++◌, ◌<◌, ◌≤◌, ℕ, List, [], false, length, true, IfSome, OnOk, OnErr};
+ghost use Rattle.std.specs.Prelude.{◌≡◌, ◌+◌, ◌++◌, ◌<◌, ◌≤◌, ℕ, List, [], length, IfSome, None, OnOk, OnErr};
 ghost use Rattle.std.specs.Borrow.{sem};
 ghost use Rattle.influxdb_line_protocol.specs.code.Rules.{rules_of};
 ghost use Rattle.influxdb_line_protocol.specs.code.Bounded.{FindsWithin, Holds, IsTooLong, kept, KeepsRules, most_given};
 ghost use Rattle.influxdb_line_protocol.specs.declared.stream.bounded.Skipped.{Skipped};
+ghost use Rattle.influxdb_line_protocol.specs.format.Bytes.{newlines_in};
 ghost use Rattle.influxdb_line_protocol.specs.format.Pieces.{IsLastPiece};
 
 use super::LineStream;
-use crate::split::{Dialect, Mark, Track, track_on};
+use crate::split::{Dialect, Mark, Track, count_of, track_on};
 use std::alloc::{AllocError, Global};
 use std::marker::Model;
 
 /// A piece was longer than it may be.
 #[derive(Clone, Copy, Debug, PartialEq, Eq)]
-pub struct TooLong;
+pub struct TooLong {
+    /// How many newlines the piece has, not counting the one that ends it.
+    pub newlines: usize,
+}
 
 // What was skipped of a piece that is too long.
 #[derive(Clone, Copy)]
 enum Skipped {
     // There is no such piece.
     Nothing,
-    // Its bytes so far have this track.
-    Within(Track),
-    // All of it, with its newline.
-    Ended,
+    // Its bytes so far, which have this track and so many newlines.
+    Within { track: Track, newlines: usize },
+    // All of it, which has so many newlines, and the one that ends it.
+    Ended { newlines: usize },
+}
+
+// How many newlines there are.
+fn newlines_in(bytes: &[u8]) -> usize
+    ensures few { result ≤ length bytes.now }
+    ensures value { result ≡ newlines_in bytes.now }
+{
+    count_of(b'\n', bytes)
 }
 
 /// The pieces of a text that comes in parts, as [`LineStream`] gives them, but a piece of more bytes than the limit is one
-/// fault.
+/// fault, which says how many newlines it has.
 ///
 /// Once more bytes are held than a piece may have, and no newline that came ends it, they are let go, and so are those that
 /// come, up to the end of the piece. The next pieces are given.
@@ -66,25 +78,30 @@ impl BoundedLineStream {
 
     /// Takes the next part of the text.
     ///
-    /// Where memory was refused, nothing is lost, and the same part can be given again.
+    /// Where memory was refused, nothing is lost, and the same part can be given again. It is also refused where no `usize`
+    /// may hold how many newlines, equal signs or commas a piece has that is too long.
     pub fn push(&mut self, part: &[u8]) -> Result<(), AllocError>
         ensures rules { KeepsRules self.old self.new }
         ensures ok { OnOk result ((text : List ℕ) → Holds self.old text → Holds self.new (text ++ part.now)) }
         ensures err { OnErr result ((text : List ℕ) → Holds self.old text → Holds self.new text) }
         ensures few { kept self.new ≤ kept self.old + length part.now }
     {
-        let Skipped::Within(track) = self.skipped else {
+        let Skipped::Within { track, newlines } = self.skipped else {
             return self.stream.push(part);
         };
-        if !track.has_room(part.len()) {
+        if !track.has_room(part.len()) || newlines.checked_add(part.len()).is_none() {
             return Err(AllocError);
         }
         match track_on(part, track) {
             Ok(end) => {
                 self.stream.push(&part[end + 1..])?;
-                self.skipped = Skipped::Ended;
+                let newlines = newlines + newlines_in(&part[..end]);
+                self.skipped = Skipped::Ended { newlines };
             }
-            Err(track) => self.skipped = Skipped::Within(track),
+            Err(track) => {
+                let newlines = newlines + newlines_in(part);
+                self.skipped = Skipped::Within { track, newlines };
+            }
         }
         Ok(())
     }
@@ -102,8 +119,9 @@ impl BoundedLineStream {
         }
         let first = Track::new(self.stream.dialect());
         if let Err(track) = track_on(self.stream.held(), first) {
+            let newlines = newlines_in(self.stream.held());
             self.stream.take_all();
-            self.skipped = Skipped::Within(track);
+            self.skipped = Skipped::Within { track, newlines };
         }
     }
 
@@ -116,10 +134,10 @@ impl BoundedLineStream {
     {
         match self.skipped {
             Skipped::Nothing => {}
-            Skipped::Within(_) => return None,
-            Skipped::Ended => {
+            Skipped::Within { .. } => return None,
+            Skipped::Ended { newlines } => {
                 self.skipped = Skipped::Nothing;
-                return Some(Err(TooLong));
+                return Some(Err(TooLong { newlines }));
             }
         }
         match self.stream.cut() {
@@ -129,8 +147,8 @@ impl BoundedLineStream {
             }
             Some(cut) if cut.at <= self.limit => Some(Ok(cut)),
             Some(cut) => {
-                self.stream.take(cut);
-                Some(Err(TooLong))
+                let newlines = newlines_in(self.stream.take(cut));
+                Some(Err(TooLong { newlines }))
             }
         }
     }
@@ -146,20 +164,23 @@ impl BoundedLineStream {
         }
     }
 
-    // Takes what is held, where that is a piece that is too long, and says whether it was.
-    fn drops_last(&mut self) -> bool
+    // Takes what is held, where that is a piece that is too long, and gives its fault.
+    fn drops_last(&mut self) -> Option<TooLong>
         ensures rules { KeepsRules self.old self.new }
-        ensures long { result ≡ true → Holds self.new [] × ((text : List ℕ) → Holds self.old text
-            → IsLastPiece self.old.held.dialect text → IsTooLong self.old.limit text) }
-        ensures short { result ≡ false → (self.new ≡ self.old) × (self.old.skipped ≡ Skipped.Nothing)
+        ensures long { IfSome result (λ fault. Holds self.new [] × ((text : List ℕ) → Holds self.old text
+            → IsLastPiece self.old.held.dialect text
+            → IsTooLong self.old.limit text × (fault.newlines ≡ newlines_in text))) }
+        ensures short { result ≡ None → (self.new ≡ self.old) × (self.old.skipped ≡ Skipped.Nothing)
             × (length self.old.held.bytes ≤ self.old.limit) }
     {
-        if matches!(self.skipped, Skipped::Nothing) && self.stream.held().len() <= self.limit {
-            return false;
-        }
+        let newlines = match self.skipped {
+            Skipped::Nothing if self.stream.held().len() <= self.limit => return None,
+            Skipped::Nothing => newlines_in(self.stream.held()),
+            Skipped::Within { newlines, .. } | Skipped::Ended { newlines } => newlines,
+        };
         self.stream.take_all();
         self.skipped = Skipped::Nothing;
-        true
+        Some(TooLong { newlines })
     }
 
     /// The last piece, or a fault in its place where it is too long, once [`next`](Self::next) has given `None` and no more
@@ -167,9 +188,9 @@ impl BoundedLineStream {
     pub fn finish(&mut self) -> Result<&[u8], TooLong>
         ensures* after { sem 𝓛 (EndsLastWithin self.entry result) }
     {
-        if self.drops_last() {
-            return Err(TooLong);
+        match self.drops_last() {
+            Some(fault) => Err(fault),
+            None => Ok(self.stream.take_all()),
         }
-        Ok(self.stream.take_all())
     }
 }

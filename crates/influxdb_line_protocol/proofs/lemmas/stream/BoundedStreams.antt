@@ -1,12 +1,14 @@
 -- What a stream holds whose pieces have a greatest length.
-use Rattle.std.proofs.Common.{◌≡◌, ◌⊎◌, inl, inr, ℕ, ◌+◌, ◌<◌, ◌≤◌, List, [], ◌∷◌, ◌++◌, length, take, drop, refl, sym, ap, ◌∙◌, subst}
-use Rattle.std.proofs.Common.{append_assoc, length-append, arith, slice_index, take-append-drop, Ok, Err}
+use Rattle.std.proofs.Common.{◌≡◌, ◌⊎◌, inl, inr, ℕ, ◌+◌, ◌<◌, List, [], ◌∷◌, ◌++◌, length, take, drop, refl, sym, ap, ◌∙◌, subst}
+use Rattle.std.proofs.Common.{◌==◌, ap₂, append_assoc, cond, length-append, arith, slice_index, take-append-drop, Ok, Err}
 use Rattle.std.proofs.lemmas.List.{drop_more}
+use Rattle.std.proofs.lemmas.List.Sums.{sum_by-append}
 use Rattle.influxdb_line_protocol.specs.format.Dialects.{Dialect, Crate, Strict}
 use Rattle.influxdb_line_protocol.specs.declared.split.resumed.Part.{Part}
 use Rattle.influxdb_line_protocol.specs.declared.split.resumed.Part.TheVariants.{Head, Plain, Quoted}
 use Rattle.influxdb_line_protocol.specs.declared.split.tracked.Track.{Track}
 use Rattle.influxdb_line_protocol.specs.declared.split.tracked.Track.TheVariants.{Comment, Blanks, Line}
+use Rattle.influxdb_line_protocol.specs.format.Bytes.{newlines_in}
 use Rattle.influxdb_line_protocol.specs.format.Piece.{IsClosed, IsOpen}
 use Rattle.influxdb_line_protocol.specs.declared.stream.bounded.Skipped.{Skipped}
 use Rattle.influxdb_line_protocol.specs.declared.stream.bounded.Skipped.TheVariants.{Nothing, Within, Ended}
@@ -22,12 +24,19 @@ use Rattle.influxdb_line_protocol.proofs.lemmas.stream.TrackedPieces.{blanks_beg
 longer_is_too_long : (limit : ℕ) (text part : List ℕ) → IsTooLong limit text → IsTooLong limit (text ++ part)
 longer_is_too_long limit text part h = (omega (arith, length-append text part, h.0), h.1)
 
+-- the newlines of a text and those of a part after it
+more_newlines : (text part : List ℕ) (n more : ℕ) → n ≡ newlines_in text → more ≡ newlines_in part
+    → n + more ≡ newlines_in (text ++ part)
+more_newlines text part n more h g =
+    ap₂ (λ (a b : ℕ). a + b) h g ∙ sym (sum_by-append (λ (b : ℕ). cond (b == 10) 1 0) text part)
+
 -- a part that goes on in a piece that is too long
-pub skips_more : (limit : ℕ) (held : Held) (skipped : Skipped) (from to : Track) (part : List ℕ) → skipped ≡ Within from
-    → TracksOn part from (Err to) → (text : List ℕ) → HoldsBy limit held skipped text → HoldsBy limit held (Within to) (text ++ part)
-skips_more limit held skipped from to part is tracks text h =
+pub skips_more : (limit : ℕ) (held : Held) (skipped : Skipped) (from to : Track) (n more : ℕ) (part : List ℕ) → skipped ≡ Within from n
+    → TracksOn part from (Err to) → more ≡ newlines_in part → (text : List ℕ) → HoldsBy limit held skipped text
+    → HoldsBy limit held (Within to (n + more)) (text ++ part)
+skips_more limit held skipped from to n more part is tracks counted text h =
     let k = subst (λ (s : Skipped). HoldsBy limit held s text) is h in
-    (k.0, longer_is_too_long limit text part k.1, tracks held.dialect text k.2)
+    (k.0, longer_is_too_long limit text part k.1, tracks held.dialect text k.2, more_newlines text part n more k.3 counted)
 
 -- the bytes before a newline, and those after it
 parted : (bytes : List ℕ) (i : ℕ) → i < length bytes → slice_index bytes i ≡ 10 → take i bytes ++ 10 ∷ drop (i + 1) bytes ≡ bytes
@@ -36,10 +45,11 @@ parted bytes i within here =
     ∙ ap (λ (t : List ℕ). take i bytes ++ t) (sym (drop_more bytes i 0 within)) ∙ take-append-drop i bytes
 
 -- a part that ends one
-pub skips_to_end : (limit : ℕ) (old new : Held) (skipped : Skipped) (from : Track) (part : List ℕ) (i : ℕ) → skipped ≡ Within from
-    → TracksOn part from (Ok i) → new.dialect ≡ old.dialect → new.bytes ≡ old.bytes ++ drop (i + 1) part
-    → (text : List ℕ) → HoldsBy limit old skipped text → HoldsBy limit new Ended (text ++ part)
-skips_to_end limit old new skipped from part i is tracks dialect bytes text h =
+pub skips_to_end : (limit : ℕ) (old new : Held) (skipped : Skipped) (from : Track) (n more : ℕ) (part : List ℕ) (i : ℕ)
+    → skipped ≡ Within from n → TracksOn part from (Ok i) → new.dialect ≡ old.dialect → new.bytes ≡ old.bytes ++ drop (i + 1) part
+    → more ≡ newlines_in (take i part) → (text : List ℕ) → HoldsBy limit old skipped text
+    → HoldsBy limit new (Ended (n + more)) (text ++ part)
+skips_to_end limit old new skipped from n more part i is tracks dialect bytes counted text h =
     let k = subst (λ (s : Skipped). HoldsBy limit old s text) is h in
     let after : new.bytes ≡ drop (i + 1) part = bytes ∙ ap (λ (t : List ℕ). t ++ drop (i + 1) part) k.0 in
     let split = parted part i tracks.0 tracks.1 in (
@@ -50,17 +60,19 @@ skips_to_end limit old new skipped from part i is tracks dialect bytes text h =
             ∙ (ap (λ (t : List ℕ). text ++ (take i part ++ 10 ∷ t)) after ∙ ap (λ (t : List ℕ). text ++ t) split)),
         subst (λ (d : Dialect). IsCutPiece d (text ++ take i part)) (sym dialect) (tracks.2 old.dialect text k.2),
       ),
+      more_newlines text (take i part) n more k.3 counted,
     )
 
 -- what is held was let go, since it is too long
-pub goes_within : (limit : ℕ) (held after : Held) (bytes : List ℕ) (d : Dialect) (track : Track) → bytes ≡ held.bytes
-    → d ≡ held.dialect → IsTooLong limit bytes → IsTrackOf d bytes track
-    → after ≡ record { dialect = held.dialect; bytes = [] } → HoldsBy limit after (Within track) held.bytes
-goes_within limit held after bytes d track same dialect long tracked empty = (
+pub goes_within : (limit : ℕ) (held after : Held) (bytes : List ℕ) (d : Dialect) (track : Track) (n : ℕ) → bytes ≡ held.bytes
+    → d ≡ held.dialect → IsTooLong limit bytes → IsTrackOf d bytes track → n ≡ newlines_in held.bytes
+    → after ≡ record { dialect = held.dialect; bytes = [] } → HoldsBy limit after (Within track n) held.bytes
+goes_within limit held after bytes d track n same dialect long tracked counted empty = (
   ap (λ (h : Held). h.bytes) empty,
   subst (λ (t : List ℕ). IsTooLong limit t) same long,
   subst (λ (e : Dialect). IsTrackOf e held.bytes track) (dialect ∙ sym (ap (λ (h : Held). h.dialect) empty))
       (subst (λ (t : List ℕ). IsTrackOf d t track) same tracked),
+  counted,
 )
 
 -- the place after bytes of a piece that no newline has ended
@@ -80,16 +92,16 @@ tracked_is_last Strict bytes (Line place) h =
     inr (no_comment bytes h.0, place_is_last place.part place.equals place.commas bytes h.1.ends_in)
 
 -- so is what is held where bytes were skipped
-pub within_is_last : (limit : ℕ) (held : Held) (skipped : Skipped) (track : Track) (text : List ℕ) → skipped ≡ Within track
+pub within_is_last : (limit : ℕ) (held : Held) (skipped : Skipped) (track : Track) (n : ℕ) (text : List ℕ) → skipped ≡ Within track n
     → HoldsBy limit held skipped text → IsLastPiece held.dialect text
-within_is_last limit held skipped track text is h =
+within_is_last limit held skipped track n text is h =
     let k = subst (λ (s : Skipped). HoldsBy limit held s text) is h in
     tracked_is_last held.dialect text track k.2
 
 -- then none are kept
-pub within_keeps_none : (limit : ℕ) (held : Held) (skipped : Skipped) (track : Track) (text : List ℕ) → skipped ≡ Within track
+pub within_keeps_none : (limit : ℕ) (held : Held) (skipped : Skipped) (track : Track) (n : ℕ) (text : List ℕ) → skipped ≡ Within track n
     → HoldsBy limit held skipped text → length held.bytes ≡ 0
-within_keeps_none limit held skipped track text is h =
+within_keeps_none limit held skipped track n text is h =
     let k = subst (λ (s : Skipped). HoldsBy limit held s text) is h in
     ap (λ (t : List ℕ). length t) k.0
 
@@ -112,3 +124,24 @@ pub takes_within : (limit : ℕ) (held after : Held) (skipped : Skipped) (piece 
 takes_within limit held after skipped piece text is takes h =
     let same = subst (λ (s : Skipped). HoldsBy limit held s text) is h in
     ((same ∙ takes.bytes, takes.is_cut), subst (λ (s : Skipped). HoldsBy limit after s after.bytes) (sym is) refl)
+
+-- what is held, which is more than a piece may have, is the text where no bytes were skipped
+pub held_is_too_long : (limit : ℕ) (held : Held) (skipped : Skipped) (n : ℕ) → skipped ≡ Nothing → IsTooLong limit held.bytes
+    → n ≡ newlines_in held.bytes → (text : List ℕ) → HoldsBy limit held skipped text → IsTooLong limit text × (n ≡ newlines_in text)
+held_is_too_long limit held skipped n is long counted text h =
+    let same = subst (λ (s : Skipped). HoldsBy limit held s text) is h in
+    subst (λ (t : List ℕ). IsTooLong limit t × (n ≡ newlines_in t)) (sym same) (long, counted)
+
+-- so many newlines of the bytes that were skipped were counted
+abbrev pub HasCounted : Skipped → ℕ → Type 0
+HasCounted skipped n = ((track : Track) × (skipped ≡ Within track n)) ⊎ (skipped ≡ Ended n)
+
+-- a text that is one piece is too long where bytes were skipped, and has the newlines that were counted
+pub skipped_is_too_long : (limit : ℕ) (held : Held) (skipped : Skipped) (n : ℕ) → HasCounted skipped n → (text : List ℕ)
+    → HoldsBy limit held skipped text → IsLastPiece held.dialect text → IsTooLong limit text × (n ≡ newlines_in text)
+skipped_is_too_long limit held skipped n (inl is) text h is_last =
+    let k = subst (λ (s : Skipped). HoldsBy limit held s text) is.1 h in
+    (k.1, k.3)
+skipped_is_too_long limit held skipped n (inr is) text h is_last =
+    let k = subst (λ (s : Skipped). HoldsBy limit held s text) is h in
+    absurd (no_cut_within held.dialect k.0 held.bytes k.2.1 (subst (λ (t : List ℕ). IsLastPiece held.dialect t) k.2.0 is_last))

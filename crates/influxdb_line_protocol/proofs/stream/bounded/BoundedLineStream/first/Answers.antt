@@ -1,4 +1,5 @@
-use Rattle.std.proofs.Common.{◌<◌, ◌≤◌, length, List, ℕ, subst, sym, arith}
+use Rattle.std.proofs.Common.{◌≡◌, ◌<◌, ◌≤◌, length, List, ℕ, subst, sym, arith}
+use Rattle.influxdb_line_protocol.specs.format.Bytes.{newlines_in}
 use Rattle.influxdb_line_protocol.specs.format.Pieces.{IsLastPiece}
 use Rattle.influxdb_line_protocol.specs.code.Bounded.{CutsTo, HeldWithin, Holds, HoldsBy, IsTooLong, kept}
 use Rattle.influxdb_line_protocol.specs.code.Streams.{Held, TakesPiece}
@@ -9,10 +10,10 @@ pub returns-in-Within-clause-finds : goal.returns-in-Within-clause-finds
 returns-in-Within-clause-finds c = λ text h.
     let s = c.self.inside in
     let holds = subst (λ (v : HeldWithin). Holds v text) (sym c.self.view_is) h in
-    let none = within_keeps_none s.limit s.stream s.skipped c.in-Within.field-0 text c.in-Within.is holds in (
+    let none = within_keeps_none s.limit s.stream s.skipped c.in-Within.track c.in-Within.newlines text c.in-Within.is holds in (
       h,
       subst (λ (v : HeldWithin). IsLastPiece v.held.dialect text) c.self.view_is
-          (within_is_last s.limit s.stream s.skipped c.in-Within.field-0 text c.in-Within.is holds),
+          (within_is_last s.limit s.stream s.skipped c.in-Within.track c.in-Within.newlines text c.in-Within.is holds),
       subst (λ (v : HeldWithin). kept v ≤ v.limit) c.self.view_is (omega (arith, none)),
     )
 
@@ -27,8 +28,9 @@ returns-in-Some-2-clause-finds c =
     let long : IsTooLong s.limit piece = (longer, omega (arith, longer, c.take.type_inv.0)) in
     subst
     (λ (v : HeldWithin). (text : List ℕ) → Holds v text
-    → (x rest : List ℕ) × IsTooLong v.limit x × CutsTo v.held.dialect text x rest × HoldsBy s.limit after s.skipped rest)
+    → (x rest : List ℕ) × IsTooLong v.limit x × CutsTo v.held.dialect text x rest × HoldsBy s.limit after s.skipped rest
+    × (c.newlines_in-newlines.result ≡ newlines_in x))
     c.self.view_is
     (λ text h.
     let w = takes_within s.limit s.stream after s.skipped piece text c.in-Nothing.is takes h in
-    (piece, after.bytes, long, w.0, w.1))
+    (piece, after.bytes, long, w.0, w.1, c.newlines_in-newlines.ensures.value))

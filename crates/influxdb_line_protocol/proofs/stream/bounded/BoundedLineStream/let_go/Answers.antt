@@ -1,6 +1,7 @@
 use Rattle.influxdb_line_protocol.specs.code.Rules.{rules_of}
-use Rattle.std.proofs.Common.{[], List, ℕ, subst, sym, ◌∙◌, arith}
+use Rattle.std.proofs.Common.{[], List, ℕ, ap, subst, sym, ◌∙◌, arith}
 use Rattle.influxdb_line_protocol.specs.format.Dialects.{Dialect}
+use Rattle.influxdb_line_protocol.specs.format.Bytes.{newlines_in}
 use Rattle.influxdb_line_protocol.specs.format.Pieces.{IsLastPiece}
 use Rattle.influxdb_line_protocol.specs.code.Bounded.{HeldWithin, HoldsBy, IsTooLong}
 use Rattle.influxdb_line_protocol.specs.declared.stream.bounded.Skipped.TheVariants.{Within}
@@ -13,10 +14,11 @@ returns-in-Err-clause-holds c =
     let after = c.take_all.follows.lender-at-none in
     let long : IsTooLong s.limit c.held.result.now = (c.if-held-self.false, omega (arith, c.if-held-self.false)) in
     let tracked = c.in-Err.ensures (rules_of c.dialect.result) [] c.new-first.ensures.track in
-    subst (λ (v : HeldWithin). HoldsBy s.limit after (Within c.in-Err.track) v.held.bytes) c.self.view_is
-    (goes_within s.limit s.stream after c.held-2.result.now (rules_of c.dialect.result) c.in-Err.track c.held-2.ensures c.dialect.ensures
+    subst (λ (v : HeldWithin). HoldsBy s.limit after (Within c.in-Err.track c.newlines_in-newlines.result) v.held.bytes) c.self.view_is
+    (goes_within s.limit s.stream after c.held-2.result.now (rules_of c.dialect.result) c.in-Err.track c.newlines_in-newlines.result
+    c.held-2.ensures c.dialect.ensures
     (subst (λ (t : List ℕ). IsTooLong s.limit t) (c.held.ensures ∙ sym c.held-2.ensures) long)
-    tracked c.take_all.follows.holds-at-none.1)
+    tracked (c.newlines_in-newlines.ensures.value ∙ ap newlines_in c.held-in-Err.ensures) c.take_all.follows.holds-at-none.1)
 
 pub returns-in_default-clause-few : goal.returns-in_default-clause-few
 returns-in_default-clause-few c =
