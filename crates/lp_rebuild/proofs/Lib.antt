@@ -15,3 +15,4 @@ pub mod RelayPieces
 pub mod RelaysSoFar
 pub mod RelaysOfText
 pub mod RelayEnds
+pub mod NumberedEnds

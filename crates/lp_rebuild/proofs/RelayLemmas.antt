@@ -1,5 +1,5 @@
 -- The steps of a relay, one after another.
-use Rattle.std.proofs.Common.{◌≡◌, ℕ, ◌+◌, List, [], ◌∷◌, ◌++◌, length, map, string_bytes, codes}
+use Rattle.std.proofs.Common.{◌≡◌, ℕ, List, [], ◌∷◌, ◌++◌, map, string_bytes, codes}
 use Rattle.std.proofs.Common.{Option, Some, None, Result, Ok, Err, refl, sym, ap, subst, ◌∙◌, arith, append-nil}
 use Rattle.std.proofs.Common.{OnErr}
 use Rattle.std.specs.Str.{IsUtf8}
@@ -169,19 +169,30 @@ part_more old mid a b c e f g xs ys fs gs p q =
       faults = passes_more e f g old.faults fs mid.faults gs q.faults_left p.faults q.faults;
     }
 
+-- the same items and the same fault lines
+pub relays_same : (old new : Made) (a c e g : Option (List ℕ)) (xs ys : List Item) (fs gs : List ℕ) → xs ≡ ys → fs ≡ gs
+    → RelaysItems old new a c e g xs fs → RelaysItems old new a c e g ys gs
+relays_same old new a c e g xs ys fs gs items lines p =
+    subst (λ l. RelaysItems old new a c e g l gs) items (subst (λ l. RelaysItems old new a c e g xs l) lines p)
+
+-- the same, where a beginning was written
+pub part_same : (old : Made) (a c e g : Option (List ℕ)) (xs ys : List Item) (fs gs : List ℕ) → xs ≡ ys → fs ≡ gs
+    → RelaysPart old a c e g xs fs → RelaysPart old a c e g ys gs
+part_same old a c e g xs ys fs gs items lines p =
+    subst (λ l. RelaysPart old a c e g l gs) items (subst (λ l. RelaysPart old a c e g xs l) lines p)
+
 -- one step, and then what is held was written
 pub relays_then : (old mid new : Made) (a b c e f g : Option (List ℕ)) (xs : List Item) (fs : List ℕ)
     → RelaysItems old mid a b e f xs fs → RelaysItems mid new b c f g [] [] → RelaysItems old new a c e g xs fs
 relays_then old mid new a b c e f g xs fs p q =
-    subst (λ l. RelaysItems old new a c e g l fs) (append-nil xs)
-    (subst (λ l. RelaysItems old new a c e g (xs ++ []) l) (append-nil fs) (relays_more old mid new a b c e f g xs [] fs [] p q))
+    relays_same old new a c e g (xs ++ []) xs (fs ++ []) fs (append-nil xs) (append-nil fs)
+    (relays_more old mid new a b c e f g xs [] fs [] p q)
 
 -- the same, where a beginning of it was written
 pub part_then : (old mid : Made) (a b c e f g : Option (List ℕ)) (xs : List Item) (fs : List ℕ)
     → RelaysItems old mid a b e f xs fs → RelaysPart mid b c f g [] [] → RelaysPart old a c e g xs fs
 part_then old mid a b c e f g xs fs p q =
-    subst (λ l. RelaysPart old a c e g l fs) (append-nil xs)
-    (subst (λ l. RelaysPart old a c e g (xs ++ []) l) (append-nil fs) (part_more old mid a b c e f g xs [] fs [] p q))
+    part_same old a c e g (xs ++ []) xs (fs ++ []) fs (append-nil xs) (append-nil fs) (part_more old mid a b c e f g xs [] fs [] p q)
 
 -- what is held is a beginning too
 pub part_so_far : (old new : Made) (a b e f : Option (List ℕ)) (xs : List Item) (fs : List ℕ) → RelaysItems old new a b e f xs fs

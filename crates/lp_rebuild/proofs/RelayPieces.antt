@@ -15,7 +15,8 @@ use Rattle.lp_rebuild.specs.RelaySteps.{TakesPieces, faults_at, faults_from, fau
 use Rattle.lp_rebuild.specs.RelaySteps.{place_after, place_past}
 use Rattle.lp_rebuild.proofs.ItemLemmas.{item_of_long, items_add_up, items_of_short, items_push}
 use Rattle.lp_rebuild.proofs.FaultLines.{faults_from_append, faults_from_push, place_append}
-use Rattle.lp_rebuild.proofs.RelayLemmas.{part_of_none, part_poured, part_so_far, part_then, relays_none, relays_poured, relays_then}
+use Rattle.lp_rebuild.proofs.RelayLemmas.{part_of_none, part_poured, part_so_far, part_then, relays_none, relays_poured, relays_same}
+use Rattle.lp_rebuild.proofs.RelayLemmas.{part_same, relays_then}
 
 -- the piece that a call gave, or that is too long, and the rest, which the stream then holds
 pub record Given (dialect : Dialect) (limit : ℕ) (text : List ℕ) (result : Result (Bor (List ℕ)) TooLong) (after : HeldWithin)
@@ -70,8 +71,13 @@ takes_one dialect text mid rest pieces piece t is cut given first r =
     subst (λ l. Run dialect given l rest) (append_assoc first pieces (piece ∷ []))
     (taken given (first ++ pieces) piece rest (subst (Run dialect given (first ++ pieces)) is (t given first r)) cut)
 
+-- the items of pieces and of one more
+pub next_items : (dialect : Dialect) (limit : Option ℕ) (ps : List (List ℕ)) (p : List ℕ) (items : List Item)
+    → items ≡ items_of_piece dialect limit p → items_of dialect limit ps ++ items ≡ items_of dialect limit (ps ++ p ∷ [])
+next_items dialect limit ps p items is = ap (λ l. items_of dialect limit ps ++ l) is ∙ sym (items_push dialect limit ps p)
+
 -- where pieces were taken, the fault lines of one more name what comes then
-next_faults : (dialect : Dialect) (limit : Option ℕ) (old now : Made) (a b e f : Option (List ℕ)) (ps : List (List ℕ)) (p : List ℕ)
+pub next_faults : (dialect : Dialect) (limit : Option ℕ) (old now : Made) (a b e f : Option (List ℕ)) (ps : List (List ℕ)) (p : List ℕ)
     (items : List Item) (fs : List ℕ) → RelaysItems old now a b e f (items_of dialect limit ps) fs → now.place ≡ place_past old.place ps
     → items ≡ items_of_piece dialect limit p
     → faults_past dialect limit old ps ++ faults_next now items ≡ faults_past dialect limit old (ps ++ p ∷ [])
@@ -130,13 +136,10 @@ pieces_more dialect limit text before after old now next poured a b c e f g resu
       holds = one.holds;
       taken = takes_one dialect text p.rest one.rest p.pieces one.piece p.taken one.text_is one.is_cut;
       place = next_place old.place now.place poured.place _ p.pieces one.piece p.place one.newlines place;
-      relays =
-          subst (λ l. RelaysItems old poured a c e g l (faults_past dialect (limit_of limit) old (p.pieces ++ one.piece ∷ [])))
-          (ap (λ l. items_of dialect (limit_of limit) p.pieces ++ l) one.items
-          ∙ sym (items_push dialect (limit_of limit) p.pieces one.piece))
-          (subst (λ l. RelaysItems old poured a c e g _ l)
+      relays = relays_same old poured a c e g _ _ _ _
+          (next_items dialect (limit_of limit) p.pieces one.piece (items_given dialect result) one.items)
           (next_faults dialect (limit_of limit) old now a b e f p.pieces one.piece _ _ p.relays p.place one.items)
-          (relays_poured old now next poured a b c e f g _ _ _ p.relays takes q));
+          (relays_poured old now next poured a b c e f g _ _ _ p.relays takes q);
     }
 
 -- the same, where a beginning of it was written
@@ -150,13 +153,10 @@ pieces_part dialect limit text before after old now next a b c e f g result p on
       pieces = p.pieces ++ one.piece ∷ [];
       rest = one.rest;
       taken = takes_one dialect text p.rest one.rest p.pieces one.piece p.taken one.text_is one.is_cut;
-      part =
-          subst (λ l. RelaysPart old a c e g l (faults_past dialect (limit_of limit) old (p.pieces ++ one.piece ∷ [])))
-          (ap (λ l. items_of dialect (limit_of limit) p.pieces ++ l) one.items
-          ∙ sym (items_push dialect (limit_of limit) p.pieces one.piece))
-          (subst (λ l. RelaysPart old a c e g _ l)
+      part = part_same old a c e g _ _ _ _
+          (next_items dialect (limit_of limit) p.pieces one.piece (items_given dialect result) one.items)
           (next_faults dialect (limit_of limit) old now a b e f p.pieces one.piece _ _ p.relays p.place one.items)
-          (part_poured old now next a b c e f g _ _ _ p.relays takes q));
+          (part_poured old now next a b c e f g _ _ _ p.relays takes q);
     }
 
 -- the pieces that were taken so far

@@ -48,7 +48,6 @@ fn take_text(
         (TakesItems (made so_far.old) (map answered (answers_of_piece (rules_of dialect) text.now)) (made so_far.new)) }
     ensures counted { OnOk result
         (so_far.new.carried + so_far.new.refused ≤ so_far.old.carried + so_far.old.refused + 1) }
-    ensures place { so_far.new.place ≡ so_far.old.place }
 {
     laws::items_are_answers();
     laws::pieces_join();
@@ -76,11 +75,30 @@ fn take_bytes(
         (TakesItems (made so_far.old) (items_of_bytes (rules_of dialect) piece.now) (made so_far.new)) }
     ensures counted { OnOk result
         (so_far.new.carried + so_far.new.refused ≤ so_far.old.carried + so_far.old.refused + 1) }
-    ensures place { so_far.new.place ≡ so_far.old.place }
 {
     match str::from_utf8(piece) {
         Ok(text) => take_text(alloc, dialect, so_far, text),
         Err(_) => refuse(so_far, NOT_UTF8),
+    }
+}
+
+// Takes what the stream gave: bytes, or where they are too long a fault.
+fn take_given(
+    alloc: Global,
+    dialect: Dialect,
+    so_far: &mut Progress,
+    piece: Result<&[u8], TooLong>,
+) -> Result<(), AllocError>
+    requires room { so_far.old.carried + so_far.old.refused < usize.MAX }
+    requires piece { IfOk piece (λ bytes. IsLastPiece (rules_of dialect) bytes.now) }
+    ensures taken { OnOk result
+        (TakesItems (made so_far.old) (items_given (rules_of dialect) piece.entry) (made so_far.new)) }
+    ensures counted { OnOk result
+        (so_far.new.carried + so_far.new.refused ≤ so_far.old.carried + so_far.old.refused + 1) }
+{
+    match piece {
+        Ok(bytes) => take_bytes(alloc, dialect, so_far, bytes),
+        Err(_) => refuse(so_far, TOO_LONG),
     }
 }
 
@@ -91,7 +109,9 @@ fn newlines_in(bytes: &[u8]) -> usize
 {
     let mut count = 0;
     for at in 0..bytes.len() {
-        count += usize::from(bytes[at] == b'\n');
+        if bytes[at] == b'\n' {
+            count += 1;
+        }
     }
     count
 }
@@ -111,8 +131,7 @@ fn place_after(place: Place, piece: Result<&[u8], TooLong>) -> Result<Place, All
     Ok(Place::OnLine(end.checked_add(1).ok_or(AllocError)?))
 }
 
-// Takes a piece: its bytes, or where it is too long a fault. It is refused where its number, or the line after it, would not
-// fit.
+// Takes a piece. It is refused where its number, or the line after it, would not fit.
 pub(crate) fn take_piece(
     alloc: Global,
     dialect: Dialect,
@@ -130,10 +149,7 @@ pub(crate) fn take_piece(
         return Err(AllocError);
     }
     let next = place_after(so_far.place, piece)?;
-    match piece {
-        Ok(bytes) => take_bytes(alloc, dialect, so_far, bytes)?,
-        Err(_) => refuse(so_far, TOO_LONG)?,
-    }
+    take_given(alloc, dialect, so_far, piece)?;
     so_far.place = next;
     Ok(())
 }
