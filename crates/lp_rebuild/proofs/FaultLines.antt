@@ -8,7 +8,8 @@ use Rattle.lp_rebuild.specs.declared.batch.Place.{Place}
 use Rattle.lp_rebuild.specs.declared.batch.Place.TheVariants.{ByNumber, OnLine}
 use Rattle.lp_rebuild.specs.RebuildSteps.{fault_line_at}
 use Rattle.lp_rebuild.specs.LineFaults.{item_text, line_fault, line_faults}
-use Rattle.lp_rebuild.specs.Relaying.{Item, answered, not_utf8, too_long, is_carried_item, item_fault, item_faults, items_of_piece, items_of}
+use Rattle.lp_rebuild.specs.Relaying.{Item, answered, not_utf8, too_long, is_carried_item, item_fault, item_faults}
+use Rattle.lp_rebuild.specs.Relaying.{items_of_piece, items_of}
 use Rattle.lp_rebuild.specs.RelaySteps.{faults_at, faults_from, place_after, place_past}
 use Rattle.lp_rebuild.proofs.ItemLemmas.{faults_append}
 

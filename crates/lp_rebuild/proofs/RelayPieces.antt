@@ -160,8 +160,8 @@ pieces_part dialect limit text before after old now next a b c e f g result p on
     }
 
 -- the pieces that were taken so far
-pub pieces_so_far : (dialect : Dialect) (limit : Option ℕ) (text : List ℕ) (stream : HeldWithin) (old now : Made) (a b e f : Option (List ℕ))
-    → RelaysPieces dialect limit text stream old now a b e f → RelaysSome dialect limit text old a b e f
+pub pieces_so_far : (dialect : Dialect) (limit : Option ℕ) (text : List ℕ) (stream : HeldWithin) (old now : Made)
+    (a b e f : Option (List ℕ)) → RelaysPieces dialect limit text stream old now a b e f → RelaysSome dialect limit text old a b e f
 pieces_so_far dialect limit text stream old now a b e f p =
     record { pieces = p.pieces; rest = p.rest; taken = p.taken; part = part_so_far old now a b e f _ _ p.relays }
 

@@ -192,7 +192,8 @@ so_far_all ends dialect limit place r s t stream now end counts a b c e f g h re
     let old = made_of_none place in
     let items = items_of dialect limit (h.pieces ++ h.held ∷ []) in
     let lines = faults_from dialect limit place 1 (h.pieces ++ h.held ∷ []) in
-    let last = subst (λ l. RelaysItems now end b c f g (items_of_piece dialect l h.held) (faults_next now (items_of_piece dialect l h.held)))
+    let last = subst
+    (λ l. RelaysItems now end b c f g (items_of_piece dialect l h.held) (faults_next now (items_of_piece dialect l h.held)))
     h.bound (p h.held h.holds h.last) in
     let all : RelaysItems old end a c e g items lines =
     relays_same old end a c e g _ items _ lines (sym (items_push dialect limit h.pieces h.held))
@@ -218,7 +219,8 @@ end_fronts ends dialect limit place r s t stream now a b c e f g h read at_end p
     let old = made_of_none place in
     let items = items_of dialect limit (h.pieces ++ h.held ∷ []) in
     let lines = faults_from dialect limit place 1 (h.pieces ++ h.held ∷ []) in
-    let last = subst (λ l. RelaysPart now b c f g (items_of_piece dialect l h.held) (faults_next now (items_of_piece dialect l h.held)))
+    let last = subst
+    (λ l. RelaysPart now b c f g (items_of_piece dialect l h.held) (faults_next now (items_of_piece dialect l h.held)))
     h.bound (p h.held h.holds h.last) in
     let part : RelaysPart old a c e g items lines =
     part_same old a c e g _ items _ lines (sym (items_push dialect limit h.pieces h.held))

@@ -22,8 +22,8 @@ use std::alloc::Global;
 pub enum Numbering {
     /// The number of the item, as in `item 5: ..`. Items are counted from 1.
     Items,
-    /// The line of the input on which the item begins, as in `line 17: ..`. Lines are counted from 1, one after each newline,
-    /// also after one within a string, and within a line of the protocol that is too long or not UTF-8.
+    /// The line of the input on which the piece of the item begins, as in `line 17: ..`. Lines are counted from 1, one after
+    /// each newline, also after those within strings and within pieces that are too long or not UTF-8.
     Lines,
 }
 
@@ -298,14 +298,14 @@ pub fn relay_within<R: Source, W: Sink, E: Sink>(
 /// the fault lines name what `numbering` says.
 ///
 /// By [`Numbering::Items`] it does what [`relay_within`] does. By [`Numbering::Lines`] each fault line is `line N: TEXT` where
-/// that has `item M: TEXT`, and N is the line of the input on which the item begins: 1, and one more for each newline before
-/// it. So a fault can be found where a comment, a blank line or a string of many lines came before. All else is the same:
-/// what it says of memory holds here too, and the newlines are counted as the lines come.
+/// that has `item M: TEXT`, and N is the line of the input on which the piece of the item begins: 1, and one more for each
+/// newline before its first byte. So a fault can be found, though a comment, a blank line or a string of many lines came
+/// before it. All else is as for [`relay_within`].
 ///
 /// # Errors
 ///
 /// Those of [`relay_within`]. By [`Numbering::Lines`] `OutOfMemory` also comes where no `usize` holds the line on which the
-/// next item would begin.
+/// next piece would begin.
 pub fn relay_numbered<R: Source, W: Sink, E: Sink>(
     alloc: Global,
     dialect: Dialect,

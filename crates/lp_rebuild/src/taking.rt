@@ -5,7 +5,8 @@ ghost use Rattle.influxdb_line_protocol.specs.format.Bytes.{newlines_in};
 ghost use Rattle.influxdb_line_protocol.specs.format.Pieces.{IsLastPiece};
 ghost use Rattle.influxdb_line_protocol.specs.format.Items.{answers_of_piece};
 ghost use Rattle.lp_rebuild.specs.Relaying.{answered, items_of_bytes};
-ghost use Rattle.lp_rebuild.specs.RelaySteps.{TakesItems, first_place, items_given, made, made_of_none, newlines_given, place_after};
+ghost use Rattle.lp_rebuild.specs.RelaySteps.{TakesItems, first_place, items_given, made, made_of_none};
+ghost use Rattle.lp_rebuild.specs.RelaySteps.{newlines_given, place_after};
 
 use crate::Numbering;
 use crate::batch::{Place, Progress, refuse, take};
