@@ -1,5 +1,6 @@
 #!/usr/bin/env python3
-"""Writes the tables of figures.tsv, callers.tsv and streams.tsv into README.md, each between its two marks.
+"""Writes the tables of figures.tsv, figures_2500MHz.tsv, callers.tsv and streams.tsv into README.md, each between its two
+marks.
 
     bench/table.py
 """
@@ -11,6 +12,8 @@ from figures import CALLERS, CALLS, STREAMS, Figure, read
 
 BEGIN = "<!-- The table of {}, as table.py writes it. -->"
 END = "<!-- The end of the table. -->"
+TABLES = {"figures.tsv": CALLS, "figures_2500MHz.tsv": CALLS, "callers.tsv": CALLERS, "streams.tsv": STREAMS}
+"""The files, and the names of the calls in each."""
 
 
 def cell(figure: Figure | None) -> str:
@@ -51,7 +54,7 @@ def with_table(text: str, name: str, lines: list[str]) -> str:
 def main() -> None:
     here = Path(__file__).parent
     text = (here / "README.md").read_text()
-    for name, names in (("figures.tsv", CALLS), ("callers.tsv", CALLERS), ("streams.tsv", STREAMS)):
+    for name, names in TABLES.items():
         text = with_table(text, name, table(*read(here / name), names))
     (here / "README.md").write_text(text)
 

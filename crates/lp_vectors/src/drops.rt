@@ -50,10 +50,10 @@ impl<'a> Source for Trickle<'a> {
     }
 }
 
-/// A sink that takes one byte at each call and keeps it, where it has room.
+/// A sink that takes one byte at each call and keeps it, up to 4,096 of them.
 #[derive(Drop)]
 pub struct Basin {
-    kept: ArrayVec<u8, 256>,
+    kept: ArrayVec<u8, 4096>,
     calls: usize,
     fails_at: usize,
     flushes: usize,
@@ -77,6 +77,11 @@ impl Basin {
     /// What was written so far.
     pub fn as_slice(&self) -> &[u8] {
         self.kept.as_slice()
+    }
+
+    /// How many calls there were of `write` and `flush`.
+    pub fn calls(&self) -> usize {
+        self.calls
     }
 
     /// How many flushes there were that did not fail.

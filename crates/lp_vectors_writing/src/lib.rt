@@ -8,6 +8,8 @@ mod built;
 #[cfg(test)]
 mod changed;
 #[cfg(test)]
+mod failed_relays;
+#[cfg(test)]
 mod failures;
 #[cfg(test)]
 mod long_relays;
@@ -17,6 +19,8 @@ mod numbered_relays;
 mod part_tables;
 #[cfg(test)]
 mod relays;
+#[cfg(test)]
+mod relays_cut_anywhere;
 #[cfg(test)]
 mod runs;
 #[cfg(test)]
