@@ -25,13 +25,14 @@ run() {
     fi
 }
 
-# wanted STATUS OUTPUT FAULTS [ARGUMENT..]
+# wanted STATUS OUTPUT FAULTS [ARGUMENT..], where the input is `text`.
+text='m a=1i,\n'
 wanted() {
     local status_wanted=$1 status
     printf '%s' "$2" >"$work/out_wanted"
     printf '%s' "$3" >"$work/err_wanted"
     shift 3
-    printf 'm a=1i,\n' >"$work/input"
+    printf "$text" >"$work/input"
     run "$@"
     if [ "$status" != "$status_wanted" ] || ! cmp -s "$work/out" "$work/out_wanted" || ! cmp -s "$work/err" "$work/err_wanted"; then
         echo "arguments: with the arguments ($*) the status of $crate is $status, where $status_wanted is wanted, and"
@@ -70,7 +71,7 @@ wanted_of_both "usage: lp_rebuild [--strict]$newline"
 
 crate=lp_relay
 program=$relay
-usage="usage: lp_relay [--strict] [--max-line BYTES] [--progress]
+usage="usage: lp_relay [--strict] [--lines] [--max-line BYTES] [--progress]
        lp_relay [--strict] --cut PARTS
        lp_relay --help$newline"
 wanted_of_both "$usage"
@@ -86,6 +87,13 @@ wanted 2 "" "$usage" --max-line
 wanted 0 "8${newline}8$newline" "" --cut 2
 wanted 2 "" "$usage" --cut
 wanted 2 "" "$usage" --max-line +7
+# A comment, a blank line, and a string of two lines come before the line with the fault.
+text='# c\n\nm s="a\nb"\nx\n'
+string="m s=\"a${newline}b\"$newline"
+missing="A generic parsing error occurred: TakeWhile1$newline"
+wanted 1 "$string" "line 5: $missing" --lines
+wanted 1 "$string" "item 2: $missing" --max-line 9
+text='m a=1i,\n'
 # `rt try` compiles the program anew for each list, so these are for a built one.
 if [ -n "$program" ]; then
     wanted 1 "" "$strict_fault" --progress --strict
@@ -120,6 +128,21 @@ if [ -n "$program" ]; then
     wanted 2 "" "$usage" --max-line 16777216 --strict --max-line 16777216
     wanted 2 "" "$usage" --max-line 7 --help
     wanted 2 "" "$usage" 7 --max-line
+    wanted 2 "" "$usage" --lines --lines
+    wanted 2 "" "$usage" --lines --strict --lines
+    wanted 2 "" "$usage" --lines=1
+    wanted 2 "" "$usage" --Lines
+    wanted 2 "" "$usage" --lines --help
+    wanted 2 "" "$usage" --lines --cut 2
+    wanted 2 "" "$usage" --cut 2 --strict
+    wanted 2 "" "$usage" --cut 2 --lines
+    text='# c\n\nm s="a\nb"\nx\n'
+    wanted 1 "$string" "line 5: $missing" --strict --lines
+    wanted 1 "$string" "line 5: $missing" --lines --strict
+    wanted 1 "$string" "line 5: $missing" --lines --progress --max-line 9
+    wanted 1 "" "line 3: the line is too long${newline}line 5: $missing" --max-line 8 --lines
+    wanted 1 "" "line 3: the line is too long${newline}line 5: $missing" --lines --max-line 8 --strict
+    text='m a=1i,\n'
 fi
 run --help
 if [ "$status" != 0 ] || [ -s "$work/err" ] || ! printf '%s' "$usage" | cmp -s - <(head -n 3 "$work/out"); then

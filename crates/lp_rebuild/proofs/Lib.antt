@@ -9,8 +9,10 @@ pub mod RebuildLemmas
 pub mod BatchLemmas
 pub mod PassLemmas
 pub mod ItemLemmas
+pub mod FaultLines
 pub mod RelayLemmas
 pub mod RelayPieces
 pub mod RelaysSoFar
 pub mod RelaysOfText
 pub mod RelayEnds
+pub mod NumberedEnds

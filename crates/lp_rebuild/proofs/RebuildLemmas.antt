@@ -11,6 +11,8 @@ use Rattle.influxdb_line_protocol.specs.format.Dialects.{Dialect}
 use Rattle.influxdb_line_protocol.specs.declared.error.Error.{Error}
 use Rattle.influxdb_line_protocol.specs.declared.error.Error.TheVariants as error
 use Rattle.influxdb_line_protocol.specs.declared.parsed.ParsedLine.{ParsedLine}
+use Rattle.lp_rebuild.specs.declared.batch.Place.{Place}
+use Rattle.lp_rebuild.specs.declared.batch.Place.TheVariants.{ByNumber}
 use Rattle.lp_rebuild.specs.declared.batch.Progress.{Progress}
 use Rattle.lp_rebuild.specs.declared.batch.Rebuilt.{Rebuilt}
 use Rattle.influxdb_line_protocol.specs.code.Outcomes.{side, IsFault}
@@ -28,7 +30,7 @@ use Rattle.influxdb_line_protocol.specs.code.ParseSteps.{IsBlankPiece, GaveItem}
 use Rattle.influxdb_line_protocol.specs.format.Items.{answers_of, answers_of_piece}
 use Rattle.lp_rebuild.specs.Rebuilding.{RebuildsIn, batch_of, carried_point, faults_from, fault_of, carried_of}
 use Rattle.lp_rebuild.specs.Rebuilding.{refused_of, is_carried_answer, refusal_text}
-use Rattle.lp_rebuild.specs.RebuildSteps.{Refuses, Takes}
+use Rattle.lp_rebuild.specs.RebuildSteps.{Refuses, Takes, fault_line_at}
 
 -- an answer that is not carried was refused with its text
 pub refused_answer : (old : Progress) (answer : Result Line Fault) (new : Progress)
@@ -137,14 +139,18 @@ pub add_elsewhere : (b : Bool) (m n : ℕ) → m ≡ n → cond b m (m + 1) ≡ 
 add_elsewhere true m n e = omega arith
 add_elsewhere false m n e = omega arith
 
--- one answer more was taken
+-- one answer more was taken, whose fault line names its number
 pub Took-more : (answers : List (Result Line Fault)) (answer : Result Line Fault) (old new : Progress)
-    → Took answers old → Takes old answer new → Took (answers ++ answer ∷ []) new
-Took-more answers answer old new h t =
+    → old.place ≡ ByNumber → Took answers old → Takes old answer new → Took (answers ++ answer ∷ []) new
+Took-more answers answer old new numbered h t =
+    let number = old.carried + old.refused + 1 in
     record {
       batch = t.batch ∙ ap (λ l. l ++ built_all (carried_point answer)) h.batch ∙ sym (batch_push answers answer);
       faults =
-          t.faults ∙ ap (λ (l : List ℕ). l ++ fault_of (old.carried + old.refused + 1) answer) h.faults
+          t.faults
+          ∙ ap (λ (p : Place). string_bytes old.faults
+          ++ cond (is_carried_answer answer) [] (fault_line_at p number (refusal_text answer))) numbered
+          ∙ ap (λ (l : List ℕ). l ++ fault_of number answer) h.faults
           ∙ ap (λ (n : ℕ). faults_from 1 answers ++ fault_of n answer) {y = 1 + length answers}
           (omega (arith, h.carried, h.refused, counts_add_up answers))
           ∙ sym (faults_push 1 answers answer);
@@ -192,16 +198,16 @@ front_answers dialect front skipped piece blank some =
 -- an item was taken, and the blank pieces before it were passed
 pub SoFar-item : (dialect : Dialect) (text : List ℕ) (before : Left) (item : Result ParsedLine Error)
     (others : List (List ℕ)) (old new : Progress) → before.dialect ≡ dialect
-    → ((left : List (List ℕ)) → PiecesLeft before left → SoFar dialect text left old) → GaveItem before item others
+    → old.place ≡ ByNumber → ((left : List (List ℕ)) → PiecesLeft before left → SoFar dialect text left old) → GaveItem before item others
     → ((answer : Result Line Fault) → Answers item answer → Takes old answer new) → SoFar dialect text others new
-SoFar-item dialect text before item others old new same done gave takes =
+SoFar-item dialect text before item others old new same numbered done gave takes =
     let h = done (gave.skipped ++ gave.piece ∷ others) gave.left in
     let given = answer dialect (trimmed gave.piece) in
     record {
       front = h.front ++ (gave.skipped ++ gave.piece ∷ []);
       pieces = subst (Pieces dialect text) (regrouped h.front gave.skipped gave.piece others) h.pieces;
       took = subst (λ l. Took l new) (sym (front_answers dialect h.front gave.skipped gave.piece gave.blank gave.some))
-          (Took-more (answers_of dialect h.front) given old new h.took
+          (Took-more (answers_of dialect h.front) given old new numbered h.took
           (takes given (subst (λ d. Answers item (answer d (trimmed gave.piece))) same gave.item_is.answers)));
     }
 

@@ -1,5 +1,5 @@
 -- The steps of a relay, one after another.
-use Rattle.std.proofs.Common.{◌≡◌, ℕ, ◌+◌, List, [], ◌∷◌, ◌++◌, length, map, string_bytes, codes}
+use Rattle.std.proofs.Common.{◌≡◌, ℕ, List, [], ◌∷◌, ◌++◌, map, string_bytes, codes}
 use Rattle.std.proofs.Common.{Option, Some, None, Result, Ok, Err, refl, sym, ap, subst, ◌∙◌, arith, append-nil}
 use Rattle.std.proofs.Common.{OnErr}
 use Rattle.std.specs.Str.{IsUtf8}
@@ -19,15 +19,14 @@ use Rattle.influxdb_line_protocol.specs.code.Parsed.{Answers}
 use Rattle.influxdb_line_protocol.specs.code.ParseSteps.{GivesItem, HadBlankPieces, IsBlankPiece}
 use Rattle.influxdb_line_protocol.specs.laws.Laws.{PiecesExist, PiecesAreUnique}
 use Rattle.lp_rebuild.specs.declared.batch.Progress.{Progress}
-use Rattle.lp_rebuild.specs.Rebuilding.{carried_point, fault_of, is_carried_answer}
+use Rattle.lp_rebuild.specs.Rebuilding.{carried_point, is_carried_answer}
 use Rattle.lp_rebuild.specs.RebuildSteps.{Refuses, Takes}
 use Rattle.lp_rebuild.specs.Running.{AppendsFront}
-use Rattle.lp_rebuild.specs.Relaying.{Item, answered, not_utf8, too_long, items_of_bytes, items_batch, item_faults, carried_items}
-use Rattle.lp_rebuild.specs.Relaying.{refused_items}
-use Rattle.lp_rebuild.specs.RelaySteps.{Made, made, Passes, RelaysItems, RelaysPart, TakesItems}
+use Rattle.lp_rebuild.specs.Relaying.{Item, answered, not_utf8, too_long, items_of_bytes, items_batch}
+use Rattle.lp_rebuild.specs.RelaySteps.{Made, made, Passes, RelaysItems, RelaysPart, TakesItems, faults_next}
 use Rattle.lp_rebuild.proofs.RebuildLemmas.{add_where, add_elsewhere, blank_answers, piece_answers}
 use Rattle.lp_rebuild.proofs.PassLemmas.{passes_none, passes_more, passes_front}
-use Rattle.lp_rebuild.proofs.ItemLemmas.{batch_append, faults_append, carried_append, refused_append, items_add_up}
+use Rattle.lp_rebuild.proofs.ItemLemmas.{batch_append, carried_append, refused_append}
 use Rattle.lp_rebuild.proofs.ItemLemmas.{items_of_text, item_of_no_text}
 
 -- nothing was taken
@@ -46,8 +45,7 @@ takes_answer : (old : Progress) (answer : Result Line Fault) (new : Progress) �
 takes_answer old answer new t =
     record {
       batch = t.batch ∙ ap (λ l. old.batch.items ++ built_all l) (sym (append-nil (carried_point answer)));
-      faults = t.faults
-          ∙ ap (λ l. string_bytes old.faults ++ l) (sym (append-nil (fault_of (old.carried + old.refused + 1) answer)));
+      faults = t.faults ∙ ap (λ l. string_bytes old.faults ++ l) (sym (append-nil _));
       carried = omega (arith, t.carried ∙ add_where (is_carried_answer answer) old.carried old.carried refl);
       refused = omega (arith, t.refused ∙ add_elsewhere (is_carried_answer answer) old.refused old.refused refl);
     }
@@ -137,7 +135,8 @@ takes_bad_bytes dialect piece old new bad r =
     subst (λ l. TakesItems (made old) l (made new)) (sym (item_of_no_text dialect piece bad)) (takes_no_text old new r)
 
 -- what was taken is held
-pub relays_taken : (old new : Made) (a e : Option (List ℕ)) (xs : List Item) → TakesItems old xs new → RelaysItems old new a a e e xs
+pub relays_taken : (old new : Made) (a e : Option (List ℕ)) (xs : List Item) → TakesItems old xs new
+    → RelaysItems old new a a e e xs (faults_next old xs)
 relays_taken old new a e xs t =
     record {
       batch = ([], Appends-nil a, t.batch);
@@ -146,51 +145,64 @@ relays_taken old new a e xs t =
       refused = t.refused;
     }
 
--- the faults of items and others, by the counts between
-faults_between : (old mid new : Made) (xs ys : List Item) → mid.carried ≡ old.carried + carried_items xs
-    → mid.refused ≡ old.refused + refused_items xs
-    → item_faults (old.carried + old.refused + 1) xs ++ item_faults (mid.carried + mid.refused + 1) ys
-    ≡ item_faults (old.carried + old.refused + 1) (xs ++ ys)
-faults_between old mid new xs ys c r =
-    let number = old.carried + old.refused + 1 in
-    ap (λ (n : ℕ). item_faults number xs ++ item_faults n ys) {y = number + length xs} (omega (arith, c, r, items_add_up xs))
-    ∙ sym (faults_append number xs ys)
-
 -- one step, and then another
-pub relays_more : (old mid new : Made) (a b c e f g : Option (List ℕ)) (xs ys : List Item)
-    → RelaysItems old mid a b e f xs → RelaysItems mid new b c f g ys → RelaysItems old new a c e g (xs ++ ys)
-relays_more old mid new a b c e f g xs ys p q =
+pub relays_more : (old mid new : Made) (a b c e f g : Option (List ℕ)) (xs ys : List Item) (fs gs : List ℕ)
+    → RelaysItems old mid a b e f xs fs → RelaysItems mid new b c f g ys gs → RelaysItems old new a c e g (xs ++ ys) (fs ++ gs)
+relays_more old mid new a b c e f g xs ys fs gs p q =
     record {
       batch = subst (λ l. Passes a c old.batch l new.batch) (sym (batch_append xs ys))
           (passes_more a b c old.batch _ mid.batch _ new.batch p.batch q.batch);
-      faults = subst (λ l. Passes e g old.faults l new.faults) (faults_between old mid new xs ys p.carried p.refused)
-          (passes_more e f g old.faults _ mid.faults _ new.faults p.faults q.faults);
+      faults = passes_more e f g old.faults fs mid.faults gs new.faults p.faults q.faults;
       carried = omega (arith, p.carried, q.carried, carried_append xs ys);
       refused = omega (arith, p.refused, q.refused, refused_append xs ys);
     }
 
 -- the same, where the other wrote a beginning
-pub part_more : (old mid : Made) (a b c e f g : Option (List ℕ)) (xs ys : List Item)
-    → RelaysItems old mid a b e f xs → RelaysPart mid b c f g ys → RelaysPart old a c e g (xs ++ ys)
-part_more old mid a b c e f g xs ys p q =
+pub part_more : (old mid : Made) (a b c e f g : Option (List ℕ)) (xs ys : List Item) (fs gs : List ℕ)
+    → RelaysItems old mid a b e f xs fs → RelaysPart mid b c f g ys gs → RelaysPart old a c e g (xs ++ ys) (fs ++ gs)
+part_more old mid a b c e f g xs ys fs gs p q =
     record {
       batch_left = q.batch_left;
       faults_left = q.faults_left;
       batch = subst (λ l. Passes a c old.batch l q.batch_left) (sym (batch_append xs ys))
           (passes_more a b c old.batch _ mid.batch _ q.batch_left p.batch q.batch);
-      faults = subst (λ l. Passes e g old.faults l q.faults_left) (faults_between old mid mid xs ys p.carried p.refused)
-          (passes_more e f g old.faults _ mid.faults _ q.faults_left p.faults q.faults);
+      faults = passes_more e f g old.faults fs mid.faults gs q.faults_left p.faults q.faults;
     }
 
+-- the same items and the same fault lines
+pub relays_same : (old new : Made) (a c e g : Option (List ℕ)) (xs ys : List Item) (fs gs : List ℕ) → xs ≡ ys → fs ≡ gs
+    → RelaysItems old new a c e g xs fs → RelaysItems old new a c e g ys gs
+relays_same old new a c e g xs ys fs gs items lines p =
+    subst (λ l. RelaysItems old new a c e g l gs) items (subst (λ l. RelaysItems old new a c e g xs l) lines p)
+
+-- the same, where a beginning was written
+pub part_same : (old : Made) (a c e g : Option (List ℕ)) (xs ys : List Item) (fs gs : List ℕ) → xs ≡ ys → fs ≡ gs
+    → RelaysPart old a c e g xs fs → RelaysPart old a c e g ys gs
+part_same old a c e g xs ys fs gs items lines p =
+    subst (λ l. RelaysPart old a c e g l gs) items (subst (λ l. RelaysPart old a c e g xs l) lines p)
+
+-- one step, and then what is held was written
+pub relays_then : (old mid new : Made) (a b c e f g : Option (List ℕ)) (xs : List Item) (fs : List ℕ)
+    → RelaysItems old mid a b e f xs fs → RelaysItems mid new b c f g [] [] → RelaysItems old new a c e g xs fs
+relays_then old mid new a b c e f g xs fs p q =
+    relays_same old new a c e g (xs ++ []) xs (fs ++ []) fs (append-nil xs) (append-nil fs)
+    (relays_more old mid new a b c e f g xs [] fs [] p q)
+
+-- the same, where a beginning of it was written
+pub part_then : (old mid : Made) (a b c e f g : Option (List ℕ)) (xs : List Item) (fs : List ℕ)
+    → RelaysItems old mid a b e f xs fs → RelaysPart mid b c f g [] [] → RelaysPart old a c e g xs fs
+part_then old mid a b c e f g xs fs p q =
+    part_same old a c e g (xs ++ []) xs (fs ++ []) fs (append-nil xs) (append-nil fs) (part_more old mid a b c e f g xs [] fs [] p q)
+
 -- what is held is a beginning too
-pub part_so_far : (old new : Made) (a b e f : Option (List ℕ)) (xs : List Item) → RelaysItems old new a b e f xs
-    → RelaysPart old a b e f xs
-part_so_far old new a b e f xs p =
+pub part_so_far : (old new : Made) (a b e f : Option (List ℕ)) (xs : List Item) (fs : List ℕ) → RelaysItems old new a b e f xs fs
+    → RelaysPart old a b e f xs fs
+part_so_far old new a b e f xs fs p =
     record { batch_left = new.batch; faults_left = new.faults; batch = p.batch; faults = p.faults }
 
 -- a front of the batch was written
 pub part_of_batch : (old : Progress) (a b e : Option (List ℕ)) (bytes : List ℕ) → bytes ≡ old.batch.items
-    → AppendsFront a b bytes → RelaysPart (made old) a b e e []
+    → AppendsFront a b bytes → RelaysPart (made old) a b e e [] []
 part_of_batch old a b e bytes is part =
     let p = passes_front a b old.batch.items (subst (AppendsFront a b) is part) in
     record {
@@ -202,7 +214,7 @@ part_of_batch old a b e bytes is part =
 
 -- all of the batch was written, and a front of the faults
 pub part_of_faults : (old : Progress) (a b e f : Option (List ℕ)) (bytes faults : List ℕ) → bytes ≡ old.batch.items
-    → faults ≡ string_bytes old.faults → Appends a b bytes → AppendsFront e f faults → RelaysPart (made old) a b e f []
+    → faults ≡ string_bytes old.faults → Appends a b bytes → AppendsFront e f faults → RelaysPart (made old) a b e f [] []
 part_of_faults old a b e f bytes faults is faults_are whole part =
     let p = passes_front e f (string_bytes old.faults) (subst (AppendsFront e f) faults_are part) in
     record {
@@ -213,33 +225,31 @@ part_of_faults old a b e f bytes faults is faults_are whole part =
     }
 
 -- nothing was written, whatever is made then
-pub part_of_none : (old : Made) (a e : Option (List ℕ)) (xs : List Item) → RelaysPart old a a e e xs
-part_of_none old a e xs =
+pub part_of_none : (old : Made) (a e : Option (List ℕ)) (xs : List Item) (fs : List ℕ) → RelaysPart old a a e e xs fs
+part_of_none old a e xs fs =
     record {
       batch_left = old.batch ++ items_batch xs;
-      faults_left = old.faults ++ item_faults (old.carried + old.refused + 1) xs;
+      faults_left = old.faults ++ fs;
       batch = ([], Appends-nil a, refl);
       faults = ([], Appends-nil e, refl);
     }
 
 -- items were taken, and then what is held was written
-pub relays_poured : (old now next poured : Made) (a b c e f g : Option (List ℕ)) (xs ys : List Item)
-    → RelaysItems old now a b e f xs → TakesItems now ys next → RelaysItems next poured b c f g []
-    → RelaysItems old poured a c e g (xs ++ ys)
-relays_poured old now next poured a b c e f g xs ys p t q =
-    let both = relays_more old now next a b b e f f xs ys p (relays_taken now next b f ys t) in
-    subst (λ l. RelaysItems old poured a c e g l) (append-nil (xs ++ ys)) (relays_more old next poured a b c e f g (xs ++ ys) [] both q)
+pub relays_poured : (old now next poured : Made) (a b c e f g : Option (List ℕ)) (xs ys : List Item) (fs : List ℕ)
+    → RelaysItems old now a b e f xs fs → TakesItems now ys next → RelaysItems next poured b c f g [] []
+    → RelaysItems old poured a c e g (xs ++ ys) (fs ++ faults_next now ys)
+relays_poured old now next poured a b c e f g xs ys fs p t q =
+    relays_then old next poured a b c e f g _ _ (relays_more old now next a b b e f f xs ys fs _ p (relays_taken now next b f ys t)) q
 
 -- the same, where a beginning of it was written
-pub part_poured : (old now next : Made) (a b c e f g : Option (List ℕ)) (xs ys : List Item)
-    → RelaysItems old now a b e f xs → TakesItems now ys next → RelaysPart next b c f g []
-    → RelaysPart old a c e g (xs ++ ys)
-part_poured old now next a b c e f g xs ys p t q =
-    let both = relays_more old now next a b b e f f xs ys p (relays_taken now next b f ys t) in
-    subst (λ l. RelaysPart old a c e g l) (append-nil (xs ++ ys)) (part_more old next a b c e f g (xs ++ ys) [] both q)
+pub part_poured : (old now next : Made) (a b c e f g : Option (List ℕ)) (xs ys : List Item) (fs : List ℕ)
+    → RelaysItems old now a b e f xs fs → TakesItems now ys next → RelaysPart next b c f g [] []
+    → RelaysPart old a c e g (xs ++ ys) (fs ++ faults_next now ys)
+part_poured old now next a b c e f g xs ys fs p t q =
+    part_then old next a b c e f g _ _ (relays_more old now next a b b e f f xs ys fs _ p (relays_taken now next b f ys t)) q
 
 -- nothing was made so far
-pub relays_none : (old : Made) (a e : Option (List ℕ)) → RelaysItems old old a a e e []
+pub relays_none : (old : Made) (a e : Option (List ℕ)) → RelaysItems old old a a e e [] []
 relays_none old a e = relays_taken old old a e [] (takes_nothing old)
 
 -- a fact at a fault

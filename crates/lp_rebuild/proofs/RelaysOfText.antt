@@ -22,6 +22,7 @@ use Rattle.lp_rebuild.specs.Running.{AppendsFront}
 use Rattle.lp_rebuild.specs.Relaying.{Item, answered, HasByteItems, is_too_long, items_of, item_point, items_batch, item_faults}
 use Rattle.lp_rebuild.specs.Relaying.{carried_items, refused_items}
 use Rattle.lp_rebuild.specs.Relays.{IfRebuilt, RelaysAll, RelaysFronts, RelaysRebuilt, RelaysRebuiltFronts}
+use Rattle.lp_rebuild.specs.NumberedRelays.{RelaysAllLines, RelaysBatch, RelaysFrontLines}
 use Rattle.lp_rebuild.proofs.RebuildLemmas.{carried_cons, refused_cons}
 use Rattle.lp_rebuild.proofs.ItemLemmas.{carried_first, refused_first, items_of_fitting, items_of_text}
 
@@ -134,3 +135,34 @@ fronts_rebuilt law unique dialect limit text out out_after err err_after some =
       subst (AppendsFront err err_after)
           (ap (item_faults 1) same ∙ faults_of_answers 1 h.answers ∙ sym h.faults) some.faults,
     ))
+
+-- the items of pieces are those of the bytes
+abbrev pieces_have : (dialect : Dialect) (limit : Option ℕ) (bytes : List ℕ) (pieces : List (List ℕ)) → Pieces dialect bytes pieces
+    → HasByteItems dialect limit bytes (items_of dialect limit pieces)
+pieces_have dialect limit bytes pieces are = record { pieces = pieces; are = are; items_are = refl }
+
+-- where fault lines name lines, the batch and the counts are what the rebuild gives
+pub lines_rebuilt : Utf8ByPieces → PiecesAreUnique → (dialect : Dialect) (limit : Option ℕ) (text : List ℕ) (counts : Relayed)
+    (out out_after err err_after : Option (List ℕ)) → RelaysAllLines dialect limit text counts out out_after err err_after
+    → IfRebuilt dialect limit text (λ r. RelaysBatch r counts out out_after)
+lines_rebuilt law unique dialect limit text counts out out_after err err_after all =
+    if_rebuilt unique dialect limit text all.pieces (λ r. RelaysBatch r counts out out_after) all.are
+    (λ fit u r h.
+    let same = items_of_rebuilt law unique dialect limit text _ (pieces_have dialect limit text all.pieces all.are) fit u r h in
+    record {
+      batch = subst (Appends out out_after)
+          (ap items_batch same ∙ ap built_all (points_of_answers h.answers) ∙ sym h.batch) all.batch;
+      carried = all.carried ∙ ap carried_items same ∙ carried_of_answers h.answers ∙ sym h.carried;
+      refused = all.refused ∙ ap refused_items same ∙ refused_of_answers h.answers ∙ sym h.refused;
+    })
+
+-- and a beginning of the batch is a beginning of that
+pub front_lines_rebuilt : Utf8ByPieces → PiecesAreUnique → (dialect : Dialect) (limit : Option ℕ) (text : List ℕ)
+    (out out_after err err_after : Option (List ℕ)) → RelaysFrontLines dialect limit text out out_after err err_after
+    → IfRebuilt dialect limit text (λ r. AppendsFront out out_after r.batch.items)
+front_lines_rebuilt law unique dialect limit text out out_after err err_after some =
+    if_rebuilt unique dialect limit text some.pieces (λ r. AppendsFront out out_after r.batch.items) some.are
+    (λ fit u r h.
+    let same = items_of_rebuilt law unique dialect limit text _ (pieces_have dialect limit text some.pieces some.are) fit u r h in
+    subst (AppendsFront out out_after)
+    (ap items_batch same ∙ ap built_all (points_of_answers h.answers) ∙ sym h.batch) some.batch)

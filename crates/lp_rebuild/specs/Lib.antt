@@ -1,6 +1,8 @@
 pub mod Cuts
 pub mod CutSteps
 pub mod Devices
+pub mod LineFaults
+pub mod NumberedRelays
 pub mod Rebuilding
 pub mod RebuildSteps
 pub mod Relaying

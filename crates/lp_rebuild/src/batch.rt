@@ -29,13 +29,23 @@ pub struct Rebuilt {
     pub refused: usize,
 }
 
-// What was rebuilt so far.
+// What the fault line of the next item names.
+#[derive(Clone, Copy)]
+pub(crate) enum Place {
+    // The number of the item.
+    ByNumber,
+    // The line of the input on which the piece of the item begins.
+    OnLine(usize),
+}
+
+// What was rebuilt so far, and what the fault line of the next item names.
 #[derive(Drop)]
 pub(crate) struct Progress {
     pub(crate) batch: Vec<u8>,
     pub(crate) faults: String,
     pub(crate) carried: usize,
     pub(crate) refused: usize,
+    pub(crate) place: Place,
 }
 
 // What is wrong with a line that has a name that is not admitted.
@@ -56,10 +66,16 @@ fn carry(batch: Vec<u8>, line: &ParsedLine<'_>) -> Result<(Vec<u8>, bool), Alloc
 // Writes a fault line for the next item.
 pub(crate) fn refuse<D: Display + Drop>(so_far: &mut Progress, text: D) -> Result<(), AllocError>
     requires { so_far.old.carried + so_far.old.refused < usize.MAX }
-    ensures { OnOk result (IfSome (D.output text) (λ bs. Refuses so_far.old bs so_far.new)) }
+    ensures refused { OnOk result (IfSome (D.output text) (λ bs. Refuses so_far.old bs so_far.new)) }
+    ensures place { so_far.new.place ≡ so_far.old.place }
 {
-    let number = so_far.carried + so_far.refused + 1;
-    writeln!(so_far.faults, "item {number}: {text}")?;
+    match so_far.place {
+        Place::ByNumber => {
+            let number = so_far.carried + so_far.refused + 1;
+            writeln!(so_far.faults, "item {number}: {text}")?;
+        }
+        Place::OnLine(line) => writeln!(so_far.faults, "line {line}: {text}")?,
+    }
     so_far.refused += 1;
     Ok(())
 }
@@ -71,6 +87,7 @@ fn take_line(alloc: Global, so_far: &mut Progress, line: &ParsedLine<'_>) -> Res
     ensures taken { OnOk result (Takes so_far.old (Ok (line_read line.now)) so_far.new) }
     ensures counted { OnOk result
         (so_far.new.carried + so_far.new.refused ≡ so_far.old.carried + so_far.old.refused + 1) }
+    ensures place { so_far.new.place ≡ so_far.old.place }
 {
     let batch = mem::replace(&mut so_far.batch, Vec::new(alloc));
     let (batch, is_admitted) = carry(batch, line)?;
@@ -91,6 +108,7 @@ fn take_fault(so_far: &mut Progress, error: &Error) -> Result<(), AllocError>
         ((answer : Result Line Fault) → Answers (Err error.now) answer → Takes so_far.old answer so_far.new) }
     ensures counted { OnOk result
         (so_far.new.carried + so_far.new.refused ≡ so_far.old.carried + so_far.old.refused + 1) }
+    ensures place { so_far.new.place ≡ so_far.old.place }
 {
     match error {
         Error::OutOfMemory => Err(AllocError),
@@ -112,6 +130,7 @@ pub(crate) fn take(
         ((wanted : Result Line Fault) → Answers (item_in line.now answer.now) wanted → Takes so_far.old wanted so_far.new) }
     ensures counted { OnOk result
         (so_far.new.carried + so_far.new.refused ≡ so_far.old.carried + so_far.old.refused + 1) }
+    ensures place { so_far.new.place ≡ so_far.old.place }
 {
     match answer {
         Ok(()) => take_line(alloc, so_far, line),
@@ -161,6 +180,7 @@ pub fn rebuild_in(alloc: Global, dialect: Dialect, input: &str) -> Result<Rebuil
         faults: String::new(alloc),
         carried: 0,
         refused: 0,
+        place: Place::ByNumber,
     };
     let mut lines = parse_lines_in(alloc, dialect, input);
     let mut line = ParsedLine::new(alloc);

@@ -12,10 +12,11 @@ mod failures;
 mod flushes;
 mod program;
 mod relaying;
+mod taking;
 
 pub use batch::{Rebuilt, rebuild, rebuild_in};
 pub use cuts::part_ends;
 pub use devices::{DeviceFault, Kept, Reading, Sink, Source, Writing};
 pub use failures::Failures;
 pub use program::{RunFault, USAGE, dialect_of, read_all, run, run_in, status};
-pub use relaying::{Relayed, relay, relay_in, relay_within};
+pub use relaying::{Numbering, Relayed, relay, relay_in, relay_numbered, relay_within};

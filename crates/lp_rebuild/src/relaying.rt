@@ -1,23 +1,31 @@
 //! From a reader to two writers, line by line as they come.
-ghost use Rattle.std.specs.Prelude.{◌≡◌, ◌+◌, ◌<◌, ◌≤◌, ◌++◌, List, [], ℕ, map, string_bytes, true, IfOk, OnOk, OnErr};
+ghost use Rattle.std.specs.Prelude.{◌≡◌, ◌+◌, ◌≤◌, ◌++◌, List, [], ℕ, string_bytes, true, OnOk, OnErr};
 ghost use Rattle.influxdb_line_protocol.specs.code.Bounded.{Holds, KeepsRules};
 ghost use Rattle.influxdb_line_protocol.specs.code.Rules.{rules_of};
 ghost use Rattle.influxdb_line_protocol.specs.format.Pieces.{IsLastPiece};
-ghost use Rattle.influxdb_line_protocol.specs.format.Items.{answers_of_piece};
-ghost use Rattle.lp_rebuild.specs.Relaying.{answered, items_of_bytes, items_of_piece, limit_of};
+ghost use Rattle.lp_rebuild.specs.Relaying.{items_of_piece, limit_of};
 ghost use Rattle.lp_rebuild.specs.RelaySteps.{CountsWriteFault, RelaysAllPieces, RelaysItems, RelaysPart, RelaysSome};
-ghost use Rattle.lp_rebuild.specs.RelaySteps.{TakesItems, items_given, made, made_of_none};
+ghost use Rattle.lp_rebuild.specs.RelaySteps.{faults_next, made};
+ghost use Rattle.lp_rebuild.specs.NumberedRelays.{RelaysNumbered};
 ghost use Rattle.lp_rebuild.specs.Relays.{Relays, RelaysIn, RelaysWithin};
 ghost use Rattle.lp_rebuild.specs.Running.{reader_told, writer_told};
 
-use crate::batch::{Progress, refuse, take};
+use crate::batch::Progress;
 use crate::program::{BLOCK, read_block, write_bytes};
+use crate::taking::{nothing_made, take_piece};
 use crate::{RunFault, Sink, Source};
-use influxdb_line_protocol::{
-    BoundedLineStream, Dialect, ParsedLine, TooLong, laws, parse_lines_in,
-};
-use std::alloc::{AllocError, Global};
-use std::str;
+use influxdb_line_protocol::{BoundedLineStream, Dialect, laws};
+use std::alloc::Global;
+
+/// What the fault lines of a relay name.
+#[derive(Clone, Copy, Debug, PartialEq, Eq)]
+pub enum Numbering {
+    /// The number of the item, as in `item 5: ..`. Items are counted from 1.
+    Items,
+    /// The line of the input on which the piece of the item begins, as in `line 17: ..`. Lines are counted from 1, one after
+    /// each newline, also after those within strings and within pieces that are too long or not UTF-8.
+    Lines,
+}
 
 /// How many items a relay wrote again, and how many it refused.
 #[derive(Clone, Copy, Debug, PartialEq, Eq)]
@@ -28,101 +36,15 @@ pub struct Relayed {
     pub refused: usize,
 }
 
-// What is wrong with a piece that is no text.
-const NOT_UTF8: &str = "the line is not UTF-8";
-
-// What is wrong with a piece that is too long.
-const TOO_LONG: &str = "the line is too long";
-
-// Before the first item. It takes no memory.
-fn nothing_made(alloc: Global) -> Progress
-    ensures { made result ≡ made_of_none }
-{
-    Progress {
-        batch: Vec::new(alloc),
-        faults: String::new(alloc),
-        carried: 0,
-        refused: 0,
-    }
-}
-
-// Takes the text of a piece: its line is written again or refused, unless it is blank.
-fn take_text(
-    alloc: Global,
-    dialect: Dialect,
-    so_far: &mut Progress,
-    text: &str,
-) -> Result<(), AllocError>
-    requires room { so_far.old.carried + so_far.old.refused < usize.MAX }
-    requires piece { IsLastPiece (rules_of dialect) text.now }
-    ensures taken { OnOk result
-        (TakesItems (made so_far.old) (map answered (answers_of_piece (rules_of dialect) text.now)) (made so_far.new)) }
-    ensures counted { OnOk result
-        (so_far.new.carried + so_far.new.refused ≤ so_far.old.carried + so_far.old.refused + 1) }
-{
-    laws::items_are_answers();
-    laws::pieces_join();
-    let mut line = ParsedLine::new(alloc);
-    let mut lines = parse_lines_in(alloc, dialect, text);
-    match lines.next_into(&mut line) {
-        Some(answer) => {
-            let answer = answer;
-            take(alloc, so_far, &answer, &line)
-        }
-        None => Ok(()),
-    }
-}
-
-// Takes the bytes of a piece: their text, or where they are not UTF-8 a fault.
-fn take_bytes(
-    alloc: Global,
-    dialect: Dialect,
-    so_far: &mut Progress,
-    piece: &[u8],
-) -> Result<(), AllocError>
-    requires room { so_far.old.carried + so_far.old.refused < usize.MAX }
-    requires piece { IsLastPiece (rules_of dialect) piece.now }
-    ensures taken { OnOk result
-        (TakesItems (made so_far.old) (items_of_bytes (rules_of dialect) piece.now) (made so_far.new)) }
-    ensures counted { OnOk result
-        (so_far.new.carried + so_far.new.refused ≤ so_far.old.carried + so_far.old.refused + 1) }
-{
-    match str::from_utf8(piece) {
-        Ok(text) => take_text(alloc, dialect, so_far, text),
-        Err(_) => refuse(so_far, NOT_UTF8),
-    }
-}
-
-// Takes a piece: its bytes, or where it is too long a fault. It is refused where its number would not fit.
-fn take_piece(
-    alloc: Global,
-    dialect: Dialect,
-    so_far: &mut Progress,
-    piece: Result<&[u8], TooLong>,
-) -> Result<(), AllocError>
-    requires fits { so_far.old.carried + so_far.old.refused ≤ usize.MAX }
-    requires piece { IfOk piece (λ bytes. IsLastPiece (rules_of dialect) bytes.now) }
-    ensures taken { OnOk result
-        (TakesItems (made so_far.old) (items_given (rules_of dialect) piece.entry) (made so_far.new)) }
-    ensures fits { OnOk result (so_far.new.carried + so_far.new.refused ≤ usize.MAX) }
-{
-    if so_far.carried + so_far.refused == usize::MAX {
-        return Err(AllocError);
-    }
-    match piece {
-        Ok(bytes) => take_bytes(alloc, dialect, so_far, bytes),
-        Err(_) => refuse(so_far, TOO_LONG),
-    }
-}
-
 // Writes all that is held.
 fn pour<W: Sink, E: Sink>(so_far: &mut Progress, out: &mut W, err: &mut E) -> Result<(), RunFault>
+    ensures place { so_far.new.place ≡ so_far.old.place }
     ensures ok { OnOk result (RelaysItems (made so_far.old) (made so_far.new)
-        (W.bytes out.old) (W.bytes out.new) (E.bytes err.old) (E.bytes err.new) []) }
+        (W.bytes out.old) (W.bytes out.new) (E.bytes err.old) (E.bytes err.new) [] []) }
     ensures none { OnOk result
         ((so_far.new.batch.items ≡ []) × (string_bytes so_far.new.faults ≡ [])) }
     ensures part { OnErr result (RelaysPart (made so_far.old)
-        (W.bytes out.old) (W.bytes out.new) (E.bytes err.old) (E.bytes err.new) []) }
+        (W.bytes out.old) (W.bytes out.new) (E.bytes err.old) (E.bytes err.new) [] []) }
     ensures counts { CountsWriteFault result
         (W.failures out.old) (W.failures out.new) (E.failures err.old) (E.failures err.new) }
 {
@@ -143,10 +65,11 @@ fn pour_full<W: Sink, E: Sink>(
     out: &mut W,
     err: &mut E,
 ) -> Result<(), RunFault>
+    ensures place { so_far.new.place ≡ so_far.old.place }
     ensures ok { OnOk result (RelaysItems (made so_far.old) (made so_far.new)
-        (W.bytes out.old) (W.bytes out.new) (E.bytes err.old) (E.bytes err.new) []) }
+        (W.bytes out.old) (W.bytes out.new) (E.bytes err.old) (E.bytes err.new) [] []) }
     ensures part { OnErr result (RelaysPart (made so_far.old)
-        (W.bytes out.old) (W.bytes out.new) (E.bytes err.old) (E.bytes err.new) []) }
+        (W.bytes out.old) (W.bytes out.new) (E.bytes err.old) (E.bytes err.new) [] []) }
     ensures counts { CountsWriteFault result
         (W.failures out.old) (W.failures out.new) (E.failures err.old) (E.failures err.new) }
 {
@@ -162,12 +85,13 @@ fn pour_and_flush<W: Sink, E: Sink>(
     out: &mut W,
     err: &mut E,
 ) -> Result<(), RunFault>
+    ensures place { so_far.new.place ≡ so_far.old.place }
     ensures ok { OnOk result (RelaysItems (made so_far.old) (made so_far.new)
-        (W.bytes out.old) (W.bytes out.new) (E.bytes err.old) (E.bytes err.new) []) }
+        (W.bytes out.old) (W.bytes out.new) (E.bytes err.old) (E.bytes err.new) [] []) }
     ensures none { OnOk result
         ((so_far.new.batch.items ≡ []) × (string_bytes so_far.new.faults ≡ [])) }
     ensures part { OnErr result (RelaysPart (made so_far.old)
-        (W.bytes out.old) (W.bytes out.new) (E.bytes err.old) (E.bytes err.new) []) }
+        (W.bytes out.old) (W.bytes out.new) (E.bytes err.old) (E.bytes err.new) [] []) }
     ensures counts { CountsWriteFault result
         (W.failures out.old) (W.failures out.new) (E.failures err.old) (E.failures err.new) }
     ensures flushed { OnOk result ((W.is_flushed out.new ≡ true) × (E.is_flushed err.new ≡ true)) }
@@ -265,13 +189,15 @@ fn finish<W: Sink, E: Sink>(
     ensures ok { OnOk result ((text : List ℕ) → Holds stream.old text → IsLastPiece (rules_of dialect) text
         → RelaysItems (made so_far.old) (made so_far.new)
         (W.bytes out.old) (W.bytes out.new) (E.bytes err.old) (E.bytes err.new)
-        (items_of_piece (rules_of dialect) (limit_of stream.old.limit) text)) }
+        (items_of_piece (rules_of dialect) (limit_of stream.old.limit) text)
+        (faults_next (made so_far.old) (items_of_piece (rules_of dialect) (limit_of stream.old.limit) text))) }
     ensures none { OnOk result
         ((so_far.new.batch.items ≡ []) × (string_bytes so_far.new.faults ≡ [])) }
     ensures part { OnErr result ((text : List ℕ) → Holds stream.old text → IsLastPiece (rules_of dialect) text
         → RelaysPart (made so_far.old)
         (W.bytes out.old) (W.bytes out.new) (E.bytes err.old) (E.bytes err.new)
-        (items_of_piece (rules_of dialect) (limit_of stream.old.limit) text)) }
+        (items_of_piece (rules_of dialect) (limit_of stream.old.limit) text)
+        (faults_next (made so_far.old) (items_of_piece (rules_of dialect) (limit_of stream.old.limit) text))) }
     ensures counts { CountsWriteFault result
         (W.failures out.old) (W.failures out.new) (E.failures err.old) (E.failures err.new) }
     ensures flushed { OnOk result ((W.is_flushed out.new ≡ true) × (E.is_flushed err.new ≡ true)) }
@@ -365,11 +291,40 @@ pub fn relay_within<R: Source, W: Sink, E: Sink>(
         (writer_told W.bytes W.failures W.is_flushed out.old) (writer_told W.bytes W.failures W.is_flushed out.new)
         (writer_told E.bytes E.failures E.is_flushed err.old) (writer_told E.bytes E.failures E.is_flushed err.new) }
 {
+    relay_numbered(alloc, dialect, limit, Numbering::Items, reader, out, err)
+}
+
+/// Relays the lines that `reader` gives, as they come, by the rules of a dialect, where a line has at most `limit` bytes and
+/// the fault lines name what `numbering` says.
+///
+/// By [`Numbering::Items`] it does what [`relay_within`] does. By [`Numbering::Lines`] each fault line is `line N: TEXT` where
+/// that has `item M: TEXT`, and N is the line of the input on which the piece of the item begins: 1, and one more for each
+/// newline before its first byte. So a fault can be found, though a comment, a blank line or a string of many lines came
+/// before it. All else is as for [`relay_within`].
+///
+/// # Errors
+///
+/// Those of [`relay_within`]. By [`Numbering::Lines`] `OutOfMemory` also comes where no `usize` holds the line on which the
+/// next piece would begin.
+pub fn relay_numbered<R: Source, W: Sink, E: Sink>(
+    alloc: Global,
+    dialect: Dialect,
+    limit: usize,
+    numbering: Numbering,
+    reader: &mut R,
+    out: &mut W,
+    err: &mut E,
+) -> Result<Relayed, RunFault>
+    ensures { RelaysNumbered (rules_of dialect) (limit_of limit) numbering result
+        (reader_told R.bytes R.failures reader.old) (reader_told R.bytes R.failures reader.new)
+        (writer_told W.bytes W.failures W.is_flushed out.old) (writer_told W.bytes W.failures W.is_flushed out.new)
+        (writer_told E.bytes E.failures E.is_flushed err.old) (writer_told E.bytes E.failures E.is_flushed err.new) }
+{
     laws::pieces_join();
     laws::runs_give_pieces();
     laws::utf8_by_pieces();
     let mut stream = BoundedLineStream::new_in(alloc, dialect, limit);
-    let mut so_far = nothing_made(alloc);
+    let mut so_far = nothing_made(alloc, numbering);
     let mut block = Vec::new(alloc);
     for _ in 0..u64::MAX {
         let n = read_block(reader, &mut block, 0)?;

@@ -8,6 +8,7 @@ use Rattle.std.specs.Str.Parse.{digits_value}
 use Rattle.influxdb_line_protocol.specs.declared.split.Dialect.{Dialect}
 use Rattle.influxdb_line_protocol.specs.declared.split.Dialect.TheVariants.{Crate, Strict}
 use Rattle.lp_rebuild.specs.declared.program.RunFault.{RunFault}
+use Rattle.lp_rebuild.specs.declared.relaying.Numbering.TheVariants.{Items, Lines}
 use Rattle.lp_rebuild.specs.declared.relaying.Relayed.{Relayed}
 use Rattle.lp_relay.specs.declared.words.Given.{Given}
 use Rattle.lp_relay.specs.declared.words.Settings.{Settings}
@@ -16,7 +17,7 @@ use Rattle.lp_relay.specs.declared.words.Task.TheVariants.{Relay, Cut, Help}
 
 -- no option was given
 abbrev pub nothing_given : Given
-nothing_given = record { strict = false; max_line = None; progress = false }
+nothing_given = record { strict = false; lines = false; max_line = None; progress = false }
 
 -- how many bytes a line may have where no option says it: 16 MiB
 abbrev pub default_max_line : ℕ
@@ -26,6 +27,7 @@ default_max_line = 2 ^ 24
 abbrev pub given_settings : Given → Settings
 given_settings given = record {
   dialect = if given.strict then Strict else Crate;
+  numbering = if given.lines then Lines else Items;
   max_line = unwrap_or given.max_line default_max_line;
   progress = given.progress;
 }
@@ -43,11 +45,13 @@ abbrev mutual
   asked_settings given (word ∷ words) =
       if bytes_eq word.now (codes "--strict") && not given.strict
       then asked_settings (record given { strict = true }) words
+      else (if bytes_eq word.now (codes "--lines") && not given.lines
+      then asked_settings (record given { lines = true }) words
       else (if bytes_eq word.now (codes "--progress") && not given.progress
       then asked_settings (record given { progress = true }) words
       else (if bytes_eq word.now (codes "--max-line") && is_none given.max_line
       then asked_after_max_line given words
-      else None))
+      else None)))
 
   -- the same where `--max-line` was the word before these, of which the first is its number
   pub asked_after_max_line : Given → List (Bor (List ℕ)) → Option Settings

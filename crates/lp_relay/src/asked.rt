@@ -3,19 +3,19 @@ ghost use Rattle.std.specs.Prelude.{IfOk, IfSome};
 ghost use Rattle.influxdb_line_protocol.specs.code.Rules.{rules_of};
 ghost use Rattle.lp_rebuild.specs.Cuts.{ArePartEnds};
 ghost use Rattle.lp_rebuild.specs.Relaying.{limit_of};
-ghost use Rattle.lp_rebuild.specs.Relays.{RelaysWithin};
+ghost use Rattle.lp_rebuild.specs.NumberedRelays.{RelaysNumbered};
 ghost use Rattle.lp_rebuild.specs.Running.{reader_told, writer_told};
 
 use crate::words::Settings;
 use influxdb_line_protocol::Dialect;
-use lp_rebuild::{Relayed, RunFault, Sink, Source, part_ends, read_all, relay_within};
+use lp_rebuild::{Relayed, RunFault, Sink, Source, part_ends, read_all, relay_numbered};
 use std::alloc::Global;
 
-/// Relays the lines that `reader` gives, as [`relay_within`] does, by these settings.
+/// Relays the lines that `reader` gives, as [`relay_numbered`] does, by these settings.
 ///
 /// # Errors
 ///
-/// Those of [`relay_within`].
+/// Those of [`relay_numbered`].
 pub fn relay_as_asked<R: Source, W: Sink, E: Sink>(
     alloc: Global,
     settings: Settings,
@@ -23,12 +23,20 @@ pub fn relay_as_asked<R: Source, W: Sink, E: Sink>(
     out: &mut W,
     err: &mut E,
 ) -> Result<Relayed, RunFault>
-    ensures { RelaysWithin (rules_of settings.dialect) (limit_of settings.max_line) result
+    ensures { RelaysNumbered (rules_of settings.dialect) (limit_of settings.max_line) settings.numbering result
         (reader_told R.bytes R.failures reader.old) (reader_told R.bytes R.failures reader.new)
         (writer_told W.bytes W.failures W.is_flushed out.old) (writer_told W.bytes W.failures W.is_flushed out.new)
         (writer_told E.bytes E.failures E.is_flushed err.old) (writer_told E.bytes E.failures E.is_flushed err.new) }
 {
-    relay_within(alloc, settings.dialect, settings.max_line, reader, out, err)
+    relay_numbered(
+        alloc,
+        settings.dialect,
+        settings.max_line,
+        settings.numbering,
+        reader,
+        out,
+        err,
+    )
 }
 
 /// Where all that `reader` has left can be cut into so many parts, as [`part_ends`] says. All of it is held.

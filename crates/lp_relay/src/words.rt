@@ -4,10 +4,10 @@ ghost use Rattle.lp_relay.specs.Words.{asked_cut, asked_settings, asked_task, cu
 ghost use Rattle.lp_relay.specs.Words.{given_settings, nothing_given, relay_status};
 
 use influxdb_line_protocol::Dialect;
-use lp_rebuild::{Relayed, RunFault};
+use lp_rebuild::{Numbering, Relayed, RunFault};
 
 /// How the program is called: the lines that it prints where its words ask for nothing, without the last newline.
-pub const USAGE: &str = "usage: lp_relay [--strict] [--max-line BYTES] [--progress]
+pub const USAGE: &str = "usage: lp_relay [--strict] [--lines] [--max-line BYTES] [--progress]
        lp_relay [--strict] --cut PARTS
        lp_relay --help";
 
@@ -17,6 +17,7 @@ pub const HELP: &str =
 and writes `item N: FAULT` to standard error for each item that it cannot write again.
 
   --strict           reads the strict dialect
+  --lines            names the line of the input in each fault, instead of the number of the item
   --max-line BYTES   a longer line is passed over, and is a fault: 16777216 where it is not given
   --progress         shows on standard error, where that is a terminal, how far the relay is: bytes
                      read, lines written, faults, and MB/s, each second while input comes
@@ -24,7 +25,8 @@ and writes `item N: FAULT` to standard error for each item that it cannot write 
                      about one length, to be relayed apart: the end of each, in bytes, a line each
   --help             prints this
 
-The options come in any order, each at most once.
+The options of a relay come in any order, each at most once; --cut PARTS comes alone, or after
+--strict.
 
 Status 0: every item was carried; 1: some item was not; 2: the input could not be read, memory
 ran out, the output could not be written, or the arguments are wrong.";
@@ -37,6 +39,8 @@ pub const DEFAULT_MAX_LINE: usize = 16_777_216;
 pub struct Settings {
     /// The dialect whose rules hold.
     pub dialect: Dialect,
+    /// What the fault lines name.
+    pub numbering: Numbering,
     /// How many bytes a line may have.
     pub max_line: usize,
     /// Whether progress is shown.
@@ -58,6 +62,7 @@ pub enum Task {
 #[derive(Clone, Copy, Debug, PartialEq, Eq)]
 pub(crate) struct Given {
     strict: bool,
+    lines: bool,
     max_line: Option<usize>,
     progress: bool,
 }
@@ -68,6 +73,7 @@ impl Given {
     {
         Given {
             strict: false,
+            lines: false,
             max_line: None,
             progress: false,
         }
@@ -81,6 +87,11 @@ impl Given {
                 Dialect::Strict
             } else {
                 Dialect::Crate
+            },
+            numbering: if self.lines {
+                Numbering::Lines
+            } else {
+                Numbering::Items
             },
             max_line: self.max_line.unwrap_or(DEFAULT_MAX_LINE),
             progress: self.progress,
@@ -108,6 +119,15 @@ fn settings_after(given: Given, words: &[&str]) -> Option<Settings>
             settings_after(
                 Given {
                     strict: true,
+                    ..given
+                },
+                rest,
+            )
+        }
+        [word, rest @ ..] if *word == "--lines" && !given.lines => {
+            settings_after(
+                Given {
+                    lines: true,
                     ..given
                 },
                 rest,
@@ -155,15 +175,18 @@ fn cut_of(words: &[&str]) -> Option<Task>
 
 /// What the words after the program's name ask for, or `None` where they are not as [`USAGE`] says.
 ///
-/// The options come in any order, each at most once, and `--help` comes alone. After `--max-line` comes a decimal number
-/// that a `usize` holds: digits alone, of which the first may be zeros. It takes no memory.
+/// The options of a relay come in any order, each at most once; `--cut` and a number come alone or after `--strict`, and
+/// `--help` comes alone. A number, as after `--max-line`, is a decimal one that a `usize` holds: digits alone, of which the
+/// first may be zeros. It takes no memory.
 ///
 /// ```text
 /// task_of(&[])                          gives  a relay of the crate's dialect with the default length
 /// task_of(&["--progress", "--strict"])  gives  a relay of the strict dialect that shows progress
+/// task_of(&["--lines"])                 gives  a relay of the crate's dialect whose fault lines name lines
 /// task_of(&["--strict", "--strict"])    gives  None
 /// task_of(&["--max-line", "+80"])       gives  None
 /// task_of(&["--cut", "4"])              gives  the ends of 4 parts of the input
+/// task_of(&["--cut", "4", "--strict"])  gives  None
 /// task_of(&["--help", "--strict"])      gives  None
 /// ```
 pub fn task_of(words: &[&str]) -> Option<Task>

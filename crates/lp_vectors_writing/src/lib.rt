@@ -14,6 +14,8 @@ mod failures;
 #[cfg(test)]
 mod long_relays;
 #[cfg(test)]
+mod numbered_relays;
+#[cfg(test)]
 mod part_tables;
 #[cfg(test)]
 mod relays;

@@ -13,9 +13,10 @@ loop-answer-preserved c =
     record {
       dialect = s.0 ∙ h.dialect;
       room = omega (arith, c.in_ok-taken.ensures.counted, c.in-Some.ensures.fewer);
+      numbered = c.in_ok-taken.ensures.place ∙ h.numbered;
       done = λ others left.
           SoFar-item (rules_of c.args.dialect) c.args.input.now c.loop-answer.lines item others c.loop-answer.so_far
-          c.take-taken.new.so_far h.dialect h.done (s.1 others left) c.in_ok-taken.ensures.taken;
+          c.take-taken.new.so_far h.dialect h.numbered h.done (s.1 others left) c.in_ok-taken.ensures.taken;
     }
 
 pub take-taken-requires-clause-read : goal.take-taken-requires-clause-read

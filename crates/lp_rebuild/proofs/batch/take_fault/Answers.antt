@@ -6,4 +6,4 @@ pub returns-in_default-clause-taken : goal.returns-in_default-clause-taken
 returns-in_default-clause-taken c =
     on_ok_weaker c.refuse.result
     (λ h. refused_fault c.args.so_far.now c.args.error.now c.refuse.new.so_far c.in_default.not-OutOfMemory h)
-    c.refuse.ensures
+    c.refuse.ensures.refused

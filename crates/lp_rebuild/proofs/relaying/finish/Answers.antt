@@ -9,7 +9,7 @@ use Rattle.lp_rebuild.proofs.RelayPieces.{last_items}
 use Rattle.lp_rebuild.proofs.relaying.finish.Goals as goal
 
 pub returns-then-is_err-clause-part : goal.returns-then-is_err-clause-part
-returns-then-is_err-clause-part g c text holds is_last = part_of_none (made c.args.so_far.now) _ _ _
+returns-then-is_err-clause-part g c text holds is_last = part_of_none (made c.args.so_far.now) _ _ _ _
 
 pub returns-clause-ok : goal.returns-clause-ok
 returns-clause-ok g c =
@@ -21,7 +21,7 @@ returns-clause-ok g c =
     let last = gives.2 text holds (subst (λ e. IsLastPiece e text) (sym c.requires.dialect) is_last) in
     let takes = subst (λ l. TakesItems old l (made c.take_piece.new.so_far)) (last_items d c.args.stream.now.limit text c.finish.result last)
     (at_no_fault c.take_piece.result c.if-is_err.ensures.value c.take_piece.ensures.taken) in
-    relays_poured old old (made c.take_piece.new.so_far) _ _ _ _ _ _ _ [] _ (relays_none old _ _) takes poured)
+    relays_poured old old (made c.take_piece.new.so_far) _ _ _ _ _ _ _ [] _ [] (relays_none old _ _) takes poured)
     c.pour_and_flush.ensures.ok
 
 pub returns-clause-part : goal.returns-clause-part
@@ -34,5 +34,5 @@ returns-clause-part g c =
     let last = gives.2 text holds (subst (λ e. IsLastPiece e text) (sym c.requires.dialect) is_last) in
     let takes = subst (λ l. TakesItems old l (made c.take_piece.new.so_far)) (last_items d c.args.stream.now.limit text c.finish.result last)
     (at_no_fault c.take_piece.result c.if-is_err.ensures.value c.take_piece.ensures.taken) in
-    part_poured old old (made c.take_piece.new.so_far) _ _ _ _ _ _ [] _ (relays_none old _ _) takes part)
+    part_poured old old (made c.take_piece.new.so_far) _ _ _ _ _ _ [] _ [] (relays_none old _ _) takes part)
     c.pour_and_flush.ensures.part

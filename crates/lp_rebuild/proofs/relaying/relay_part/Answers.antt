@@ -23,7 +23,8 @@ pub returns-in_ok-pour_and_flush-clause-ok : goal.returns-in_ok-pour_and_flush-c
 returns-in_ok-pour_and_flush-clause-ok g c text holds =
     let pushed = at_no_fault c.push.result c.if-is_err.ensures.value c.push.ensures.ok in
     pieces_poured (rules_of c.args.dialect) _ _ (text ++ c.args.part.now) _ _ _ _ _ _ _ _ _ _ (ap limit_of c.push.ensures.rules.1)
-    (c.in_ok-relay_pieces.ensures.ok (text ++ c.args.part.now) (pushed text holds)) c.in_ok-pour_and_flush.ensures.ok
+    (c.in_ok-relay_pieces.ensures.ok (text ++ c.args.part.now) (pushed text holds)) c.in_ok-pour_and_flush.ensures.place
+    c.in_ok-pour_and_flush.ensures.ok
 
 pub returns-else-part-lt-BLOCK-clause-ok : goal.returns-else-part-lt-BLOCK-clause-ok
 returns-else-part-lt-BLOCK-clause-ok g c text holds =

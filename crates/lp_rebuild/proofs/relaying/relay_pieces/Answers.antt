@@ -40,7 +40,8 @@ loop-piece-preserved g c =
           _ _ _ _ _ _ c.in-Some.piece p
           (given_piece (rules_of c.args.dialect) c.args.stream.now.limit c.loop-piece.stream c.next.follows.lender-at-none p.rest
           c.in-Some.piece (h.rules.0 ∙ c.requires.dialect) h.rules.1 (gives.3 p.rest p.holds))
-          (at_no_fault c.take_piece.result c.if-is_err.ensures.value c.take_piece.ensures.taken) poured.ok;
+          (at_no_fault c.take_piece.result c.if-is_err.ensures.value c.take_piece.ensures.taken)
+          (poured.place ∙ at_no_fault c.take_piece.result c.if-is_err.ensures.value c.take_piece.ensures.place) poured.ok;
       out_unfailed = poured.counts.0 ∙ h.out_unfailed;
       err_unfailed = poured.counts.1 ∙ h.err_unfailed;
     }

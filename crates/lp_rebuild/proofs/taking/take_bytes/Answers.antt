@@ -2,7 +2,7 @@ use Rattle.influxdb_line_protocol.specs.code.Rules.{rules_of}
 use Rattle.std.proofs.lemmas.Result.{on_ok_weaker}
 use Rattle.lp_rebuild.specs.RelaySteps.{made}
 use Rattle.lp_rebuild.proofs.RelayLemmas.{takes_bytes, takes_bad_bytes}
-use Rattle.lp_rebuild.proofs.relaying.take_bytes.Goals as goal
+use Rattle.lp_rebuild.proofs.taking.take_bytes.Goals as goal
 
 pub returns-in-Ok-clause-taken : goal.returns-in-Ok-clause-taken
 returns-in-Ok-clause-taken c =
@@ -15,4 +15,4 @@ pub returns-in-Err-clause-taken : goal.returns-in-Err-clause-taken
 returns-in-Err-clause-taken c =
     on_ok_weaker c.refuse.result
     (takes_bad_bytes (rules_of c.args.dialect) c.args.piece.now c.args.so_far.now c.refuse.new.so_far c.in-Err.ensures.cases.0)
-    c.refuse.ensures
+    c.refuse.ensures.refused

@@ -3,7 +3,7 @@ use Rattle.std.proofs.Common.{subst, sym}
 use Rattle.std.proofs.lemmas.Result.{on_ok_weaker}
 use Rattle.lp_rebuild.specs.RelaySteps.{TakesItems, items_given, made}
 use Rattle.lp_rebuild.proofs.RelayLemmas.{takes_too_long}
-use Rattle.lp_rebuild.proofs.relaying.take_piece.Goals as goal
+use Rattle.lp_rebuild.proofs.taking.take_given.Goals as goal
 
 pub returns-in-Ok-clause-taken : goal.returns-in-Ok-clause-taken
 returns-in-Ok-clause-taken c =
@@ -17,4 +17,4 @@ returns-in-Err-clause-taken c =
     on_ok_weaker c.refuse.result
     (λ r. subst (λ p. TakesItems (made c.args.so_far.now) (items_given (rules_of c.args.dialect) p) (made c.refuse.new.so_far))
     (sym c.in-Err.is) (takes_too_long c.args.so_far.now c.refuse.new.so_far r))
-    c.refuse.ensures
+    c.refuse.ensures.refused

@@ -1,0 +1,29 @@
+-- The fault lines of a relay that name lines of its input.
+use Rattle.std.specs.Prelude.{ℕ, ◌+◌, List, [], ◌∷◌, ◌++◌, codes, decimal, Option, if◌then◌else◌}
+use Rattle.std.specs.List.{flat_map}
+use Rattle.influxdb_line_protocol.specs.format.Dialects.{Dialect}
+use Rattle.influxdb_line_protocol.specs.format.Bytes.{newline, newlines_in}
+use Rattle.lp_rebuild.specs.Rebuilding.{refusal_text}
+use Rattle.lp_rebuild.specs.Relaying.{Item, answered, not_utf8, too_long, is_carried_item, items_of_piece}
+
+-- a line that names the line of the input on which the piece of an item begins, and says what is wrong with the item
+abbrev pub fault_line_on : ℕ → List ℕ → List ℕ
+fault_line_on line text = codes "line " ++ decimal line ++ codes ": " ++ text ++ newline ∷ []
+
+-- what is wrong with an item that is not carried
+abbrev pub item_text : Item → List ℕ
+item_text (answered answer) = refusal_text answer
+item_text not_utf8 = codes "the line is not UTF-8"
+item_text too_long = codes "the line is too long"
+
+-- the fault line of an item that is not carried, whose piece begins on this line
+abbrev pub line_fault : ℕ → Item → List ℕ
+line_fault line item = if is_carried_item item then [] else fault_line_on line (item_text item)
+
+-- the fault lines of the items of pieces that are not carried, where the first piece begins on this line: each newline
+-- within a piece, and the one that ends it, is followed by one line more
+abbrev pub line_faults : Dialect → Option ℕ → ℕ → List (List ℕ) → List ℕ
+line_faults dialect limit line [] = []
+line_faults dialect limit line (piece ∷ pieces) =
+    flat_map (line_fault line) (items_of_piece dialect limit piece)
+    ++ line_faults dialect limit (line + newlines_in piece + 1) pieces

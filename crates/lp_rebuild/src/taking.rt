@@ -1,0 +1,156 @@
+//! What a relay takes of a piece of its input.
+ghost use Rattle.std.specs.Prelude.{◌≡◌, ◌+◌, ◌<◌, ◌≤◌, length, map, IfOk, OnOk};
+ghost use Rattle.influxdb_line_protocol.specs.code.Rules.{rules_of};
+ghost use Rattle.influxdb_line_protocol.specs.format.Bytes.{newlines_in};
+ghost use Rattle.influxdb_line_protocol.specs.format.Pieces.{IsLastPiece};
+ghost use Rattle.influxdb_line_protocol.specs.format.Items.{answers_of_piece};
+ghost use Rattle.lp_rebuild.specs.Relaying.{answered, items_of_bytes};
+ghost use Rattle.lp_rebuild.specs.RelaySteps.{TakesItems, first_place, items_given, made, made_of_none};
+ghost use Rattle.lp_rebuild.specs.RelaySteps.{newlines_given, place_after};
+
+use crate::Numbering;
+use crate::batch::{Place, Progress, refuse, take};
+use influxdb_line_protocol::{Dialect, ParsedLine, TooLong, laws, parse_lines_in};
+use std::alloc::{AllocError, Global};
+use std::str;
+
+// What is wrong with a piece that is no text.
+const NOT_UTF8: &str = "the line is not UTF-8";
+
+// What is wrong with a piece that is too long.
+const TOO_LONG: &str = "the line is too long";
+
+// Before the first item. It takes no memory.
+pub(crate) fn nothing_made(alloc: Global, numbering: Numbering) -> Progress
+    ensures { made result ≡ made_of_none (first_place numbering) }
+{
+    Progress {
+        batch: Vec::new(alloc),
+        faults: String::new(alloc),
+        carried: 0,
+        refused: 0,
+        place: match numbering {
+            Numbering::Items => Place::ByNumber,
+            Numbering::Lines => Place::OnLine(1),
+        },
+    }
+}
+
+// Takes the text of a piece: its line is written again or refused, unless it is blank.
+fn take_text(
+    alloc: Global,
+    dialect: Dialect,
+    so_far: &mut Progress,
+    text: &str,
+) -> Result<(), AllocError>
+    requires room { so_far.old.carried + so_far.old.refused < usize.MAX }
+    requires piece { IsLastPiece (rules_of dialect) text.now }
+    ensures taken { OnOk result
+        (TakesItems (made so_far.old) (map answered (answers_of_piece (rules_of dialect) text.now)) (made so_far.new)) }
+    ensures counted { OnOk result
+        (so_far.new.carried + so_far.new.refused ≤ so_far.old.carried + so_far.old.refused + 1) }
+{
+    laws::items_are_answers();
+    laws::pieces_join();
+    let mut line = ParsedLine::new(alloc);
+    let mut lines = parse_lines_in(alloc, dialect, text);
+    match lines.next_into(&mut line) {
+        Some(answer) => {
+            let answer = answer;
+            take(alloc, so_far, &answer, &line)
+        }
+        None => Ok(()),
+    }
+}
+
+// Takes the bytes of a piece: their text, or where they are not UTF-8 a fault.
+fn take_bytes(
+    alloc: Global,
+    dialect: Dialect,
+    so_far: &mut Progress,
+    piece: &[u8],
+) -> Result<(), AllocError>
+    requires room { so_far.old.carried + so_far.old.refused < usize.MAX }
+    requires piece { IsLastPiece (rules_of dialect) piece.now }
+    ensures taken { OnOk result
+        (TakesItems (made so_far.old) (items_of_bytes (rules_of dialect) piece.now) (made so_far.new)) }
+    ensures counted { OnOk result
+        (so_far.new.carried + so_far.new.refused ≤ so_far.old.carried + so_far.old.refused + 1) }
+{
+    match str::from_utf8(piece) {
+        Ok(text) => take_text(alloc, dialect, so_far, text),
+        Err(_) => refuse(so_far, NOT_UTF8),
+    }
+}
+
+// Takes what the stream gave: bytes, or where they are too long a fault.
+fn take_given(
+    alloc: Global,
+    dialect: Dialect,
+    so_far: &mut Progress,
+    piece: Result<&[u8], TooLong>,
+) -> Result<(), AllocError>
+    requires room { so_far.old.carried + so_far.old.refused < usize.MAX }
+    requires piece { IfOk piece (λ bytes. IsLastPiece (rules_of dialect) bytes.now) }
+    ensures taken { OnOk result
+        (TakesItems (made so_far.old) (items_given (rules_of dialect) piece.entry) (made so_far.new)) }
+    ensures counted { OnOk result
+        (so_far.new.carried + so_far.new.refused ≤ so_far.old.carried + so_far.old.refused + 1) }
+{
+    match piece {
+        Ok(bytes) => take_bytes(alloc, dialect, so_far, bytes),
+        Err(_) => refuse(so_far, TOO_LONG),
+    }
+}
+
+// How many newlines there are.
+fn newlines_in(bytes: &[u8]) -> usize
+    ensures few { result ≤ length bytes.now }
+    ensures value { result ≡ newlines_in bytes.now }
+{
+    let mut count = 0;
+    for at in 0..bytes.len() {
+        if bytes[at] == b'\n' {
+            count += 1;
+        }
+    }
+    count
+}
+
+// The place of the next piece. Newlines are counted where it is a line, and it is refused where that would not fit.
+fn place_after(place: Place, piece: Result<&[u8], TooLong>) -> Result<Place, AllocError>
+    ensures { IfOk result (λ next. next ≡ place_after place (newlines_given piece.entry)) }
+{
+    let Place::OnLine(line) = place else {
+        return Ok(place);
+    };
+    let newlines = match piece {
+        Ok(bytes) => newlines_in(bytes),
+        Err(fault) => fault.newlines,
+    };
+    let end = line.checked_add(newlines).ok_or(AllocError)?;
+    Ok(Place::OnLine(end.checked_add(1).ok_or(AllocError)?))
+}
+
+// Takes a piece. It is refused where its number, or the line after it, would not fit.
+pub(crate) fn take_piece(
+    alloc: Global,
+    dialect: Dialect,
+    so_far: &mut Progress,
+    piece: Result<&[u8], TooLong>,
+) -> Result<(), AllocError>
+    requires fits { so_far.old.carried + so_far.old.refused ≤ usize.MAX }
+    requires piece { IfOk piece (λ bytes. IsLastPiece (rules_of dialect) bytes.now) }
+    ensures taken { OnOk result
+        (TakesItems (made so_far.old) (items_given (rules_of dialect) piece.entry) (made so_far.new)) }
+    ensures place { OnOk result (so_far.new.place ≡ place_after so_far.old.place (newlines_given piece.entry)) }
+    ensures fits { OnOk result (so_far.new.carried + so_far.new.refused ≤ usize.MAX) }
+{
+    if so_far.carried + so_far.refused == usize::MAX {
+        return Err(AllocError);
+    }
+    let next = place_after(so_far.place, piece)?;
+    take_given(alloc, dialect, so_far, piece)?;
+    so_far.place = next;
+    Ok(())
+}
