@@ -90,9 +90,6 @@ returns-else-end-at-clause-backslashes c =
     rw (← c.as_bytes-bytes.ensures.value) (told kind bytes at next _ _ here after load.walked.within ends.1 refl refl
     (λ some. absurd (omega arith)) (rw (← c.as_bytes-bytes.ensures.value) at c.requires.run))
 
-pub returns-clause-end : goal.returns-clause-end
-returns-clause-end c = rw (← c.as_bytes-bytes.ensures.value) c.escapes_to_end-end.ensures.value
-
 pub returns-clause-backslashes : goal.returns-clause-backslashes
 returns-clause-backslashes c =
     let kind = c.args.kind in
