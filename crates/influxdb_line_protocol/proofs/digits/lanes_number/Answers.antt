@@ -22,16 +22,6 @@ overflow_mul-result c =
     let second = c.from-2.ensures ∙ ap (λ l. get_or l 1 0) are.sums in
     record { fits = omega (arith, first, second, by.0, by.1) }
 
-pub overflow_add-result : goal.overflow_add-result
-overflow_add-result c =
-    let are = are_groups 4 c.args.digits c.requires.whole c.requires.digits in
-    let by = by_groups c.args.digits are in
-    let first = c.from.ensures ∙ ap (λ l. get_or l 0 0) are.sums in
-    let second = c.from-2.ensures ∙ ap (λ l. get_or l 1 0) are.sums in
-    let third = c.from-3.ensures ∙ ap (λ l. get_or l 2 0) are.sums in
-    let fourth = c.from-4.ensures ∙ ap (λ l. get_or l 3 0) are.sums in
-    record { fits = omega (arith, first, second, third, fourth, by.0, by.1) }
-
 pub returns : goal.returns
 returns c =
     let are = are_groups 4 c.args.digits c.requires.whole c.requires.digits in
@@ -41,3 +31,8 @@ returns c =
     let third = c.from-3.ensures ∙ ap (λ l. get_or l 2 0) are.sums in
     let fourth = c.from-4.ensures ∙ ap (λ l. get_or l 3 0) are.sums in
     omega (arith, first, second, third, fourth, by.0)
+
+pub overflow_add-result : goal.overflow_add-result
+overflow_add-result c =
+    let are = are_groups 4 c.args.digits c.requires.whole c.requires.digits in
+    record { fits = omega (arith, returns c, by_groups c.args.digits are) }

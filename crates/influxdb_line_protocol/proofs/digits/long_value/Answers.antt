@@ -31,18 +31,6 @@ lanes_number-requires-clause-digits c =
     let size : length last ≡ 16 = omega (arith, c.split_at.ensures.back_len, c.requires.least) in
     (whole_lanes last c.digit_lanes.result size c.digit_lanes.ensures.whole digits c.digit_lanes.ensures.value).0
 
-pub overflow_add-result : goal.overflow_add-result
-overflow_add-result c =
-    let ds = c.args.digits.now in
-    let last = c.split_at.result.1.now in
-    let digits = subst (AllDigits 10) (sym c.split_at.ensures.back) (digits_parts (length ds - 16) ds c.requires.digits).1 in
-    let size : length last ≡ 16 = omega (arith, c.split_at.ensures.back_len, c.requires.least) in
-    let all = by_last (length ds - 16) ds (omega (arith, c.requires.least)) in
-    let first = c.value_after.ensures ∙ ap (digits_value 10) c.split_at.ensures.front in
-    let lanes = whole_lanes last c.digit_lanes.result size c.digit_lanes.ensures.whole digits c.digit_lanes.ensures.value in
-    let rest = c.lanes_number.ensures ∙ lanes.1 ∙ ap (digits_value 10) c.split_at.ensures.back in
-    record { fits = omega (arith, first, rest, all, few_fit ds c.requires.digits c.requires.few) }
-
 pub returns : goal.returns
 returns c =
     let ds = c.args.digits.now in
@@ -54,3 +42,7 @@ returns c =
     let lanes = whole_lanes last c.digit_lanes.result size c.digit_lanes.ensures.whole digits c.digit_lanes.ensures.value in
     let rest = c.lanes_number.ensures ∙ lanes.1 ∙ ap (digits_value 10) c.split_at.ensures.back in
     omega (arith, first, rest, all)
+
+pub overflow_add-result : goal.overflow_add-result
+overflow_add-result c =
+    let ds = c.args.digits.now in record { fits = omega (arith, returns c, few_fit ds c.requires.digits c.requires.few) }

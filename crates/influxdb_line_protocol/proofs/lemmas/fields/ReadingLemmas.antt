@@ -1,6 +1,6 @@
 -- What comes after a reading ends the text, and a copy is read from a text with a backslash.
 use Rattle.std.proofs.Common.{◌≡◌, ℕ, ◌+◌, List, [], ◌∷◌, ◌++◌, length, take, drop, Bool, true, false, not, ◌&&◌, inl}
-use Rattle.std.proofs.Common.{inr, sym, ◌∙◌, ap, refl, append_assoc}
+use Rattle.std.proofs.Common.{inr, sym, ◌∙◌, ap, refl, append_assoc, subst}
 use Rattle.std.specs.Prelude.{if◌then◌else◌, ◌==◌, ◌⊎◌, nat_lt, Result, Ok, Err}
 use Rattle.std.specs.Result.{IsErrAnd}
 use Rattle.influxdb_line_protocol.specs.declared.error.Error.{Error}
@@ -124,6 +124,27 @@ byte_parts b (c ∷ cs) x rest e =
 pub byte_ends : (b : ℕ) (text : List ℕ) (x : ℕ) (rest : List ℕ) → byte b text ≡ reads x rest → EndsIn text rest
 byte_ends b text x rest e = record { front = b ∷ []; is = (byte_parts b text x rest e).1 }
 
+-- how a pair is read: a key, an equals sign and a value
+pub record PairParts {V : Type 0} (kind : NameKind) (part : List ℕ → Reading V) (text : List ℕ) (x : Pair Text V) (rest : List ℕ)
+    : Type 0 where
+  pub mid : List ℕ
+  pub key : name kind text ≡ reads x.key (61 ∷ mid)
+  pub value : part mid ≡ reads x.value rest
+
+pub pair_parts : {V : Type 0} (kind : NameKind) (part : List ℕ → Reading V) (text : List ℕ) (x : Pair Text V) (rest : List ℕ)
+    → key_value kind part text ≡ reads x rest → PairParts kind part text x rest
+pair_parts kind part text x rest e =
+    let k = bind_reads (name kind text) _ x rest e in
+    let mark = bind_reads (byte 61 k.mid) _ x rest k.next in
+    let v = bind_reads (part mark.mid) _ x rest mark.next in
+    let parts = reads_parts (record { key = k.first; value = v.first }) x v.mid rest v.next in
+    let sign = (byte_parts 61 k.mid mark.first mark.mid mark.was).1 in
+    record {
+      mid = mark.mid;
+      key = subst (λ p. name kind text ≡ reads p.key (61 ∷ mark.mid)) parts.0 (rw sign at k.was);
+      value = rw parts.1 at (subst (λ p. part mark.mid ≡ reads p.value v.mid) parts.0 v.was);
+    }
+
 -- what is known of a tag, a field or a value that is read
 pub record PairRead {A : Type 0} (is_single : A → Bool) (text : List ℕ) (x : A) (rest : List ℕ) : Type 0 where
   pub ends : EndsIn text rest
@@ -222,22 +243,17 @@ pair_read : {V : Type 0} (kind : NameKind) (part : List ℕ → Reading V) (is_s
     → ((text : List ℕ) (v : V) (rest : List ℕ) → part text ≡ reads v rest → PairRead is_single text v rest)
     → (text : List ℕ) (x : Pair Text V) (rest : List ℕ) → key_value kind part text ≡ reads x rest
     → PairRead (λ p. p.key.is_single && is_single p.value) text x rest
-pair_read {V} kind part is_single read text x rest e =
-    let k = bind_reads (name kind text) _ x rest e in
-    let mark = bind_reads (byte 61 k.mid) _ x rest k.next in
-    let v = bind_reads (part mark.mid) _ x rest mark.next in
-    let pair : Pair Text V = record { key = k.first; value = v.first } in
-    let parts = reads_parts pair x v.mid rest v.next in
-    let key_ends = name_ends kind text k.first k.mid k.was in
-    let mark_ends = EndsIn-end text k.mid mark.mid key_ends (byte_ends 61 k.mid mark.first mark.mid mark.was) in
-    let value_is = read mark.mid v.first v.mid v.was in
+pair_read kind part is_single read text x rest e =
+    let p = pair_parts kind part text x rest e in
+    let after_key = name_ends kind text x.key (61 ∷ p.mid) p.key in
+    let after_mark = EndsIn-end text (61 ∷ p.mid) p.mid after_key (record { front = 61 ∷ []; is = refl }) in
+    let value_is = read p.mid x.value rest p.value in
     record {
-      ends = rw parts.1 at (EndsIn-end text mark.mid v.mid mark_ends value_is.ends);
-      copied = λ h. elim (pair_copied k.first.is_single (is_single v.first)
-          (ap (λ (p : Pair Text V). p.key.is_single && is_single p.value) parts.0 ∙ h)) [
-            | inl key ↦ name_copied kind text k.first k.mid k.was key
-            | inr after ↦ backslash_at_end text mark.mid mark_ends (value_is.copied after)
-          ];
+      ends = EndsIn-end text p.mid rest after_mark value_is.ends;
+      copied = λ h. elim (pair_copied x.key.is_single (is_single x.value) h) [
+        | inl key ↦ name_copied kind text x.key (61 ∷ p.mid) p.key key
+        | inr after ↦ backslash_at_end text p.mid after_mark (value_is.copied after)
+      ];
     }
 
 pub tag_read : (text : List ℕ) (x : Pair Text Text) (rest : List ℕ) → tag text ≡ reads x rest → PairRead is_single_tag text x rest

@@ -19,9 +19,8 @@ use Rattle.influxdb_line_protocol.specs.code.Parsed.{Answers, field_of, line_rea
 use Rattle.influxdb_line_protocol.specs.code.ParseSteps.{CanCountColumns}
 use Rattle.influxdb_line_protocol.proofs.lemmas.laws.bases_tell_series.BasesTellSeries.{set_separated}
 use Rattle.influxdb_line_protocol.proofs.lemmas.laws.meanings.JoinedMeaning.{the_most_is_read}
-use Rattle.influxdb_line_protocol.proofs.lemmas.laws.parsed_names.Inversions.{bound}
 use Rattle.influxdb_line_protocol.proofs.lemmas.laws.parsed_names.ParsedNames.{answer_parts}
-use Rattle.influxdb_line_protocol.proofs.lemmas.fields.ReadingLemmas.{name_ends}
+use Rattle.influxdb_line_protocol.proofs.lemmas.fields.ReadingLemmas.{bind_reads, name_ends}
 use Rattle.influxdb_line_protocol.proofs.lemmas.laws.meanings.ShorterRests.{tag_no_longer, field_no_longer}
 
 module _ {A : Type 0} (one : List ℕ → Reading A)
@@ -44,10 +43,10 @@ module _ {A : Type 0} (one : List ℕ → Reading A)
 field_room : (dialect : Dialect) (text rest : List ℕ) (fs : List (Pair Text (Value Text))) → field_set dialect text ≡ reads fs rest
     → length fs ≤ length text + 1
 field_room dialect text rest fs h =
-    let parts = bound (separated_list field text) (λ xs. reads xs.value (without_comma dialect xs.value xs.rest)) fs rest h in
-    let same : parts.value ≡ fs = cc (parts.second) in
-    let full = (the_most_is_read field (λ t. (field_no_longer t).holds) text parts.value parts.after).0 parts.first in
-    omega (arith, ap length same, room_of field (λ t. (field_no_longer t).holds) parts.value text parts.after full.longest.separated)
+    let parts = bind_reads (separated_list field text) (λ xs. reads xs.value (without_comma dialect xs.value xs.rest)) fs rest h in
+    let same : parts.first ≡ fs = cc (parts.next) in
+    let full = (the_most_is_read field (λ t. (field_no_longer t).holds) text parts.first parts.mid).0 parts.was in
+    omega (arith, ap length same, room_of field (λ t. (field_no_longer t).holds) parts.first text parts.mid full.longest.separated)
 
 -- the tags and the fields of a line
 line_room : (dialect : Dialect) (text : List ℕ) (l : Line) → answer dialect text ≡ Ok l

@@ -15,15 +15,16 @@ use Rattle.influxdb_line_protocol.specs.format.Points.{Pair}
 use Rattle.influxdb_line_protocol.specs.code.Parsed.{Answers, line_read, tag_of, tags_of}
 use Rattle.influxdb_line_protocol.specs.code.ParseSteps.{HasNoEmptyTagSet}
 use Rattle.influxdb_line_protocol.specs.format.Lines.{Line, tag, after_comma, prepend, many, separated_list, tag_set, answer}
-use Rattle.influxdb_line_protocol.proofs.lemmas.laws.parsed_names.Inversions.{bound, prepend_parts}
+use Rattle.influxdb_line_protocol.proofs.lemmas.fields.ReadingLemmas.{bind_reads}
+use Rattle.influxdb_line_protocol.proofs.lemmas.laws.parsed_names.Inversions.{prepend_parts}
 use Rattle.influxdb_line_protocol.proofs.lemmas.laws.parsed_names.ParsedNames.{ok_same, answer_parts}
 
 -- what commas join is at least one
 pub joined_some : {A : Type 0} (one : List ℕ → Reading A) (line rest : List ℕ) (xs : List A)
     → separated_list one line ≡ reads xs rest → 0 < length xs
 joined_some one line rest xs h =
-    let parts = bound (one line) (λ x. prepend (x.value ∷ []) (many (after_comma one) (length x.rest) x.rest)) xs rest h in
-    let more = prepend_parts (parts.value ∷ []) (many (after_comma one) (length parts.after) parts.after) xs rest parts.second in
+    let parts = bind_reads (one line) (λ x. prepend (x.value ∷ []) (many (after_comma one) (length x.rest) x.rest)) xs rest h in
+    let more = prepend_parts (parts.first ∷ []) (many (after_comma one) (length parts.mid) parts.mid) xs rest parts.next in
     omega (arith, ap length more.all)
 
 -- a set that may be missing holds at least one, where it is there

@@ -148,9 +148,6 @@ module _ (text : List ℕ) (a : Ahead) (are : IsAhead text a) where
     all_counts p m is =
         let places = range_with_len 0 are.count in
         let q = is_bare_at p text in
-        let fits = are.fits in
-        let within = are.within in
-        let near = are.near in
         let whole = mask_l-mod (map q places) 64 (omega (arith, length-map-range_with_len q 0 are.count, are.few)) in
         let here : count_ones (m % 2 ^ 64) ≡ count_by p (bare (take are.count text)) = ap (λ (k : ℕ). count_ones (k % 2 ^ 64)) is
         ∙ ap count_ones whole ∙ ones-mask_l q places ∙ sym (count_from p text are.count (omega arith)) in
@@ -255,7 +252,6 @@ module _ (text rest : List ℕ) (w : Walk) (same : rest ≡ drop w.at text) (goi
   -- it finds nothing: the stretch ends with the text
   pub walk_to_end : IsFirstByte (is_byte3 92 10 34) rest None → IsWalked text (walk_at (length text) w.equals w.commas true none)
   walk_to_end none =
-      let within = walked.passed.within in
       let to : w.at + length rest ≡ length text = omega (arith, ap length same, length-drop w.at text) in
       record {
         passed = subst (IsPassed ends_plain text) to

@@ -33,7 +33,6 @@ place_in_append (x ∷ xs) ys c [] after e =
     let h : x ≡ c = cc in
     inl (xs, ap (λ z. z ∷ xs) h)
 place_in_append (x ∷ xs) ys c (y ∷ before) after e =
-    let h : x ≡ y = cc in
     let t : xs ++ ys ≡ before ++ c ∷ after = cc in
     elim (place_in_append xs ys c before after t) [
       | inl w ↦ let k = w.1 in inl (w.0, cc)

@@ -182,7 +182,6 @@ same_split [] t [] s e = inl (refl, cc)
 same_split [] t (y ∷ q) s e = let h : 10 ≡ y = cc in inr (inr (q, ap (λ c. c ∷ q) (sym h)))
 same_split (x ∷ p) t [] s e = let h : x ≡ 10 = cc in inr (inl (p, ap (λ c. c ∷ p) h))
 same_split (x ∷ p) t (y ∷ q) s e =
-    let h : x ≡ y = cc in
     let k : p ++ 10 ∷ t ≡ q ++ 10 ∷ s = cc in
     elim (same_split p t q s k) [
       | inl w ↦ let i : p ≡ q = w.0 in inl (cc, w.1)

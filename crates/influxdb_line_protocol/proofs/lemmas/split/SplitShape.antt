@@ -18,7 +18,6 @@ place_in_push (x ∷ xs) b c [] after e =
     let h : x ≡ c = cc in
     inl (xs, ap (λ y. y ∷ xs) h)
 place_in_push (x ∷ xs) b c (y ∷ before) after e =
-    let h : x ≡ y = cc in
     let t : xs ++ b ∷ [] ≡ before ++ c ∷ after = cc in
     elim (place_in_push xs b c before after t) [ inl w ↦ inl (w.0, cc) | inr w ↦ inr (cc, w.1) ]
 

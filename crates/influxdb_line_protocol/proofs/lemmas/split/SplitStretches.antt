@@ -95,7 +95,6 @@ module _ (text : List ℕ) (n : ℕ) (to : n ≡ first_bare (λ b. b == 32 || b 
   pub head_space : n < length text → slice_index text n ≢ 10 → IsPlainTo text 0 0 (n + 1)
   head_space h other =
       let stretch = stretch_to (λ b. b == 32 || b == 10) text n to in
-      let stops = stretch.stops h in
       let here : slice_index text n ≡ 32 = grind (arith, nat_tests) in
       let whole : take (n + 1) text ≡ take n text ++ 32 ∷ [] = take_more text n 0 h ∙ ap (λ (b : ℕ). take n text ++ b ∷ []) here in
       let bare_here = stretch.is_bare h in
@@ -238,7 +237,6 @@ quiet_front text zero h none = record { is_bare = is_escaped-nil; is_closed = in
 quiet_front text (suc n) h none =
     let before = quiet_front text n (omega arith) (λ k l m. none k l (omega arith)) in
     let b = slice_index text n in
-    let other : is_byte3 92 10 34 b ≡ false = not_found (is_byte3 92 10 34 b) (none n (omega arith) (omega arith)) in
     let next : suc n ≡ n + 1 = omega arith in
     let longer : take (suc n) text ≡ take n text ++ b ∷ [] = ap (λ (k : ℕ). take k text) next ∙ take_more text n 0 (omega arith) in
     rw longer (record {

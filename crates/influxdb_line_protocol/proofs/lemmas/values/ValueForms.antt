@@ -7,7 +7,7 @@ use Rattle.std.proofs.lemmas.Grind.{common_steps}
 use Rattle.influxdb_line_protocol.specs.format.Bytes.{is_one_of}
 use Rattle.influxdb_line_protocol.specs.format.Readings.{Reading, Text, miss, fatal, reads, ◌otherwise◌}
 use Rattle.influxdb_line_protocol.specs.format.Values.{Value, value, integer_at, unsigned_at, float_at, string_at, boolean_at}
-use Rattle.influxdb_line_protocol.specs.format.Values.{integer_len, digits_len, float_len, longer_front, word_len, true_words}
+use Rattle.influxdb_line_protocol.specs.format.Values.{integer_len, digits_len, float_len, longer_front, true_words}
 use Rattle.influxdb_line_protocol.specs.format.Values.{false_words}
 use Rattle.influxdb_line_protocol.proofs.lemmas.literals.FloatLemmas.{float_misses}
 use Rattle.influxdb_line_protocol.proofs.lemmas.values.ValueLemmas.{boolean_misses, digits_of_minus, digits_of_plain, integer_misses}
@@ -71,29 +71,11 @@ word_misses (b ∷ rest) word n w other = rw (ne_eqb w b (λ e. absurd (other (s
 
 -- no word for true is at the start of a text that begins with neither of its letters
 no_true : (text : List ℕ) → slice_index text 0 ≢ 116 → slice_index text 0 ≢ 84 → boolean_at true true_words text ≡ miss
-no_true text t T =
-    let none : word_len true_words text ≡ 0 =
-    rw (
-      word_misses text (codes "rue") 0 116 t,
-      word_misses text (codes "rue") 0 84 T,
-      word_misses text (codes "RUE") 0 84 T,
-      word_misses text [] 0 116 t,
-      word_misses text [] 0 84 T,
-    ) refl in
-    boolean_misses true true_words text none
+no_true text t T = boolean_misses true true_words text (simp word_misses)
 
 -- nor one for false
 no_false : (text : List ℕ) → slice_index text 0 ≢ 102 → slice_index text 0 ≢ 70 → boolean_at false false_words text ≡ miss
-no_false text f F =
-    let none : word_len false_words text ≡ 0 =
-    rw (
-      word_misses text (codes "alse") 0 102 f,
-      word_misses text (codes "alse") 0 70 F,
-      word_misses text (codes "ALSE") 0 70 F,
-      word_misses text [] 0 102 f,
-      word_misses text [] 0 70 F,
-    ) refl in
-    boolean_misses false false_words text none
+no_false text f F = boolean_misses false false_words text (simp word_misses)
 
 -- no Boolean is at the start of a text that begins with none of these letters
 no_boolean : (text : List ℕ) → slice_index text 0 ≢ 116 → slice_index text 0 ≢ 84 → slice_index text 0 ≢ 102 → slice_index text 0 ≢ 70

@@ -1,18 +1,10 @@
 use Rattle.influxdb_line_protocol.specs.code.Rules.{rules_of}
-use Rattle.std.proofs.Common.{rules}
 use Rattle.influxdb_line_protocol.proofs.lemmas.split.QuietCuts.{cut_at_newline, no_cut}
-use Rattle.influxdb_line_protocol.proofs.lemmas.split.SeenMarks.{none_are_seen}
 use Rattle.influxdb_line_protocol.proofs.split.first_cut.Goals as goal
 
 pub returns-in_err-found-clause-cut : goal.returns-in_err-found-clause-cut
 returns-in_err-found-clause-cut c = rw c.from_residual.ensures (no_cut (rules_of c.args.dialect) c.args.text.now c.in_err-found.ensures.first)
 
-pub returns-in_err-found-clause-later : goal.returns-in_err-found-clause-later
-returns-in_err-found-clause-later c = rw c.from_residual.ensures (search rules)
-
 pub returns-then-text-found-eq10-clause-cut : goal.returns-then-text-found-eq10-clause-cut
 returns-then-text-found-eq10-clause-cut c =
     cut_at_newline (rules_of c.args.dialect) c.args.text.now c.in_ok-found.found.at c.in_ok-found.ensures.first c.if-text-found-eq10.true
-
-pub returns-clause-later : goal.returns-clause-later
-returns-clause-later c = none_are_seen _

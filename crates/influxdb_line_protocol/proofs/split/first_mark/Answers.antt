@@ -1,7 +1,7 @@
-use Rattle.std.proofs.Common.{refl, arith, rules}
+use Rattle.std.proofs.Common.{refl, arith}
 use Rattle.std.proofs.lemmas.List.{take_rest}
 use Rattle.memchr.specs.Find.{is_byte3}
-use Rattle.influxdb_line_protocol.proofs.lemmas.split.SeenMarks.{first_is, seen_later, none_seen, none_are_seen}
+use Rattle.influxdb_line_protocol.proofs.lemmas.split.SeenMarks.{first_is, seen_later, none_seen}
 use Rattle.influxdb_line_protocol.proofs.lemmas.split.WideSearch.{found_after, none_after}
 use Rattle.influxdb_line_protocol.proofs.split.first_mark.Goals as goal
 
@@ -42,14 +42,8 @@ returns-in_err-last-clause-first c =
     (none_after (is_byte3 92 10 34) c.args.text.now _ c.loop-at.at (omega arith)
     (take_rest c.args.text.now c.loop-at.at) c.loop-at.invariant.1 c.in_err-last.ensures)
 
-pub returns-in_err-last-clause-later : goal.returns-in_err-last-clause-later
-returns-in_err-last-clause-later c = rw c.from_residual.ensures (search rules)
-
 pub returns-clause-first : goal.returns-clause-first
 returns-clause-first c =
     found_after (is_byte3 92 10 34) c.args.text.now _ c.loop-at.at (omega arith)
     (take_rest c.args.text.now c.loop-at.at) c.loop-at.invariant.1
     c.in_ok-last.last c.in_ok-last.ensures
-
-pub returns-clause-later : goal.returns-clause-later
-returns-clause-later c = none_are_seen _

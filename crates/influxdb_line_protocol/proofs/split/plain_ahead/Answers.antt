@@ -9,7 +9,6 @@ returns-clause-walked c =
 
 pub seen_past-requires-clause-inside : goal.seen_past-requires-clause-inside
 seen_past-requires-clause-inside c =
-    let within = c.requires.seen.within in
     omega (arith, short c.args.text.now c.args.ahead c.requires.seen _ c.requires.some refl)
 
 pub returns-clause-value : goal.returns-clause-value

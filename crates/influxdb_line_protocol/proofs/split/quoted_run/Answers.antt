@@ -20,5 +20,4 @@ returns-clause-later c = nothing_ahead _
 
 pub seen_past-requires-clause-inside : goal.seen_past-requires-clause-inside
 seen_past-requires-clause-inside c =
-    let within = c.requires.within in
     omega (arith, short c.args.text.now c.args.ahead c.requires _ (omega arith) refl)

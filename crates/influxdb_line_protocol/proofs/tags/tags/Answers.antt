@@ -29,8 +29,6 @@ returns-in_err-push-clause-memory c = λ refused.
     (rw c.in-Some.is at c.in_ok-next.ensures.value) (rw c.in-Some.is at c.in_ok-next.ensures.less) in
     let no_room : length c.loop-next.set.items + 1 ≤ c.loop-next.set.capacity
     → ⊥ = (λ h. let no = c.in_err-push.ensures.succeeds h in cc) in
-    let room = c.loop-next.invariant.room in
-    let full : c.args.set.now.capacity ≤ length c.loop-next.set.items = omega arith in
     more_than_room is_single_tag tag tag_read c.args.set.now.capacity more (simp (length-append, length-map) (omega arith))
 
 pub loop-next-preserved : goal.loop-next-preserved

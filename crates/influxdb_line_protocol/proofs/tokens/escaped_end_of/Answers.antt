@@ -1,4 +1,4 @@
-use Rattle.std.proofs.Common.{◌≡◌, ℕ, ◌+◌, ◌-◌, ◌<◌, ◌≤◌, List, length, take, slice_index, true, false, not, ◌∙◌, sym, ap}
+use Rattle.std.proofs.Common.{◌≡◌, ℕ, ◌+◌, ◌-◌, ◌<◌, ◌≤◌, List, length, take, slice_index, true, ◌∙◌, sym, ap}
 use Rattle.std.proofs.Common.{arith, inl, inr, refl}
 use Rattle.std.proofs.lemmas.Bool.{false≢true, cases_eq}
 use Rattle.influxdb_line_protocol.specs.declared.tokens.Backslashes.{Backslashes}
@@ -89,9 +89,6 @@ returns-else-end-at-clause-backslashes c =
     let after = after_first kind bytes at next (omega (arith, load.further, c.loop-end.invariant.after)) here stop in
     rw (← c.as_bytes-bytes.ensures.value) (told kind bytes at next _ _ here after load.walked.within ends.1 refl refl
     (λ some. absurd (omega arith)) (rw (← c.as_bytes-bytes.ensures.value) at c.requires.run))
-
-pub returns-clause-end : goal.returns-clause-end
-returns-clause-end c = rw (← c.as_bytes-bytes.ensures.value) c.escapes_to_end-end.ensures.value
 
 pub returns-clause-backslashes : goal.returns-clause-backslashes
 returns-clause-backslashes c =

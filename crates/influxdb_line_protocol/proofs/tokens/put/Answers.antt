@@ -67,37 +67,14 @@ loop-at-preserved c =
           }
     ]
 
-pub returns-in_err-push_str-2-clause-has_room : goal.returns-in_err-push_str-2-clause-has_room
-returns-in_err-push_str-2-clause-has_room c =
+pub returns-in_err-push_str-2 : goal.returns-in_err-push_str-2
+returns-in_err-push_str-2 c =
     let bytes = c.as_bytes-bytes.result.now in
     let inv = c.loop-at.invariant in
     let whole = whole_last (known_of c.args.kind) bytes (string_bytes c.loop-at.to) _ c.loop-at.from
     c.loop-at.at inv.ordered inv.within c.loop-at-test.false inv.whole in
     let rest : c.range_from.result.now ≡ drop c.loop-at.from bytes = rw c.as_bytes-bytes.ensures.value c.range_from.ensures.value in
-    absurd (omega (
-      arith,
-      c.in_err-push_str-2.ensures.full,
-      ap length whole,
-      length-append (string_bytes c.loop-at.to) (drop c.loop-at.from bytes),
-      ap length rest,
-      inv.room,
-    ))
-
-pub returns-in_err-push_str-2-clause-text : goal.returns-in_err-push_str-2-clause-text
-returns-in_err-push_str-2-clause-text c =
-    let bytes = c.as_bytes-bytes.result.now in
-    let inv = c.loop-at.invariant in
-    let whole = whole_last (known_of c.args.kind) bytes (string_bytes c.loop-at.to) _ c.loop-at.from
-    c.loop-at.at inv.ordered inv.within c.loop-at-test.false inv.whole in
-    let rest : c.range_from.result.now ≡ drop c.loop-at.from bytes = rw c.as_bytes-bytes.ensures.value c.range_from.ensures.value in
-    absurd (omega (
-      arith,
-      c.in_err-push_str-2.ensures.full,
-      ap length whole,
-      length-append (string_bytes c.loop-at.to) (drop c.loop-at.from bytes),
-      ap length rest,
-      inv.room,
-    ))
+    absurd (omega (arith, c.in_err-push_str-2.ensures.full, simp length-append at (ap length whole), ap length rest, inv.room))
 
 pub returns-clause-text : goal.returns-clause-text
 returns-clause-text c =

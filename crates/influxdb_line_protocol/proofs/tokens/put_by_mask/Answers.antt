@@ -1,7 +1,7 @@
 use Rattle.std.proofs.Common.{◌≡◌, ℕ, ◌+◌, ◌-◌, ◌≤◌, List, ◌++◌, length, drop, sym, ap, ◌∙◌, arith, string_bytes, refl}
 use Rattle.std.proofs.Common.{length-append, length-drop, append_assoc, take}
 use Rattle.std.proofs.lemmas.List.{take_all}
-use Rattle.std.proofs.lemmas.Str.{IsCharBoundary-before_ascii, IsCharBoundary-end}
+use Rattle.std.proofs.lemmas.Str.{IsCharBoundary-before_ascii}
 use Rattle.std.specs.Int.{w64, trailing_zeros}
 use Rattle.influxdb_line_protocol.specs.format.Escapes.{without_escapes}
 use Rattle.influxdb_line_protocol.specs.code.Tokens.{known_of}
@@ -29,11 +29,6 @@ loop-left-init c =
 fits : (done part rest whole : List ℕ) → done ++ (part ++ rest) ≡ whole → length done + length part ≤ length whole
 fits done part rest whole made = omega (arith, ap length made, length-append done (part ++ rest), length-append part rest)
 
-pub overflow_add-escape : goal.overflow_add-escape
-overflow_add-escape c =
-    let l = c.loop-left in
-    omega (arith, escape_within (known_of c.args.kind) c.args.spelled.now l.from l.at l.left l.invariant.left _ (omega arith) refl)
-
 pub range-requires : goal.range-requires
 range-requires c =
     let l = c.loop-left in
@@ -58,16 +53,6 @@ returns-in_err-push_str c =
     (without_escapes known text) (ap (λ (bs : List ℕ). string_bytes l.to ++ bs) (sym step) ∙ l.invariant.whole) in
     absurd (omega (arith, c.in_err-push_str.ensures.full, room, ap length c.range.ensures.value, l.invariant.room))
 
-pub overflow_add-from : goal.overflow_add-from
-overflow_add-from c =
-    let l = c.loop-left in
-    omega (arith, escape_within (known_of c.args.kind) c.args.spelled.now l.from l.at l.left l.invariant.left _ (omega arith) refl)
-
-pub loop-left-smaller : goal.loop-left-smaller
-loop-left-smaller c =
-    let l = c.loop-left in
-    omega (arith, escape_within (known_of c.args.kind) c.args.spelled.now l.from l.at l.left l.invariant.left _ (omega arith) refl)
-
 pub loop-left-preserved : goal.loop-left-preserved
 loop-left-preserved c =
     let l = c.loop-left in
@@ -84,15 +69,6 @@ loop-left-preserved c =
       whole = rw (c.in_ok-push_str.ensures.bytes, c.range.ensures.value, append_assoc)
           (ap (λ (bs : List ℕ). string_bytes l.to ++ bs) (sym step) ∙ l.invariant.whole);
       room = omega (arith, l.invariant.room, c.push_str.ensures.capacity);
-    }
-
-pub range-requires-2 : goal.range-requires-2
-range-requires-2 c =
-    let inv = c.loop-left.invariant in
-    record {
-      start_le_end = omega (arith, inv.left.ordered, inv.left.within);
-      start_boundary = inv.boundary;
-      end_boundary = IsCharBoundary-end c.args.spelled.now;
     }
 
 -- the rest of the text is what is kept of it

@@ -1,6 +1,5 @@
-use Rattle.std.proofs.Common.{◌≢◌, ◌<◌, length, slice_index, not, sym, ap, arith}
+use Rattle.std.proofs.Common.{◌≢◌, ◌<◌, length, slice_index, sym, arith}
 use Rattle.influxdb_line_protocol.specs.code.Tokens.{stops_of, known_of}
-use Rattle.influxdb_line_protocol.proofs.lemmas.tokens.EscapeMasks.{first_backslash}
 use Rattle.influxdb_line_protocol.proofs.lemmas.tokens.WalkLemmas.{run_ends, run_is_plain}
 use Rattle.influxdb_line_protocol.proofs.tokens.scan_token.Goals as goal
 use Rattle.influxdb_line_protocol.proofs.tokens.scan_token.Goals.{else-end-bytes-via-then-end-bytes+else-bytes-end-eq92}

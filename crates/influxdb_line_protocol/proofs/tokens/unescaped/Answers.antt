@@ -1,9 +1,8 @@
-use Rattle.std.proofs.Common.{◌≡◌, false, true, refl, arith}
+use Rattle.std.proofs.Common.{◌≡◌, true, arith}
 use Rattle.std.proofs.lemmas.Grind.{common_steps}
-use Rattle.influxdb_line_protocol.specs.format.Bytes.{is_one_of}
 use Rattle.influxdb_line_protocol.specs.code.Tokens.{known_of}
 use Rattle.influxdb_line_protocol.specs.format.Names.{is_one_escape}
-use Rattle.influxdb_line_protocol.proofs.lemmas.tokens.TokenLemmas.{read_escape, read_plain}
+use Rattle.influxdb_line_protocol.proofs.lemmas.tokens.TokenLemmas.{read_escape}
 use Rattle.influxdb_line_protocol.proofs.tokens.unescaped.Goals as goal
 
 pub returns-then-matches-clause-text : goal.returns-then-matches-clause-text

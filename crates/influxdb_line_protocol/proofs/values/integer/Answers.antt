@@ -4,12 +4,9 @@ use Rattle.std.specs.Int.{w64}
 use Rattle.std.proofs.lemmas.Int.{to_z-of_z}
 use Rattle.std.specs.Str.Parse.{signed_digits_value}
 use Rattle.influxdb_line_protocol.specs.format.Values.{integer_len}
-use Rattle.influxdb_line_protocol.proofs.lemmas.literals.FloatLemmas.{signed_front, integer_boundary}
+use Rattle.influxdb_line_protocol.proofs.lemmas.literals.FloatLemmas.{signed_front}
 use Rattle.influxdb_line_protocol.proofs.lemmas.values.ValueLemmas.{fits_from_test, integer_overflows, integer_reads, letter_boundary}
 use Rattle.influxdb_line_protocol.proofs.values.integer.Goals as goal
-
-pub split_at-requires : goal.split_at-requires
-split_at-requires c = rw c.requires.whole (integer_boundary c.args.text.now c.utf8.text)
 
 pub integer_value-requires-clause-signed : goal.integer_value-requires-clause-signed
 integer_value-requires-clause-signed c =

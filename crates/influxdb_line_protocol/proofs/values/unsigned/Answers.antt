@@ -1,11 +1,8 @@
-use Rattle.std.proofs.Common.{◌<◌, arith, rules, refl, zero-add}
+use Rattle.std.proofs.Common.{◌<◌, arith, rules, refl}
 use Rattle.influxdb_line_protocol.specs.format.Values.{digits_len}
-use Rattle.influxdb_line_protocol.proofs.lemmas.values.ValueLemmas.{front_numeral, digits_boundary, letter_boundary}
+use Rattle.influxdb_line_protocol.proofs.lemmas.values.ValueLemmas.{front_numeral, letter_boundary}
 use Rattle.influxdb_line_protocol.proofs.lemmas.values.ValueLemmas.{unsigned_overflows, unsigned_reads}
 use Rattle.influxdb_line_protocol.proofs.values.unsigned.Goals as goal
-
-pub split_at-requires : goal.split_at-requires
-split_at-requires c = rw zero-add at (digits_boundary c.args.text.now 0 c.args.whole c.utf8.text c.requires.whole c.requires.some)
 
 pub unsigned_value-requires-clause-numeral : goal.unsigned_value-requires-clause-numeral
 unsigned_value-requires-clause-numeral c =

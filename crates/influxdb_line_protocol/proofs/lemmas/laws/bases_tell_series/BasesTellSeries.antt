@@ -22,7 +22,7 @@ use Rattle.influxdb_line_protocol.specs.format.Readings.{Fault, Read, Reading, T
 use Rattle.influxdb_line_protocol.proofs.lemmas.series.BaseLemmas.{base_falls, base_owned, base_part}
 use Rattle.influxdb_line_protocol.proofs.lemmas.laws.meanings.JoinedMeaning.{the_most_is_read}
 use Rattle.influxdb_line_protocol.proofs.lemmas.names.NameLemmas.{without_escapes_same, no_backslash}
-use Rattle.influxdb_line_protocol.proofs.lemmas.fields.ReadingLemmas.{bind_reads, byte_parts, name_parts, reads_parts}
+use Rattle.influxdb_line_protocol.proofs.lemmas.fields.ReadingLemmas.{byte_parts, name_parts, pair_parts}
 use Rattle.influxdb_line_protocol.proofs.lemmas.laws.meanings.ShorterRests.{tag_no_longer}
 use Rattle.influxdb_line_protocol.proofs.lemmas.laws.bases_tell_series.SortedTags.{by_key_in_order, by_key_same}
 
@@ -54,20 +54,15 @@ pub record TagParts (text : List ℕ) (x : Pair Text Text) (rest : List ℕ) : T
 pub tag_parts : (text : List ℕ) (x : Pair Text Text) (rest : List ℕ) → tag text ≡ reads x rest → TagParts text x rest
 unfolding tag
 tag_parts text x rest e =
-    let k = bind_reads (name a_tag_key text) _ x rest e in
-    let mark = bind_reads (byte 61 k.mid) _ x rest k.next in
-    let v = bind_reads (name a_tag_value mark.mid) _ x rest mark.next in
-    let pair : Pair Text Text = record { key = k.first; value = v.first } in
-    let parts = reads_parts pair x v.mid rest v.next in
-    let key = name_parts a_tag_key text k.first k.mid k.was in
-    let equal = byte_parts 61 k.mid mark.first mark.mid mark.was in
-    let value = name_parts a_tag_value mark.mid v.first v.mid v.was in
-    let there : drop (spelled_len a_tag_key text) text ≡ 61 ∷ mark.mid = sym key.1 ∙ equal.1 in
-    let past : value_part text ≡ mark.mid = drop_past (spelled_len a_tag_key text) text 61 mark.mid there in
+    let p = pair_parts a_tag_key (name a_tag_value) text x rest e in
+    let key = name_parts a_tag_key text x.key (61 ∷ p.mid) p.key in
+    let value = name_parts a_tag_value p.mid x.value rest p.value in
+    let there : drop (spelled_len a_tag_key text) text ≡ 61 ∷ p.mid = sym key.1 in
+    let past : value_part text ≡ p.mid = drop_past (spelled_len a_tag_key text) text 61 p.mid there in
     record {
-      key_is = ap (λ (p : Pair Text Text). p.key) (sym parts.0) ∙ key.0;
-      value_is = rw past (ap (λ (p : Pair Text Text). p.value) (sym parts.0) ∙ value.0);
-      rest_is = rw past (sym parts.1 ∙ value.1);
+      key_is = key.0;
+      value_is = rw past value.0;
+      rest_is = rw past value.1;
       text_is = rw past (sym (take-append-drop (spelled_len a_tag_key text) text) ∙ ap (λ (r : List ℕ). spelled a_tag_key text ++ r) there);
     }
 

@@ -6,7 +6,7 @@ use Rattle.std.proofs.Math.Seq.{take-append_seam}
 use Rattle.std.proofs.lemmas.Bool.{cases_Bool}
 use Rattle.std.proofs.lemmas.List.{append_cancel_left, take-append-drop}
 use Rattle.influxdb_line_protocol.specs.laws.BaseLaws.{IsParsedSeries, ReadSeriesAreParsed}
-use Rattle.influxdb_line_protocol.specs.format.Lines.{after_comma, byte, front_before, many, some_tags, tag, tag_set}
+use Rattle.influxdb_line_protocol.specs.format.Lines.{after_comma, front_before, many, some_tags, tag, tag_set}
 use Rattle.influxdb_line_protocol.specs.laws.Meanings.{IsAtStop, SeparatedAfterComma}
 use Rattle.influxdb_line_protocol.specs.format.Names.{NameKind, a_measurement, a_tag_key, a_tag_value, ends_in_backslash}
 use Rattle.influxdb_line_protocol.specs.format.Names.{escapable, is_stop, logical, name, read_text, spelled, spelled_len}
@@ -14,7 +14,7 @@ use Rattle.influxdb_line_protocol.specs.format.Points.{Pair}
 use Rattle.influxdb_line_protocol.specs.format.Readings.{Reading, Text, reads}
 use Rattle.influxdb_line_protocol.proofs.lemmas.laws.bases_tell_series.BasesTellSeries.{set_separated}
 use Rattle.influxdb_line_protocol.proofs.lemmas.laws.parsed_names.ParsedNames.{answer_parts}
-use Rattle.influxdb_line_protocol.proofs.lemmas.fields.ReadingLemmas.{bind_reads, byte_parts, name_parts, reads_parts}
+use Rattle.influxdb_line_protocol.proofs.lemmas.fields.ReadingLemmas.{name_parts, pair_parts, reads_parts}
 use Rattle.influxdb_line_protocol.proofs.lemmas.laws.meanings.ShorterRests.{tag_no_longer}
 use Rattle.influxdb_line_protocol.proofs.lemmas.laws.meanings.StopMeaning.{before_stop}
 
@@ -84,26 +84,19 @@ tag_by line after rest k v e f = rw (e, f) refl
 tag_cut : (text : List ℕ) (x : Pair Text Text) (rest : List ℕ) → tag text ≡ reads x rest → ReadsCut tag text x rest
 unfolding tag
 tag_cut text x rest e =
-    let k = bind_reads (name a_tag_key text) _ x rest e in
-    let mark = bind_reads (byte 61 k.mid) _ x rest k.next in
-    let v = bind_reads (name a_tag_value mark.mid) _ x rest mark.next in
-    let pair : Pair Text Text = record { key = k.first; value = v.first } in
-    let parts = reads_parts pair x v.mid rest v.next in
-    let equal = (byte_parts 61 k.mid mark.first mark.mid mark.was).1 in
-    let key = name_cut a_tag_key text k.first k.mid k.was in
-    let value = name_cut a_tag_value mark.mid v.first v.mid v.was in
-    let left : k.mid ≡ (61 ∷ value.front) ++ rest = equal
-    ∙ ap (λ (r : List ℕ). 61 ∷ r) (value.is ∙ ap (λ (r : List ℕ). value.front ++ r) parts.1) in
+    let p = pair_parts a_tag_key (name a_tag_value) text x rest e in
+    let key = name_cut a_tag_key text x.key (61 ∷ p.mid) p.key in
+    let value = name_cut a_tag_value p.mid x.value rest p.value in
+    let left : 61 ∷ p.mid ≡ (61 ∷ value.front) ++ rest = ap (λ (r : List ℕ). 61 ∷ r) value.is in
     record {
       front = key.front ++ 61 ∷ value.front;
       is = key.is ∙ ap (λ (r : List ℕ). key.front ++ r) left ∙ sym (append_assoc key.front (61 ∷ value.front) rest);
       again = λ kept lost at.
-          let cut : k.mid ≡ (61 ∷ value.front ++ kept) ++ lost =
+          let cut : 61 ∷ p.mid ≡ (61 ∷ value.front ++ kept) ++ lost =
           left ∙ ap (λ (r : List ℕ). (61 ∷ value.front) ++ r) at ∙ sym (append_assoc (61 ∷ value.front) kept lost) in
           ap tag (append_assoc key.front (61 ∷ value.front) kept)
-          ∙ tag_by (key.front ++ (61 ∷ value.front ++ kept)) (value.front ++ kept) kept k.first v.first
-          (key.again (61 ∷ value.front ++ kept) lost cut) (value.again kept lost (parts.1 ∙ at))
-          ∙ ap (λ (p : Pair Text Text). reads p kept) parts.0;
+          ∙ tag_by (key.front ++ (61 ∷ value.front ++ kept)) (value.front ++ kept) kept x.key x.value
+          (key.again (61 ∷ value.front ++ kept) lost cut) (value.again kept lost at);
     }
 
 -- a front of the text with these tags, each after a comma, and nothing after them

@@ -51,7 +51,6 @@ newline_place : (p q t x : List ℕ) → p ++ 10 ∷ t ≡ q ++ x → ((y : List
 newline_place p [] t x e = inr (p, refl, e)
 newline_place [] (b ∷ q) t x e = let h : 10 ≡ b = cc in inl (q, ap (λ c. c ∷ q) (sym h))
 newline_place (a ∷ p) (b ∷ q) t x e =
-    let h : a ≡ b = cc in
     let k : p ++ 10 ∷ t ≡ q ++ x = cc in
     elim (newline_place p q t x k) [
       | inl w ↦ let i = w.1 in inl (w.0, cc)

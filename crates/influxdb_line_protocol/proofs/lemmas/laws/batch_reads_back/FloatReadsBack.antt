@@ -82,7 +82,6 @@ whole_unmarked : (whole suffix : List ℕ) → IsSigned (codes "-") whole
     → unsigned_at (whole ++ suffix) ≡ miss
 whole_unmarked [] suffix never head = absurd never
 whole_unmarked (b ∷ ds) suffix (inl signed) head =
-    let mark : is_one_of (codes "-") b ≡ true = signed.0 in
     let no_digit : is_ascii_digit b ≡ false = grind (arith, common_steps) in
     let other : b ≢ 117 = λ e. grind (arith, common_steps) in
     unsigned_unmarked (b ∷ ds ++ suffix) (rw no_digit other)

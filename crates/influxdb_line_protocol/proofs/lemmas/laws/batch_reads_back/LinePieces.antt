@@ -290,7 +290,6 @@ measurement_untrimmed (b ∷ n) rest ok =
     elim (cases_Bool (is_escapable a_measurement b)) [
       | inl known ↦ rw (escaped_found (escapable a_measurement) n b known) refl
       | inr plain ↦
-          let may : may_hold a_measurement b ≡ true = first.0 in
           let no_newline : (b == 10) ≡ false = grind (arith, common_steps) in
           let no_blank : is_blank b ≡ false = grind (arith, common_steps) in
           rw (escaped_plain (escapable a_measurement) n b plain, no_newline, first.1, no_blank) refl

@@ -8,24 +8,25 @@ use Rattle.std.specs.Str.Parse.{digits_value, signed_digits_value}
 use Rattle.std.proofs.lemmas.Bool.{eqb-false}
 use Rattle.std.proofs.lemmas.Bool.Decides.{nat_tests}
 use Rattle.influxdb_line_protocol.specs.format.Dialects.{Dialect}
-use Rattle.influxdb_line_protocol.specs.format.Bytes.{equals, letter_i, letter_u, quote}
+use Rattle.influxdb_line_protocol.specs.format.Bytes.{letter_i, letter_u, quote}
 use Rattle.influxdb_line_protocol.specs.format.Readings.{Fault, integer_value_invalid, uinteger_value_invalid}
 use Rattle.influxdb_line_protocol.specs.format.Readings.{timestamp_value_invalid, above, Text, Read, Reading, miss, fatal}
-use Rattle.influxdb_line_protocol.specs.format.Readings.{reads, ◌>>=◌, ◌otherwise◌}
-use Rattle.influxdb_line_protocol.specs.format.Names.{a_field_key, name, read_text}
+use Rattle.influxdb_line_protocol.specs.format.Readings.{reads, ◌otherwise◌}
+use Rattle.influxdb_line_protocol.specs.format.Names.{a_field_key, read_text}
 use Rattle.influxdb_line_protocol.specs.format.Values.{Value, integer, unsigned, float, string, boolean, integer_len}
 use Rattle.influxdb_line_protocol.specs.format.Values.{digits_len, float_len, word_len, body_len, quotable, true_words}
 use Rattle.influxdb_line_protocol.specs.format.Values.{false_words, fits_i64, side_of, integer_at, unsigned_at, float_at}
 use Rattle.influxdb_line_protocol.specs.format.Values.{string_at, boolean_at, value}
 use Rattle.influxdb_line_protocol.specs.format.Points.{Pair, IsValue}
-use Rattle.influxdb_line_protocol.specs.format.Lines.{Line, answer, logical_field, logical_value, byte, field}
+use Rattle.influxdb_line_protocol.specs.format.Lines.{Line, answer, logical_field, logical_value, field}
 use Rattle.influxdb_line_protocol.specs.format.Lines.{separated_list, field_set, without_comma, spaces}
 use Rattle.influxdb_line_protocol.specs.format.Lines.{timestamp}
 use Rattle.influxdb_line_protocol.specs.laws.PointsOfLines.{LinesArePoints}
 use Rattle.influxdb_line_protocol.specs.code.WrittenAgain.{IsReadValue}
 use Rattle.influxdb_line_protocol.proofs.lemmas.literals.FloatLemmas.{float_len_float}
 use Rattle.influxdb_line_protocol.proofs.lemmas.builder.ReadStrings.{body_read}
-use Rattle.influxdb_line_protocol.proofs.lemmas.laws.parsed_names.Inversions.{bound, joined_of}
+use Rattle.influxdb_line_protocol.proofs.lemmas.laws.parsed_names.Inversions.{joined_of}
+use Rattle.influxdb_line_protocol.proofs.lemmas.fields.ReadingLemmas.{bind_reads, pair_parts}
 use Rattle.influxdb_line_protocol.proofs.lemmas.laws.parsed_names.ParsedNames.{ok_same, answer_parts}
 use Rattle.influxdb_line_protocol.proofs.lemmas.line.SomeTags.{joined_some}
 
@@ -129,12 +130,7 @@ FieldFits f = Fits f.value
 field_fits : (line : List ℕ) (f : Pair Text (Value Text)) (rest : List ℕ) → field line ≡ reads f rest → FieldFits f
 unfolding field
 field_fits line f rest h =
-    let last : Text → Read (Value Text) → Reading (Pair Text (Value Text)) = λ k x. reads (record { key = k; value = x.value }) x.rest in
-    let key = bound (name a_field_key line) (λ k. byte equals k.rest >>= λ after. value after.rest >>= last k.value) f rest h in
-    let sign = bound (byte equals key.after) (λ after. value after.rest >>= last key.value) f rest key.second in
-    let x = bound (value sign.after) (last key.value) f rest sign.second in
-    let same : record { key = key.value; value = x.value } ≡ f = cc (x.second) in
-    subst FieldFits same (value_fits sign.after x.value x.after x.first)
+    let p = pair_parts a_field_key value line f rest h in value_fits p.mid f.value rest p.value
 
 -- the fields of a line: at least one, and each with a value of its type
 record SomeFit (fs : List (Pair Text (Value Text))) : Type 0 where
@@ -144,12 +140,12 @@ record SomeFit (fs : List (Pair Text (Value Text))) : Type 0 where
 field_set_fits : (dialect : Dialect) (line rest : List ℕ) (fs : List (Pair Text (Value Text)))
     → field_set dialect line ≡ reads fs rest → SomeFit fs
 field_set_fits dialect line rest fs h =
-    let parts = bound (separated_list field line) (λ xs. reads xs.value (without_comma dialect xs.value xs.rest)) fs rest h in
-    let same : parts.value ≡ fs = cc (parts.second) in
+    let parts = bind_reads (separated_list field line) (λ xs. reads xs.value (without_comma dialect xs.value xs.rest)) fs rest h in
+    let same : parts.first ≡ fs = cc (parts.next) in
     subst SomeFit same
     (record {
-      some = joined_some field line parts.after parts.value parts.first;
-      fit = joined_of FieldFits field field_fits line parts.after parts.value parts.first;
+      some = joined_some field line parts.mid parts.first parts.was;
+      fit = joined_of FieldFits field field_fits line parts.mid parts.first parts.was;
     })
 
 -- a timestamp, under its tests

@@ -47,7 +47,6 @@ module _ {A : Type 0} where
   chain_same f g [] (y ∷ ys) text a b h k none nor = absurd (none y k.0 (ap f (sym h) ∙ k.1))
   chain_same f g (x ∷ xs) [] text a b h k none nor = absurd (nor x h.0 (ap f (sym k) ∙ h.1))
   chain_same f g (x ∷ xs) (y ∷ ys) text a b h k none nor =
-      let e = sym h.1 ∙ k.1 in
       let first : x ≡ y = cc in
       let same : k.0 ≡ h.0 = cc in
       let more = chain_same g g xs ys h.0 a b h.2 (subst (λ (t : List ℕ). Chain g g ys t b) same k.2) none nor in

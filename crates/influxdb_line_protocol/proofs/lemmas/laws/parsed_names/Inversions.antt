@@ -3,22 +3,10 @@ use Rattle.std.proofs.Common.{◌≡◌, ℕ, zero, suc, List, [], ◌∷◌, �
 use Rattle.std.proofs.Common.{refl, ap, subst}
 use Rattle.std.specs.List.{AllByRecursion}
 use Rattle.influxdb_line_protocol.specs.format.Bytes.{comma}
-use Rattle.influxdb_line_protocol.specs.format.Readings.{Read, Reading, miss, fatal, reads, ◌>>=◌}
+use Rattle.influxdb_line_protocol.specs.format.Readings.{Reading, miss, fatal, reads}
 use Rattle.influxdb_line_protocol.specs.format.Lines.{byte}
 use Rattle.influxdb_line_protocol.specs.format.Lines.{after_comma, prepend, one_and_more, many, separated_list}
-
--- what was read in two steps
-pub record Bound {A B : Type 0} (r : Reading A) (f : Read A → Reading B) (y : B) (rest : List ℕ) : Type 0 where
-  pub value : A
-  pub after : List ℕ
-  pub first : r ≡ reads value after
-  pub second : f (record { value = value; rest = after }) ≡ reads y rest
-
--- each reading of two steps is such
-pub bound : {A B : Type 0} (r : Reading A) (f : Read A → Reading B) (y : B) (rest : List ℕ) → (r >>= f) ≡ reads y rest → Bound r f y rest
-bound miss f y rest h = absurd (cc)
-bound (fatal e) f y rest h = absurd (cc)
-bound (reads x after) f y rest h = record { value = x; after = after; first = refl; second = h }
+use Rattle.influxdb_line_protocol.proofs.lemmas.fields.ReadingLemmas.{bind_reads}
 
 -- what was added to
 pub record Onto {A : Type 0} (xs : List A) (r : Reading (List A)) (zs : List A) (rest : List ℕ) : Type 0 where
@@ -64,17 +52,17 @@ after_comma_of : {A : Type 0} (P : A → Type 0) (one : List ℕ → Reading A)
     → ((line : List ℕ) (x : A) (rest : List ℕ) → one line ≡ reads x rest → P x)
     → (line : List ℕ) (x : A) (rest : List ℕ) → after_comma one line ≡ reads x rest → P x
 after_comma_of P one each line x rest h =
-    let parts = bound (byte comma line) (λ after. one after.rest) x rest h in
-    each parts.after x rest parts.second
+    let parts = bind_reads (byte comma line) (λ after. one after.rest) x rest h in
+    each parts.mid x rest parts.next
 
 -- each of those that are joined by commas
 pub joined_of : {A : Type 0} (P : A → Type 0) (one : List ℕ → Reading A)
     → ((line : List ℕ) (x : A) (rest : List ℕ) → one line ≡ reads x rest → P x)
     → (line rest : List ℕ) (xs : List A) → separated_list one line ≡ reads xs rest → AllByRecursion P xs
 joined_of P one each line rest xs h =
-    let parts = bound (one line) (λ x. prepend (x.value ∷ []) (many (after_comma one) (length x.rest) x.rest)) xs rest h in
-    let more = prepend_parts (parts.value ∷ []) (many (after_comma one) (length parts.after) parts.after) xs rest parts.second in
+    let parts = bind_reads (one line) (λ x. prepend (x.value ∷ []) (many (after_comma one) (length x.rest) x.rest)) xs rest h in
+    let more = prepend_parts (parts.first ∷ []) (many (after_comma one) (length parts.mid) parts.mid) xs rest parts.next in
     subst (AllByRecursion P) more.all (
-      each line parts.value parts.after parts.first,
-      many_of P (after_comma one) (after_comma_of P one each) (length parts.after) parts.after rest more.more more.are,
+      each line parts.first parts.mid parts.was,
+      many_of P (after_comma one) (after_comma_of P one each) (length parts.mid) parts.mid rest more.more more.are,
     )

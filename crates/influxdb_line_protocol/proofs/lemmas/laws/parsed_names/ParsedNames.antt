@@ -8,9 +8,9 @@ use Rattle.std.proofs.lemmas.Bool.{cases_Bool, or_parts}
 use Rattle.std.proofs.lemmas.Bool.{eqb-false, eqb-true}
 use Rattle.std.proofs.lemmas.List.Elements.{Contains-append_cases}
 use Rattle.influxdb_line_protocol.specs.format.Dialects.{Dialect, Strict}
-use Rattle.influxdb_line_protocol.specs.format.Bytes.{space, equals}
+use Rattle.influxdb_line_protocol.specs.format.Bytes.{space}
 use Rattle.influxdb_line_protocol.specs.format.Readings.{Fault, measurement_value_invalid, field_set_missing, take_while1}
-use Rattle.influxdb_line_protocol.specs.format.Readings.{Text, Read, Reading, miss, fatal, reads, ◌>>=◌, or_fault}
+use Rattle.influxdb_line_protocol.specs.format.Readings.{Text, Read, Reading, miss, fatal, reads, or_fault}
 use Rattle.influxdb_line_protocol.specs.format.Names.{NameKind, a_measurement, a_tag_key, a_tag_value, a_field_key}
 use Rattle.influxdb_line_protocol.specs.format.Names.{name}
 use Rattle.influxdb_line_protocol.specs.format.Values.{Value, value}
@@ -25,7 +25,8 @@ use Rattle.influxdb_line_protocol.specs.laws.NamesOfLines.{names_of, IsParsedNam
 use Rattle.influxdb_line_protocol.specs.laws.Laws.{NamesAreParsed, StrictFieldsEnd}
 use Rattle.influxdb_line_protocol.proofs.lemmas.line.TrimLemmas.{is_blank, left_of, trimmed_is}
 use Rattle.influxdb_line_protocol.proofs.lemmas.laws.parsed_names.KeptNames.{name_parsed}
-use Rattle.influxdb_line_protocol.proofs.lemmas.laws.parsed_names.Inversions.{bound, joined_of}
+use Rattle.influxdb_line_protocol.proofs.lemmas.laws.parsed_names.Inversions.{joined_of}
+use Rattle.influxdb_line_protocol.proofs.lemmas.fields.ReadingLemmas.{bind_reads, pair_parts}
 use Rattle.influxdb_line_protocol.proofs.lemmas.laws.Elements.{first_or_later}
 
 -- the names of a tag, and that of a field
@@ -40,26 +41,14 @@ ParsedField f = IsParsedName a_field_key f.key.bytes
 tag_parsed : (line : List ℕ) (t : Pair Text Text) (rest : List ℕ) → tag line ≡ reads t rest → ParsedTag t
 unfolding tag
 tag_parsed line t rest h =
-    let last : Text → Read Text → Reading (Pair Text Text) = λ k x. reads (record { key = k; value = x.value }) x.rest in
-    let key = bound (name a_tag_key line) (λ k. byte equals k.rest >>= λ after. name a_tag_value after.rest >>= last k.value) t rest h in
-    let sign = bound (byte equals key.after) (λ after. name a_tag_value after.rest >>= last key.value) t rest key.second in
-    let x = bound (name a_tag_value sign.after) (last key.value) t rest sign.second in
-    let same : record { key = key.value; value = x.value } ≡ t = cc (x.second) in
-    subst ParsedTag same (
-      name_parsed a_tag_key line key.after key.value key.first tt,
-      name_parsed a_tag_value sign.after x.after x.value x.first tt,
-    )
+    let p = pair_parts a_tag_key (name a_tag_value) line t rest h in
+    (name_parsed a_tag_key line (61 ∷ p.mid) t.key p.key tt, name_parsed a_tag_value p.mid rest t.value p.value tt)
 
 -- the key of each field that is read
 field_parsed : (line : List ℕ) (f : Pair Text (Value Text)) (rest : List ℕ) → field line ≡ reads f rest → ParsedField f
 unfolding field
 field_parsed line f rest h =
-    let last : Text → Read (Value Text) → Reading (Pair Text (Value Text)) = λ k x. reads (record { key = k; value = x.value }) x.rest in
-    let key = bound (name a_field_key line) (λ k. byte equals k.rest >>= λ after. value after.rest >>= last k.value) f rest h in
-    let sign = bound (byte equals key.after) (λ after. value after.rest >>= last key.value) f rest key.second in
-    let x = bound (value sign.after) (last key.value) f rest sign.second in
-    let same : record { key = key.value; value = x.value } ≡ f = cc (x.second) in
-    subst ParsedField same (name_parsed a_field_key line key.after key.value key.first tt)
+    let p = pair_parts a_field_key value line f rest h in name_parsed a_field_key line (61 ∷ p.mid) f.key p.key tt
 
 -- two parts that are read are the same where their results are
 pub ok_same : {A : Type 0} (x y : A) → (let f : Result A Fault = Ok x in f) ≡ Ok y → x ≡ y
@@ -98,9 +87,9 @@ tag_set_parsed (c ∷ line) rest ts h =
 field_set_parsed : (dialect : Dialect) (line rest : List ℕ) (fs : List (Pair Text (Value Text)))
     → field_set dialect line ≡ reads fs rest → AllByRecursion ParsedField fs
 field_set_parsed dialect line rest fs h =
-    let parts = bound (separated_list field line) (λ xs. reads xs.value (without_comma dialect xs.value xs.rest)) fs rest h in
-    let same : parts.value ≡ fs = cc (parts.second) in
-    subst (AllByRecursion ParsedField) same (joined_of ParsedField field field_parsed line parts.after parts.value parts.first)
+    let parts = bind_reads (separated_list field line) (λ xs. reads xs.value (without_comma dialect xs.value xs.rest)) fs rest h in
+    let same : parts.first ≡ fs = cc (parts.next) in
+    subst (AllByRecursion ParsedField) same (joined_of ParsedField field field_parsed line parts.mid parts.first parts.was)
 
 -- what the parts of an answer were read from
 pub record Parts (dialect : Dialect) (line : List ℕ) (l : Line) : Type 0 where

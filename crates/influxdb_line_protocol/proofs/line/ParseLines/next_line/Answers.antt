@@ -4,21 +4,6 @@ use Rattle.std.proofs.lemmas.Bool.Decides.{nat_tests}
 use Rattle.influxdb_line_protocol.proofs.lemmas.line.ParseStepsLemmas.{Skipped-more, items_less}
 use Rattle.influxdb_line_protocol.proofs.line.ParseLines.next_line.Goals as goal
 
-pub returns-then-not-is_empty-clause-gives : goal.returns-then-not-is_empty-clause-gives
-returns-then-not-is_empty-clause-gives c =
-    let some : 0 < length c.trimmed-line.result.now = grind (arith, nat_tests) in (
-      c.in-Some.ensures.steps.0 ∙ c.loop-piece.invariant.dialect,
-      λ others h. let s = c.loop-piece.invariant.skipped _ (c.in-Some.ensures.steps.1 others h) in
-          record {
-            skipped = s.skipped;
-            piece = c.in-Some.piece.now;
-            left = s.left;
-            blank = s.blank;
-            some = some;
-            line_is = c.trimmed-line.ensures;
-          },
-    )
-
 pub returns-then-not-is_empty-clause-fewer : goal.returns-then-not-is_empty-clause-fewer
 returns-then-not-is_empty-clause-fewer c =
     let g = (c.in-Some.ensures.goes.on tt).2 in
