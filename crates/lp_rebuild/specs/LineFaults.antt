@@ -20,8 +20,8 @@ item_text too_long = codes "the line is too long"
 abbrev pub line_fault : ℕ → Item → List ℕ
 line_fault line item = if is_carried_item item then [] else fault_line_on line (item_text item)
 
--- the fault lines of the items of pieces that are not carried, where the first piece begins on this line: each newline
--- within a piece, and the one that ends it, is followed by one line more
+-- the fault lines of the items of pieces that are not carried, where the first piece begins on this line: each newline, within
+-- a piece or at its end, begins a line
 abbrev pub line_faults : Dialect → Option ℕ → ℕ → List (List ℕ) → List ℕ
 line_faults dialect limit line [] = []
 line_faults dialect limit line (piece ∷ pieces) =

@@ -2,7 +2,7 @@
 //! one is a fault, numbered, in another.
 //!
 //! [`rebuild`] does it for a text, [`run`] from a reader to two writers, and [`relay`] does so as the lines come, of which
-//! [`relay_within`] passes over those that are too long.
+//! [`relay_within`] passes over those that are too long. The faults of [`relay_numbered`] can name lines of the input.
 #![tactic(auto)]
 
 mod batch;

@@ -153,9 +153,9 @@ fn by_items_it_is_a_relay_with_a_limit(rt: HostRuntime) {
             assert_eq!(rt; wrote.answer, answer, "at {limit}");
             assert_eq!(rt; wrote.out.as_slice(), out.as_slice(), "at {limit}");
             assert_eq!(rt; wrote.err.as_slice(), err.as_slice(), "at {limit}");
-            let by_lines = by_lines(alloc, dialect, limit, LINES, false);
-            assert_eq!(rt; by_lines.answer, answer, "at {limit}");
-            assert_eq!(rt; by_lines.out.as_slice(), out.as_slice(), "at {limit}");
+            let other = by_lines(alloc, dialect, limit, LINES, false);
+            assert_eq!(rt; other.answer, answer, "at {limit}");
+            assert_eq!(rt; other.out.as_slice(), out.as_slice(), "at {limit}");
         }
     }
 }
