@@ -173,6 +173,10 @@ ends 2 "lp_relay: cannot write the output"
 echo "arguments: the relay ends where its input fails and where its output is full or closed"
 
 # Standard error is a terminal: progress is shown once a second has passed, and cleared before the fault line.
+if ! command -v script >/dev/null; then
+    echo "arguments: there is no script here, so no terminal was tried"
+    exit 0
+fi
 mkfifo "$work/fifo"
 { printf 'm a=1i\n'; sleep 2.5; printf 'm a=,\n'; } >"$work/fifo" &
 command="'$relay' --progress <'$work/fifo' >'$work/out'"

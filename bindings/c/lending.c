@@ -12,6 +12,10 @@ struct seen { int lines, faults, out_of_memory, more_parts, more_room, others; }
 static const char TEXT[] = "c\\ pu,h\\=ost=A\\ B,zone=w msg=\"a\\\"b\",up=t 5\nm 5\n\nm f=99999999999999999999i\n"
                            "# a comment\nm f=1 rest\nlast f=1";
 
+/* A line with more tags and fields than sets have room for at first, and one that is at fault after as many. */
+#define MANY "m,a=1,b=1,c=1,d=1,e=1,f=1,g=1,h=1,i=1 a=1,b=1,c=1,d=1,e=1"
+static const char GROWN[] = MANY "\n" MANY " rest";
+
 /* Each lent block is of just the length that was asked for, so that the address sanitizer sees what is touched past it. */
 static struct seen read_all(const uint8_t *text, size_t len, bool strict) {
     struct seen seen = { 0, 0, 0, 0, 0, 0 };
@@ -80,10 +84,29 @@ static int pieces(const uint8_t *text, size_t len) {
     return count;
 }
 
+/* Refuses each request for memory of this many in turn: one item of `items` is out of memory, and the others are as ever. */
+static int refuse_each(const uint8_t *text, size_t len, long requests, int items) {
+    int failed = 0;
+    for (long at = 0; at < requests; at++) {
+        lp_refused = at;
+        lp_requests = 0;
+        struct seen seen = read_all(text, len, at % 2);
+        failed |= seen.out_of_memory != 1 || seen.others || seen.lines + seen.faults != items - 1;
+    }
+    lp_refused = -1;
+    return failed;
+}
+
+/* A copy in a block of just its length. */
+static uint8_t *copy_of(const char *text, size_t len) {
+    uint8_t *copy = malloc(len);
+    memcpy(copy, text, len);
+    return copy;
+}
+
 int main(void) {
-    size_t len = sizeof TEXT - 1;
-    uint8_t *text = malloc(len);
-    memcpy(text, TEXT, len);
+    size_t len = sizeof TEXT - 1, grown_len = sizeof GROWN - 1;
+    uint8_t *text = copy_of(TEXT, len), *grown = copy_of(GROWN, grown_len);
     lp_lines lines = LP_NO_LINES;
     int failed = lp_version() != 20000 || lp_lines_begin((const uint8_t *)"\xff", 1, false, &lines) || pieces(text, len) != 7;
     lp_requests = 0;
@@ -93,14 +116,16 @@ int main(void) {
     struct seen wide = read_blocks(text, len, 8, 64), narrow = read_blocks(text, len, 4, 20);
     failed |= wide.lines != 2 || wide.faults != 3 || wide.others || wide.more_parts || wide.more_room;
     failed |= narrow.lines != 2 || narrow.faults != 3 || narrow.others || narrow.more_parts + narrow.more_room == 0;
-    for (long at = 0; at < requests; at++) {
-        lp_refused = at;
-        lp_requests = 0;
-        struct seen seen = read_all(text, len, at % 2);
-        failed |= seen.out_of_memory != 1 || seen.others || seen.lines + seen.faults != 4;
-    }
+    failed |= refuse_each(text, len, requests, 5);
+    lp_requests = 0;
+    struct seen more = read_all(grown, grown_len, false);
+    long grown_requests = lp_requests;
+    failed |= more.lines != 1 || more.faults != 1 || more.others || more.out_of_memory || grown_requests < 4;
+    failed |= refuse_each(grown, grown_len, grown_requests, 2);
+    free(grown);
     free(text);
     printf("%d lines, %d faults, more parts %d times, more room %d times; each of %ld requests refused in turn\n",
-        all.lines, all.faults, all.more_parts, all.more_room, requests);
+        all.lines + more.lines, all.faults + more.faults, all.more_parts + more.more_parts, all.more_room + more.more_room,
+        requests + grown_requests);
     return failed;
 }

@@ -15,6 +15,7 @@ use influxdb_line_protocol::{
     split_lines_in,
 };
 use std::alloc::Global;
+use std::mem;
 
 /// The version of the library: 10,000 times its first number, 100 times its second, and its third.
 #[unsafe(no_mangle)]
@@ -146,6 +147,34 @@ pub(crate) fn read_next<'a>(
     answer.number()
 }
 
+// Frees the memory of a tag set that has grown.
+#[inline(never)]
+fn free_tags<'a>(alloc: Global, tags: &mut TagSet<'a>) {
+    *tags = TagSet::new(alloc);
+}
+
+// Frees the memory of a field set that has grown.
+#[inline(never)]
+fn free_fields<'a>(alloc: Global, fields: &mut FieldSet<'a>) {
+    *fields = FieldSet::new(alloc);
+}
+
+// Frees the memory that a line holds: to drop a line would visit each place of its sets, also those that hold nothing.
+#[inline(always)]
+fn free<'a>(alloc: Global, parsed: &mut ParsedLine<'a>) {
+    parsed.series.measurement = EscapedStr::SingleSlice("");
+    if let Some(tags) = &mut parsed.series.tag_set {
+        tags.clear();
+        if tags.spilled() {
+            free_tags(alloc, tags);
+        }
+    }
+    parsed.field_set.clear();
+    if parsed.field_set.spilled() {
+        free_fields(alloc, &mut parsed.field_set);
+    }
+}
+
 /// Reads the next item into what the caller lends, and answers the number of an [`Answer`].
 ///
 /// `Line`, `Fault`, `OutOfMemory` and `End` pass the item. `MoreParts` and `MoreRoom` leave `lines` as it was, and `line`
@@ -164,7 +193,12 @@ pub extern "C" fn lp_lines_next<'a>(
 {
     let mut items = items_of(alloc, lines);
     let mut parsed = new_line(alloc);
-    read_next(&mut items, &mut parsed, lines, room, line, parts)
+    let answer = read_next(&mut items, &mut parsed, lines, room, line, parts);
+    free(alloc, &mut parsed);
+    // Neither holds memory: what is read into a new line leaves the iterator no set to keep.
+    mem::forget(parsed);
+    mem::forget(items);
+    answer
 }
 
 /// Takes the next piece off what is left, not parsed, and says whether there was one.
