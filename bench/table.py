@@ -1,5 +1,5 @@
 #!/usr/bin/env python3
-"""Writes the tables of figures.tsv, figures_2500MHz.tsv, callers.tsv and streams.tsv into README.md, each between its two
+"""Writes the tables of figures.tsv, figures_avx512.tsv, callers.tsv and streams.tsv into README.md, each between its two
 marks.
 
     bench/table.py
@@ -12,7 +12,7 @@ from figures import CALLERS, CALLS, STREAMS, Figure, read
 
 BEGIN = "<!-- The table of {}, as table.py writes it. -->"
 END = "<!-- The end of the table. -->"
-TABLES = {"figures.tsv": CALLS, "figures_2500MHz.tsv": CALLS, "callers.tsv": CALLERS, "streams.tsv": STREAMS}
+TABLES = {"figures.tsv": CALLS, "figures_avx512.tsv": CALLS, "callers.tsv": CALLERS, "streams.tsv": STREAMS}
 """The files, and the names of the calls in each."""
 
 
