@@ -5,8 +5,8 @@ pub mod RawTokens
 pub mod Seen
 pub mod Tokens
 pub mod Texts
-pub mod Faults
 pub mod Outcomes
+pub mod Faults
 pub mod Filled
 pub mod Parsed
 pub mod Lookups

@@ -3,9 +3,8 @@
 ghost use Rattle.std.specs.Prelude.{◌≡◌, ◌&&◌, ◌-◌, ◌^◌, ◌++◌, IfOk, OnOk, length, map, min, true, string_bytes};
 ghost use Rattle.std.specs.List.{list_all};
 ghost use Rattle.std.specs.Option.{option_map};
-ghost use Rattle.influxdb_line_protocol.specs.code.Bases.{GivesBase, GivesMap, GivesOwned, base_by_key, base_of};
-ghost use Rattle.influxdb_line_protocol.specs.code.Bases.{base_text, based_tag, entry_bytes, in_order, is_borrowed};
-ghost use Rattle.influxdb_line_protocol.specs.code.Bases.{keys_of, is_strictly_sorted};
+ghost use Rattle.influxdb_line_protocol.specs.code.Bases.{GivesBase, GivesMap, GivesOwned, base_by_key, base_of, base_text, based_tag};
+ghost use Rattle.influxdb_line_protocol.specs.code.Bases.{entry_bytes, in_order, is_borrowed, keys_of, is_strictly_sorted};
 ghost use Rattle.influxdb_line_protocol.specs.code.Light.{is_single_tag};
 ghost use Rattle.influxdb_line_protocol.specs.format.Lines.{some_tags};
 ghost use Rattle.influxdb_line_protocol.specs.code.Outcomes.{IsNotOutOfMemory};

@@ -1,8 +1,7 @@
 //! A text that is a slice of the input, or a copy without the escapes.
-ghost use Rattle.std.specs.Prelude.{◌≡◌, length, true, false, IfOk, IsOk, IsTrue, ◌↔◌, Some, string_bytes, refl};
+ghost use Rattle.std.specs.Prelude.{◌≡◌, length, true, false, IfOk, IsOk, IsTrue, ◌↔◌, Some, string_bytes, refl, nat_eq};
 ghost use Rattle.std.proofs.Common.{rules};
 ghost use Rattle.std.specs.Ordering.{nat_cmp};
-ghost use Rattle.std.specs.Prelude.{nat_eq};
 ghost use Rattle.std.specs.Hash as fed;
 ghost use Rattle.std.specs.Cmp.Lexicographic.{pointwise, slice_cmp, nat_list_eq_equiv, nat_list_cmp_total, texts_ties, texts_po};
 ghost use Rattle.std.specs.Cmp.{on_equiv, on_total, on_per, on_po, partial_equiv_from_equiv};

@@ -1,23 +1,20 @@
 //! Laws of the definitions, each the contract of a function that does nothing.
 
-ghost use Rattle.influxdb_line_protocol.specs.laws.Laws.{AdmittedBatchesReadBack, OtherBatchesDoNotReadBack};
-ghost use Rattle.influxdb_line_protocol.specs.laws.Laws.{ItemsHaveReadableNames, OtherPointsEndWithBackslash};
-ghost use Rattle.influxdb_line_protocol.specs.laws.Laws.{NamesAreParsed, ParsedNamesAreInLines, StrictFieldsEnd};
-ghost use Rattle.influxdb_line_protocol.specs.laws.Laws.{PiecesExist, PiecesAreUnique, PiecesAreTheText, PiecesJoin};
+ghost use Rattle.influxdb_line_protocol.specs.laws.Laws.{AdmittedBatchesReadBack, OtherBatchesDoNotReadBack, ItemsHaveReadableNames};
+ghost use Rattle.influxdb_line_protocol.specs.laws.Laws.{OtherPointsEndWithBackslash, NamesAreParsed, ParsedNamesAreInLines};
+ghost use Rattle.influxdb_line_protocol.specs.laws.Laws.{StrictFieldsEnd, PiecesExist, PiecesAreUnique, PiecesAreTheText, PiecesJoin};
 ghost use Rattle.influxdb_line_protocol.specs.laws.Laws.{AnswersJoin, CommentTextIsIgnored};
 ghost use Rattle.influxdb_line_protocol.specs.laws.PointsOfLines.{LinesArePoints};
 ghost use Rattle.influxdb_line_protocol.specs.laws.GivenItems.{ItemsAreOfPieces, ItemsAreAnswers, ItemsSoFar, GivenLinesWereRead};
 ghost use Rattle.influxdb_line_protocol.specs.laws.BaseLaws.{ClearSeriesHaveBases, SameSeriesHaveOneBase, TagsByKeyAreSorted};
 ghost use Rattle.influxdb_line_protocol.specs.laws.BaseLaws.{OneBaseIsOneSeries, PlainSeriesAreClear, ReadSeriesAreParsed};
-ghost use Rattle.influxdb_line_protocol.specs.laws.Meanings.{LogicalIsWithoutEscapes};
-ghost use Rattle.influxdb_line_protocol.specs.laws.Meanings.{TheMostIsRead, TheNextHasTheFault, TheFirstMisses, CountIsOfTheMost};
-ghost use Rattle.influxdb_line_protocol.specs.laws.Meanings.{FloatFrontIsFloat, FloatFrontIsLongest};
-ghost use Rattle.influxdb_line_protocol.specs.laws.Meanings.{WordFrontIsWord, WordFrontIsLongest};
-ghost use Rattle.influxdb_line_protocol.specs.laws.Meanings.{TrimmedIsAfterBlanks, TrimmedFrontIsLongest};
+ghost use Rattle.influxdb_line_protocol.specs.laws.Meanings.{LogicalIsWithoutEscapes, TheMostIsRead, TheNextHasTheFault, TheFirstMisses};
+ghost use Rattle.influxdb_line_protocol.specs.laws.Meanings.{CountIsOfTheMost, FloatFrontIsFloat, FloatFrontIsLongest, WordFrontIsWord};
+ghost use Rattle.influxdb_line_protocol.specs.laws.Meanings.{WordFrontIsLongest, TrimmedIsAfterBlanks, TrimmedFrontIsLongest};
 ghost use Rattle.influxdb_line_protocol.specs.laws.Meanings.{NameEndsBeforeStop, BodyEndsBeforeQuote};
 ghost use Rattle.influxdb_line_protocol.specs.laws.MeaningsOfAnswers.{AnswerIsByRows};
-ghost use Rattle.influxdb_line_protocol.specs.laws.StreamLaws.{FrontsKeepTheirCuts, TakenIsFirst, RunsGivePieces};
-ghost use Rattle.influxdb_line_protocol.specs.laws.StreamLaws.{RunsEnd, StreamsAnswerAll, StreamsGiveAnswers, Utf8ByPieces};
+ghost use Rattle.influxdb_line_protocol.specs.laws.StreamLaws.{FrontsKeepTheirCuts, TakenIsFirst, RunsGivePieces, RunsEnd};
+ghost use Rattle.influxdb_line_protocol.specs.laws.StreamLaws.{StreamsAnswerAll, StreamsGiveAnswers, Utf8ByPieces};
 ghost use Rattle.influxdb_line_protocol.specs.format.Lines.{tag, field};
 
 /// Where memory and room suffice, a batch built from points, followed by any text, parses to exactly

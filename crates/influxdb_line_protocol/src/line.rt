@@ -1,7 +1,7 @@
 //! Lines.
 
-ghost use Rattle.std.specs.Prelude.{◌≡◌, ◌<◌, ◌≤◌, ◌++◌, ◌^◌, ℕ, List, [], length, max, slice_index, true, Err, None};
-ghost use Rattle.std.specs.Prelude.{Some, IfSome, MatchOption};
+ghost use Rattle.std.specs.Prelude.{◌≡◌, ◌<◌, ◌≤◌, ◌++◌, ◌^◌, ℕ, List, [], length, max, slice_index, true, Err, None, Some, IfSome};
+ghost use Rattle.std.specs.Prelude.{MatchOption};
 ghost use Rattle.std.specs.Option.{option_map};
 ghost use Rattle.influxdb_line_protocol.specs.format.Dialects.{Crate};
 ghost use Rattle.influxdb_line_protocol.specs.code.Rules.{rules_of};

@@ -1,8 +1,8 @@
 //! Numbers by their texts.
 
 ghost use Rattle.std.specs.Prelude.{◌≡◌, ◌≤◌, ◌<◌, ◌+◌, ◌==◌, if◌then◌else◌, IsCharBoundary, codes, length};
-ghost use Rattle.influxdb_line_protocol.specs.format.Values.{IsFloat, digits_len, exponent_len, float_len};
-ghost use Rattle.influxdb_line_protocol.specs.format.Values.{fraction_len, integer_len, number_len};
+ghost use Rattle.influxdb_line_protocol.specs.format.Values.{IsFloat, digits_len, exponent_len, float_len, fraction_len, integer_len};
+ghost use Rattle.influxdb_line_protocol.specs.format.Values.{number_len};
 
 use crate::digits::digits_len;
 use std::fmt;

@@ -51,8 +51,7 @@ impl Model for LineStream {
 }
 
 impl LineStream {
-    ghost use Rattle.influxdb_line_protocol.specs.code.Lending.{EndsAsCut, EndsAsCutText, EndsAsTaken};
-    ghost use Rattle.influxdb_line_protocol.specs.code.Lending.{EndsAsLast, EndsAsLastText};
+    ghost use Rattle.influxdb_line_protocol.specs.code.Lending.{EndsAsCut, EndsAsCutText, EndsAsTaken, EndsAsLast, EndsAsLastText};
 
     /// A stream that holds nothing, by the rules of the crate. No memory is taken.
     pub fn new(alloc: Global) -> LineStream

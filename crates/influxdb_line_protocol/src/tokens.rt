@@ -1,7 +1,7 @@
 //! Tokens: names and the texts between quotes. Where each ends, and its logical text.
 
-ghost use Rattle.std.specs.Prelude.{◌≡◌, ◌+◌, ◌-◌, ◌<◌, ◌≤◌, [], true, false, not, length, take, drop, slice_index};
-ghost use Rattle.std.specs.Prelude.{string_bytes, IsCharBoundary, IfOk, IsOk};
+ghost use Rattle.std.specs.Prelude.{◌≡◌, ◌+◌, ◌-◌, ◌<◌, ◌≤◌, [], true, false, not, length, take, drop, slice_index, string_bytes};
+ghost use Rattle.std.specs.Prelude.{IsCharBoundary, IfOk, IsOk};
 ghost use Rattle.std.specs.String.{string_capacity};
 ghost use Rattle.influxdb_line_protocol.specs.format.Bytes.{backslash, is_one_of};
 ghost use Rattle.influxdb_line_protocol.specs.format.Escapes.{EscapeScan, first_bare, without_escapes};

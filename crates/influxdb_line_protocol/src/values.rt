@@ -1,9 +1,8 @@
 //! Values of fields.
 
-ghost use Rattle.std.specs.Prelude.{◌≡◌, ◌≤◌, ◌<◌, ◌==◌, ◌||◌, ℕ, List, true, false, codes, drop, length, slice_index};
-ghost use Rattle.std.specs.Prelude.{IsCharBoundary, IfOk, IfSome, IsErr, IsOk, Ok, Err};
+ghost use Rattle.std.specs.Prelude.{◌≡◌, ◌≤◌, ◌<◌, ◌==◌, ◌||◌, ℕ, List, true, false, codes, drop, length, slice_index, IsCharBoundary};
+ghost use Rattle.std.specs.Prelude.{IfOk, IfSome, IsErr, IsOk, Ok, Err, eqb};
 ghost use Rattle.std.specs.List.{starts_with};
-ghost use Rattle.std.specs.Prelude.{eqb};
 ghost use Rattle.std.specs.Char.{is_ascii_digit};
 ghost use Rattle.influxdb_line_protocol.specs.declared.error.Error.{Error};
 ghost use Rattle.influxdb_line_protocol.specs.format.Bytes.{is_one_of, letter_i, letter_u, minus};
@@ -12,11 +11,10 @@ ghost use Rattle.influxdb_line_protocol.specs.format.Lines.{timestamp};
 ghost use Rattle.influxdb_line_protocol.specs.code.Memory.{NeedsMemory};
 ghost use Rattle.influxdb_line_protocol.specs.code.Outcomes.{Gives, GivesRead, IsFault, side};
 ghost use Rattle.influxdb_line_protocol.specs.code.Parsed.{is_same_variant, value_of};
-ghost use Rattle.influxdb_line_protocol.specs.format.Readings.{◌otherwise◌, above, integer_value_invalid};
-ghost use Rattle.influxdb_line_protocol.specs.format.Readings.{timestamp_value_invalid, uinteger_value_invalid};
-ghost use Rattle.influxdb_line_protocol.specs.format.Values.{digits_len, integer_len, integer_at, unsigned_at, float_at};
-ghost use Rattle.influxdb_line_protocol.specs.format.Values.{string_at, boolean_at, value, side_of, word_len, true_words};
-ghost use Rattle.influxdb_line_protocol.specs.format.Values.{false_words};
+ghost use Rattle.influxdb_line_protocol.specs.format.Readings.{◌otherwise◌, above, integer_value_invalid, timestamp_value_invalid};
+ghost use Rattle.influxdb_line_protocol.specs.format.Readings.{uinteger_value_invalid};
+ghost use Rattle.influxdb_line_protocol.specs.format.Values.{digits_len, integer_len, integer_at, unsigned_at, float_at, string_at};
+ghost use Rattle.influxdb_line_protocol.specs.format.Values.{boolean_at, value, side_of, word_len, true_words, false_words};
 
 use crate::digits::{integer_value, unsigned_value};
 use crate::error::{Error, OutOfRange};

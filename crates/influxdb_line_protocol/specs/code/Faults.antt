@@ -1,10 +1,11 @@
 -- The texts of faults.
 use Rattle.std.specs.Prelude.{ℕ, List, ◌++◌, codes, string_bytes}
+use Rattle.std.specs.Option.{option_map_or}
 use Rattle.influxdb_line_protocol.specs.declared.error.Error.{Error}
 use Rattle.influxdb_line_protocol.specs.declared.error.Error.TheVariants as error
-use Rattle.influxdb_line_protocol.specs.format.Readings.{Fault, measurement_value_invalid, field_set_missing}
-use Rattle.influxdb_line_protocol.specs.format.Readings.{ends_with_backslash, tag_set_malformed, take_while1}
-use Rattle.influxdb_line_protocol.specs.format.Readings.{integer_value_invalid, uinteger_value_invalid}
+use Rattle.influxdb_line_protocol.specs.code.Outcomes.{fault_of}
+use Rattle.influxdb_line_protocol.specs.format.Readings.{Fault, measurement_value_invalid, field_set_missing, ends_with_backslash}
+use Rattle.influxdb_line_protocol.specs.format.Readings.{tag_set_malformed, take_while1, integer_value_invalid, uinteger_value_invalid}
 use Rattle.influxdb_line_protocol.specs.format.Readings.{timestamp_value_invalid, cannot_parse_entire_line}
 
 -- the text of a fault of a line
@@ -22,14 +23,4 @@ fault_text (cannot_parse_entire_line rest) = codes "Could not parse entire line.
 -- what `{}` writes of an error
 abbrev pub error_text : Error → List ℕ
 error_text (error.DuplicateTag key) = codes "Must not contain duplicate tags, but \"" ++ string_bytes key ++ codes "\" was repeated"
-error_text error.MeasurementValueInvalid = codes "Invalid measurement was provided"
-error_text error.FieldSetMissing = codes "No fields were provided"
-error_text (error.IntegerValueInvalid source value) = codes "Unable to parse integer value '" ++ string_bytes value ++ codes "'"
-error_text (error.UIntegerValueInvalid source value) = codes "Unable to parse unsigned integer value '" ++ string_bytes value ++ codes "'"
-error_text (error.TimestampValueInvalid source value) = codes "Unable to parse timestamp value '" ++ string_bytes value ++ codes "'"
-error_text error.EndsWithBackslash = codes "Measurements, tag keys and values, and field keys may not end with a backslash"
-error_text (error.CannotParseEntireLine rest) = codes "Could not parse entire line. Found trailing content: '" ++
-    string_bytes rest ++ codes "'"
-error_text error.TagSetMalformed = codes "Tag Set Malformed"
-error_text (error.GenericParsingError kind) = codes "A generic parsing error occurred: TakeWhile1"
-error_text error.OutOfMemory = codes "out of memory"
+error_text e = option_map_or fault_text (fault_of e) (codes "out of memory")

@@ -3,9 +3,8 @@ use Rattle.std.specs.Prelude.{ℕ, zero, suc, ◌&&◌, Bool, true, false, not, 
 use Rattle.std.specs.List.{list_all}
 use Rattle.influxdb_line_protocol.specs.format.Dialects.{Dialect}
 use Rattle.influxdb_line_protocol.specs.format.Bytes.{backslash, comma, space, is_one_of}
-use Rattle.influxdb_line_protocol.specs.format.Readings.{Text, Fault, measurement_value_invalid, field_set_missing}
-use Rattle.influxdb_line_protocol.specs.format.Readings.{ends_with_backslash, tag_set_malformed, take_while1, Read, Reading}
-use Rattle.influxdb_line_protocol.specs.format.Readings.{reads}
+use Rattle.influxdb_line_protocol.specs.format.Readings.{Text, Fault, measurement_value_invalid, field_set_missing, ends_with_backslash}
+use Rattle.influxdb_line_protocol.specs.format.Readings.{tag_set_malformed, take_while1, Read, Reading, reads}
 use Rattle.influxdb_line_protocol.specs.format.Names.{a_measurement, name}
 use Rattle.influxdb_line_protocol.specs.format.Values.{Value, string}
 use Rattle.influxdb_line_protocol.specs.format.Points.{Pair}

@@ -1,5 +1,5 @@
 -- What a reader of the code returned, against what reading gives.
-use Rattle.std.specs.Prelude.{◌≡◌, ◌≢◌, ℕ, List, Option, Some, None, Result, Ok, Err, string_bytes}
+use Rattle.std.specs.Prelude.{◌≡◌, ◌≢◌, ℕ, List, Option, Some, None, IfSome, Result, Ok, Err, string_bytes}
 use Rattle.std.specs.Borrow.{Bor}
 use Rattle.influxdb_line_protocol.specs.declared.error.Error.{Error}
 use Rattle.influxdb_line_protocol.specs.declared.error.Error.TheVariants as error
@@ -8,11 +8,10 @@ use Rattle.influxdb_line_protocol.specs.declared.error.OutOfRange.TheVariants.{A
 use Rattle.influxdb_line_protocol.specs.declared.names.NameKind.{NameKind}
 use Rattle.influxdb_line_protocol.specs.declared.names.NameKind.TheVariants.{Measurement, TagKey, TagValue, FieldKey}
 use Rattle.influxdb_line_protocol.specs.format.Names as names
-use Rattle.influxdb_line_protocol.specs.format.Readings.{Side, above, below, Fault, integer_value_invalid}
-use Rattle.influxdb_line_protocol.specs.format.Readings.{uinteger_value_invalid, timestamp_value_invalid}
-use Rattle.influxdb_line_protocol.specs.format.Readings.{measurement_value_invalid, field_set_missing, ends_with_backslash}
-use Rattle.influxdb_line_protocol.specs.format.Readings.{tag_set_malformed, take_while1, cannot_parse_entire_line, Read}
-use Rattle.influxdb_line_protocol.specs.format.Readings.{Reading, miss, fatal, reads}
+use Rattle.influxdb_line_protocol.specs.format.Readings.{Side, above, below, Fault, integer_value_invalid, uinteger_value_invalid}
+use Rattle.influxdb_line_protocol.specs.format.Readings.{timestamp_value_invalid, measurement_value_invalid, field_set_missing}
+use Rattle.influxdb_line_protocol.specs.format.Readings.{ends_with_backslash, tag_set_malformed, take_while1, cannot_parse_entire_line}
+use Rattle.influxdb_line_protocol.specs.format.Readings.{Read, Reading, miss, fatal, reads}
 
 -- the kind that the code's word names
 abbrev pub kind_of : NameKind → names.NameKind
@@ -26,19 +25,23 @@ abbrev pub side : OutOfRange → Side
 side Above = above
 side Below = below
 
+-- the fault of a line that an error is
+abbrev pub fault_of : Error → Option Fault
+fault_of error.MeasurementValueInvalid = Some measurement_value_invalid
+fault_of error.FieldSetMissing = Some field_set_missing
+fault_of (error.IntegerValueInvalid source value) = Some (integer_value_invalid (side source) (string_bytes value))
+fault_of (error.UIntegerValueInvalid source value) = Some (uinteger_value_invalid (side source) (string_bytes value))
+fault_of (error.TimestampValueInvalid source value) = Some (timestamp_value_invalid (side source) (string_bytes value))
+fault_of error.EndsWithBackslash = Some ends_with_backslash
+fault_of (error.CannotParseEntireLine rest) = Some (cannot_parse_entire_line (string_bytes rest))
+fault_of error.TagSetMalformed = Some tag_set_malformed
+fault_of (error.GenericParsingError kind) = Some take_while1
+fault_of other = None
+
 -- the error is this fault; `OutOfMemory` may be in its place; no line fails with a repeated key
 abbrev pub IsFault : Error → (Fault → Type 0) → Type 0
 IsFault (error.DuplicateTag key) Is = ⊥
-IsFault error.MeasurementValueInvalid Is = Is measurement_value_invalid
-IsFault error.FieldSetMissing Is = Is field_set_missing
-IsFault (error.IntegerValueInvalid source value) Is = Is (integer_value_invalid (side source) (string_bytes value))
-IsFault (error.UIntegerValueInvalid source value) Is = Is (uinteger_value_invalid (side source) (string_bytes value))
-IsFault (error.TimestampValueInvalid source value) Is = Is (timestamp_value_invalid (side source) (string_bytes value))
-IsFault error.EndsWithBackslash Is = Is ends_with_backslash
-IsFault (error.CannotParseEntireLine rest) Is = Is (cannot_parse_entire_line (string_bytes rest))
-IsFault error.TagSetMalformed Is = Is tag_set_malformed
-IsFault (error.GenericParsingError kind) Is = Is take_while1
-IsFault error.OutOfMemory Is = Unit {0}
+IsFault e Is = IfSome (fault_of e) Is
 
 -- what the code fails with is the fault that reading gives
 abbrev pub FailsOn : {A : Type 0} → Error → Reading A → Type 0

@@ -12,8 +12,8 @@ use Rattle.influxdb_line_protocol.specs.format.Values.{Value, quotable, integer,
 use Rattle.influxdb_line_protocol.specs.format.Readings.{Text}
 use Rattle.influxdb_line_protocol.specs.code.Texts.{text_of}
 use Rattle.influxdb_line_protocol.specs.code.Built.{IsPlainText}
-use Rattle.influxdb_line_protocol.specs.format.Points.{Point, Tag, Field, is_admitted_name, is_admitted_tag, spelling}
-use Rattle.influxdb_line_protocol.specs.format.Points.{built_tag, built_value, built_fields, built_timestamp}
+use Rattle.influxdb_line_protocol.specs.format.Points.{Point, Tag, Field, is_admitted_name, is_admitted_tag, spelling, built_tag}
+use Rattle.influxdb_line_protocol.specs.format.Points.{built_value, built_fields, built_timestamp}
 use Rattle.influxdb_line_protocol.specs.format.Lines.{logical_tag, logical_field, logical_value}
 use Rattle.influxdb_line_protocol.specs.code.Parsed.{tag_of, field_of, value_of}
 
@@ -76,11 +76,8 @@ IsReadString t = t.is_single ≡ true → length t.bytes ≢ 1 → IsPlainText q
 
 -- a value as it can be read
 abbrev pub IsReadValue : Value Text → Type 0
-IsReadValue (integer z) = Unit {0}
-IsReadValue (unsigned n) = Unit {0}
-IsReadValue (float t) = Unit {0}
 IsReadValue (string t) = IsReadString t
-IsReadValue (boolean b) = Unit {0}
+IsReadValue other = Unit {0}
 
 -- a field whose value is one that can be read
 abbrev pub HasReadValue : EscapedStr × FieldValue → Type 0

@@ -1,17 +1,16 @@
 -- The answer for a line.
-use Rattle.std.specs.Prelude.{ℕ, zero, suc, ℤ, ◌-◌, ◌==◌, ◌||◌, List, [], ◌∷◌, ◌++◌, length, take, drop, map}
-use Rattle.std.specs.Prelude.{if◌then◌else◌, Option, Some, None, Result, Ok, Err}
+use Rattle.std.specs.Prelude.{ℕ, zero, suc, ℤ, ◌-◌, ◌==◌, ◌||◌, List, [], ◌∷◌, ◌++◌, length, take, drop, map, if◌then◌else◌, Option, Some}
+use Rattle.std.specs.Prelude.{None, Result, Ok, Err}
 use Rattle.std.specs.List.{prefix_len}
 use Rattle.std.specs.Str.Parse.{signed_digits_value}
 use Rattle.influxdb_line_protocol.specs.format.Dialects.{Dialect, Crate}
 use Rattle.influxdb_line_protocol.specs.format.Bytes.{space, comma, equals}
-use Rattle.influxdb_line_protocol.specs.format.Readings.{Fault, measurement_value_invalid, field_set_missing}
-use Rattle.influxdb_line_protocol.specs.format.Readings.{tag_set_malformed, take_while1, timestamp_value_invalid}
-use Rattle.influxdb_line_protocol.specs.format.Readings.{cannot_parse_entire_line, Text, Read, Reading, miss, fatal, reads}
-use Rattle.influxdb_line_protocol.specs.format.Readings.{◌>>=◌, or_fault}
+use Rattle.influxdb_line_protocol.specs.format.Readings.{Fault, measurement_value_invalid, field_set_missing, tag_set_malformed}
+use Rattle.influxdb_line_protocol.specs.format.Readings.{take_while1, timestamp_value_invalid, cannot_parse_entire_line, Text, Read}
+use Rattle.influxdb_line_protocol.specs.format.Readings.{Reading, miss, fatal, reads, ◌>>=◌, or_fault}
 use Rattle.influxdb_line_protocol.specs.format.Names.{NameKind, a_measurement, a_tag_key, a_tag_value, a_field_key, name}
-use Rattle.influxdb_line_protocol.specs.format.Values.{Value, integer, unsigned, float, string, boolean, value}
-use Rattle.influxdb_line_protocol.specs.format.Values.{integer_len, fits_i64, side_of}
+use Rattle.influxdb_line_protocol.specs.format.Values.{Value, integer, unsigned, float, string, boolean, value, integer_len, fits_i64}
+use Rattle.influxdb_line_protocol.specs.format.Values.{side_of}
 use Rattle.influxdb_line_protocol.specs.format.Points.{Pair, Point}
 
 -- what was read of a line: `series` is the front that was read as measurement and tags

@@ -11,16 +11,13 @@ pub data NameKind : Type 0 where
 -- the bytes that end a name where they are bare
 abbrev pub stops : NameKind → List ℕ
 stops a_measurement = space ∷ tab ∷ newline ∷ nul ∷ comma ∷ []
-stops a_tag_key = space ∷ tab ∷ newline ∷ equals ∷ []
 stops a_tag_value = space ∷ tab ∷ newline ∷ comma ∷ []
-stops a_field_key = space ∷ tab ∷ newline ∷ equals ∷ []
+stops other = space ∷ tab ∷ newline ∷ equals ∷ []
 
 -- the bytes that a backslash may escape: the known escapes
 abbrev pub escapable : NameKind → List ℕ
 escapable a_measurement = comma ∷ space ∷ backslash ∷ []
-escapable a_tag_key = comma ∷ equals ∷ space ∷ backslash ∷ []
-escapable a_tag_value = comma ∷ equals ∷ space ∷ backslash ∷ []
-escapable a_field_key = comma ∷ equals ∷ space ∷ backslash ∷ []
+escapable other = comma ∷ equals ∷ space ∷ backslash ∷ []
 
 -- whether a bare byte ends a name of this kind
 abbrev pub is_stop : NameKind → ℕ → Bool

@@ -1,12 +1,12 @@
 -- Points, which of them are admitted, and the lines that the builder writes for them.
-use Rattle.std.specs.Prelude.{ℕ, ◌<◌, ℤ, ◌≡◌, ◌==◌, ◌&&◌, ◌^◌, Bool, true, false, not, List, [], ◌∷◌, ◌++◌, length}
-use Rattle.std.specs.Prelude.{slice_index, codes, Option, Some, None, decimal, IfSome, if◌then◌else◌}
+use Rattle.std.specs.Prelude.{ℕ, ◌<◌, ℤ, ◌≡◌, ◌==◌, ◌&&◌, ◌^◌, Bool, true, false, not, List, [], ◌∷◌, ◌++◌, length, slice_index, codes}
+use Rattle.std.specs.Prelude.{Option, Some, None, decimal, IfSome, if◌then◌else◌}
 use Rattle.std.specs.List.{list_all, flat_map, AllByRecursion}
 use Rattle.std.specs.Fmt.{signed_decimal}
 use Rattle.influxdb_line_protocol.specs.format.Bytes.{nul, tab, newline, space, quote, hash, comma, equals, letter_i, letter_u, is_one_of}
 use Rattle.influxdb_line_protocol.specs.format.Escapes.{escaped}
-use Rattle.influxdb_line_protocol.specs.format.Names.{NameKind, a_measurement, a_tag_key, a_tag_value, a_field_key}
-use Rattle.influxdb_line_protocol.specs.format.Names.{escapable, ends_in_backslash}
+use Rattle.influxdb_line_protocol.specs.format.Names.{NameKind, a_measurement, a_tag_key, a_tag_value, a_field_key, escapable}
+use Rattle.influxdb_line_protocol.specs.format.Names.{ends_in_backslash}
 use Rattle.influxdb_line_protocol.specs.format.Values.{IsFloat, Value, integer, unsigned, float, string, boolean, quotable, fits_i64}
 
 -- a key and the logical text of it: a tag, or a field
@@ -34,8 +34,7 @@ abbrev pub IsValue : Value (List ℕ) → Type 0
 IsValue (integer z) = fits_i64 z ≡ true
 IsValue (unsigned n) = n < 2 ^ 64
 IsValue (float t) = IsFloat t
-IsValue (string t) = Unit {0}
-IsValue (boolean b) = Unit {0}
+IsValue other = Unit {0}
 
 -- at least one field, numbers in range, floats that are literals; names and strings are any texts
 pub record IsPoint (p : Point) : Type 0 where
@@ -46,15 +45,11 @@ pub record IsPoint (p : Point) : Type 0 where
 -- the bytes that a name may not hold, since no escape keeps them in it
 abbrev pub never_in : NameKind → List ℕ
 never_in a_measurement = tab ∷ newline ∷ nul ∷ []
-never_in a_tag_key = tab ∷ newline ∷ []
-never_in a_tag_value = tab ∷ newline ∷ []
-never_in a_field_key = tab ∷ newline ∷ []
+never_in other = tab ∷ newline ∷ []
 
 abbrev is_measurement : NameKind → Bool
 is_measurement a_measurement = true
-is_measurement a_tag_key = false
-is_measurement a_tag_value = false
-is_measurement a_field_key = false
+is_measurement other = false
 
 -- whether a name is admitted: it is not empty, holds no tab and no newline, and does not end in a backslash; a
 -- measurement, besides, holds no NUL and does not begin with `#`

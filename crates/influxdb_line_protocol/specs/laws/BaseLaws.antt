@@ -5,12 +5,12 @@ use Rattle.std.specs.List.{list_any}
 use Rattle.std.specs.List.Sorted.{IsPermutation}
 use Rattle.std.specs.Option.{is_some}
 use Rattle.influxdb_line_protocol.specs.format.Dialects.{Dialect}
-use Rattle.influxdb_line_protocol.specs.code.Bases.{Base, borrowed, owned, duplicate_key, base_of, by_key, first_repeated}
-use Rattle.influxdb_line_protocol.specs.code.Bases.{in_order, keys_of, is_strictly_sorted}
+use Rattle.influxdb_line_protocol.specs.code.Bases.{Base, borrowed, owned, duplicate_key, base_of, by_key, first_repeated, in_order}
+use Rattle.influxdb_line_protocol.specs.code.Bases.{keys_of, is_strictly_sorted}
 use Rattle.influxdb_line_protocol.specs.format.Bytes.{backslash, comma, equals, is_one_of}
 use Rattle.influxdb_line_protocol.specs.format.Lines.{Line, answer, some_tags, tag_set}
-use Rattle.influxdb_line_protocol.specs.format.Names.{a_measurement, a_tag_key, a_tag_value, escapable, is_one_escape}
-use Rattle.influxdb_line_protocol.specs.format.Names.{name, spelled, spelled_len}
+use Rattle.influxdb_line_protocol.specs.format.Names.{a_measurement, a_tag_key, a_tag_value, escapable, is_one_escape, name, spelled}
+use Rattle.influxdb_line_protocol.specs.format.Names.{spelled_len}
 use Rattle.influxdb_line_protocol.specs.format.Points.{Pair}
 use Rattle.influxdb_line_protocol.specs.format.Readings.{Text, reads}
 

@@ -4,9 +4,8 @@ use Rattle.std.specs.List.{All, Contains}
 use Rattle.influxdb_line_protocol.specs.format.Bytes.{tab, newline, space, quote, hash, comma, backslash, is_one_of}
 use Rattle.influxdb_line_protocol.specs.format.Escapes.{bare, without_escapes, IsBareAfter}
 use Rattle.influxdb_line_protocol.specs.format.Names.{NameKind, is_stop, spelled}
-use Rattle.influxdb_line_protocol.specs.format.Values.{body_len}
+use Rattle.influxdb_line_protocol.specs.format.Values.{body_len, IsFloat, float_len, word_len}
 use Rattle.influxdb_line_protocol.specs.format.Readings.{Fault, Reading, miss, fatal, reads}
-use Rattle.influxdb_line_protocol.specs.format.Values.{IsFloat, float_len, word_len}
 use Rattle.influxdb_line_protocol.specs.format.Trimming.{trimmed}
 use Rattle.influxdb_line_protocol.specs.format.Lines.{separated_list}
 use Rattle.influxdb_line_protocol.specs.code.Light.{read_count}

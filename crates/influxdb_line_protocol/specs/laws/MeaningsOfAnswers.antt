@@ -3,9 +3,8 @@ use Rattle.std.specs.Prelude.{◌≡◌, ◌↔◌, ℕ, List, [], ◌∷◌, �
 use Rattle.influxdb_line_protocol.specs.format.Dialects.{Dialect}
 use Rattle.influxdb_line_protocol.specs.format.Bytes.{comma, space}
 use Rattle.influxdb_line_protocol.specs.format.Readings.{Side, Fault, measurement_value_invalid, field_set_missing, ends_with_backslash}
-use Rattle.influxdb_line_protocol.specs.format.Readings.{tag_set_malformed, take_while1, timestamp_value_invalid}
-use Rattle.influxdb_line_protocol.specs.format.Readings.{cannot_parse_entire_line, Text}
-use Rattle.influxdb_line_protocol.specs.format.Readings.{miss, fatal, reads}
+use Rattle.influxdb_line_protocol.specs.format.Readings.{tag_set_malformed, take_while1, timestamp_value_invalid, cannot_parse_entire_line}
+use Rattle.influxdb_line_protocol.specs.format.Readings.{Text, miss, fatal, reads}
 use Rattle.influxdb_line_protocol.specs.format.Names.{a_measurement, name}
 use Rattle.influxdb_line_protocol.specs.format.Values.{Value}
 use Rattle.influxdb_line_protocol.specs.format.Points.{Pair}

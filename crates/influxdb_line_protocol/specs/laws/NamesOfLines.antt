@@ -17,9 +17,7 @@ names_of a_field_key p = map (λ f. f.key) p.fields
 -- a measurement does not begin with `#`
 abbrev pub BeginsNoComment : NameKind → List ℕ → Type 0
 BeginsNoComment a_measurement n = slice_index n 0 ≢ hash
-BeginsNoComment a_tag_key n = Unit {0}
-BeginsNoComment a_tag_value n = Unit {0}
-BeginsNoComment a_field_key n = Unit {0}
+BeginsNoComment other n = Unit {0}
 
 -- a name as a line can have it
 pub record IsParsedName (kind : NameKind) (n : List ℕ) : Type 0 where

@@ -1,7 +1,7 @@
 //! Buffers that the builder writes to.
 
-ghost use Rattle.std.specs.Prelude.{◌≡◌, ◌≢◌, ◌+◌, ◌-◌, ◌<◌, ◌≤◌, ◌↔◌, List, ◌++◌, ℕ, length, IfErr, OnOk, OnErr, IsOk};
-ghost use Rattle.std.specs.Prelude.{IsErr, vec_len, vec_capacity};
+ghost use Rattle.std.specs.Prelude.{◌≡◌, ◌≢◌, ◌+◌, ◌-◌, ◌<◌, ◌≤◌, ◌↔◌, List, ◌++◌, ℕ, length, IfErr, OnOk, OnErr, IsOk, IsErr, vec_len};
+ghost use Rattle.std.specs.Prelude.{vec_capacity};
 ghost use Rattle.arrayvec.specs.ArrayVec.{array_vec_len};
 ghost use Rattle.influxdb_line_protocol.specs.declared.builder.buffer.NoRoom.{NoRoom};
 ghost use Rattle.influxdb_line_protocol.specs.declared.builder.buffer.NoRoom.TheVariants.{OutOfMemory, Full, TooLong};

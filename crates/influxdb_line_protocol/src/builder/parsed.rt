@@ -7,9 +7,8 @@ ghost use Rattle.influxdb_line_protocol.specs.format.Bytes.{space};
 ghost use Rattle.influxdb_line_protocol.specs.code.Parsed.{IsReadLine, parsed_point, value_of};
 ghost use Rattle.influxdb_line_protocol.specs.format.Points.{built_if_admitted, field_text, is_admitted_point};
 ghost use Rattle.influxdb_line_protocol.specs.code.Texts.{text_of};
-ghost use Rattle.influxdb_line_protocol.specs.code.WrittenAgain.{HasReadValue, IsHeadOf, IsPlainKey, IsPlainValue};
-ghost use Rattle.influxdb_line_protocol.specs.code.WrittenAgain.{IsReadValue, fields_text, is_admitted_head, text_after};
-ghost use Rattle.influxdb_line_protocol.specs.code.WrittenAgain.{value_text};
+ghost use Rattle.influxdb_line_protocol.specs.code.WrittenAgain.{HasReadValue, IsHeadOf, IsPlainKey, IsPlainValue, IsReadValue};
+ghost use Rattle.influxdb_line_protocol.specs.code.WrittenAgain.{fields_text, is_admitted_head, text_after, value_text};
 ghost use Rattle.influxdb_line_protocol.specs.code.Built.{Writes, buffer_of, with_builder};
 
 use super::lines::{
