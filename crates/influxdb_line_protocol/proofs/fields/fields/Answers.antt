@@ -5,8 +5,8 @@ use Rattle.std.proofs.lemmas.Result.{err_from_is_err_and}
 use Rattle.influxdb_line_protocol.specs.code.Light.{is_single_field}
 use Rattle.influxdb_line_protocol.specs.format.Lines.{separated_list, field}
 use Rattle.influxdb_line_protocol.specs.code.Parsed.{field_of}
-use Rattle.influxdb_line_protocol.proofs.lemmas.fields.ManyLemmas.{fails_too, last_read, more_than_room, reached_all}
-use Rattle.influxdb_line_protocol.proofs.lemmas.fields.ManyLemmas.{reached_fatal, reached_more, reached_needs}
+use Rattle.influxdb_line_protocol.proofs.lemmas.fields.ManyLemmas.{fails_too, last_read, more_than_room, reached_all, reached_fatal}
+use Rattle.influxdb_line_protocol.proofs.lemmas.fields.ManyLemmas.{reached_more, reached_needs}
 use Rattle.influxdb_line_protocol.proofs.lemmas.fields.ReadingLemmas.{field_read, passed_on}
 use Rattle.influxdb_line_protocol.proofs.fields.fields.Goals as goal
 

@@ -1,8 +1,8 @@
 use Rattle.std.proofs.Common.{◌≡◌, ℕ, ◌<◌, List, map, get_or, replicate, refl, sym, ap, ◌∙◌, arith, w8}
 use lib.Bits.{bit_and, and_le_r}
 use lib.Lanes.{zip2}
-use Rattle.std.proofs.lemmas.Simd.{SwzOk-from_below, Each1-zip2, Each2-splat, Each1-all, length-zip2, length-swz_l}
-use Rattle.std.proofs.lemmas.Simd.{get_or-swz_l_below, get_or-zip2, get_or-replicate}
+use Rattle.std.proofs.lemmas.Simd.{SwzOk-from_below, Each1-zip2, Each2-splat, Each1-all, length-zip2, length-swz_l, get_or-swz_l_below}
+use Rattle.std.proofs.lemmas.Simd.{get_or-zip2, get_or-replicate}
 use borrow.Rule.Simd.Moves.{swz_l}
 use Rattle.std.proofs.lemmas.List.{ext_get_or, length-map, get_or-map}
 use Rattle.influxdb_line_protocol.proofs.lanes.by_low_half.Goals as goal

@@ -1,5 +1,4 @@
-use Rattle.influxdb_line_protocol.proofs.lemmas.laws.items_are_answers.GivenItems.{items_are_of_pieces}
-use Rattle.influxdb_line_protocol.proofs.lemmas.laws.items_are_answers.GivenItems.{items_are_answers, items_so_far}
+use Rattle.influxdb_line_protocol.proofs.lemmas.laws.items_are_answers.GivenItems.{items_are_of_pieces, items_are_answers, items_so_far}
 use Rattle.influxdb_line_protocol.proofs.lemmas.laws.items_are_answers.GivenItems.{given_lines_were_read}
 use Rattle.influxdb_line_protocol.proofs.laws.items_are_answers.Goals as goal
 

@@ -1,8 +1,7 @@
 -- Escaped texts: how long they are, and what comes before and after the first byte with a backslash.
 -- And how many digits a number has.
-use Rattle.std.proofs.Common.{◌≡◌, ℕ, suc, zero, ◌+◌, ◌<◌, Bool, true, false, cond, List, [], ◌∷◌, ◌++◌, length, take}
-use Rattle.std.proofs.Common.{drop, get_or, arith, ap, refl, sym, ◌-◌, subst, zero-add, add-one, length-drop}
-use Rattle.std.proofs.Common.{length-append, ◌∙◌, ◌≤◌, ◌^◌, ◌*◌, ◌/◌}
+use Rattle.std.proofs.Common.{◌≡◌, ℕ, suc, zero, ◌+◌, ◌<◌, Bool, true, false, cond, List, [], ◌∷◌, ◌++◌, length, take, drop, get_or, arith}
+use Rattle.std.proofs.Common.{ap, refl, sym, ◌-◌, subst, zero-add, add-one, length-drop, length-append, ◌∙◌, ◌≤◌, ◌^◌, ◌*◌, ◌/◌}
 use Rattle.std.proofs.lemmas.List.{take_all}
 use Rattle.std.specs.Fmt.{decimal}
 use Rattle.std.proofs.Math.Nat.{pow-zero, pow-suc}

@@ -1,6 +1,6 @@
 -- The fields of lines that were read, and the lines that are written for them.
-use Rattle.std.proofs.Common.{◌≡◌, ℕ, Result, Ok, Err, IsErrAnd, ◌<◌, ◌&&◌, List, [], ◌∷◌, length, map}
-use Rattle.std.proofs.Common.{Bool, true, false, refl, sym, ap, subst, arith, append_assoc, append-nil}
+use Rattle.std.proofs.Common.{◌≡◌, ℕ, Result, Ok, Err, IsErrAnd, ◌<◌, ◌&&◌, List, [], ◌∷◌, length, map, Bool, true, false, refl, sym, ap}
+use Rattle.std.proofs.Common.{subst, arith, append_assoc, append-nil}
 use Rattle.std.specs.List.{AllByRecursion, list_all}
 use Rattle.std.proofs.lemmas.Bool.{and_from, and_parts}
 use Rattle.influxdb_line_protocol.specs.declared.escaped.EscapedStr.{EscapedStr}
@@ -16,8 +16,8 @@ use Rattle.influxdb_line_protocol.specs.format.Lines.{logical_field}
 use Rattle.influxdb_line_protocol.specs.format.Names.{a_field_key, a_measurement, escapable}
 use Rattle.influxdb_line_protocol.specs.laws.NamesOfLines.{IsParsedName}
 use Rattle.influxdb_line_protocol.specs.code.Parsed.{IsReadLine, field_of, line_read, parsed_point}
-use Rattle.influxdb_line_protocol.specs.format.Points.{built, built_if_admitted, is_admitted_field, is_admitted_name}
-use Rattle.influxdb_line_protocol.specs.format.Points.{is_admitted_tag, is_admitted_point, line_of}
+use Rattle.influxdb_line_protocol.specs.format.Points.{built, built_if_admitted, is_admitted_field, is_admitted_name, is_admitted_tag}
+use Rattle.influxdb_line_protocol.specs.format.Points.{is_admitted_point, line_of}
 use Rattle.influxdb_line_protocol.specs.code.Texts.{text_of}
 use Rattle.influxdb_line_protocol.specs.format.Trimming.{trimmed}
 use Rattle.influxdb_line_protocol.specs.code.WrittenAgain.{HasReadValue, IsHeadOf, is_admitted_head, IsPlainKey, text_after}

@@ -1,7 +1,6 @@
 -- The raw text of a series that holds no more commas, signs, spaces and backslashes than divide its names is what the builder writes.
-use Rattle.std.proofs.Common.{◌≡◌, ◌≢◌, ℕ, ◌+◌, ◌*◌, ◌<◌, ◌≤◌, Bool, true, false, not, ◌&&◌, ◌||◌, cond, slice_index}
-use Rattle.std.proofs.Common.{List, [], ◌∷◌, ◌++◌, length, map, refl, sym, ap, ◌∙◌, arith}
-use Rattle.std.proofs.Common.{append_assoc}
+use Rattle.std.proofs.Common.{◌≡◌, ◌≢◌, ℕ, ◌+◌, ◌*◌, ◌<◌, ◌≤◌, Bool, true, false, not, ◌&&◌, ◌||◌, cond, slice_index, List, [], ◌∷◌, ◌++◌}
+use Rattle.std.proofs.Common.{length, map, refl, sym, ap, ◌∙◌, arith, append_assoc}
 use Rattle.std.specs.Prelude.{◌==◌, count_by}
 use Rattle.std.specs.List.{AllByRecursion, flat_map, list_all}
 use Rattle.std.proofs.lemmas.Bool.{and_from, and_parts, false≢true, ne_eqb}
@@ -13,8 +12,8 @@ use Rattle.influxdb_line_protocol.specs.format.Bytes.{is_one_of}
 use Rattle.influxdb_line_protocol.specs.format.Escapes.{escaped, without_escapes}
 use Rattle.influxdb_line_protocol.specs.format.Lines.{logical_tag, some_tags, tag}
 use Rattle.influxdb_line_protocol.specs.laws.Meanings.{SeparatedAfterComma}
-use Rattle.influxdb_line_protocol.specs.format.Names.{NameKind, a_measurement, a_tag_key, a_tag_value, a_field_key}
-use Rattle.influxdb_line_protocol.specs.format.Names.{ends_in_backslash, escapable, spelled, spelled_len}
+use Rattle.influxdb_line_protocol.specs.format.Names.{NameKind, a_measurement, a_tag_key, a_tag_value, a_field_key, ends_in_backslash}
+use Rattle.influxdb_line_protocol.specs.format.Names.{escapable, spelled, spelled_len}
 use Rattle.influxdb_line_protocol.specs.format.Points.{Pair, Tag, built_tag, is_admitted_name, is_admitted_tag, spelling}
 use Rattle.influxdb_line_protocol.specs.format.Readings.{Text}
 use Rattle.influxdb_line_protocol.specs.declared.parsed.ParsedLine.{ParsedLine}

@@ -1,6 +1,6 @@
 -- The number of 16 digits in lanes, by sums of products over each four.
-use Rattle.std.proofs.Common.{◌≡◌, ◌∙◌, ℕ, zero, suc, ◌+◌, ◌-◌, ◌*◌, ◌^◌, ◌%◌, ◌<◌, ◌≤◌, List, [], ◌∷◌, ◌++◌, map, length}
-use Rattle.std.proofs.Common.{take, drop, get_or, replicate, refl, sym, ap, ap₂, subst, arith}
+use Rattle.std.proofs.Common.{◌≡◌, ◌∙◌, ℕ, zero, suc, ◌+◌, ◌-◌, ◌*◌, ◌^◌, ◌%◌, ◌<◌, ◌≤◌, List, [], ◌∷◌, ◌++◌, map, length, take, drop}
+use Rattle.std.proofs.Common.{get_or, replicate, refl, sym, ap, ap₂, subst, arith}
 use Rattle.std.specs.Char.{digit_value}
 use Rattle.std.specs.Int.Digits.{AllBelowBase, number_from_digits, number_from_digits_after}
 use Rattle.std.specs.Simd.Lanes.{dots, products}

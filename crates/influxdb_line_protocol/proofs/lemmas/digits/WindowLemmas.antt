@@ -1,6 +1,6 @@
 -- The window of the table of moves, which moves lanes to the end.
-use Rattle.std.proofs.Common.{◌≡◌, ◌∙◌, ℕ, ◌+◌, ◌-◌, ◌*◌, ◌/◌, ◌<◌, ◌≤◌, true, cond, ◌||◌, List, ◌++◌, length, take}
-use Rattle.std.proofs.Common.{get_or, replicate, refl, sym, ap, subst, inl, inr, arith, w8}
+use Rattle.std.proofs.Common.{◌≡◌, ◌∙◌, ℕ, ◌+◌, ◌-◌, ◌*◌, ◌/◌, ◌<◌, ◌≤◌, true, cond, ◌||◌, List, ◌++◌, length, take, get_or, replicate}
+use Rattle.std.proofs.Common.{refl, sym, ap, subst, inl, inr, arith, w8}
 use Rattle.std.specs.List.{range_with_len}
 use Rattle.std.proofs.lemmas.Bool.{agree_below_at, cases_lt}
 use Rattle.std.proofs.lemmas.List.{ext_get_or, get_or_append_left, get_or-append_right, get_or-take, length-append, length-take-le}

@@ -1,6 +1,6 @@
 -- How many that are joined by commas are read one after another.
-use Rattle.std.proofs.Common.{◌≡◌, ℕ, zero, suc, ◌+◌, ◌<◌, ◌≤◌, List, [], ◌∷◌, ◌++◌, length, length-append, Bool, true}
-use Rattle.std.proofs.Common.{false, not, ◌&&◌, refl, sym, ap, ◌∙◌, arith, inl, inr}
+use Rattle.std.proofs.Common.{◌≡◌, ℕ, zero, suc, ◌+◌, ◌<◌, ◌≤◌, List, [], ◌∷◌, ◌++◌, length, length-append, Bool, true, false, not, ◌&&◌}
+use Rattle.std.proofs.Common.{refl, sym, ap, ◌∙◌, arith, inl, inr}
 use Rattle.std.specs.Prelude.{◌⊎◌}
 use Rattle.std.specs.List.{list_all}
 use Rattle.std.proofs.lemmas.Bool.{and_left, and_right, lt-leb}
@@ -15,8 +15,8 @@ use Rattle.influxdb_line_protocol.specs.code.Sets.{HasBackslash, CopiesIn, SetNe
 use Rattle.influxdb_line_protocol.specs.code.Outcomes.{FailsOn, IsFault}
 use Rattle.influxdb_line_protocol.specs.declared.error.Error.{Error}
 use Rattle.influxdb_line_protocol.specs.declared.error.Error.TheVariants as error
-use Rattle.influxdb_line_protocol.proofs.lemmas.fields.ReadingLemmas.{EndsIn, EndsIn-end, EndsIn-self, bind_reads, byte_ends}
-use Rattle.influxdb_line_protocol.proofs.lemmas.fields.ReadingLemmas.{PairRead, backslash_at_end, after_comma_read}
+use Rattle.influxdb_line_protocol.proofs.lemmas.fields.ReadingLemmas.{EndsIn, EndsIn-end, EndsIn-self, bind_reads, byte_ends, PairRead}
+use Rattle.influxdb_line_protocol.proofs.lemmas.fields.ReadingLemmas.{backslash_at_end, after_comma_read}
 
 -- those that are read after others
 prepend-prepend : {A : Type 0} (xs ys : List A) (r : Reading (List A)) → prepend xs (prepend ys r) ≡ prepend (xs ++ ys) r

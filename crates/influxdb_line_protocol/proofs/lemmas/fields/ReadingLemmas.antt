@@ -1,6 +1,6 @@
 -- What comes after a reading ends the text, and a copy is read from a text with a backslash.
-use Rattle.std.proofs.Common.{◌≡◌, ℕ, ◌+◌, List, [], ◌∷◌, ◌++◌, length, take, drop, Bool, true, false, not, ◌&&◌, inl}
-use Rattle.std.proofs.Common.{inr, sym, ◌∙◌, ap, refl, append_assoc, subst}
+use Rattle.std.proofs.Common.{◌≡◌, ℕ, ◌+◌, List, [], ◌∷◌, ◌++◌, length, take, drop, Bool, true, false, not, ◌&&◌, inl, inr, sym, ◌∙◌, ap}
+use Rattle.std.proofs.Common.{refl, append_assoc, subst}
 use Rattle.std.specs.Prelude.{if◌then◌else◌, ◌==◌, ◌⊎◌, nat_lt, Result, Ok, Err}
 use Rattle.std.specs.Result.{IsErrAnd}
 use Rattle.influxdb_line_protocol.specs.declared.error.Error.{Error}
@@ -10,13 +10,10 @@ use Rattle.std.proofs.lemmas.Bool.{cases_Bool, or_right, or_parts, eqb-true}
 use Rattle.std.proofs.lemmas.List.{take-append-drop}
 use Rattle.influxdb_line_protocol.specs.format.Bytes.{is_one_of}
 use Rattle.influxdb_line_protocol.specs.format.Readings.{Fault, Text, Read, Reading, miss, fatal, reads, ◌>>=◌, ◌otherwise◌}
-use Rattle.influxdb_line_protocol.specs.format.Names.{NameKind, name, a_tag_key, a_tag_value, a_field_key, escapable, spelled}
-use Rattle.influxdb_line_protocol.specs.format.Names.{spelled_len, read_text, is_shared, is_one_escape, ends_in_backslash}
-use Rattle.influxdb_line_protocol.specs.format.Names.{logical}
-use Rattle.influxdb_line_protocol.specs.format.Values.{Value, float, string, boolean, value, integer_at}
-use Rattle.influxdb_line_protocol.specs.format.Values.{unsigned_at, float_at, string_at, boolean_at}
-use Rattle.influxdb_line_protocol.specs.format.Values.{float_len, body_len, word_len, quotable, true_words}
-use Rattle.influxdb_line_protocol.specs.format.Values.{false_words}
+use Rattle.influxdb_line_protocol.specs.format.Names.{NameKind, name, a_tag_key, a_tag_value, a_field_key, escapable, spelled, spelled_len}
+use Rattle.influxdb_line_protocol.specs.format.Names.{read_text, is_shared, is_one_escape, ends_in_backslash, logical}
+use Rattle.influxdb_line_protocol.specs.format.Values.{Value, float, string, boolean, value, integer_at, unsigned_at, float_at, string_at}
+use Rattle.influxdb_line_protocol.specs.format.Values.{boolean_at, float_len, body_len, word_len, quotable, true_words, false_words}
 use Rattle.influxdb_line_protocol.specs.format.Points.{Pair}
 use Rattle.influxdb_line_protocol.specs.format.Lines.{byte, key_value, tag, field, after_comma}
 use Rattle.influxdb_line_protocol.specs.code.Light.{is_single_tag, is_single_field, is_single_value}

@@ -1,6 +1,6 @@
 -- A line with a reading that needs memory is not light, whatever room there is for tags and fields.
-use Rattle.std.proofs.Common.{◌≡◌, ℕ, ◌<◌, ◌≤◌, List, [], ◌∷◌, length, take, drop, Bool, true, false, not, ◌&&◌, ◌||◌}
-use Rattle.std.proofs.Common.{inl, inr, ap, refl, arith}
+use Rattle.std.proofs.Common.{◌≡◌, ℕ, ◌<◌, ◌≤◌, List, [], ◌∷◌, length, take, drop, Bool, true, false, not, ◌&&◌, ◌||◌, inl, inr, ap, refl}
+use Rattle.std.proofs.Common.{arith}
 use Rattle.std.specs.Prelude.{ℤ, Option, Some, None, Result, Ok, Err, nat_le, ◌==◌}
 use Rattle.std.specs.List.{list_all}
 use Rattle.std.specs.Result.{IsErr}
@@ -8,17 +8,15 @@ use Rattle.std.specs.Str.Parse.{signed_digits_value}
 use Rattle.std.proofs.lemmas.Bool.{cases_Bool, and_left, and_parts, and_right, le-leb, leb-true}
 use Rattle.influxdb_line_protocol.specs.format.Dialects.{Dialect}
 use Rattle.influxdb_line_protocol.specs.format.Bytes.{is_one_of}
-use Rattle.influxdb_line_protocol.specs.format.Readings.{Fault, Text, Read, Reading, miss, fatal, reads, field_set_missing}
-use Rattle.influxdb_line_protocol.specs.format.Readings.{take_while1, timestamp_value_invalid, cannot_parse_entire_line}
-use Rattle.influxdb_line_protocol.specs.format.Readings.{or_fault}
+use Rattle.influxdb_line_protocol.specs.format.Readings.{Fault, Text, Read, Reading, miss, fatal, reads, field_set_missing, take_while1}
+use Rattle.influxdb_line_protocol.specs.format.Readings.{timestamp_value_invalid, cannot_parse_entire_line, or_fault}
 use Rattle.influxdb_line_protocol.specs.format.Names.{name, a_measurement}
 use Rattle.influxdb_line_protocol.specs.format.Values.{Value, fits_i64, integer_len, side_of}
 use Rattle.influxdb_line_protocol.specs.format.Points.{Pair}
-use Rattle.influxdb_line_protocol.specs.format.Lines.{Line, answer, byte, complete, field, field_set, front_before}
-use Rattle.influxdb_line_protocol.specs.format.Lines.{separated_list, some_tags, spaces, tag, tag_set, timestamp}
-use Rattle.influxdb_line_protocol.specs.format.Lines.{without_comma, ◌then◌}
-use Rattle.influxdb_line_protocol.specs.code.Light.{carries_no_text, fields_in, is_light_answer, is_light_in}
-use Rattle.influxdb_line_protocol.specs.code.Light.{is_single_field, is_single_line, is_single_tag, tags_in}
+use Rattle.influxdb_line_protocol.specs.format.Lines.{Line, answer, byte, complete, field, field_set, front_before, separated_list}
+use Rattle.influxdb_line_protocol.specs.format.Lines.{some_tags, spaces, tag, tag_set, timestamp, without_comma, ◌then◌}
+use Rattle.influxdb_line_protocol.specs.code.Light.{carries_no_text, fields_in, is_light_answer, is_light_in, is_single_field}
+use Rattle.influxdb_line_protocol.specs.code.Light.{is_single_line, is_single_tag, tags_in}
 use Rattle.influxdb_line_protocol.specs.code.Memory.{NeedsMemory}
 use Rattle.influxdb_line_protocol.specs.code.Sets.{CopiesIn, HasBackslash, SetNeedsMemory, TagsNeedMemory}
 use Rattle.influxdb_line_protocol.proofs.lemmas.fields.ReadingLemmas.{EndsIn, EndsIn-drop, EndsIn-end, EndsIn-self, backslash_at_end}

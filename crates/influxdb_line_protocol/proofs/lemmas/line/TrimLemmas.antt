@@ -1,6 +1,6 @@
 -- Trimming from left to right.
-use Rattle.std.proofs.Common.{◌≡◌, ◌≢◌, ℕ, ◌+◌, ◌<◌, ◌≤◌, List, [], ◌∷◌, length, drop, slice_index, Bool, true, false}
-use Rattle.std.proofs.Common.{◌||◌, refl, sym, ap, ◌∙◌, arith, inl, inr, one-add}
+use Rattle.std.proofs.Common.{◌≡◌, ◌≢◌, ℕ, ◌+◌, ◌<◌, ◌≤◌, List, [], ◌∷◌, length, drop, slice_index, Bool, true, false, ◌||◌, refl, sym, ap}
+use Rattle.std.proofs.Common.{◌∙◌, arith, inl, inr, one-add}
 use Rattle.std.specs.Prelude.{◌==◌, if◌then◌else◌}
 use Rattle.std.specs.List.{join_with_byte, slice_split}
 use Rattle.std.proofs.lemmas.Bool.{cases_Bool, eqb-true, ne_eqb, or_right}

@@ -1,7 +1,6 @@
 -- Floats at the start of a text.
-use Rattle.std.proofs.Common.{◌≡◌, subst, if◌then◌else◌, ℕ, suc, ◌+◌, ◌<◌, ◌≤◌, List, [], ◌∷◌, ◌++◌, length}
-use Rattle.std.proofs.Common.{take, drop, slice_index, true, false, refl, sym, ap, ◌∙◌, arith, inl, inr, one-add}
-use Rattle.std.proofs.Common.{zero-add, add-zero}
+use Rattle.std.proofs.Common.{◌≡◌, subst, if◌then◌else◌, ℕ, suc, ◌+◌, ◌<◌, ◌≤◌, List, [], ◌∷◌, ◌++◌, length, take, drop, slice_index, true}
+use Rattle.std.proofs.Common.{false, refl, sym, ap, ◌∙◌, arith, inl, inr, one-add, zero-add, add-zero}
 use Rattle.std.specs.Prelude.{◌==◌, ◌&&◌, codes, nat_lt, IsUtf8, IsCharBoundary}
 use Rattle.std.specs.Char.{is_ascii_digit, digit_value}
 use Rattle.std.specs.Str.{IsAscii}
@@ -9,15 +8,14 @@ use Rattle.std.specs.Str.Parse.{AllDigits, IsNumeral}
 use Rattle.std.proofs.Math.Seq.{take-add, take-nil}
 use Rattle.std.proofs.lemmas.Bool.{cases_Bool, and_parts, and_from, eqb-true, eqb-false, eq-eqb, ne_eqb, le-leb, lt-ltb, ltb-true}
 use Rattle.std.proofs.lemmas.Grind.{common_steps}
-use Rattle.std.proofs.lemmas.List.{append_assoc, take_all, take-append-drop, drop_at, drop-drop}
-use Rattle.std.proofs.lemmas.List.{length-append, length-drop, length-take-le}
+use Rattle.std.proofs.lemmas.List.{append_assoc, take_all, take-append-drop, drop_at, drop-drop, length-append, length-drop, length-take-le}
 use Rattle.std.proofs.lemmas.List.Sums.{prefix_len-le-length}
 use Rattle.std.proofs.lemmas.Str.{IsAscii-append, IsCharBoundary-start, IsCharBoundary-from_take, IsUtf8-from_ascii}
 use Rattle.std.proofs.lemmas.Str.Parse.{digit_from_value}
 use Rattle.influxdb_line_protocol.specs.format.Bytes.{is_one_of}
 use Rattle.influxdb_line_protocol.specs.format.Readings.{miss, reads}
-use Rattle.influxdb_line_protocol.specs.format.Values.{IsFloat, IsMarked, IsSigned, float, float_at, digits_len, number_len}
-use Rattle.influxdb_line_protocol.specs.format.Values.{marked_len, integer_len, fraction_len, exponent_len, float_len}
+use Rattle.influxdb_line_protocol.specs.format.Values.{IsFloat, IsMarked, IsSigned, float, float_at, digits_len, number_len, marked_len}
+use Rattle.influxdb_line_protocol.specs.format.Values.{integer_len, fraction_len, exponent_len, float_len}
 use Rattle.influxdb_line_protocol.proofs.lemmas.values.ValueLemmas.{front_numeral}
 use Rattle.std.proofs.lemmas.Fmt.{IsAscii-from_digits}
 use Rattle.std.proofs.lemmas.Str.Ascii.{IsAscii-cons}

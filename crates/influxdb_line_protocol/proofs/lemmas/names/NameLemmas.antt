@@ -1,14 +1,12 @@
 -- How a spelling is read from left to right.
-use Rattle.std.proofs.Common.{◌≡◌, ◌≢◌, ℕ, suc, zero, ◌-◌, ◌<◌, List, [], ◌∷◌, length, drop, get_or, true, false, refl}
-use Rattle.std.proofs.Common.{sym, ap, ◌∙◌, arith, inl, inr}
+use Rattle.std.proofs.Common.{◌≡◌, ◌≢◌, ℕ, suc, zero, ◌-◌, ◌<◌, List, [], ◌∷◌, length, drop, get_or, true, false, refl, sym, ap, ◌∙◌, arith}
+use Rattle.std.proofs.Common.{inl, inr}
 use Rattle.std.specs.Prelude.{◌==◌}
 use Rattle.std.proofs.lemmas.Bool.{cases_Bool, or_parts, eqb-false, eq-eqb, ne_eqb}
 use Rattle.influxdb_line_protocol.specs.format.Bytes.{is_one_of}
-use Rattle.influxdb_line_protocol.specs.format.Names.{NameKind}
-use Rattle.influxdb_line_protocol.specs.format.Names.{a_measurement, a_tag_key, a_tag_value, a_field_key}
+use Rattle.influxdb_line_protocol.specs.format.Names.{NameKind, a_measurement, a_tag_key, a_tag_value, a_field_key, ends_in_backslash}
+use Rattle.influxdb_line_protocol.specs.format.Names.{escapable, is_escapable, read_text, logical, name, spelled, spelled_len}
 use Rattle.influxdb_line_protocol.specs.format.Escapes.{without_escapes}
-use Rattle.influxdb_line_protocol.specs.format.Names.{ends_in_backslash, escapable, is_escapable, read_text, logical}
-use Rattle.influxdb_line_protocol.specs.format.Names.{name, spelled, spelled_len}
 use Rattle.influxdb_line_protocol.specs.format.Readings.{miss, fatal, reads, ends_with_backslash}
 
 -- a byte that is no backslash stays

@@ -1,7 +1,6 @@
 -- Bases: keys that rise, the first repeated key, and tags by their keys.
-use Rattle.std.proofs.Common.{◌≡◌, ℕ, suc, zero, ◌+◌, ◌<◌, ◌≤◌, Bool, true, false, not, cond, ◌&&◌, ◌||◌, List, []}
-use Rattle.std.proofs.Common.{◌∷◌, length, take, drop, get_or, map, Some, Option, Result, Ok, Err, refl, ap, sym, ◌∙◌}
-use Rattle.std.proofs.Common.{arith, zero-add}
+use Rattle.std.proofs.Common.{◌≡◌, ℕ, suc, zero, ◌+◌, ◌<◌, ◌≤◌, Bool, true, false, not, cond, ◌&&◌, ◌||◌, List, [], ◌∷◌, length, take, drop}
+use Rattle.std.proofs.Common.{get_or, map, Some, Option, Result, Ok, Err, refl, ap, sym, ◌∙◌, arith, zero-add}
 use Rattle.std.specs.Borrow.{Bor}
 use Rattle.std.specs.declared.cmp.Ordering.{Ordering}
 use Rattle.std.specs.declared.cmp.Ordering.TheVariants.{Less, Equal, Greater}
@@ -20,11 +19,10 @@ use Rattle.std.proofs.lemmas.List.FromFn.{length-range_with_len, get_or-range_wi
 use Rattle.std.proofs.lemmas.List.Sums.{fold_push, position_or_len_is}
 use Rattle.std.proofs.lemmas.Map.Text.{btree_map_updates_str}
 use Rattle.influxdb_line_protocol.specs.declared.escaped.EscapedStr.{EscapedStr}
-use Rattle.influxdb_line_protocol.specs.code.Bases.{Base, FailsForBase, GivesBase, base_by_key, base_of, base_text}
-use Rattle.influxdb_line_protocol.specs.code.Bases.{in_order, is_borrowed, borrowed, owned, duplicate_key}
+use Rattle.influxdb_line_protocol.specs.code.Bases.{Base, FailsForBase, GivesBase, base_by_key, base_of, base_text, in_order, is_borrowed}
+use Rattle.influxdb_line_protocol.specs.code.Bases.{borrowed, owned, duplicate_key, by_key, entry_bytes, first_repeated, is_repeated_at}
+use Rattle.influxdb_line_protocol.specs.code.Bases.{keys_of, is_strictly_sorted}
 use Rattle.influxdb_line_protocol.specs.code.Light.{is_single_tag}
-use Rattle.influxdb_line_protocol.specs.code.Bases.{by_key, entry_bytes, first_repeated, is_repeated_at, keys_of}
-use Rattle.influxdb_line_protocol.specs.code.Bases.{is_strictly_sorted}
 use Rattle.influxdb_line_protocol.specs.code.Parsed.{tag_of}
 use Rattle.influxdb_line_protocol.specs.format.Points.{Pair}
 use Rattle.influxdb_line_protocol.specs.format.Readings.{Text}

@@ -1,6 +1,6 @@
 -- Texts as they are shown: what one byte more and one item more add.
-use Rattle.std.proofs.Common.{◌≡◌, ℕ, ◌+◌, ◌<◌, ◌≤◌, List, [], ◌∷◌, ◌++◌, length, take, drop, get_or, slice_index}
-use Rattle.std.proofs.Common.{length-drop, arith, ap, refl, ◌-◌, ◌∙◌, append_assoc, append-nil, true, false}
+use Rattle.std.proofs.Common.{◌≡◌, ℕ, ◌+◌, ◌<◌, ◌≤◌, List, [], ◌∷◌, ◌++◌, length, take, drop, get_or, slice_index, length-drop, arith, ap}
+use Rattle.std.proofs.Common.{refl, ◌-◌, ◌∙◌, append_assoc, append-nil, true, false}
 use Rattle.std.proofs.lemmas.Grind.{common_steps, flat_map-append}
 use Rattle.std.proofs.lemmas.List.{take_more}
 use Rattle.std.proofs.Math.Nat.{sub_self}

@@ -1,7 +1,6 @@
 -- What a load showed, as what is known of the text after a place of it.
-use Rattle.std.proofs.Common.{◌≡◌, ℕ, zero, suc, ◌+◌, ◌-◌, ◌/◌, ◌^◌, ◌<◌, List, ◌∷◌, map, length, take, drop}
-use Rattle.std.proofs.Common.{Bool, cond, not, ◌&&◌, ◌||◌, length-drop, refl, sym, ap, ap₂, ◌∙◌}
-use Rattle.std.proofs.Common.{subst, zero-add, arith}
+use Rattle.std.proofs.Common.{◌≡◌, ℕ, zero, suc, ◌+◌, ◌-◌, ◌/◌, ◌^◌, ◌<◌, List, ◌∷◌, map, length, take, drop, Bool, cond, not, ◌&&◌, ◌||◌}
+use Rattle.std.proofs.Common.{length-drop, refl, sym, ap, ap₂, ◌∙◌, subst, zero-add, arith}
 use Rattle.std.specs.Prelude.{◌==◌}
 use Rattle.std.specs.List.{range_with_len}
 use Rattle.std.proofs.lemmas.List.{drop-drop, drop-map, get_or-drop}

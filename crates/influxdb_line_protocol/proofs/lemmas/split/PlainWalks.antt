@@ -1,7 +1,7 @@
 -- What is known along a plain stretch, a load or a search further.
-use Rattle.std.proofs.Common.{◌≡◌, ◌≢◌, ℕ, ◌+◌, ◌-◌, ◌/◌, ◌%◌, ◌^◌, ◌<◌, ◌≤◌, List, length, map, take, drop, slice_index, min}
-use Rattle.std.proofs.Common.{Bool, true, false, cond, not, ◌&&◌, Some, None, count_ones, length-drop, refl, sym, ap, ap₂, ◌∙◌}
-use Rattle.std.proofs.Common.{subst, zero-add, inl, inr, arith}
+use Rattle.std.proofs.Common.{◌≡◌, ◌≢◌, ℕ, ◌+◌, ◌-◌, ◌/◌, ◌%◌, ◌^◌, ◌<◌, ◌≤◌, List, length, map, take, drop, slice_index, min, Bool, true}
+use Rattle.std.proofs.Common.{false, cond, not, ◌&&◌, Some, None, count_ones, length-drop, refl, sym, ap, ap₂, ◌∙◌, subst, zero-add, inl}
+use Rattle.std.proofs.Common.{inr, arith}
 use Rattle.std.specs.Prelude.{◌==◌}
 use Rattle.std.specs.Int.{w64, trailing_zeros}
 use Rattle.std.specs.List.{count_by, range_with_len}
@@ -23,10 +23,10 @@ use Rattle.influxdb_line_protocol.proofs.lemmas.tokens.EscapeLemmas.{is_escaped_
 use Rattle.influxdb_line_protocol.proofs.lemmas.scan.BareMasks.{escaped_is_not_bare, lowest_passes, none_before, ones_low, to_next, to_stop}
 use Rattle.influxdb_line_protocol.proofs.lemmas.split.AheadMasks.{ahead_of, ends_plain, escaped_place, mask_fits, nothing_ahead, seen_past}
 use Rattle.influxdb_line_protocol.proofs.lemmas.split.SeenMarks.{tz_below}
-use Rattle.influxdb_line_protocol.proofs.lemmas.split.SplitCounts.{count_along, count_clear, count_escaped}
-use Rattle.influxdb_line_protocol.proofs.lemmas.split.SplitCounts.{count_from, count_past, few_bare}
-use Rattle.influxdb_line_protocol.proofs.lemmas.split.SplitJumps.{LooksFor, looks_for_two, passed_search, passed_to_stop}
-use Rattle.influxdb_line_protocol.proofs.lemmas.split.SplitJumps.{found_after, search_ends, search_goes_on, search_stops}
+use Rattle.influxdb_line_protocol.proofs.lemmas.split.SplitCounts.{count_along, count_clear, count_escaped, count_from, count_past}
+use Rattle.influxdb_line_protocol.proofs.lemmas.split.SplitCounts.{few_bare}
+use Rattle.influxdb_line_protocol.proofs.lemmas.split.SplitJumps.{LooksFor, looks_for_two, passed_search, passed_to_stop, found_after}
+use Rattle.influxdb_line_protocol.proofs.lemmas.split.SplitJumps.{search_ends, search_goes_on, search_stops}
 use Rattle.influxdb_line_protocol.proofs.lemmas.split.SplitWalk.{count_bare_more}
 
 -- a walk as a record

@@ -1,6 +1,6 @@
 -- The lowest bit of a mask is the first of the marks that it has, and the bits above it are those after that one.
-use Rattle.std.proofs.Common.{◌≡◌, ℕ, ◌+◌, ◌-◌, ◌/◌, ◌^◌, ◌<◌, ◌≤◌, Bool, true, cond, not, List, length, drop}
-use Rattle.std.proofs.Common.{slice_index, Some, sym, ap, subst, ◌∙◌, map, inl, inr, refl, length-drop, arith}
+use Rattle.std.proofs.Common.{◌≡◌, ℕ, ◌+◌, ◌-◌, ◌/◌, ◌^◌, ◌<◌, ◌≤◌, Bool, true, cond, not, List, length, drop, slice_index, Some, sym, ap}
+use Rattle.std.proofs.Common.{subst, ◌∙◌, map, inl, inr, refl, length-drop, arith}
 use Rattle.std.specs.Int.{w64, bit_at, trailing_zeros}
 use Rattle.std.proofs.Math.Nat.{pow-le-pow_right}
 use Rattle.std.proofs.lemmas.Bool.{cases_lt, ne_eqb, not-true, not-false, false≢true}

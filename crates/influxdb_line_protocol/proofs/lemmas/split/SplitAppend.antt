@@ -1,6 +1,6 @@
 -- A plain stretch after a plain stretch is one, and so a builder can lengthen a piece by whole names.
-use Rattle.std.proofs.Common.{◌≡◌, ◌≢◌, ℕ, false, cond, not, ◌⊎◌, inl, inr, eqb, List, [], ◌∷◌, ◌++◌, sym, ◌∙◌, ap}
-use Rattle.std.proofs.Common.{refl, arith, append_assoc, append-nil}
+use Rattle.std.proofs.Common.{◌≡◌, ◌≢◌, ℕ, false, cond, not, ◌⊎◌, inl, inr, eqb, List, [], ◌∷◌, ◌++◌, sym, ◌∙◌, ap, refl, arith}
+use Rattle.std.proofs.Common.{append_assoc, append-nil}
 use Rattle.std.proofs.lemmas.List.Elements.{All-append}
 use Rattle.influxdb_line_protocol.specs.format.Escapes.{is_escaped_after, bare_after, bare, IsBareAfter}
 use Rattle.influxdb_line_protocol.specs.format.Piece.{IsPlain, EndsPlain, EndsPlain.first, EndsPlain.later}

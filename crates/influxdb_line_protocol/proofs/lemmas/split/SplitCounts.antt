@@ -1,6 +1,5 @@
 -- How many bytes that pass a test a text has, a byte or a load further.
-use Rattle.std.proofs.Common.{take-append-drop}
-use Rattle.std.proofs.Common.{◌≡◌, ℕ, zero, suc, ◌+◌, ◌%◌, ◌^◌, ◌<◌, ◌≤◌, List, length, take, drop, map, slice_index}
+use Rattle.std.proofs.Common.{take-append-drop, ◌≡◌, ℕ, zero, suc, ◌+◌, ◌%◌, ◌^◌, ◌<◌, ◌≤◌, List, length, take, drop, map, slice_index}
 use Rattle.std.proofs.Common.{Bool, true, false, cond, not, ◌&&◌, count_ones, refl, sym, ap, ◌∙◌, inl, inr, arith}
 use Rattle.std.specs.Prelude.{◌==◌}
 use Rattle.std.specs.List.{count_by, range_with_len}

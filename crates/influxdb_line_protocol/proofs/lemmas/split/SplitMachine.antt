@@ -1,13 +1,12 @@
 -- The shape of a piece against a machine that reads it byte by byte. The machine is determined, and so is the cut.
-use Rattle.std.proofs.Common.{◌≡◌, ◌≢◌, ℕ, Bool, true, false, cond, not, ◌&&◌, ◌⊎◌, inl, inr, eqb, ltb, List, [], ◌∷◌}
-use Rattle.std.proofs.Common.{◌++◌, sym, ◌∙◌, ap, refl, arith, append_assoc, append-nil}
+use Rattle.std.proofs.Common.{◌≡◌, ◌≢◌, ℕ, Bool, true, false, cond, not, ◌&&◌, ◌⊎◌, inl, inr, eqb, ltb, List, [], ◌∷◌, ◌++◌, sym, ◌∙◌, ap}
+use Rattle.std.proofs.Common.{refl, arith, append_assoc, append-nil}
 use Rattle.std.specs.List.{All, count_by}
 use Rattle.std.proofs.lemmas.List.Elements.{All-head, All-tail}
 use Rattle.std.proofs.lemmas.Bool.{ne_eqb, lt-ltb, le-ltb, cases_eq, cases_Bool, false≢true, and_left, and_right}
 use Rattle.influxdb_line_protocol.specs.format.Escapes.{is_escaped_after, bare_after, bare, IsBareAfter}
-use Rattle.influxdb_line_protocol.specs.format.Piece.{IsHead, HasMoreEquals, IsPlain, Opens, IsQuoted, EndsPlain}
-use Rattle.influxdb_line_protocol.specs.format.Piece.{EndsPlain.first, EndsPlain.later, EndsQuoted, EndsQuoted.opened}
-use Rattle.influxdb_line_protocol.specs.format.Piece.{IsClosed, IsOpen}
+use Rattle.influxdb_line_protocol.specs.format.Piece.{IsHead, HasMoreEquals, IsPlain, Opens, IsQuoted, EndsPlain, EndsPlain.first}
+use Rattle.influxdb_line_protocol.specs.format.Piece.{EndsPlain.later, EndsQuoted, EndsQuoted.opened, IsClosed, IsOpen}
 use Rattle.influxdb_line_protocol.proofs.lemmas.split.SplitShape.{last_place}
 use Rattle.influxdb_line_protocol.proofs.lemmas.split.SplitBare.{is_escaped-nil, is_escaped-push, is_escaped-push_escaped}
 

@@ -1,6 +1,6 @@
 -- The mask of those bytes of a load that end a stretch.
-use Rattle.std.proofs.Common.{◌≡◌, ℕ, ◌+◌, ◌%◌, ◌^◌, ◌≤◌, eqb, Bool, true, false, cond, ◌||◌, List, map, length}
-use Rattle.std.proofs.Common.{replicate, bit_or, refl, arith}
+use Rattle.std.proofs.Common.{◌≡◌, ℕ, ◌+◌, ◌%◌, ◌^◌, ◌≤◌, eqb, Bool, true, false, cond, ◌||◌, List, map, length, replicate, bit_or, refl}
+use Rattle.std.proofs.Common.{arith}
 use Rattle.std.proofs.lemmas.Simd.{length-chunk}
 use lib.Lanes.{chunk, zip2, mask_l, top}
 use Rattle.influxdb_line_protocol.specs.declared.split.Stops.{Stops}

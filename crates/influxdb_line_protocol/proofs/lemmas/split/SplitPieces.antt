@@ -1,7 +1,7 @@
 -- Each text has exactly one list of pieces, and the pieces of joined texts are joined.
-use Rattle.std.proofs.Common.{◌≡◌, ◌≢◌, ℕ, ◌+◌, ◌<◌, Bool, true, false, ◌&&◌, ◌||◌, ◌⊎◌, inl, inr, eqb, List, [], ◌∷◌}
-use Rattle.std.proofs.Common.{◌++◌, length, get_or, take, drop, Option, Some, None, MatchOption, slice_range, sym, ◌∙◌}
-use Rattle.std.proofs.Common.{ap, refl, subst, arith, append_assoc, append-nil}
+use Rattle.std.proofs.Common.{◌≡◌, ◌≢◌, ℕ, ◌+◌, ◌<◌, Bool, true, false, ◌&&◌, ◌||◌, ◌⊎◌, inl, inr, eqb, List, [], ◌∷◌, ◌++◌, length, get_or}
+use Rattle.std.proofs.Common.{take, drop, Option, Some, None, MatchOption, slice_range, sym, ◌∙◌, ap, refl, subst, arith, append_assoc}
+use Rattle.std.proofs.Common.{append-nil}
 use Rattle.std.specs.List.{All, count_by}
 use Rattle.std.proofs.lemmas.List.{append_cancel_left, take_at, drop_more, take-append-drop}
 use Rattle.std.proofs.lemmas.List.Elements.{All-head, All-tail, All-nil, All-cons, All-push, All-take, All-append}
@@ -9,11 +9,11 @@ use Rattle.std.proofs.lemmas.Bool.{cases_lt, cases_eq, cases_Bool, false≢true,
 use Rattle.influxdb_line_protocol.specs.format.Dialects.{Dialect, Crate, Strict}
 use Rattle.influxdb_line_protocol.specs.format.Escapes.{is_escaped_after}
 use Rattle.influxdb_line_protocol.specs.format.Piece.{IsHead, EndsPlain, EndsQuoted}
-use Rattle.influxdb_line_protocol.specs.format.Pieces.{begins_comment, IsComment, IsCutPiece, IsLastPiece, IsFirstCut, Pieces}
-use Rattle.influxdb_line_protocol.specs.format.Pieces.{Pieces.last, Pieces.cut}
+use Rattle.influxdb_line_protocol.specs.format.Pieces.{begins_comment, IsComment, IsCutPiece, IsLastPiece, IsFirstCut, Pieces, Pieces.last}
+use Rattle.influxdb_line_protocol.specs.format.Pieces.{Pieces.cut}
 use Rattle.influxdb_line_protocol.proofs.lemmas.split.SplitShape.{IsHead-escaped, IsHead-bare, EndsPlain-escaped, EndsPlain-bare}
-use Rattle.influxdb_line_protocol.proofs.lemmas.split.SplitShape.{EndsPlain-start, EndsQuoted-escaped, EndsQuoted-bare}
-use Rattle.influxdb_line_protocol.proofs.lemmas.split.SplitShape.{EndsQuoted-start, EndsQuoted-close}
+use Rattle.influxdb_line_protocol.proofs.lemmas.split.SplitShape.{EndsPlain-start, EndsQuoted-escaped, EndsQuoted-bare, EndsQuoted-start}
+use Rattle.influxdb_line_protocol.proofs.lemmas.split.SplitShape.{EndsQuoted-close}
 use Rattle.influxdb_line_protocol.proofs.lemmas.split.SplitMachine.{cut_not_within}
 
 -- a byte more is a cut, or lengthens the piece

@@ -1,11 +1,11 @@
 -- The shape of a piece, a byte further.
-use Rattle.std.proofs.Common.{◌≡◌, ◌≢◌, ℕ, true, false, ◌⊎◌, inl, inr, List, [], ◌∷◌, ◌++◌, sym, ◌∙◌, ap, refl, subst}
-use Rattle.std.proofs.Common.{arith, append_assoc, append-nil}
+use Rattle.std.proofs.Common.{◌≡◌, ◌≢◌, ℕ, true, false, ◌⊎◌, inl, inr, List, [], ◌∷◌, ◌++◌, sym, ◌∙◌, ap, refl, subst, arith, append_assoc}
+use Rattle.std.proofs.Common.{append-nil}
 use Rattle.std.proofs.lemmas.List.Elements.{All-push, All-nil}
 use Rattle.std.proofs.lemmas.Bool.{ne_eqb}
 use Rattle.influxdb_line_protocol.specs.format.Escapes.{is_escaped_after, bare, IsBareAfter}
-use Rattle.influxdb_line_protocol.specs.format.Piece.{IsHead, HasMoreEquals, IsPlain, IsQuoted, EndsPlain, EndsPlain.first}
-use Rattle.influxdb_line_protocol.specs.format.Piece.{EndsPlain.later, EndsQuoted, EndsQuoted.opened}
+use Rattle.influxdb_line_protocol.specs.format.Piece.{IsHead, HasMoreEquals, IsPlain, IsQuoted, EndsPlain, EndsPlain.first, EndsPlain.later}
+use Rattle.influxdb_line_protocol.specs.format.Piece.{EndsQuoted, EndsQuoted.opened}
 use Rattle.influxdb_line_protocol.proofs.lemmas.split.SplitBare.{is_escaped-nil, is_escaped-after_other, bare-push_escaped, bare-push_bare}
 
 -- a place in a list with one more element is a place in the list, or the new one

@@ -1,7 +1,6 @@
 -- A piece, a stretch at a time.
-use Rattle.std.proofs.Common.{◌≡◌, ◌≢◌, ℕ, zero, suc, ◌+◌, ◌<◌, ◌≤◌, Bool, true, false, List, [], ◌∷◌, ◌++◌, length}
-use Rattle.std.proofs.Common.{take, drop, slice_index, Some, None, append_assoc, refl, sym, ap, ◌∙◌, subst, inl, inr}
-use Rattle.std.proofs.Common.{arith, length-drop}
+use Rattle.std.proofs.Common.{◌≡◌, ◌≢◌, ℕ, zero, suc, ◌+◌, ◌<◌, ◌≤◌, Bool, true, false, List, [], ◌∷◌, ◌++◌, length, take, drop}
+use Rattle.std.proofs.Common.{slice_index, Some, None, append_assoc, refl, sym, ap, ◌∙◌, subst, inl, inr, arith, length-drop}
 use Rattle.std.specs.Prelude.{◌==◌, ◌||◌}
 use Rattle.std.specs.List.{All, count_by}
 use Rattle.std.proofs.lemmas.Bool.Decides.{nat_tests}
@@ -18,8 +17,8 @@ use Rattle.influxdb_line_protocol.specs.format.Pieces.{IsLastPiece, IsFirstCut}
 use Rattle.influxdb_line_protocol.specs.code.Searches.{IsPlainTo, IsBeforeQuote}
 use Rattle.influxdb_line_protocol.specs.code.Walks.{IsWalked}
 use Rattle.influxdb_line_protocol.proofs.lemmas.split.SplitBare.{is_escaped-nil, is_escaped-append, is_escaped-push_other, flag_after}
-use Rattle.influxdb_line_protocol.proofs.lemmas.split.SplitShape.{last_place, IsHead-bare, EndsPlain-start}
-use Rattle.influxdb_line_protocol.proofs.lemmas.split.SplitShape.{EndsPlain-bare, EndsQuoted-close}
+use Rattle.influxdb_line_protocol.proofs.lemmas.split.SplitShape.{last_place, IsHead-bare, EndsPlain-start, EndsPlain-bare}
+use Rattle.influxdb_line_protocol.proofs.lemmas.split.SplitShape.{EndsQuoted-close}
 use Rattle.influxdb_line_protocol.proofs.lemmas.split.SplitAppend.{EndsPlain-append}
 use Rattle.influxdb_line_protocol.proofs.lemmas.split.SplitWalk.{IsCountOf-append, Head-space, Plain-other, HasMoreEquals-from}
 use Rattle.influxdb_line_protocol.proofs.lemmas.laws.meanings.StopMeaning.{before_stop}

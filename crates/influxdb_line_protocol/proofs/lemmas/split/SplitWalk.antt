@@ -1,6 +1,6 @@
 -- What a walk knows, a byte further.
-use Rattle.std.proofs.Common.{◌≡◌, ◌≢◌, ℕ, ◌+◌, ◌<◌, ◌≤◌, Bool, true, cond, eqb, List, [], ◌∷◌, ◌++◌, ◌∙◌, ap, arith}
-use Rattle.std.proofs.Common.{add-zero, take, length, slice_index, inl, inr}
+use Rattle.std.proofs.Common.{◌≡◌, ◌≢◌, ℕ, ◌+◌, ◌<◌, ◌≤◌, Bool, true, cond, eqb, List, [], ◌∷◌, ◌++◌, ◌∙◌, ap, arith, add-zero, take}
+use Rattle.std.proofs.Common.{length, slice_index, inl, inr}
 use Rattle.std.specs.List.{count_by}
 use Rattle.std.proofs.lemmas.List.{take_more}
 use Rattle.std.proofs.lemmas.List.Sums.{sum_by-append}
@@ -10,8 +10,8 @@ use Rattle.influxdb_line_protocol.specs.format.Escapes.{is_escaped_after, bare, 
 use Rattle.influxdb_line_protocol.specs.format.Piece.{IsHead, HasMoreEquals, EndsPlain, EndsQuoted}
 use Rattle.influxdb_line_protocol.proofs.lemmas.split.SplitBare.{bare-push_escaped, bare-push_bare}
 use Rattle.influxdb_line_protocol.proofs.lemmas.split.SplitShape.{IsHead-escaped, IsHead-bare, EndsPlain-escaped, EndsPlain-bare}
-use Rattle.influxdb_line_protocol.proofs.lemmas.split.SplitShape.{EndsPlain-start, EndsQuoted-escaped, EndsQuoted-bare}
-use Rattle.influxdb_line_protocol.proofs.lemmas.split.SplitShape.{EndsQuoted-start, EndsQuoted-close}
+use Rattle.influxdb_line_protocol.proofs.lemmas.split.SplitShape.{EndsPlain-start, EndsQuoted-escaped, EndsQuoted-bare, EndsQuoted-start}
+use Rattle.influxdb_line_protocol.proofs.lemmas.split.SplitShape.{EndsQuoted-close}
 
 -- the part of a piece that its last byte is in
 pub data Part : Type 0 where

@@ -1,7 +1,6 @@
 -- What a search knows of a text holds of each text that begins with it.
-use Rattle.std.proofs.Common.{◌≡◌, ℕ, ◌<◌, ◌≤◌, Bool, true, false, cond, not, ◌&&◌, List, ◌++◌, length, map}
-use Rattle.std.proofs.Common.{take, drop, slice_index, sym, ap, ◌∙◌, subst}
-use Rattle.std.proofs.Common.{arith, append_assoc, length-append}
+use Rattle.std.proofs.Common.{◌≡◌, ℕ, ◌<◌, ◌≤◌, Bool, true, false, cond, not, ◌&&◌, List, ◌++◌, length, map, take, drop, slice_index, sym}
+use Rattle.std.proofs.Common.{ap, ◌∙◌, subst, arith, append_assoc, length-append}
 use Rattle.std.proofs.lemmas.List.{take-append-le, drop-append-le, get_or_append_left}
 use Rattle.std.specs.Simd.Lanes.{mask_l}
 use Rattle.memchr.specs.Find.{is_byte3}
@@ -13,8 +12,8 @@ use Rattle.influxdb_line_protocol.specs.declared.split.resumed.Search.{Search}
 use Rattle.influxdb_line_protocol.specs.declared.split.resumed.Search.TheVariants.{Begins, Quiet, Within}
 use Rattle.influxdb_line_protocol.specs.format.Escapes.{is_escaped_after, IsBareAfter, IsPassed}
 use Rattle.influxdb_line_protocol.specs.format.Pieces.{begins_comment, IsLastPiece}
-use Rattle.influxdb_line_protocol.specs.code.Searches.{BeginsAt, ends, IsBeforeQuote, IsKnown, IsPlainPiece, IsPlainTo}
-use Rattle.influxdb_line_protocol.specs.code.Searches.{IsStopped, NeverComment}
+use Rattle.influxdb_line_protocol.specs.code.Searches.{BeginsAt, ends, IsBeforeQuote, IsKnown, IsPlainPiece, IsPlainTo, IsStopped}
+use Rattle.influxdb_line_protocol.specs.code.Searches.{NeverComment}
 use Rattle.influxdb_line_protocol.specs.code.Seen.{AreSeen}
 use Rattle.influxdb_line_protocol.specs.code.Streams.{IsHeldAt}
 

@@ -1,6 +1,6 @@
 -- A search for a cut, from stretch to stretch.
-use Rattle.std.proofs.Common.{◌≡◌, ◌≢◌, ℕ, zero, suc, ◌+◌, ◌<◌, ◌≤◌, Bool, true, false, List, length, take}
-use Rattle.std.proofs.Common.{drop, slice_index, Some, refl, sym, ap, ◌∙◌, subst, arith, zero-add, not, ◌&&◌, ◌-◌, ◌%◌, ◌/◌}
+use Rattle.std.proofs.Common.{◌≡◌, ◌≢◌, ℕ, zero, suc, ◌+◌, ◌<◌, ◌≤◌, Bool, true, false, List, length, take, drop, slice_index, Some, refl}
+use Rattle.std.proofs.Common.{sym, ap, ◌∙◌, subst, arith, zero-add, not, ◌&&◌, ◌-◌, ◌%◌, ◌/◌}
 use Rattle.std.specs.Prelude.{◌==◌, ◌||◌}
 use Rattle.std.specs.List.{range_with_len}
 use Rattle.std.proofs.lemmas.Bool.{and_right, both_ways, ne_eqb}
@@ -19,8 +19,8 @@ use Rattle.influxdb_line_protocol.specs.code.Walks.{IsWalked}
 use Rattle.influxdb_line_protocol.proofs.lemmas.tokens.EscapeLemmas.{is_escaped_more}
 use Rattle.influxdb_line_protocol.proofs.lemmas.split.SplitBare.{is_escaped-nil}
 use Rattle.influxdb_line_protocol.proofs.lemmas.split.SplitJumps.{passed_start}
-use Rattle.influxdb_line_protocol.proofs.lemmas.split.SplitStretches.{stretch_to, head_last, head_cut, head_space}
-use Rattle.influxdb_line_protocol.proofs.lemmas.split.SplitStretches.{plain_last, plain_cut, plain_quote, quoted_last, quoted_closes}
+use Rattle.influxdb_line_protocol.proofs.lemmas.split.SplitStretches.{stretch_to, head_last, head_cut, head_space, plain_last, plain_cut}
+use Rattle.influxdb_line_protocol.proofs.lemmas.split.SplitStretches.{plain_quote, quoted_last, quoted_closes}
 
 -- no byte before the first bare one that passes is one
 none_before_first : (passes : ℕ → Bool) (text : List ℕ) (k : ℕ) → k < length text → k < first_bare passes text

@@ -6,8 +6,8 @@ use Rattle.influxdb_line_protocol.specs.format.Readings.{Fault}
 use Rattle.influxdb_line_protocol.specs.format.Lines.{Line}
 use Rattle.influxdb_line_protocol.specs.format.Items.{HasAnswers, answers_of, answers_of_piece}
 use Rattle.influxdb_line_protocol.specs.format.Pieces.{IsLastPiece, Pieces.last}
-use Rattle.influxdb_line_protocol.specs.laws.StreamLaws.{HaveAnswers, StreamsGiveAnswers, StreamsAnswerAll}
-use Rattle.influxdb_line_protocol.specs.laws.StreamLaws.{Run, Run.begun, Run.pushed, Run.taken}
+use Rattle.influxdb_line_protocol.specs.laws.StreamLaws.{HaveAnswers, StreamsGiveAnswers, StreamsAnswerAll, Run, Run.begun, Run.pushed}
+use Rattle.influxdb_line_protocol.specs.laws.StreamLaws.{Run.taken}
 use Rattle.influxdb_line_protocol.proofs.lemmas.split.SplitPieces.{IsLastPiece-cut, same_pieces}
 use Rattle.influxdb_line_protocol.proofs.lemmas.stream.StreamRuns.{runs_give_pieces}
 

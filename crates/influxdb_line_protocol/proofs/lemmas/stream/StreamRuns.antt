@@ -1,13 +1,13 @@
 -- The pieces that a stream gives are those of all that was pushed.
-use Rattle.std.proofs.Common.{◌≡◌, ℕ, ◌+◌, ◌<◌, List, [], ◌∷◌, ◌++◌, length, drop, subst, sym, ◌∙◌, arith, append_assoc}
-use Rattle.std.proofs.Common.{length-append, append-nil, refl}
+use Rattle.std.proofs.Common.{◌≡◌, ℕ, ◌+◌, ◌<◌, List, [], ◌∷◌, ◌++◌, length, drop, subst, sym, ◌∙◌, arith, append_assoc, length-append}
+use Rattle.std.proofs.Common.{append-nil, refl}
 use Rattle.std.specs.Str.{IsUtf8}
 use Rattle.std.proofs.Math.Seq.{get_or-append_seam, drop-append_seam}
 use Rattle.std.proofs.lemmas.List.{get_or_append_left, take_at, take-append-le}
 use Rattle.std.proofs.lemmas.Str.{IsUtf8-append, IsUtf8-take, IsUtf8-drop, IsCharBoundary-after_ascii, IsCharBoundary-at_seam}
 use Rattle.influxdb_line_protocol.specs.format.Pieces.{IsCutPiece, Pieces, Pieces.cut, Pieces.last}
-use Rattle.influxdb_line_protocol.specs.laws.StreamLaws.{FrontsKeepTheirCuts, TakenIsFirst, RunsGivePieces, RunsEnd}
-use Rattle.influxdb_line_protocol.specs.laws.StreamLaws.{Utf8ByPieces, Run.begun, Run.pushed, Run.taken}
+use Rattle.influxdb_line_protocol.specs.laws.StreamLaws.{FrontsKeepTheirCuts, TakenIsFirst, RunsGivePieces, RunsEnd, Utf8ByPieces}
+use Rattle.influxdb_line_protocol.specs.laws.StreamLaws.{Run.begun, Run.pushed, Run.taken}
 
 -- whatever comes then, the piece that was taken is the first
 pub taken_is_first : TakenIsFirst

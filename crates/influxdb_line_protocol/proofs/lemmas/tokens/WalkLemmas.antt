@@ -1,10 +1,9 @@
 -- A walk over a token, from escape to escape.
-use Rattle.std.proofs.Common.{◌≡◌, ◌≢◌, ℕ, zero, suc, ◌+◌, ◌-◌, ◌<◌, ◌≤◌, Bool, List, [], ◌∷◌, ◌++◌, length, take}
-use Rattle.std.proofs.Common.{slice_index, true, false, cond, eqb, not, ◌&&◌, refl, sym, ap, ap₂, ◌∙◌, subst, arith}
-use Rattle.std.proofs.Common.{inl, inr, add-one, add-zero, append_assoc}
+use Rattle.std.proofs.Common.{◌≡◌, ◌≢◌, ℕ, zero, suc, ◌+◌, ◌-◌, ◌<◌, ◌≤◌, Bool, List, [], ◌∷◌, ◌++◌, length, take, slice_index, true, false}
+use Rattle.std.proofs.Common.{cond, eqb, not, ◌&&◌, refl, sym, ap, ap₂, ◌∙◌, subst, arith, inl, inr, add-one, add-zero, append_assoc}
 use Rattle.std.specs.Prelude.{◌==◌}
-use Rattle.std.proofs.lemmas.Bool.{false≢true, cases_Bool, or_parts, not-true, not-false, or_cases, eqb-true}
-use Rattle.std.proofs.lemmas.Bool.{eqb-false, cases_lt, cases_eq, and_right}
+use Rattle.std.proofs.lemmas.Bool.{false≢true, cases_Bool, or_parts, not-true, not-false, or_cases, eqb-true, eqb-false, cases_lt, cases_eq}
+use Rattle.std.proofs.lemmas.Bool.{and_right}
 use Rattle.std.proofs.lemmas.List.{take_more, length-append}
 use Rattle.std.proofs.lemmas.List.Folds.{list_any_more}
 use Rattle.std.proofs.lemmas.List.Sums.{sum_by-cons}

@@ -1,6 +1,6 @@
 -- A walk over one load of a token, by the masks of its bare stops and of its known escapes.
-use Rattle.std.proofs.Common.{◌≡◌, ℕ, ◌+◌, ◌%◌, ◌^◌, ◌<◌, ◌≤◌, Bool, true, false, cond, ◌&&◌, List, length}
-use Rattle.std.proofs.Common.{slice_index, bit_and, count_ones, sym, ap, ap₂, ◌∙◌, subst, inl, inr, arith}
+use Rattle.std.proofs.Common.{◌≡◌, ℕ, ◌+◌, ◌%◌, ◌^◌, ◌<◌, ◌≤◌, Bool, true, false, cond, ◌&&◌, List, length, slice_index, bit_and}
+use Rattle.std.proofs.Common.{count_ones, sym, ap, ap₂, ◌∙◌, subst, inl, inr, arith}
 use Rattle.std.specs.Prelude.{◌==◌}
 use Rattle.std.specs.List.{range_with_len}
 use Rattle.std.proofs.lemmas.Bool.{cases_eq}
@@ -9,8 +9,8 @@ use Rattle.influxdb_line_protocol.specs.format.Escapes.{is_bare_at, IsPassed, Es
 use Rattle.influxdb_line_protocol.specs.code.Lanes.{first_set, mask_of}
 use Rattle.influxdb_line_protocol.specs.code.RawTokens.{is_escape_at}
 use Rattle.influxdb_line_protocol.specs.code.Scan.{mask_at}
-use Rattle.influxdb_line_protocol.proofs.lemmas.scan.BareMasks.{at_most_one, escaped_is_not_bare, lowest_within, mask_next}
-use Rattle.influxdb_line_protocol.proofs.lemmas.scan.BareMasks.{next_bare, one_escaped, ones_low, to_next, to_stop}
+use Rattle.influxdb_line_protocol.proofs.lemmas.scan.BareMasks.{at_most_one, escaped_is_not_bare, lowest_within, mask_next, next_bare}
+use Rattle.influxdb_line_protocol.proofs.lemmas.scan.BareMasks.{one_escaped, ones_low, to_next, to_stop}
 use Rattle.influxdb_line_protocol.proofs.lemmas.scan.EscapedMasks.{of_places}
 use Rattle.influxdb_line_protocol.proofs.lemmas.scan.MaskBits.{and_of_maps}
 use Rattle.influxdb_line_protocol.proofs.lemmas.tokens.WalkLemmas.{escapes_from, escapes_more, walk_to}

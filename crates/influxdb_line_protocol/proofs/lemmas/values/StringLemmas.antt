@@ -1,6 +1,6 @@
 -- Texts between quotes.
-use Rattle.std.proofs.Common.{◌≡◌, ◌≢◌, ℕ, ◌<◌, List, [], ◌∷◌, length, take, drop, get_or, slice_index, true, false}
-use Rattle.std.proofs.Common.{refl, ap, ◌∙◌, arith, zero-add}
+use Rattle.std.proofs.Common.{◌≡◌, ◌≢◌, ℕ, ◌<◌, List, [], ◌∷◌, length, take, drop, get_or, slice_index, true, false, refl, ap, ◌∙◌, arith}
+use Rattle.std.proofs.Common.{zero-add}
 use Rattle.std.specs.Prelude.{◌==◌, nat_lt}
 use Rattle.std.proofs.lemmas.Bool.{and_parts, eq-eqb, eqb-true, ne_eqb, lt-ltb, ltb-true, false_from_ne_true}
 use Rattle.std.specs.List.{range_with_len}

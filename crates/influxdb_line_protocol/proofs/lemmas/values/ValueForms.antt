@@ -6,9 +6,8 @@ use Rattle.std.proofs.lemmas.Bool.{cases_eq, eq-eqb, eqb-false, ne_eqb, or_parts
 use Rattle.std.proofs.lemmas.Grind.{common_steps}
 use Rattle.influxdb_line_protocol.specs.format.Bytes.{is_one_of}
 use Rattle.influxdb_line_protocol.specs.format.Readings.{Reading, Text, miss, fatal, reads, ◌otherwise◌}
-use Rattle.influxdb_line_protocol.specs.format.Values.{Value, value, integer_at, unsigned_at, float_at, string_at, boolean_at}
-use Rattle.influxdb_line_protocol.specs.format.Values.{integer_len, digits_len, float_len, longer_front, true_words}
-use Rattle.influxdb_line_protocol.specs.format.Values.{false_words}
+use Rattle.influxdb_line_protocol.specs.format.Values.{Value, value, integer_at, unsigned_at, float_at, string_at, boolean_at, integer_len}
+use Rattle.influxdb_line_protocol.specs.format.Values.{digits_len, float_len, longer_front, true_words, false_words}
 use Rattle.influxdb_line_protocol.proofs.lemmas.literals.FloatLemmas.{float_misses}
 use Rattle.influxdb_line_protocol.proofs.lemmas.values.ValueLemmas.{boolean_misses, digits_of_minus, digits_of_plain, integer_misses}
 use Rattle.influxdb_line_protocol.proofs.lemmas.values.ValueLemmas.{integer_unmarked, unsigned_decides, unsigned_misses, unsigned_unmarked}

@@ -1,22 +1,20 @@
 -- Numbers at the start of a text.
-use Rattle.std.proofs.Common.{◌≡◌, ◌≢◌, ℕ, zero, suc, ◌+◌, ◌-◌, ◌^◌, ◌<◌, ◌≤◌, List, [], ◌∷◌, length, take, drop}
-use Rattle.std.proofs.Common.{get_or, Bool, slice_index, true, false, refl, sym, ap, subst, arith, inl, inr, add-zero}
-use Rattle.std.proofs.Common.{zero-add, one-add}
-use Rattle.std.specs.Prelude.{◌==◌, if◌then◌else◌, IsUtf8, IsCharBoundary, ℤ, pos, negsuc, FitsSigned}
+use Rattle.std.proofs.Common.{◌≡◌, ◌≢◌, ℕ, zero, suc, ◌+◌, ◌-◌, ◌^◌, ◌<◌, ◌≤◌, List, [], ◌∷◌, length, take, drop, get_or, Bool, slice_index}
+use Rattle.std.proofs.Common.{true, false, refl, sym, ap, subst, arith, inl, inr, add-zero, zero-add, one-add}
+use Rattle.std.specs.Prelude.{◌==◌, if◌then◌else◌, IsUtf8, IsCharBoundary, ℤ, pos, negsuc, FitsSigned, leb, nat_lt}
 use Rattle.std.specs.Char.{is_ascii_digit, digit_value}
 use Rattle.std.specs.Int.{w64}
 use Rattle.std.specs.Str.Parse.{AllDigits, IsNumeral, digits_value, signed_digits_value}
-use Rattle.std.proofs.lemmas.Bool.{cases_Bool, cases_lt, false_from_ne_true, and_parts, eqb-false, eqb-true}
-use Rattle.std.proofs.lemmas.Bool.{eq-eqb, ne_eqb, leb-true, ltb-true, lt-ltb, le-leb, and_from}
-use Rattle.std.specs.Prelude.{leb, nat_lt}
+use Rattle.std.proofs.lemmas.Bool.{cases_Bool, cases_lt, false_from_ne_true, and_parts, eqb-false, eqb-true, eq-eqb, ne_eqb, leb-true}
+use Rattle.std.proofs.lemmas.Bool.{ltb-true, lt-ltb, le-leb, and_from}
 use Rattle.std.proofs.lemmas.List.{drop-drop, drop_more, get_or-drop, get_or_past, length-drop, length-take, length-take-le}
 use Rattle.std.proofs.lemmas.List.Sums.{prefix_len_passes, prefix_len-le-length}
 use Rattle.std.proofs.lemmas.Grind.{common_steps}
 use Rattle.std.proofs.lemmas.Str.{IsCharBoundary-after_ascii, IsCharBoundary-start, digit_value_digit}
-use Rattle.influxdb_line_protocol.specs.format.Values.{Value, digits_len, integer, integer_at, integer_len, side_of, fits_i64}
-use Rattle.influxdb_line_protocol.specs.format.Values.{boolean, boolean_at, unsigned, unsigned_at, word_len}
-use Rattle.influxdb_line_protocol.specs.format.Readings.{Reading, Text, ◌otherwise◌, above, miss, fatal, reads}
-use Rattle.influxdb_line_protocol.specs.format.Readings.{integer_value_invalid, uinteger_value_invalid}
+use Rattle.influxdb_line_protocol.specs.format.Values.{Value, digits_len, integer, integer_at, integer_len, side_of, fits_i64, boolean}
+use Rattle.influxdb_line_protocol.specs.format.Values.{boolean_at, unsigned, unsigned_at, word_len}
+use Rattle.influxdb_line_protocol.specs.format.Readings.{Reading, Text, ◌otherwise◌, above, miss, fatal, reads, integer_value_invalid}
+use Rattle.influxdb_line_protocol.specs.format.Readings.{uinteger_value_invalid}
 
 -- a digit, by its test
 pub digit_range : (b : ℕ) → is_ascii_digit b ≡ true → (48 ≤ b) × (b ≤ 57)

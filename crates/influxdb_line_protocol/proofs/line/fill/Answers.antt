@@ -11,9 +11,8 @@ use Rattle.influxdb_line_protocol.specs.code.Texts.{read_of}
 use Rattle.influxdb_line_protocol.proofs.lemmas.line.LineLemmas.{byte_there}
 use Rattle.influxdb_line_protocol.proofs.lemmas.fields.ManyLemmas.{carried_on}
 use Rattle.influxdb_line_protocol.proofs.lemmas.fields.ReadingLemmas.{passed_on}
-use Rattle.influxdb_line_protocol.proofs.lemmas.line.LightLemmas.{fields_need, measurement_needs, series_ends, tags_need}
-use Rattle.influxdb_line_protocol.proofs.lemmas.line.LightLemmas.{timestamp_carries, timestamp_fault, timestamp_needs}
-use Rattle.influxdb_line_protocol.proofs.lemmas.line.LightLemmas.{trailing_fault, trailing_needs}
+use Rattle.influxdb_line_protocol.proofs.lemmas.line.LightLemmas.{fields_need, measurement_needs, series_ends, tags_need, timestamp_carries}
+use Rattle.influxdb_line_protocol.proofs.lemmas.line.LightLemmas.{timestamp_fault, timestamp_needs, trailing_fault, trailing_needs}
 use Rattle.influxdb_line_protocol.proofs.line.fill.Goals as goal
 
 pub returns-in_err-measurement-clause-light : goal.returns-in_err-measurement-clause-light
@@ -53,21 +52,6 @@ returns-in_err-rest-2-clause-light c = λ light refused.
     (room_of c.args.parsed.now.series.tag_set) c.args.parsed.now.field_set.capacity needs in
     cc
 
-pub returns-in_err-timestamp-clause-value : goal.returns-in_err-timestamp-clause-value
-returns-in_err-timestamp-clause-value c =
-    let e = rw c.in-Some.is at c.in_ok-measurement.ensures.value in
-    let gap = byte_there 32 c.in_ok-rest.rest.now c.strip_byte.result c.strip_byte.ensures.value
-    (c.is_none.ensures ∙ ap not c.if-is_none.false) in
-    let f = rw (c.in-Some-2.is, c.trim_start_spaces.ensures) at c.in_ok-rest-2.ensures.value in
-    let p = err_from_is_err_and c.from_residual-in_err-timestamp.result c.from_residual-in_err-timestamp.ensures.1 in
-    let failed = carried_on c.in_err-timestamp.field-0.0 (λ fault. timestamp c.in-Some-2.rest.now ≡ Err fault)
-    (λ fault. answer (rules_of c.args.dialect) c.args.line.now ≡ Err fault)
-    (timestamp_fault (rules_of c.args.dialect) c.args.line.now (read_of c.in-Some.measurement) c.in-Some.rest.now
-    (record { value = option_map tags_of c.tag_set.new.set; rest = c.in_ok-rest.rest.now }) gap.0 e c.in_ok-rest.ensures.value gap.1
-    (fields_of c.field_set.new.set) c.in-Some-2.rest.now f)
-    c.in_err-timestamp.ensures.value in
-    rw (p.1, p.2) failed
-
 pub returns-in_err-timestamp-clause-light : goal.returns-in_err-timestamp-clause-light
 returns-in_err-timestamp-clause-light c = λ light refused.
     let e = rw c.in-Some.is at c.in_ok-measurement.ensures.value in
@@ -97,16 +81,3 @@ returns-in_err-trailing_content-clause-light c = λ light refused.
     (record { value = c.in_ok-timestamp.timestamp; rest = c.in_ok-timestamp.rest.now })
     c.in_ok-timestamp.ensures.value some in
     cc
-
-pub returns-then-not-is_empty-clause-value : goal.returns-then-not-is_empty-clause-value
-returns-then-not-is_empty-clause-value c =
-    let e = rw c.in-Some.is at c.in_ok-measurement.ensures.value in
-    let gap = byte_there 32 c.in_ok-rest.rest.now c.strip_byte.result c.strip_byte.ensures.value
-    (c.is_none.ensures ∙ ap not c.if-is_none.false) in
-    let f = rw (c.in-Some-2.is, c.trim_start_spaces.ensures) at c.in_ok-rest-2.ensures.value in
-    let some : 0 < length c.in_ok-timestamp.rest.now = grind (arith, common_steps) in
-    rw c.in_ok-trailing_content.ensures.ok
-    (trailing_fault (rules_of c.args.dialect) c.args.line.now (read_of c.in-Some.measurement) c.in-Some.rest.now
-    (record { value = option_map tags_of c.tag_set.new.set; rest = c.in_ok-rest.rest.now }) gap.0 e c.in_ok-rest.ensures.value gap.1
-    (fields_of c.field_set.new.set) c.in-Some-2.rest.now f
-    (record { value = c.in_ok-timestamp.timestamp; rest = c.in_ok-timestamp.rest.now }) c.in_ok-timestamp.ensures.value some)

@@ -1,8 +1,8 @@
 use Rattle.std.proofs.Common.{◌+◌, refl, arith}
 use Rattle.std.proofs.lemmas.Grind.{common_steps}
 use Rattle.std.proofs.lemmas.List.{take_rest}
-use Rattle.influxdb_line_protocol.proofs.lemmas.split.SplitStretches.{head_last, head_cut, head_space, plain_last, plain_cut}
-use Rattle.influxdb_line_protocol.proofs.lemmas.split.SplitStretches.{plain_quote, quote_opens_nothing, quoted_last, quoted_closes}
+use Rattle.influxdb_line_protocol.proofs.lemmas.split.SplitStretches.{head_last, head_cut, head_space, plain_last, plain_cut, plain_quote}
+use Rattle.influxdb_line_protocol.proofs.lemmas.split.SplitStretches.{quote_opens_nothing, quoted_last, quoted_closes}
 use Rattle.influxdb_line_protocol.proofs.lemmas.split.AheadMasks.{ahead_on, nothing_ahead}
 use Rattle.influxdb_line_protocol.proofs.split.cut_by_stretches.Goals as goal
 

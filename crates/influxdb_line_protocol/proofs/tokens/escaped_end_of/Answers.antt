@@ -1,5 +1,4 @@
-use Rattle.std.proofs.Common.{◌≡◌, ℕ, ◌+◌, ◌-◌, ◌<◌, ◌≤◌, List, length, take, slice_index, true, ◌∙◌, sym, ap}
-use Rattle.std.proofs.Common.{arith, inl, inr, refl}
+use Rattle.std.proofs.Common.{◌≡◌, ℕ, ◌+◌, ◌-◌, ◌<◌, ◌≤◌, List, length, take, slice_index, true, ◌∙◌, sym, ap, arith, inl, inr, refl}
 use Rattle.std.proofs.lemmas.Bool.{false≢true, cases_eq}
 use Rattle.influxdb_line_protocol.specs.declared.tokens.Backslashes.{Backslashes}
 use Rattle.influxdb_line_protocol.specs.declared.sets.TokenKind.{TokenKind}

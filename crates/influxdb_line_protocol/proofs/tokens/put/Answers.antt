@@ -1,5 +1,5 @@
-use Rattle.std.proofs.Common.{◌≡◌, ◌+◌, length, drop, slice_index, true, false, sym, ap, ◌∙◌, arith, string_bytes}
-use Rattle.std.proofs.Common.{length-append, append_assoc, ℕ, List, ◌<◌}
+use Rattle.std.proofs.Common.{◌≡◌, ◌+◌, length, drop, slice_index, true, false, sym, ap, ◌∙◌, arith, string_bytes, length-append}
+use Rattle.std.proofs.Common.{append_assoc, ℕ, List, ◌<◌}
 use Rattle.std.proofs.lemmas.Bool.{not-false, eqb-true}
 use Rattle.std.proofs.lemmas.Str.{IsCharBoundary-start, IsCharBoundary-before_ascii}
 use Rattle.influxdb_line_protocol.specs.format.Bytes.{is_one_of}

@@ -3,8 +3,8 @@ use Rattle.std.proofs.lemmas.Grind.{common_steps}
 use Rattle.std.proofs.lemmas.List.{drop_all}
 use Rattle.std.proofs.lemmas.Str.{IsCharBoundary-start, IsCharBoundary-after_ascii}
 use Rattle.influxdb_line_protocol.specs.format.Trimming.{trimmed}
-use Rattle.influxdb_line_protocol.proofs.lemmas.line.TrimLemmas.{left_of, left_newline, left_hash, left_blank, left_inside}
-use Rattle.influxdb_line_protocol.proofs.lemmas.line.TrimLemmas.{left_kept, left_end, trimmed_is}
+use Rattle.influxdb_line_protocol.proofs.lemmas.line.TrimLemmas.{left_of, left_newline, left_hash, left_blank, left_inside, left_kept}
+use Rattle.influxdb_line_protocol.proofs.lemmas.line.TrimLemmas.{left_end, trimmed_is}
 use Rattle.influxdb_line_protocol.proofs.trim.trimmed.Goals as goal
 use Rattle.influxdb_line_protocol.proofs.trim.trimmed.Goals.{in-10, in-35, in-32-1, in-9-1, in_default}
 

@@ -1,7 +1,6 @@
 use Rattle.std.proofs.Common.{◌<◌, arith, rules, refl}
 use Rattle.influxdb_line_protocol.specs.format.Values.{digits_len}
-use Rattle.influxdb_line_protocol.proofs.lemmas.values.ValueLemmas.{front_numeral, letter_boundary}
-use Rattle.influxdb_line_protocol.proofs.lemmas.values.ValueLemmas.{unsigned_overflows, unsigned_reads}
+use Rattle.influxdb_line_protocol.proofs.lemmas.values.ValueLemmas.{front_numeral, letter_boundary, unsigned_overflows, unsigned_reads}
 use Rattle.influxdb_line_protocol.proofs.values.unsigned.Goals as goal
 
 pub unsigned_value-requires-clause-numeral : goal.unsigned_value-requires-clause-numeral

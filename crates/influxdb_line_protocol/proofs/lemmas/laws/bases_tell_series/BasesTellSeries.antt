@@ -1,22 +1,21 @@
 -- Bases tell parsed series from one another.
-use Rattle.std.proofs.Common.{◌≡◌, ℕ, zero, suc, ◌+◌, ◌<◌, true, false, not, List, [], ◌∷◌, ◌++◌, ◌&&◌, length}
-use Rattle.std.proofs.Common.{drop, refl, sym, ap, ◌∙◌, subst, inl, inr, arith, append_assoc, add-one, Option, Some}
-use Rattle.std.proofs.Common.{None, Result, Ok}
+use Rattle.std.proofs.Common.{◌≡◌, ℕ, zero, suc, ◌+◌, ◌<◌, true, false, not, List, [], ◌∷◌, ◌++◌, ◌&&◌, length, drop, refl, sym, ap, ◌∙◌}
+use Rattle.std.proofs.Common.{subst, inl, inr, arith, append_assoc, add-one, Option, Some, None, Result, Ok}
 use Rattle.std.specs.List.{flat_map, list_all, list_any}
 use Rattle.std.specs.Option.{is_some}
 use Rattle.std.proofs.lemmas.Bool.{and_parts, cases_Bool, eq-eqb, false≢true, not-true, or_cases, or_parts}
 use Rattle.std.proofs.lemmas.List.{take-append-drop}
-use Rattle.influxdb_line_protocol.specs.laws.BaseLaws.{IsClearSeries, IsParsedSeries, ClearSeriesHaveBases}
-use Rattle.influxdb_line_protocol.specs.laws.BaseLaws.{SameSeriesHaveOneBase, base_bytes, is_tag_one_escape, spelled_tags}
-use Rattle.influxdb_line_protocol.specs.code.Bases.{owned, base_by_key, base_of, base_text, based_tag, by_key}
-use Rattle.influxdb_line_protocol.specs.code.Bases.{first_repeated, in_order, keys_of, is_strictly_sorted}
+use Rattle.influxdb_line_protocol.specs.laws.BaseLaws.{IsClearSeries, IsParsedSeries, ClearSeriesHaveBases, SameSeriesHaveOneBase}
+use Rattle.influxdb_line_protocol.specs.laws.BaseLaws.{base_bytes, is_tag_one_escape, spelled_tags}
+use Rattle.influxdb_line_protocol.specs.code.Bases.{owned, base_by_key, base_of, base_text, based_tag, by_key, first_repeated, in_order}
+use Rattle.influxdb_line_protocol.specs.code.Bases.{keys_of, is_strictly_sorted}
 use Rattle.influxdb_line_protocol.specs.code.Light.{is_single_tag}
 use Rattle.influxdb_line_protocol.specs.format.Bytes.{is_one_of}
 use Rattle.influxdb_line_protocol.specs.format.Escapes.{without_escapes}
 use Rattle.influxdb_line_protocol.specs.format.Lines.{byte, separated_list, some_tags, tag, tag_set}
 use Rattle.influxdb_line_protocol.specs.laws.Meanings.{SeparatedBy, SeparatedAfterComma}
-use Rattle.influxdb_line_protocol.specs.format.Names.{a_measurement, a_tag_key, a_tag_value, escapable, is_one_escape}
-use Rattle.influxdb_line_protocol.specs.format.Names.{is_shared, name, read_text, spelled, spelled_len}
+use Rattle.influxdb_line_protocol.specs.format.Names.{a_measurement, a_tag_key, a_tag_value, escapable, is_one_escape, is_shared, name}
+use Rattle.influxdb_line_protocol.specs.format.Names.{read_text, spelled, spelled_len}
 use Rattle.influxdb_line_protocol.specs.format.Points.{Pair}
 use Rattle.influxdb_line_protocol.specs.format.Readings.{Fault, Read, Reading, Text, fatal, miss, reads}
 use Rattle.influxdb_line_protocol.proofs.lemmas.series.BaseLemmas.{base_falls, base_owned, base_part}

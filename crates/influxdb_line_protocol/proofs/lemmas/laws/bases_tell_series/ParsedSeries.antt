@@ -1,6 +1,6 @@
 -- The series of each line that is read is a parsed one.
-use Rattle.std.proofs.Common.{◌≡◌, ℕ, zero, suc, ◌-◌, ◌≤◌, Bool, List, [], ◌∷◌, ◌++◌, length, drop, refl, sym, ap, ◌∙◌}
-use Rattle.std.proofs.Common.{subst, inl, inr, arith, append_assoc, length-append, Option, Some, None, Ok}
+use Rattle.std.proofs.Common.{◌≡◌, ℕ, zero, suc, ◌-◌, ◌≤◌, Bool, List, [], ◌∷◌, ◌++◌, length, drop, refl, sym, ap, ◌∙◌, subst, inl, inr}
+use Rattle.std.proofs.Common.{arith, append_assoc, length-append, Option, Some, None, Ok}
 use Rattle.std.specs.Prelude.{◌==◌}
 use Rattle.std.proofs.Math.Seq.{take-append_seam}
 use Rattle.std.proofs.lemmas.Bool.{cases_Bool}
@@ -8,8 +8,8 @@ use Rattle.std.proofs.lemmas.List.{append_cancel_left, take-append-drop}
 use Rattle.influxdb_line_protocol.specs.laws.BaseLaws.{IsParsedSeries, ReadSeriesAreParsed}
 use Rattle.influxdb_line_protocol.specs.format.Lines.{after_comma, front_before, many, some_tags, tag, tag_set}
 use Rattle.influxdb_line_protocol.specs.laws.Meanings.{IsAtStop, SeparatedAfterComma}
-use Rattle.influxdb_line_protocol.specs.format.Names.{NameKind, a_measurement, a_tag_key, a_tag_value, ends_in_backslash}
-use Rattle.influxdb_line_protocol.specs.format.Names.{escapable, is_stop, logical, name, read_text, spelled, spelled_len}
+use Rattle.influxdb_line_protocol.specs.format.Names.{NameKind, a_measurement, a_tag_key, a_tag_value, ends_in_backslash, escapable}
+use Rattle.influxdb_line_protocol.specs.format.Names.{is_stop, logical, name, read_text, spelled, spelled_len}
 use Rattle.influxdb_line_protocol.specs.format.Points.{Pair}
 use Rattle.influxdb_line_protocol.specs.format.Readings.{Reading, Text, reads}
 use Rattle.influxdb_line_protocol.proofs.lemmas.laws.bases_tell_series.BasesTellSeries.{set_separated}

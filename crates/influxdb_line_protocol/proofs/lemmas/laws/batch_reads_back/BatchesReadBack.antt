@@ -7,9 +7,8 @@ use Rattle.influxdb_line_protocol.specs.format.Points.{Point, line_of}
 use Rattle.influxdb_line_protocol.specs.format.Lines.{Line, answer}
 use Rattle.influxdb_line_protocol.specs.format.Items.{answers_of_piece, HasAnswers}
 use Rattle.influxdb_line_protocol.specs.laws.Laws.{IsAdmittedPoint, BatchesReadBack}
-use Rattle.influxdb_line_protocol.proofs.lemmas.laws.batch_reads_back.LinePieces.{IsAdmitted, admitted_point}
-use Rattle.influxdb_line_protocol.proofs.lemmas.laws.batch_reads_back.LinePieces.{line_is_cut_piece, line_untrimmed}
-use Rattle.influxdb_line_protocol.proofs.lemmas.laws.batch_reads_back.LinePieces.{line_some}
+use Rattle.influxdb_line_protocol.proofs.lemmas.laws.batch_reads_back.LinePieces.{IsAdmitted, admitted_point, line_is_cut_piece}
+use Rattle.influxdb_line_protocol.proofs.lemmas.laws.batch_reads_back.LinePieces.{line_untrimmed, line_some}
 use Rattle.influxdb_line_protocol.proofs.lemmas.laws.batch_reads_back.ReadLines.{read_line, read_line_is}
 use Rattle.influxdb_line_protocol.proofs.lemmas.laws.batch_reads_back.LineReadsBack.{line_reads_back}
 use Rattle.influxdb_line_protocol.proofs.lemmas.laws.pieces_join.Batches.{HasAnswersBy, ReadsBack, batch_joins}

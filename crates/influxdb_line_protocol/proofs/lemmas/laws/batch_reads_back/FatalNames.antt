@@ -1,7 +1,6 @@
 -- A line with a name whose spelling stops too early: the name is fatal, and so is the line at a measurement.
-use Rattle.std.proofs.Common.{◌≡◌, ◌⊎◌, ℕ, ◌<◌, List, [], ◌∷◌, ◌++◌, length, slice_index}
-use Rattle.std.proofs.Common.{true, false, refl, sym, ap, ◌∙◌, subst, arith, inl, inr, append_assoc}
-use Rattle.std.proofs.Common.{append-nil, Err, Result}
+use Rattle.std.proofs.Common.{◌≡◌, ◌⊎◌, ℕ, ◌<◌, List, [], ◌∷◌, ◌++◌, length, slice_index, true, false, refl, sym, ap, ◌∙◌, subst, arith}
+use Rattle.std.proofs.Common.{inl, inr, append_assoc, append-nil, Err, Result}
 use Rattle.std.specs.Prelude.{◌==◌}
 use Rattle.std.specs.List.{list_all}
 use Rattle.std.proofs.lemmas.Bool.{cases_Bool, false≢true, both_ways, and_from, and_right, not_from_false, ne_eqb}
@@ -10,23 +9,19 @@ use Rattle.influxdb_line_protocol.specs.format.Dialects.{Dialect, Crate, Strict}
 use Rattle.influxdb_line_protocol.specs.format.Bytes.{is_one_of}
 use Rattle.influxdb_line_protocol.specs.format.Escapes.{escaped, escaped_byte}
 use Rattle.influxdb_line_protocol.specs.format.Readings.{Fault, ends_with_backslash, fatal}
-use Rattle.influxdb_line_protocol.specs.format.Names.{NameKind, a_measurement, a_tag_key, a_tag_value, a_field_key}
-use Rattle.influxdb_line_protocol.specs.format.Names.{ends_in_backslash, escapable, is_stop, name}
+use Rattle.influxdb_line_protocol.specs.format.Names.{NameKind, a_measurement, a_tag_key, a_tag_value, a_field_key, ends_in_backslash}
+use Rattle.influxdb_line_protocol.specs.format.Names.{escapable, is_stop, name}
 use Rattle.influxdb_line_protocol.specs.format.Piece.{IsClosed}
-use Rattle.influxdb_line_protocol.specs.format.Points.{never_in, is_admitted_name}
-use Rattle.influxdb_line_protocol.specs.format.Points.{spelling}
+use Rattle.influxdb_line_protocol.specs.format.Points.{never_in, is_admitted_name, spelling}
 use Rattle.influxdb_line_protocol.specs.format.Pieces.{IsLastPiece, Pieces, Pieces.last, Pieces.cut}
-use Rattle.influxdb_line_protocol.specs.format.Lines.{Line}
-use Rattle.influxdb_line_protocol.specs.format.Lines.{answer}
+use Rattle.influxdb_line_protocol.specs.format.Lines.{Line, answer}
 use Rattle.influxdb_line_protocol.specs.format.Items.{answers_of_piece, answers_of}
 use Rattle.influxdb_line_protocol.specs.laws.NamesOfLines.{IsParsedName}
 use Rattle.influxdb_line_protocol.proofs.lemmas.split.SplitPieces.{no_cut_within}
-use Rattle.influxdb_line_protocol.proofs.lemmas.laws.batch_reads_back.NameReadsBack.{may_hold}
-use Rattle.influxdb_line_protocol.proofs.lemmas.laws.batch_reads_back.NameReadsBack.{escaped_plain}
+use Rattle.influxdb_line_protocol.proofs.lemmas.laws.batch_reads_back.NameReadsBack.{may_hold, escaped_plain}
 use Rattle.influxdb_line_protocol.proofs.lemmas.laws.batch_reads_back.Reaches.{reaches_start}
 use Rattle.influxdb_line_protocol.proofs.lemmas.laws.parsed_names.Spellings.{SpelledAs, never_unescapable, never_stops, spelling_as, Stops}
-use Rattle.influxdb_line_protocol.proofs.lemmas.laws.parsed_names.Spellings.{spelled_fatal, spelled_begins, reaches_head}
-use Rattle.influxdb_line_protocol.proofs.lemmas.laws.parsed_names.Spellings.{BeginsLine}
+use Rattle.influxdb_line_protocol.proofs.lemmas.laws.parsed_names.Spellings.{spelled_fatal, spelled_begins, reaches_head, BeginsLine}
 use Rattle.influxdb_line_protocol.proofs.lemmas.laws.parsed_names.Spellings.{line_no_comment, line_trimmed, line_some}
 
 -- nothing, or this byte at the start

@@ -1,6 +1,6 @@
 -- A float reads back as it was written.
-use Rattle.std.proofs.Common.{◌≡◌, ◌≢◌, ℕ, suc, ◌+◌, ◌<◌, List, [], ◌∷◌, ◌++◌, length, take, drop, slice_index, true}
-use Rattle.std.proofs.Common.{false, refl, sym, ap, ◌∙◌, arith, inl, inr, one-add, zero-add, add-zero}
+use Rattle.std.proofs.Common.{◌≡◌, ◌≢◌, ℕ, suc, ◌+◌, ◌<◌, List, [], ◌∷◌, ◌++◌, length, take, drop, slice_index, true, false, refl, sym, ap}
+use Rattle.std.proofs.Common.{◌∙◌, arith, inl, inr, one-add, zero-add, add-zero}
 use Rattle.std.specs.Prelude.{◌==◌, codes}
 use Rattle.std.specs.Char.{is_ascii_digit}
 use Rattle.std.specs.Str.Parse.{IsNumeral}
@@ -9,9 +9,9 @@ use Rattle.std.proofs.lemmas.Grind.{common_steps}
 use Rattle.std.proofs.lemmas.List.{append_assoc, take_at, drop_at, length-append, drop-drop, get_or-append-add}
 use Rattle.influxdb_line_protocol.specs.format.Bytes.{is_one_of}
 use Rattle.influxdb_line_protocol.specs.format.Readings.{Text, miss, reads}
-use Rattle.influxdb_line_protocol.specs.format.Values.{Value, IsFloat, IsMarked, IsSigned, value, float, integer_at}
-use Rattle.influxdb_line_protocol.specs.format.Values.{unsigned_at, float_at, digits_len, number_len, marked_len, integer_len}
-use Rattle.influxdb_line_protocol.specs.format.Values.{fraction_len, exponent_len, float_len}
+use Rattle.influxdb_line_protocol.specs.format.Values.{Value, IsFloat, IsMarked, IsSigned, value, float, integer_at, unsigned_at, float_at}
+use Rattle.influxdb_line_protocol.specs.format.Values.{digits_len, number_len, marked_len, integer_len, fraction_len, exponent_len}
+use Rattle.influxdb_line_protocol.specs.format.Values.{float_len}
 use Rattle.influxdb_line_protocol.proofs.lemmas.values.ValueLemmas.{integer_unmarked, unsigned_unmarked}
 use Rattle.influxdb_line_protocol.proofs.lemmas.laws.batch_reads_back.IntegerReadsBack.{digits_before}
 use Rattle.influxdb_line_protocol.proofs.lemmas.literals.FloatLemmas.{digit_passes, signed_some, minus_no_digit, sign_no_digit}

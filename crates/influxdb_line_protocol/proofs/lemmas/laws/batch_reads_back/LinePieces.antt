@@ -1,7 +1,6 @@
 -- The line of an admitted point is a piece that a newline ends.
-use Rattle.std.proofs.Common.{◌≡◌, ◌≢◌, ℕ, suc, ◌+◌, ◌^◌, ◌<◌, ◌≤◌, List, [], ◌∷◌, ◌++◌, length, Bool, true, false}
-use Rattle.std.proofs.Common.{◌&&◌, refl, sym, ap, ◌∙◌, subst, arith, inl, inr, append_assoc, append-nil, Option, Some}
-use Rattle.std.proofs.Common.{None}
+use Rattle.std.proofs.Common.{◌≡◌, ◌≢◌, ℕ, suc, ◌+◌, ◌^◌, ◌<◌, ◌≤◌, List, [], ◌∷◌, ◌++◌, length, Bool, true, false, ◌&&◌, refl, sym, ap}
+use Rattle.std.proofs.Common.{◌∙◌, subst, arith, inl, inr, append_assoc, append-nil, Option, Some, None}
 use Rattle.std.specs.Prelude.{◌==◌, ℤ, pos, negsuc, not, codes, decimal, IfSome}
 use Rattle.std.specs.List.{AllByRecursion, list_all, flat_map}
 use Rattle.std.specs.Fmt.{signed_decimal}
@@ -12,30 +11,26 @@ use Rattle.std.proofs.lemmas.Fmt.{decimal_is_IsNumeral}
 use Rattle.std.proofs.lemmas.Str.Parse.{digit_from_value}
 use Rattle.std.proofs.lemmas.List.Folds.{list_all-append}
 use Rattle.std.proofs.lemmas.List.{length-append}
-use Rattle.influxdb_line_protocol.proofs.lemmas.split.SplitWalk.{Part}
-use Rattle.influxdb_line_protocol.proofs.lemmas.split.SplitWalk.{Head, Plain, Quoted}
+use Rattle.influxdb_line_protocol.proofs.lemmas.split.SplitWalk.{Part, Head, Plain, Quoted, Head-space, Head-other, Plain-equals}
+use Rattle.influxdb_line_protocol.proofs.lemmas.split.SplitWalk.{Plain-comma, Plain-opens, Plain-other, Quoted-closes, Quoted-other}
 use Rattle.influxdb_line_protocol.specs.format.Dialects.{Dialect, Crate, Strict}
 use Rattle.influxdb_line_protocol.specs.format.Bytes.{is_one_of}
 use Rattle.influxdb_line_protocol.specs.format.Escapes.{escaped}
 use Rattle.influxdb_line_protocol.specs.format.Names.{a_measurement, a_tag_key, a_tag_value, a_field_key, escapable, is_escapable}
-use Rattle.influxdb_line_protocol.specs.format.Values.{Value, integer, unsigned, float, string, boolean, quotable, fits_i64}
-use Rattle.influxdb_line_protocol.specs.format.Values.{IsSigned, IsMarked, IsFloat}
-use Rattle.influxdb_line_protocol.specs.format.Points.{Point, IsPoint, Tag, Field, IsValue, is_admitted_tag}
-use Rattle.influxdb_line_protocol.specs.format.Points.{is_admitted_field, is_admitted_point, line_of, built_tag, built_field}
-use Rattle.influxdb_line_protocol.specs.format.Points.{built_fields, built_timestamp, built_value, spelling, is_admitted_name}
+use Rattle.influxdb_line_protocol.specs.format.Values.{Value, integer, unsigned, float, string, boolean, quotable, fits_i64, IsSigned}
+use Rattle.influxdb_line_protocol.specs.format.Values.{IsMarked, IsFloat}
+use Rattle.influxdb_line_protocol.specs.format.Points.{Point, IsPoint, Tag, Field, IsValue, is_admitted_tag, is_admitted_field}
+use Rattle.influxdb_line_protocol.specs.format.Points.{is_admitted_point, line_of, built_tag, built_field, built_fields, built_timestamp}
+use Rattle.influxdb_line_protocol.specs.format.Points.{built_value, spelling, is_admitted_name}
 use Rattle.influxdb_line_protocol.specs.format.Pieces.{IsCutPiece, begins_comment}
 use Rattle.influxdb_line_protocol.proofs.lemmas.split.SplitBare.{is_escaped-push_other}
-use Rattle.influxdb_line_protocol.proofs.lemmas.split.SplitWalk.{Head-space, Head-other, Plain-equals}
-use Rattle.influxdb_line_protocol.proofs.lemmas.split.SplitWalk.{Plain-comma, Plain-opens, Plain-other, Quoted-closes, Quoted-other}
 use Rattle.influxdb_line_protocol.specs.format.Trimming.{trimmed}
-use Rattle.influxdb_line_protocol.proofs.lemmas.laws.batch_reads_back.NameReadsBack.{admitted_parts, begins_otherwise}
-use Rattle.influxdb_line_protocol.proofs.lemmas.laws.batch_reads_back.NameReadsBack.{may_hold, spelling_nonempty}
-use Rattle.influxdb_line_protocol.proofs.lemmas.laws.batch_reads_back.NameReadsBack.{escaped_found, escaped_plain}
+use Rattle.influxdb_line_protocol.proofs.lemmas.laws.batch_reads_back.NameReadsBack.{admitted_parts, begins_otherwise, may_hold}
+use Rattle.influxdb_line_protocol.proofs.lemmas.laws.batch_reads_back.NameReadsBack.{spelling_nonempty, escaped_found, escaped_plain}
 use Rattle.influxdb_line_protocol.proofs.lemmas.line.TrimLemmas.{is_blank, trimmed_is}
 use Rattle.influxdb_line_protocol.proofs.lemmas.values.ValueLemmas.{fits_from_test}
-use Rattle.influxdb_line_protocol.proofs.lemmas.laws.batch_reads_back.Reaches.{Reaches, reaches_start, ChangesNothing}
-use Rattle.influxdb_line_protocol.proofs.lemmas.laws.batch_reads_back.Reaches.{reaches_byte, reaches_escaped}
-use Rattle.influxdb_line_protocol.proofs.lemmas.laws.batch_reads_back.Reaches.{no_newline, no_backslash, no_space}
+use Rattle.influxdb_line_protocol.proofs.lemmas.laws.batch_reads_back.Reaches.{Reaches, reaches_start, ChangesNothing, reaches_byte}
+use Rattle.influxdb_line_protocol.proofs.lemmas.laws.batch_reads_back.Reaches.{reaches_escaped, no_newline, no_backslash, no_space}
 use Rattle.influxdb_line_protocol.proofs.lemmas.laws.batch_reads_back.Reaches.{reaches_name, reaches_key}
 
 -- a byte that means nothing in a plain stretch

@@ -1,6 +1,6 @@
 -- The line of a point reads back as the point.
-use Rattle.std.proofs.Common.{◌≡◌, ◌≢◌, ℕ, ◌-◌, ◌<◌, List, [], ◌∷◌, ◌++◌, length, map, true, refl, sym, ap, ◌∙◌, arith}
-use Rattle.std.proofs.Common.{inl, inr, Ok, Option}
+use Rattle.std.proofs.Common.{◌≡◌, ◌≢◌, ℕ, ◌-◌, ◌<◌, List, [], ◌∷◌, ◌++◌, length, map, true, refl, sym, ap, ◌∙◌, arith, inl, inr, Ok}
+use Rattle.std.proofs.Common.{Option}
 use Rattle.std.specs.Prelude.{ℤ, IfSome}
 use Rattle.std.specs.List.{flat_map, AllByRecursion}
 use Rattle.influxdb_line_protocol.specs.format.Dialects.{Dialect}
@@ -9,16 +9,14 @@ use Rattle.std.proofs.lemmas.List.{append_assoc, take_at, length-append}
 use Rattle.influxdb_line_protocol.specs.format.Names.{NameKind, a_measurement, a_field_key, escapable, is_escapable, name}
 use Rattle.influxdb_line_protocol.specs.format.Readings.{Text, reads}
 use Rattle.influxdb_line_protocol.specs.format.Values.{Value, fits_i64}
-use Rattle.influxdb_line_protocol.specs.format.Points.{Pair, Point, Tag, Field, built_value, built_field, built_fields}
-use Rattle.influxdb_line_protocol.specs.format.Points.{built_tag, built_timestamp, line_of, is_admitted_name, spelling}
+use Rattle.influxdb_line_protocol.specs.format.Points.{Pair, Point, Tag, Field, built_value, built_field, built_fields, built_tag}
+use Rattle.influxdb_line_protocol.specs.format.Points.{built_timestamp, line_of, is_admitted_name, spelling}
 use Rattle.influxdb_line_protocol.specs.format.Lines.{answer, field_set, front_before, spaces, tag_set, timestamp}
-use Rattle.influxdb_line_protocol.proofs.lemmas.laws.batch_reads_back.NameReadsBack.{admitted_parts, name_reads_back}
-use Rattle.influxdb_line_protocol.proofs.lemmas.laws.batch_reads_back.NameReadsBack.{read_name, escaped_found}
-use Rattle.influxdb_line_protocol.proofs.lemmas.laws.batch_reads_back.NameReadsBack.{escaped_plain, space_escapable}
+use Rattle.influxdb_line_protocol.proofs.lemmas.laws.batch_reads_back.NameReadsBack.{admitted_parts, name_reads_back, read_name}
+use Rattle.influxdb_line_protocol.proofs.lemmas.laws.batch_reads_back.NameReadsBack.{escaped_found, escaped_plain, space_escapable}
 use Rattle.influxdb_line_protocol.proofs.lemmas.laws.batch_reads_back.ReadLines.{read_line, read_tags, read_field}
 use Rattle.influxdb_line_protocol.proofs.lemmas.laws.batch_reads_back.LinePieces.{AdmittedTag, AdmittedField, IsAdmitted, line_parts}
-use Rattle.influxdb_line_protocol.proofs.lemmas.laws.batch_reads_back.PartsReadBack.{tag_text, tag_set_reads_back}
-use Rattle.influxdb_line_protocol.proofs.lemmas.laws.batch_reads_back.PartsReadBack.{field_set_reads_back}
+use Rattle.influxdb_line_protocol.proofs.lemmas.laws.batch_reads_back.PartsReadBack.{tag_text, tag_set_reads_back, field_set_reads_back}
 use Rattle.influxdb_line_protocol.proofs.lemmas.laws.batch_reads_back.PartsReadBack.{timestamp_reads_back}
 
 -- no space is at the start of a spelling

@@ -1,17 +1,16 @@
 -- A name that is admitted reads back as it was spelled.
-use Rattle.std.proofs.Common.{◌≡◌, ◌≢◌, ℕ, ◌<◌, List, [], ◌∷◌, ◌++◌, length, drop, Bool, true, false, not, refl, sym}
-use Rattle.std.proofs.Common.{ap, ◌∙◌, arith, inl, inr}
+use Rattle.std.proofs.Common.{◌≡◌, ◌≢◌, ℕ, ◌<◌, List, [], ◌∷◌, ◌++◌, length, drop, Bool, true, false, not, refl, sym, ap, ◌∙◌, arith, inl}
+use Rattle.std.proofs.Common.{inr}
 use Rattle.std.specs.Prelude.{◌==◌}
 use Rattle.std.specs.List.{list_all}
 use Rattle.std.proofs.lemmas.Bool.{cases_Bool, and_parts, and_right, eqb-false, not-true}
 use Rattle.std.proofs.lemmas.List.{take_at, drop_at}
 use Rattle.std.proofs.lemmas.Grind.{common_steps}
 use Rattle.influxdb_line_protocol.specs.format.Bytes.{is_one_of}
-use Rattle.influxdb_line_protocol.specs.format.Names.{NameKind, a_measurement, a_tag_key, a_tag_value, a_field_key}
+use Rattle.influxdb_line_protocol.specs.format.Names.{NameKind, a_measurement, a_tag_key, a_tag_value, a_field_key, ends_in_backslash}
+use Rattle.influxdb_line_protocol.specs.format.Names.{escapable, is_escapable, is_stop, logical, name, read_text, spelled, spelled_len}
 use Rattle.influxdb_line_protocol.specs.format.Readings.{Text, reads}
 use Rattle.influxdb_line_protocol.specs.format.Escapes.{escaped, without_escapes}
-use Rattle.influxdb_line_protocol.specs.format.Names.{ends_in_backslash, escapable, is_escapable, is_stop, logical, name}
-use Rattle.influxdb_line_protocol.specs.format.Names.{read_text, spelled, spelled_len}
 use Rattle.influxdb_line_protocol.specs.format.Points.{is_admitted_name, never_in, spelling}
 use Rattle.influxdb_line_protocol.proofs.lemmas.names.NameLemmas.{escapable_backslash, without_escapes_same, without_escapes_known}
 use Rattle.influxdb_line_protocol.proofs.lemmas.names.NameLemmas.{without_escapes_plain_byte, logical_ends, name_reads}

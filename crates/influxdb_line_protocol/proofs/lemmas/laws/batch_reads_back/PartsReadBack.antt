@@ -1,6 +1,6 @@
 -- Tags, fields and timestamps read back as they were written.
-use Rattle.std.proofs.Common.{◌≡◌, ℕ, zero, suc, ◌≤◌, List, [], ◌∷◌, ◌++◌, length, map, true, false, refl, ap, ◌∙◌}
-use Rattle.std.proofs.Common.{arith, Ok, Option, Some, None}
+use Rattle.std.proofs.Common.{◌≡◌, ℕ, zero, suc, ◌≤◌, List, [], ◌∷◌, ◌++◌, length, map, true, false, refl, ap, ◌∙◌, arith, Ok, Option, Some}
+use Rattle.std.proofs.Common.{None}
 use Rattle.std.specs.Prelude.{◌==◌, ℤ, IfSome}
 use Rattle.std.specs.Fmt.{signed_decimal}
 use Rattle.std.specs.List.{AllByRecursion, flat_map}
@@ -11,8 +11,8 @@ use Rattle.influxdb_line_protocol.specs.format.Dialects.{Dialect, Crate, Strict}
 use Rattle.influxdb_line_protocol.specs.format.Names.{a_tag_key, a_tag_value, a_field_key, is_stop}
 use Rattle.influxdb_line_protocol.specs.format.Readings.{Text, miss, reads}
 use Rattle.influxdb_line_protocol.specs.format.Values.{Value, integer_len, fits_i64}
-use Rattle.influxdb_line_protocol.specs.format.Points.{Pair, Tag, Field, built_tag, built_field, built_fields}
-use Rattle.influxdb_line_protocol.specs.format.Points.{built_timestamp, built_value, spelling}
+use Rattle.influxdb_line_protocol.specs.format.Points.{Pair, Tag, Field, built_tag, built_field, built_fields, built_timestamp, built_value}
+use Rattle.influxdb_line_protocol.specs.format.Points.{spelling}
 use Rattle.influxdb_line_protocol.specs.format.Lines.{byte, tag, field, after_comma, many, tag_set, field_set, timestamp, without_comma}
 use Rattle.influxdb_line_protocol.proofs.lemmas.laws.batch_reads_back.NameReadsBack.{name_reads_back}
 use Rattle.influxdb_line_protocol.proofs.lemmas.laws.batch_reads_back.ReadLines.{read_tag, read_tags, read_field}

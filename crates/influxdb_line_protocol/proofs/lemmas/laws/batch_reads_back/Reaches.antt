@@ -1,24 +1,20 @@
 -- A splitter that is within a stretch reaches the end of a name, and stays within it.
-use Rattle.std.proofs.Common.{◌≡◌, ◌≢◌, ℕ, List, [], ◌∷◌, ◌++◌, Bool, true, false}
-use Rattle.std.proofs.Common.{refl, sym, ap, ◌∙◌, subst, arith, inl, inr, append_assoc, append-nil}
+use Rattle.std.proofs.Common.{◌≡◌, ◌≢◌, ℕ, List, [], ◌∷◌, ◌++◌, Bool, true, false, refl, sym, ap, ◌∙◌, subst, arith, inl, inr, append_assoc}
+use Rattle.std.proofs.Common.{append-nil}
 use Rattle.std.specs.List.{list_all}
 use Rattle.std.proofs.lemmas.Bool.{cases_Bool, and_parts}
 use Rattle.std.proofs.lemmas.List.Elements.{All-nil}
-use Rattle.influxdb_line_protocol.proofs.lemmas.split.SplitWalk.{Part}
-use Rattle.influxdb_line_protocol.proofs.lemmas.split.SplitWalk.{Head, Plain}
+use Rattle.influxdb_line_protocol.proofs.lemmas.split.SplitWalk.{Part, Head, Plain, IsIn, IsIn-escaped, IsIn-backslash, Head-other}
+use Rattle.influxdb_line_protocol.proofs.lemmas.split.SplitWalk.{Plain-other}
 use Rattle.influxdb_line_protocol.specs.format.Bytes.{is_one_of}
 use Rattle.influxdb_line_protocol.specs.format.Escapes.{escaped, IsBareAfter}
 use Rattle.influxdb_line_protocol.specs.format.Names.{NameKind, a_measurement, a_tag_key, a_tag_value, a_field_key, escapable, is_escapable}
 use Rattle.influxdb_line_protocol.specs.format.Points.{spelling, is_admitted_name}
-use Rattle.influxdb_line_protocol.proofs.lemmas.split.SplitWalk.{IsIn}
 use Rattle.influxdb_line_protocol.proofs.lemmas.split.SplitBare.{is_escaped-nil, is_escaped-push_backslash, is_escaped-push_escaped}
 use Rattle.influxdb_line_protocol.proofs.lemmas.split.SplitBare.{is_escaped-push_other}
-use Rattle.influxdb_line_protocol.proofs.lemmas.split.SplitWalk.{IsIn-escaped, IsIn-backslash, Head-other}
-use Rattle.influxdb_line_protocol.proofs.lemmas.split.SplitWalk.{Plain-other}
 use Rattle.influxdb_line_protocol.proofs.lemmas.names.NameLemmas.{escapable_backslash}
-use Rattle.influxdb_line_protocol.proofs.lemmas.laws.batch_reads_back.NameReadsBack.{admitted_parts}
-use Rattle.influxdb_line_protocol.proofs.lemmas.laws.batch_reads_back.NameReadsBack.{may_hold}
-use Rattle.influxdb_line_protocol.proofs.lemmas.laws.batch_reads_back.NameReadsBack.{escaped_found, escaped_plain, space_escapable}
+use Rattle.influxdb_line_protocol.proofs.lemmas.laws.batch_reads_back.NameReadsBack.{admitted_parts, may_hold, escaped_found, escaped_plain}
+use Rattle.influxdb_line_protocol.proofs.lemmas.laws.batch_reads_back.NameReadsBack.{space_escapable}
 use Rattle.influxdb_line_protocol.proofs.lemmas.builder.BuilderLemmas.{escaped_nothing}
 
 -- what comes after these bytes is bare, and it is in this part, with these counts

@@ -1,52 +1,40 @@
 -- Batches with a name that is not admitted do not read back.
-use Rattle.std.proofs.Common.{◌≡◌, ◌≢◌, ℕ, ◌+◌, List, [], ◌∷◌, ◌++◌, map}
-use Rattle.std.proofs.Common.{true, false, ◌&&◌, refl, sym, ap, ◌∙◌, subst, arith, inl, inr, append_assoc}
-use Rattle.std.proofs.Common.{append-nil, Option, Ok, Err, Result}
+use Rattle.std.proofs.Common.{◌≡◌, ◌≢◌, ℕ, ◌+◌, List, [], ◌∷◌, ◌++◌, map, true, false, ◌&&◌, refl, sym, ap, ◌∙◌, subst, arith, inl, inr}
+use Rattle.std.proofs.Common.{append_assoc, append-nil, Option, Ok, Err, Result}
 use Rattle.std.specs.Prelude.{◌==◌}
 use Rattle.std.specs.List.{AllByRecursion, Contains, list_all, flat_map}
 use Rattle.std.proofs.lemmas.Bool.{cases_Bool, false≢true, both_ways, and_from, eq-eqb}
 use Rattle.std.proofs.lemmas.List.{length-append}
-use Rattle.influxdb_line_protocol.proofs.lemmas.split.SplitWalk.{Head, Plain}
+use Rattle.influxdb_line_protocol.proofs.lemmas.split.SplitWalk.{Head, Plain, Plain-comma}
 use Rattle.influxdb_line_protocol.specs.format.Dialects.{Dialect}
 use Rattle.influxdb_line_protocol.specs.format.Readings.{Fault, ends_with_backslash, Text, fatal, reads}
-use Rattle.influxdb_line_protocol.specs.format.Names.{a_measurement, a_field_key}
-use Rattle.influxdb_line_protocol.specs.format.Names.{name}
+use Rattle.influxdb_line_protocol.specs.format.Names.{a_measurement, a_field_key, name}
 use Rattle.influxdb_line_protocol.specs.format.Piece.{EndsPlain}
-use Rattle.influxdb_line_protocol.specs.format.Points.{Point, IsPoint, Pair, Tag, Field, IsValue, is_admitted_name}
-use Rattle.influxdb_line_protocol.specs.format.Points.{is_admitted_tag, is_admitted_field, is_admitted_point, spelling, built}
-use Rattle.influxdb_line_protocol.specs.format.Points.{built_all, built_tag, built_field, built_fields, built_value}
-use Rattle.influxdb_line_protocol.specs.format.Points.{built_timestamp, line_of}
-use Rattle.influxdb_line_protocol.specs.format.Lines.{Line, point_of, tag, field, separated_list, tag_set}
-use Rattle.influxdb_line_protocol.specs.format.Lines.{field_set, spaces, answer}
+use Rattle.influxdb_line_protocol.specs.format.Points.{Point, IsPoint, Pair, Tag, Field, IsValue, is_admitted_name, is_admitted_tag}
+use Rattle.influxdb_line_protocol.specs.format.Points.{is_admitted_field, is_admitted_point, spelling, built, built_all, built_tag}
+use Rattle.influxdb_line_protocol.specs.format.Points.{built_field, built_fields, built_value, built_timestamp, line_of}
+use Rattle.influxdb_line_protocol.specs.format.Lines.{Line, point_of, tag, field, separated_list, tag_set, field_set, spaces, answer}
 use Rattle.influxdb_line_protocol.specs.format.Items.{HasAnswers, item_of, answers_of}
 use Rattle.influxdb_line_protocol.specs.laws.NamesOfLines.{IsParsedName}
 use Rattle.influxdb_line_protocol.specs.laws.Laws.{IsAdmittedPoint, OtherBatchesDoNotReadBack}
 use Rattle.influxdb_line_protocol.proofs.lemmas.split.SplitPieces.{pieces_exist, same_pieces}
 use Rattle.influxdb_line_protocol.proofs.lemmas.split.SplitBare.{is_escaped-push_other}
-use Rattle.influxdb_line_protocol.proofs.lemmas.split.SplitWalk.{Plain-comma}
-use Rattle.influxdb_line_protocol.proofs.lemmas.laws.batch_reads_back.NameReadsBack.{admitted_parts}
-use Rattle.influxdb_line_protocol.proofs.lemmas.laws.batch_reads_back.NameReadsBack.{begins_otherwise, name_reads_back}
+use Rattle.influxdb_line_protocol.proofs.lemmas.laws.batch_reads_back.NameReadsBack.{admitted_parts, begins_otherwise, name_reads_back}
 use Rattle.influxdb_line_protocol.proofs.lemmas.laws.batch_reads_back.NameReadsBack.{read_name}
 use Rattle.influxdb_line_protocol.proofs.lemmas.laws.batch_reads_back.ReadLines.{read_tags, read_field}
-use Rattle.influxdb_line_protocol.proofs.lemmas.laws.batch_reads_back.PartsReadBack.{tag_set_reads_back}
-use Rattle.influxdb_line_protocol.proofs.lemmas.laws.batch_reads_back.PartsReadBack.{field_reads_back}
-use Rattle.influxdb_line_protocol.proofs.lemmas.laws.batch_reads_back.Reaches.{Reaches, reaches_start}
-use Rattle.influxdb_line_protocol.proofs.lemmas.laws.batch_reads_back.LinePieces.{reaches_tags}
-use Rattle.influxdb_line_protocol.proofs.lemmas.laws.batch_reads_back.Reaches.{reaches_name}
-use Rattle.influxdb_line_protocol.proofs.lemmas.laws.batch_reads_back.LinePieces.{reaches_field}
-use Rattle.influxdb_line_protocol.proofs.lemmas.laws.batch_reads_back.LinePieces.{AdmittedTag, AdmittedField, admitted_tags, line_parts}
+use Rattle.influxdb_line_protocol.proofs.lemmas.laws.batch_reads_back.PartsReadBack.{tag_set_reads_back, field_reads_back}
+use Rattle.influxdb_line_protocol.proofs.lemmas.laws.batch_reads_back.Reaches.{Reaches, reaches_start, reaches_name}
+use Rattle.influxdb_line_protocol.proofs.lemmas.laws.batch_reads_back.LinePieces.{reaches_tags, reaches_field, AdmittedTag, AdmittedField}
+use Rattle.influxdb_line_protocol.proofs.lemmas.laws.batch_reads_back.LinePieces.{admitted_tags, line_parts}
 use Rattle.influxdb_line_protocol.proofs.lemmas.laws.batch_reads_back.LineReadsBack.{measurement_reads_back, spaces_before}
 use Rattle.influxdb_line_protocol.proofs.lemmas.laws.batch_reads_back.BatchesReadBack.{admitted_batches_read_back}
 use Rattle.influxdb_line_protocol.proofs.lemmas.laws.parsed_names.ParsedNames.{ParsedPoint, answers_parsed}
-use Rattle.influxdb_line_protocol.proofs.lemmas.laws.parsed_names.Spellings.{spelling_as}
-use Rattle.influxdb_line_protocol.proofs.lemmas.laws.parsed_names.Spellings.{spelled_begins, spelled_spaces}
-use Rattle.influxdb_line_protocol.proofs.lemmas.laws.parsed_names.Spellings.{reaches_other, reaches_gap, reaches_field_key, BeginsLine}
-use Rattle.influxdb_line_protocol.proofs.lemmas.laws.batch_reads_back.FatalNames.{StopsWith, Fails, first_fails}
-use Rattle.influxdb_line_protocol.proofs.lemmas.laws.batch_reads_back.FatalNames.{FatalName, fatal_name, fatal_here}
-use Rattle.influxdb_line_protocol.proofs.lemmas.laws.batch_reads_back.FatalNames.{around, measurement_fails}
-use Rattle.influxdb_line_protocol.proofs.lemmas.laws.batch_reads_back.FatalTags.{ManyFail, first_of_many}
-use Rattle.influxdb_line_protocol.proofs.lemmas.laws.batch_reads_back.FatalTags.{later_of_many, second_fails, TagsFail}
-use Rattle.influxdb_line_protocol.proofs.lemmas.laws.batch_reads_back.FatalTags.{tags_fail}
+use Rattle.influxdb_line_protocol.proofs.lemmas.laws.parsed_names.Spellings.{spelling_as, spelled_begins, spelled_spaces, reaches_other}
+use Rattle.influxdb_line_protocol.proofs.lemmas.laws.parsed_names.Spellings.{reaches_gap, reaches_field_key, BeginsLine}
+use Rattle.influxdb_line_protocol.proofs.lemmas.laws.batch_reads_back.FatalNames.{StopsWith, Fails, first_fails, FatalName, fatal_name}
+use Rattle.influxdb_line_protocol.proofs.lemmas.laws.batch_reads_back.FatalNames.{fatal_here, around, measurement_fails}
+use Rattle.influxdb_line_protocol.proofs.lemmas.laws.batch_reads_back.FatalTags.{ManyFail, first_of_many, later_of_many, second_fails}
+use Rattle.influxdb_line_protocol.proofs.lemmas.laws.batch_reads_back.FatalTags.{TagsFail, tags_fail}
 
 -- an admitted measurement begins a line
 measurement_begins : (m rest : List ℕ) → is_admitted_name a_measurement m ≡ true → BeginsLine (spelling a_measurement m ++ rest)

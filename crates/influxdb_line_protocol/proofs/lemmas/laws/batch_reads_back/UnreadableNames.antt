@@ -16,8 +16,7 @@ use Rattle.influxdb_line_protocol.specs.laws.UnreadableNames.{IsUnreadable.alone
 use Rattle.influxdb_line_protocol.specs.laws.Laws.{ItemsHaveReadableNames, OtherPointsEndWithBackslash}
 use Rattle.influxdb_line_protocol.proofs.lemmas.split.SplitPieces.{pieces_exist}
 use Rattle.influxdb_line_protocol.proofs.lemmas.laws.batch_reads_back.BatchesReadBack.{admitted_batches_read_back}
-use Rattle.influxdb_line_protocol.proofs.lemmas.laws.parsed_names.ParsedNames.{ParsedPoint, names_are_parsed}
-use Rattle.influxdb_line_protocol.proofs.lemmas.laws.parsed_names.ParsedNames.{nothing_in_nil}
+use Rattle.influxdb_line_protocol.proofs.lemmas.laws.parsed_names.ParsedNames.{ParsedPoint, names_are_parsed, nothing_in_nil}
 use Rattle.influxdb_line_protocol.proofs.lemmas.laws.batch_reads_back.FatalNames.{first_fails}
 use Rattle.influxdb_line_protocol.proofs.lemmas.laws.batch_reads_back.RefusedBatches.{point_fails, same_answers}
 use Rattle.influxdb_line_protocol.proofs.lemmas.laws.Elements.{first_element, first_or_later, later_element}

@@ -1,6 +1,6 @@
 -- A value reads back as it was written.
-use Rattle.std.proofs.Common.{◌≡◌, ℕ, ◌+◌, ◌^◌, ◌<◌, List, [], ◌∷◌, ◌++◌, length, take, drop, slice_index, Bool, true}
-use Rattle.std.proofs.Common.{false, refl, sym, ap, ◌∙◌, arith, inl, inr}
+use Rattle.std.proofs.Common.{◌≡◌, ℕ, ◌+◌, ◌^◌, ◌<◌, List, [], ◌∷◌, ◌++◌, length, take, drop, slice_index, Bool, true, false, refl, sym, ap}
+use Rattle.std.proofs.Common.{◌∙◌, arith, inl, inr}
 use Rattle.std.specs.Prelude.{◌==◌, ℤ, decimal, nat_lt, codes}
 use Rattle.std.specs.Fmt.{signed_decimal}
 use Rattle.std.proofs.lemmas.Bool.{cases_Bool, and_right, ne_eqb, lt-ltb}
@@ -11,9 +11,9 @@ use Rattle.influxdb_line_protocol.specs.format.Bytes.{is_one_of, quote}
 use Rattle.influxdb_line_protocol.specs.format.Readings.{reads}
 use Rattle.influxdb_line_protocol.specs.format.Points.{IsValue, built_value}
 use Rattle.influxdb_line_protocol.specs.format.Escapes.{escaped}
-use Rattle.influxdb_line_protocol.specs.format.Values.{Value, value, integer, unsigned, float, string, boolean, integer_at}
-use Rattle.influxdb_line_protocol.specs.format.Values.{unsigned_at, float_at, string_at, boolean_at, body_len, digits_len}
-use Rattle.influxdb_line_protocol.specs.format.Values.{integer_len, fits_i64, quotable}
+use Rattle.influxdb_line_protocol.specs.format.Values.{Value, value, integer, unsigned, float, string, boolean, integer_at, unsigned_at}
+use Rattle.influxdb_line_protocol.specs.format.Values.{float_at, string_at, boolean_at, body_len, digits_len, integer_len, fits_i64}
+use Rattle.influxdb_line_protocol.specs.format.Values.{quotable}
 use Rattle.influxdb_line_protocol.proofs.lemmas.laws.batch_reads_back.ReadLines.{read_value}
 use Rattle.influxdb_line_protocol.proofs.lemmas.scan.ScanLemmas.{bare_len, first_bare_len}
 use Rattle.influxdb_line_protocol.proofs.lemmas.values.ValueLemmas.{integer_unmarked}

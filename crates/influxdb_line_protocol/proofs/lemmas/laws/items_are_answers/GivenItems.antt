@@ -13,9 +13,8 @@ use Rattle.influxdb_line_protocol.specs.format.Trimming.{trimmed}
 use Rattle.influxdb_line_protocol.specs.format.Pieces.{Left, PiecesLeft}
 use Rattle.influxdb_line_protocol.specs.format.Items.{answers_of, answers_of_piece}
 use Rattle.influxdb_line_protocol.specs.code.ParseSteps.{GivesItem, IsBlankPiece}
-use Rattle.influxdb_line_protocol.specs.laws.GivenItems.{trimmed_line, trimmed_lines, AreItemsOf, AreAnswers}
-use Rattle.influxdb_line_protocol.specs.laws.GivenItems.{ItemsAreOfPieces, ItemsAreAnswers}
-use Rattle.influxdb_line_protocol.specs.laws.GivenItems.{GivenLinesWereRead, ItemsSoFar}
+use Rattle.influxdb_line_protocol.specs.laws.GivenItems.{trimmed_line, trimmed_lines, AreItemsOf, AreAnswers, ItemsAreOfPieces}
+use Rattle.influxdb_line_protocol.specs.laws.GivenItems.{ItemsAreAnswers, GivenLinesWereRead, ItemsSoFar}
 use Rattle.influxdb_line_protocol.specs.format.Lines.{answer}
 use Rattle.influxdb_line_protocol.proofs.lemmas.split.SplitPieces.{pieces_exist, same_pieces}
 

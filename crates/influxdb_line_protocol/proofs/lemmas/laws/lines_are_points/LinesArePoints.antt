@@ -1,7 +1,6 @@
 -- The logical texts of each line that is answered are a point: it has a field, and its values and its timestamp fit.
-use Rattle.std.proofs.Common.{◌≡◌, ◌≢◌, ℕ, ◌+◌, ◌<◌, ◌^◌, List, [], ◌∷◌, length, take, drop, map, slice_index, Bool}
-use Rattle.std.proofs.Common.{true, false, not, ◌&&◌, ◌||◌, cond, refl, sym, ap, subst, arith, Option, Some, None, Ok}
-use Rattle.std.proofs.Common.{Err, Result}
+use Rattle.std.proofs.Common.{◌≡◌, ◌≢◌, ℕ, ◌+◌, ◌<◌, ◌^◌, List, [], ◌∷◌, length, take, drop, map, slice_index, Bool, true, false, not, ◌&&◌}
+use Rattle.std.proofs.Common.{◌||◌, cond, refl, sym, ap, subst, arith, Option, Some, None, Ok, Err, Result}
 use Rattle.std.specs.Prelude.{◌==◌, ℤ, IfSome, nat_lt}
 use Rattle.std.specs.List.{AllByRecursion}
 use Rattle.std.specs.Str.Parse.{digits_value, signed_digits_value}
@@ -9,18 +8,15 @@ use Rattle.std.proofs.lemmas.Bool.{eqb-false}
 use Rattle.std.proofs.lemmas.Bool.Decides.{nat_tests}
 use Rattle.influxdb_line_protocol.specs.format.Dialects.{Dialect}
 use Rattle.influxdb_line_protocol.specs.format.Bytes.{letter_i, letter_u, quote}
-use Rattle.influxdb_line_protocol.specs.format.Readings.{Fault, integer_value_invalid, uinteger_value_invalid}
-use Rattle.influxdb_line_protocol.specs.format.Readings.{timestamp_value_invalid, above, Text, Read, Reading, miss, fatal}
-use Rattle.influxdb_line_protocol.specs.format.Readings.{reads, ◌otherwise◌}
+use Rattle.influxdb_line_protocol.specs.format.Readings.{Fault, integer_value_invalid, uinteger_value_invalid, timestamp_value_invalid}
+use Rattle.influxdb_line_protocol.specs.format.Readings.{above, Text, Read, Reading, miss, fatal, reads, ◌otherwise◌}
 use Rattle.influxdb_line_protocol.specs.format.Names.{a_field_key, read_text}
-use Rattle.influxdb_line_protocol.specs.format.Values.{Value, integer, unsigned, float, string, boolean, integer_len}
-use Rattle.influxdb_line_protocol.specs.format.Values.{digits_len, float_len, word_len, body_len, quotable, true_words}
-use Rattle.influxdb_line_protocol.specs.format.Values.{false_words, fits_i64, side_of, integer_at, unsigned_at, float_at}
-use Rattle.influxdb_line_protocol.specs.format.Values.{string_at, boolean_at, value}
+use Rattle.influxdb_line_protocol.specs.format.Values.{Value, integer, unsigned, float, string, boolean, integer_len, digits_len, float_len}
+use Rattle.influxdb_line_protocol.specs.format.Values.{word_len, body_len, quotable, true_words, false_words, fits_i64, side_of, integer_at}
+use Rattle.influxdb_line_protocol.specs.format.Values.{unsigned_at, float_at, string_at, boolean_at, value}
 use Rattle.influxdb_line_protocol.specs.format.Points.{Pair, IsValue}
-use Rattle.influxdb_line_protocol.specs.format.Lines.{Line, answer, logical_field, logical_value, field}
-use Rattle.influxdb_line_protocol.specs.format.Lines.{separated_list, field_set, without_comma, spaces}
-use Rattle.influxdb_line_protocol.specs.format.Lines.{timestamp}
+use Rattle.influxdb_line_protocol.specs.format.Lines.{Line, answer, logical_field, logical_value, field, separated_list, field_set}
+use Rattle.influxdb_line_protocol.specs.format.Lines.{without_comma, spaces, timestamp}
 use Rattle.influxdb_line_protocol.specs.laws.PointsOfLines.{LinesArePoints}
 use Rattle.influxdb_line_protocol.specs.code.WrittenAgain.{IsReadValue}
 use Rattle.influxdb_line_protocol.proofs.lemmas.literals.FloatLemmas.{float_len_float}

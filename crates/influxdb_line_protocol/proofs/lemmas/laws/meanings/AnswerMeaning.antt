@@ -1,31 +1,26 @@
 -- Each text is answered by one row of the table.
-use Rattle.std.proofs.Common.{◌≡◌, ℕ, ◌==◌, List, [], ◌∷◌, ◌++◌, length, take, drop, refl, sym, ap, ◌∙◌, subst, inl, inr}
-use Rattle.std.proofs.Common.{Option, Some, None, Ok, Err, Result}
+use Rattle.std.proofs.Common.{◌≡◌, ℕ, ◌==◌, List, [], ◌∷◌, ◌++◌, length, take, drop, refl, sym, ap, ◌∙◌, subst, inl, inr, Option, Some}
+use Rattle.std.proofs.Common.{None, Ok, Err, Result}
 use Rattle.std.specs.Prelude.{ℤ, ◌||◌}
 use Rattle.std.specs.Str.Parse.{signed_digits_value}
 use Rattle.std.proofs.lemmas.Bool.{cases_Bool, eqb-true, eq-eqb, both_ways}
 use Rattle.influxdb_line_protocol.specs.format.Dialects.{Dialect}
 use Rattle.influxdb_line_protocol.specs.format.Bytes.{comma, equals, space}
 use Rattle.influxdb_line_protocol.specs.format.Readings.{Side, Fault, measurement_value_invalid, field_set_missing, ends_with_backslash}
-use Rattle.influxdb_line_protocol.specs.format.Readings.{tag_set_malformed, take_while1, timestamp_value_invalid}
-use Rattle.influxdb_line_protocol.specs.format.Readings.{cannot_parse_entire_line, Text}
-use Rattle.influxdb_line_protocol.specs.format.Readings.{Read, Reading, miss, fatal, reads, ◌>>=◌}
-use Rattle.influxdb_line_protocol.specs.format.Names.{NameKind, a_measurement, a_tag_key, a_tag_value}
-use Rattle.influxdb_line_protocol.specs.format.Names.{ends_in_backslash, logical, name, spelled}
+use Rattle.influxdb_line_protocol.specs.format.Readings.{tag_set_malformed, take_while1, timestamp_value_invalid, cannot_parse_entire_line}
+use Rattle.influxdb_line_protocol.specs.format.Readings.{Text, Read, Reading, miss, fatal, reads, ◌>>=◌}
+use Rattle.influxdb_line_protocol.specs.format.Names.{NameKind, a_measurement, a_tag_key, a_tag_value, ends_in_backslash, logical, name}
+use Rattle.influxdb_line_protocol.specs.format.Names.{spelled}
 use Rattle.influxdb_line_protocol.specs.format.Values.{Value, integer_len, fits_i64, side_of}
 use Rattle.influxdb_line_protocol.specs.format.Points.{Pair}
-use Rattle.influxdb_line_protocol.specs.format.Lines.{Line, byte, tag, field, separated_list, tag_set, without_comma, spaces}
-use Rattle.influxdb_line_protocol.specs.format.Lines.{timestamp, front_before}
-use Rattle.influxdb_line_protocol.specs.format.Lines.{answer}
+use Rattle.influxdb_line_protocol.specs.format.Lines.{Line, byte, tag, field, separated_list, tag_set, without_comma, spaces, timestamp}
+use Rattle.influxdb_line_protocol.specs.format.Lines.{front_before, answer}
 use Rattle.influxdb_line_protocol.specs.laws.Meanings.{WholeList, NextHasFault}
-use Rattle.influxdb_line_protocol.specs.laws.MeaningsOfAnswers.{BeginsWith, after_spaces, ReadsSeries}
-use Rattle.influxdb_line_protocol.specs.laws.MeaningsOfAnswers.{ReadsSeries.alone, ReadsSeries.tagged}
-use Rattle.influxdb_line_protocol.specs.laws.MeaningsOfAnswers.{ReadsFields, IsAnswer, IsAnswer.fatal_measurement, IsAnswer.no_measurement}
-use Rattle.influxdb_line_protocol.specs.laws.MeaningsOfAnswers.{IsAnswer.fatal_tag, IsAnswer.no_tag, IsAnswer.no_space}
-use Rattle.influxdb_line_protocol.specs.laws.MeaningsOfAnswers.{IsAnswer.fatal_field}
-use Rattle.influxdb_line_protocol.specs.laws.MeaningsOfAnswers.{IsAnswer.no_field, IsAnswer.fatal_timestamp}
-use Rattle.influxdb_line_protocol.specs.laws.MeaningsOfAnswers.{IsAnswer.left, IsAnswer.all_read}
-use Rattle.influxdb_line_protocol.specs.laws.MeaningsOfAnswers.{AnswerIsByRows}
+use Rattle.influxdb_line_protocol.specs.laws.MeaningsOfAnswers.{BeginsWith, after_spaces, ReadsSeries, ReadsSeries.alone}
+use Rattle.influxdb_line_protocol.specs.laws.MeaningsOfAnswers.{ReadsSeries.tagged, ReadsFields, IsAnswer, IsAnswer.fatal_measurement}
+use Rattle.influxdb_line_protocol.specs.laws.MeaningsOfAnswers.{IsAnswer.no_measurement, IsAnswer.fatal_tag, IsAnswer.no_tag}
+use Rattle.influxdb_line_protocol.specs.laws.MeaningsOfAnswers.{IsAnswer.no_space, IsAnswer.fatal_field, IsAnswer.no_field}
+use Rattle.influxdb_line_protocol.specs.laws.MeaningsOfAnswers.{IsAnswer.fatal_timestamp, IsAnswer.left, IsAnswer.all_read, AnswerIsByRows}
 use Rattle.influxdb_line_protocol.proofs.lemmas.laws.meanings.JoinedMeaning.{the_most_is_read, the_next_has_the_fault, the_first_misses}
 use Rattle.influxdb_line_protocol.proofs.lemmas.line.LightLemmas.{tag_set_ends}
 use Rattle.influxdb_line_protocol.proofs.lemmas.laws.bases_tell_series.ParsedSeries.{front_is}

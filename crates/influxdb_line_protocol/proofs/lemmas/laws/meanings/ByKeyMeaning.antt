@@ -7,9 +7,8 @@ use Rattle.std.proofs.lemmas.Bool.{and_parts, and_from}
 use Rattle.std.proofs.lemmas.List.Sorted.{IsPermutation-sym, IsPermutation-trans}
 use Rattle.influxdb_line_protocol.specs.code.Bases.{by_key, in_order, is_strictly_sorted}
 use Rattle.influxdb_line_protocol.specs.laws.BaseLaws.{entry_keys, TagsByKeyAreSorted}
-use Rattle.influxdb_line_protocol.proofs.lemmas.laws.bases_tell_series.SortedTags.{Rise, below_all, by_key_permutes}
-use Rattle.influxdb_line_protocol.proofs.lemmas.laws.bases_tell_series.SortedTags.{by_key_rises, less_from_test}
-use Rattle.influxdb_line_protocol.proofs.lemmas.laws.bases_tell_series.SortedTags.{same_moved}
+use Rattle.influxdb_line_protocol.proofs.lemmas.laws.bases_tell_series.SortedTags.{Rise, below_all, by_key_permutes, by_key_rises}
+use Rattle.influxdb_line_protocol.proofs.lemmas.laws.bases_tell_series.SortedTags.{less_from_test, same_moved}
 
 -- keys that rise pass the test
 rise_passes : (es : List (List ℕ × List ℕ)) → Rise es → is_strictly_sorted (entry_keys es) ≡ true

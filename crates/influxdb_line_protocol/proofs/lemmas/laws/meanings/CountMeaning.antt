@@ -4,8 +4,8 @@ use Rattle.influxdb_line_protocol.specs.format.Readings.{Reading, miss, fatal, r
 use Rattle.influxdb_line_protocol.specs.format.Lines.{after_comma}
 use Rattle.influxdb_line_protocol.specs.code.Light.{one_and_after, many_count, read_count}
 use Rattle.influxdb_line_protocol.specs.laws.Meanings.{CountIsOfTheMost}
-use Rattle.influxdb_line_protocol.proofs.lemmas.laws.meanings.JoinedMeaning.{Chain, GivesNone, next, next_same}
-use Rattle.influxdb_line_protocol.proofs.lemmas.laws.meanings.JoinedMeaning.{after_shorter, whole_is, longest}
+use Rattle.influxdb_line_protocol.proofs.lemmas.laws.meanings.JoinedMeaning.{Chain, GivesNone, next, next_same, after_shorter, whole_is}
+use Rattle.influxdb_line_protocol.proofs.lemmas.laws.meanings.JoinedMeaning.{longest}
 
 -- none is counted where none is read
 none_counted : {A : Type 0} (r : Reading A) (count : List ℕ → ℕ) → GivesNone r → one_and_after r count ≡ 0

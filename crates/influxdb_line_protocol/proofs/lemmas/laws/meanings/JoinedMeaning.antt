@@ -1,12 +1,12 @@
 -- What is joined by commas is read as the most that are at the start.
-use Rattle.std.proofs.Common.{◌≡◌, ◌≢◌, ℕ, zero, suc, ◌<◌, ◌≤◌, List, [], ◌∷◌, ◌++◌, length, refl, sym, ap, ◌∙◌, subst}
-use Rattle.std.proofs.Common.{inl, inr, arith, length-append}
+use Rattle.std.proofs.Common.{◌≡◌, ◌≢◌, ℕ, zero, suc, ◌<◌, ◌≤◌, List, [], ◌∷◌, ◌++◌, length, refl, sym, ap, ◌∙◌, subst, inl, inr, arith}
+use Rattle.std.proofs.Common.{length-append}
 use Rattle.std.specs.Prelude.{◌==◌}
 use Rattle.std.proofs.lemmas.Bool.{cases_Bool, eqb-true}
 use Rattle.influxdb_line_protocol.specs.format.Readings.{Fault, Reading, miss, fatal, reads}
 use Rattle.influxdb_line_protocol.specs.format.Lines.{after_comma, separated_list, many, prepend}
-use Rattle.influxdb_line_protocol.specs.laws.Meanings.{SeparatedBy, SeparatedAfterComma, LongestList, WholeList}
-use Rattle.influxdb_line_protocol.specs.laws.Meanings.{NextHasFault, TheMostIsRead, TheNextHasTheFault, TheFirstMisses}
+use Rattle.influxdb_line_protocol.specs.laws.Meanings.{SeparatedBy, SeparatedAfterComma, LongestList, WholeList, NextHasFault}
+use Rattle.influxdb_line_protocol.specs.laws.Meanings.{TheMostIsRead, TheNextHasTheFault, TheFirstMisses}
 use Rattle.influxdb_line_protocol.proofs.lemmas.line.LineLemmas.{byte_reads}
 
 module _ {A : Type 0} where

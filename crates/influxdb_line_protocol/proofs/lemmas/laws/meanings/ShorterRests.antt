@@ -2,8 +2,8 @@
 use Rattle.std.proofs.Common.{◌≡◌, ℕ, ◌+◌, ◌≤◌, List, [], ◌∷◌, length, drop, Bool, true, false, cond, refl, ap, arith, length-drop}
 use Rattle.influxdb_line_protocol.specs.format.Readings.{Fault, Read, Reading, miss, fatal, reads, ◌>>=◌, ◌otherwise◌}
 use Rattle.influxdb_line_protocol.specs.format.Names.{NameKind, a_tag_key, a_tag_value, a_field_key, name}
-use Rattle.influxdb_line_protocol.specs.format.Values.{value, integer_at, unsigned_at, float_at, string_at, boolean_at}
-use Rattle.influxdb_line_protocol.specs.format.Values.{body_len, true_words, false_words}
+use Rattle.influxdb_line_protocol.specs.format.Values.{value, integer_at, unsigned_at, float_at, string_at, boolean_at, body_len}
+use Rattle.influxdb_line_protocol.specs.format.Values.{true_words, false_words}
 use Rattle.influxdb_line_protocol.specs.format.Lines.{byte, key_value, tag, field}
 
 -- what the reading leaves is no longer than the text

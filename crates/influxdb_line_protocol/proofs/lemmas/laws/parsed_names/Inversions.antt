@@ -1,11 +1,9 @@
 -- What a reading of several steps was read from, one step after another.
-use Rattle.std.proofs.Common.{◌≡◌, ℕ, zero, suc, List, [], ◌∷◌, ◌++◌, length}
-use Rattle.std.proofs.Common.{refl, ap, subst}
+use Rattle.std.proofs.Common.{◌≡◌, ℕ, zero, suc, List, [], ◌∷◌, ◌++◌, length, refl, ap, subst}
 use Rattle.std.specs.List.{AllByRecursion}
 use Rattle.influxdb_line_protocol.specs.format.Bytes.{comma}
 use Rattle.influxdb_line_protocol.specs.format.Readings.{Reading, miss, fatal, reads}
-use Rattle.influxdb_line_protocol.specs.format.Lines.{byte}
-use Rattle.influxdb_line_protocol.specs.format.Lines.{after_comma, prepend, one_and_more, many, separated_list}
+use Rattle.influxdb_line_protocol.specs.format.Lines.{byte, after_comma, prepend, one_and_more, many, separated_list}
 use Rattle.influxdb_line_protocol.proofs.lemmas.fields.ReadingLemmas.{bind_reads}
 
 -- what was added to

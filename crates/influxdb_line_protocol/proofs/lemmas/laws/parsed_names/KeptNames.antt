@@ -1,17 +1,15 @@
 -- The bytes of a name that is read: the text of a spelling is a parsed name.
-use Rattle.std.proofs.Common.{◌≡◌, ◌≢◌, ℕ, zero, suc, ◌-◌, ◌<◌, List, [], ◌∷◌, ◌++◌, length, take}
-use Rattle.std.proofs.Common.{slice_index, Bool, true, false, not, ◌&&◌, ◌||◌, refl, sym, ap, ◌∙◌, subst, arith, inl}
-use Rattle.std.proofs.Common.{inr}
+use Rattle.std.proofs.Common.{◌≡◌, ◌≢◌, ℕ, zero, suc, ◌-◌, ◌<◌, List, [], ◌∷◌, ◌++◌, length, take, slice_index, Bool, true, false, not}
+use Rattle.std.proofs.Common.{◌&&◌, ◌||◌, refl, sym, ap, ◌∙◌, subst, arith, inl, inr}
 use Rattle.std.specs.Prelude.{◌==◌}
-use Rattle.std.proofs.lemmas.Bool.{cases_Bool, false≢true, and_parts, and_from, or_left, or_right, or_cases}
-use Rattle.std.proofs.lemmas.Bool.{not_from_true, not_from_false, eq-eqb, eqb-true}
+use Rattle.std.proofs.lemmas.Bool.{cases_Bool, false≢true, and_parts, and_from, or_left, or_right, or_cases, not_from_true, not_from_false}
+use Rattle.std.proofs.lemmas.Bool.{eq-eqb, eqb-true}
 use Rattle.std.proofs.lemmas.Grind.{common_steps}
 use Rattle.influxdb_line_protocol.specs.format.Bytes.{is_one_of}
 use Rattle.influxdb_line_protocol.specs.format.Escapes.{without_escapes}
 use Rattle.influxdb_line_protocol.specs.format.Readings.{Text, reads}
-use Rattle.influxdb_line_protocol.specs.format.Names.{NameKind, a_measurement, a_tag_key, a_tag_value, a_field_key}
-use Rattle.influxdb_line_protocol.specs.format.Names.{ends_in_backslash, escapable, is_escapable, is_stop, logical, name}
-use Rattle.influxdb_line_protocol.specs.format.Names.{read_text, spelled, spelled_len}
+use Rattle.influxdb_line_protocol.specs.format.Names.{NameKind, a_measurement, a_tag_key, a_tag_value, a_field_key, ends_in_backslash}
+use Rattle.influxdb_line_protocol.specs.format.Names.{escapable, is_escapable, is_stop, logical, name, read_text, spelled, spelled_len}
 use Rattle.influxdb_line_protocol.specs.format.Points.{never_in}
 use Rattle.influxdb_line_protocol.specs.laws.NamesOfLines.{IsParsedName, BeginsNoComment}
 use Rattle.influxdb_line_protocol.proofs.lemmas.names.NameLemmas.{name_misses, name_fatal, name_reads, logical_ends}

@@ -1,15 +1,15 @@
 -- Each parsed name is a name in some line.
-use Rattle.std.proofs.Common.{◌≡◌, ◌≢◌, ℕ, ◌<◌, List, [], ◌∷◌, ◌++◌, length, slice_index, false, refl, subst, arith}
-use Rattle.std.proofs.Common.{inl, inr, append_assoc, Some, None, Ok}
+use Rattle.std.proofs.Common.{◌≡◌, ◌≢◌, ℕ, ◌<◌, List, [], ◌∷◌, ◌++◌, length, slice_index, false, refl, subst, arith, inl, inr, append_assoc}
+use Rattle.std.proofs.Common.{Some, None, Ok}
 use Rattle.std.specs.Prelude.{pos}
 use Rattle.std.specs.List.{Contains}
 use Rattle.std.specs.Str.{IsUtf8}
 use Rattle.std.proofs.lemmas.Str.{IsUtf8-append, IsUtf8-nil}
-use Rattle.influxdb_line_protocol.proofs.lemmas.split.SplitWalk.{Plain}
+use Rattle.influxdb_line_protocol.proofs.lemmas.split.SplitWalk.{Plain, Plain-equals}
 use Rattle.influxdb_line_protocol.specs.format.Dialects.{Dialect, Crate, Strict}
 use Rattle.influxdb_line_protocol.specs.format.Readings.{Text, reads}
-use Rattle.influxdb_line_protocol.specs.format.Names.{NameKind, a_measurement, a_tag_key, a_tag_value, a_field_key}
-use Rattle.influxdb_line_protocol.specs.format.Names.{ends_in_backslash, escapable, read_text}
+use Rattle.influxdb_line_protocol.specs.format.Names.{NameKind, a_measurement, a_tag_key, a_tag_value, a_field_key, ends_in_backslash}
+use Rattle.influxdb_line_protocol.specs.format.Names.{escapable, read_text}
 use Rattle.influxdb_line_protocol.specs.format.Values.{Value, integer, value, integer_at}
 use Rattle.influxdb_line_protocol.specs.format.Points.{Pair}
 use Rattle.influxdb_line_protocol.specs.format.Pieces.{IsLastPiece, Pieces.last, begins_comment}
@@ -18,7 +18,6 @@ use Rattle.influxdb_line_protocol.specs.format.Items.{HasAnswers, answers_of_pie
 use Rattle.influxdb_line_protocol.specs.laws.NamesOfLines.{IsParsedName}
 use Rattle.influxdb_line_protocol.specs.laws.Laws.{ParsedNamesAreInLines}
 use Rattle.influxdb_line_protocol.proofs.lemmas.split.SplitBare.{is_escaped-push_other}
-use Rattle.influxdb_line_protocol.proofs.lemmas.split.SplitWalk.{Plain-equals}
 use Rattle.influxdb_line_protocol.proofs.lemmas.laws.batch_reads_back.Reaches.{Reaches, reaches_start}
 use Rattle.influxdb_line_protocol.proofs.lemmas.laws.batch_reads_back.LinePieces.{reaches_simple}
 use Rattle.influxdb_line_protocol.proofs.lemmas.laws.batch_reads_back.LineReadsBack.{answer_from_parts}
@@ -26,9 +25,8 @@ use Rattle.influxdb_line_protocol.proofs.lemmas.laws.parsed_names.KeptNames.{nam
 use Rattle.influxdb_line_protocol.proofs.lemmas.laws.parsed_names.Utf8Spellings.{utf8_push, spelling_utf8}
 use Rattle.influxdb_line_protocol.proofs.lemmas.laws.parsed_names.Spellings.{SpelledAs, SpelledAs.done, SpelledAs.plain, spelled_as}
 use Rattle.influxdb_line_protocol.proofs.lemmas.laws.parsed_names.Spellings.{spelled_logical, spelled_reads, spelled_begins, spelled_spaces}
-use Rattle.influxdb_line_protocol.proofs.lemmas.laws.parsed_names.Spellings.{BeginsLine, line_no_comment, line_trimmed}
-use Rattle.influxdb_line_protocol.proofs.lemmas.laws.parsed_names.Spellings.{line_some, reaches_head}
-use Rattle.influxdb_line_protocol.proofs.lemmas.laws.parsed_names.Spellings.{reaches_other, reaches_gap, reaches_field_key}
+use Rattle.influxdb_line_protocol.proofs.lemmas.laws.parsed_names.Spellings.{BeginsLine, line_no_comment, line_trimmed, line_some}
+use Rattle.influxdb_line_protocol.proofs.lemmas.laws.parsed_names.Spellings.{reaches_head, reaches_other, reaches_gap, reaches_field_key}
 
 -- a name that is not empty and does not end in a backslash, with a spelling
 record Spelled (kind : NameKind) (n s : List ℕ) : Type 0 where

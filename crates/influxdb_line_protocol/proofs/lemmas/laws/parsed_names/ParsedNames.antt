@@ -1,25 +1,21 @@
 -- Which names lines can have, and that they can have each of them.
-use Rattle.std.proofs.Common.{◌≡◌, ◌≢◌, ℕ, List, [], ◌∷◌, length, drop, map}
-use Rattle.std.proofs.Common.{slice_index, Bool, true, false, ◌||◌, refl, ap, ◌∙◌, subst, arith, inl}
-use Rattle.std.proofs.Common.{inr, Option, Some, None, Ok, Err, Result}
+use Rattle.std.proofs.Common.{◌≡◌, ◌≢◌, ℕ, List, [], ◌∷◌, length, drop, map, slice_index, Bool, true, false, ◌||◌, refl, ap, ◌∙◌, subst}
+use Rattle.std.proofs.Common.{arith, inl, inr, Option, Some, None, Ok, Err, Result}
 use Rattle.std.specs.Prelude.{◌==◌, ℤ}
 use Rattle.std.specs.List.{AllByRecursion, Contains}
-use Rattle.std.proofs.lemmas.Bool.{cases_Bool, or_parts}
-use Rattle.std.proofs.lemmas.Bool.{eqb-false, eqb-true}
+use Rattle.std.proofs.lemmas.Bool.{cases_Bool, or_parts, eqb-false, eqb-true}
 use Rattle.std.proofs.lemmas.List.Elements.{Contains-append_cases}
 use Rattle.influxdb_line_protocol.specs.format.Dialects.{Dialect, Strict}
 use Rattle.influxdb_line_protocol.specs.format.Bytes.{space}
-use Rattle.influxdb_line_protocol.specs.format.Readings.{Fault, measurement_value_invalid, field_set_missing, take_while1}
-use Rattle.influxdb_line_protocol.specs.format.Readings.{Text, Read, Reading, miss, fatal, reads, or_fault}
-use Rattle.influxdb_line_protocol.specs.format.Names.{NameKind, a_measurement, a_tag_key, a_tag_value, a_field_key}
-use Rattle.influxdb_line_protocol.specs.format.Names.{name}
+use Rattle.influxdb_line_protocol.specs.format.Readings.{Fault, measurement_value_invalid, field_set_missing, take_while1, Text, Read}
+use Rattle.influxdb_line_protocol.specs.format.Readings.{Reading, miss, fatal, reads, or_fault}
+use Rattle.influxdb_line_protocol.specs.format.Names.{NameKind, a_measurement, a_tag_key, a_tag_value, a_field_key, name}
 use Rattle.influxdb_line_protocol.specs.format.Values.{Value, value}
 use Rattle.influxdb_line_protocol.specs.format.Points.{Pair, Point}
 use Rattle.influxdb_line_protocol.specs.format.Trimming.{trimmed}
 use Rattle.influxdb_line_protocol.specs.format.Lines.{Line, point_of, logical_tag, logical_field, some_tags, byte, tag, field}
-use Rattle.influxdb_line_protocol.specs.format.Lines.{separated_list, tag_set}
-use Rattle.influxdb_line_protocol.specs.format.Lines.{field_set, without_comma, spaces, timestamp, complete, front_before}
-use Rattle.influxdb_line_protocol.specs.format.Lines.{answer, ◌then◌}
+use Rattle.influxdb_line_protocol.specs.format.Lines.{separated_list, tag_set, field_set, without_comma, spaces, timestamp, complete}
+use Rattle.influxdb_line_protocol.specs.format.Lines.{front_before, answer, ◌then◌}
 use Rattle.influxdb_line_protocol.specs.format.Items.{HasAnswers, answers_of_piece, answers_of}
 use Rattle.influxdb_line_protocol.specs.laws.NamesOfLines.{names_of, IsParsedName, IsNothingOrSpaced}
 use Rattle.influxdb_line_protocol.specs.laws.Laws.{NamesAreParsed, StrictFieldsEnd}

@@ -1,35 +1,30 @@
 -- Names by any of their spellings.
-use Rattle.std.proofs.Common.{◌≡◌, ◌≢◌, ℕ, ◌<◌, List, [], ◌∷◌, ◌++◌, length, drop, slice_index, Bool, true, false}
-use Rattle.std.proofs.Common.{◌||◌, refl, sym, ap, ◌∙◌, subst, arith, inl, inr, append_assoc, append-nil}
+use Rattle.std.proofs.Common.{◌≡◌, ◌≢◌, ℕ, ◌<◌, List, [], ◌∷◌, ◌++◌, length, drop, slice_index, Bool, true, false, ◌||◌, refl, sym, ap, ◌∙◌}
+use Rattle.std.proofs.Common.{subst, arith, inl, inr, append_assoc, append-nil}
 use Rattle.std.specs.Prelude.{◌==◌}
 use Rattle.std.specs.List.{list_all}
 use Rattle.std.proofs.lemmas.Bool.{cases_Bool, false≢true, and_parts, and_right, eqb-true, eqb-false, ne_eqb}
 use Rattle.std.proofs.lemmas.Grind.{common_steps}
 use Rattle.std.proofs.lemmas.List.{take_at, drop_at}
-use Rattle.influxdb_line_protocol.proofs.lemmas.split.SplitWalk.{Part}
-use Rattle.influxdb_line_protocol.proofs.lemmas.split.SplitWalk.{Head, Plain}
+use Rattle.influxdb_line_protocol.proofs.lemmas.split.SplitWalk.{Part, Head, Plain, Head-other, Head-space, Plain-other}
 use Rattle.influxdb_line_protocol.specs.format.Bytes.{is_one_of}
 use Rattle.influxdb_line_protocol.specs.format.Escapes.{escaped, without_escapes}
 use Rattle.influxdb_line_protocol.specs.format.Readings.{fatal, reads, ends_with_backslash}
-use Rattle.influxdb_line_protocol.specs.format.Names.{NameKind, a_measurement, a_tag_key, a_tag_value, a_field_key}
-use Rattle.influxdb_line_protocol.specs.format.Names.{ends_in_backslash, escapable, is_escapable, is_stop, logical, name}
-use Rattle.influxdb_line_protocol.specs.format.Names.{read_text, spelled, spelled_len}
+use Rattle.influxdb_line_protocol.specs.format.Names.{NameKind, a_measurement, a_tag_key, a_tag_value, a_field_key, ends_in_backslash}
+use Rattle.influxdb_line_protocol.specs.format.Names.{escapable, is_escapable, is_stop, logical, name, read_text, spelled, spelled_len}
 use Rattle.influxdb_line_protocol.specs.format.Points.{never_in, spelling}
 use Rattle.influxdb_line_protocol.specs.format.Pieces.{begins_comment}
 use Rattle.influxdb_line_protocol.specs.format.Trimming.{trimmed}
 use Rattle.influxdb_line_protocol.specs.format.Lines.{spaces}
-use Rattle.influxdb_line_protocol.proofs.lemmas.names.NameLemmas.{escapable_backslash, without_escapes_plain_byte}
-use Rattle.influxdb_line_protocol.proofs.lemmas.names.NameLemmas.{without_escapes_known, logical_ends, name_fatal, name_reads}
+use Rattle.influxdb_line_protocol.proofs.lemmas.names.NameLemmas.{escapable_backslash, without_escapes_plain_byte, without_escapes_known}
+use Rattle.influxdb_line_protocol.proofs.lemmas.names.NameLemmas.{logical_ends, name_fatal, name_reads}
 use Rattle.influxdb_line_protocol.proofs.lemmas.laws.batch_reads_back.NameReadsBack.{may_hold, stop_escapable, plain_no_backslash}
 use Rattle.influxdb_line_protocol.proofs.lemmas.laws.batch_reads_back.NameReadsBack.{backslash_no_stop, escaped_found, escaped_plain}
 use Rattle.influxdb_line_protocol.proofs.lemmas.scan.ScanLemmas.{bare_len, first_bare_len}
 use Rattle.influxdb_line_protocol.proofs.lemmas.line.TrimLemmas.{is_blank, trimmed_is}
-use Rattle.influxdb_line_protocol.proofs.lemmas.laws.batch_reads_back.Reaches.{Reaches, ChangesNothing}
-use Rattle.influxdb_line_protocol.proofs.lemmas.laws.batch_reads_back.Reaches.{reaches_pair, reaches_byte}
-use Rattle.influxdb_line_protocol.proofs.lemmas.laws.batch_reads_back.Reaches.{no_backslash}
-use Rattle.influxdb_line_protocol.proofs.lemmas.laws.batch_reads_back.Reaches.{no_newline, no_space}
+use Rattle.influxdb_line_protocol.proofs.lemmas.laws.batch_reads_back.Reaches.{Reaches, ChangesNothing, reaches_pair, reaches_byte}
+use Rattle.influxdb_line_protocol.proofs.lemmas.laws.batch_reads_back.Reaches.{no_backslash, no_newline, no_space}
 use Rattle.influxdb_line_protocol.proofs.lemmas.split.SplitBare.{is_escaped-push_other}
-use Rattle.influxdb_line_protocol.proofs.lemmas.split.SplitWalk.{Head-other, Head-space, Plain-other}
 use Rattle.influxdb_line_protocol.proofs.lemmas.laws.parsed_names.KeptNames.{is_kept}
 
 -- a spelling of a name: each byte is escaped where it can be, but a backslash alone may come before a byte that no

@@ -10,8 +10,7 @@ use Rattle.std.proofs.lemmas.Str.{IsCharBoundary-after_ascii}
 use Rattle.influxdb_line_protocol.specs.format.Bytes.{is_one_of}
 use Rattle.influxdb_line_protocol.specs.format.Names.{NameKind, a_measurement, a_tag_key, a_tag_value, a_field_key, is_escapable}
 use Rattle.influxdb_line_protocol.specs.format.Points.{never_in}
-use Rattle.influxdb_line_protocol.proofs.lemmas.laws.parsed_names.Spellings.{SpelledAs, SpelledAs.done}
-use Rattle.influxdb_line_protocol.proofs.lemmas.laws.parsed_names.Spellings.{SpelledAs.escape, SpelledAs.plain}
+use Rattle.influxdb_line_protocol.proofs.lemmas.laws.parsed_names.Spellings.{SpelledAs, SpelledAs.done, SpelledAs.escape, SpelledAs.plain}
 use Rattle.influxdb_line_protocol.proofs.lemmas.laws.parsed_names.Spellings.{SpelledAs.pair}
 
 -- what comes before an ASCII byte of a text that is UTF-8 is UTF-8, and so is what follows it

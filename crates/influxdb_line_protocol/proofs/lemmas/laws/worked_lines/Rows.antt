@@ -3,15 +3,14 @@ use Rattle.std.proofs.Common.{◌≡◌, ℕ, List, [], ◌∷◌, refl, Ok, Err
 use Rattle.std.specs.Prelude.{codes, pos, negsuc}
 use Rattle.std.specs.Fmt.{digits}
 use Rattle.influxdb_line_protocol.specs.format.Dialects.{Crate, Strict}
-use Rattle.influxdb_line_protocol.specs.format.Readings.{Text, reads, fatal, miss, above, below, measurement_value_invalid}
-use Rattle.influxdb_line_protocol.specs.format.Readings.{field_set_missing, tag_set_malformed, take_while1}
-use Rattle.influxdb_line_protocol.specs.format.Readings.{cannot_parse_entire_line, ends_with_backslash, integer_value_invalid}
-use Rattle.influxdb_line_protocol.specs.format.Readings.{uinteger_value_invalid, timestamp_value_invalid}
+use Rattle.influxdb_line_protocol.specs.format.Readings.{Text, measurement_value_invalid, cannot_parse_entire_line, timestamp_value_invalid}
+use Rattle.influxdb_line_protocol.specs.format.Readings.{take_while1, ends_with_backslash, integer_value_invalid, uinteger_value_invalid}
+use Rattle.influxdb_line_protocol.specs.format.Readings.{reads, fatal, miss, above, below, field_set_missing, tag_set_malformed}
 use Rattle.influxdb_line_protocol.specs.format.Names.{a_measurement, a_tag_key, a_tag_value, a_field_key, name}
 use Rattle.influxdb_line_protocol.specs.format.Escapes.{escaped, first_bare, is_escaped_after, without_escapes}
 use Rattle.influxdb_line_protocol.specs.format.Trimming.{trimmed}
-use Rattle.influxdb_line_protocol.specs.format.Values.{value, integer, unsigned, float, string, boolean, integer_at}
-use Rattle.influxdb_line_protocol.specs.format.Values.{unsigned_at, float_at, string_at, boolean_at}
+use Rattle.influxdb_line_protocol.specs.format.Values.{value, integer, unsigned, float, string, boolean, integer_at, unsigned_at, float_at}
+use Rattle.influxdb_line_protocol.specs.format.Values.{string_at, boolean_at}
 use Rattle.influxdb_line_protocol.specs.format.Points.{Pair, built, built_all, line_of}
 use Rattle.influxdb_line_protocol.specs.format.Lines.{answer, tag, field}
 

@@ -45,18 +45,6 @@ returns-clause-gives c =
           )
     ]
 
-pub returns-clause-tag_room : goal.returns-clause-tag_room
-returns-clause-tag_room c =
-    let room = room_of c.args.line.now.series.tag_set in
-    let ready = room_of c.clear_sets.new.parsed.series.tag_set in
-    let filled = less_room room ready c.fill.new.parsed.series.tag_set
-    (omega (arith, c.clear_sets.ensures.tag_room)) c.fill.ensures.tag_room in
-    elim c.match-fill.branch [
-      | in-Ok w ↦ rw w.line-is filled
-      | in-Err w ↦ rw w.line-is
-          (same_room room c.fill.new.parsed.series.tag_set w.empty.new.parsed.series.tag_set w.empty.ensures.tag_room filled)
-    ]
-
 pub returns-clause-memory : goal.returns-clause-memory
 returns-clause-memory c =
     let before = c.args.self.now in

@@ -6,8 +6,7 @@ use Rattle.influxdb_line_protocol.specs.declared.split.resumed.Part.TheVariants.
 use Rattle.influxdb_line_protocol.specs.code.Searches.{BeginsAt, ends}
 use Rattle.influxdb_line_protocol.proofs.lemmas.split.AheadMasks.{nothing_ahead}
 use Rattle.influxdb_line_protocol.proofs.lemmas.split.SplitStretches.{quote_opens_nothing}
-use Rattle.influxdb_line_protocol.proofs.lemmas.stream.ResumedSearches.{head_goes_on, quote_after, quoted_goes_on}
-use Rattle.influxdb_line_protocol.proofs.lemmas.stream.ResumedSearches.{stopped_at_start}
+use Rattle.influxdb_line_protocol.proofs.lemmas.stream.ResumedSearches.{head_goes_on, quote_after, quoted_goes_on, stopped_at_start}
 use Rattle.influxdb_line_protocol.proofs.split.resumed.next_stretch.Goals as goal
 
 pub plain_run-plain-requires : goal.plain_run-plain-requires

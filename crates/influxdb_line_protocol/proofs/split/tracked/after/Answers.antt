@@ -2,8 +2,7 @@ use Rattle.std.proofs.Common.{◌≡◌, ◌⊎◌, subst, sym, inl, inr, arith,
 use Rattle.influxdb_line_protocol.specs.declared.split.tracked.Track.{Track}
 use Rattle.influxdb_line_protocol.specs.declared.split.tracked.Track.TheVariants.{Comment, Blanks, Line}
 use Rattle.influxdb_line_protocol.specs.code.Tracks.{Leads}
-use Rattle.influxdb_line_protocol.proofs.lemmas.stream.TrackedPieces.{blanks_end, blanks_go_on, comment_begins, comment_goes_on}
-use Rattle.influxdb_line_protocol.proofs.lemmas.stream.TrackedPieces.{line_ends}
+use Rattle.influxdb_line_protocol.proofs.lemmas.stream.TrackedPieces.{blanks_end, blanks_go_on, comment_begins, comment_goes_on, line_ends}
 use Rattle.influxdb_line_protocol.proofs.split.tracked.after.Goals.{then-byte-eq32, else-byte-eq32}
 use Rattle.influxdb_line_protocol.proofs.split.tracked.after.Goals as goal
 
