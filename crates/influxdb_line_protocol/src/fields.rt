@@ -2,13 +2,10 @@
 
 ghost use Rattle.std.specs.Prelude.{◌≡◌, ◌<◌, ◌≤◌, [], ◌∷◌, ◌++◌, length, IfErr, IfOk, IfSome, OnErr, OnOk, Err};
 ghost use Rattle.influxdb_line_protocol.specs.code.Rules.{rules_of};
-ghost use Rattle.influxdb_line_protocol.specs.code.Filled.{Fills};
-ghost use Rattle.influxdb_line_protocol.specs.code.Light.{is_single_field};
+ghost use Rattle.influxdb_line_protocol.specs.code.Outcomes.{Fills, Gives};
+ghost use Rattle.influxdb_line_protocol.specs.code.Light.{is_single_field, NeedsMemory, SetNeedsMemory};
 ghost use Rattle.influxdb_line_protocol.specs.format.Lines.{field, field_set, separated_list, without_comma};
-ghost use Rattle.influxdb_line_protocol.specs.code.Memory.{NeedsMemory};
-ghost use Rattle.influxdb_line_protocol.specs.code.Outcomes.{Gives};
-ghost use Rattle.influxdb_line_protocol.specs.code.Parsed.{field_of};
-ghost use Rattle.influxdb_line_protocol.specs.code.Sets.{SetNeedsMemory, fields_of};
+ghost use Rattle.influxdb_line_protocol.specs.code.Parsed.{field_of, fields_of};
 
 use crate::error::refused;
 use crate::names::{self, NameKind};

@@ -10,7 +10,7 @@ ghost use Rattle.influxdb_line_protocol.specs.format.Bytes.{space};
 ghost use Rattle.influxdb_line_protocol.specs.code.Outcomes.{IsNotOutOfMemory};
 ghost use Rattle.influxdb_line_protocol.specs.code.Light.{inline_fields, inline_tags, is_light_in};
 ghost use Rattle.influxdb_line_protocol.specs.code.Lookups.{room_of};
-ghost use Rattle.influxdb_line_protocol.specs.code.Filled.{FillsLine};
+ghost use Rattle.influxdb_line_protocol.specs.code.Parsed.{FillsLine};
 ghost use Rattle.influxdb_line_protocol.specs.format.Trimming.{trimmed};
 ghost use Rattle.influxdb_line_protocol.specs.code.ReadInto.{IsEmptyLine, KeepsTagRoom};
 

@@ -94,7 +94,7 @@ fn float_len(text: &str, whole: usize) -> usize
 
 impl<'a> FloatText<'a> {
     ghost use Rattle.std.specs.Prelude.{MatchOption, IfSome};
-    ghost use Rattle.influxdb_line_protocol.specs.code.Literals.{literal_of};
+    ghost use Rattle.influxdb_line_protocol.specs.code.Texts.{literal_of};
     ghost use Rattle.influxdb_line_protocol.specs.format.Readings.{miss, reads};
     ghost use Rattle.influxdb_line_protocol.specs.format.Values.{float, float_at};
 
@@ -135,7 +135,7 @@ impl<'a> PartialEq for FloatText<'a> {
     ghost use Rattle.std.specs.Prelude.{nat_eq};
     ghost use Rattle.std.specs.Cmp.{on_per, partial_equiv_from_equiv};
     ghost use Rattle.std.specs.Cmp.Lexicographic.{pointwise, nat_list_eq_equiv};
-    ghost use Rattle.influxdb_line_protocol.specs.code.Literals.{literal_of};
+    ghost use Rattle.influxdb_line_protocol.specs.code.Texts.{literal_of};
 
     ghost eq = { λ x y. pointwise nat_eq (literal_of x) (literal_of y) };
 
@@ -149,14 +149,14 @@ impl<'a> PartialEq for FloatText<'a> {
 impl<'a> Eq for FloatText<'a> {
     ghost use Rattle.std.specs.Cmp.{on_equiv};
     ghost use Rattle.std.specs.Cmp.Lexicographic.{nat_list_eq_equiv};
-    ghost use Rattle.influxdb_line_protocol.specs.code.Literals.{literal_of};
+    ghost use Rattle.influxdb_line_protocol.specs.code.Texts.{literal_of};
 
     ghost laws = { on_equiv literal_of nat_list_eq_equiv };
 }
 
 impl<'a> fmt::Display for FloatText<'a> {
     ghost use Rattle.std.specs.Prelude.{Some};
-    ghost use Rattle.influxdb_line_protocol.specs.code.Literals.{literal_of};
+    ghost use Rattle.influxdb_line_protocol.specs.code.Texts.{literal_of};
 
     ghost output = { λ f. Some (literal_of f) };
 

@@ -2,7 +2,7 @@
 
 ghost use Rattle.std.specs.Prelude.{◌≡◌, ◌≤◌, length, IfOk, IfSome, Err};
 ghost use Rattle.influxdb_line_protocol.specs.code.Tokens.{stops_of, known_of};
-ghost use Rattle.influxdb_line_protocol.specs.code.Memory.{NeedsMemory};
+ghost use Rattle.influxdb_line_protocol.specs.code.Light.{NeedsMemory};
 ghost use Rattle.influxdb_line_protocol.specs.format.Names.{escapable, is_stop, name, read_text};
 ghost use Rattle.influxdb_line_protocol.specs.code.Outcomes.{Gives, IsNotOutOfMemory, kind_of};
 ghost use Rattle.influxdb_line_protocol.specs.code.Texts.{read_of};

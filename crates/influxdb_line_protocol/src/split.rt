@@ -8,9 +8,8 @@ ghost use Rattle.influxdb_line_protocol.specs.format.Bytes.{backslash, newline, 
 ghost use Rattle.memchr.specs.Find.{IsFirstByte, is_byte3};
 ghost use Rattle.influxdb_line_protocol.specs.code.Lanes.{mask_of};
 ghost use Rattle.influxdb_line_protocol.specs.format.Escapes.{first_bare, is_bare_at, IsBareAfter, IsPassed};
-ghost use Rattle.influxdb_line_protocol.specs.code.Ahead.{IsAhead};
+ghost use Rattle.influxdb_line_protocol.specs.code.Ahead.{IsAhead, AreSeen};
 ghost use Rattle.influxdb_line_protocol.specs.code.Scan.{mask_at};
-ghost use Rattle.influxdb_line_protocol.specs.code.Seen.{AreSeen};
 ghost use Rattle.influxdb_line_protocol.specs.code.Stops.{is_stop, is_mark};
 ghost use Rattle.influxdb_line_protocol.specs.code.Walks.{IsWalked};
 ghost use Rattle.influxdb_line_protocol.specs.format.Pieces.{begins_comment, IsFirstCut, GivesPiece, most_pieces};
@@ -594,7 +593,7 @@ pub struct SplitLines<'a> {
 impl<'a> Model for SplitLines<'a> {
     ghost use Rattle.std.specs.Prelude.{option_map, IfSome};
     ghost use Rattle.influxdb_line_protocol.specs.format.Pieces.{Left};
-    ghost use Rattle.influxdb_line_protocol.specs.code.Seen.{AreSeen};
+    ghost use Rattle.influxdb_line_protocol.specs.code.Ahead.{AreSeen};
     ghost use Rattle.influxdb_line_protocol.specs.code.Rules.{rules_of};
 
     ghost Value = { Left };

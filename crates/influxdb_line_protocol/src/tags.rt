@@ -2,14 +2,11 @@
 
 ghost use Rattle.std.specs.Prelude.{◌≡◌, ◌<◌, ◌≤◌, [], length, IfOk, IfSome, MatchOption, Err, None};
 ghost use Rattle.std.specs.Option.{option_map};
-ghost use Rattle.influxdb_line_protocol.specs.code.Filled.{Fills, FillsRead};
-ghost use Rattle.influxdb_line_protocol.specs.code.Light.{is_single_tag};
+ghost use Rattle.influxdb_line_protocol.specs.code.Outcomes.{Fills, FillsRead, Gives};
+ghost use Rattle.influxdb_line_protocol.specs.code.Light.{is_single_tag, NeedsMemory, SetNeedsMemory, TagsNeedMemory};
 ghost use Rattle.influxdb_line_protocol.specs.format.Lines.{separated_list, tag, tag_set};
 ghost use Rattle.influxdb_line_protocol.specs.code.Lookups.{room_of};
-ghost use Rattle.influxdb_line_protocol.specs.code.Memory.{NeedsMemory};
-ghost use Rattle.influxdb_line_protocol.specs.code.Outcomes.{Gives};
 ghost use Rattle.influxdb_line_protocol.specs.code.Parsed.{tag_of, tags_of};
-ghost use Rattle.influxdb_line_protocol.specs.code.Sets.{SetNeedsMemory, TagsNeedMemory};
 
 use crate::names::{self, NameKind};
 use crate::trim::strip_byte;

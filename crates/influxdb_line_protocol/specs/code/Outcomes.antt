@@ -1,4 +1,4 @@
--- What a reader of the code returned, against what reading gives.
+-- What a reader of the code returned, or filled in place, against what reading gives.
 use Rattle.std.specs.Prelude.{◌≡◌, ◌≢◌, ℕ, List, Option, Some, None, IfSome, Result, Ok, Err, string_bytes}
 use Rattle.std.specs.Borrow.{Bor}
 use Rattle.influxdb_line_protocol.specs.declared.error.Error.{Error}
@@ -61,3 +61,14 @@ GivesRead view (Err e) wanted = IsFault e (λ fault. wanted ≡ Err fault)
 -- the code did not answer `OutOfMemory`
 abbrev pub IsNotOutOfMemory : {X : Type 0} → Result X Error → Type 0
 IsNotOutOfMemory result = result ≢ Err error.OutOfMemory
+
+-- this was filled in, and with the rest that the code returned it is what reading gives
+abbrev pub Fills : {A : Type 0} → A → Result (Option (Bor (List ℕ))) Error → Reading A → Type 0
+Fills x (Ok None) reading = reading ≡ miss
+Fills x (Ok (Some rest)) reading = reading ≡ reads x rest.now
+Fills x (Err e) reading = FailsOn e reading
+
+-- this was filled in, and with the rest that the code returned it is what must be read, or the fault is that one
+abbrev pub FillsRead : {A : Type 0} → A → Result (Bor (List ℕ)) Error → Result (Read A) Fault → Type 0
+FillsRead x (Ok rest) wanted = wanted ≡ Ok (record { value = x; rest = rest.now })
+FillsRead x (Err e) wanted = IsFault e (λ fault. wanted ≡ Err fault)

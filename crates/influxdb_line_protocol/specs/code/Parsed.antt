@@ -10,8 +10,7 @@ use Rattle.influxdb_line_protocol.specs.declared.values.FieldValue.TheVariants.{
 use Rattle.influxdb_line_protocol.specs.declared.parsed.ParsedLine.{ParsedLine}
 use Rattle.influxdb_line_protocol.specs.format.Readings.{Fault, Text}
 use Rattle.influxdb_line_protocol.specs.code.Outcomes.{IsFault}
-use Rattle.influxdb_line_protocol.specs.code.Literals.{literal_of}
-use Rattle.influxdb_line_protocol.specs.code.Texts.{read_of}
+use Rattle.influxdb_line_protocol.specs.code.Texts.{literal_of, read_of}
 use Rattle.influxdb_line_protocol.specs.format.Values.{Value, integer, unsigned, float, string, boolean}
 use Rattle.influxdb_line_protocol.specs.format.Points.{Pair, Point}
 use Rattle.influxdb_line_protocol.specs.format.Lines.{Line, point_of, answer}
@@ -46,6 +45,10 @@ tag_of t = record { key = read_of t.0; value = read_of t.1 }
 abbrev pub tags_of : SmallVec (EscapedStr × EscapedStr) → List (Pair Text Text)
 tags_of tags = map tag_of tags.items
 
+-- the fields of a set
+abbrev pub fields_of : SmallVec (EscapedStr × FieldValue) → List (Pair Text (Value Text))
+fields_of fields = map field_of fields.items
+
 -- a parsed line as it was read
 abbrev pub line_read : ParsedLine → Line
 line_read l =
@@ -71,3 +74,8 @@ pub record IsReadLine (l : ParsedLine) : Type 0 where
 abbrev pub Answers : Result ParsedLine Error → Result Line Fault → Type 0
 Answers (Ok line) answer = answer ≡ Ok (line_read line)
 Answers (Err e) answer = IsFault e (λ fault. answer ≡ Err fault)
+
+-- this line was filled in, and it is the answer, or the fault is that one; `OutOfMemory` may be in its place
+abbrev pub FillsLine : {X : Type 0} → ParsedLine → Result X Error → Result Line Fault → Type 0
+FillsLine parsed (Ok done) answer = answer ≡ Ok (line_read parsed)
+FillsLine parsed (Err e) answer = IsFault e (λ fault. answer ≡ Err fault)

@@ -13,7 +13,7 @@ use Rattle.influxdb_line_protocol.specs.format.Bytes.{comma, equals, newline, qu
 use Rattle.influxdb_line_protocol.specs.format.Escapes.{IsBareAfter, IsPassed}
 use Rattle.influxdb_line_protocol.specs.format.Piece.{EndsPlain}
 use Rattle.influxdb_line_protocol.specs.format.Pieces.{begins_comment, IsFirstCut, IsLastPiece}
-use Rattle.influxdb_line_protocol.specs.code.Seen.{AreSeen}
+use Rattle.influxdb_line_protocol.specs.code.Ahead.{AreSeen}
 
 -- as many `=` and as many `,` are counted
 pub record IsCountOf (counted : List ℕ) (equal_signs commas : ℕ) : Type 0 where

@@ -7,7 +7,7 @@ use Rattle.influxdb_line_protocol.specs.format.Bytes.{newline}
 use Rattle.influxdb_line_protocol.specs.format.Pieces.{IsCutPiece, IsFirstCut, IsLastPiece}
 use Rattle.influxdb_line_protocol.specs.declared.split.Mark.{Mark}
 use Rattle.influxdb_line_protocol.specs.declared.split.resumed.Search.{Search}
-use Rattle.influxdb_line_protocol.specs.code.Seen.{AreSeen}
+use Rattle.influxdb_line_protocol.specs.code.Ahead.{AreSeen}
 use Rattle.influxdb_line_protocol.specs.code.Searches.{IsKnown}
 
 -- what a stream holds: the bytes that came after the newline of the last cut

@@ -1,8 +1,9 @@
--- The text of an `EscapedStr`.
+-- The texts of `EscapedStr` and `FloatText`.
 use Rattle.std.specs.Prelude.{ℕ, List, Bool, true, false, string_bytes}
 use Rattle.influxdb_line_protocol.specs.declared.escaped.EscapedStr.{EscapedStr}
 use Rattle.influxdb_line_protocol.specs.declared.escaped.EscapedStr.TheVariants.{SingleSlice, CopiedValue}
 use Rattle.influxdb_line_protocol.specs.format.Readings.{Text}
+use Rattle.influxdb_line_protocol.specs.declared.literals.FloatText.{FloatText}
 
 -- its logical text
 abbrev pub text_of : EscapedStr → List ℕ
@@ -17,3 +18,7 @@ is_single_slice (CopiedValue s) = false
 -- its logical text and its variant
 abbrev pub read_of : EscapedStr → Text
 read_of e = record { bytes = text_of e; is_single = is_single_slice e }
+
+-- the text that a `FloatText` was made of
+abbrev pub literal_of : FloatText → List ℕ
+literal_of f = f.text.now

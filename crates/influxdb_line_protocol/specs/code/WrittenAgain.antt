@@ -8,7 +8,7 @@ use Rattle.influxdb_line_protocol.specs.declared.builder.lines.Parts.{Parts}
 use Rattle.influxdb_line_protocol.specs.format.Bytes.{newline, space}
 use Rattle.influxdb_line_protocol.specs.declared.values.FieldValue.TheVariants.{String}
 use Rattle.influxdb_line_protocol.specs.format.Names.{a_measurement, a_tag_key, a_tag_value, a_field_key, escapable}
-use Rattle.influxdb_line_protocol.specs.format.Values.{Value, quotable, integer, unsigned, float, string, boolean}
+use Rattle.influxdb_line_protocol.specs.format.Values.{Value, quotable, string}
 use Rattle.influxdb_line_protocol.specs.format.Readings.{Text}
 use Rattle.influxdb_line_protocol.specs.code.Texts.{text_of}
 use Rattle.influxdb_line_protocol.specs.code.Built.{IsPlainText}

@@ -9,9 +9,8 @@ use Rattle.std.proofs.lemmas.List.Folds.{list_all-append}
 use Rattle.influxdb_line_protocol.specs.format.Bytes.{comma, is_one_of}
 use Rattle.influxdb_line_protocol.specs.format.Readings.{Fault, Reading, miss, fatal, reads}
 use Rattle.influxdb_line_protocol.specs.format.Lines.{after_comma, byte, separated_list, many, prepend}
-use Rattle.influxdb_line_protocol.specs.code.Light.{carries_no_text, many_count, read_count}
-use Rattle.influxdb_line_protocol.specs.code.Memory.{NeedsMemory}
-use Rattle.influxdb_line_protocol.specs.code.Sets.{HasBackslash, CopiesIn, SetNeedsMemory}
+use Rattle.influxdb_line_protocol.specs.code.Light.{carries_no_text, many_count, read_count, NeedsMemory, HasBackslash, CopiesIn}
+use Rattle.influxdb_line_protocol.specs.code.Light.{SetNeedsMemory}
 use Rattle.influxdb_line_protocol.specs.code.Outcomes.{FailsOn, IsFault}
 use Rattle.influxdb_line_protocol.specs.declared.error.Error.{Error}
 use Rattle.influxdb_line_protocol.specs.declared.error.Error.TheVariants as error

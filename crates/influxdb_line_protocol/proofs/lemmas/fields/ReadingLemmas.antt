@@ -16,8 +16,7 @@ use Rattle.influxdb_line_protocol.specs.format.Values.{Value, float, string, boo
 use Rattle.influxdb_line_protocol.specs.format.Values.{boolean_at, float_len, body_len, word_len, quotable, true_words, false_words}
 use Rattle.influxdb_line_protocol.specs.format.Points.{Pair}
 use Rattle.influxdb_line_protocol.specs.format.Lines.{byte, key_value, tag, field, after_comma}
-use Rattle.influxdb_line_protocol.specs.code.Light.{is_single_tag, is_single_field, is_single_value}
-use Rattle.influxdb_line_protocol.specs.code.Sets.{HasBackslash}
+use Rattle.influxdb_line_protocol.specs.code.Light.{is_single_tag, is_single_field, is_single_value, HasBackslash}
 
 -- the rest is the end of the text
 pub record EndsIn (text rest : List ℕ) : Type 0 where

@@ -16,9 +16,8 @@ use Rattle.influxdb_line_protocol.specs.format.Points.{Pair}
 use Rattle.influxdb_line_protocol.specs.format.Lines.{Line, answer, byte, complete, field, field_set, front_before, separated_list}
 use Rattle.influxdb_line_protocol.specs.format.Lines.{some_tags, spaces, tag, tag_set, timestamp, without_comma, ◌then◌}
 use Rattle.influxdb_line_protocol.specs.code.Light.{carries_no_text, fields_in, is_light_answer, is_light_in, is_single_field}
-use Rattle.influxdb_line_protocol.specs.code.Light.{is_single_line, is_single_tag, tags_in}
-use Rattle.influxdb_line_protocol.specs.code.Memory.{NeedsMemory}
-use Rattle.influxdb_line_protocol.specs.code.Sets.{CopiesIn, HasBackslash, SetNeedsMemory, TagsNeedMemory}
+use Rattle.influxdb_line_protocol.specs.code.Light.{is_single_line, is_single_tag, tags_in, NeedsMemory, CopiesIn, HasBackslash}
+use Rattle.influxdb_line_protocol.specs.code.Light.{SetNeedsMemory, TagsNeedMemory}
 use Rattle.influxdb_line_protocol.proofs.lemmas.fields.ReadingLemmas.{EndsIn, EndsIn-drop, EndsIn-end, EndsIn-self, backslash_at_end}
 use Rattle.influxdb_line_protocol.proofs.lemmas.fields.ReadingLemmas.{byte_ends, name_copied, name_ends, tag_read}
 use Rattle.influxdb_line_protocol.proofs.lemmas.fields.ManyLemmas.{joined_ends}

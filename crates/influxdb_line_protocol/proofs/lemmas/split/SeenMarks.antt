@@ -10,7 +10,7 @@ use Rattle.std.proofs.lemmas.Simd.{length-chunk, mask_l-lt}
 use lib.Lanes.{chunk, mask_l}
 use Rattle.memchr.specs.Find.{IsFirstByte, is_byte3}
 use Rattle.influxdb_line_protocol.specs.code.Lanes.{AllPassBetween, IsRunIn, first_set, mask_of}
-use Rattle.influxdb_line_protocol.specs.code.Seen.{AreSeen}
+use Rattle.influxdb_line_protocol.specs.code.Ahead.{AreSeen}
 use Rattle.influxdb_line_protocol.proofs.lemmas.lanes.MaskLemmas.{run_is, shifted}
 
 -- the lowest bit of a mask below a power is below its exponent

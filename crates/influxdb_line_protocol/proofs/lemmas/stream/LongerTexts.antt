@@ -14,7 +14,7 @@ use Rattle.influxdb_line_protocol.specs.format.Escapes.{is_escaped_after, IsBare
 use Rattle.influxdb_line_protocol.specs.format.Pieces.{begins_comment, IsLastPiece}
 use Rattle.influxdb_line_protocol.specs.code.Searches.{BeginsAt, ends, IsBeforeQuote, IsKnown, IsPlainPiece, IsPlainTo, IsStopped}
 use Rattle.influxdb_line_protocol.specs.code.Searches.{NeverComment}
-use Rattle.influxdb_line_protocol.specs.code.Seen.{AreSeen}
+use Rattle.influxdb_line_protocol.specs.code.Ahead.{AreSeen}
 use Rattle.influxdb_line_protocol.specs.code.Streams.{IsHeldAt}
 
 module _ (text more : List ℕ) where

@@ -1,18 +1,14 @@
 use Rattle.influxdb_line_protocol.specs.code.Rules.{rules_of}
-use Rattle.std.proofs.Common.{◌≡◌, ◌<◌, ap, not, Err, length, ◌∙◌, arith}
+use Rattle.std.proofs.Common.{◌<◌, ap, not, Err, length, ◌∙◌, arith}
 use Rattle.std.specs.Option.{option_map}
 use Rattle.std.proofs.lemmas.Grind.{common_steps}
-use Rattle.std.proofs.lemmas.Result.{err_from_is_err_and}
-use Rattle.influxdb_line_protocol.specs.format.Lines.{answer, timestamp}
 use Rattle.influxdb_line_protocol.specs.code.Lookups.{room_of}
-use Rattle.influxdb_line_protocol.specs.code.Parsed.{tags_of}
-use Rattle.influxdb_line_protocol.specs.code.Sets.{fields_of}
+use Rattle.influxdb_line_protocol.specs.code.Parsed.{tags_of, fields_of}
 use Rattle.influxdb_line_protocol.specs.code.Texts.{read_of}
 use Rattle.influxdb_line_protocol.proofs.lemmas.line.LineLemmas.{byte_there}
-use Rattle.influxdb_line_protocol.proofs.lemmas.fields.ManyLemmas.{carried_on}
 use Rattle.influxdb_line_protocol.proofs.lemmas.fields.ReadingLemmas.{passed_on}
 use Rattle.influxdb_line_protocol.proofs.lemmas.line.LightLemmas.{fields_need, measurement_needs, series_ends, tags_need, timestamp_carries}
-use Rattle.influxdb_line_protocol.proofs.lemmas.line.LightLemmas.{timestamp_fault, timestamp_needs, trailing_fault, trailing_needs}
+use Rattle.influxdb_line_protocol.proofs.lemmas.line.LightLemmas.{timestamp_needs, trailing_needs}
 use Rattle.influxdb_line_protocol.proofs.line.fill.Goals as goal
 
 pub returns-in_err-measurement-clause-light : goal.returns-in_err-measurement-clause-light

@@ -2,12 +2,11 @@ use Rattle.std.proofs.Common.{rules, ◌≡◌, ◌≤◌, ℕ, List, arith, max
 use Rattle.influxdb_line_protocol.specs.code.Light.{inline_fields, inline_tags, is_light, is_light_in}
 use Rattle.influxdb_line_protocol.specs.format.Lines.{answer}
 use Rattle.influxdb_line_protocol.specs.code.Lookups.{room_of}
-use Rattle.influxdb_line_protocol.specs.code.Filled.{FillsLine}
+use Rattle.influxdb_line_protocol.specs.code.Parsed.{FillsLine, Answers}
 use Rattle.influxdb_line_protocol.specs.code.Outcomes.{IsNotOutOfMemory}
-use Rattle.influxdb_line_protocol.specs.code.Parsed.{Answers}
 use Rattle.influxdb_line_protocol.specs.code.ParseSteps.{GaveLine}
 use Rattle.influxdb_line_protocol.specs.format.Pieces.{PiecesLeft}
-use Rattle.influxdb_line_protocol.proofs.lemmas.line.GivenLines.{gave_in_room, gave_item, less_room, same_room, same_want}
+use Rattle.influxdb_line_protocol.proofs.lemmas.line.GivenLines.{gave_in_room, gave_item, same_want}
 use Rattle.influxdb_line_protocol.proofs.lemmas.line.LightLemmas.{more_room}
 use Rattle.influxdb_line_protocol.proofs.line.ParseLines.next_into.Goals as goal
 use Rattle.influxdb_line_protocol.proofs.line.ParseLines.next_into.Goals.{in-Ok, in-Err}
