@@ -25,7 +25,7 @@ abbrev pub side : OutOfRange → Side
 side Above = above
 side Below = below
 
--- the fault of a line that an error is
+-- the fault of a line that an error is; a repeated key is none, and neither is `OutOfMemory`
 abbrev pub fault_of : Error → Option Fault
 fault_of error.MeasurementValueInvalid = Some measurement_value_invalid
 fault_of error.FieldSetMissing = Some field_set_missing
