@@ -1,12 +1,12 @@
 #!/usr/bin/env python3
-"""Whether the imports of the library's modules go down the layers of docs/ARCHITECTURE.md, and the format names no code.
+"""Whether the imports of the crates' modules go down the layers of docs/ARCHITECTURE.md, and the format names no code.
 
     checks/layers.py            prints each import that goes up a layer or closes a cycle; status 1 where there is one
     checks/layers.py --all      prints every import between modules, with what is imported
 
-A module is a file of crates/influxdb_line_protocol/src with the files in its folder. An import is a path from `crate`,
-in a `use` or in the code; what `lib.rt` hands on counts for the module that it is of. A ghost `use` is none. The definitions of
-specs/format/ may import each other and std, and nothing else.
+The crates are those that the map lists with layers of modules. A module is a file of a crate's src/ with the files in its
+folder. An import is a path from `crate`, in a `use` or in the code; what the root hands on counts for the module that it is of.
+A ghost `use` is none. The definitions of specs/format/ may import each other and std, and nothing else.
 """
 
 import re
@@ -14,9 +14,9 @@ import sys
 from pathlib import Path
 
 TOP = Path(__file__).resolve().parent.parent
-CRATE = "influxdb_line_protocol"
-SOURCE = TOP / "crates" / CRATE / "src"
-FORMAT = TOP / "crates" / CRATE / "specs" / "format"
+CRATES = TOP / "crates"
+LIBRARY = "influxdb_line_protocol"
+FORMAT = CRATES / LIBRARY / "specs" / "format"
 MAP = TOP / "docs" / "ARCHITECTURE.md"
 
 
@@ -52,9 +52,24 @@ def named_in(tree):
     return found
 
 
-def modules():
-    """The modules of the crate, and of each name that its root hands on, the module."""
-    root = code_of(SOURCE / "lib.rt")
+def mapped():
+    """The crates that the map lists with layers, each with its rows of words from the top."""
+    found, crate = {}, None
+    for line in MAP.read_text(encoding="utf-8").splitlines():
+        first = line.split(" ")[0]
+        if first and (CRATES / first / "src").is_dir():
+            crate = first
+        elif crate and line.startswith("    "):
+            found.setdefault(crate, []).append(line.strip())
+        else:
+            crate = None
+    return found
+
+
+def modules(source):
+    """The modules of a crate, and of each name that its root hands on, the module."""
+    top = source / "lib.rt"
+    root = code_of(top if top.is_file() else source / "main.rt")
     names = re.findall(r"^(?:pub )?mod (\w+);", root, re.M)
     handed = {}
     for tree in re.findall(r"pub use ([^;]*);", root):
@@ -63,20 +78,12 @@ def modules():
     return names, handed
 
 
-def layers(names):
-    """The layer of each module, counted from the bottom of the map."""
-    rows, inside = [], False
-    for line in MAP.read_text(encoding="utf-8").splitlines():
-        if line.strip() == CRATE:
-            inside = True
-            continue
-        if not inside:
-            continue
-        if not line.startswith("    "):
-            break
-        cells = re.split(r"\s{2,}", line.strip())
-        row = [word for cell in cells if all(word in names for word in cell.split()) for word in cell.split()]
-        rows.append(row)
+def layers(names, lines):
+    """The layer of each module, counted from the bottom of a crate's lines of the map."""
+    rows = []
+    for line in lines:
+        cells = re.split(r"\s{2,}", line)
+        rows.append([word for cell in cells if all(word in names for word in cell.split()) for word in cell.split()])
     found = {name: len(rows) - at for at, row in enumerate(rows) for name in row}
     missing = [name for name in names if name not in found]
     if missing:
@@ -84,9 +91,9 @@ def layers(names):
     return found
 
 
-def imports_of(name, names, handed):
+def imports_of(source, name, names, handed):
     """The modules that a module imports from, each with what it imports."""
-    files = [SOURCE / f"{name}.rt"] + sorted((SOURCE / name).glob("*.rt"))
+    files = [source / f"{name}.rt"] + sorted((source / name).glob("*.rt"))
     found = {}
     for path in files:
         code = code_of(path)
@@ -144,29 +151,38 @@ def format_imports():
     """What the definitions of the format import beside each other and std."""
     for path in sorted(FORMAT.glob("*.antt")):
         for name in re.findall(r"^use Rattle\.([\w.]+)", path.read_text(encoding="utf-8"), re.M):
-            if not name.startswith(("std.", f"{CRATE}.specs.format.")):
+            if not name.startswith(("std.", f"{LIBRARY}.specs.format.")):
                 yield f"format: {path.name} imports {name}"
+
+
+def wrong_in(crate, lines, everything):
+    """Prints the imports of a crate that are wrong, and gives how many modules it has and how many imports are wrong."""
+    source = CRATES / crate / "src"
+    names, handed = modules(source)
+    layer = layers(names, lines)
+    graph = {name: imports_of(source, name, names, handed) for name in names}
+    circles = cycles(graph)
+    wrong = report(graph, layer, circles, everything)
+    for circle in circles:
+        print(f"each of these reaches each other: {' '.join(circle)}")
+    return len(names), wrong + len(circles)
 
 
 def main(words):
     if words not in ([], ["--all"]):
         print(__doc__, file=sys.stderr)
         return 2
+    crates = mapped()
     try:
-        names, handed = modules()
-        layer = layers(names)
+        counts = [wrong_in(crate, lines, words == ["--all"]) for crate, lines in crates.items()]
     except Fault as fault:
         print(f"layers: {fault}", file=sys.stderr)
         return 1
-    graph = {name: imports_of(name, names, handed) for name in names}
-    circles = cycles(graph)
-    wrong = report(graph, layer, circles, words == ["--all"])
-    for circle in circles:
-        print(f"each of these reaches each other: {' '.join(circle)}")
+    number, wrong = (sum(count) for count in zip(*counts))
     strange = list(format_imports())
     print("".join(f"{line}\n" for line in strange), end="")
-    print(f"layers: {len(names)} modules, {wrong} imports that go up or close a cycle in one layer")
-    return 1 if wrong or circles or strange else 0
+    print(f"layers: {number} modules of {len(crates)} crates, {wrong} imports that go up or close a cycle")
+    return 1 if wrong or strange else 0
 
 
 if __name__ == "__main__":

@@ -6,9 +6,9 @@
 #![tactic(auto)]
 
 mod calls;
+mod render;
 mod report;
 mod sinks;
-mod told;
 
 ghost use Rattle.std.specs.Prelude.{IsUtf8};
 
@@ -58,7 +58,7 @@ pub extern "C" fn lp_checks_pieces(
     report.count()
 }
 
-/// The items of a text, told as `told` says.
+/// The items of a text, rendered as `render` says.
 #[unsafe(no_mangle)]
 pub extern "C" fn lp_checks_items(
     alloc: Global,
@@ -73,8 +73,8 @@ pub extern "C" fn lp_checks_items(
     let mut report = Report::new(out, ends);
     for item in parse_lines_in(alloc, dialect(is_strict), text) {
         match &item {
-            Ok(line) => told::tell_line(&mut report, line),
-            Err(fault) => told::tell_fault(&mut report, fault),
+            Ok(line) => render::render_line(&mut report, line),
+            Err(fault) => render::render_fault(&mut report, fault),
         }
         report.end();
     }
@@ -84,8 +84,8 @@ pub extern "C" fn lp_checks_items(
 // The base of a line's series, or its fault.
 fn report_base(alloc: Global, report: &mut Report<'_>, line: ParsedLine<'_>) {
     match &line.series.generate_base(alloc) {
-        Ok(base) => told::tell_base(report, base),
-        Err(fault) => told::tell_fault(report, fault),
+        Ok(base) => render::render_base(report, base),
+        Err(fault) => render::render_fault(report, fault),
     }
 }
 
@@ -104,7 +104,7 @@ pub extern "C" fn lp_checks_bases(
     for item in parse_lines(alloc, text) {
         match item {
             Ok(line) => report_base(alloc, &mut report, line),
-            Err(fault) => told::tell_fault(&mut report, &fault),
+            Err(fault) => render::render_fault(&mut report, &fault),
         }
         report.end();
     }
@@ -151,15 +151,15 @@ pub extern "C" fn lp_checks_shown(
 // The calls that copy a name, and then the name itself: an entry each.
 fn report_copies(alloc: Global, report: &mut Report<'_>, name: &EscapedStr<'_>) {
     match &name.clone(alloc) {
-        Ok(copy) => told::tell_name(report, copy),
+        Ok(copy) => render::render_name(report, copy),
         Err(_) => report.push(b"OutOfMemory"),
     }
     report.end();
-    told::tell_copy(report, &name.to_string(alloc));
+    render::render_copy(report, &name.to_string(alloc));
     report.end();
-    told::tell_copy(report, &EscapedStr::from(name.as_str()).into_string(alloc));
+    render::render_copy(report, &EscapedStr::from(name.as_str()).into_string(alloc));
     report.end();
-    told::tell_name(report, name);
+    render::render_name(report, name);
     report.end();
 }
 
@@ -168,11 +168,11 @@ fn report_line_copies(alloc: Global, report: &mut Report<'_>, line: &ParsedLine<
     report_copies(alloc, report, &line.series.measurement);
     for (_, value) in line.field_set.as_slice() {
         match &value.clone(alloc) {
-            Ok(copy) => told::tell_value(report, copy),
+            Ok(copy) => render::render_value(report, copy),
             Err(_) => report.push(b"OutOfMemory"),
         }
         report.end();
-        told::tell_value(report, value);
+        render::render_value(report, value);
         report.end();
     }
 }
@@ -195,7 +195,7 @@ pub extern "C" fn lp_checks_copies(
         match &item {
             Ok(line) => report_line_copies(alloc, &mut report, line),
             Err(fault) => {
-                told::tell_fault(&mut report, fault);
+                render::render_fault(&mut report, fault);
                 report.end();
             }
         }

@@ -7,8 +7,8 @@ use Rattle.influxdb_line_protocol.specs.laws.Laws.{PiecesAreUnique}
 use Rattle.influxdb_line_protocol.specs.laws.StreamLaws.{Utf8ByPieces}
 use Rattle.lp_rebuild.specs.declared.batch.Place.TheVariants.{ByNumber, OnLine}
 use Rattle.lp_rebuild.specs.declared.program.RunFault.{RunFault}
-use Rattle.lp_rebuild.specs.declared.relaying.Numbering.{Numbering}
-use Rattle.lp_rebuild.specs.declared.relaying.Numbering.TheVariants.{Items, Lines}
+use Rattle.lp_rebuild.specs.declared.taking.Numbering.{Numbering}
+use Rattle.lp_rebuild.specs.declared.taking.Numbering.TheVariants.{Items, Lines}
 use Rattle.lp_rebuild.specs.declared.relaying.Relayed.{Relayed}
 use Rattle.lp_rebuild.specs.Running.{AppendsFront, ReaderTold, WriterTold}
 use Rattle.lp_rebuild.specs.Relaying.{items_of}

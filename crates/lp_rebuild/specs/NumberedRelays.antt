@@ -6,8 +6,8 @@ use Rattle.influxdb_line_protocol.specs.format.Pieces.{Pieces}
 use Rattle.lp_rebuild.specs.declared.program.RunFault.{RunFault}
 use Rattle.lp_rebuild.specs.declared.program.RunFault.TheVariants.{Read, NotUtf8, Write}
 use Rattle.lp_rebuild.specs.declared.relaying.Relayed.{Relayed}
-use Rattle.lp_rebuild.specs.declared.relaying.Numbering.{Numbering}
-use Rattle.lp_rebuild.specs.declared.relaying.Numbering.TheVariants.{Items, Lines}
+use Rattle.lp_rebuild.specs.declared.taking.Numbering.{Numbering}
+use Rattle.lp_rebuild.specs.declared.taking.Numbering.TheVariants.{Items, Lines}
 use Rattle.lp_rebuild.specs.declared.batch.Rebuilt.{Rebuilt}
 use Rattle.lp_rebuild.specs.Running.{AppendsFront, ReaderTold, WriterTold}
 use Rattle.lp_rebuild.specs.Relaying.{items_of, items_batch, carried_items, refused_items}

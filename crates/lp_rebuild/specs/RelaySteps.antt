@@ -11,8 +11,8 @@ use Rattle.influxdb_line_protocol.specs.laws.StreamLaws.{Run}
 use Rattle.lp_rebuild.specs.declared.batch.Place.{Place}
 use Rattle.lp_rebuild.specs.declared.batch.Place.TheVariants.{ByNumber, OnLine}
 use Rattle.lp_rebuild.specs.declared.batch.Progress.{Progress}
-use Rattle.lp_rebuild.specs.declared.relaying.Numbering.{Numbering}
-use Rattle.lp_rebuild.specs.declared.relaying.Numbering.TheVariants.{Items, Lines}
+use Rattle.lp_rebuild.specs.declared.taking.Numbering.{Numbering}
+use Rattle.lp_rebuild.specs.declared.taking.Numbering.TheVariants.{Items, Lines}
 use Rattle.lp_rebuild.specs.declared.program.RunFault.{RunFault}
 use Rattle.lp_rebuild.specs.declared.program.RunFault.TheVariants.{Read, NotUtf8, OutOfMemory, Write}
 use Rattle.lp_rebuild.specs.RebuildSteps.{fault_line_at}

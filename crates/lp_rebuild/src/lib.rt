@@ -19,4 +19,5 @@ pub use cuts::part_ends;
 pub use devices::{DeviceFault, Kept, Reading, Sink, Source, Writing};
 pub use failures::Failures;
 pub use program::{RunFault, USAGE, dialect_of, read_all, run, run_in, status};
-pub use relaying::{Numbering, Relayed, relay, relay_in, relay_numbered, relay_within};
+pub use relaying::{Relayed, relay, relay_in, relay_numbered, relay_within};
+pub use taking::Numbering;

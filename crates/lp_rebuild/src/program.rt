@@ -10,7 +10,7 @@ use influxdb_line_protocol::Dialect;
 use std::alloc::{AllocError, Global};
 use std::fmt;
 
-/// Why a run came to no good end.
+/// Why a run failed.
 #[derive(Clone, Copy, Debug, PartialEq, Eq)]
 pub enum RunFault {
     /// The reader failed.

@@ -12,20 +12,10 @@ ghost use Rattle.lp_rebuild.specs.Running.{reader_told, writer_told};
 
 use crate::batch::Progress;
 use crate::program::{BLOCK, read_block, write_bytes};
-use crate::taking::{nothing_made, take_piece};
+use crate::taking::{Numbering, nothing_made, take_piece};
 use crate::{RunFault, Sink, Source};
 use influxdb_line_protocol::{BoundedLineStream, Dialect, laws};
 use std::alloc::Global;
-
-/// What the fault lines of a relay name.
-#[derive(Clone, Copy, Debug, PartialEq, Eq)]
-pub enum Numbering {
-    /// The number of the item, as in `item 5: ..`. Items are counted from 1.
-    Items,
-    /// The line of the input on which the piece of the item begins, as in `line 17: ..`. Lines are counted from 1, one after
-    /// each newline, also after those within strings and within pieces that are too long or not UTF-8.
-    Lines,
-}
 
 /// How many items a relay wrote again, and how many it refused.
 #[derive(Clone, Copy, Debug, PartialEq, Eq)]

@@ -8,11 +8,20 @@ ghost use Rattle.lp_rebuild.specs.Relaying.{answered, items_of_bytes};
 ghost use Rattle.lp_rebuild.specs.RelaySteps.{TakesItems, first_place, items_given, made, made_of_none};
 ghost use Rattle.lp_rebuild.specs.RelaySteps.{newlines_given, place_after};
 
-use crate::Numbering;
 use crate::batch::{Place, Progress, refuse, take};
 use influxdb_line_protocol::{Dialect, ParsedLine, TooLong, laws, parse_lines_in};
 use std::alloc::{AllocError, Global};
 use std::str;
+
+/// What the fault lines of a relay name.
+#[derive(Clone, Copy, Debug, PartialEq, Eq)]
+pub enum Numbering {
+    /// The number of the item, as in `item 5: ..`. Items are counted from 1.
+    Items,
+    /// The line of the input on which the piece of the item begins, as in `line 17: ..`. Lines are counted from 1, one after
+    /// each newline, also after those within strings and within pieces that are too long or not UTF-8.
+    Lines,
+}
 
 // What is wrong with a piece that is no text.
 const NOT_UTF8: &str = "the line is not UTF-8";

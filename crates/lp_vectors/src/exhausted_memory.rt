@@ -1,4 +1,4 @@
-//! Takes all memory, so that each request is refused while the hoard lives.
+//! Takes all memory, so that each request is refused while this lives.
 
 ghost use Rattle.std.specs.Prelude.{◌<◌};
 

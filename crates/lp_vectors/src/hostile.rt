@@ -3,10 +3,8 @@
 
 use crate::fault::Fault;
 use crate::render;
-use influxdb_line_protocol::{
-    Dialect, LineProtocolBuilder, is_admitted, parse_lines, parse_lines_in, split_lines_in,
-    write_line,
-};
+use influxdb_line_protocol::{Dialect, parse_lines_in, split_lines_in};
+use lp_rebuild::rebuild;
 use std::alloc::{AllocError, Global};
 
 const DIALECTS: [Dialect; 2] = [Dialect::Crate, Dialect::Strict];
@@ -29,7 +27,7 @@ fn with_backslashes(
 fn long_runs_of_backslashes_are_read_by_twos(rt: HostRuntime) -> Result<(), Fault> {
     let alloc = rt.alloc();
     // What comes before and after the run, and the same for the run that is left of it.
-    for (before, count, after, told_before, told_count, told_after) in [
+    for (before, count, after, wanted_before, wanted_count, wanted_after) in [
         ("", 10_000, "", "EndsWithBackslash", 0, ""),
         ("", 9_999, "", "EndsWithBackslash", 0, ""),
         (
@@ -45,7 +43,7 @@ fn long_runs_of_backslashes_are_read_by_twos(rt: HostRuntime) -> Result<(), Faul
         ("m s=\"", 9_999, "\"", "FieldSetMissing", 0, ""),
     ] {
         let text = with_backslashes(alloc, before, count, after)?;
-        let wanted = with_backslashes(alloc, told_before, told_count, told_after)?;
+        let wanted = with_backslashes(alloc, wanted_before, wanted_count, wanted_after)?;
         for dialect in DIALECTS {
             let rendered = render::items_in(alloc, dialect, text.as_str())?;
             assert_eq!(rt;
@@ -116,19 +114,11 @@ fn each_line_is_cut_and_answered_on_its_own(rt: HostRuntime) -> Result<(), Fault
 
 #[test]
 fn a_backslash_and_a_number_sign_are_a_name(rt: HostRuntime) -> Result<(), Fault> {
-    let alloc = rt.alloc();
-    let Some(Ok(line)) = parse_lines(alloc, "\\# a=1i").next() else {
-        return Err(Fault::Unexpected);
-    };
-    assert!(rt; is_admitted(&line));
-    assert!(rt; line.field_set.len() > 0);
-    match write_line(LineProtocolBuilder::new(alloc), &line) {
-        Ok(builder) => {
-            let bytes = builder.build();
-            assert_eq!(rt; bytes.as_slice(), b"\\\\# a=1i\n".as_slice());
-        }
-        Err(_) => return Err(Fault::Unexpected),
-    }
+    let rendered = render::items(rt.alloc(), "\\# a=1i")?;
+    assert_eq!(rt; rendered.as_str(), "S<\\#> S<a>=1i");
+    let rebuilt = rebuild(rt.alloc(), "\\# a=1i")?;
+    assert_eq!(rt; rebuilt.carried, 1);
+    assert_eq!(rt; rebuilt.batch.as_slice(), b"\\\\# a=1i\n".as_slice());
     Ok(())
 }
 
@@ -168,7 +158,7 @@ const FIRST: &str = "S<m>,C<t 1>=S<v> S<s>=S<x\ny> S<f>=1i at 5";
 const BOTH: &str = "S<m>,C<t 1>=S<v> S<s>=S<x\ny> S<f>=1i at 5|S<n> S<a>=2u";
 
 // Whether these are the items that a front of the batch may have.
-fn is_told_of_front(front: &[u8], rendered: &str) -> bool {
+fn is_answer_of_front(front: &[u8], rendered: &str) -> bool {
     if front.len() < FIRST_LINE.len() {
         return !rendered.contains('|');
     }
@@ -185,7 +175,7 @@ fn each_front_of_a_batch_begins_with_the_lines_that_it_holds(rt: HostRuntime) ->
             let front = &BATCH[..end];
             let rendered = render::items_in(rt.alloc(), dialect, str::from_utf8(front)?)?;
             assert!(rt;
-                is_told_of_front(front, rendered.as_str()),
+                is_answer_of_front(front, rendered.as_str()),
                 "{end} bytes: {rendered}"
             );
         }

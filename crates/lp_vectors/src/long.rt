@@ -25,8 +25,8 @@ fn repeated(
 
 #[test]
 fn long_sets_are_read_whole(rt: HostRuntime) -> Result<(), Fault> {
-    // What is repeated is between two texts, in the line and in what is told of it.
-    for (before, part, after, told_before, told_part, told_after) in [
+    // What is repeated is between two texts, in the line and in what is rendered of it.
+    for (before, part, after, wanted_before, wanted_part, wanted_after) in [
         ("m a=1i", ",b=2u", "", "S<m> S<a>=1i", " S<b>=2u", ""),
         (
             "m a=1i",
@@ -55,7 +55,7 @@ fn long_sets_are_read_whole(rt: HostRuntime) -> Result<(), Fault> {
     ] {
         for count in [3, 4, 7, 8, 14, 999] {
             let text = repeated(rt.alloc(), before, part, count, after)?;
-            let wanted = repeated(rt.alloc(), told_before, told_part, count, told_after)?;
+            let wanted = repeated(rt.alloc(), wanted_before, wanted_part, count, wanted_after)?;
             for dialect in DIALECTS {
                 let rendered = render::items_in(rt.alloc(), dialect, text.as_str())?;
                 assert_eq!(rt; rendered.as_str(), wanted.as_str(), "{count} of {part}");
@@ -67,7 +67,7 @@ fn long_sets_are_read_whole(rt: HostRuntime) -> Result<(), Fault> {
 
 #[test]
 fn long_faults_tell_all_of_their_text(rt: HostRuntime) -> Result<(), Fault> {
-    for (before, part, after, told_before, told_after) in [
+    for (before, part, after, wanted_before, wanted_after) in [
         ("m a=1i", "x", "", "rest <", ">"),
         ("m a=1i ", "x\\", "", "rest < ", ">"),
         ("m a=", "9", "i", "IntegerValueInvalid Above <", ">"),
@@ -77,7 +77,7 @@ fn long_faults_tell_all_of_their_text(rt: HostRuntime) -> Result<(), Fault> {
     ] {
         for count in [65, 100_000] {
             let text = repeated(rt.alloc(), before, part, count, after)?;
-            let wanted = repeated(rt.alloc(), told_before, part, count, told_after)?;
+            let wanted = repeated(rt.alloc(), wanted_before, part, count, wanted_after)?;
             for dialect in DIALECTS {
                 let rendered = render::items_in(rt.alloc(), dialect, text.as_str())?;
                 assert_eq!(rt; rendered.as_str(), wanted.as_str(), "{count} of {part}");

@@ -86,7 +86,7 @@ pub fn items(alloc: Global, input: &str) -> Result<String, AllocError> {
 }
 
 /// The same, by the rules of a dialect. They are read twice, each by itself and all into one line: where the two differ,
-/// both are told.
+/// both are rendered.
 pub fn items_in(alloc: Global, dialect: Dialect, input: &str) -> Result<String, AllocError> {
     let rendered = items_by_next(alloc, dialect, input)?;
     let again = items_into_one(alloc, dialect, input)?;

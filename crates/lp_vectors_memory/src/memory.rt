@@ -66,8 +66,8 @@ fn light_lines_are_read_without_memory(rt: HostRuntime) -> Result<(), Fault> {
     Ok(())
 }
 
-// The item of the first line of `text`, told, where just one request for each of these sizes is granted.
-fn told_with(alloc: Global, text: &str, granted: &[usize]) -> Result<String, Fault> {
+// The item of the first line of `text`, rendered, where just one request for each of these sizes is granted.
+fn rendered_with(alloc: Global, text: &str, granted: &[usize]) -> Result<String, Fault> {
     let mut lines = parse_lines(alloc, text);
     let exhausted = ExhaustedMemory::leaving(alloc, granted)?;
     let item = lines.next();
@@ -85,10 +85,10 @@ fn each_copy_asks_for_memory_once(rt: HostRuntime) -> Result<(), Fault> {
     let text = "a\\ b,c\\,d=e\\=f g\\ h=\"i\\\"j\"";
     let sizes = [3usize; 5];
     for granted in 0..5 {
-        let rendered = told_with(alloc, text, &sizes[..granted])?;
+        let rendered = rendered_with(alloc, text, &sizes[..granted])?;
         assert_eq!(rt; rendered.as_str(), "OutOfMemory");
     }
-    let rendered = told_with(alloc, text, &sizes)?;
+    let rendered = rendered_with(alloc, text, &sizes)?;
     assert_eq!(rt; rendered.as_str(), "C<a b>,C<c,d>=C<e=f> C<g h>=C<i\"j>");
     Ok(())
 }
@@ -97,9 +97,9 @@ fn each_copy_asks_for_memory_once(rt: HostRuntime) -> Result<(), Fault> {
 fn one_known_escape_alone_asks_for_none(rt: HostRuntime) -> Result<(), Fault> {
     let alloc = rt.alloc();
     // The one request is for the rest, which the fault tells.
-    let refused = told_with(alloc, "m \\,=1i x", &[])?;
+    let refused = rendered_with(alloc, "m \\,=1i x", &[])?;
     assert_eq!(rt; refused.as_str(), "OutOfMemory");
-    let rendered = told_with(alloc, "m \\,=1i x", &[2])?;
+    let rendered = rendered_with(alloc, "m \\,=1i x", &[2])?;
     assert_eq!(rt; rendered.as_str(), "rest < x>");
     Ok(())
 }
@@ -111,9 +111,9 @@ fn a_copy_of_a_thousand_escapes_asks_once(rt: HostRuntime) -> Result<(), Fault> 
     let spaces = " ".repeat(alloc, 1_000)?;
     let text = format!(in alloc; "a{escapes} f=1i")?;
     let wanted = format!(in alloc; "C<a{spaces}> S<f>=1i")?;
-    let refused = told_with(alloc, text.as_str(), &[])?;
+    let refused = rendered_with(alloc, text.as_str(), &[])?;
     assert_eq!(rt; refused.as_str(), "OutOfMemory");
-    let rendered = told_with(alloc, text.as_str(), &[1_001])?;
+    let rendered = rendered_with(alloc, text.as_str(), &[1_001])?;
     assert_eq!(rt; rendered.as_str(), wanted.as_str());
     Ok(())
 }

@@ -30,8 +30,8 @@ const FOUR_ITEMS: [&str; 4] = [
     "rest <x>",
 ];
 
-// An item, told.
-fn told_item(
+// An item, rendered.
+fn rendered_item(
     alloc: Global,
     item: &Option<influxdb_line_protocol::Result<ParsedLine<'_>>>,
 ) -> Result<String, Fault> {
@@ -42,7 +42,7 @@ fn told_item(
     }
 }
 
-// The next item, told, where just one request for each of these sizes is granted.
+// The next item, rendered, where just one request for each of these sizes is granted.
 fn next_with(
     alloc: Global,
     lines: &mut ParseLines<'_>,
@@ -51,7 +51,7 @@ fn next_with(
     let exhausted = ExhaustedMemory::leaving(alloc, granted)?;
     let item = lines.next();
     drop(exhausted);
-    told_item(alloc, &item)
+    rendered_item(alloc, &item)
 }
 
 // The items of the four lines, divided by `|`, where just one request for each of these sizes is granted at `place`.
@@ -64,7 +64,7 @@ fn items_with(alloc: Global, place: usize, granted: &[usize]) -> Result<String, 
         } else {
             match lines.next() {
                 None => return Ok(rendered),
-                item => told_item(alloc, &item)?,
+                item => rendered_item(alloc, &item)?,
             }
         };
         rendered.push_str(item.as_str())?;
@@ -100,7 +100,7 @@ fn each_request_of_four_lines_is_refused_in_turn(rt: HostRuntime) -> Result<(), 
     Ok(())
 }
 
-// The base of a series, told, where just one request for each of these sizes is granted.
+// The base of a series, rendered, where just one request for each of these sizes is granted.
 fn base_with(alloc: Global, text: &str, granted: &[usize]) -> Result<String, Fault> {
     let Some(Ok(line)) = parse_lines(alloc, text).next() else {
         return Err(Fault::Unexpected);

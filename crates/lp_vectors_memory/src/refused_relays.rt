@@ -19,16 +19,16 @@ const FIRST: &[u8] = b"item 2: A generic parsing error occurred: TakeWhile1\n";
 // The bytes of a text, one at each call. At one of these calls, counted from 1, all memory is taken but for about so many
 // bytes.
 #[derive(Drop)]
-struct Hoarding<'a> {
+struct ExhaustingSource<'a> {
     alloc: Global,
     left: &'a [u8],
     calls: usize,
-    hoards_at: usize,
+    exhausts_at: usize,
     bytes_left: usize,
     exhausted: Option<ExhaustedMemory>,
 }
 
-impl<'a> Source for Hoarding<'a> {
+impl<'a> Source for ExhaustingSource<'a> {
     ghost use Rattle.std.specs.Prelude.{None};
 
     ghost bytes = { λ _. None };
@@ -37,7 +37,7 @@ impl<'a> Source for Hoarding<'a> {
 
     fn read(&mut self, buf: &mut [u8]) -> Result<usize, DeviceFault> {
         self.calls = self.calls.saturating_add(1);
-        if self.calls == self.hoards_at && self.bytes_left < 4_096 {
+        if self.calls == self.exhausts_at && self.bytes_left < 4_096 {
             self.exhausted = ExhaustedMemory::leaving_bytes(self.alloc, self.bytes_left).ok();
         }
         match (self.left, buf) {
@@ -60,12 +60,12 @@ struct Ended {
 }
 
 // Relays the text, of which all memory but for about so many bytes is taken at one read.
-fn relay_with(alloc: Global, hoards_at: usize, bytes_left: usize) -> Ended {
-    let mut reader = Hoarding {
+fn relay_with(alloc: Global, exhausts_at: usize, bytes_left: usize) -> Ended {
+    let mut reader = ExhaustingSource {
         alloc,
         left: TEXT,
         calls: 0,
-        hoards_at,
+        exhausts_at,
         bytes_left,
         exhausted: None,
     };
@@ -78,34 +78,34 @@ fn relay_with(alloc: Global, hoards_at: usize, bytes_left: usize) -> Ended {
 // fault of the third at the 14th.
 #[test]
 fn a_relay_that_is_refused_memory_has_written_the_lines_before(rt: HostRuntime) {
-    for hoards_at in 1..TEXT.len() + 2 {
+    for exhausts_at in 1..TEXT.len() + 2 {
         for bytes_left in [0, 16, 32, 64, 96, 128, 256, 1_536] {
-            let ended = relay_with(rt.alloc(), hoards_at, bytes_left);
+            let ended = relay_with(rt.alloc(), exhausts_at, bytes_left);
             if ended.fault.is_none() {
-                assert_eq!(rt; ended.out.as_slice(), OUT, "{bytes_left} at {hoards_at}");
-                assert_eq!(rt; ended.err.as_slice(), ERR, "{bytes_left} at {hoards_at}");
+                assert_eq!(rt; ended.out.as_slice(), OUT, "{bytes_left} at {exhausts_at}");
+                assert_eq!(rt; ended.err.as_slice(), ERR, "{bytes_left} at {exhausts_at}");
             } else {
                 assert_eq!(rt;
                     ended.fault,
                     Some(RunFault::OutOfMemory),
-                    "{bytes_left} at {hoards_at}"
+                    "{bytes_left} at {exhausts_at}"
                 );
             }
             assert!(rt;
                 OUT.starts_with(ended.out.as_slice()),
-                "{bytes_left} at {hoards_at}"
+                "{bytes_left} at {exhausts_at}"
             );
             assert!(rt;
                 ERR.starts_with(ended.err.as_slice()),
-                "{bytes_left} at {hoards_at}"
+                "{bytes_left} at {exhausts_at}"
             );
-            if hoards_at > 8 {
-                assert_eq!(rt; ended.out.as_slice(), OUT, "{bytes_left} at {hoards_at}");
+            if exhausts_at > 8 {
+                assert_eq!(rt; ended.out.as_slice(), OUT, "{bytes_left} at {exhausts_at}");
             }
-            if hoards_at > 14 {
+            if exhausts_at > 14 {
                 assert!(rt;
                     ended.err.as_slice().starts_with(FIRST),
-                    "{bytes_left} at {hoards_at}"
+                    "{bytes_left} at {exhausts_at}"
                 );
             }
         }

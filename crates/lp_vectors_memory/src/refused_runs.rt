@@ -64,16 +64,16 @@ fn each_request_of_a_rebuild_is_refused_in_turn(rt: HostRuntime) -> Result<(), F
     Ok(())
 }
 
-// The bytes of a text, and after the last one a hoard that leaves about so many bytes.
+// The bytes of a text, and after the last one exhausted memory that leaves about so many bytes.
 #[derive(Drop)]
-struct Hoarding<'a> {
+struct ExhaustingSource<'a> {
     alloc: Global,
     text: &'a [u8],
     bytes_left: usize,
     exhausted: Option<ExhaustedMemory>,
 }
 
-impl<'a> Source for Hoarding<'a> {
+impl<'a> Source for ExhaustingSource<'a> {
     ghost use Rattle.std.specs.Prelude.{None};
 
     ghost bytes = { λ _. None };
@@ -93,7 +93,7 @@ fn is_run(rt: &impl Abort, alloc: Global, place: usize, bytes: usize) -> bool
     requires { place < 2 }
 {
     let (text, batch, faults) = TEXTS[place];
-    let mut reader = Hoarding {
+    let mut reader = ExhaustingSource {
         alloc,
         text: text.as_bytes(),
         bytes_left: bytes,

@@ -6,23 +6,23 @@ use std::borrow::CowStr;
 use std::fmt::Write;
 
 // A text: its length, a colon and its bytes.
-fn tell_text(report: &mut Report<'_>, text: &str) {
+fn render_text(report: &mut Report<'_>, text: &str) {
     let len = text.len();
     let _ = write!(report, "{len}:");
     report.push(text.as_bytes());
 }
 
 /// A name: `S` and its text where it is a part of the input or a fixed text, and `C` where it is a copy.
-pub fn tell_name(report: &mut Report<'_>, name: &EscapedStr<'_>) {
+pub fn render_name(report: &mut Report<'_>, name: &EscapedStr<'_>) {
     match name {
         EscapedStr::SingleSlice(_) => report.push(b"S"),
         EscapedStr::CopiedValue(_) => report.push(b"C"),
     }
-    tell_text(report, name.as_str());
+    render_text(report, name.as_str());
 }
 
 /// A value: a letter for its variant, and the number, the text or the word.
-pub fn tell_value(report: &mut Report<'_>, value: &FieldValue<'_>) {
+pub fn render_value(report: &mut Report<'_>, value: &FieldValue<'_>) {
     match value {
         FieldValue::I64(number) => {
             let _ = write!(report, "i{number}");
@@ -32,11 +32,11 @@ pub fn tell_value(report: &mut Report<'_>, value: &FieldValue<'_>) {
         }
         FieldValue::F64(literal) => {
             report.push(b"f");
-            tell_text(report, literal.as_str());
+            render_text(report, literal.as_str());
         }
         FieldValue::String(text) => {
             report.push(b"s");
-            tell_name(report, text);
+            render_name(report, text);
         }
         FieldValue::Boolean(value) => {
             let _ = write!(report, "{value}");
@@ -45,32 +45,32 @@ pub fn tell_value(report: &mut Report<'_>, value: &FieldValue<'_>) {
 }
 
 // The tags, each after a comma; for an empty set a comma.
-fn tell_tags(report: &mut Report<'_>, tags: &[(EscapedStr<'_>, EscapedStr<'_>)]) {
+fn render_tags(report: &mut Report<'_>, tags: &[(EscapedStr<'_>, EscapedStr<'_>)]) {
     if tags.is_empty() {
         report.push(b",");
     }
     for (key, value) in tags {
         report.push(b",");
-        tell_name(report, key);
+        render_name(report, key);
         report.push(b"=");
-        tell_name(report, value);
+        render_name(report, value);
     }
 }
 
 /// A line: `line`, its raw text, its measurement, its tags, its fields, and its timestamp after `at`.
-pub fn tell_line(report: &mut Report<'_>, line: &ParsedLine<'_>) {
+pub fn render_line(report: &mut Report<'_>, line: &ParsedLine<'_>) {
     report.push(b"line ");
-    tell_text(report, line.series.raw_input);
+    render_text(report, line.series.raw_input);
     report.push(b" ");
-    tell_name(report, &line.series.measurement);
+    render_name(report, &line.series.measurement);
     if let Some(tags) = &line.series.tag_set {
-        tell_tags(report, tags.as_slice());
+        render_tags(report, tags.as_slice());
     }
     for (key, value) in line.field_set.as_slice() {
         report.push(b" ");
-        tell_name(report, key);
+        render_name(report, key);
         report.push(b"=");
-        tell_value(report, value);
+        render_value(report, value);
     }
     if let Some(timestamp) = line.timestamp {
         let _ = write!(report, " at {timestamp}");
@@ -78,37 +78,37 @@ pub fn tell_line(report: &mut Report<'_>, line: &ParsedLine<'_>) {
 }
 
 // A number out of range: the fault's name, the side, and the number's text.
-fn tell_range(report: &mut Report<'_>, name: &str, source: OutOfRange, value: &str) {
+fn render_range(report: &mut Report<'_>, name: &str, source: OutOfRange, value: &str) {
     report.push(name.as_bytes());
     match source {
         OutOfRange::Above => report.push(b" Above "),
         OutOfRange::Below => report.push(b" Below "),
     }
-    tell_text(report, value);
+    render_text(report, value);
 }
 
 /// A fault: the name of its variant, and what it holds.
-pub fn tell_fault(report: &mut Report<'_>, fault: &Error) {
+pub fn render_fault(report: &mut Report<'_>, fault: &Error) {
     match fault {
         Error::DuplicateTag { tag_key } => {
             report.push(b"DuplicateTag ");
-            tell_text(report, tag_key.as_str());
+            render_text(report, tag_key.as_str());
         }
         Error::MeasurementValueInvalid => report.push(b"MeasurementValueInvalid"),
         Error::FieldSetMissing => report.push(b"FieldSetMissing"),
         Error::IntegerValueInvalid { source, value } => {
-            tell_range(report, "IntegerValueInvalid", *source, value.as_str());
+            render_range(report, "IntegerValueInvalid", *source, value.as_str());
         }
         Error::UIntegerValueInvalid { source, value } => {
-            tell_range(report, "UIntegerValueInvalid", *source, value.as_str());
+            render_range(report, "UIntegerValueInvalid", *source, value.as_str());
         }
         Error::TimestampValueInvalid { source, value } => {
-            tell_range(report, "TimestampValueInvalid", *source, value.as_str());
+            render_range(report, "TimestampValueInvalid", *source, value.as_str());
         }
         Error::EndsWithBackslash => report.push(b"EndsWithBackslash"),
         Error::CannotParseEntireLine { trailing_content } => {
             report.push(b"CannotParseEntireLine ");
-            tell_text(report, trailing_content.as_str());
+            render_text(report, trailing_content.as_str());
         }
         Error::TagSetMalformed => report.push(b"TagSetMalformed"),
         Error::GenericParsingError { kind: _ } => report.push(b"GenericParsingError"),
@@ -117,23 +117,23 @@ pub fn tell_fault(report: &mut Report<'_>, fault: &Error) {
 }
 
 /// A base: whether it is a part of the input, and its text.
-pub fn tell_base(report: &mut Report<'_>, base: &CowStr<'_>) {
+pub fn render_base(report: &mut Report<'_>, base: &CowStr<'_>) {
     match base {
         CowStr::Borrowed(text) => {
             report.push(b"borrowed ");
-            tell_text(report, text);
+            render_text(report, text);
         }
         CowStr::Owned(text) => {
             report.push(b"owned ");
-            tell_text(report, text.as_str());
+            render_text(report, text.as_str());
         }
     }
 }
 
 /// A copy that was asked for: its text, or `OutOfMemory`.
-pub fn tell_copy<E: Drop>(report: &mut Report<'_>, copy: &Result<String, E>) {
+pub fn render_copy<E: Drop>(report: &mut Report<'_>, copy: &Result<String, E>) {
     match copy {
-        Ok(text) => tell_text(report, text.as_str()),
+        Ok(text) => render_text(report, text.as_str()),
         Err(_) => report.push(b"OutOfMemory"),
     }
 }
