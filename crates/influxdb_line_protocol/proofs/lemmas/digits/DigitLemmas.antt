@@ -1,6 +1,6 @@
 -- Digits at the start of a text, by lanes and by groups.
 use Rattle.std.proofs.Common.{◌≡◌, ◌∙◌, ℕ, suc, ◌+◌, ◌-◌, ◌*◌, ◌^◌, ◌%◌, ◌<◌, ◌≤◌, Bool, true, false, not, eqb, List, [], ◌∷◌, map, length}
-use Rattle.std.proofs.Common.{take, drop, get_or, replicate, refl, sym, ap, ap₂, arith}
+use Rattle.std.proofs.Common.{take, drop, get_or, replicate, refl, sym, ap, arith}
 use Rattle.std.specs.Prelude.{◌==◌, if◌then◌else◌}
 use Rattle.std.specs.Int.{w64, trailing_zeros}
 use Rattle.std.specs.List.{prefix_len}
@@ -14,17 +14,8 @@ use Rattle.std.proofs.lemmas.Str.Parse.{digit_from_value}
 use Rattle.std.proofs.lemmas.Str.{digit_value_digit}
 use Rattle.std.proofs.lemmas.Int.Digits.{digits_value-lt}
 use Rattle.std.proofs.Math.Nat.{pow-le-pow_right}
-use lib.Lanes.{zip2, mask_l, top}
+use lib.Lanes.{mask_l, top}
 use Rattle.influxdb_line_protocol.specs.format.Values.{digits_len}
-
-zip2-map : (h : ℕ → ℕ → ℕ) (f g : ℕ → ℕ) (xs : List ℕ) → zip2 h (map f xs) (map g xs) ≡ map (λ x. h (f x) (g x)) xs
-zip2-map h f g [] = refl
-zip2-map h f g (x ∷ xs) = ap (λ r. h (f x) (g x) ∷ r) (zip2-map h f g xs)
-
--- an operation on two vectors that were computed lane by lane from v
-pub separated_list : (h : ℕ → ℕ → ℕ) (f g : ℕ → ℕ) (v : List ℕ) {a b : List ℕ} → a ≡ map f v → b ≡ map g v
-    → zip2 h a b ≡ map (λ x. h (f x) (g x)) v
-separated_list h f g v p q = ap₂ (zip2 h) p q ∙ zip2-map h f g v
 
 -- a vector of one byte, as computed lane by lane from v
 pub splat_is : (v : List ℕ) (n y : ℕ) → length v ≡ n → replicate n y ≡ map (λ _. y) v
