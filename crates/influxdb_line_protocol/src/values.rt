@@ -1,14 +1,13 @@
 //! Values of fields.
 
-ghost use Rattle.std.specs.Prelude.{◌≡◌, ◌≤◌, ◌<◌, ◌==◌, ◌||◌, ℕ, List, true, false, codes, drop, length, slice_index, IsCharBoundary};
-ghost use Rattle.std.specs.Prelude.{◌-◌, if◌then◌else◌, IfOk, IfSome, IsErr, IsOk, MatchOption, Ok, Err};
-ghost use Rattle.std.specs.List.{starts_with};
+ghost use Rattle.std.specs.Prelude.{◌≡◌, ◌≤◌, ◌<◌, ◌-◌, ◌==◌, ◌||◌, true, false, length, slice_index, if◌then◌else◌, Ok, Err};
+ghost use Rattle.std.specs.Prelude.{IfOk, IfSome, IsErr, IsOk, MatchOption};
 ghost use Rattle.std.specs.Char.{is_ascii_digit};
 ghost use Rattle.influxdb_line_protocol.specs.declared.error.Error.{Error};
-ghost use Rattle.influxdb_line_protocol.specs.format.Bytes.{is_one_of, letter_i, letter_u, minus};
+ghost use Rattle.influxdb_line_protocol.specs.format.Bytes.{letter_i, letter_u, minus};
 ghost use Rattle.influxdb_line_protocol.specs.code.Light.{is_single_value, NeedsMemory};
 ghost use Rattle.influxdb_line_protocol.specs.format.Lines.{timestamp};
-ghost use Rattle.influxdb_line_protocol.specs.code.Outcomes.{Gives, GivesRead, IsFault, side};
+ghost use Rattle.influxdb_line_protocol.specs.code.Outcomes.{Gives, GivesRead, IsFault};
 ghost use Rattle.influxdb_line_protocol.specs.code.Parsed.{is_same_variant, value_of};
 ghost use Rattle.influxdb_line_protocol.specs.format.Readings.{◌otherwise◌, above, integer_value_invalid, timestamp_value_invalid};
 ghost use Rattle.influxdb_line_protocol.specs.format.Readings.{uinteger_value_invalid};
@@ -82,27 +81,39 @@ impl<'a> FieldValue<'a> {
     }
 }
 
-// On which side of its type `number` lies, where it is out of range.
-fn side_of(number: &str) -> OutOfRange
-    ensures { side result ≡ side_of number.now }
+// The kinds of number that have a range.
+#[derive(Clone, Copy)]
+enum NumberKind {
+    Integer,
+    Unsigned,
+    Timestamp,
+}
+
+// A number of this kind out of range, or `OutOfMemory` for its text.
+#[cold]
+#[inline(never)]
+fn out_of_range(alloc: Global, kind: NumberKind, number: &str) -> Error
+    ensures integer { kind ≡ NumberKind.Integer → IsFault result (λ fault. fault ≡ integer_value_invalid (side_of number.now) number.now) }
+    ensures unsigned { kind ≡ NumberKind.Unsigned → IsFault result (λ fault. fault ≡ uinteger_value_invalid above number.now) }
+    ensures timestamp { kind ≡ NumberKind.Timestamp
+        → IsFault result (λ fault. fault ≡ timestamp_value_invalid (side_of number.now) number.now) }
 {
-    if number.starts_with('-') {
+    let Ok(value) = String::from_str(alloc, number) else {
+        return Error::OutOfMemory;
+    };
+    let below = number.starts_with('-');
+    let source = if below {
         OutOfRange::Below
     } else {
         OutOfRange::Above
-    }
-}
-
-// An integer out of range, or `OutOfMemory` for its text.
-#[cold]
-#[inline(never)]
-fn integer_fault(alloc: Global, number: &str) -> Error
-    ensures { IsFault result (λ fault. fault ≡ integer_value_invalid (side_of number.now) number.now) }
-{
-    let source = side_of(number);
-    match String::from_str(alloc, number) {
-        Ok(value) => Error::IntegerValueInvalid { source, value },
-        Err(_) => Error::OutOfMemory,
+    };
+    match kind {
+        NumberKind::Integer => Error::IntegerValueInvalid { source, value },
+        NumberKind::Unsigned => Error::UIntegerValueInvalid {
+            source: OutOfRange::Above,
+            value,
+        },
+        NumberKind::Timestamp => Error::TimestampValueInvalid { source, value },
     }
 }
 
@@ -123,20 +134,7 @@ fn integer<'a>(
     let (number, _) = text.split_at(whole);
     match integer_value(number, text) {
         Some(value) => Ok(Some((FieldValue::I64(value), &text[whole + 1..]))),
-        None => Err(integer_fault(alloc, number)),
-    }
-}
-
-// An unsigned integer out of range, or `OutOfMemory` for its text.
-#[cold]
-#[inline(never)]
-fn unsigned_fault(alloc: Global, number: &str) -> Error
-    ensures { IsFault result (λ fault. fault ≡ uinteger_value_invalid above number.now) }
-{
-    let source = OutOfRange::Above;
-    match String::from_str(alloc, number) {
-        Ok(value) => Error::UIntegerValueInvalid { source, value },
-        Err(_) => Error::OutOfMemory,
+        None => Err(out_of_range(alloc, NumberKind::Integer, number)),
     }
 }
 
@@ -157,7 +155,7 @@ fn unsigned<'a>(
     let (number, _) = text.split_at(whole);
     match unsigned_value(number, text) {
         Some(value) => Ok(Some((FieldValue::U64(value), &text[whole + 1..]))),
-        None => Err(unsigned_fault(alloc, number)),
+        None => Err(out_of_range(alloc, NumberKind::Unsigned, number)),
     }
 }
 
@@ -280,19 +278,6 @@ pub(crate) fn value<'a>(
     Ok(boolean(text))
 }
 
-// A timestamp out of range, or `OutOfMemory` for its text.
-#[cold]
-#[inline(never)]
-fn timestamp_fault(alloc: Global, number: &str) -> Error
-    ensures { IsFault result (λ fault. fault ≡ timestamp_value_invalid (side_of number.now) number.now) }
-{
-    let source = side_of(number);
-    match String::from_str(alloc, number) {
-        Ok(value) => Error::TimestampValueInvalid { source, value },
-        Err(_) => Error::OutOfMemory,
-    }
-}
-
 /// The timestamp at the start of `text`, if spaces and a number are there, and the rest.
 ///
 /// The spaces after the number are taken too. A number out of range is the line's fault.
@@ -308,6 +293,6 @@ pub(crate) fn timestamp(alloc: Global, text: &str) -> Result<(Option<i64>, &str)
     }
     match integer_value(number, after) {
         Some(timestamp) => Ok((Some(timestamp), trim_start_spaces(rest))),
-        None => Err(timestamp_fault(alloc, number)),
+        None => Err(out_of_range(alloc, NumberKind::Timestamp, number)),
     }
 }
