@@ -1,14 +1,13 @@
 //! Values of fields.
 
-ghost use Rattle.std.specs.Prelude.{◌≡◌, ◌≤◌, ◌<◌, ◌==◌, ◌||◌, ℕ, List, true, false, codes, drop, length, slice_index, IsCharBoundary};
-ghost use Rattle.std.specs.Prelude.{IfOk, IfSome, IsErr, IsOk, Ok, Err, eqb};
-ghost use Rattle.std.specs.List.{starts_with};
+ghost use Rattle.std.specs.Prelude.{◌≡◌, ◌≤◌, ◌<◌, ◌-◌, ◌==◌, ◌||◌, true, false, length, slice_index, if◌then◌else◌, Ok, Err};
+ghost use Rattle.std.specs.Prelude.{IfOk, IfSome, IsErr, IsOk, MatchOption};
 ghost use Rattle.std.specs.Char.{is_ascii_digit};
 ghost use Rattle.influxdb_line_protocol.specs.declared.error.Error.{Error};
-ghost use Rattle.influxdb_line_protocol.specs.format.Bytes.{is_one_of, letter_i, letter_u, minus};
+ghost use Rattle.influxdb_line_protocol.specs.format.Bytes.{letter_i, letter_u, minus};
 ghost use Rattle.influxdb_line_protocol.specs.code.Light.{is_single_value, NeedsMemory};
 ghost use Rattle.influxdb_line_protocol.specs.format.Lines.{timestamp};
-ghost use Rattle.influxdb_line_protocol.specs.code.Outcomes.{Gives, GivesRead, IsFault, side};
+ghost use Rattle.influxdb_line_protocol.specs.code.Outcomes.{Gives, GivesRead, IsFault};
 ghost use Rattle.influxdb_line_protocol.specs.code.Parsed.{is_same_variant, value_of};
 ghost use Rattle.influxdb_line_protocol.specs.format.Readings.{◌otherwise◌, above, integer_value_invalid, timestamp_value_invalid};
 ghost use Rattle.influxdb_line_protocol.specs.format.Readings.{uinteger_value_invalid};
@@ -82,27 +81,39 @@ impl<'a> FieldValue<'a> {
     }
 }
 
-// On which side of its type `number` lies, where it is out of range.
-fn side_of(number: &str) -> OutOfRange
-    ensures { side result ≡ side_of number.now }
+// The kinds of number that have a range.
+#[derive(Clone, Copy)]
+enum NumberKind {
+    Integer,
+    Unsigned,
+    Timestamp,
+}
+
+// A number of this kind out of range, or `OutOfMemory` for its text.
+#[cold]
+#[inline(never)]
+fn out_of_range(alloc: Global, kind: NumberKind, number: &str) -> Error
+    ensures integer { kind ≡ NumberKind.Integer → IsFault result (λ fault. fault ≡ integer_value_invalid (side_of number.now) number.now) }
+    ensures unsigned { kind ≡ NumberKind.Unsigned → IsFault result (λ fault. fault ≡ uinteger_value_invalid above number.now) }
+    ensures timestamp { kind ≡ NumberKind.Timestamp
+        → IsFault result (λ fault. fault ≡ timestamp_value_invalid (side_of number.now) number.now) }
 {
-    if number.starts_with('-') {
+    let Ok(value) = String::from_str(alloc, number) else {
+        return Error::OutOfMemory;
+    };
+    let below = number.starts_with('-');
+    let source = if below {
         OutOfRange::Below
     } else {
         OutOfRange::Above
-    }
-}
-
-// An integer out of range, or `OutOfMemory` for its text.
-#[cold]
-#[inline(never)]
-fn integer_fault(alloc: Global, number: &str) -> Error
-    ensures { IsFault result (λ fault. fault ≡ integer_value_invalid (side_of number.now) number.now) }
-{
-    let source = side_of(number);
-    match String::from_str(alloc, number) {
-        Ok(value) => Error::IntegerValueInvalid { source, value },
-        Err(_) => Error::OutOfMemory,
+    };
+    match kind {
+        NumberKind::Integer => Error::IntegerValueInvalid { source, value },
+        NumberKind::Unsigned => Error::UIntegerValueInvalid {
+            source: OutOfRange::Above,
+            value,
+        },
+        NumberKind::Timestamp => Error::TimestampValueInvalid { source, value },
     }
 }
 
@@ -123,20 +134,7 @@ fn integer<'a>(
     let (number, _) = text.split_at(whole);
     match integer_value(number, text) {
         Some(value) => Ok(Some((FieldValue::I64(value), &text[whole + 1..]))),
-        None => Err(integer_fault(alloc, number)),
-    }
-}
-
-// An unsigned integer out of range, or `OutOfMemory` for its text.
-#[cold]
-#[inline(never)]
-fn unsigned_fault(alloc: Global, number: &str) -> Error
-    ensures { IsFault result (λ fault. fault ≡ uinteger_value_invalid above number.now) }
-{
-    let source = OutOfRange::Above;
-    match String::from_str(alloc, number) {
-        Ok(value) => Error::UIntegerValueInvalid { source, value },
-        Err(_) => Error::OutOfMemory,
+        None => Err(out_of_range(alloc, NumberKind::Integer, number)),
     }
 }
 
@@ -157,7 +155,7 @@ fn unsigned<'a>(
     let (number, _) = text.split_at(whole);
     match unsigned_value(number, text) {
         Some(value) => Ok(Some((FieldValue::U64(value), &text[whole + 1..]))),
-        None => Err(unsigned_fault(alloc, number)),
+        None => Err(out_of_range(alloc, NumberKind::Unsigned, number)),
     }
 }
 
@@ -229,90 +227,22 @@ fn string<'a>(alloc: Global, text: &'a str) -> Result<Option<(FieldValue<'a>, &'
     Ok(Some((FieldValue::String(spelled), rest)))
 }
 
-// Whether one of the long words for true is at the start of `bytes`.
+// Which Boolean the longest word at the start of `bytes` is for, and how many bytes that word takes.
 #[inline(always)]
-fn is_long_true(bytes: &[u8]) -> bool
-    ensures value { result ≡ (starts_with eqb bytes.now (codes "true") || starts_with eqb bytes.now (codes "True")
-        || starts_with eqb bytes.now (codes "TRUE")) }
-    ensures last { result ≡ true → (3 < length bytes.now) × (slice_index bytes.now 3 < 128) }
+fn longest_word(bytes: &[u8]) -> Option<(bool, usize)>
+    ensures value { MatchOption result ((word_len true_words bytes.now ≡ 0) × (word_len false_words bytes.now ≡ 0)) (λ word.
+        (word_len true_words bytes.now ≡ if word.0 then word.1 else 0) × (word_len false_words bytes.now ≡ if word.0 then 0 else word.1)) }
+    ensures last { IfSome result (λ word. (0 < word.1) × (word.1 ≤ length bytes.now) × (slice_index bytes.now (word.1 - 1) < 128)) }
 {
     match bytes {
-        [b't' | b'T', b'r', b'u', b'e', ..] => true,
-        [b'T', b'R', b'U', b'E', ..] => true,
-        _ => false,
+        [b't' | b'T', b'r', b'u', b'e', ..] | [b'T', b'R', b'U', b'E', ..] => Some((true, 4)),
+        [b'f' | b'F', b'a', b'l', b's', b'e', ..] | [b'F', b'A', b'L', b'S', b'E', ..] => Some((
+            false, 5,
+        )),
+        [b't' | b'T', ..] => Some((true, 1)),
+        [b'f' | b'F', ..] => Some((false, 1)),
+        _ => None,
     }
-}
-
-// Whether one of the long words for false is at the start of `bytes`.
-#[inline(always)]
-fn is_long_false(bytes: &[u8]) -> bool
-    ensures value { result ≡ (starts_with eqb bytes.now (codes "false") || starts_with eqb bytes.now (codes "False")
-        || starts_with eqb bytes.now (codes "FALSE")) }
-    ensures last { result ≡ true → (4 < length bytes.now) × (slice_index bytes.now 4 < 128) }
-{
-    match bytes {
-        [b'f' | b'F', b'a', b'l', b's', b'e', ..] => true,
-        [b'F', b'A', b'L', b'S', b'E', ..] => true,
-        _ => false,
-    }
-}
-
-// Whether a word for true may begin with the first of `bytes`.
-#[inline(always)]
-fn begins_true(bytes: &[u8]) -> bool
-    ensures value { result ≡ is_one_of (codes "tT") (slice_index bytes.now 0) }
-    ensures ascii { result ≡ true → (0 < length bytes.now) × (slice_index bytes.now 0 < 128) }
-{
-    matches!(bytes, [b't' | b'T', ..])
-}
-
-// Whether a word for false may begin with the first of `bytes`.
-#[inline(always)]
-fn begins_false(bytes: &[u8]) -> bool
-    ensures value { result ≡ is_one_of (codes "fF") (slice_index bytes.now 0) }
-    ensures ascii { result ≡ true → (0 < length bytes.now) × (slice_index bytes.now 0 < 128) }
-{
-    matches!(bytes, [b'f' | b'F', ..])
-}
-
-// How many bytes of `text` the longest word for true takes at the start.
-#[inline(always)]
-fn true_len(text: &str) -> usize
-    ensures value { result ≡ word_len true_words text.now }
-    ensures boundary { IsCharBoundary text.now result }
-{
-    let bytes = text.as_bytes();
-    if is_long_true(bytes) {
-        return 4;
-    }
-    if begins_true(bytes) { 1 } else { 0 }
-}
-
-// How many bytes of `text` the longest word for false takes at the start.
-#[inline(always)]
-fn false_len(text: &str) -> usize
-    ensures value { result ≡ word_len false_words text.now }
-    ensures boundary { IsCharBoundary text.now result }
-{
-    let bytes = text.as_bytes();
-    if is_long_false(bytes) {
-        return 5;
-    }
-    if begins_false(bytes) { 1 } else { 0 }
-}
-
-// This value and the rest, where the longest of the words for it takes `len` bytes of `text`.
-#[inline(always)]
-fn boolean_by<'a>(value: bool, len: usize, text: &'a str) -> Option<(FieldValue<'a>, &'a str)>
-    requires { IsCharBoundary text.now len }
-    ensures value { (words : List (List ℕ)) → len ≡ word_len words text.now → Gives value_of (Ok result) (boolean_at value words text.now) }
-    ensures less { IfSome result (λ p. length p.1.now < length text.now) }
-{
-    let (word, rest) = text.split_at(len);
-    if word.is_empty() {
-        return None;
-    }
-    Some((FieldValue::Boolean(value), rest))
 }
 
 // A Boolean at the start of `text`, and the rest.
@@ -321,10 +251,8 @@ fn boolean(text: &str) -> Option<(FieldValue<'_>, &str)>
     ensures value { Gives value_of (Ok result) (boolean_at true true_words text.now otherwise boolean_at false false_words text.now) }
     ensures less { IfSome result (λ p. length p.1.now < length text.now) }
 {
-    if begins_true(text.as_bytes()) {
-        return boolean_by(true, true_len(text), text);
-    }
-    boolean_by(false, false_len(text), text)
+    let (value, len) = longest_word(text.as_bytes())?;
+    Some((FieldValue::Boolean(value), &text[len..]))
 }
 
 /// A value at the start of `text`, and the rest. `None` where none is there.
@@ -350,19 +278,6 @@ pub(crate) fn value<'a>(
     Ok(boolean(text))
 }
 
-// A timestamp out of range, or `OutOfMemory` for its text.
-#[cold]
-#[inline(never)]
-fn timestamp_fault(alloc: Global, number: &str) -> Error
-    ensures { IsFault result (λ fault. fault ≡ timestamp_value_invalid (side_of number.now) number.now) }
-{
-    let source = side_of(number);
-    match String::from_str(alloc, number) {
-        Ok(value) => Error::TimestampValueInvalid { source, value },
-        Err(_) => Error::OutOfMemory,
-    }
-}
-
 /// The timestamp at the start of `text`, if spaces and a number are there, and the rest.
 ///
 /// The spaces after the number are taken too. A number out of range is the line's fault.
@@ -378,6 +293,6 @@ pub(crate) fn timestamp(alloc: Global, text: &str) -> Result<(Option<i64>, &str)
     }
     match integer_value(number, after) {
         Some(timestamp) => Ok((Some(timestamp), trim_start_spaces(rest))),
-        None => Err(timestamp_fault(alloc, number)),
+        None => Err(out_of_range(alloc, NumberKind::Timestamp, number)),
     }
 }

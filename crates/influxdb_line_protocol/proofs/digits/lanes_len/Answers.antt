@@ -1,7 +1,7 @@
 use Rattle.std.proofs.Common.{ℕ, leb, cond, take, refl, arith}
-use Rattle.std.proofs.lemmas.Simd.{zip2_splat}
+use Rattle.std.proofs.lemmas.Simd.{splat_is_map, zip2_of_maps, zip2_splat}
 use Rattle.std.proofs.lemmas.List.{length-take-le, get_or-take}
-use Rattle.influxdb_line_protocol.proofs.lemmas.digits.DigitLemmas.{separated_list, splat_is, lanes_count}
+use Rattle.influxdb_line_protocol.proofs.lemmas.digits.DigitLemmas.{lanes_count}
 use Rattle.influxdb_line_protocol.proofs.digits.lanes_len.Goals as goal
 
 pub returns : goal.returns
@@ -11,4 +11,4 @@ returns c =
     lanes_count v 16 _ _ _ long (omega arith)
     (λ k within. rw (get_or-take 16 c.args.bytes.now k 0 (omega (arith, long))) ((c.type_inv.bytes k).fits))
     c.first_set.ensures
-    (separated_list (λ a b. cond (leb a b) 255 0) _ _ v (splat_is v 16 10 long) (zip2_splat {Y = ℕ} _ v 16 48 long)) refl
+    (zip2_of_maps (λ a b. cond (leb a b) 255 0) _ _ v (splat_is_map v 16 10 long) (zip2_splat {Y = ℕ} _ v 16 48 long)) refl

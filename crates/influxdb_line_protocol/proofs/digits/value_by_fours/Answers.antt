@@ -1,6 +1,6 @@
 use Rattle.std.proofs.Common.{arith, ◌∙◌}
 use Rattle.std.proofs.lemmas.List.{take_rest}
-use Rattle.influxdb_line_protocol.proofs.lemmas.digits.DigitLemmas.{by_codes, few_fit, four_fit, four_more}
+use Rattle.influxdb_line_protocol.proofs.lemmas.digits.DigitLemmas.{few_fit, four_fit, four_more}
 use Rattle.influxdb_line_protocol.proofs.digits.value_by_fours.Goals as goal
 
 pub overflow_mul-value : goal.overflow_mul-value
@@ -13,13 +13,7 @@ pub overflow_add-value : goal.overflow_add-value
 overflow_add-value c =
     let more = four_fit c.loop-left.value c.loop-left.left.now c.in-len4-up.len_at_least c.loop-left.invariant.digits in
     let fits = few_fit c.args.digits.now c.requires.digits c.requires.few in
-    let group = rw (
-      c.from.ensures,
-      c.from-in-len4-up.ensures,
-      c.from-in-len4-up-2.ensures,
-      c.from-in-len4-up-3.ensures,
-    ) at c.from-in-len4-up-4.ensures in
-    record { fits = omega (arith, more, group, c.loop-left.invariant.same, fits) }
+    record { fits = omega (arith, more, c.loop-left.invariant.same, fits) }
 
 pub loop-left-preserved : goal.loop-left-preserved
 loop-left-preserved c =
@@ -30,8 +24,7 @@ loop-left-preserved c =
       c.from-in-len4-up-2.ensures,
       c.from-in-len4-up-3.ensures,
     ) at c.from-in-len4-up-4.ensures in
-    let same = by_codes c.loop-left.value c.loop-left.left.now c.in-len4-up.len_at_least c.loop-left.invariant.digits in
-    rw (take_rest, group, same) (record { digits = more.0; same = more.1 ∙ c.loop-left.invariant.same })
+    rw (take_rest, group, more.2) (record { digits = more.0; same = more.1 ∙ c.loop-left.invariant.same })
 
 pub value_after-requires-clause-fits : goal.value_after-requires-clause-fits
 value_after-requires-clause-fits c =

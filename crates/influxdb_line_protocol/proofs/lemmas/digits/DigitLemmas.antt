@@ -1,6 +1,6 @@
 -- Digits at the start of a text, by lanes and by groups.
 use Rattle.std.proofs.Common.{◌≡◌, ◌∙◌, ℕ, suc, ◌+◌, ◌-◌, ◌*◌, ◌^◌, ◌%◌, ◌<◌, ◌≤◌, Bool, true, false, not, eqb, List, [], ◌∷◌, map, length}
-use Rattle.std.proofs.Common.{take, drop, get_or, replicate, refl, sym, ap, ap₂, arith}
+use Rattle.std.proofs.Common.{take, drop, get_or, replicate, refl, sym, ap, arith}
 use Rattle.std.specs.Prelude.{◌==◌, if◌then◌else◌}
 use Rattle.std.specs.Int.{w64, trailing_zeros}
 use Rattle.std.specs.List.{prefix_len}
@@ -14,22 +14,8 @@ use Rattle.std.proofs.lemmas.Str.Parse.{digit_from_value}
 use Rattle.std.proofs.lemmas.Str.{digit_value_digit}
 use Rattle.std.proofs.lemmas.Int.Digits.{digits_value-lt}
 use Rattle.std.proofs.Math.Nat.{pow-le-pow_right}
-use lib.Lanes.{zip2, mask_l, top}
+use lib.Lanes.{mask_l, top}
 use Rattle.influxdb_line_protocol.specs.format.Values.{digits_len}
-
-zip2-map : (h : ℕ → ℕ → ℕ) (f g : ℕ → ℕ) (xs : List ℕ) → zip2 h (map f xs) (map g xs) ≡ map (λ x. h (f x) (g x)) xs
-zip2-map h f g [] = refl
-zip2-map h f g (x ∷ xs) = ap (λ r. h (f x) (g x) ∷ r) (zip2-map h f g xs)
-
--- an operation on two vectors that were computed lane by lane from v
-pub separated_list : (h : ℕ → ℕ → ℕ) (f g : ℕ → ℕ) (v : List ℕ) {a b : List ℕ} → a ≡ map f v → b ≡ map g v
-    → zip2 h a b ≡ map (λ x. h (f x) (g x)) v
-separated_list h f g v p q = ap₂ (zip2 h) p q ∙ zip2-map h f g v
-
--- a vector of one byte, as computed lane by lane from v
-pub splat_is : (v : List ℕ) (n y : ℕ) → length v ≡ n → replicate n y ≡ map (λ _. y) v
-splat_is [] n y e = ap (λ k. replicate k y) (sym e)
-splat_is (x ∷ xs) n y e = ap (λ k. replicate k y) (sym e) ∙ ap (λ r. y ∷ r) (splat_is xs (length xs) y refl)
 
 -- two tests that agree on each item pass fronts of one length
 prefix_same : (p q : ℕ → Bool) (xs : List ℕ) → ((k : ℕ) → k < length xs → p (get_or xs k 0) ≡ q (get_or xs k 0))
@@ -84,30 +70,14 @@ three_fit n (a ∷ ds) some = omega (arith, two_fit (n * 10 + digit_value a) ds 
 pub digit_is : (d : ℕ) → digit_value d < 10 → digit_value d ≡ d - 48
 digit_is d small = let range = digit_from_value d small in omega (arith, digit_value_digit d range)
 
--- the codes of four digits
-pub four_codes : (ds : List ℕ) → 4 ≤ length ds → AllDigits 10 ds
-    → (48 ≤ get_or ds 0 0) × ((48 ≤ get_or ds 1 0) × ((48 ≤ get_or ds 2 0) × (48 ≤ get_or ds 3 0)))
-four_codes [] some digits = absurd (omega arith)
-four_codes (a ∷ []) some digits = absurd (omega arith)
-four_codes (a ∷ (b ∷ [])) some digits = absurd (omega arith)
-four_codes (a ∷ (b ∷ (c ∷ []))) some digits = absurd (omega arith)
-four_codes (a ∷ (b ∷ (c ∷ (d ∷ ds)))) some (va, (vb, (vc, (vd, rest)))) = (
-  omega (arith, digit_from_value a va),
-  (omega (arith, digit_from_value b vb), (omega (arith, digit_from_value c vc), omega (arith, digit_from_value d vd))),
-)
-
 -- the number with four digits more
 abbrev pub with_four : ℕ → List ℕ → ℕ
 with_four n ds = n * 10000 + (((get_or ds 0 0 - 48) * 10 + (get_or ds 1 0 - 48)) * 100 + ((get_or ds 2 0 - 48) * 10 + (get_or ds 3 0 - 48)))
 
--- the same, by their codes: those of four zeros add up to 53328
-pub by_codes : (n : ℕ) (ds : List ℕ) → 4 ≤ length ds → AllDigits 10 ds
-    → n * 10000 + (get_or ds 0 0 * 1000 + get_or ds 1 0 * 100 + get_or ds 2 0 * 10 + get_or ds 3 0 - 53328) ≡ with_four n ds
-by_codes n ds some digits = let codes = four_codes ds some digits in omega (arith, codes.0, codes.1.0, codes.1.1.0, codes.1.1.1)
-
--- the digits after four write on after them
+-- the digits after four write on after them; by their codes, those of four zeros add up to 53328
 pub four_more : (n : ℕ) (ds : List ℕ) → 4 ≤ length ds → AllDigits 10 ds
     → AllDigits 10 (drop 4 ds) × (digits_value_after 10 (with_four n ds) (drop 4 ds) ≡ digits_value_after 10 n ds)
+    × (n * 10000 + (get_or ds 0 0 * 1000 + get_or ds 1 0 * 100 + get_or ds 2 0 * 10 + get_or ds 3 0 - 53328) ≡ with_four n ds)
 four_more n [] some digits = absurd (omega arith)
 four_more n (a ∷ []) some digits = absurd (omega arith)
 four_more n (a ∷ (b ∷ [])) some digits = absurd (omega arith)
@@ -115,6 +85,7 @@ four_more n (a ∷ (b ∷ (c ∷ []))) some digits = absurd (omega arith)
 four_more n (a ∷ (b ∷ (c ∷ (d ∷ ds)))) some (va, (vb, (vc, (vd, rest)))) = (
   rest,
   ap (λ m. digits_value_after 10 m ds) (omega (arith, digit_is a va, digit_is b vb, digit_is c vc, digit_is d vd)),
+  omega (arith, digit_from_value a va, digit_from_value b vb, digit_from_value c vc, digit_from_value d vd),
 )
 
 -- so the number so far is no greater than the whole one

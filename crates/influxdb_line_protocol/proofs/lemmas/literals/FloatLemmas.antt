@@ -219,29 +219,17 @@ marked_ascii : (marks : List ℕ) (Part : List ℕ → Type 0) (text : List ℕ)
 marked_ascii marks Part [] small of_part marked = λ i. omega arith
 marked_ascii marks Part (b ∷ x) small of_part marked = IsAscii-cons b x (small b marked.0) (of_part x marked.1)
 
-minus_ascii : (d : ℕ) → is_one_of (codes "-") d ≡ true → d < 128
-minus_ascii d h = grind (arith, common_steps)
-
-sign_ascii : (d : ℕ) → is_one_of (codes "+-") d ≡ true → d < 128
-sign_ascii d h = grind (arith, common_steps)
-
-point_ascii : (d : ℕ) → is_one_of (codes ".") d ≡ true → d < 128
-point_ascii d h = grind (arith, common_steps)
-
-mark_ascii : (d : ℕ) → is_one_of (codes "eE") d ≡ true → d < 128
-mark_ascii d h = grind (arith, common_steps)
-
 float_ascii : (text : List ℕ) → IsFloat text → IsAscii text
 float_ascii text parts =
     let whole = parts.0 in
     let fraction = parts.1 in
     let exponent = parts.2 in
     let ascii : IsAscii (whole ++ (fraction ++ exponent)) =
-    IsAscii-append whole (fraction ++ exponent) (signed_ascii (codes "-") whole minus_ascii parts.4)
+    IsAscii-append whole (fraction ++ exponent) (signed_ascii (codes "-") whole (λ d h. grind (arith, common_steps)) parts.4)
     (IsAscii-append fraction exponent
-    (marked_ascii (codes ".") (IsNumeral 10) fraction point_ascii (λ x numeral. IsAscii-from_digits x numeral.1) parts.5)
-    (marked_ascii (codes "eE") (IsSigned (codes "+-")) exponent mark_ascii
-    (λ x signed. signed_ascii (codes "+-") x sign_ascii signed) parts.6)) in
+    (marked_ascii (codes ".") (IsNumeral 10) fraction (λ d h. grind (arith, common_steps)) (λ x n. IsAscii-from_digits x n.1) parts.5)
+    (marked_ascii (codes "eE") (IsSigned (codes "+-")) exponent (λ d h. grind (arith, common_steps))
+    (λ x signed. signed_ascii (codes "+-") x (λ d h. grind (arith, common_steps)) signed) parts.6)) in
     let P : List ℕ → Type 0 = IsAscii in
     subst P (sym parts.3) ascii
 
@@ -265,18 +253,7 @@ number_len_fits signs t =
 pub integer_len_fits : (t : List ℕ) → integer_len t ≤ length t
 integer_len_fits t = number_len_fits (codes "-") t
 
--- after an integer a text may be cut
-pub integer_boundary : (t : List ℕ) → IsUtf8 t → IsCharBoundary t (integer_len t)
-integer_boundary t utf8 =
-    elim (cases_Bool (integer_len t == 0)) [
-      | inl none ↦ rw (eqb-true (integer_len t) 0 none) (IsCharBoundary-start t utf8)
-      | inr some ↦
-          let positive : 0 < integer_len t = omega (arith, eqb-false (integer_len t) 0 some) in
-          let ascii = signed_ascii (codes "-") (take (integer_len t) t) minus_ascii (signed_front (codes "-") t positive) in
-          IsCharBoundary-from_take t (integer_len t) utf8 (integer_len_fits t) (IsUtf8-from_ascii (take (integer_len t) t) ascii)
-    ]
-
--- and after the longest float
+-- after the longest float a text may be cut
 pub float_boundary : (t : List ℕ) → IsUtf8 t → float_len t ≤ length t → IsCharBoundary t (float_len t)
 float_boundary t utf8 fits =
     elim (cases_Bool (float_len t == 0)) [

@@ -1,10 +1,11 @@
 -- What the mask of the bare marks of a load tells.
-use Rattle.std.proofs.Common.{◌≡◌, ℕ, zero, suc, ◌+◌, ◌-◌, ◌/◌, ◌%◌, ◌^◌, ◌<◌, ◌≤◌, Bool, true, false, cond, not, ◌&&◌, map, List, ◌∷◌}
+use Rattle.std.proofs.Common.{◌≡◌, ℕ, zero, suc, ◌+◌, ◌-◌, ◌/◌, ◌%◌, ◌^◌, ◌<◌, ◌≤◌, Bool, true, false, cond, not, map, List, ◌∷◌}
 use Rattle.std.proofs.Common.{length, take, get_or, slice_index, bit_and, count_ones, refl, sym, ap, ap₂, ◌∙◌, subst, arith, inl, inr}
 use Rattle.std.specs.Prelude.{◌==◌}
 use Rattle.std.specs.Int.{w64, bit_not}
 use Rattle.std.specs.List.{count_by, range_with_len, prefix_len}
-use Rattle.std.proofs.lemmas.Bool.{cases_Bool, cases_lt, and_parts, not-true, not-false}
+use Rattle.std.proofs.lemmas.Bool.{cases_Bool, cases_lt, and_parts, and_right, not-true, not-false}
+use Rattle.std.proofs.Math.Bool.{and_comm}
 use Rattle.std.proofs.lemmas.List.{length-map}
 use Rattle.std.proofs.lemmas.List.FromFn.{length-range_with_len, length-map-range_with_len, get_or-range_with_len}
 use Rattle.std.proofs.lemmas.List.FromFn.{get_or-map-range_with_len, take-map-range_with_len}
@@ -87,23 +88,13 @@ pub mask_next : (p : ℕ → Bool) (at n : ℕ) → mask_at p (at + 1) n ≡ mas
 mask_next p at n = ap mask_l (range_next p n at)
 
 -- only a bare backslash escapes what comes after it
-both_ways : (e t : Bool) → (not e && t) ≡ (t && not e)
-both_ways true true = refl
-both_ways true false = refl
-both_ways false true = refl
-both_ways false false = refl
-
 pub escapes_next : (text : List ℕ) (k : ℕ) → k < length text → is_escaped_after (take (k + 1) text) ≡ is_bare_at (λ b. b == 92) text k
-escapes_next text k h = is_escaped_more text k h ∙ both_ways (is_escaped_after (take k text)) (slice_index text k == 92)
+escapes_next text k h = is_escaped_more text k h ∙ and_comm (not (is_escaped_after (take k text))) (slice_index text k == 92)
 
 -- an escaped byte is not bare
-none_escaped : (t : Bool) → (t && false) ≡ false
-none_escaped true = refl
-none_escaped false = refl
-
 pub escaped_is_not_bare : (passes : ℕ → Bool) (text : List ℕ) (k : ℕ) → is_escaped_after (take k text) ≡ true
     → is_bare_at passes text k ≡ false
-escaped_is_not_bare passes text k h = ap (λ (f : Bool). passes (slice_index text k) && not f) h ∙ none_escaped (passes (slice_index text k))
+escaped_is_not_bare passes text k h = and_right (passes (slice_index text k)) (not (is_escaped_after (take k text))) (ap not h)
 
 -- after a load that begins at a bare place: a bare backslash at its end escapes one byte, and then comes a bare place
 module _ (text : List ℕ) (at : ℕ) (room : at + 64 < length text) (last : ℕ)

@@ -4,7 +4,6 @@ use Rattle.std.proofs.Common.{map, length, take, get_or, slice_index, bit_or, bi
 use native.Mathlib.Nat.{pow-suc}
 use Rattle.std.specs.Prelude.{◌==◌}
 use Rattle.std.specs.List.{range_with_len}
-use Rattle.std.proofs.lemmas.Bool.{false≢true}
 use Rattle.std.proofs.lemmas.List.{length-map}
 use Rattle.std.proofs.lemmas.List.FromFn.{length-range_with_len}
 use Rattle.std.proofs.lemmas.Simd.{map-map, mask_l-lt, length-zip2, pick_l-range_with_len}
@@ -56,26 +55,10 @@ borrowed odd after e (m ∷ ms) = borrowed (not odd) m (not e && m) ms
 one_place : (odd after e m : Bool) → (e && not after) ≡ false
     → cond (after || odd) 1 0 + 2 * cond (borrow (not odd) m (not e && m)) 1 0 ≡ cond (differs (differs e odd) m) 1
     0 + cond m 1 0 + cond (borrow odd after e) 1 0
-one_place true true true true h = refl
-one_place true true true false h = refl
-one_place true true false true h = refl
-one_place true true false false h = refl
-one_place true false true m h = absurd (false≢true (sym h))
-one_place true false false true h = refl
-one_place true false false false h = refl
-one_place false true true true h = refl
-one_place false true true false h = refl
-one_place false true false true h = refl
-one_place false true false false h = refl
-one_place false false true m h = absurd (false≢true (sym h))
-one_place false false false true h = refl
-one_place false false false false h = refl
+one_place odd after e m h = grind arith
 
 after_it : (e m : Bool) → ((not e && m) && not m) ≡ false
-after_it true true = refl
-after_it true false = refl
-after_it false true = refl
-after_it false false = refl
+after_it e m = grind arith
 
 -- the subtraction: what is left, and the backslashes
 subtracted : (odd after e : Bool) (ms : List Bool) → (e && not after) ≡ false
@@ -100,14 +83,7 @@ shifted after (m ∷ ms) = rw (pow-suc 2 (length ms)) (omega (arith, shifted m m
 
 -- from what is left to the escaped places
 undone : (e odd m : Bool) → differs (differs (differs (differs e odd) m) odd) m ≡ e
-undone true true true = refl
-undone true true false = refl
-undone true false true = refl
-undone true false false = refl
-undone false true true = refl
-undone false true false = refl
-undone false false true = refl
-undone false false false = refl
+undone e odd m = grind arith
 
 all_undone : (odd e : Bool) (ms : List Bool) → zip2 differs (zip2 differs (difference odd e ms) (odds odd (length ms))) ms ≡ escapes e ms
 all_undone odd e [] = refl

@@ -18,8 +18,7 @@ differs false b = b
 
 -- the lowest bit of a mask
 low : (b : Bool) (n : ℕ) → (cond b 1 0 + 2 * n) % 2 ≡ cond b 1 0
-low true n = omega arith
-low false n = omega arith
+low b n = grind arith
 
 -- an operation that works on each bit by itself works on each lane by itself
 module _ (op digit : ℕ → ℕ → ℕ) (f : Bool → Bool → Bool) (none : op 0 0 ≡ 0)
@@ -36,22 +35,13 @@ module _ (op digit : ℕ → ℕ → ℕ) (f : Bool → Bool → Bool) (none : o
       step (mask_l (x ∷ xs)) (mask_l (y ∷ ys)) ∙ ap₂ (λ (a b : ℕ). a * 2 + b) highs lows ∙ omega arith
 
 or_digit : (x y : Bool) → max (cond x 1 0) (cond y 1 0) ≡ cond (x || y) 1 0
-or_digit true true = refl
-or_digit true false = refl
-or_digit false true = refl
-or_digit false false = refl
+or_digit x y = grind arith
 
 and_digit : (x y : Bool) → min (cond x 1 0) (cond y 1 0) ≡ cond (x && y) 1 0
-and_digit true true = refl
-and_digit true false = refl
-and_digit false true = refl
-and_digit false false = refl
+and_digit x y = grind arith
 
 xor_digit : (x y : Bool) → differ (cond x 1 0) (cond y 1 0) ≡ cond (differs x y) 1 0
-xor_digit true true = refl
-xor_digit true false = refl
-xor_digit false true = refl
-xor_digit false false = refl
+xor_digit x y = grind arith
 
 pub mask_or : (xs ys : List Bool) → length xs ≡ length ys → bit_or (mask_l xs) (mask_l ys) ≡ mask_l (zip2 (λ a b. a || b) xs ys)
 mask_or = by_lanes bit_or max (λ a b. a || b) refl or_step or_digit
@@ -64,8 +54,7 @@ mask_xor = by_lanes bit_xor differ differs refl xor_step xor_digit
 
 -- the lanes that are not set
 not_more : (t : Bool) (a b n : ℕ) → a + b + 1 ≡ n → cond (not t) 1 0 + 2 * a + (cond t 1 0 + 2 * b) + 1 ≡ n * 2
-not_more true a b n h = omega arith
-not_more false a b n h = omega arith
+not_more t a b n h = grind arith
 
 pub mask_not : (ms : List Bool) → mask_l (map not ms) + mask_l ms + 1 ≡ 2 ^ length ms
 mask_not [] = refl

@@ -1,6 +1,6 @@
 -- Escaped places from left to right, as a scan meets them.
 use Rattle.std.proofs.Common.{◌≡◌, ℕ, ◌+◌, ◌<◌, ◌≤◌, List, [], ◌∷◌, ◌++◌, length, take, get_or, slice_index, Bool, true, false, not, ◌&&◌}
-use Rattle.std.proofs.Common.{cond, refl, ◌∙◌, zero-add, arith}
+use Rattle.std.proofs.Common.{cond, ◌∙◌, zero-add, arith}
 use Rattle.std.specs.Prelude.{◌==◌}
 use Rattle.std.specs.List.{range_with_len}
 use Rattle.std.proofs.lemmas.List.{take_more, get_or-take, length-take}
@@ -14,10 +14,7 @@ use Rattle.influxdb_line_protocol.specs.format.Escapes.{is_escaped_after, is_bar
 
 -- the tests in either order
 in_either_order : (f t : Bool) → cond t (not f) false ≡ (not f && t)
-in_either_order true true = refl
-in_either_order true false = refl
-in_either_order false true = refl
-in_either_order false false = refl
+in_either_order f t = grind arith
 
 -- one byte more
 pub is_escaped_push : (before : List ℕ) (b : ℕ) → is_escaped_after (before ++ b ∷ []) ≡ (not (is_escaped_after before) && b == backslash)

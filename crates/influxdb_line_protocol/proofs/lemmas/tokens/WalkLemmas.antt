@@ -27,8 +27,7 @@ escaped_after_pair : (c : ℕ) (rest : List ℕ) → is_escaped_after (92 ∷ c 
 escaped_after_pair c rest = escaped_is_flag (92 ∷ c ∷ rest) ∙ ap (λ f. flag_after f rest) (none (eqb c 92)) ∙ sym (escaped_is_flag rest)
   where
     none : (t : Bool) → cond t false false ≡ false
-    none true = refl
-    none false = refl
+    none t = grind arith
 
 -- a text that is cut where the next byte is bare has the logical texts of its parts, joined
 pub without_escapes_append : (known front back : List ℕ) → is_escaped_after front ≡ false

@@ -1,10 +1,9 @@
 -- The first bytes of a value decide its form.
 use Rattle.std.proofs.Common.{◌≡◌, ◌≢◌, ◌⊎◌, ◌∙◌, ℕ, ◌<◌, ◌≤◌, List, [], ◌∷◌, true, false, slice_index, refl, sym, arith, inl, inr}
-use Rattle.std.specs.Prelude.{◌==◌, ◌||◌, codes}
+use Rattle.std.specs.Prelude.{◌==◌, ◌||◌}
 use Rattle.std.specs.Char.{is_ascii_digit}
 use Rattle.std.proofs.lemmas.Bool.{cases_eq, eq-eqb, eqb-false, ne_eqb, or_parts}
 use Rattle.std.proofs.lemmas.Grind.{common_steps}
-use Rattle.influxdb_line_protocol.specs.format.Bytes.{is_one_of}
 use Rattle.influxdb_line_protocol.specs.format.Readings.{Reading, Text, miss, fatal, reads, ◌otherwise◌}
 use Rattle.influxdb_line_protocol.specs.format.Values.{Value, value, integer_at, unsigned_at, float_at, string_at, boolean_at, integer_len}
 use Rattle.influxdb_line_protocol.specs.format.Values.{digits_len, float_len, longer_front, true_words, false_words}
@@ -68,33 +67,15 @@ word_misses : (text word : List ℕ) (n w : ℕ) → slice_index text 0 ≢ w �
 word_misses [] word n w other = refl
 word_misses (b ∷ rest) word n w other = rw (ne_eqb w b (λ e. absurd (other (sym e)))) refl
 
--- no word for true is at the start of a text that begins with neither of its letters
-no_true : (text : List ℕ) → slice_index text 0 ≢ 116 → slice_index text 0 ≢ 84 → boolean_at true true_words text ≡ miss
-no_true text t T = boolean_misses true true_words text (simp word_misses)
-
--- nor one for false
-no_false : (text : List ℕ) → slice_index text 0 ≢ 102 → slice_index text 0 ≢ 70 → boolean_at false false_words text ≡ miss
-no_false text f F = boolean_misses false false_words text (simp word_misses)
-
--- no Boolean is at the start of a text that begins with none of these letters
-no_boolean : (text : List ℕ) → slice_index text 0 ≢ 116 → slice_index text 0 ≢ 84 → slice_index text 0 ≢ 102 → slice_index text 0 ≢ 70
+-- no Boolean is at the start of a text that begins with a byte below the letters
+no_boolean : (text : List ℕ) → slice_index text 0 < 70
     → (boolean_at true true_words text ≡ miss) × (boolean_at false false_words text ≡ miss)
-no_boolean text t T f F = (no_true text t T, no_false text f F)
-
--- the first letter decides which word may are there
-pub true_form : (text : List ℕ) → is_one_of (codes "tT") (slice_index text 0) ≡ true
-    → (boolean_at true true_words text otherwise boolean_at false false_words text) ≡ boolean_at true true_words text
-true_form text first =
-    let other : (slice_index text 0 ≢ 102)
-    × (slice_index text 0 ≢ 70) = (λ e. grind (arith, common_steps), λ e. grind (arith, common_steps)) in
-    rw (no_false text other.0 other.1, otherwise_miss (boolean_at true true_words text)) refl
-
-pub false_form : (text : List ℕ) → is_one_of (codes "tT") (slice_index text 0) ≡ false
-    → (boolean_at true true_words text otherwise boolean_at false false_words text) ≡ boolean_at false false_words text
-false_form text first =
-    let other : (slice_index text 0 ≢ 116)
-    × (slice_index text 0 ≢ 84) = (λ e. grind (arith, common_steps), λ e. grind (arith, common_steps)) in
-    rw (no_true text other.0 other.1) refl
+no_boolean text below =
+    let t : slice_index text 0 ≢ 116 = λ e. absurd (omega arith) in
+    let T : slice_index text 0 ≢ 84 = λ e. absurd (omega arith) in
+    let f : slice_index text 0 ≢ 102 = λ e. absurd (omega arith) in
+    let F : slice_index text 0 ≢ 70 = λ e. absurd (omega arith) in
+    (boolean_misses true true_words text (simp word_misses), boolean_misses false false_words text (simp word_misses))
 
 -- no string is where the first byte is no quote
 no_string : (text : List ℕ) → slice_index text 0 ≢ 34 → string_at text ≡ miss
@@ -108,9 +89,7 @@ pub number_form : (text : List ℕ) → (is_ascii_digit (slice_index text 0) || 
 unfolding value
 number_form text first =
     let range = number_byte (slice_index text 0) first in
-    let no_word = no_boolean text (λ e. absurd (omega (arith, e, range.1)))
-    (λ e. absurd (omega (arith, e, range.1))) (λ e. absurd (omega (arith, e, range.1)))
-    (λ e. absurd (omega (arith, e, range.1))) in
+    let no_word = no_boolean text (omega (arith, range.1)) in
     let no_text = no_string text (λ e. absurd (omega (arith, e, range.0))) in
     let same = otherwise_miss (integer_at text otherwise unsigned_at text otherwise float_at text) in
     rw (no_text, no_word.0, no_word.1, same, same, same) refl
@@ -120,9 +99,7 @@ pub string_form : (text : List ℕ) → slice_index text 0 ≡ 34 → value text
 unfolding value
 string_form text first =
     let number = no_number text (no_integer text (rw first refl)) in
-    let no_word = no_boolean text (λ e. absurd (omega (arith, e, first))) (λ e. absurd (omega (arith, e, first)))
-    (λ e. absurd (omega (arith, e, first)))
-    (λ e. absurd (omega (arith, e, first))) in
+    let no_word = no_boolean text (omega (arith, first)) in
     let same = otherwise_miss (string_at text) in
     rw (number, no_word.0, no_word.1, same, same) refl
 

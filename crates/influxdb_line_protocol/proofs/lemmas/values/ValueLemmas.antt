@@ -208,7 +208,7 @@ pub boolean_misses : (b : Bool) (words : List (List ℕ)) (text : List ℕ) → 
 unfolding boolean_at
 boolean_misses b words text none = rw (eq-eqb (word_len words text) 0 none) refl
 
-pub boolean_reads : (b : Bool) (words : List (List ℕ)) (text : List ℕ) → 0 < word_len words text
-    → boolean_at b words text ≡ reads (boolean b) (drop (word_len words text) text)
+pub boolean_reads : (b : Bool) (words : List (List ℕ)) (text : List ℕ) (n : ℕ) → word_len words text ≡ n → 0 < n
+    → boolean_at b words text ≡ reads (boolean b) (drop n text)
 unfolding boolean_at
-boolean_reads b words text some = rw (ne_eqb (word_len words text) 0 (λ e. absurd (omega arith))) refl
+boolean_reads b words text n is some = rw (is, ne_eqb n 0 (λ e. absurd (omega arith))) refl
