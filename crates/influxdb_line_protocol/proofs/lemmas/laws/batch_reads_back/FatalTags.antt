@@ -10,12 +10,12 @@ use Rattle.influxdb_line_protocol.specs.format.Names.{a_tag_key, a_tag_value, na
 use Rattle.influxdb_line_protocol.specs.format.Points.{Tag, is_admitted_name, is_admitted_tag, spelling, built_tag}
 use Rattle.influxdb_line_protocol.specs.format.Lines.{tag, after_comma, many, separated_list}
 use Rattle.influxdb_line_protocol.specs.laws.NamesOfLines.{IsParsedName}
-use Rattle.influxdb_line_protocol.proofs.lemmas.laws.batch_reads_back.NameReadsBack.{name_reads_back, read_name}
+use Rattle.influxdb_line_protocol.proofs.lemmas.laws.batch_reads_back.NameReadsBack.{read_name}
 use Rattle.influxdb_line_protocol.proofs.lemmas.laws.batch_reads_back.ReadLines.{read_tag}
 use Rattle.influxdb_line_protocol.proofs.lemmas.laws.batch_reads_back.PartsReadBack.{tag_text, tag_reads_back}
-use Rattle.influxdb_line_protocol.proofs.lemmas.laws.batch_reads_back.Reaches.{Reaches, reaches_name}
+use Rattle.influxdb_line_protocol.proofs.lemmas.laws.batch_reads_back.Reaches.{Reaches}
 use Rattle.influxdb_line_protocol.proofs.lemmas.laws.batch_reads_back.LinePieces.{AdmittedTag}
-use Rattle.influxdb_line_protocol.proofs.lemmas.laws.parsed_names.Spellings.{reaches_head, reaches_other}
+use Rattle.influxdb_line_protocol.proofs.lemmas.laws.parsed_names.Spellings.{name_reads_back, reaches_name, reaches_head, reaches_other}
 use Rattle.influxdb_line_protocol.proofs.lemmas.laws.batch_reads_back.FatalNames.{StopsWith, FatalName, fatal_name, fatal_here, around}
 
 -- what is fatal for all that are joined by commas, the first of which this is or which come after others

@@ -14,7 +14,7 @@ use Rattle.influxdb_line_protocol.specs.format.Values.{Value, integer_len, fits_
 use Rattle.influxdb_line_protocol.specs.format.Points.{Pair, Tag, Field, built_tag, built_field, built_fields, built_timestamp, built_value}
 use Rattle.influxdb_line_protocol.specs.format.Points.{spelling}
 use Rattle.influxdb_line_protocol.specs.format.Lines.{byte, tag, field, after_comma, many, tag_set, field_set, timestamp, without_comma}
-use Rattle.influxdb_line_protocol.proofs.lemmas.laws.batch_reads_back.NameReadsBack.{name_reads_back}
+use Rattle.influxdb_line_protocol.proofs.lemmas.laws.parsed_names.Spellings.{name_reads_back}
 use Rattle.influxdb_line_protocol.proofs.lemmas.laws.batch_reads_back.ReadLines.{read_tag, read_tags, read_field}
 use Rattle.influxdb_line_protocol.proofs.lemmas.laws.batch_reads_back.LinePieces.{AdmittedTag, AdmittedField}
 use Rattle.influxdb_line_protocol.proofs.lemmas.laws.batch_reads_back.FloatReadsBack.{Ends}

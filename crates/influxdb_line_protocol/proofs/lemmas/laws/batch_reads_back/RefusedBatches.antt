@@ -1,9 +1,8 @@
 -- Batches with a name that is not admitted do not read back.
-use Rattle.std.proofs.Common.{◌≡◌, ◌≢◌, ℕ, ◌+◌, List, [], ◌∷◌, ◌++◌, map, true, false, ◌&&◌, refl, sym, ap, ◌∙◌, subst, arith, inl, inr}
+use Rattle.std.proofs.Common.{◌≡◌, ℕ, ◌+◌, List, [], ◌∷◌, ◌++◌, map, true, false, ◌&&◌, refl, sym, ap, ◌∙◌, subst, arith, inl, inr}
 use Rattle.std.proofs.Common.{append_assoc, append-nil, Option, Ok, Err, Result}
-use Rattle.std.specs.Prelude.{◌==◌}
 use Rattle.std.specs.List.{AllByRecursion, Contains, list_all, flat_map}
-use Rattle.std.proofs.lemmas.Bool.{cases_Bool, false≢true, both_ways, and_from, eq-eqb}
+use Rattle.std.proofs.lemmas.Bool.{cases_Bool, false≢true, and_from}
 use Rattle.std.proofs.lemmas.List.{length-append}
 use Rattle.influxdb_line_protocol.proofs.lemmas.split.SplitWalk.{Head, Plain, Plain-comma}
 use Rattle.influxdb_line_protocol.specs.format.Dialects.{Dialect}
@@ -19,29 +18,22 @@ use Rattle.influxdb_line_protocol.specs.laws.NamesOfLines.{IsParsedName}
 use Rattle.influxdb_line_protocol.specs.laws.Laws.{IsAdmittedPoint, OtherBatchesDoNotReadBack}
 use Rattle.influxdb_line_protocol.proofs.lemmas.split.SplitPieces.{pieces_exist, same_pieces}
 use Rattle.influxdb_line_protocol.proofs.lemmas.split.SplitBare.{is_escaped-push_other}
-use Rattle.influxdb_line_protocol.proofs.lemmas.laws.batch_reads_back.NameReadsBack.{admitted_parts, begins_otherwise, name_reads_back}
-use Rattle.influxdb_line_protocol.proofs.lemmas.laws.batch_reads_back.NameReadsBack.{read_name}
+use Rattle.influxdb_line_protocol.proofs.lemmas.laws.batch_reads_back.NameReadsBack.{admitted_parts, read_name}
 use Rattle.influxdb_line_protocol.proofs.lemmas.laws.batch_reads_back.ReadLines.{read_tags, read_field}
 use Rattle.influxdb_line_protocol.proofs.lemmas.laws.batch_reads_back.PartsReadBack.{tag_set_reads_back, field_reads_back}
-use Rattle.influxdb_line_protocol.proofs.lemmas.laws.batch_reads_back.Reaches.{Reaches, reaches_start, reaches_name}
+use Rattle.influxdb_line_protocol.proofs.lemmas.laws.batch_reads_back.Reaches.{Reaches, reaches_start}
 use Rattle.influxdb_line_protocol.proofs.lemmas.laws.batch_reads_back.LinePieces.{reaches_tags, reaches_field, AdmittedTag, AdmittedField}
 use Rattle.influxdb_line_protocol.proofs.lemmas.laws.batch_reads_back.LinePieces.{admitted_tags, line_parts}
-use Rattle.influxdb_line_protocol.proofs.lemmas.laws.batch_reads_back.LineReadsBack.{measurement_reads_back, spaces_before}
+use Rattle.influxdb_line_protocol.proofs.lemmas.laws.batch_reads_back.LineReadsBack.{measurement_reads_back}
 use Rattle.influxdb_line_protocol.proofs.lemmas.laws.batch_reads_back.BatchesReadBack.{admitted_batches_read_back}
 use Rattle.influxdb_line_protocol.proofs.lemmas.laws.parsed_names.ParsedNames.{ParsedPoint, answers_parsed}
-use Rattle.influxdb_line_protocol.proofs.lemmas.laws.parsed_names.Spellings.{spelling_as, spelled_begins, spelled_spaces, reaches_other}
+use Rattle.influxdb_line_protocol.proofs.lemmas.laws.parsed_names.Spellings.{admitted_spelled, name_reads_back, measurement_begins}
+use Rattle.influxdb_line_protocol.proofs.lemmas.laws.parsed_names.Spellings.{spelled_spaces, reaches_name, reaches_other}
 use Rattle.influxdb_line_protocol.proofs.lemmas.laws.parsed_names.Spellings.{reaches_gap, reaches_field_key, BeginsLine}
 use Rattle.influxdb_line_protocol.proofs.lemmas.laws.batch_reads_back.FatalNames.{StopsWith, Fails, first_fails, FatalName, fatal_name}
 use Rattle.influxdb_line_protocol.proofs.lemmas.laws.batch_reads_back.FatalNames.{fatal_here, around, measurement_fails}
 use Rattle.influxdb_line_protocol.proofs.lemmas.laws.batch_reads_back.FatalTags.{ManyFail, first_of_many, later_of_many, second_fails}
 use Rattle.influxdb_line_protocol.proofs.lemmas.laws.batch_reads_back.FatalTags.{TagsFail, tags_fail}
-
--- an admitted measurement begins a line
-measurement_begins : (m rest : List ℕ) → is_admitted_name a_measurement m ≡ true → BeginsLine (spelling a_measurement m ++ rest)
-measurement_begins [] rest named = absurd ((admitted_parts a_measurement [] named).some refl)
-measurement_begins (b ∷ m) rest named =
-    let no_hash : b ≢ 35 = λ e. both_ways (b == 35) (begins_otherwise b m named) (eq-eqb b 35 e) in
-    spelled_begins (spelling_as a_measurement (b ∷ m) (admitted_parts a_measurement (b ∷ m) named).may) (omega arith) no_hash rest
 
 -- what is fatal for the tags is so for the line
 fatal_tag_set : (text : List ℕ) → separated_list tag text ≡ fatal ends_with_backslash → tag_set (44 ∷ text) ≡ Err ends_with_backslash
@@ -136,8 +128,7 @@ later_field_fails f fs ok g =
       gap = λ rest.
           ap spaces (append_assoc text (44 ∷ g.front) rest
           ∙ append_assoc (spelling a_field_key f.key) (61 ∷ built_value f.value) (44 ∷ (g.front ++ rest)))
-          ∙ spaces_before a_field_key f.key ((61 ∷ built_value f.value) ++ 44 ∷ (g.front ++ rest))
-          (admitted_parts a_field_key f.key ok.0).some;
+          ∙ spelled_spaces (admitted_spelled a_field_key f.key ok.0) (admitted_parts a_field_key f.key ok.0).some _;
       fails = λ rest stops.
           let more = g.front ++ rest in
           subst (ManyFail field) (sym (append_assoc text (44 ∷ g.front) rest))
