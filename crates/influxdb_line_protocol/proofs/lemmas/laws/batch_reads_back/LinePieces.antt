@@ -1,11 +1,11 @@
 -- The line of an admitted point is a piece that a newline ends.
 use Rattle.std.proofs.Common.{◌≡◌, ◌≢◌, ℕ, suc, ◌+◌, ◌^◌, ◌<◌, ◌≤◌, List, [], ◌∷◌, ◌++◌, length, Bool, true, false, ◌&&◌, refl, sym, ap}
 use Rattle.std.proofs.Common.{◌∙◌, subst, arith, inl, inr, append_assoc, append-nil, Option, Some, None}
-use Rattle.std.specs.Prelude.{ℤ, pos, negsuc, not, codes, decimal, IfSome}
+use Rattle.std.specs.Prelude.{◌==◌, ℤ, pos, negsuc, not, codes, decimal, IfSome}
 use Rattle.std.specs.List.{AllByRecursion, list_all, flat_map}
 use Rattle.std.specs.Fmt.{signed_decimal}
 use Rattle.std.specs.Str.Parse.{AllDigits, IsNumeral}
-use Rattle.std.proofs.lemmas.Bool.{cases_Bool, and_parts, and_from, ne_eqb}
+use Rattle.std.proofs.lemmas.Bool.{cases_Bool, and_parts, and_from, or_cases, eqb-true, false≢true}
 use Rattle.std.proofs.lemmas.Grind.{common_steps}
 use Rattle.std.proofs.lemmas.Fmt.{decimal_is_IsNumeral}
 use Rattle.std.proofs.lemmas.Str.Parse.{digit_from_value}
@@ -36,12 +36,10 @@ is_simple b = not (is_one_of (92 ∷ 61 ∷ 44 ∷ 10 ∷ 34 ∷ []) b)
 -- such a byte changes nothing
 simple_same : (e c b : ℕ) → is_simple b ≡ true → ChangesNothing Plain e c b
 simple_same e c b simple =
-    let no_backslash : b ≢ 92 = λ i. let h : is_simple b ≡ false = ap is_simple i in cc in
-    let no_equals : b ≢ 61 = λ i. let h : is_simple b ≡ false = ap is_simple i in cc in
-    let no_comma : b ≢ 44 = λ i. let h : is_simple b ≡ false = ap is_simple i in cc in
-    let no_newline : b ≢ 10 = λ i. let h : is_simple b ≡ false = ap is_simple i in cc in
-    let no_quote : b ≢ 34 = λ i. let h : is_simple b ≡ false = ap is_simple i in cc in
-    (no_backslash, λ q f h. Plain-other e c q b f no_equals no_comma no_newline (λ i. absurd (no_quote i)) h)
+    let differs : (k : ℕ) → is_simple k ≡ false → b ≢ k = λ k no i. cc (simple, no, ap is_simple i) in (
+      differs 92 refl,
+      λ q f h. Plain-other e c q b f (differs 61 refl) (differs 44 refl) (differs 10 refl) (λ i. absurd (differs 34 refl i)) h,
+    )
 
 abbrev pub IsSimple : List ℕ → Type 0
 IsSimple text = list_all is_simple text ≡ true
@@ -60,13 +58,7 @@ reaches_simple e c (b ∷ text) piece all r =
 
 -- numbers are simple
 simple_digit : (b : ℕ) → 48 ≤ b → b ≤ 57 → is_simple b ≡ true
-simple_digit b least most = rw (
-  ne_eqb 92 b (λ e. absurd (omega arith)),
-  ne_eqb 61 b (λ e. absurd (omega arith)),
-  ne_eqb 44 b (λ e. absurd (omega arith)),
-  ne_eqb 10 b (λ e. absurd (omega arith)),
-  ne_eqb 34 b (λ e. absurd (omega arith)),
-) refl
+simple_digit b least most = grind (arith, common_steps)
 
 -- so are digits
 simple_digits : (ds : List ℕ) → AllDigits 10 ds → IsSimple ds
@@ -86,43 +78,37 @@ simple_signed (negsuc n) fits =
     let small : n < 2 ^ 63 = (fits_from_test (negsuc n) fits).sfits in
     and_from (is_simple 45) (list_all is_simple (decimal (suc n))) refl (simple_decimal (suc n) (omega arith))
 
+-- a byte of a simple text
+simple_one : (text : List ℕ) (b : ℕ) → IsSimple text → is_one_of text b ≡ true → is_simple b ≡ true
+simple_one [] b all h = absurd (false≢true h)
+simple_one (c ∷ text) b all h =
+    let parts = and_parts (is_simple c) (list_all is_simple text) all in
+    elim (or_cases (c == b) (is_one_of text b) h) [
+      | inl same ↦ ap is_simple (sym (eqb-true c b same)) ∙ parts.0
+      | inr more ↦ simple_one text b parts.1 more
+    ]
+
 -- a sign or none, and digits
-simple_sign : (signs : List ℕ) (ds : List ℕ) → ((b : ℕ) → is_one_of signs b ≡ true → is_simple b ≡ true) → IsSigned signs ds → IsSimple ds
+simple_sign : (signs : List ℕ) (ds : List ℕ) → IsSimple signs → IsSigned signs ds → IsSimple ds
 simple_sign signs [] of never = absurd never
-simple_sign signs (b ∷ ds) of (inl signed) = and_from (is_simple b) (list_all is_simple ds) (of b signed.0) (simple_digits ds signed.1.1)
+simple_sign signs (b ∷ ds) of (inl signed) = and_from (is_simple b) (list_all is_simple ds) (simple_one signs b of signed.0) (simple_digits ds signed.1.1)
 simple_sign signs (b ∷ ds) of (inr numeral) = simple_digits (b ∷ ds) numeral.1
 
 -- a mark and a part, or nothing
-simple_mark : (marks : List ℕ) (Part : List ℕ → Type 0) (text : List ℕ) → ((b : ℕ) → is_one_of marks b ≡ true → is_simple b ≡ true)
+simple_mark : (marks : List ℕ) (Part : List ℕ → Type 0) (text : List ℕ) → IsSimple marks
     → ((x : List ℕ) → Part x → IsSimple x) → IsMarked marks Part text → IsSimple text
 simple_mark marks Part [] of part marked = refl
-simple_mark marks Part (b ∷ x) of part marked = and_from (is_simple b) (list_all is_simple x) (of b marked.0) (part x marked.1)
-
--- the signs and marks of floats
-minus_simple : (b : ℕ) → is_one_of (codes "-") b ≡ true → is_simple b ≡ true
-minus_simple b h = grind (arith, common_steps)
-
--- those of exponents
-sign_simple : (b : ℕ) → is_one_of (codes "+-") b ≡ true → is_simple b ≡ true
-sign_simple b h = grind (arith, common_steps)
-
--- the point
-point_simple : (b : ℕ) → is_one_of (codes ".") b ≡ true → is_simple b ≡ true
-point_simple b h = grind (arith, common_steps)
-
--- the letters before an exponent
-exponent_simple : (b : ℕ) → is_one_of (codes "eE") b ≡ true → is_simple b ≡ true
-exponent_simple b h = grind (arith, common_steps)
+simple_mark marks Part (b ∷ x) of part marked = and_from (is_simple b) (list_all is_simple x) (simple_one marks b of marked.0) (part x marked.1)
 
 -- and floats
 simple_float : (t : List ℕ) → IsFloat t → IsSimple t
 simple_float t parts =
     subst IsSimple (sym parts.3)
-    (IsSimple-append parts.0 (parts.1 ++ parts.2) (simple_sign (codes "-") parts.0 minus_simple parts.4)
+    (IsSimple-append parts.0 (parts.1 ++ parts.2) (simple_sign (codes "-") parts.0 refl parts.4)
     (IsSimple-append parts.1 parts.2
-    (simple_mark (codes ".") (IsNumeral 10) parts.1 point_simple (λ x numeral. simple_digits x numeral.1) parts.5)
-    (simple_mark (codes "eE") (IsSigned (codes "+-")) parts.2 exponent_simple
-    (λ x signed. simple_sign (codes "+-") x sign_simple signed) parts.6)))
+    (simple_mark (codes ".") (IsNumeral 10) parts.1 refl (λ x numeral. simple_digits x numeral.1) parts.5)
+    (simple_mark (codes "eE") (IsSigned (codes "+-")) parts.2 refl
+    (λ x signed. simple_sign (codes "+-") x refl signed) parts.6)))
 
 -- a byte of a string, with a backslash or without
 reaches_quotable : (e c : ℕ) (s piece : List ℕ) → Reaches Quoted e c piece → Reaches Quoted e c (piece ++ escaped quotable s)

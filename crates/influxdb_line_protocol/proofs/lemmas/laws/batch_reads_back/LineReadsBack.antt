@@ -4,7 +4,8 @@ use Rattle.std.proofs.Common.{Option}
 use Rattle.std.specs.Prelude.{ℤ, IfSome}
 use Rattle.std.specs.List.{flat_map, AllByRecursion}
 use Rattle.influxdb_line_protocol.specs.format.Dialects.{Dialect}
-use Rattle.std.proofs.lemmas.List.{append_assoc, take_at, length-append}
+use Rattle.std.proofs.lemmas.List.{append_assoc, length-append}
+use Rattle.std.proofs.Math.Seq.{take-append_seam}
 use Rattle.influxdb_line_protocol.specs.format.Names.{a_measurement, a_field_key, name}
 use Rattle.influxdb_line_protocol.specs.format.Readings.{Text, reads}
 use Rattle.influxdb_line_protocol.specs.format.Values.{Value, fits_i64}
@@ -18,11 +19,11 @@ use Rattle.influxdb_line_protocol.proofs.lemmas.laws.batch_reads_back.LinePieces
 use Rattle.influxdb_line_protocol.proofs.lemmas.laws.batch_reads_back.PartsReadBack.{tag_text, tag_set_reads_back, field_set_reads_back}
 use Rattle.influxdb_line_protocol.proofs.lemmas.laws.batch_reads_back.PartsReadBack.{timestamp_reads_back}
 
--- the front of a text before what is after it
-pub front_before_is : (front rest : List ℕ) → front_before (front ++ rest) rest ≡ front
-front_before_is front rest =
-    let len : length (front ++ rest) - length rest ≡ length front = omega (arith, length-append front rest) in
-    rw len (take_at front rest (length front) refl)
+-- the front before a rest of the line
+pub front_is : (line front rest : List ℕ) → line ≡ front ++ rest → front_before line rest ≡ front
+front_is line front rest e =
+    let n : length (front ++ rest) - length rest ≡ length front = omega (arith, length-append front rest) in
+    rw (e, n) (take-append_seam front rest)
 
 -- the name before the tags or the fields
 pub measurement_reads_back : (m : List ℕ) (ts : List Tag) (rest : List ℕ) → is_admitted_name a_measurement m ≡ true
@@ -72,9 +73,7 @@ line_reads_back dialect p ok =
         (read_name a_measurement m) (read_tags ts) (map read_field (f ∷ fs)) t
         (measurement_reads_back m ts after named)
         (tag_set_reads_back ts after tagged)
-        (ap (λ (xs : List ℕ). front_before xs (32 ∷ after))
-        (sym (append_assoc (spelling a_measurement m) (flat_map built_tag ts) (32 ∷ after)))
-        ∙ front_before_is front (32 ∷ after))
+        (front_is line front (32 ∷ after) (sym (append_assoc (spelling a_measurement m) (flat_map built_tag ts) (32 ∷ after))))
         (ap spaces (append_assoc (spelling a_field_key f.key) (61 ∷ built_value f.value) (built_fields 44 fs ++ built_timestamp t))
         ∙ spelled_spaces (admitted_spelled a_field_key f.key fielded.0.0) (admitted_parts a_field_key f.key fielded.0.0).some _)
         (field_set_reads_back dialect f fs t fielded.0 fielded.1)

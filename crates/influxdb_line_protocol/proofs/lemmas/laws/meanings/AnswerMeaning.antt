@@ -23,7 +23,7 @@ use Rattle.influxdb_line_protocol.specs.laws.MeaningsOfAnswers.{IsAnswer.no_spac
 use Rattle.influxdb_line_protocol.specs.laws.MeaningsOfAnswers.{IsAnswer.fatal_timestamp, IsAnswer.left, IsAnswer.all_read, AnswerIsByRows}
 use Rattle.influxdb_line_protocol.proofs.lemmas.laws.meanings.JoinedMeaning.{the_most_is_read, the_next_has_the_fault, the_first_misses}
 use Rattle.influxdb_line_protocol.proofs.lemmas.line.LightLemmas.{tag_set_ends}
-use Rattle.influxdb_line_protocol.proofs.lemmas.laws.bases_tell_series.ParsedSeries.{front_is}
+use Rattle.influxdb_line_protocol.proofs.lemmas.laws.batch_reads_back.LineReadsBack.{front_is}
 use Rattle.influxdb_line_protocol.proofs.lemmas.fields.ReadingLemmas.{EndsIn, EndsIn-end, name_ends}
 use Rattle.influxdb_line_protocol.proofs.lemmas.laws.meanings.ShorterRests.{tag_no_longer, field_no_longer}
 
@@ -99,7 +99,7 @@ tags_read : (text : List ℕ) (tags : List (Pair Text Text)) (rest : List ℕ) �
 tags_read text tags rest h = (the_most_is_read tag (λ t. (tag_no_longer t).holds) text tags rest).1 h
 
 -- and so are the fields
-fields_read : (text : List ℕ) (fields : List (Pair Text (Value Text))) (rest : List ℕ) → WholeList field text fields rest
+pub fields_read : (text : List ℕ) (fields : List (Pair Text (Value Text))) (rest : List ℕ) → WholeList field text fields rest
     → separated_list field text ≡ reads fields rest
 fields_read text fields rest h = (the_most_is_read field (λ t. (field_no_longer t).holds) text fields rest).1 h
 
@@ -109,13 +109,13 @@ no_byte b [] h = refl
 no_byte b (c ∷ rest) h = elim (cases_Bool (c == b)) [ inl e ↦ absurd (h (eqb-true c b e)) | inr other ↦ rw other refl ]
 
 -- what a series is read from
-record Series (text : List ℕ) (m : Text) (tags : Option (List (Pair Text Text))) (rest : List ℕ) : Type 0 where
-  after : List ℕ
-  named : name a_measurement text ≡ reads m after
-  set : tag_set after ≡ Ok (record { value = tags; rest = rest })
+pub record Series (text : List ℕ) (m : Text) (tags : Option (List (Pair Text Text))) (rest : List ℕ) : Type 0 where
+  pub after : List ℕ
+  pub named : name a_measurement text ≡ reads m after
+  pub set : tag_set after ≡ Ok (record { value = tags; rest = rest })
 
 -- each series that is read is such
-series_parts : {text : List ℕ} {m : Text} {tags : Option (List (Pair Text Text))} {rest : List ℕ} → ReadsSeries text m tags rest
+pub series_parts : {text : List ℕ} {m : Text} {tags : Option (List (Pair Text Text))} {rest : List ℕ} → ReadsSeries text m tags rest
     → Series text m tags rest
 series_parts (alone m rest named none) = record { after = rest; named = named; set = rw (no_byte comma rest none) refl }
 series_parts (tagged m tags after rest named h) = record { after = 44 ∷ after; named = named; set = rw (tags_read after tags rest h) refl }
