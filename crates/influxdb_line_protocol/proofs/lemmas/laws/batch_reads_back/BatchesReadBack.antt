@@ -5,7 +5,8 @@ use Rattle.influxdb_line_protocol.specs.format.Points.{Point, line_of, built_all
 use Rattle.influxdb_line_protocol.specs.format.Pieces.{Pieces, Pieces.cut}
 use Rattle.influxdb_line_protocol.specs.format.Items.{answers_of_piece}
 use Rattle.influxdb_line_protocol.specs.laws.Laws.{IsAdmittedPoint, BatchesReadBack}
-use Rattle.influxdb_line_protocol.proofs.lemmas.laws.batch_reads_back.LinePieces.{IsAdmitted, admitted_point, line_begins, line_is_cut_piece}
+use Rattle.influxdb_line_protocol.proofs.lemmas.laws.batch_reads_back.LinePieces.{IsAdmitted, admitted_point, line_begins}
+use Rattle.influxdb_line_protocol.proofs.lemmas.laws.batch_reads_back.LinePieces.{line_is_cut_piece}
 use Rattle.influxdb_line_protocol.proofs.lemmas.laws.batch_reads_back.ReadLines.{read_line, read_line_is}
 use Rattle.influxdb_line_protocol.proofs.lemmas.laws.batch_reads_back.LineReadsBack.{line_reads_back}
 use Rattle.influxdb_line_protocol.proofs.lemmas.laws.parsed_names.Spellings.{line_trimmed, line_some}

@@ -91,14 +91,16 @@ simple_one (c ∷ text) b all h =
 -- a sign or none, and digits
 simple_sign : (signs : List ℕ) (ds : List ℕ) → IsSimple signs → IsSigned signs ds → IsSimple ds
 simple_sign signs [] of never = absurd never
-simple_sign signs (b ∷ ds) of (inl signed) = and_from (is_simple b) (list_all is_simple ds) (simple_one signs b of signed.0) (simple_digits ds signed.1.1)
+simple_sign signs (b ∷ ds) of (inl signed) =
+    and_from (is_simple b) (list_all is_simple ds) (simple_one signs b of signed.0) (simple_digits ds signed.1.1)
 simple_sign signs (b ∷ ds) of (inr numeral) = simple_digits (b ∷ ds) numeral.1
 
 -- a mark and a part, or nothing
 simple_mark : (marks : List ℕ) (Part : List ℕ → Type 0) (text : List ℕ) → IsSimple marks
     → ((x : List ℕ) → Part x → IsSimple x) → IsMarked marks Part text → IsSimple text
 simple_mark marks Part [] of part marked = refl
-simple_mark marks Part (b ∷ x) of part marked = and_from (is_simple b) (list_all is_simple x) (simple_one marks b of marked.0) (part x marked.1)
+simple_mark marks Part (b ∷ x) of part marked =
+    and_from (is_simple b) (list_all is_simple x) (simple_one marks b of marked.0) (part x marked.1)
 
 -- and floats
 simple_float : (t : List ℕ) → IsFloat t → IsSimple t
@@ -300,7 +302,8 @@ line_is_cut_piece dialect p ok = subst (IsCutPiece dialect) (sym (line_parts p))
         → IsCutPiece dialect (spelling a_measurement n ++ (flat_map built_tag ts ++ (built_fields 32 fs ++ built_timestamp t)))
     whole n ts [] t named tagged fielded some stamped = absurd (omega arith)
     whole n ts (f ∷ fs) t named tagged fielded some stamped =
-        is_cut_piece dialect _ (line_no_comment _ (measurement_begins n _ named)) (reaches_line n ts f fs t named tagged fielded.0 fielded.1 stamped)
+        is_cut_piece dialect _ (line_no_comment _ (measurement_begins n _ named))
+        (reaches_line n ts f fs t named tagged fielded.0 fielded.1 stamped)
 
 -- the line of an admitted point begins with no blank, no newline and no `#`
 pub line_begins : (p : Point) → IsAdmitted p → BeginsLine (line_of p)

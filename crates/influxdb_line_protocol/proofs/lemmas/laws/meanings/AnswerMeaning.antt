@@ -1,5 +1,5 @@
 -- Each text is answered by one row of the table.
-use Rattle.std.proofs.Common.{◌≡◌, ℕ, ◌==◌, List, [], ◌∷◌, ◌++◌, length, take, drop, refl, sym, ap, ◌∙◌, subst, inl, inr, Option, Some}
+use Rattle.std.proofs.Common.{◌≡◌, ◌⊎◌, ℕ, ◌==◌, List, [], ◌∷◌, ◌++◌, length, take, drop, refl, sym, ap, ◌∙◌, subst, inl, inr, Option, Some}
 use Rattle.std.proofs.Common.{None, Ok, Err, Result}
 use Rattle.std.specs.Prelude.{ℤ, ◌||◌}
 use Rattle.std.specs.Str.Parse.{signed_digits_value}
@@ -125,6 +125,14 @@ space_here : (text : List ℕ) → BeginsWith space text → (after : List ℕ) 
 space_here [] h = absurd h
 space_here (c ∷ rest) h = let e = eq-eqb c 32 h in (rest, rw e refl)
 
+-- a text begins with this byte, or does not
+begins : (b : ℕ) (text : List ℕ) → ((rest : List ℕ) × (text ≡ b ∷ rest)) ⊎ ¬ BeginsWith b text
+begins b [] = inr (λ s. s)
+begins b (c ∷ rest) = elim (cases_Bool (c == b)) [
+  | inl here ↦ inl (rest, ap (λ (x : ℕ). x ∷ rest) (eqb-true c b here))
+  | inr other ↦ inr (λ s. both_ways (c == b) other (eq-eqb c b s))
+]
+
 module _ (dialect : Dialect) (text : List ℕ) where
   -- each row gives its answer, by what the parts read
   row_answers : {a : Result Line Fault} → IsAnswer dialect text a → answer dialect text ≡ a
@@ -220,24 +228,15 @@ module _ (dialect : Dialect) (text : List ℕ) where
 
   -- once a series is read
   by_series : (m : Text) (tags : Option (List (Pair Text Text))) (after : List ℕ) → ReadsSeries text m tags after → SomeRow
-  by_series m tags after h = go after refl
-    where
-      parts : Series text m tags after
-      parts = series_parts h
-
-      ends : EndsIn text after
-      ends = EndsIn-end text parts.after after (name_ends a_measurement text m parts.after parts.named)
-          (tag_set_ends parts.after (record { value = tags; rest = after }) parts.set)
-
-      go : (rest : List ℕ) → rest ≡ after → SomeRow
-      go [] e = (Err take_while1, no_space m tags after h (λ s. subst (BeginsWith space) (sym e) s))
-      go (c ∷ rest) e = elim (cases_Bool (c == 32)) [
-        | inl here ↦
-            by_fields ends.front m tags after ends.is h (subst (BeginsWith space) e (eqb-true c 32 here))
-            (separated_list field (after_spaces after)) refl
-        | inr other ↦
-            (Err take_while1, no_space m tags after h (λ s. both_ways (c == 32) other (eq-eqb c 32 (subst (BeginsWith space) (sym e) s))))
-      ]
+  by_series m tags after h = elim (begins 32 after) [
+    | inl here ↦
+        let parts = series_parts h in
+        let ends : EndsIn text after = EndsIn-end text parts.after after (name_ends a_measurement text m parts.after parts.named)
+        (tag_set_ends parts.after (record { value = tags; rest = after }) parts.set) in
+        by_fields ends.front m tags after ends.is h (subst (BeginsWith space) (sym here.1) refl)
+        (separated_list field (after_spaces after)) refl
+    | inr none ↦ (Err take_while1, no_space m tags after h none)
+  ]
 
   -- once a measurement and a comma are read
   by_tags : (m : Text) (after : List ℕ) → name a_measurement text ≡ reads m (comma ∷ after) → (r : Reading (List (Pair Text Text)))
@@ -253,10 +252,9 @@ module _ (dialect : Dialect) (text : List ℕ) where
 
   -- once a measurement is read
   by_comma : (m : Text) (suffix : List ℕ) → name a_measurement text ≡ reads m suffix → SomeRow
-  by_comma m [] named = by_series m None [] (alone m [] named (λ s. s))
-  by_comma m (c ∷ rest) named = elim (cases_Bool (c == 44)) [
-    | inl here ↦ by_tags m rest (named ∙ ap (λ (b : ℕ). reads m (b ∷ rest)) (eqb-true c 44 here)) (separated_list tag rest) refl
-    | inr other ↦ by_series m None (c ∷ rest) (alone m (c ∷ rest) named (λ s. both_ways (c == 44) other (eq-eqb c 44 s)))
+  by_comma m suffix named = elim (begins 44 suffix) [
+    | inl here ↦ by_tags m here.0 (named ∙ ap (reads m) here.1) (separated_list tag here.0) refl
+    | inr none ↦ by_series m None suffix (alone m suffix named none)
   ]
 
   -- by what the measurement is read as

@@ -10,7 +10,7 @@ use Rattle.influxdb_line_protocol.specs.format.Readings.{Fault, Text}
 use Rattle.influxdb_line_protocol.specs.format.Readings.{reads}
 use Rattle.influxdb_line_protocol.specs.format.Names.{NameKind, a_measurement, a_tag_key, a_tag_value, a_field_key, name}
 use Rattle.influxdb_line_protocol.specs.format.Values.{Value, value}
-use Rattle.influxdb_line_protocol.specs.format.Points.{Pair, Point}
+use Rattle.influxdb_line_protocol.specs.format.Points.{Pair, Point, Tag}
 use Rattle.influxdb_line_protocol.specs.format.Trimming.{trimmed}
 use Rattle.influxdb_line_protocol.specs.format.Lines.{Line, point_of, logical_tag, logical_field, some_tags, tag, field}
 use Rattle.influxdb_line_protocol.specs.format.Lines.{separated_list, tag_set, field_set, without_comma, spaces, timestamp}
@@ -65,7 +65,8 @@ field_set_parsed : (dialect : Dialect) (line rest : List ℕ) (fs : List (Pair T
 field_set_parsed dialect line rest fs h =
     let parts = bind_reads (separated_list field line) (λ xs. reads xs.value (without_comma dialect xs.value xs.rest)) fs rest h in
     let same : parts.first ≡ fs = cc (parts.next) in
-    subst (AllByRecursion ParsedField) same (joined_of ParsedField field field_parsed (λ t. (field_no_longer t).holds) line parts.mid parts.first parts.was)
+    subst (AllByRecursion ParsedField) same
+    (joined_of ParsedField field field_parsed (λ t. (field_no_longer t).holds) line parts.mid parts.first parts.was)
 
 -- what the parts of an answer were read from
 pub record Parts (dialect : Dialect) (line : List ℕ) (l : Line) : Type 0 where
@@ -154,16 +155,15 @@ all_of : {X : Type 0} (P : X → Type 0) (xs : List X) (x : X) → AllByRecursio
 all_of P [] x all h = absurd (nothing_in_nil x h)
 all_of P (y ∷ xs) x all h = elim (first_or_later y x xs h) [ inl same ↦ subst P same all.0 | inr later ↦ all_of P xs x all.1 later ]
 
--- what holds of each made element
-all_made : {X Y : Type 0} (P : Y → Type 0) (make : X → Y) (xs : List X) → AllByRecursion (λ x. P (make x)) xs
-    → AllByRecursion P (map make xs)
-all_made P make [] all = tt
-all_made P make (x ∷ xs) all = (all.0, all_made P make xs all.1)
+-- what each made element has from what it is made of
+all_made : {X Y : Type 0} (P : X → Type 0) (Q : Y → Type 0) (make : X → Y) → ((x : X) → P x → Q (make x)) → (xs : List X)
+    → AllByRecursion P xs → AllByRecursion Q (map make xs)
+all_made P Q make part [] all = tt
+all_made P Q make part (x ∷ xs) all = (part x all.0, all_made P Q make part xs all.1)
 
--- and of one part of each
-pub all_parts : {X : Type 0} (P Q : X → Type 0) → ((x : X) → P x → Q x) → (xs : List X) → AllByRecursion P xs → AllByRecursion Q xs
-all_parts P Q part [] all = tt
-all_parts P Q part (x ∷ xs) all = (part x all.0, all_parts P Q part xs all.1)
+-- both names of a tag are parsed names
+abbrev HasParsedNames : Tag → Type 0
+HasParsedNames t = IsParsedName a_tag_key t.key × IsParsedName a_tag_value t.value
 
 -- a point whose names are all parsed names
 pub record ParsedPoint (p : Point) : Type 0 where
@@ -179,25 +179,20 @@ line_parsed dialect text line begins h =
     record {
       measurement = name_parsed a_measurement text parts.measurement_rest line.measurement parts.measurement begins;
       tags =
-          all_made (λ t. IsParsedName a_tag_key t.key × IsParsedName a_tag_value t.value) logical_tag (some_tags line.tags)
+          all_made ParsedTag HasParsedNames logical_tag (λ t h. h) (some_tags line.tags)
           (tag_set_parsed parts.measurement_rest parts.tags_rest line.tags parts.tags);
       fields =
-          all_made (λ f. IsParsedName a_field_key f.key) logical_field line.fields
+          all_made ParsedField (λ f. IsParsedName a_field_key f.key) logical_field (λ f h. h) line.fields
           (field_set_parsed dialect (drop (spaces parts.tags_rest) parts.tags_rest) parts.fields_rest line.fields parts.fields);
     }
 
 -- the names of such a point
 point_names : (kind : NameKind) (p : Point) → ParsedPoint p → AllByRecursion (IsParsedName kind) (names_of kind p)
 point_names a_measurement p h = (h.measurement, tt)
-point_names a_tag_key p h =
-    all_made (IsParsedName a_tag_key) (λ t. t.key) p.tags
-    (all_parts (λ t. IsParsedName a_tag_key t.key × IsParsedName a_tag_value t.value)
-    (λ t. IsParsedName a_tag_key t.key) (λ t both. both.0) p.tags h.tags)
-point_names a_tag_value p h =
-    all_made (IsParsedName a_tag_value) (λ t. t.value) p.tags
-    (all_parts (λ t. IsParsedName a_tag_key t.key × IsParsedName a_tag_value t.value)
-    (λ t. IsParsedName a_tag_value t.value) (λ t both. both.1) p.tags h.tags)
-point_names a_field_key p h = all_made (IsParsedName a_field_key) (λ f. f.key) p.fields h.fields
+point_names a_tag_key p h = all_made HasParsedNames (IsParsedName a_tag_key) (λ t. t.key) (λ t both. both.0) p.tags h.tags
+point_names a_tag_value p h = all_made HasParsedNames (IsParsedName a_tag_value) (λ t. t.value) (λ t both. both.1) p.tags h.tags
+point_names a_field_key p h =
+    all_made (λ f. IsParsedName a_field_key f.key) (IsParsedName a_field_key) (λ f. f.key) (λ f h. h) p.fields h.fields
 
 -- the piece that an answer is given for
 pub record Answered (dialect : Dialect) (line : Line) : Type 0 where
