@@ -1,18 +1,18 @@
 -- The series of each line that is read is a parsed one.
-use Rattle.std.proofs.Common.{◌≡◌, ℕ, zero, suc, ◌-◌, ◌≤◌, Bool, List, [], ◌∷◌, ◌++◌, length, drop, refl, sym, ap, ◌∙◌, subst, inl, inr}
-use Rattle.std.proofs.Common.{arith, append_assoc, length-append, Option, Some, None, Ok}
+use Rattle.std.proofs.Common.{◌≡◌, ℕ, zero, suc, ◌≤◌, Bool, List, [], ◌∷◌, ◌++◌, length, drop, refl, sym, ap, ◌∙◌, subst, inl, inr}
+use Rattle.std.proofs.Common.{arith, append_assoc, Option, Some, None, Ok}
 use Rattle.std.specs.Prelude.{◌==◌}
-use Rattle.std.proofs.Math.Seq.{take-append_seam}
 use Rattle.std.proofs.lemmas.Bool.{cases_Bool}
 use Rattle.std.proofs.lemmas.List.{append_cancel_left, take-append-drop}
 use Rattle.influxdb_line_protocol.specs.laws.BaseLaws.{IsParsedSeries, ReadSeriesAreParsed}
-use Rattle.influxdb_line_protocol.specs.format.Lines.{after_comma, front_before, many, some_tags, tag, tag_set}
+use Rattle.influxdb_line_protocol.specs.format.Lines.{after_comma, many, some_tags, tag, tag_set}
 use Rattle.influxdb_line_protocol.specs.laws.Meanings.{IsAtStop, SeparatedAfterComma}
 use Rattle.influxdb_line_protocol.specs.format.Names.{NameKind, a_measurement, a_tag_key, a_tag_value, ends_in_backslash, escapable}
 use Rattle.influxdb_line_protocol.specs.format.Names.{is_stop, logical, name, read_text, spelled, spelled_len}
 use Rattle.influxdb_line_protocol.specs.format.Points.{Pair}
 use Rattle.influxdb_line_protocol.specs.format.Readings.{Reading, Text, reads}
 use Rattle.influxdb_line_protocol.proofs.lemmas.laws.bases_tell_series.BasesTellSeries.{set_separated}
+use Rattle.influxdb_line_protocol.proofs.lemmas.laws.batch_reads_back.LineReadsBack.{front_is}
 use Rattle.influxdb_line_protocol.proofs.lemmas.laws.parsed_names.ParsedNames.{answer_parts}
 use Rattle.influxdb_line_protocol.proofs.lemmas.fields.ReadingLemmas.{name_parts, pair_parts, reads_parts}
 use Rattle.influxdb_line_protocol.proofs.lemmas.laws.meanings.ShorterRests.{tag_no_longer}
@@ -150,12 +150,6 @@ set_read : (tags : List (Pair Text Text)) (text : List ℕ) → SeparatedAfterCo
     → tag_set text ≡ Ok (record { value = set_of tags; rest = [] })
 set_read [] text h = rw h refl
 set_read (t ∷ tags) text h = rw (h.2, h.3, many_read (length h.1) tags h.1 h.4 (separated_room tags h.1 [] h.4)) refl
-
--- the front before a rest of the line
-pub front_is : (line front rest : List ℕ) → line ≡ front ++ rest → front_before line rest ≡ front
-front_is line front rest e =
-    let n : length (front ++ rest) - length rest ≡ length front = omega (arith, length-append front rest) in
-    rw (e, n) (take-append_seam front rest)
 
 pub read_series_are_parsed : ReadSeriesAreParsed
 read_series_are_parsed dialect line l e =

@@ -15,6 +15,7 @@ use Rattle.std.proofs.lemmas.List.FromFn.{get_or-range_with_len}
 use Rattle.std.proofs.lemmas.List.Sums.{fails_before_first}
 use Rattle.std.proofs.lemmas.List.Sorted.{Contains-permutation, IsPermutation-sym, IsPermutation-trans}
 use Rattle.influxdb_line_protocol.specs.code.Bases.{by_key, first_repeated, in_order, is_repeated_at, keys_of, is_strictly_sorted}
+use Rattle.influxdb_line_protocol.specs.laws.BaseLaws.{entry_keys}
 use Rattle.influxdb_line_protocol.specs.format.Points.{Pair}
 use Rattle.influxdb_line_protocol.specs.format.Readings.{Text}
 use Rattle.influxdb_line_protocol.proofs.lemmas.series.BaseOrder.{AreNew, by_key_moves}
@@ -130,19 +131,23 @@ same_moved xs ys rise up moves =
     (λ e h. Contains-permutation ys xs e (IsPermutation-sym xs ys moves) h)
 
 -- keys that rise from one to the next rise
-pub less_from_test : (o : Ordering) → is_lt o ≡ true → o ≡ Less
+less_from_test : (o : Ordering) → is_lt o ≡ true → o ≡ Less
 less_from_test Less h = refl
 less_from_test Equal h = cc
 less_from_test Greater h = cc
 
-pub in_order_rises : (tags : List (Pair Text Text)) → is_strictly_sorted (keys_of tags) ≡ true → Rise (in_order tags)
-in_order_rises [] h = tt
-in_order_rises (t ∷ []) h = (tt, tt)
-in_order_rises (t ∷ u ∷ tags) h =
-    let parts = and_parts (is_lt (slice_cmp nat_cmp t.key.bytes u.key.bytes)) (is_strictly_sorted (keys_of (u ∷ tags))) h in
-    let less = less_from_test _ parts.0 in
-    let more = in_order_rises (u ∷ tags) parts.1 in
-    ((less, below_all t.key.bytes u.key.bytes (in_order tags) less more.0), more)
+pub passes_rise : (es : List (List ℕ × List ℕ)) → is_strictly_sorted (entry_keys es) ≡ true → Rise es
+passes_rise [] h = tt
+passes_rise (e ∷ []) h = (tt, tt)
+passes_rise (e ∷ f ∷ es) h =
+    let parts = and_parts (is_lt (slice_cmp nat_cmp e.0 f.0)) (is_strictly_sorted (entry_keys (f ∷ es))) h in
+    let more = passes_rise (f ∷ es) parts.1 in
+    ((less_from_test _ parts.0, below_all e.0 f.0 es (less_from_test _ parts.0) more.0), more)
+
+-- the keys of the tags as entries
+keys_in_order : (tags : List (Pair Text Text)) → entry_keys (in_order tags) ≡ keys_of tags
+keys_in_order [] = refl
+keys_in_order (t ∷ tags) = ap (λ (ks : List (List ℕ)). t.key.bytes ∷ ks) (keys_in_order tags)
 
 -- one tag more
 in_order_push : (front : List (Pair Text Text)) (t : Pair Text Text)
@@ -203,7 +208,8 @@ by_key_permutes tags once =
 -- where the keys rise, that is their own order
 pub by_key_in_order : (tags : List (Pair Text Text)) → first_repeated (keys_of tags) ≡ length tags
     → is_strictly_sorted (keys_of tags) ≡ true → in_order tags ≡ by_key tags
-by_key_in_order tags once rise = same_moved (in_order tags) (by_key tags) (in_order_rises tags rise)
+by_key_in_order tags once rise = same_moved (in_order tags) (by_key tags)
+    (passes_rise (in_order tags) (ap is_strictly_sorted (keys_in_order tags) ∙ rise))
     (by_key_rises tags) (by_key_permutes tags once)
 
 -- the same tags in another order are the same by their keys

@@ -197,15 +197,10 @@ pub around : (kind : NameKind) (n : List ℕ) (f : FatalName kind n) (more : Lis
     → spelling kind n ++ more ≡ spelling kind f.front ++ f.stop ∷ (f.after ++ more)
 around kind n f more = ap (λ (xs : List ℕ). xs ++ more) f.is ∙ append_assoc (spelling kind f.front) (f.stop ∷ f.after) more
 
--- a measurement that stops too early
-fatal_measurement_answer : (dialect : Dialect) (line : List ℕ) → name a_measurement line ≡ fatal ends_with_backslash
-    → answer dialect line ≡ Err ends_with_backslash
-unfolding answer
-fatal_measurement_answer dialect line e = rw e refl
-
 -- a line whose measurement stops too early
 pub measurement_fails : (n more : List ℕ) → IsParsedName a_measurement n → FatalName a_measurement n
     → Fails (spelling a_measurement n ++ more)
+unfolding answer
 measurement_fails n more h f =
     record {
       front = spelling a_measurement f.front;
@@ -214,6 +209,5 @@ measurement_fails n more h f =
       is = around a_measurement n f more;
       begins = λ rest. spelled_begins f.spelled f.some (λ e. h.begins (sym f.first ∙ e)) rest;
       reached = inl (reaches_head f.spelled [] reaches_start).1.0;
-      answered = λ dialect rest stops. fatal_measurement_answer dialect (spelling a_measurement f.front ++ rest)
-          (fatal_here a_measurement n f rest stops);
+      answered = λ dialect rest stops. rw (fatal_here a_measurement n f rest stops) refl;
     }

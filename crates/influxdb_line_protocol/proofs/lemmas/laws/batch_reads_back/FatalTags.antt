@@ -5,17 +5,16 @@ use Rattle.std.specs.List.{AllByRecursion, list_all, flat_map}
 use Rattle.std.proofs.lemmas.Bool.{cases_Bool, false≢true, and_parts}
 use Rattle.std.proofs.lemmas.List.{length-append}
 use Rattle.influxdb_line_protocol.proofs.lemmas.split.SplitWalk.{Head}
-use Rattle.influxdb_line_protocol.specs.format.Readings.{ends_with_backslash, Text, Reading, fatal, reads}
-use Rattle.influxdb_line_protocol.specs.format.Names.{a_tag_key, a_tag_value, name}
+use Rattle.influxdb_line_protocol.specs.format.Readings.{ends_with_backslash, Reading, fatal, reads}
+use Rattle.influxdb_line_protocol.specs.format.Names.{a_tag_key, a_tag_value}
 use Rattle.influxdb_line_protocol.specs.format.Points.{Tag, is_admitted_name, is_admitted_tag, spelling, built_tag}
 use Rattle.influxdb_line_protocol.specs.format.Lines.{tag, after_comma, many, separated_list}
 use Rattle.influxdb_line_protocol.specs.laws.NamesOfLines.{IsParsedName}
-use Rattle.influxdb_line_protocol.proofs.lemmas.laws.batch_reads_back.NameReadsBack.{name_reads_back, read_name}
 use Rattle.influxdb_line_protocol.proofs.lemmas.laws.batch_reads_back.ReadLines.{read_tag}
 use Rattle.influxdb_line_protocol.proofs.lemmas.laws.batch_reads_back.PartsReadBack.{tag_text, tag_reads_back}
-use Rattle.influxdb_line_protocol.proofs.lemmas.laws.batch_reads_back.Reaches.{Reaches, reaches_name}
+use Rattle.influxdb_line_protocol.proofs.lemmas.laws.batch_reads_back.Reaches.{Reaches}
 use Rattle.influxdb_line_protocol.proofs.lemmas.laws.batch_reads_back.LinePieces.{AdmittedTag}
-use Rattle.influxdb_line_protocol.proofs.lemmas.laws.parsed_names.Spellings.{reaches_head, reaches_other}
+use Rattle.influxdb_line_protocol.proofs.lemmas.laws.parsed_names.Spellings.{name_reads_back, reaches_name, reaches_head, reaches_other}
 use Rattle.influxdb_line_protocol.proofs.lemmas.laws.batch_reads_back.FatalNames.{StopsWith, FatalName, fatal_name, fatal_here, around}
 
 -- what is fatal for all that are joined by commas, the first of which this is or which come after others
@@ -55,17 +54,6 @@ record TagFails (t : Tag) : Type 0 where
   reached : (piece : List ℕ) → Reaches Head 0 0 piece → Reaches Head 0 0 (piece ++ front)
   fails : (rest : List ℕ) → StopsWith stop rest → tag (front ++ rest) ≡ fatal ends_with_backslash
 
--- a key that is fatal is so for its tag
-fatal_key : (line : List ℕ) → name a_tag_key line ≡ fatal ends_with_backslash → tag line ≡ fatal ends_with_backslash
-unfolding tag
-fatal_key line e = rw e refl
-
--- a value that is fatal is so for its tag
-fatal_value : (line after : List ℕ) (k : Text) → name a_tag_key line ≡ reads k (61 ∷ after)
-    → name a_tag_value after ≡ fatal ends_with_backslash → tag line ≡ fatal ends_with_backslash
-unfolding tag
-fatal_value line after k e f = rw (e, f) refl
-
 -- a key and what comes after its `=`
 reaches_after_key : (k value : List ℕ) → is_admitted_name a_tag_key k ≡ true
     → ((piece : List ℕ) → Reaches Head 0 0 piece → Reaches Head 0 0 (piece ++ value))
@@ -78,6 +66,7 @@ reaches_after_key k value ok more piece r =
 
 -- a tag whose key stops too early
 key_fails : (t : Tag) → FatalName a_tag_key t.key → TagFails t
+unfolding tag
 key_fails t f =
     record {
       front = spelling a_tag_key f.front;
@@ -85,11 +74,12 @@ key_fails t f =
       after = f.after ++ 61 ∷ spelling a_tag_value t.value;
       is = around a_tag_key t.key f (61 ∷ spelling a_tag_value t.value);
       reached = λ piece r. reaches_head f.spelled piece r;
-      fails = λ rest stops. fatal_key (spelling a_tag_key f.front ++ rest) (fatal_here a_tag_key t.key f rest stops);
+      fails = λ rest stops. rw (fatal_here a_tag_key t.key f rest stops) refl;
     }
 
 -- a tag whose value does
 value_fails : (t : Tag) → is_admitted_name a_tag_key t.key ≡ true → FatalName a_tag_value t.value → TagFails t
+unfolding tag
 value_fails t ok f =
     let key = spelling a_tag_key t.key in
     let value = spelling a_tag_value f.front in
@@ -100,9 +90,11 @@ value_fails t ok f =
       is = ap (λ (xs : List ℕ). key ++ 61 ∷ xs) f.is ∙ sym (append_assoc key (61 ∷ value) (f.stop ∷ f.after));
       reached = λ piece r. reaches_after_key t.key value ok (λ q h. reaches_head f.spelled q h) piece r;
       fails = λ rest stops.
-          fatal_value ((key ++ 61 ∷ value) ++ rest) (value ++ rest) (read_name a_tag_key t.key)
-          (ap (name a_tag_key) (append_assoc key (61 ∷ value) rest) ∙ name_reads_back a_tag_key t.key (value ++ rest) 61 ok refl)
-          (fatal_here a_tag_value t.value f rest stops);
+          rw (
+            append_assoc key (61 ∷ value) rest,
+            name_reads_back a_tag_key t.key (value ++ rest) 61 ok refl,
+            fatal_here a_tag_value t.value f rest stops,
+          ) refl;
     }
 
 -- a tag whose names are parsed names, not both of them admitted

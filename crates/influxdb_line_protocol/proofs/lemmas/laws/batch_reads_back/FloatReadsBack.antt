@@ -1,6 +1,6 @@
 -- A float reads back as it was written.
-use Rattle.std.proofs.Common.{◌≡◌, ◌≢◌, ℕ, suc, ◌+◌, ◌<◌, List, [], ◌∷◌, ◌++◌, length, take, drop, slice_index, true, false, refl, sym, ap}
-use Rattle.std.proofs.Common.{◌∙◌, arith, inl, inr, one-add, zero-add, add-zero}
+use Rattle.std.proofs.Common.{◌≡◌, ◌≢◌, ℕ, ◌+◌, ◌<◌, List, [], ◌∷◌, ◌++◌, length, take, drop, slice_index, true, false, refl, sym, ap}
+use Rattle.std.proofs.Common.{◌∙◌, arith, inl, inr, one-add, add-zero}
 use Rattle.std.specs.Prelude.{◌==◌, codes}
 use Rattle.std.specs.Char.{is_ascii_digit}
 use Rattle.std.specs.Str.Parse.{IsNumeral}
@@ -13,26 +13,13 @@ use Rattle.influxdb_line_protocol.specs.format.Values.{Value, IsFloat, IsMarked,
 use Rattle.influxdb_line_protocol.specs.format.Values.{digits_len, number_len, marked_len, integer_len, fraction_len, exponent_len}
 use Rattle.influxdb_line_protocol.specs.format.Values.{float_len}
 use Rattle.influxdb_line_protocol.proofs.lemmas.values.ValueLemmas.{integer_unmarked, unsigned_unmarked}
-use Rattle.influxdb_line_protocol.proofs.lemmas.laws.batch_reads_back.IntegerReadsBack.{digits_before}
-use Rattle.influxdb_line_protocol.proofs.lemmas.literals.FloatLemmas.{digit_passes, signed_some, minus_no_digit, sign_no_digit}
+use Rattle.influxdb_line_protocol.proofs.lemmas.laws.batch_reads_back.IntegerReadsBack.{digits_before, signed_len}
+use Rattle.influxdb_line_protocol.proofs.lemmas.literals.FloatLemmas.{signed_some, minus_no_digit, sign_no_digit}
 
 -- no digit at the start
 no_digits : (text : List ℕ) → is_ascii_digit (slice_index text 0) ≡ false → digits_len text ≡ 0
 no_digits [] h = refl
 no_digits (b ∷ text) h = rw h refl
-
--- a sign or none, and digits
-signed_len : (signs text tail : List ℕ) → ((d : ℕ) → is_ascii_digit d ≡ true → is_one_of signs d ≡ false)
-    → IsSigned signs text → digits_len tail ≡ 0
-    → number_len signs (text ++ tail) ≡ length text
-signed_len signs [] tail apart never ends = absurd never
-signed_len signs (b ∷ ds) tail apart (inl signed) ends =
-    let some_digit : (length ds == 0) ≡ false = ne_eqb (length ds) 0 (λ e. absurd (omega (arith, signed.1.0))) in
-    rw (signed.0, digits_before ds tail signed.1.1 ends, some_digit, one-add) refl
-signed_len signs (b ∷ ds) tail apart (inr numeral) ends =
-    let first = digit_passes b numeral.1.0 in
-    let some_digit : (suc (length ds) == 0) ≡ false = ne_eqb (suc (length ds)) 0 (λ e. absurd (omega arith)) in
-    rw (apart b first, first, digits_before ds tail numeral.1.1 ends, one-add, some_digit, zero-add) refl
 
 -- a mark and a part, or nothing
 marked_len_is : (marks : List ℕ) (part : List ℕ → ℕ) (Part : List ℕ → Type 0) (text tail : List ℕ) → IsMarked marks Part text

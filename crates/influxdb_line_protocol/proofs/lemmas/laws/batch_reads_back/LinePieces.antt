@@ -5,18 +5,17 @@ use Rattle.std.specs.Prelude.{◌==◌, ℤ, pos, negsuc, not, codes, decimal, I
 use Rattle.std.specs.List.{AllByRecursion, list_all, flat_map}
 use Rattle.std.specs.Fmt.{signed_decimal}
 use Rattle.std.specs.Str.Parse.{AllDigits, IsNumeral}
-use Rattle.std.proofs.lemmas.Bool.{cases_Bool, and_parts, and_from, ne_eqb}
+use Rattle.std.proofs.lemmas.Bool.{cases_Bool, and_parts, and_from, or_cases, eqb-true, false≢true}
 use Rattle.std.proofs.lemmas.Grind.{common_steps}
 use Rattle.std.proofs.lemmas.Fmt.{decimal_is_IsNumeral}
 use Rattle.std.proofs.lemmas.Str.Parse.{digit_from_value}
 use Rattle.std.proofs.lemmas.List.Folds.{list_all-append}
-use Rattle.std.proofs.lemmas.List.{length-append}
 use Rattle.influxdb_line_protocol.proofs.lemmas.split.SplitWalk.{Part, Head, Plain, Quoted, Head-space, Head-other, Plain-equals}
 use Rattle.influxdb_line_protocol.proofs.lemmas.split.SplitWalk.{Plain-comma, Plain-opens, Plain-other, Quoted-closes, Quoted-other}
 use Rattle.influxdb_line_protocol.specs.format.Dialects.{Dialect, Crate, Strict}
 use Rattle.influxdb_line_protocol.specs.format.Bytes.{is_one_of}
 use Rattle.influxdb_line_protocol.specs.format.Escapes.{escaped}
-use Rattle.influxdb_line_protocol.specs.format.Names.{a_measurement, a_tag_key, a_tag_value, a_field_key, escapable, is_escapable}
+use Rattle.influxdb_line_protocol.specs.format.Names.{a_measurement, a_tag_key, a_tag_value, a_field_key}
 use Rattle.influxdb_line_protocol.specs.format.Values.{Value, integer, unsigned, float, string, boolean, quotable, fits_i64, IsSigned}
 use Rattle.influxdb_line_protocol.specs.format.Values.{IsMarked, IsFloat}
 use Rattle.influxdb_line_protocol.specs.format.Points.{Point, IsPoint, Tag, Field, IsValue, is_admitted_tag, is_admitted_field}
@@ -24,14 +23,11 @@ use Rattle.influxdb_line_protocol.specs.format.Points.{is_admitted_point, line_o
 use Rattle.influxdb_line_protocol.specs.format.Points.{built_value, spelling, is_admitted_name}
 use Rattle.influxdb_line_protocol.specs.format.Pieces.{IsCutPiece, begins_comment}
 use Rattle.influxdb_line_protocol.proofs.lemmas.split.SplitBare.{is_escaped-push_other}
-use Rattle.influxdb_line_protocol.specs.format.Trimming.{trimmed}
-use Rattle.influxdb_line_protocol.proofs.lemmas.laws.batch_reads_back.NameReadsBack.{admitted_parts, begins_otherwise, may_hold}
-use Rattle.influxdb_line_protocol.proofs.lemmas.laws.batch_reads_back.NameReadsBack.{spelling_nonempty, escaped_found, escaped_plain}
-use Rattle.influxdb_line_protocol.proofs.lemmas.line.TrimLemmas.{is_blank, trimmed_is}
 use Rattle.influxdb_line_protocol.proofs.lemmas.values.ValueLemmas.{fits_from_test}
 use Rattle.influxdb_line_protocol.proofs.lemmas.laws.batch_reads_back.Reaches.{Reaches, reaches_start, ChangesNothing, reaches_byte}
-use Rattle.influxdb_line_protocol.proofs.lemmas.laws.batch_reads_back.Reaches.{reaches_escaped, no_newline, no_backslash, no_space}
-use Rattle.influxdb_line_protocol.proofs.lemmas.laws.batch_reads_back.Reaches.{reaches_name, reaches_key}
+use Rattle.influxdb_line_protocol.proofs.lemmas.laws.batch_reads_back.Reaches.{reaches_pair}
+use Rattle.influxdb_line_protocol.proofs.lemmas.laws.parsed_names.Spellings.{admitted_spelled, measurement_begins, reaches_name}
+use Rattle.influxdb_line_protocol.proofs.lemmas.laws.parsed_names.Spellings.{reaches_field_key, BeginsLine, line_no_comment}
 
 -- a byte that means nothing in a plain stretch
 abbrev is_simple : ℕ → Bool
@@ -40,12 +36,10 @@ is_simple b = not (is_one_of (92 ∷ 61 ∷ 44 ∷ 10 ∷ 34 ∷ []) b)
 -- such a byte changes nothing
 simple_same : (e c b : ℕ) → is_simple b ≡ true → ChangesNothing Plain e c b
 simple_same e c b simple =
-    let no_backslash : b ≢ 92 = λ i. let h : is_simple b ≡ false = ap is_simple i in cc in
-    let no_equals : b ≢ 61 = λ i. let h : is_simple b ≡ false = ap is_simple i in cc in
-    let no_comma : b ≢ 44 = λ i. let h : is_simple b ≡ false = ap is_simple i in cc in
-    let no_newline : b ≢ 10 = λ i. let h : is_simple b ≡ false = ap is_simple i in cc in
-    let no_quote : b ≢ 34 = λ i. let h : is_simple b ≡ false = ap is_simple i in cc in
-    (no_backslash, λ q f h. Plain-other e c q b f no_equals no_comma no_newline (λ i. absurd (no_quote i)) h)
+    let differs : (k : ℕ) → is_simple k ≡ false → b ≢ k = λ k no i. cc (simple, no, ap is_simple i) in (
+      differs 92 refl,
+      λ q f h. Plain-other e c q b f (differs 61 refl) (differs 44 refl) (differs 10 refl) (λ i. absurd (differs 34 refl i)) h,
+    )
 
 abbrev pub IsSimple : List ℕ → Type 0
 IsSimple text = list_all is_simple text ≡ true
@@ -64,13 +58,7 @@ reaches_simple e c (b ∷ text) piece all r =
 
 -- numbers are simple
 simple_digit : (b : ℕ) → 48 ≤ b → b ≤ 57 → is_simple b ≡ true
-simple_digit b least most = rw (
-  ne_eqb 92 b (λ e. absurd (omega arith)),
-  ne_eqb 61 b (λ e. absurd (omega arith)),
-  ne_eqb 44 b (λ e. absurd (omega arith)),
-  ne_eqb 10 b (λ e. absurd (omega arith)),
-  ne_eqb 34 b (λ e. absurd (omega arith)),
-) refl
+simple_digit b least most = grind (arith, common_steps)
 
 -- so are digits
 simple_digits : (ds : List ℕ) → AllDigits 10 ds → IsSimple ds
@@ -90,48 +78,57 @@ simple_signed (negsuc n) fits =
     let small : n < 2 ^ 63 = (fits_from_test (negsuc n) fits).sfits in
     and_from (is_simple 45) (list_all is_simple (decimal (suc n))) refl (simple_decimal (suc n) (omega arith))
 
+-- a byte of a simple text
+simple_one : (text : List ℕ) (b : ℕ) → IsSimple text → is_one_of text b ≡ true → is_simple b ≡ true
+simple_one [] b all h = absurd (false≢true h)
+simple_one (c ∷ text) b all h =
+    let parts = and_parts (is_simple c) (list_all is_simple text) all in
+    elim (or_cases (c == b) (is_one_of text b) h) [
+      | inl same ↦ ap is_simple (sym (eqb-true c b same)) ∙ parts.0
+      | inr more ↦ simple_one text b parts.1 more
+    ]
+
 -- a sign or none, and digits
-simple_sign : (signs : List ℕ) (ds : List ℕ) → ((b : ℕ) → is_one_of signs b ≡ true → is_simple b ≡ true) → IsSigned signs ds → IsSimple ds
+simple_sign : (signs : List ℕ) (ds : List ℕ) → IsSimple signs → IsSigned signs ds → IsSimple ds
 simple_sign signs [] of never = absurd never
-simple_sign signs (b ∷ ds) of (inl signed) = and_from (is_simple b) (list_all is_simple ds) (of b signed.0) (simple_digits ds signed.1.1)
+simple_sign signs (b ∷ ds) of (inl signed) =
+    and_from (is_simple b) (list_all is_simple ds) (simple_one signs b of signed.0) (simple_digits ds signed.1.1)
 simple_sign signs (b ∷ ds) of (inr numeral) = simple_digits (b ∷ ds) numeral.1
 
 -- a mark and a part, or nothing
-simple_mark : (marks : List ℕ) (Part : List ℕ → Type 0) (text : List ℕ) → ((b : ℕ) → is_one_of marks b ≡ true → is_simple b ≡ true)
+simple_mark : (marks : List ℕ) (Part : List ℕ → Type 0) (text : List ℕ) → IsSimple marks
     → ((x : List ℕ) → Part x → IsSimple x) → IsMarked marks Part text → IsSimple text
 simple_mark marks Part [] of part marked = refl
-simple_mark marks Part (b ∷ x) of part marked = and_from (is_simple b) (list_all is_simple x) (of b marked.0) (part x marked.1)
-
--- the signs and marks of floats
-minus_simple : (b : ℕ) → is_one_of (codes "-") b ≡ true → is_simple b ≡ true
-minus_simple b h = grind (arith, common_steps)
-
--- those of exponents
-sign_simple : (b : ℕ) → is_one_of (codes "+-") b ≡ true → is_simple b ≡ true
-sign_simple b h = grind (arith, common_steps)
-
--- the point
-point_simple : (b : ℕ) → is_one_of (codes ".") b ≡ true → is_simple b ≡ true
-point_simple b h = grind (arith, common_steps)
-
--- the letters before an exponent
-exponent_simple : (b : ℕ) → is_one_of (codes "eE") b ≡ true → is_simple b ≡ true
-exponent_simple b h = grind (arith, common_steps)
+simple_mark marks Part (b ∷ x) of part marked =
+    and_from (is_simple b) (list_all is_simple x) (simple_one marks b of marked.0) (part x marked.1)
 
 -- and floats
 simple_float : (t : List ℕ) → IsFloat t → IsSimple t
 simple_float t parts =
     subst IsSimple (sym parts.3)
-    (IsSimple-append parts.0 (parts.1 ++ parts.2) (simple_sign (codes "-") parts.0 minus_simple parts.4)
+    (IsSimple-append parts.0 (parts.1 ++ parts.2) (simple_sign (codes "-") parts.0 refl parts.4)
     (IsSimple-append parts.1 parts.2
-    (simple_mark (codes ".") (IsNumeral 10) parts.1 point_simple (λ x numeral. simple_digits x numeral.1) parts.5)
-    (simple_mark (codes "eE") (IsSigned (codes "+-")) parts.2 exponent_simple
-    (λ x signed. simple_sign (codes "+-") x sign_simple signed) parts.6)))
+    (simple_mark (codes ".") (IsNumeral 10) parts.1 refl (λ x numeral. simple_digits x numeral.1) parts.5)
+    (simple_mark (codes "eE") (IsSigned (codes "+-")) parts.2 refl
+    (λ x signed. simple_sign (codes "+-") x refl signed) parts.6)))
 
--- a test that each byte passes
-all_pass : (text : List ℕ) → list_all (λ b. true) text ≡ true
-all_pass [] = refl
-all_pass (b ∷ text) = all_pass text
+-- a byte of a string, with a backslash or without
+reaches_quotable : (e c : ℕ) (s piece : List ℕ) → Reaches Quoted e c piece → Reaches Quoted e c (piece ++ escaped quotable s)
+unfolding escaped
+reaches_quotable e c [] piece r = subst (Reaches Quoted e c) (sym (append-nil piece)) r
+reaches_quotable e c (b ∷ s) piece r =
+    elim (cases_Bool (is_one_of quotable b)) [
+      | inl found ↦ rw found (subst (Reaches Quoted e c) (append_assoc piece (92 ∷ b ∷ []) (escaped quotable s))
+          (reaches_quotable e c s (piece ++ 92 ∷ b ∷ []) (reaches_pair Quoted e c piece b r)))
+      | inr plain ↦ rw plain (subst (Reaches Quoted e c) (append_assoc piece (b ∷ []) (escaped quotable s))
+          (reaches_quotable e c s (piece ++ b ∷ []) (reaches_byte Quoted e c piece b (same plain) r)))
+    ]
+  where
+    same : is_one_of quotable b ≡ false → ChangesNothing Quoted e c b
+    same plain = (
+      λ i. cc (plain, ap (is_one_of quotable) i),
+      λ q f h. Quoted-other e c q b f (λ i. cc (plain, ap (is_one_of quotable) i)) h,
+    )
 
 -- a string opens after an `=`, and closes
 reaches_string : (m : ℕ) (s piece : List ℕ) → Reaches Plain (m + 1) m piece → Reaches Plain (m + 1) m (piece ++ built_value (string s))
@@ -139,19 +136,13 @@ reaches_string m s piece r =
     let opened : Reaches Quoted (m + 1) m
     (piece ++ 34 ∷ []) = (is_escaped-push_other piece 34 (omega arith), Plain-opens (m + 1) m piece r.0 (omega arith) r.1) in
     let body : Reaches Quoted (m + 1) m ((piece ++ 34 ∷ []) ++ escaped quotable s) =
-    reaches_escaped Quoted (m + 1) m quotable (λ b. true) quotable_same s (piece ++ 34 ∷ []) (all_pass s) opened in
+    reaches_quotable (m + 1) m s (piece ++ 34 ∷ []) opened in
     let text = (piece ++ 34 ∷ []) ++ escaped quotable s in
     let closed : Reaches Plain (m + 1) m
     (text ++ 34 ∷ []) = (is_escaped-push_other text 34 (omega arith), Quoted-closes (m + 1) m text body.0 body.1) in
     subst (Reaches Plain (m + 1) m)
     (append_assoc (piece ++ 34 ∷ []) (escaped quotable s) (34 ∷ [])
     ∙ append_assoc piece (34 ∷ []) (escaped quotable s ++ 34 ∷ [])) closed
-  where
-    quotable_same : (b : ℕ) → true ≡ true → is_one_of quotable b ≡ false → ChangesNothing Quoted (m + 1) m b
-    quotable_same b any plain =
-        let no_backslash : b ≢ 92 = λ i. let h : is_one_of quotable b ≡ true = ap (is_one_of quotable) i in cc in
-        let no_quote : b ≢ 34 = λ i. let h : is_one_of quotable b ≡ true = ap (is_one_of quotable) i in cc in
-        (no_backslash, λ q f h. Quoted-other (m + 1) m q b f no_quote h)
 
 -- a value, after its `=`
 reaches_value : (m : ℕ) (v : Value (List ℕ)) (piece : List ℕ) → IsValue v → Reaches Plain (m + 1) m piece
@@ -175,7 +166,7 @@ AdmittedField f = (is_admitted_name a_field_key f.key ≡ true) × IsValue f.val
 pub reaches_field : (m : ℕ) (f : Field) (piece : List ℕ) → AdmittedField f → Reaches Plain m m piece
     → Reaches Plain (m + 1) m (piece ++ built_field f)
 reaches_field m f piece ok r =
-    let key = reaches_key m f.key piece ok.0 r in
+    let key = reaches_field_key m (admitted_spelled a_field_key f.key ok.0) piece r in
     let text = piece ++ spelling a_field_key f.key in
     let sign : Reaches Plain (m + 1) m
     (text ++ 61 ∷ []) = (is_escaped-push_other text 61 (omega arith), Plain-equals m m text key.0 key.1) in
@@ -250,46 +241,6 @@ reaches_line n ts f fs t named tagged first more stamped =
     let whole = reaches_timestamp t (((front ++ 32 ∷ []) ++ built_field f) ++ built_fields 44 fs) stamped fields in
     subst AfterFields (simp append_assoc) whole
 
--- the first byte of a measurement
-pub first_byte : (b : ℕ) (n : List ℕ) → is_admitted_name a_measurement (b ∷ n) ≡ true
-    → (may_hold a_measurement b ≡ true) × ((b == 35) ≡ false)
-first_byte b n ok =
-    let all : list_all (may_hold a_measurement) (b ∷ n) ≡ true = (admitted_parts a_measurement (b ∷ n) ok).may in
-    ((and_parts (may_hold a_measurement b) (list_all (may_hold a_measurement) n) all).0, begins_otherwise b n ok)
-
--- no comment begins with a measurement
-measurement_is_no_comment : (n rest : List ℕ) → is_admitted_name a_measurement n ≡ true
-    → begins_comment (spelling a_measurement n ++ rest) ≡ false
-measurement_is_no_comment [] rest ok = absurd ((admitted_parts a_measurement [] ok).some refl)
-measurement_is_no_comment (b ∷ n) rest ok =
-    let first = first_byte b n ok in
-    elim (cases_Bool (is_escapable a_measurement b)) [
-      | inl known ↦ rw (escaped_found (escapable a_measurement) n b known) refl
-      | inr plain ↦
-          let no_tab : b ≢ 9 = λ i. let h : may_hold a_measurement b ≡ false = ap (may_hold a_measurement) i in cc in
-          rw (
-            escaped_plain (escapable a_measurement) n b plain,
-            first.1,
-            ne_eqb b 32 (no_space a_measurement b plain),
-            ne_eqb b 9 no_tab,
-          ) refl
-    ]
-
--- nothing is trimmed off at the start of a measurement
-measurement_untrimmed : (n rest : List ℕ) → is_admitted_name a_measurement n ≡ true
-    → trimmed (spelling a_measurement n ++ rest) ≡ spelling a_measurement n ++ rest
-measurement_untrimmed [] rest ok = absurd ((admitted_parts a_measurement [] ok).some refl)
-measurement_untrimmed (b ∷ n) rest ok =
-    let first = first_byte b n ok in
-    trimmed_is (spelling a_measurement (b ∷ n) ++ rest) ∙
-    elim (cases_Bool (is_escapable a_measurement b)) [
-      | inl known ↦ rw (escaped_found (escapable a_measurement) n b known) refl
-      | inr plain ↦
-          let no_newline : (b == 10) ≡ false = grind (arith, common_steps) in
-          let no_blank : is_blank b ≡ false = grind (arith, common_steps) in
-          rw (escaped_plain (escapable a_measurement) n b plain, no_newline, first.1, no_blank) refl
-    ]
-
 -- what a newline may end, in both dialects
 is_cut_piece : (dialect : Dialect) (text : List ℕ) → begins_comment text ≡ false → AfterFields text → IsCutPiece dialect text
 is_cut_piece Crate text none r = (inr (r.1.1.0, r.1.1.1), r.1.0)
@@ -351,22 +302,9 @@ line_is_cut_piece dialect p ok = subst (IsCutPiece dialect) (sym (line_parts p))
         → IsCutPiece dialect (spelling a_measurement n ++ (flat_map built_tag ts ++ (built_fields 32 fs ++ built_timestamp t)))
     whole n ts [] t named tagged fielded some stamped = absurd (omega arith)
     whole n ts (f ∷ fs) t named tagged fielded some stamped =
-        is_cut_piece dialect _ (measurement_is_no_comment n _ named) (reaches_line n ts f fs t named tagged fielded.0 fielded.1 stamped)
+        is_cut_piece dialect _ (line_no_comment _ (measurement_begins n _ named))
+        (reaches_line n ts f fs t named tagged fielded.0 fielded.1 stamped)
 
--- nothing is trimmed off the line of an admitted point, and it is not empty
-pub line_untrimmed : (p : Point) → IsAdmitted p → trimmed (line_of p) ≡ line_of p
-line_untrimmed p ok =
-    rw (line_parts p) (measurement_untrimmed p.measurement
-    (flat_map built_tag p.tags ++ (built_fields 32 p.fields ++ built_timestamp p.timestamp)) ok.measurement)
-
--- a line is not empty
-pub line_some : (p : Point) → IsAdmitted p → 0 < length (line_of p)
-line_some p ok =
-    let some : 0 < length (spelling a_measurement p.measurement) = spelling_nonempty a_measurement p.measurement
-    (admitted_parts a_measurement p.measurement ok.measurement).some in
-    rw (line_parts p) (omega (
-      arith,
-      some,
-      length-append (spelling a_measurement p.measurement)
-          (flat_map built_tag p.tags ++ (built_fields 32 p.fields ++ built_timestamp p.timestamp)),
-    ))
+-- the line of an admitted point begins with no blank, no newline and no `#`
+pub line_begins : (p : Point) → IsAdmitted p → BeginsLine (line_of p)
+line_begins p ok = subst BeginsLine (sym (line_parts p)) (measurement_begins p.measurement _ ok.measurement)

@@ -1,40 +1,29 @@
 -- The line of a point reads back as the point.
-use Rattle.std.proofs.Common.{◌≡◌, ◌≢◌, ℕ, ◌-◌, ◌<◌, List, [], ◌∷◌, ◌++◌, length, map, true, refl, sym, ap, ◌∙◌, arith, inl, inr, Ok}
+use Rattle.std.proofs.Common.{◌≡◌, ℕ, ◌-◌, ◌<◌, List, [], ◌∷◌, ◌++◌, length, map, true, refl, sym, ap, ◌∙◌, arith, Ok}
 use Rattle.std.proofs.Common.{Option}
 use Rattle.std.specs.Prelude.{ℤ, IfSome}
 use Rattle.std.specs.List.{flat_map, AllByRecursion}
 use Rattle.influxdb_line_protocol.specs.format.Dialects.{Dialect}
-use Rattle.std.proofs.lemmas.Bool.{cases_Bool, ne_eqb}
-use Rattle.std.proofs.lemmas.List.{append_assoc, take_at, length-append}
-use Rattle.influxdb_line_protocol.specs.format.Names.{NameKind, a_measurement, a_field_key, escapable, is_escapable, name}
+use Rattle.std.proofs.lemmas.List.{append_assoc, length-append}
+use Rattle.std.proofs.Math.Seq.{take-append_seam}
+use Rattle.influxdb_line_protocol.specs.format.Names.{a_measurement, a_field_key, name}
 use Rattle.influxdb_line_protocol.specs.format.Readings.{Text, reads}
 use Rattle.influxdb_line_protocol.specs.format.Values.{Value, fits_i64}
 use Rattle.influxdb_line_protocol.specs.format.Points.{Pair, Point, Tag, Field, built_value, built_field, built_fields, built_tag}
 use Rattle.influxdb_line_protocol.specs.format.Points.{built_timestamp, line_of, is_admitted_name, spelling}
 use Rattle.influxdb_line_protocol.specs.format.Lines.{answer, field_set, front_before, spaces, tag_set, timestamp}
-use Rattle.influxdb_line_protocol.proofs.lemmas.laws.batch_reads_back.NameReadsBack.{admitted_parts, name_reads_back, read_name}
-use Rattle.influxdb_line_protocol.proofs.lemmas.laws.batch_reads_back.NameReadsBack.{escaped_found, escaped_plain, space_escapable}
+use Rattle.influxdb_line_protocol.proofs.lemmas.laws.batch_reads_back.NameReadsBack.{admitted_parts, read_name}
+use Rattle.influxdb_line_protocol.proofs.lemmas.laws.parsed_names.Spellings.{admitted_spelled, name_reads_back, spelled_spaces}
 use Rattle.influxdb_line_protocol.proofs.lemmas.laws.batch_reads_back.ReadLines.{read_line, read_tags, read_field}
 use Rattle.influxdb_line_protocol.proofs.lemmas.laws.batch_reads_back.LinePieces.{AdmittedTag, AdmittedField, IsAdmitted, line_parts}
 use Rattle.influxdb_line_protocol.proofs.lemmas.laws.batch_reads_back.PartsReadBack.{tag_text, tag_set_reads_back, field_set_reads_back}
 use Rattle.influxdb_line_protocol.proofs.lemmas.laws.batch_reads_back.PartsReadBack.{timestamp_reads_back}
 
--- no space is at the start of a spelling
-pub spaces_before : (kind : NameKind) (n rest : List ℕ) → length n ≢ 0 → spaces (spelling kind n ++ rest) ≡ 0
-spaces_before kind [] rest some = absurd (some refl)
-spaces_before kind (b ∷ n) rest some =
-    elim (cases_Bool (is_escapable kind b)) [
-      | inl known ↦ rw (escaped_found (escapable kind) n b known) refl
-      | inr plain ↦
-          let other : b ≢ 32 = λ e. cc (plain, space_escapable kind, ap (is_escapable kind) e) in
-          rw (escaped_plain (escapable kind) n b plain, ne_eqb b 32 other) refl
-    ]
-
--- the front of a text before what is after it
-pub front_before_is : (front rest : List ℕ) → front_before (front ++ rest) rest ≡ front
-front_before_is front rest =
-    let len : length (front ++ rest) - length rest ≡ length front = omega (arith, length-append front rest) in
-    rw len (take_at front rest (length front) refl)
+-- the front before a rest of the line
+pub front_is : (line front rest : List ℕ) → line ≡ front ++ rest → front_before line rest ≡ front
+front_is line front rest e =
+    let n : length (front ++ rest) - length rest ≡ length front = omega (arith, length-append front rest) in
+    rw (e, n) (take-append_seam front rest)
 
 -- the name before the tags or the fields
 pub measurement_reads_back : (m : List ℕ) (ts : List Tag) (rest : List ℕ) → is_admitted_name a_measurement m ≡ true
@@ -84,11 +73,8 @@ line_reads_back dialect p ok =
         (read_name a_measurement m) (read_tags ts) (map read_field (f ∷ fs)) t
         (measurement_reads_back m ts after named)
         (tag_set_reads_back ts after tagged)
-        (ap (λ (xs : List ℕ). front_before xs (32 ∷ after))
-        (sym (append_assoc (spelling a_measurement m) (flat_map built_tag ts) (32 ∷ after)))
-        ∙ front_before_is front (32 ∷ after))
+        (front_is line front (32 ∷ after) (sym (append_assoc (spelling a_measurement m) (flat_map built_tag ts) (32 ∷ after))))
         (ap spaces (append_assoc (spelling a_field_key f.key) (61 ∷ built_value f.value) (built_fields 44 fs ++ built_timestamp t))
-        ∙ spaces_before a_field_key f.key ((61 ∷ built_value f.value) ++ (built_fields 44 fs ++ built_timestamp t))
-        (admitted_parts a_field_key f.key fielded.0.0).some)
+        ∙ spelled_spaces (admitted_spelled a_field_key f.key fielded.0.0) (admitted_parts a_field_key f.key fielded.0.0).some _)
         (field_set_reads_back dialect f fs t fielded.0 fielded.1)
         (timestamp_reads_back t stamped)

@@ -1,20 +1,18 @@
 -- A name that is admitted reads back as it was spelled.
-use Rattle.std.proofs.Common.{◌≡◌, ◌≢◌, ℕ, ◌<◌, List, [], ◌∷◌, ◌++◌, length, drop, Bool, true, false, not, refl, sym, ap, ◌∙◌, arith, inl}
+use Rattle.std.proofs.Common.{◌≡◌, ◌≢◌, ℕ, ◌<◌, List, [], ◌∷◌, length, slice_index, Bool, true, false, not, refl, ap, arith, inl}
 use Rattle.std.proofs.Common.{inr}
 use Rattle.std.specs.Prelude.{◌==◌}
 use Rattle.std.specs.List.{list_all}
-use Rattle.std.proofs.lemmas.Bool.{cases_Bool, and_parts, and_right, eqb-false, not-true}
-use Rattle.std.proofs.lemmas.List.{take_at, drop_at}
+use Rattle.std.proofs.lemmas.Bool.{cases_Bool, and_parts, eqb-false, not-true}
 use Rattle.std.proofs.lemmas.Grind.{common_steps}
 use Rattle.influxdb_line_protocol.specs.format.Bytes.{is_one_of}
 use Rattle.influxdb_line_protocol.specs.format.Names.{NameKind, a_measurement, a_tag_key, a_tag_value, a_field_key, ends_in_backslash}
-use Rattle.influxdb_line_protocol.specs.format.Names.{escapable, is_escapable, is_stop, logical, name, read_text, spelled, spelled_len}
-use Rattle.influxdb_line_protocol.specs.format.Readings.{Text, reads}
+use Rattle.influxdb_line_protocol.specs.format.Names.{escapable, is_escapable, is_stop, logical, read_text}
+use Rattle.influxdb_line_protocol.specs.format.Readings.{Text}
 use Rattle.influxdb_line_protocol.specs.format.Escapes.{escaped, without_escapes}
 use Rattle.influxdb_line_protocol.specs.format.Points.{is_admitted_name, never_in, spelling}
 use Rattle.influxdb_line_protocol.proofs.lemmas.names.NameLemmas.{escapable_backslash, without_escapes_same, without_escapes_known}
-use Rattle.influxdb_line_protocol.proofs.lemmas.names.NameLemmas.{without_escapes_plain_byte, logical_ends, name_reads}
-use Rattle.influxdb_line_protocol.proofs.lemmas.scan.ScanLemmas.{bare_len, first_bare_len}
+use Rattle.influxdb_line_protocol.proofs.lemmas.names.NameLemmas.{without_escapes_plain_byte}
 
 -- a byte that may be in a name
 abbrev pub may_hold : NameKind → ℕ → Bool
@@ -58,19 +56,6 @@ pub escaped_plain : (known text : List ℕ) (b : ℕ) → is_one_of known b ≡ 
 unfolding escaped
 escaped_plain known text b plain = rw plain refl
 
--- the spelling ends at the stop byte after it
-spelling_len : (kind : NameKind) (n rest : List ℕ) (stop : ℕ) → list_all (may_hold kind) n ≡ true → is_stop kind stop ≡ true
-    → bare_len (is_stop kind) false (spelling kind n ++ stop ∷ rest) ≡ length (spelling kind n)
-unfolding escaped
-spelling_len kind [] rest stop may ends = rw ends refl
-spelling_len kind (b ∷ n) rest stop may ends =
-    let parts = and_parts (may_hold kind b) (list_all (may_hold kind) n) may in
-    let more = spelling_len kind n rest stop parts.1 ends in
-    elim (cases_Bool (is_escapable kind b)) [
-      | inl known ↦ rw (known, backslash_no_stop kind, and_right (is_stop kind b) false refl, more) refl
-      | inr plain ↦ rw (plain, stop_escapable kind b parts.0 plain, plain_no_backslash kind b plain, more) refl
-    ]
-
 -- the logical text of a text with escapes is the text
 pub without_escapes_escaped : (known n : List ℕ) → is_one_of known 92 ≡ true → without_escapes known (escaped known n) ≡ n
 unfolding escaped
@@ -87,16 +72,9 @@ without_escapes_escaped known (b ∷ n) closed =
 pub logical_spelling : (kind : NameKind) (n : List ℕ) → logical kind (spelling kind n) ≡ n
 logical_spelling kind n = without_escapes_escaped (escapable kind) n (escapable_backslash kind)
 
--- the spelling of a name is not empty
-pub spelling_nonempty : (kind : NameKind) (n : List ℕ) → length n ≢ 0 → 0 < length (spelling kind n)
-unfolding escaped
-spelling_nonempty kind [] some = absurd (some refl)
-spelling_nonempty kind (b ∷ n) some =
-    elim (cases_Bool (is_escapable kind b)) [ inl known ↦ rw known (omega arith) | inr plain ↦ rw plain (omega arith) ]
-
 -- what a name that is admitted is
 pub record Admitted (kind : NameKind) (n : List ℕ) : Type 0 where
-  pub some : length n ≢ 0
+  pub some : 0 < length n
   pub ends : ends_in_backslash n ≡ false
   pub may : list_all (may_hold kind) n ≡ true
 
@@ -107,34 +85,14 @@ admitted_parts kind n h =
     let last = and_parts _ _ h in
     let third = and_parts _ _ last.0 in
     let second = and_parts _ _ third.0 in
-    record { some = eqb-false (length n) 0 (not-true _ second.0); ends = not-true _ second.1; may = third.1 }
+    let some : length n ≢ 0 = eqb-false (length n) 0 (not-true _ second.0) in
+    record { some = omega arith; ends = not-true _ second.1; may = third.1 }
 
 -- a measurement does not begin with `#`
-pub begins_otherwise : (b : ℕ) (n : List ℕ) → is_admitted_name a_measurement (b ∷ n) ≡ true → (b == 35) ≡ false
+pub begins_otherwise : (n : List ℕ) → is_admitted_name a_measurement n ≡ true → slice_index n 0 ≢ 35
 unfolding is_admitted_name
-begins_otherwise b n ok =
-    elim (cases_Bool (b == 35)) [
-      | inl sharp ↦ let wrong : false ≡ true = (and_parts _ false (rw sharp at ok)).1 in cc
-      | inr other ↦ other
-    ]
+begins_otherwise n ok = λ e. let h : false ≡ true = (and_parts _ false (rw e at ok)).1 in cc
 
 -- what the spelling of a name is read as
 abbrev pub read_name : NameKind → List ℕ → Text
 read_name kind n = read_text (escapable kind) (spelling kind n)
-
--- a name that is admitted reads back, before each byte that ends it
-pub name_reads_back : (kind : NameKind) (n rest : List ℕ) (stop : ℕ) → is_admitted_name kind n ≡ true → is_stop kind stop ≡ true
-    → name kind (spelling kind n ++ stop ∷ rest) ≡ reads (read_name kind n) (stop ∷ rest)
-name_reads_back kind n rest stop admitted ends =
-    let parts = admitted_parts kind n admitted in
-    let text = spelling kind n ++ stop ∷ rest in
-    let len : spelled_len kind text ≡ length (spelling kind n) = first_bare_len (is_stop kind) text
-    ∙ spelling_len kind n rest stop parts.may ends in
-    let front : spelled kind text ≡ spelling kind n = rw len (take_at (spelling kind n) (stop ∷ rest) (length (spelling kind n)) refl) in
-    let after : drop (spelled_len kind text) text ≡ stop ∷ rest = rw len
-    (drop_at (spelling kind n) (stop ∷ rest) (length (spelling kind n)) refl) in
-    let last : ends_in_backslash (spelling kind n) ≡ false =
-    sym (logical_ends kind (spelling kind n)) ∙ ap ends_in_backslash (logical_spelling kind n) ∙ parts.ends in
-    let read = name_reads kind text (rw front (spelling_nonempty kind n parts.some)) (rw front last) in
-    let whole = rw (front, after) at read in
-    whole

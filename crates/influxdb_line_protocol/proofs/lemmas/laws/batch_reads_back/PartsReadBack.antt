@@ -14,7 +14,7 @@ use Rattle.influxdb_line_protocol.specs.format.Values.{Value, integer_len, fits_
 use Rattle.influxdb_line_protocol.specs.format.Points.{Pair, Tag, Field, built_tag, built_field, built_fields, built_timestamp, built_value}
 use Rattle.influxdb_line_protocol.specs.format.Points.{spelling}
 use Rattle.influxdb_line_protocol.specs.format.Lines.{byte, tag, field, after_comma, many, tag_set, field_set, timestamp, without_comma}
-use Rattle.influxdb_line_protocol.proofs.lemmas.laws.batch_reads_back.NameReadsBack.{name_reads_back}
+use Rattle.influxdb_line_protocol.proofs.lemmas.laws.parsed_names.Spellings.{name_reads_back}
 use Rattle.influxdb_line_protocol.proofs.lemmas.laws.batch_reads_back.ReadLines.{read_tag, read_tags, read_field}
 use Rattle.influxdb_line_protocol.proofs.lemmas.laws.batch_reads_back.LinePieces.{AdmittedTag, AdmittedField}
 use Rattle.influxdb_line_protocol.proofs.lemmas.laws.batch_reads_back.FloatReadsBack.{Ends}
@@ -109,24 +109,21 @@ fields_room : (fs : List Field) → length fs ≤ length (built_fields comma fs)
 fields_room [] = omega arith
 fields_room (f ∷ fs) = omega (arith, fields_room fs, length-append (built_field f) (built_fields comma fs))
 
+-- no comma is taken before a timestamp or at the end
+no_comma : (dialect : Dialect) (fs : List (Pair Text (Value Text))) (t : Option ℤ)
+    → without_comma dialect fs (built_timestamp t) ≡ built_timestamp t
+no_comma Crate [] t = refl
+no_comma Crate (f ∷ []) None = refl
+no_comma Crate (f ∷ []) (Some z) = refl
+no_comma Crate (f ∷ g ∷ gs) t = refl
+no_comma Strict fs t = refl
+
 -- what ends the fields of a built line is no comma
 timestamp_ends : (dialect : Dialect) (fs : List (Pair Text (Value Text))) (t : Option ℤ)
     → (byte comma (built_timestamp t) ≡ miss) × Ends (built_timestamp t)
     × (without_comma dialect fs (built_timestamp t) ≡ built_timestamp t)
-timestamp_ends dialect fs None = (refl, refl, no_comma_end dialect fs)
-  where
-    no_comma_end : (dialect : Dialect) (fs : List (Pair Text (Value Text))) → without_comma dialect fs [] ≡ []
-    no_comma_end Crate [] = refl
-    no_comma_end Crate (f ∷ []) = refl
-    no_comma_end Crate (f ∷ g ∷ gs) = refl
-    no_comma_end Strict fs = refl
-timestamp_ends dialect fs (Some z) = (refl, refl, no_comma dialect fs (signed_decimal z))
-  where
-    no_comma : (dialect : Dialect) (fs : List (Pair Text (Value Text))) (rest : List ℕ) → without_comma dialect fs (32 ∷ rest) ≡ 32 ∷ rest
-    no_comma Crate [] rest = refl
-    no_comma Crate (f ∷ []) rest = refl
-    no_comma Crate (f ∷ g ∷ gs) rest = refl
-    no_comma Strict fs rest = refl
+timestamp_ends dialect fs None = (refl, refl, no_comma dialect fs None)
+timestamp_ends dialect fs (Some z) = (refl, refl, no_comma dialect fs (Some z))
 
 -- the fields of a line read back before its timestamp
 pub field_set_reads_back : (dialect : Dialect) (f : Field) (fs : List Field) (t : Option ℤ) → AdmittedField f

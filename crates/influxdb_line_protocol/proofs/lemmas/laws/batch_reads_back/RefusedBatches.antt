@@ -1,62 +1,44 @@
 -- Batches with a name that is not admitted do not read back.
-use Rattle.std.proofs.Common.{◌≡◌, ◌≢◌, ℕ, ◌+◌, List, [], ◌∷◌, ◌++◌, map, true, false, ◌&&◌, refl, sym, ap, ◌∙◌, subst, arith, inl, inr}
-use Rattle.std.proofs.Common.{append_assoc, append-nil, Option, Ok, Err, Result}
-use Rattle.std.specs.Prelude.{◌==◌}
+use Rattle.std.proofs.Common.{◌≡◌, ℕ, ◌+◌, List, [], ◌∷◌, ◌++◌, map, true, false, ◌&&◌, refl, sym, ap, ◌∙◌, subst, arith, inl, inr}
+use Rattle.std.proofs.Common.{append_assoc, append-nil, Ok, Err, Result}
 use Rattle.std.specs.List.{AllByRecursion, Contains, list_all, flat_map}
-use Rattle.std.proofs.lemmas.Bool.{cases_Bool, false≢true, both_ways, and_from, eq-eqb}
+use Rattle.std.proofs.lemmas.Bool.{cases_Bool, false≢true, and_from}
 use Rattle.std.proofs.lemmas.List.{length-append}
 use Rattle.influxdb_line_protocol.proofs.lemmas.split.SplitWalk.{Head, Plain, Plain-comma}
 use Rattle.influxdb_line_protocol.specs.format.Dialects.{Dialect}
-use Rattle.influxdb_line_protocol.specs.format.Readings.{Fault, ends_with_backslash, Text, fatal, reads}
-use Rattle.influxdb_line_protocol.specs.format.Names.{a_measurement, a_field_key, name}
+use Rattle.influxdb_line_protocol.specs.format.Readings.{Fault}
+use Rattle.influxdb_line_protocol.specs.format.Names.{a_measurement, a_field_key}
 use Rattle.influxdb_line_protocol.specs.format.Piece.{EndsPlain}
-use Rattle.influxdb_line_protocol.specs.format.Points.{Point, IsPoint, Pair, Tag, Field, IsValue, is_admitted_name, is_admitted_tag}
+use Rattle.influxdb_line_protocol.specs.format.Points.{Point, IsPoint, Tag, Field, IsValue, is_admitted_name, is_admitted_tag}
 use Rattle.influxdb_line_protocol.specs.format.Points.{is_admitted_field, is_admitted_point, spelling, built, built_all, built_tag}
 use Rattle.influxdb_line_protocol.specs.format.Points.{built_field, built_fields, built_value, built_timestamp, line_of}
-use Rattle.influxdb_line_protocol.specs.format.Lines.{Line, point_of, tag, field, separated_list, tag_set, field_set, spaces, answer}
+use Rattle.influxdb_line_protocol.specs.format.Lines.{Line, point_of, field, spaces, answer}
 use Rattle.influxdb_line_protocol.specs.format.Items.{HasAnswers, item_of, answers_of}
 use Rattle.influxdb_line_protocol.specs.laws.NamesOfLines.{IsParsedName}
 use Rattle.influxdb_line_protocol.specs.laws.Laws.{IsAdmittedPoint, OtherBatchesDoNotReadBack}
 use Rattle.influxdb_line_protocol.proofs.lemmas.split.SplitPieces.{pieces_exist, same_pieces}
 use Rattle.influxdb_line_protocol.proofs.lemmas.split.SplitBare.{is_escaped-push_other}
-use Rattle.influxdb_line_protocol.proofs.lemmas.laws.batch_reads_back.NameReadsBack.{admitted_parts, begins_otherwise, name_reads_back}
-use Rattle.influxdb_line_protocol.proofs.lemmas.laws.batch_reads_back.NameReadsBack.{read_name}
-use Rattle.influxdb_line_protocol.proofs.lemmas.laws.batch_reads_back.ReadLines.{read_tags, read_field}
+use Rattle.influxdb_line_protocol.proofs.lemmas.laws.batch_reads_back.NameReadsBack.{admitted_parts}
+use Rattle.influxdb_line_protocol.proofs.lemmas.laws.batch_reads_back.ReadLines.{read_field}
 use Rattle.influxdb_line_protocol.proofs.lemmas.laws.batch_reads_back.PartsReadBack.{tag_set_reads_back, field_reads_back}
-use Rattle.influxdb_line_protocol.proofs.lemmas.laws.batch_reads_back.Reaches.{Reaches, reaches_start, reaches_name}
+use Rattle.influxdb_line_protocol.proofs.lemmas.laws.batch_reads_back.Reaches.{Reaches, reaches_start}
 use Rattle.influxdb_line_protocol.proofs.lemmas.laws.batch_reads_back.LinePieces.{reaches_tags, reaches_field, AdmittedTag, AdmittedField}
 use Rattle.influxdb_line_protocol.proofs.lemmas.laws.batch_reads_back.LinePieces.{admitted_tags, line_parts}
-use Rattle.influxdb_line_protocol.proofs.lemmas.laws.batch_reads_back.LineReadsBack.{measurement_reads_back, spaces_before}
+use Rattle.influxdb_line_protocol.proofs.lemmas.laws.batch_reads_back.LineReadsBack.{measurement_reads_back}
 use Rattle.influxdb_line_protocol.proofs.lemmas.laws.batch_reads_back.BatchesReadBack.{admitted_batches_read_back}
 use Rattle.influxdb_line_protocol.proofs.lemmas.laws.parsed_names.ParsedNames.{ParsedPoint, answers_parsed}
-use Rattle.influxdb_line_protocol.proofs.lemmas.laws.parsed_names.Spellings.{spelling_as, spelled_begins, spelled_spaces, reaches_other}
+use Rattle.influxdb_line_protocol.proofs.lemmas.laws.parsed_names.Spellings.{admitted_spelled, name_reads_back, measurement_begins}
+use Rattle.influxdb_line_protocol.proofs.lemmas.laws.parsed_names.Spellings.{spelled_spaces, reaches_name, reaches_other}
 use Rattle.influxdb_line_protocol.proofs.lemmas.laws.parsed_names.Spellings.{reaches_gap, reaches_field_key, BeginsLine}
 use Rattle.influxdb_line_protocol.proofs.lemmas.laws.batch_reads_back.FatalNames.{StopsWith, Fails, first_fails, FatalName, fatal_name}
 use Rattle.influxdb_line_protocol.proofs.lemmas.laws.batch_reads_back.FatalNames.{fatal_here, around, measurement_fails}
 use Rattle.influxdb_line_protocol.proofs.lemmas.laws.batch_reads_back.FatalTags.{ManyFail, first_of_many, later_of_many, second_fails}
 use Rattle.influxdb_line_protocol.proofs.lemmas.laws.batch_reads_back.FatalTags.{TagsFail, tags_fail}
 
--- an admitted measurement begins a line
-measurement_begins : (m rest : List ℕ) → is_admitted_name a_measurement m ≡ true → BeginsLine (spelling a_measurement m ++ rest)
-measurement_begins [] rest named = absurd ((admitted_parts a_measurement [] named).some refl)
-measurement_begins (b ∷ m) rest named =
-    let no_hash : b ≢ 35 = λ e. both_ways (b == 35) (begins_otherwise b m named) (eq-eqb b 35 e) in
-    spelled_begins (spelling_as a_measurement (b ∷ m) (admitted_parts a_measurement (b ∷ m) named).may) (omega arith) no_hash rest
-
--- what is fatal for the tags is so for the line
-fatal_tag_set : (text : List ℕ) → separated_list tag text ≡ fatal ends_with_backslash → tag_set (44 ∷ text) ≡ Err ends_with_backslash
-fatal_tag_set text e = rw e refl
-
--- and that, for its answer
-fatal_tags_answer : (dialect : Dialect) (line tagged : List ℕ) (m : Text) → name a_measurement line ≡ reads m tagged
-    → tag_set tagged ≡ Err ends_with_backslash
-    → answer dialect line ≡ Err ends_with_backslash
-unfolding answer
-fatal_tags_answer dialect line tagged m e f = rw (e, f) refl
-
 -- a line whose tags stop too early
 tags_line_fails : (m : List ℕ) (ts : List Tag) (more : List ℕ) → is_admitted_name a_measurement m ≡ true
     → TagsFail ts → Fails (spelling a_measurement m ++ (flat_map built_tag ts ++ more))
+unfolding answer
 tags_line_fails m ts more named f =
     let first = spelling a_measurement m in
     record {
@@ -73,10 +55,11 @@ tags_line_fails m ts more named f =
           (reaches_name a_measurement m [] named reaches_start) in
           inl (subst (Reaches Head 0 0) (append_assoc first (44 ∷ []) f.front) (f.reached (first ++ 44 ∷ []) sign)).1.0;
       answered = λ dialect rest stops.
-          fatal_tags_answer dialect ((first ++ 44 ∷ f.front) ++ rest) (44 ∷ (f.front ++ rest)) (read_name a_measurement m)
-          (ap (name a_measurement) (append_assoc first (44 ∷ f.front) rest)
-          ∙ name_reads_back a_measurement m (f.front ++ rest) 44 named refl)
-          (fatal_tag_set (f.front ++ rest) (f.fails rest stops).at_first);
+          rw (
+            append_assoc first (44 ∷ f.front) rest,
+            name_reads_back a_measurement m (f.front ++ rest) 44 named refl,
+            (f.fails rest stops).at_first,
+          ) refl;
     }
 
 -- a text that ends in a plain stretch
@@ -93,13 +76,9 @@ record FieldsFail (fs : List Field) : Type 0 where
   gap : (rest : List ℕ) → spaces (front ++ rest) ≡ 0
   fails : (rest : List ℕ) → StopsWith stop rest → ManyFail field (front ++ rest)
 
--- a key that is fatal is so for its field
-fatal_field_key : (line : List ℕ) → name a_field_key line ≡ fatal ends_with_backslash → field line ≡ fatal ends_with_backslash
-unfolding field
-fatal_field_key line e = rw e refl
-
 -- the first field stops too early
 first_field_fails : (f : Field) (fs : List Field) → FatalName a_field_key f.key → FieldsFail (f ∷ fs)
+unfolding field
 first_field_fails f fs g =
     let key = spelling a_field_key f.key in
     let front = spelling a_field_key g.front in
@@ -112,8 +91,7 @@ first_field_fails f fs g =
           (append_assoc key sign (built_fields 44 fs) ∙ around a_field_key f.key g (sign ++ built_fields 44 fs));
       reached = λ m piece r. let named = reaches_field_key m g.spelled piece r in (named.1.0, named.1.1);
       gap = λ rest. spelled_spaces g.spelled g.some rest;
-      fails = λ rest stops. first_of_many field (front ++ rest)
-          (fatal_field_key (front ++ rest) (fatal_here a_field_key f.key g rest stops));
+      fails = λ rest stops. first_of_many field (front ++ rest) (rw (fatal_here a_field_key f.key g rest stops) refl);
     }
 
 -- a field is read, and a later one stops too early
@@ -136,8 +114,7 @@ later_field_fails f fs ok g =
       gap = λ rest.
           ap spaces (append_assoc text (44 ∷ g.front) rest
           ∙ append_assoc (spelling a_field_key f.key) (61 ∷ built_value f.value) (44 ∷ (g.front ++ rest)))
-          ∙ spaces_before a_field_key f.key ((61 ∷ built_value f.value) ++ 44 ∷ (g.front ++ rest))
-          (admitted_parts a_field_key f.key ok.0).some;
+          ∙ spelled_spaces (admitted_spelled a_field_key f.key ok.0) (admitted_parts a_field_key f.key ok.0).some _;
       fails = λ rest stops.
           let more = g.front ++ rest in
           subst (ManyFail field) (sym (append_assoc text (44 ∷ g.front) rest))
@@ -156,25 +133,11 @@ fields_fail (f ∷ fs) names values bad =
       | inr refused ↦ first_field_fails f fs (fatal_name a_field_key f.key names.0 refused)
     ]
 
--- what is fatal for the fields is so for the line
-fatal_field_set : (dialect : Dialect) (text : List ℕ) → separated_list field text ≡ fatal ends_with_backslash
-    → field_set dialect text ≡ fatal ends_with_backslash
-fatal_field_set dialect text e = rw e refl
-
--- and that, for its answer
-fatal_fields_answer : (dialect : Dialect) (line tagged after : List ℕ) (m : Text) (ts : Option (List (Pair Text Text)))
-    → name a_measurement line ≡ reads m tagged
-    → tag_set tagged ≡ Ok (record { value = ts; rest = 32 ∷ after })
-    → spaces after ≡ 0
-    → field_set dialect after ≡ fatal ends_with_backslash
-    → answer dialect line ≡ Err ends_with_backslash
-unfolding answer
-fatal_fields_answer dialect line tagged after m ts named tags gap fields = rw (named, tags, gap, fields) refl
-
 -- a line whose fields stop too early
 fields_line_fails : (m : List ℕ) (ts : List Tag) (fs : List Field) (more : List ℕ)
     → is_admitted_name a_measurement m ≡ true → AllByRecursion AdmittedTag ts → FieldsFail fs
     → Fails (spelling a_measurement m ++ (flat_map built_tag ts ++ (built_fields 32 fs ++ more)))
+unfolding answer
 fields_line_fails m ts fs more named tagged f =
     let first = spelling a_measurement m in
     let tags = flat_map built_tag ts in
@@ -193,14 +156,14 @@ fields_line_fails m ts fs more named tagged f =
           ∙ append_assoc first tags (32 ∷ f.front))
           (f.reached 0 ((first ++ tags) ++ 32 ∷ []) (reaches_gap (first ++ tags) head)));
       answered = λ dialect rest stops.
-          fatal_fields_answer dialect ((first ++ (tags ++ 32 ∷ f.front)) ++ rest) (tags ++ 32 ∷ (f.front ++ rest))
-          (f.front ++ rest) (read_name a_measurement m) (read_tags ts)
-          (ap (name a_measurement) (append_assoc first (tags ++ 32 ∷ f.front) rest
-          ∙ ap (λ (xs : List ℕ). first ++ xs) (append_assoc tags (32 ∷ f.front) rest))
-          ∙ measurement_reads_back m ts (f.front ++ rest) named)
-          (tag_set_reads_back ts (f.front ++ rest) tagged)
-          (f.gap rest)
-          (fatal_field_set dialect (f.front ++ rest) (f.fails rest stops).at_first);
+          rw (
+            append_assoc first (tags ++ 32 ∷ f.front) rest,
+            append_assoc tags (32 ∷ f.front) rest,
+            measurement_reads_back m ts (f.front ++ rest) named,
+            tag_set_reads_back ts (f.front ++ rest) tagged,
+            f.gap rest,
+            (f.fails rest stops).at_first,
+          ) refl;
     }
 
 -- the line of a point whose names are parsed names, not all of them admitted
@@ -235,14 +198,6 @@ items_of_lines : (lines : List Line) (answers : List (Result Line Fault))
 items_of_lines [] answers = refl
 items_of_lines (line ∷ lines) answers = ap (λ xs. Ok (point_of line) ∷ xs) (items_of_lines lines answers)
 
--- lists of results with the same front
-first_ok : (p q : Point) (xs ys : List (Result Point Fault)) → Ok p ∷ xs ≡ Ok q ∷ ys → p ≡ q
-first_ok p q xs ys e = cc
-
--- and what follows it
-later_ok : (p : Point) (xs ys : List (Result Point Fault)) → Ok p ∷ xs ≡ Ok p ∷ ys → xs ≡ ys
-later_ok p xs ys e = cc
-
 -- the answer that a first point is the item of
 record FirstLine (answers : List (Result Line Fault)) (p : Point) : Type 0 where
   line : Line
@@ -254,13 +209,8 @@ record FirstLine (answers : List (Result Line Fault)) (p : Point) : Type 0 where
 first_line : (answers : List (Result Line Fault)) (p : Point) (more : List (Result Point Fault))
     → map item_of answers ≡ Ok p ∷ more → FirstLine answers p
 first_line [] p more e = absurd (cc)
-first_line (Ok line ∷ answers) p more
-    e = record { line = line; others = answers; are = refl; is = first_ok (point_of line) p (map item_of answers) more e }
+first_line (Ok line ∷ answers) p more e = record { line = line; others = answers; are = refl; is = cc }
 first_line (Err fault ∷ answers) p more e = absurd (cc)
-
--- a fault is no line
-no_line : (line : Line) (fault : Fault) (xs ys : List (Result Line Fault)) → Ok line ∷ xs ≡ Err fault ∷ ys → ⊥
-no_line line fault xs ys e = cc
 
 -- an admitted point at the start of others: what is answered after it
 after_admitted : (dialect : Dialect) (p : Point) (u text : List ℕ) (answers more : List (Result Line Fault))
@@ -284,7 +234,8 @@ not_first dialect p u text answers more is_point bad e h item =
     let f = point_fails p is_point names bad in
     let fails = first_fails dialect (line_of p) f (f.after ++ 10 ∷ u)
     (e ∙ ap (λ (xs : List ℕ). xs ++ 10 ∷ u) f.is ∙ append_assoc f.front (f.stop ∷ f.after) (10 ∷ u)) h.are in
-    no_line first.line ends_with_backslash first.others fails.0 (sym first.are ∙ h.answered ∙ fails.1)
+    let wrong = sym first.are ∙ h.answered ∙ fails.1 in
+    cc
 
 -- no batch with another name reads back
 pub other_batches_do_not : OtherBatchesDoNotReadBack
@@ -302,7 +253,7 @@ other_batches_do_not dialect (p ∷ points) t items others all bad h k e =
           (record { is_point = all.0; names_are = ok }) first h.1 alone in
           other_batches_do_not dialect points t (map item_of more) others all.1
           (second_fails (is_admitted_point p) (list_all is_admitted_point points) bad ok) (more, alone, refl) k
-          (later_ok p (map item_of more) (map Ok points ++ others) (sym read ∙ item))
+          (let same = sym read ∙ item in cc)
       | inr refused ↦ not_first dialect p u (built_all (p ∷ points) ++ t) h.0 (map Ok points ++ others) all.0
           refused (first ∙ append_assoc (line_of p) (10 ∷ []) u) h.1 item
     ]

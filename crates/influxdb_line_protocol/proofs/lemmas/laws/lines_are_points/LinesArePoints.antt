@@ -22,6 +22,7 @@ use Rattle.influxdb_line_protocol.specs.code.WrittenAgain.{IsReadValue}
 use Rattle.influxdb_line_protocol.proofs.lemmas.literals.FloatLemmas.{float_len_float}
 use Rattle.influxdb_line_protocol.proofs.lemmas.builder.ReadStrings.{body_read}
 use Rattle.influxdb_line_protocol.proofs.lemmas.laws.parsed_names.Inversions.{joined_of}
+use Rattle.influxdb_line_protocol.proofs.lemmas.laws.meanings.ShorterRests.{field_no_longer}
 use Rattle.influxdb_line_protocol.proofs.lemmas.fields.ReadingLemmas.{bind_reads, pair_parts}
 use Rattle.influxdb_line_protocol.proofs.lemmas.laws.parsed_names.ParsedNames.{ok_same, answer_parts}
 use Rattle.influxdb_line_protocol.proofs.lemmas.line.SomeTags.{joined_some}
@@ -108,15 +109,11 @@ either_fits (reads y after) s first second x rest h = first x rest h
 value_fits : (line : List ℕ) (x : Value Text) (rest : List ℕ) → value line ≡ reads x rest → Fits x
 unfolding value
 value_fits line x rest h =
-    let whole = either_fits (integer_at line) (unsigned_at line) (integer_fits line) (unsigned_fits line) in
-    let number = either_fits (integer_at line otherwise unsigned_at line) (float_at line) whole (float_fits line) in
-    let text = either_fits (integer_at line otherwise unsigned_at line otherwise float_at line) (string_at line)
-    number (string_fits line) in
-    let yes = either_fits (integer_at line otherwise unsigned_at line otherwise float_at line otherwise string_at
-    line) (boolean_at true true_words line) text (boolean_fits true true_words line) in
-    either_fits (integer_at line otherwise unsigned_at line otherwise float_at line otherwise string_at line
-    otherwise boolean_at true true_words line) (boolean_at false false_words line) yes
-    (boolean_fits false false_words line) x rest h
+    let whole = either_fits _ _ (integer_fits line) (unsigned_fits line) in
+    let number = either_fits _ _ whole (float_fits line) in
+    let text = either_fits _ _ number (string_fits line) in
+    let yes = either_fits _ _ text (boolean_fits true true_words line) in
+    either_fits _ _ yes (boolean_fits false false_words line) x rest h
 
 -- the value of a field
 abbrev pub FieldFits : Pair Text (Value Text) → Type 0
@@ -141,7 +138,7 @@ field_set_fits dialect line rest fs h =
     subst SomeFit same
     (record {
       some = joined_some field line parts.mid parts.first parts.was;
-      fit = joined_of FieldFits field field_fits line parts.mid parts.first parts.was;
+      fit = joined_of FieldFits field field_fits (λ t. (field_no_longer t).holds) line parts.mid parts.first parts.was;
     })
 
 -- a timestamp, under its tests

@@ -1,5 +1,5 @@
 -- Each text is answered by one row of the table.
-use Rattle.std.proofs.Common.{◌≡◌, ℕ, ◌==◌, List, [], ◌∷◌, ◌++◌, length, take, drop, refl, sym, ap, ◌∙◌, subst, inl, inr, Option, Some}
+use Rattle.std.proofs.Common.{◌≡◌, ◌⊎◌, ℕ, ◌==◌, List, [], ◌∷◌, ◌++◌, length, take, drop, refl, sym, ap, ◌∙◌, subst, inl, inr, Option, Some}
 use Rattle.std.proofs.Common.{None, Ok, Err, Result}
 use Rattle.std.specs.Prelude.{ℤ, ◌||◌}
 use Rattle.std.specs.Str.Parse.{signed_digits_value}
@@ -14,7 +14,7 @@ use Rattle.influxdb_line_protocol.specs.format.Names.{spelled}
 use Rattle.influxdb_line_protocol.specs.format.Values.{Value, integer_len, fits_i64, side_of}
 use Rattle.influxdb_line_protocol.specs.format.Points.{Pair}
 use Rattle.influxdb_line_protocol.specs.format.Lines.{Line, byte, tag, field, separated_list, tag_set, without_comma, spaces, timestamp}
-use Rattle.influxdb_line_protocol.specs.format.Lines.{front_before, answer}
+use Rattle.influxdb_line_protocol.specs.format.Lines.{answer}
 use Rattle.influxdb_line_protocol.specs.laws.Meanings.{WholeList, NextHasFault}
 use Rattle.influxdb_line_protocol.specs.laws.MeaningsOfAnswers.{BeginsWith, after_spaces, ReadsSeries, ReadsSeries.alone}
 use Rattle.influxdb_line_protocol.specs.laws.MeaningsOfAnswers.{ReadsSeries.tagged, ReadsFields, IsAnswer, IsAnswer.fatal_measurement}
@@ -23,7 +23,7 @@ use Rattle.influxdb_line_protocol.specs.laws.MeaningsOfAnswers.{IsAnswer.no_spac
 use Rattle.influxdb_line_protocol.specs.laws.MeaningsOfAnswers.{IsAnswer.fatal_timestamp, IsAnswer.left, IsAnswer.all_read, AnswerIsByRows}
 use Rattle.influxdb_line_protocol.proofs.lemmas.laws.meanings.JoinedMeaning.{the_most_is_read, the_next_has_the_fault, the_first_misses}
 use Rattle.influxdb_line_protocol.proofs.lemmas.line.LightLemmas.{tag_set_ends}
-use Rattle.influxdb_line_protocol.proofs.lemmas.laws.bases_tell_series.ParsedSeries.{front_is}
+use Rattle.influxdb_line_protocol.proofs.lemmas.laws.batch_reads_back.LineReadsBack.{front_is}
 use Rattle.influxdb_line_protocol.proofs.lemmas.fields.ReadingLemmas.{EndsIn, EndsIn-end, name_ends}
 use Rattle.influxdb_line_protocol.proofs.lemmas.laws.meanings.ShorterRests.{tag_no_longer, field_no_longer}
 
@@ -99,25 +99,25 @@ tags_read : (text : List ℕ) (tags : List (Pair Text Text)) (rest : List ℕ) �
 tags_read text tags rest h = (the_most_is_read tag (λ t. (tag_no_longer t).holds) text tags rest).1 h
 
 -- and so are the fields
-fields_read : (text : List ℕ) (fields : List (Pair Text (Value Text))) (rest : List ℕ) → WholeList field text fields rest
+pub fields_read : (text : List ℕ) (fields : List (Pair Text (Value Text))) (rest : List ℕ) → WholeList field text fields rest
     → separated_list field text ≡ reads fields rest
 fields_read text fields rest h = (the_most_is_read field (λ t. (field_no_longer t).holds) text fields rest).1 h
 
--- no comma, no tag set
-no_comma : (text : List ℕ) → ¬ BeginsWith comma text → tag_set text ≡ Ok (record { value = None; rest = text })
-no_comma [] h = refl
-no_comma (c ∷ rest) h = elim (cases_Bool (c == 44)) [ inl e ↦ absurd (h (eqb-true c 44 e)) | inr other ↦ rw other refl ]
+-- a text that does not begin with this byte
+no_byte : (b : ℕ) (text : List ℕ) → ¬ BeginsWith b text → byte b text ≡ miss
+no_byte b [] h = refl
+no_byte b (c ∷ rest) h = elim (cases_Bool (c == b)) [ inl e ↦ absurd (h (eqb-true c b e)) | inr other ↦ rw other refl ]
 
 -- what a series is read from
-record Series (text : List ℕ) (m : Text) (tags : Option (List (Pair Text Text))) (rest : List ℕ) : Type 0 where
-  after : List ℕ
-  named : name a_measurement text ≡ reads m after
-  set : tag_set after ≡ Ok (record { value = tags; rest = rest })
+pub record Series (text : List ℕ) (m : Text) (tags : Option (List (Pair Text Text))) (rest : List ℕ) : Type 0 where
+  pub after : List ℕ
+  pub named : name a_measurement text ≡ reads m after
+  pub set : tag_set after ≡ Ok (record { value = tags; rest = rest })
 
 -- each series that is read is such
-series_parts : {text : List ℕ} {m : Text} {tags : Option (List (Pair Text Text))} {rest : List ℕ} → ReadsSeries text m tags rest
+pub series_parts : {text : List ℕ} {m : Text} {tags : Option (List (Pair Text Text))} {rest : List ℕ} → ReadsSeries text m tags rest
     → Series text m tags rest
-series_parts (alone m rest named none) = record { after = rest; named = named; set = no_comma rest none }
+series_parts (alone m rest named none) = record { after = rest; named = named; set = rw (no_byte comma rest none) refl }
 series_parts (tagged m tags after rest named h) = record { after = 44 ∷ after; named = named; set = rw (tags_read after tags rest h) refl }
 
 -- a space at the start of a text
@@ -125,127 +125,56 @@ space_here : (text : List ℕ) → BeginsWith space text → (after : List ℕ) 
 space_here [] h = absurd h
 space_here (c ∷ rest) h = let e = eq-eqb c 32 h in (rest, rw e refl)
 
--- and none there
-no_space_here : (text : List ℕ) → ¬ BeginsWith space text → byte space text ≡ miss
-no_space_here [] h = refl
-no_space_here (c ∷ rest) h = elim (cases_Bool (c == 32)) [ inl e ↦ absurd (h (eqb-true c 32 e)) | inr other ↦ rw other refl ]
+-- a text begins with this byte, or does not
+begins : (b : ℕ) (text : List ℕ) → ((rest : List ℕ) × (text ≡ b ∷ rest)) ⊎ ¬ BeginsWith b text
+begins b [] = inr (λ s. s)
+begins b (c ∷ rest) = elim (cases_Bool (c == b)) [
+  | inl here ↦ inl (rest, ap (λ (x : ℕ). x ∷ rest) (eqb-true c b here))
+  | inr other ↦ inr (λ s. both_ways (c == b) other (eq-eqb c b s))
+]
 
--- the answers of the rows, by what the parts read
 module _ (dialect : Dialect) (text : List ℕ) where
-  -- the measurement is fatal
-  row_1 : name a_measurement text ≡ fatal ends_with_backslash → answer dialect text ≡ Err ends_with_backslash
-  unfolding answer
-  row_1 e = rw e refl
-
-  -- the measurement misses
-  row_2 : name a_measurement text ≡ miss → answer dialect text ≡ Err measurement_value_invalid
-  unfolding answer
-  row_2 e = rw e refl
-
-  -- a tag set at fault
-  row_tags : (m : Text) (suffix : List ℕ) (e : Fault) → name a_measurement text ≡ reads m suffix → tag_set suffix ≡ Err e
-      → answer dialect text ≡ Err e
-  unfolding answer
-  row_tags m suffix e named h = rw (named, h) refl
-
-  -- a tag is fatal
-  row_3 : (m : Text) (after : List ℕ) → name a_measurement text ≡ reads m (comma ∷ after)
-      → separated_list tag after ≡ fatal ends_with_backslash
-      → answer dialect text ≡ Err ends_with_backslash
-  row_3 m after named h = row_tags m (comma ∷ after) ends_with_backslash named (rw h refl)
-
-  -- the first tag misses
-  row_4 : (m : Text) (after : List ℕ) → name a_measurement text ≡ reads m (comma ∷ after) → separated_list tag after ≡ miss
-      → answer dialect text ≡ Err tag_set_malformed
-  row_4 m after named h = row_tags m (comma ∷ after) tag_set_malformed named (rw h refl)
-
-  -- no space follows the series
-  row_5 : (m : Text) (tags : Option (List (Pair Text Text))) (suffix rest : List ℕ) → name a_measurement text ≡ reads m suffix
-      → tag_set suffix ≡ Ok (record { value = tags; rest = rest }) → byte space rest ≡ miss → answer dialect text ≡ Err take_while1
-  unfolding answer
-  row_5 m tags suffix rest named set gap = rw (named, set, gap) refl
-
-  -- a field is fatal
-  row_6 : (m : Text) (tags : Option (List (Pair Text Text))) (suffix rest more : List ℕ) (e : Fault)
-      → name a_measurement text ≡ reads m suffix
-      → tag_set suffix ≡ Ok (record { value = tags; rest = rest }) → byte space rest ≡ reads space more
-      → separated_list field (after_spaces rest) ≡ fatal e → answer dialect text ≡ Err e
-  unfolding answer
-  row_6 m tags suffix rest more e named set gap fields = rw (named, set, gap, fields) refl
-
-  -- the first field misses
-  row_7 : (m : Text) (tags : Option (List (Pair Text Text))) (suffix rest more : List ℕ) → name a_measurement text ≡ reads m suffix
-      → tag_set suffix ≡ Ok (record { value = tags; rest = rest }) → byte space rest ≡ reads space more
-      → separated_list field (after_spaces rest) ≡ miss → answer dialect text ≡ Err field_set_missing
-  unfolding answer
-  row_7 m tags suffix rest more named set gap fields = rw (named, set, gap, fields) refl
-
-  -- the timestamp is fatal
-  row_8 : (m : Text) (tags : Option (List (Pair Text Text))) (suffix rest more after : List ℕ) (fields : List (Pair Text (Value Text)))
-      (e : Fault) → name a_measurement text ≡ reads m suffix
-      → tag_set suffix ≡ Ok (record { value = tags; rest = rest }) → byte space rest ≡ reads space more
-      → separated_list field (after_spaces rest) ≡ reads fields after
-      → timestamp (without_comma dialect fields after) ≡ Err e → answer dialect text ≡ Err e
-  unfolding answer
-  row_8 m tags suffix rest more after fields e named set gap h stamp = rw (named, set, gap, h, stamp) refl
-
-  -- something is left
-  row_9 : (m : Text) (tags : Option (List (Pair Text Text))) (suffix rest more after : List ℕ) (fields : List (Pair Text (Value Text)))
-      (t : Option ℤ) (b : ℕ) (last : List ℕ)
-      → name a_measurement text ≡ reads m suffix → tag_set suffix ≡ Ok (record { value = tags; rest = rest })
-      → byte space rest ≡ reads space more → separated_list field (after_spaces rest) ≡ reads fields after
-      → timestamp (without_comma dialect fields after) ≡ Ok (record { value = t; rest = b ∷ last })
-      → answer dialect text ≡ Err (cannot_parse_entire_line (b ∷ last))
-  unfolding answer
-  row_9 m tags suffix rest more after fields t b last named set gap h stamp = rw (named, set, gap, h, stamp) refl
-
-  -- all is read
-  row_10 : (line : Line) (suffix rest more after : List ℕ)
-      → name a_measurement text ≡ reads line.measurement suffix → tag_set suffix ≡ Ok (record { value = line.tags; rest = rest })
-      → byte space rest ≡ reads space more
-      → separated_list field (after_spaces rest) ≡ reads line.fields after
-      → timestamp (without_comma dialect line.fields after) ≡ Ok (record { value = line.timestamp; rest = [] })
-      → front_before text rest ≡ line.series → answer dialect text ≡ Ok line
-  unfolding answer
-  row_10 line suffix rest more after named set gap h stamp series = rw (named, set, gap, h, stamp, series) refl
-
-  -- each row gives its answer
+  -- each row gives its answer, by what the parts read
   row_answers : {a : Result Line Fault} → IsAnswer dialect text a → answer dialect text ≡ a
-  row_answers (fatal_measurement e h) = row_1 (rw (← (name_fault a_measurement text).holds e h) h)
-  row_answers (no_measurement h) = row_2 h
+  unfolding answer
+  row_answers (fatal_measurement e h) = rw h (ap Err ((name_fault a_measurement text).holds e h))
+  row_answers (no_measurement h) = rw h refl
   row_answers (fatal_tag m after tags rest e named most next) =
       let fault = (the_next_has_the_fault tag (λ t. (tag_no_longer t).holds) after e).1 (tags, rest, most, next) in
-      row_3 m after named (fault ∙ ap fatal (next_tag_fault tags rest e next))
-  row_answers (no_tag m after named h) = row_4 m after named ((the_first_misses tag (λ t. (tag_no_longer t).holds) after).1 h)
-  row_answers (no_space m tags rest series gap) =
-      let s = series_parts series in
-      row_5 m tags s.after rest s.named s.set (no_space_here rest gap)
+      rw (named, fault) (ap Err (next_tag_fault tags rest e next))
+  row_answers (no_tag m after named h) = rw (named, h) refl
+  row_answers (no_space m tags rest series gap) = let s = series_parts series in rw (s.named, s.set, no_byte space rest gap) refl
   row_answers (fatal_field m tags after fields rest e series gap most next) =
       let s = series_parts series in
       let g = space_here after gap in
-      row_6 m tags s.after after g.0 e s.named s.set g.1
-      ((the_next_has_the_fault field (λ t. (field_no_longer t).holds) (after_spaces after) e).1 (fields, rest, most, next))
+      let fault = (the_next_has_the_fault field (λ t. (field_no_longer t).holds) (after_spaces after) e).1 (fields, rest, most, next) in
+      rw (s.named, s.set, g.1, fault) refl
   row_answers (no_field m tags after series gap h) =
       let s = series_parts series in
       let g = space_here after gap in
-      row_7 m tags s.after after g.0 s.named s.set g.1 ((the_first_misses field (λ t. (field_no_longer t).holds) (after_spaces after)).1 h)
+      rw (s.named, s.set, g.1, h) refl
   row_answers (fatal_timestamp line rest side number r stamp) =
       let s = series_parts r.series_reads in
       let g = space_here r.after_series r.gap in
-      row_8 line.measurement line.tags s.after r.after_series g.0 r.after_fields line.fields
-      (timestamp_value_invalid side number) s.named s.set g.1
-      (fields_read (after_spaces r.after_series) line.fields r.after_fields r.fields_read) (ap timestamp (sym r.rest_is) ∙ stamp)
+      let fields = fields_read (after_spaces r.after_series) line.fields r.after_fields r.fields_read in
+      rw (s.named, s.set, g.1, fields, ap timestamp (sym r.rest_is) ∙ stamp) refl
   row_answers (left line rest b more r stamp) =
       let s = series_parts r.series_reads in
       let g = space_here r.after_series r.gap in
-      row_9 line.measurement line.tags s.after r.after_series g.0 r.after_fields line.fields line.timestamp b more s.named s.set g.1
-      (fields_read (after_spaces r.after_series) line.fields r.after_fields r.fields_read) (ap timestamp (sym r.rest_is) ∙ stamp)
+      let fields = fields_read (after_spaces r.after_series) line.fields r.after_fields r.fields_read in
+      rw (s.named, s.set, g.1, fields, ap timestamp (sym r.rest_is) ∙ stamp) refl
   row_answers (all_read line rest r stamp) =
       let s = series_parts r.series_reads in
       let g = space_here r.after_series r.gap in
-      row_10 line s.after r.after_series g.0 r.after_fields s.named s.set g.1
-      (fields_read (after_spaces r.after_series) line.fields r.after_fields r.fields_read) (ap timestamp (sym r.rest_is) ∙ stamp)
-      (front_is text line.series r.after_series r.series_is)
+      let fields = fields_read (after_spaces r.after_series) line.fields r.after_fields r.fields_read in
+      rw (
+        s.named,
+        s.set,
+        g.1,
+        fields,
+        ap timestamp (sym r.rest_is) ∙ stamp,
+        front_is text line.series r.after_series r.series_is,
+      ) refl
 
   -- some row holds
   abbrev SomeRow : Type 0
@@ -299,24 +228,15 @@ module _ (dialect : Dialect) (text : List ℕ) where
 
   -- once a series is read
   by_series : (m : Text) (tags : Option (List (Pair Text Text))) (after : List ℕ) → ReadsSeries text m tags after → SomeRow
-  by_series m tags after h = go after refl
-    where
-      parts : Series text m tags after
-      parts = series_parts h
-
-      ends : EndsIn text after
-      ends = EndsIn-end text parts.after after (name_ends a_measurement text m parts.after parts.named)
-          (tag_set_ends parts.after (record { value = tags; rest = after }) parts.set)
-
-      go : (rest : List ℕ) → rest ≡ after → SomeRow
-      go [] e = (Err take_while1, no_space m tags after h (λ s. subst (BeginsWith space) (sym e) s))
-      go (c ∷ rest) e = elim (cases_Bool (c == 32)) [
-        | inl here ↦
-            by_fields ends.front m tags after ends.is h (subst (BeginsWith space) e (eqb-true c 32 here))
-            (separated_list field (after_spaces after)) refl
-        | inr other ↦
-            (Err take_while1, no_space m tags after h (λ s. both_ways (c == 32) other (eq-eqb c 32 (subst (BeginsWith space) (sym e) s))))
-      ]
+  by_series m tags after h = elim (begins 32 after) [
+    | inl here ↦
+        let parts = series_parts h in
+        let ends : EndsIn text after = EndsIn-end text parts.after after (name_ends a_measurement text m parts.after parts.named)
+        (tag_set_ends parts.after (record { value = tags; rest = after }) parts.set) in
+        by_fields ends.front m tags after ends.is h (subst (BeginsWith space) (sym here.1) refl)
+        (separated_list field (after_spaces after)) refl
+    | inr none ↦ (Err take_while1, no_space m tags after h none)
+  ]
 
   -- once a measurement and a comma are read
   by_tags : (m : Text) (after : List ℕ) → name a_measurement text ≡ reads m (comma ∷ after) → (r : Reading (List (Pair Text Text)))
@@ -332,10 +252,9 @@ module _ (dialect : Dialect) (text : List ℕ) where
 
   -- once a measurement is read
   by_comma : (m : Text) (suffix : List ℕ) → name a_measurement text ≡ reads m suffix → SomeRow
-  by_comma m [] named = by_series m None [] (alone m [] named (λ s. s))
-  by_comma m (c ∷ rest) named = elim (cases_Bool (c == 44)) [
-    | inl here ↦ by_tags m rest (named ∙ ap (λ (b : ℕ). reads m (b ∷ rest)) (eqb-true c 44 here)) (separated_list tag rest) refl
-    | inr other ↦ by_series m None (c ∷ rest) (alone m (c ∷ rest) named (λ s. both_ways (c == 44) other (eq-eqb c 44 s)))
+  by_comma m suffix named = elim (begins 44 suffix) [
+    | inl here ↦ by_tags m here.0 (named ∙ ap (reads m) here.1) (separated_list tag here.0) refl
+    | inr none ↦ by_series m None suffix (alone m suffix named none)
   ]
 
   -- by what the measurement is read as

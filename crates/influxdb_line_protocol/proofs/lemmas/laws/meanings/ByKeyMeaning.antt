@@ -3,12 +3,12 @@ use Rattle.std.proofs.Common.{◌≡◌, ℕ, true, List, [], ◌∷◌, refl, s
 use Rattle.std.specs.Cmp.Lexicographic.{slice_cmp}
 use Rattle.std.specs.List.Sorted.{IsPermutation}
 use Rattle.std.specs.Ordering.{is_lt, nat_cmp}
-use Rattle.std.proofs.lemmas.Bool.{and_parts, and_from}
+use Rattle.std.proofs.lemmas.Bool.{and_from}
 use Rattle.std.proofs.lemmas.List.Sorted.{IsPermutation-sym, IsPermutation-trans}
 use Rattle.influxdb_line_protocol.specs.code.Bases.{by_key, in_order, is_strictly_sorted}
 use Rattle.influxdb_line_protocol.specs.laws.BaseLaws.{entry_keys, TagsByKeyAreSorted}
-use Rattle.influxdb_line_protocol.proofs.lemmas.laws.bases_tell_series.SortedTags.{Rise, below_all, by_key_permutes, by_key_rises}
-use Rattle.influxdb_line_protocol.proofs.lemmas.laws.bases_tell_series.SortedTags.{less_from_test, same_moved}
+use Rattle.influxdb_line_protocol.proofs.lemmas.laws.bases_tell_series.SortedTags.{Rise, by_key_permutes, by_key_rises, passes_rise}
+use Rattle.influxdb_line_protocol.proofs.lemmas.laws.bases_tell_series.SortedTags.{same_moved}
 
 -- keys that rise pass the test
 rise_passes : (es : List (List ℕ × List ℕ)) → Rise es → is_strictly_sorted (entry_keys es) ≡ true
@@ -16,16 +16,6 @@ rise_passes [] h = refl
 rise_passes (e ∷ []) h = refl
 rise_passes (e ∷ f ∷ es) h =
     and_from (is_lt (slice_cmp nat_cmp e.0 f.0)) (is_strictly_sorted (entry_keys (f ∷ es))) (ap is_lt h.0.0) (rise_passes (f ∷ es) h.1)
-
--- and keys that pass it rise
-passes_rise : (es : List (List ℕ × List ℕ)) → is_strictly_sorted (entry_keys es) ≡ true → Rise es
-passes_rise [] h = tt
-passes_rise (e ∷ []) h = (tt, tt)
-passes_rise (e ∷ f ∷ es) h =
-    let parts = and_parts (is_lt (slice_cmp nat_cmp e.0 f.0)) (is_strictly_sorted (entry_keys (f ∷ es))) h in
-    let less = less_from_test _ parts.0 in
-    let more = passes_rise (f ∷ es) parts.1 in
-    ((less, below_all e.0 f.0 es less more.0), more)
 
 -- the tags by their keys, and no other list
 pub tags_by_key_are_sorted : TagsByKeyAreSorted

@@ -5,7 +5,7 @@ use Rattle.std.proofs.lemmas.Bool.{cases_Bool, eqb-true, eqb-false}
 use Rattle.influxdb_line_protocol.specs.format.Bytes.{is_one_of}
 use Rattle.influxdb_line_protocol.specs.format.Escapes.{without_escapes}
 use Rattle.influxdb_line_protocol.specs.laws.Meanings.{IsLogical, empty, plain, escape, other, end}
-use Rattle.influxdb_line_protocol.proofs.lemmas.names.NameLemmas.{without_escapes_plain_byte, without_escapes_known}
+use Rattle.influxdb_line_protocol.proofs.lemmas.names.NameLemmas.{without_escapes_plain_byte}
 
 -- a backslash and a byte that is not known stay
 pub without_escapes_other : (known : List ℕ) (c : ℕ) (rest : List ℕ) → is_one_of known c ≡ false
@@ -13,36 +13,23 @@ pub without_escapes_other : (known : List ℕ) (c : ℕ) (rest : List ℕ) → i
 unfolding without_escapes
 without_escapes_other known c rest h = rw h refl
 
--- one byte stays
-without_escapes_end : (known : List ℕ) (b : ℕ) → without_escapes known (b ∷ []) ≡ b ∷ []
-unfolding without_escapes
-without_escapes_end known b = refl
-
--- nothing stays nothing
-without_escapes_empty : (known : List ℕ) → without_escapes known [] ≡ []
-unfolding without_escapes
-without_escapes_empty known = refl
-
 -- a text has no logical text but that without escapes
 pub logical_is_unique : (known : List ℕ) (spelled logical : List ℕ) → IsLogical known spelled logical
     → logical ≡ without_escapes known spelled
-logical_is_unique known _ _ empty = sym (without_escapes_empty known)
+unfolding without_escapes
+logical_is_unique known _ _ empty = refl
 logical_is_unique known _ _ (plain b s l differs more) =
     ap (λ (xs : List ℕ). b ∷ xs) (logical_is_unique known s l more) ∙ sym (without_escapes_plain_byte known b s differs)
-logical_is_unique known _ _ (escape c s l is more) =
-    ap (λ (xs : List ℕ). c ∷ xs) (logical_is_unique known s l more) ∙ sym (without_escapes_known known c s is)
-logical_is_unique known _ _ (other c s l is more) =
-    ap (λ (xs : List ℕ). 92 ∷ c ∷ xs) (logical_is_unique known s l more) ∙ sym (without_escapes_other known c s is)
-logical_is_unique known _ _ end = sym (without_escapes_end known 92)
+logical_is_unique known _ _ (escape c s l is more) = rw is (ap (λ (xs : List ℕ). c ∷ xs) (logical_is_unique known s l more))
+logical_is_unique known _ _ (other c s l is more) = rw is (ap (λ (xs : List ℕ). 92 ∷ c ∷ xs) (logical_is_unique known s l more))
+logical_is_unique known _ _ end = refl
 
 -- what begins with a backslash and another byte, from what follows them
 logical_escaped : (known : List ℕ) (c : ℕ) (rest : List ℕ) → IsLogical known rest (without_escapes known rest)
     → IsLogical known (92 ∷ c ∷ rest) (without_escapes known (92 ∷ c ∷ rest))
+unfolding without_escapes
 logical_escaped known c rest more =
-    elim (cases_Bool (is_one_of known c)) [
-      | inl is ↦ subst (IsLogical known (92 ∷ c ∷ rest)) (sym (without_escapes_known known c rest is)) (escape c rest _ is more)
-      | inr is ↦ subst (IsLogical known (92 ∷ c ∷ rest)) (sym (without_escapes_other known c rest is)) (other c rest _ is more)
-    ]
+    elim (cases_Bool (is_one_of known c)) [ inl is ↦ rw is (escape c rest _ is more) | inr is ↦ rw is (other c rest _ is more) ]
 
 -- what begins with another byte, from what follows it
 logical_plain : (known : List ℕ) (b : ℕ) (rest : List ℕ) → b ≢ 92 → IsLogical known rest (without_escapes known rest)
@@ -52,10 +39,11 @@ logical_plain known b rest differs more =
 
 -- the text without escapes is a logical text
 pub has_logical : (known : List ℕ) (spelled : List ℕ) → IsLogical known spelled (without_escapes known spelled)
-has_logical known [] = subst (IsLogical known []) (sym (without_escapes_empty known)) empty
+unfolding without_escapes
+has_logical known [] = empty
 has_logical known (b ∷ []) =
     elim (cases_Bool (b == 92)) [
-      | inl e ↦ rw (eqb-true b 92 e) (subst (IsLogical known (92 ∷ [])) (sym (without_escapes_end known 92)) end)
+      | inl e ↦ rw (eqb-true b 92 e) end
       | inr e ↦ logical_plain known b [] (eqb-false b 92 e) (has_logical known [])
     ]
 has_logical known (b ∷ c ∷ rest) =

@@ -2,7 +2,8 @@
 use Rattle.std.proofs.Common.{◌≡◌, ◌↔◌, ℕ, suc, ◌≤◌, List, [], ◌∷◌, ◌++◌, length, take, Bool, true, false, not, ◌&&◌, cond, refl, sym, ap}
 use Rattle.std.proofs.Common.{◌∙◌, subst, inl, inr, arith, length-take, append_assoc, append-nil}
 use Rattle.std.specs.List.{All, range_with_len}
-use Rattle.std.proofs.lemmas.Bool.{cases_Bool, and_parts, and_right}
+use Rattle.std.proofs.lemmas.Bool.{cases_Bool, and_parts, and_right, not-true}
+use Rattle.std.proofs.Math.Seq.{take-append_seam}
 use Rattle.std.proofs.lemmas.List.Sums.{prefix_len-le-length}
 use Rattle.std.proofs.lemmas.List.FromFn.{length-range_with_len}
 use Rattle.std.proofs.lemmas.List.Elements.{All-cons, All-nil}
@@ -11,11 +12,6 @@ use Rattle.influxdb_line_protocol.specs.laws.Meanings.{IsAtStop, IsBeforeStop}
 use Rattle.influxdb_line_protocol.proofs.lemmas.tokens.EscapeLemmas.{is_escaped_push}
 use Rattle.influxdb_line_protocol.proofs.lemmas.scan.ScanLemmas.{bare_len, first_bare_len}
 use Rattle.influxdb_line_protocol.proofs.lemmas.split.SplitBare.{is_escaped-nil}
-
--- what is not escaped
-bare_of_no : (e : Bool) → not e ≡ true → e ≡ false
-bare_of_no true h = absurd (cc)
-bare_of_no false h = refl
 
 module _ (passes : ℕ → Bool) where
   -- none of the bytes passes
@@ -71,7 +67,7 @@ module _ (passes : ℕ → Bool) where
       elim (cases_Bool (passes b && not (is_escaped_after p))) [
         | inl stop ↦
             let parts = and_parts (passes b) (not (is_escaped_after p)) stop in
-            (bare_of_no (is_escaped_after p) parts.1, parts.0)
+            (not-true (is_escaped_after p) parts.1, parts.0)
         | inr on ↦ let more = sym (len_more p b after on) ∙ h in absurd (omega arith)
       ]
 
@@ -98,11 +94,6 @@ module _ (passes : ℕ → Bool) where
   first_len : (text : List ℕ) → first_bare passes text ≡ bare_len passes (is_escaped_after []) text
   first_len text = first_bare_len passes text ∙ ap (λ (e : Bool). bare_len passes e text) (sym is_escaped-nil)
 
-  -- the front of a text is taken by its length
-  front_taken : (front after : List ℕ) → take (length front) (front ++ after) ≡ front
-  front_taken [] after = refl
-  front_taken (b ∷ front) after = ap (λ (t : List ℕ). b ∷ t) (front_taken front after)
-
   -- the first stop is in the text or at its end
   first_fits : (text : List ℕ) → first_bare passes text ≤ length text
   unfolding first_bare
@@ -122,5 +113,5 @@ module _ (passes : ℕ → Bool) where
         record { none = b.none; at_stop = b.at_stop }),
     (λ h.
         ap (λ (n : ℕ). take n (front ++ after)) (first_len (front ++ after) ∙ stop_len [] front after h.none h.at_stop)
-        ∙ front_taken front after),
+        ∙ take-append_seam front after),
   )

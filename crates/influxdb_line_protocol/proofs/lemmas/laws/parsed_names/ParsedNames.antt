@@ -1,27 +1,31 @@
 -- Which names lines can have, and that they can have each of them.
-use Rattle.std.proofs.Common.{◌≡◌, ◌≢◌, ℕ, List, [], ◌∷◌, length, drop, map, slice_index, Bool, true, false, ◌||◌, refl, ap, ◌∙◌, subst}
-use Rattle.std.proofs.Common.{arith, inl, inr, Option, Some, None, Ok, Err, Result}
+use Rattle.std.proofs.Common.{◌≡◌, ◌≢◌, ℕ, List, [], ◌∷◌, length, drop, map, slice_index, Bool, true, false, ◌||◌, refl, sym, ap, subst}
+use Rattle.std.proofs.Common.{arith, inl, inr, Option, None, Ok, Result}
 use Rattle.std.specs.Prelude.{◌==◌, ℤ}
 use Rattle.std.specs.List.{AllByRecursion, Contains}
 use Rattle.std.proofs.lemmas.Bool.{cases_Bool, or_parts, eqb-false, eqb-true}
 use Rattle.std.proofs.lemmas.List.Elements.{Contains-append_cases}
 use Rattle.influxdb_line_protocol.specs.format.Dialects.{Dialect, Strict}
-use Rattle.influxdb_line_protocol.specs.format.Bytes.{space}
-use Rattle.influxdb_line_protocol.specs.format.Readings.{Fault, measurement_value_invalid, field_set_missing, take_while1, Text, Read}
-use Rattle.influxdb_line_protocol.specs.format.Readings.{Reading, miss, fatal, reads, or_fault}
+use Rattle.influxdb_line_protocol.specs.format.Readings.{Fault, Text}
+use Rattle.influxdb_line_protocol.specs.format.Readings.{reads}
 use Rattle.influxdb_line_protocol.specs.format.Names.{NameKind, a_measurement, a_tag_key, a_tag_value, a_field_key, name}
 use Rattle.influxdb_line_protocol.specs.format.Values.{Value, value}
-use Rattle.influxdb_line_protocol.specs.format.Points.{Pair, Point}
+use Rattle.influxdb_line_protocol.specs.format.Points.{Pair, Point, Tag}
 use Rattle.influxdb_line_protocol.specs.format.Trimming.{trimmed}
-use Rattle.influxdb_line_protocol.specs.format.Lines.{Line, point_of, logical_tag, logical_field, some_tags, byte, tag, field}
-use Rattle.influxdb_line_protocol.specs.format.Lines.{separated_list, tag_set, field_set, without_comma, spaces, timestamp, complete}
-use Rattle.influxdb_line_protocol.specs.format.Lines.{front_before, answer, ◌then◌}
+use Rattle.influxdb_line_protocol.specs.format.Lines.{Line, point_of, logical_tag, logical_field, some_tags, tag, field}
+use Rattle.influxdb_line_protocol.specs.format.Lines.{separated_list, tag_set, field_set, without_comma, spaces, timestamp}
+use Rattle.influxdb_line_protocol.specs.format.Lines.{front_before, answer}
 use Rattle.influxdb_line_protocol.specs.format.Items.{HasAnswers, answers_of_piece, answers_of}
 use Rattle.influxdb_line_protocol.specs.laws.NamesOfLines.{names_of, IsParsedName, IsNothingOrSpaced}
 use Rattle.influxdb_line_protocol.specs.laws.Laws.{NamesAreParsed, StrictFieldsEnd}
 use Rattle.influxdb_line_protocol.proofs.lemmas.line.TrimLemmas.{is_blank, left_of, trimmed_is}
 use Rattle.influxdb_line_protocol.proofs.lemmas.laws.parsed_names.KeptNames.{name_parsed}
-use Rattle.influxdb_line_protocol.proofs.lemmas.laws.parsed_names.Inversions.{joined_of}
+use Rattle.influxdb_line_protocol.proofs.lemmas.laws.parsed_names.Inversions.{after_all, joined_of}
+use Rattle.influxdb_line_protocol.specs.laws.MeaningsOfAnswers.{after_spaces, IsAnswer, IsAnswer.all_read}
+use Rattle.influxdb_line_protocol.proofs.lemmas.laws.meanings.AnswerMeaning.{answer_is_by_rows, fields_read, series_parts}
+use Rattle.influxdb_line_protocol.proofs.lemmas.laws.meanings.ShorterRests.{field_no_longer}
+use Rattle.influxdb_line_protocol.proofs.lemmas.laws.bases_tell_series.BasesTellSeries.{set_separated}
+use Rattle.influxdb_line_protocol.proofs.lemmas.laws.batch_reads_back.LineReadsBack.{front_is}
 use Rattle.influxdb_line_protocol.proofs.lemmas.fields.ReadingLemmas.{bind_reads, pair_parts}
 use Rattle.influxdb_line_protocol.proofs.lemmas.laws.Elements.{first_or_later}
 
@@ -50,34 +54,10 @@ field_parsed line f rest h =
 pub ok_same : {A : Type 0} (x y : A) → (let f : Result A Fault = Ok x in f) ≡ Ok y → x ≡ y
 ok_same x y h = cc
 
--- the tags that a set has
-no_tags : (rest after : List ℕ) (ts : Option (List (Pair Text Text)))
-    → (let r : Result (Read (Option (List (Pair Text Text)))) Fault = Ok (record { value = None; rest = after }) in
-    r) ≡ Ok (record { value = ts; rest = rest })
-    → AllByRecursion ParsedTag (some_tags ts)
-no_tags rest after ts h =
-    let same : None ≡ ts = ap (λ r. r.value) (ok_same (record { value = None; rest = after }) (record { value = ts; rest = rest }) h) in
-    subst (λ us. AllByRecursion ParsedTag (some_tags us)) same tt
-
 -- the tags of a set
 tag_set_parsed : (line rest : List ℕ) (ts : Option (List (Pair Text Text)))
     → tag_set line ≡ Ok (record { value = ts; rest = rest }) → AllByRecursion ParsedTag (some_tags ts)
-tag_set_parsed [] rest ts h = no_tags rest [] ts h
-tag_set_parsed (c ∷ line) rest ts h =
-    elim (cases_Bool (c == 44)) [
-      | inl sign ↦ with_tags (separated_list tag line) refl (rw sign at h)
-      | inr other ↦ no_tags rest (c ∷ line) ts (rw other at h)
-    ]
-  where
-    with_tags : (r : Reading (List (Pair Text Text))) → separated_list tag line ≡ r
-        → tag_set (44 ∷ line) ≡ Ok (record { value = ts; rest = rest }) → AllByRecursion ParsedTag (some_tags ts)
-    with_tags miss e h = let wrong = rw e at h in absurd (cc)
-    with_tags (fatal d) e h = let wrong = rw e at h in absurd (cc)
-    with_tags (reads us after) e h =
-        let found = rw e at h in
-        let same : Some us ≡ ts = ap (λ r. r.value)
-        (ok_same (record { value = Some us; rest = after }) (record { value = ts; rest = rest }) found) in
-        subst (λ us. AllByRecursion ParsedTag (some_tags us)) same (joined_of ParsedTag tag tag_parsed line after us e)
+tag_set_parsed line rest ts h = after_all ParsedTag tag tag_parsed (some_tags ts) line rest (set_separated line rest ts h)
 
 -- the fields
 field_set_parsed : (dialect : Dialect) (line rest : List ℕ) (fs : List (Pair Text (Value Text)))
@@ -85,7 +65,8 @@ field_set_parsed : (dialect : Dialect) (line rest : List ℕ) (fs : List (Pair T
 field_set_parsed dialect line rest fs h =
     let parts = bind_reads (separated_list field line) (λ xs. reads xs.value (without_comma dialect xs.value xs.rest)) fs rest h in
     let same : parts.first ≡ fs = cc (parts.next) in
-    subst (AllByRecursion ParsedField) same (joined_of ParsedField field field_parsed line parts.mid parts.first parts.was)
+    subst (AllByRecursion ParsedField) same
+    (joined_of ParsedField field field_parsed (λ t. (field_no_longer t).holds) line parts.mid parts.first parts.was)
 
 -- what the parts of an answer were read from
 pub record Parts (dialect : Dialect) (line : List ℕ) (l : Line) : Type 0 where
@@ -98,87 +79,24 @@ pub record Parts (dialect : Dialect) (line : List ℕ) (l : Line) : Type 0 where
   pub fields : field_set dialect (drop (spaces tags_rest) tags_rest) ≡ reads l.fields fields_rest
   pub stamp : timestamp fields_rest ≡ Ok (record { value = l.timestamp; rest = [] })
 
--- the parts of an answer, one after another
-after_fields : List ℕ → Text → Read (Option (List (Pair Text Text))) → Read (List (Pair Text (Value Text))) → Result Line Fault
-after_fields line m tags fields =
-    timestamp fields.rest then λ t.
-    complete (record {
-      series = front_before line tags.rest;
-      measurement = m;
-      tags = tags.value;
-      fields = fields.value;
-      timestamp = t.value;
-    }) t.rest
-
--- from what comes after the tags on
-after_tags : Dialect → List ℕ → Text → Read (Option (List (Pair Text Text))) → Result Line Fault
-after_tags dialect line m tags =
-    or_fault take_while1 (byte space tags.rest) then λ gap.
-    or_fault field_set_missing (field_set dialect (drop (spaces tags.rest) tags.rest)) then after_fields line m tags
-
--- and from what comes after the measurement on
-after_measurement : Dialect → List ℕ → Read Text → Result Line Fault
-after_measurement dialect line m = tag_set m.rest then after_tags dialect line m.value
-
--- what was answered in two steps
-record Then {A B : Type 0} (r : Result (Read A) Fault) (f : Read A → Result B Fault) (y : B) : Type 0 where
-  read : Read A
-  first : r ≡ Ok read
-  second : f read ≡ Ok y
-
--- each answer of two steps is such
-then_parts : {A B : Type 0} (r : Result (Read A) Fault) (f : Read A → Result B Fault) (y : B) → (r then f) ≡ Ok y → Then r f y
-then_parts (Ok x) f y h = record { read = x; first = refl; second = h }
-then_parts (Err e) f y h = absurd (cc)
-
--- what had to be read was read
-must_read : {A : Type 0} (e : Fault) (r : Reading A) (x : Read A) → or_fault e r ≡ Ok x → r ≡ reads x.value x.rest
-must_read e miss x h = absurd (cc)
-must_read e (fatal d) x h = absurd (cc)
-must_read {A = A} e (reads y rest) x h = ap (λ (z : Read A). reads z.value z.rest) (ok_same (record { value = y; rest = rest }) x h)
-
--- nothing is left after what is complete
-completed : (r l : Line) (rest : List ℕ) → complete r rest ≡ Ok l → (r ≡ l) × (rest ≡ [])
-completed r l [] h = (ok_same r l h, refl)
-completed r l (b ∷ rest) h = absurd (cc)
-
 -- the parts of each line that is answered
 pub answer_parts : (dialect : Dialect) (line : List ℕ) (l : Line) → answer dialect line ≡ Ok l → Parts dialect line l
-unfolding answer after_measurement after_tags after_fields
-answer_parts dialect line l h =
-    let m = then_parts (or_fault measurement_value_invalid (name a_measurement line)) (after_measurement dialect line) l h in
-    let ts = then_parts (tag_set m.read.rest) (after_tags dialect line m.read.value) l m.second in
-    let gap = then_parts (or_fault take_while1 (byte space ts.read.rest))
-    (λ gap. or_fault field_set_missing
-    (field_set dialect (drop (spaces ts.read.rest) ts.read.rest)) then after_fields line m.read.value ts.read) l ts.second in
-    let fs = then_parts (or_fault field_set_missing (field_set dialect (drop (spaces ts.read.rest) ts.read.rest)))
-    (after_fields line m.read.value ts.read) l gap.second in
-    let t = then_parts (timestamp fs.read.rest)
-    (λ t. complete (record {
-      series = front_before line ts.read.rest;
-      measurement = m.read.value;
-      tags = ts.read.value;
-      fields = fs.read.value;
-      timestamp = t.value;
-    }) t.rest) l fs.second in
-    let whole = completed (record {
-      series = front_before line ts.read.rest;
-      measurement = m.read.value;
-      tags = ts.read.value;
-      fields = fs.read.value;
-      timestamp = t.read.value;
-    }) l t.read.rest t.second in
-    subst (Parts dialect line) whole.0
-    (record {
-      measurement_rest = m.read.rest;
-      tags_rest = ts.read.rest;
-      fields_rest = fs.read.rest;
-      series = refl;
-      measurement = must_read measurement_value_invalid (name a_measurement line) m.read m.first;
-      tags = ts.first;
-      fields = must_read field_set_missing (field_set dialect (drop (spaces ts.read.rest) ts.read.rest)) fs.read fs.first;
-      stamp = t.first ∙ ap (λ (xs : List ℕ). Ok (record { value = t.read.value; rest = xs })) whole.1;
-    })
+answer_parts dialect line l h = by_row ((answer_is_by_rows dialect line (Ok l)).0 h)
+  where
+    by_row : IsAnswer dialect line (Ok l) → Parts dialect line l
+    by_row (all_read _ rest r stamp) =
+        let s = series_parts r.series_reads in
+        let fields = fields_read (after_spaces r.after_series) l.fields r.after_fields r.fields_read in
+        record {
+          measurement_rest = s.after;
+          tags_rest = r.after_series;
+          fields_rest = rest;
+          series = sym (front_is line l.series r.after_series r.series_is);
+          measurement = s.named;
+          tags = s.set;
+          fields = rw fields (ap (reads l.fields) (sym r.rest_is));
+          stamp = stamp;
+        }
 
 -- a text that is a timestamp to its end begins with a space
 stamp_begins : (text : List ℕ) (t : Option ℤ) → timestamp text ≡ Ok (record { value = t; rest = [] }) → IsNothingOrSpaced text
@@ -237,16 +155,15 @@ all_of : {X : Type 0} (P : X → Type 0) (xs : List X) (x : X) → AllByRecursio
 all_of P [] x all h = absurd (nothing_in_nil x h)
 all_of P (y ∷ xs) x all h = elim (first_or_later y x xs h) [ inl same ↦ subst P same all.0 | inr later ↦ all_of P xs x all.1 later ]
 
--- what holds of each made element
-all_made : {X Y : Type 0} (P : Y → Type 0) (make : X → Y) (xs : List X) → AllByRecursion (λ x. P (make x)) xs
-    → AllByRecursion P (map make xs)
-all_made P make [] all = tt
-all_made P make (x ∷ xs) all = (all.0, all_made P make xs all.1)
+-- what each made element has from what it is made of
+all_made : {X Y : Type 0} (P : X → Type 0) (Q : Y → Type 0) (make : X → Y) → ((x : X) → P x → Q (make x)) → (xs : List X)
+    → AllByRecursion P xs → AllByRecursion Q (map make xs)
+all_made P Q make part [] all = tt
+all_made P Q make part (x ∷ xs) all = (part x all.0, all_made P Q make part xs all.1)
 
--- and of one part of each
-pub all_parts : {X : Type 0} (P Q : X → Type 0) → ((x : X) → P x → Q x) → (xs : List X) → AllByRecursion P xs → AllByRecursion Q xs
-all_parts P Q part [] all = tt
-all_parts P Q part (x ∷ xs) all = (part x all.0, all_parts P Q part xs all.1)
+-- both names of a tag are parsed names
+abbrev HasParsedNames : Tag → Type 0
+HasParsedNames t = IsParsedName a_tag_key t.key × IsParsedName a_tag_value t.value
 
 -- a point whose names are all parsed names
 pub record ParsedPoint (p : Point) : Type 0 where
@@ -262,25 +179,20 @@ line_parsed dialect text line begins h =
     record {
       measurement = name_parsed a_measurement text parts.measurement_rest line.measurement parts.measurement begins;
       tags =
-          all_made (λ t. IsParsedName a_tag_key t.key × IsParsedName a_tag_value t.value) logical_tag (some_tags line.tags)
+          all_made ParsedTag HasParsedNames logical_tag (λ t h. h) (some_tags line.tags)
           (tag_set_parsed parts.measurement_rest parts.tags_rest line.tags parts.tags);
       fields =
-          all_made (λ f. IsParsedName a_field_key f.key) logical_field line.fields
+          all_made ParsedField (λ f. IsParsedName a_field_key f.key) logical_field (λ f h. h) line.fields
           (field_set_parsed dialect (drop (spaces parts.tags_rest) parts.tags_rest) parts.fields_rest line.fields parts.fields);
     }
 
 -- the names of such a point
 point_names : (kind : NameKind) (p : Point) → ParsedPoint p → AllByRecursion (IsParsedName kind) (names_of kind p)
 point_names a_measurement p h = (h.measurement, tt)
-point_names a_tag_key p h =
-    all_made (IsParsedName a_tag_key) (λ t. t.key) p.tags
-    (all_parts (λ t. IsParsedName a_tag_key t.key × IsParsedName a_tag_value t.value)
-    (λ t. IsParsedName a_tag_key t.key) (λ t both. both.0) p.tags h.tags)
-point_names a_tag_value p h =
-    all_made (IsParsedName a_tag_value) (λ t. t.value) p.tags
-    (all_parts (λ t. IsParsedName a_tag_key t.key × IsParsedName a_tag_value t.value)
-    (λ t. IsParsedName a_tag_value t.value) (λ t both. both.1) p.tags h.tags)
-point_names a_field_key p h = all_made (IsParsedName a_field_key) (λ f. f.key) p.fields h.fields
+point_names a_tag_key p h = all_made HasParsedNames (IsParsedName a_tag_key) (λ t. t.key) (λ t both. both.0) p.tags h.tags
+point_names a_tag_value p h = all_made HasParsedNames (IsParsedName a_tag_value) (λ t. t.value) (λ t both. both.1) p.tags h.tags
+point_names a_field_key p h =
+    all_made (λ f. IsParsedName a_field_key f.key) (IsParsedName a_field_key) (λ f. f.key) (λ f h. h) p.fields h.fields
 
 -- the piece that an answer is given for
 pub record Answered (dialect : Dialect) (line : Line) : Type 0 where

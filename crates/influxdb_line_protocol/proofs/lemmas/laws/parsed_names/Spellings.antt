@@ -12,7 +12,7 @@ use Rattle.influxdb_line_protocol.specs.format.Escapes.{escaped, without_escapes
 use Rattle.influxdb_line_protocol.specs.format.Readings.{fatal, reads, ends_with_backslash}
 use Rattle.influxdb_line_protocol.specs.format.Names.{NameKind, a_measurement, a_tag_key, a_tag_value, a_field_key, ends_in_backslash}
 use Rattle.influxdb_line_protocol.specs.format.Names.{escapable, is_escapable, is_stop, logical, name, read_text, spelled, spelled_len}
-use Rattle.influxdb_line_protocol.specs.format.Points.{never_in, spelling}
+use Rattle.influxdb_line_protocol.specs.format.Points.{is_admitted_name, never_in, spelling}
 use Rattle.influxdb_line_protocol.specs.format.Pieces.{begins_comment}
 use Rattle.influxdb_line_protocol.specs.format.Trimming.{trimmed}
 use Rattle.influxdb_line_protocol.specs.format.Lines.{spaces}
@@ -20,6 +20,7 @@ use Rattle.influxdb_line_protocol.proofs.lemmas.names.NameLemmas.{escapable_back
 use Rattle.influxdb_line_protocol.proofs.lemmas.names.NameLemmas.{logical_ends, name_fatal, name_reads}
 use Rattle.influxdb_line_protocol.proofs.lemmas.laws.batch_reads_back.NameReadsBack.{may_hold, stop_escapable, plain_no_backslash}
 use Rattle.influxdb_line_protocol.proofs.lemmas.laws.batch_reads_back.NameReadsBack.{backslash_no_stop, escaped_found, escaped_plain}
+use Rattle.influxdb_line_protocol.proofs.lemmas.laws.batch_reads_back.NameReadsBack.{admitted_parts, begins_otherwise, read_name}
 use Rattle.influxdb_line_protocol.proofs.lemmas.scan.ScanLemmas.{bare_len, first_bare_len}
 use Rattle.influxdb_line_protocol.proofs.lemmas.line.TrimLemmas.{is_blank, trimmed_is}
 use Rattle.influxdb_line_protocol.proofs.lemmas.laws.batch_reads_back.Reaches.{Reaches, ChangesNothing, reaches_pair, reaches_byte}
@@ -103,6 +104,10 @@ spelling_as kind (b ∷ n) all =
       | inr other ↦ rw (escaped_plain (escapable kind) n b other) (plain b n (spelling kind n) other parts.0 (spelling_as kind n parts.1))
     ]
 
+-- so is that of an admitted name
+pub admitted_spelled : (kind : NameKind) (n : List ℕ) → is_admitted_name kind n ≡ true → SpelledAs kind n (spelling kind n)
+admitted_spelled kind n ok = spelling_as kind n (admitted_parts kind n ok).may
+
 -- nothing follows a name, or a byte that ends it
 abbrev pub Stops : NameKind → List ℕ → Type 0
 Stops kind [] = Unit {0}
@@ -164,6 +169,13 @@ spelled_reads {kind = kind} {n = n} {s = s} h some last rest ends =
     let read = name_reads kind (s ++ rest) (rw (parts.front) (spelled_some h some)) (rw (parts.front) same) in
     rw (parts.front, parts.after) at read
 
+-- a name that is admitted reads back, before each byte that ends it
+pub name_reads_back : (kind : NameKind) (n rest : List ℕ) (stop : ℕ) → is_admitted_name kind n ≡ true → is_stop kind stop ≡ true
+    → name kind (spelling kind n ++ stop ∷ rest) ≡ reads (read_name kind n) (stop ∷ rest)
+name_reads_back kind n rest stop ok ends =
+    let parts = admitted_parts kind n ok in
+    spelled_reads (admitted_spelled kind n ok) parts.some parts.ends (stop ∷ rest) ends
+
 -- and where it does, that is fatal
 pub spelled_fatal : {kind : NameKind} {n s : List ℕ} → SpelledAs kind n s → 0 < length n
     → ends_in_backslash n ≡ true → (rest : List ℕ) → Stops kind rest
@@ -206,6 +218,11 @@ spelled_begins (escape b n s known more) some no_hash rest = refl
 spelled_begins (plain b n s other may more) some no_hash rest = begins_plain b other may no_hash
 spelled_begins (pair c n s never more) some no_hash rest = refl
 
+-- so does an admitted one
+pub measurement_begins : (m rest : List ℕ) → is_admitted_name a_measurement m ≡ true → BeginsLine (spelling a_measurement m ++ rest)
+measurement_begins m rest ok =
+    spelled_begins (admitted_spelled a_measurement m ok) (admitted_parts a_measurement m ok).some (begins_otherwise m ok) rest
+
 -- no space is at the start of a spelling
 pub spelled_spaces : {kind : NameKind} {n s : List ℕ} → SpelledAs kind n s → 0 < length n → (rest : List ℕ) → spaces (s ++ rest) ≡ 0
 spelled_spaces done some rest = absurd (omega (arith, some))
@@ -242,6 +259,11 @@ pub reaches_head : {kind : NameKind} {n s : List ℕ} → SpelledAs kind n s →
 reaches_head {kind = kind} h piece r =
     reaches_spelled Head 0 0 (λ b may other.
     (no_backslash kind b other, λ q f i. Head-other 0 0 q b f (no_space kind b other) (no_newline kind b may) i)) h piece r
+
+-- a name in the head
+pub reaches_name : (kind : NameKind) (n piece : List ℕ) → is_admitted_name kind n ≡ true → Reaches Head 0 0 piece
+    → Reaches Head 0 0 (piece ++ spelling kind n)
+reaches_name kind n piece ok r = reaches_head (admitted_spelled kind n ok) piece r
 
 -- a byte that means nothing there
 pub reaches_other : (b : ℕ) → b ≢ 92 → b ≢ 32 → b ≢ 10 → (piece : List ℕ) → Reaches Head 0 0 piece → Reaches Head 0 0 (piece ++ b ∷ [])

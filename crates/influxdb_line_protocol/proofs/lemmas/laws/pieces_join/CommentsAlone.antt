@@ -1,8 +1,8 @@
 -- A comment has no answer, so that another one in its place changes no answer.
-use Rattle.std.proofs.Common.{◌≡◌, ◌≢◌, ℕ, ◌==◌, ◌&&◌, ◌||◌, Bool, true, false, List, [], ◌∷◌, ◌++◌, Result, refl, sym, ap, ◌∙◌, arith, inl}
+use Rattle.std.proofs.Common.{◌≡◌, ◌≢◌, ℕ, ◌==◌, ◌||◌, true, false, List, [], ◌∷◌, ◌++◌, Result, refl, sym, ap, ◌∙◌, arith, inl}
 use Rattle.std.proofs.Common.{inr}
 use Rattle.std.specs.List.{All}
-use Rattle.std.proofs.lemmas.Bool.{cases_Bool, false≢true, ne_eqb}
+use Rattle.std.proofs.lemmas.Bool.{and_parts, cases_Bool, false≢true, ne_eqb}
 use Rattle.std.proofs.lemmas.Grind.{common_steps, flat_map-append}
 use Rattle.std.proofs.lemmas.List.Elements.{All-head, All-tail}
 use Rattle.influxdb_line_protocol.specs.format.Dialects.{Dialect, Strict}
@@ -21,19 +21,9 @@ inside_left [] h = refl
 inside_left (b ∷ text) h =
     rw (ne_eqb b 10 (All-head (λ c. c ≢ 10) b text h)) (inside_left text (All-tail (λ c. c ≢ 10) b text h))
 
--- a conjunction that is true has both its parts true
-both : (s t : Bool) → s && t ≡ true → (s ≡ true) × (t ≡ true)
-both true t e = (refl, e)
-both false t e = absurd (false≢true e)
-
 -- a space and a tab are blanks
 blank_is : (b : ℕ) → (b == 32 || b == 9) ≡ true → is_blank b ≡ true
 blank_is b e = grind (arith, common_steps)
-
--- a text that begins as a comment but not with `#` has a blank first, and begins as a comment after it
-after_blank : (s t u : Bool) → s ≡ false → s || t && u ≡ true → (t ≡ true) × (u ≡ true)
-after_blank true t u plain e = absurd (false≢true (sym plain))
-after_blank false t u plain e = both t u e
 
 -- nothing is left of a comment
 comment_left : (text : List ℕ) → begins_comment text ≡ true → All (λ b. b ≢ 10) text → left_of false text ≡ []
@@ -44,7 +34,7 @@ comment_left (b ∷ text) e h =
     elim (cases_Bool (b == 35)) [
       | inl sharp ↦ rw (on, sharp) (inside_left text rest)
       | inr plain ↦
-          let after = after_blank (b == 35) (b == 32 || b == 9) (begins_comment text) plain e in
+          let after = and_parts (b == 32 || b == 9) (begins_comment text) (rw plain at e) in
           rw (on, plain, blank_is b after.0) (comment_left text after.1 rest)
     ]
 
