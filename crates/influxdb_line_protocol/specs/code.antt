@@ -24,4 +24,3 @@ pub mod Tracks
 pub mod Streams
 pub mod Lending
 pub mod Bounded
-pub mod LendingWithin

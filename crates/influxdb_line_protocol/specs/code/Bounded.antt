@@ -67,14 +67,10 @@ GivesOf before text (Some (Err fault)) after =
 
 -- a call finds the first cut, or takes the first piece where it is too long
 abbrev pub FindsWithin : HeldWithin → Option (Result Mark TooLong) → HeldWithin → Type 0
-FindsWithin before None after =
-    (text : List ℕ) → Holds before text → Holds after text × IsLastPiece before.held.dialect text × (kept after ≤ before.limit)
+FindsWithin before None after = (text : List ℕ) → Holds before text → GivesOf before text None after
 FindsWithin before (Some (Ok cut)) after =
     (after ≡ before) × (before.skipped ≡ Nothing) × FindsCut before.held (Some cut) × (cut.at ≤ before.limit)
-FindsWithin before (Some (Err fault)) after =
-    (text : List ℕ) → Holds before text
-    → (piece rest : List ℕ) × IsTooLong before.limit piece × CutsTo before.held.dialect text piece rest × Holds after rest
-    × (fault.newlines ≡ newlines_in piece)
+FindsWithin before (Some (Err fault)) after = (text : List ℕ) → Holds before text → GivesOf before text (Some (Err fault)) after
 
 -- so it is of each text that it may hold; no more bytes are kept than before, and once one is given, fewer can be
 abbrev pub GivesWithin : HeldWithin → Option (Result (Bor (List ℕ)) TooLong) → HeldWithin → Type 0

@@ -60,7 +60,7 @@ impl Model for BoundedLineStream {
 }
 
 impl BoundedLineStream {
-    ghost use Rattle.influxdb_line_protocol.specs.code.LendingWithin.{EndsWithin, EndsLastWithin};
+    ghost use Rattle.influxdb_line_protocol.specs.code.Lending.{EndsWithin, EndsLastWithin};
 
     /// A stream that holds nothing, by the rules of a dialect, whose pieces have so many bytes at most. A limit of
     /// `usize::MAX` is none: no piece is too long. No memory is taken.

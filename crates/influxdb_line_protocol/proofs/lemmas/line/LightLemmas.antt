@@ -2,7 +2,6 @@
 use Rattle.std.proofs.Common.{◌≡◌, ℕ, ◌<◌, ◌≤◌, List, [], ◌∷◌, length, take, drop, Bool, true, false, not, ◌&&◌, ◌||◌, inl, inr, ap, refl}
 use Rattle.std.proofs.Common.{arith}
 use Rattle.std.specs.Prelude.{ℤ, Option, Some, None, Result, Ok, Err, nat_le, ◌==◌}
-use Rattle.std.specs.List.{list_all}
 use Rattle.std.specs.Result.{IsErr}
 use Rattle.std.specs.Str.Parse.{signed_digits_value}
 use Rattle.std.proofs.lemmas.Bool.{cases_Bool, and_left, and_parts, and_right, le-leb, leb-true}
@@ -14,7 +13,7 @@ use Rattle.influxdb_line_protocol.specs.format.Names.{name, a_measurement}
 use Rattle.influxdb_line_protocol.specs.format.Values.{Value, fits_i64, integer_len, side_of}
 use Rattle.influxdb_line_protocol.specs.format.Points.{Pair}
 use Rattle.influxdb_line_protocol.specs.format.Lines.{Line, answer, byte, complete, field, field_set, front_before, separated_list}
-use Rattle.influxdb_line_protocol.specs.format.Lines.{some_tags, spaces, tag, tag_set, timestamp, without_comma, ◌then◌}
+use Rattle.influxdb_line_protocol.specs.format.Lines.{spaces, tag, tag_set, timestamp, without_comma, ◌then◌}
 use Rattle.influxdb_line_protocol.specs.code.Light.{carries_no_text, fields_in, is_light_answer, is_light_in, is_single_field}
 use Rattle.influxdb_line_protocol.specs.code.Light.{is_single_line, is_single_tag, tags_in, NeedsMemory, CopiesIn, HasBackslash}
 use Rattle.influxdb_line_protocol.specs.code.Light.{SetNeedsMemory, TagsNeedMemory}
@@ -32,17 +31,6 @@ complete_not_light : (line : List ℕ) (l : Line) (rest : List ℕ) → HasBacks
     → is_light_answer line (complete l rest) ≡ false
 complete_not_light line l [] some h = h
 complete_not_light line l (b ∷ rest) some h = rw some refl
-
--- a copy in one of three places
-first_copied : (a b c : Bool) → a ≡ false → (a && b && c) ≡ false
-first_copied a b c e = rw e refl
-
-second_copied : (a b c : Bool) → b ≡ false → (a && b && c) ≡ false
-second_copied true b c e = rw e refl
-second_copied false b c e = refl
-
-third_copied : (a b c : Bool) → c ≡ false → (a && b && c) ≡ false
-third_copied a b c e = and_right (a && b) c e
 
 -- a fault with a text after a backslash is one too
 fault_copied : (line text : List ℕ) (plain : Bool) → EndsIn line text → (not (is_one_of text 92) && plain) ≡ false
@@ -94,15 +82,15 @@ timestamp_carries text h =
 module _ (dialect : Dialect) (line : List ℕ) where
   heavy_answer : (p q : ℕ) → is_light_answer line (answer dialect line) ≡ false → is_light_in p q dialect line ≡ false
   unfolding is_light_in
-  heavy_answer p q h = third_copied (nat_le (tags_in line) p) (nat_le (fields_in line) q) (is_light_answer line (answer dialect line)) h
+  heavy_answer p q h = and_right _ _ h
 
   many_tags : (p q : ℕ) → nat_le (tags_in line) p ≡ false → is_light_in p q dialect line ≡ false
   unfolding is_light_in
-  many_tags p q h = first_copied (nat_le (tags_in line) p) (nat_le (fields_in line) q) (is_light_answer line (answer dialect line)) h
+  many_tags p q h = and_left _ _ (and_left _ _ h)
 
   many_fields : (p q : ℕ) → nat_le (fields_in line) q ≡ false → is_light_in p q dialect line ≡ false
   unfolding is_light_in
-  many_fields p q h = second_copied (nat_le (tags_in line) p) (nat_le (fields_in line) q) (is_light_answer line (answer dialect line)) h
+  many_fields p q h = and_left _ _ (and_right _ _ h)
 
   -- a line that needs no memory in some room needs none in more
   pub more_room : (p q more_tags more_fields : ℕ) → p ≤ more_tags → q ≤ more_fields → is_light_in p q dialect line ≡ true
@@ -138,7 +126,7 @@ module _ (dialect : Dialect) (line : List ℕ) where
             fields = fields.value;
             timestamp = t.value;
           }) t.rest some
-          (first_copied m.is_single (list_all is_single_tag (some_tags tags.value)) (list_all is_single_field fields.value) h))))))
+          (and_left _ _ (and_left _ _ h)))))))
 
   -- a line whose tags need memory is not light
   pub tags_need : (p q : ℕ) (m : Text) (rest : List ℕ) → name a_measurement line ≡ reads m rest
@@ -167,7 +155,7 @@ module _ (dialect : Dialect) (line : List ℕ) where
             fields = fields.value;
             timestamp = t.value;
           }) t.rest some
-          (second_copied m.is_single (list_all is_single_tag xs) (list_all is_single_field fields.value) h.1)))))
+          (and_left _ _ (and_right _ _ h.1))))))
 
   module _ (m : Text) (rest : List ℕ) (tags : Read (Option (List (Pair Text Text)))) (gap : List ℕ)
       (e : name a_measurement line ≡ reads m rest) (t : tag_set rest ≡ Ok tags) (s : byte 32 tags.rest ≡ reads 32 gap) where
@@ -202,7 +190,7 @@ module _ (dialect : Dialect) (line : List ℕ) where
               fields = xs;
               timestamp = t.value;
             }) t.rest some
-            (third_copied m.is_single (list_all is_single_tag (some_tags tags.value)) (list_all is_single_field xs) h.1)))
+            (and_right _ _ h.1)))
 
     module _ (xs : List (Pair Text (Value Text))) (after : List ℕ)
         (f : field_set dialect (drop (spaces tags.rest) tags.rest) ≡ reads xs after) where

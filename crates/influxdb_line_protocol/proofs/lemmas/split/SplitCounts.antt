@@ -9,23 +9,12 @@ use Rattle.std.proofs.lemmas.List.{get_or-drop, length-drop, length-map, take_mo
 use Rattle.std.proofs.lemmas.List.FromFn.{length-range_with_len}
 use Rattle.std.proofs.lemmas.List.Sums.{count_by-le-length, sum_by-append, sum_by-cons}
 use Rattle.std.proofs.lemmas.Simd.{length-chunk, mask_l-mod}
-use mir.Val.{bool_byte}
 use lib.Lanes.{chunk}
 use Rattle.influxdb_line_protocol.specs.code.Lanes.{mask_of}
 use Rattle.influxdb_line_protocol.specs.format.Escapes.{bare, is_bare_at, is_escaped_after, IsBareAfter}
 use Rattle.influxdb_line_protocol.proofs.lemmas.lanes.MaskLemmas.{ones}
 use Rattle.influxdb_line_protocol.proofs.lemmas.scan.BareMasks.{one_escaped}
 use Rattle.influxdb_line_protocol.proofs.lemmas.split.SplitWalk.{count_bare_more, count_by-push}
-
--- a truth as a number
-pub as_number : (t : Bool) → bool_byte t ≡ cond t 1 0
-as_number true = refl
-as_number false = refl
-
--- it is one at most
-pub one_at_most : (t : Bool) (n : ℕ) → n ≡ bool_byte t → n ≤ 1
-one_at_most true n is = omega (arith, is)
-one_at_most false n is = omega (arith, is)
 
 -- the bytes that pass, one byte further
 pub count_more : (p : ℕ → Bool) (text : List ℕ) (at : ℕ) → at < length text

@@ -4,8 +4,9 @@ use Rattle.std.proofs.Common.{slice_index, Some, None, append_assoc, refl, sym, 
 use Rattle.std.specs.Prelude.{◌==◌, ◌||◌}
 use Rattle.std.specs.List.{All, count_by}
 use Rattle.std.proofs.lemmas.Bool.Decides.{nat_tests}
-use Rattle.std.proofs.lemmas.List.{take-append-drop, take-take, drop-take, take_all, take_more, drop_more, get_or-drop}
+use Rattle.std.proofs.lemmas.List.{take-append-drop, take_all, take_more, drop_more, get_or-drop}
 use Rattle.std.proofs.lemmas.Bool.{cases_eq}
+use Rattle.std.proofs.Math.Seq.{take-add}
 use Rattle.std.proofs.lemmas.List.Elements.{All-nil, All-tail, All-weaker}
 use Rattle.memchr.specs.Find.{IsFirstByte, Nowhere, Passes, is_byte3}
 use Rattle.influxdb_line_protocol.specs.declared.split.Walk.{Walk}
@@ -39,13 +40,6 @@ stretch_to passes text n is_first =
     let at : n < length text → IsAtStop passes (take n text) (slice_index text n ∷ drop (n + 1) text) = λ h. subst
     (IsAtStop passes (take n text)) (drop_more text n 0 h) before.at_stop in
     record { none = before.none; is_bare = λ h. (at h).0; stops = λ h. (at h).1 }
-
--- a longer front
-pub take_run : (i n : ℕ) (xs : List ℕ) → take (i + n) xs ≡ take i xs ++ take n (drop i xs)
-take_run i n xs =
-    sym (take-append-drop i (take (i + n) xs))
-    ∙ ap (λ (t : List ℕ). t ++ drop i (take (i + n) xs)) (take-take i (i + n) xs (omega arith))
-    ∙ ap (λ (t : List ℕ). take i xs ++ t) (drop-take i n xs)
 
 -- a text in which nothing is escaped at its end does not change what is escaped after it
 pub bare_joined : (xs ys : List ℕ) → IsBareAfter xs → is_escaped_after (xs ++ ys) ≡ is_escaped_after ys
@@ -112,7 +106,7 @@ module _ (text rest : List ℕ) (e c at n : ℕ) (p : IsPlainTo text e c at) (sa
 
   -- the piece with it is as long as both
   whole : take (at + n) text ≡ take at text ++ take n rest
-  whole = take_run at n text ∙ ap (λ (t : List ℕ). take at text ++ take n t) (sym same)
+  whole = take-add at n text ∙ ap (λ (t : List ℕ). take at text ++ take n t) (sym same)
 
   -- the piece with it ends in a plain stretch
   ends_plain : EndsPlain (take (at + n) text) (p.is_in.0 ++ bare (take n rest))
@@ -185,7 +179,7 @@ module _ (text rest : List ℕ) (e c at n : ℕ) (more : c < e) (q : IsBeforeQuo
   -- the piece with it is as long as both and the quote between them
   whole_quoted : take ((at + 1) + n) text ≡ take at text ++ 34 ∷ take n rest
   whole_quoted =
-      take_run (at + 1) n text ∙ ap (λ (t : List ℕ). take (at + 1) text ++ take n t) (sym same)
+      take-add (at + 1) n text ∙ ap (λ (t : List ℕ). take (at + 1) text ++ take n t) (sym same)
       ∙ ap (λ (t : List ℕ). t ++ take n rest) (quote_more text e c at q) ∙ append_assoc (take at text) (34 ∷ []) (take n rest)
 
   -- the piece with it ends in a quoted stretch

@@ -18,7 +18,6 @@ use Rattle.influxdb_line_protocol.specs.code.Tracks.{IsPlace, IsTrackOf, Leads, 
 use Rattle.influxdb_line_protocol.proofs.lemmas.split.SplitBare.{is_escaped-nil}
 use Rattle.influxdb_line_protocol.proofs.lemmas.split.SplitPieces.{begins_comment-append}
 use Rattle.influxdb_line_protocol.proofs.lemmas.stream.KnownTexts.{no_comment}
-use Rattle.influxdb_line_protocol.proofs.lemmas.stream.LongerTexts.{never_longer}
 
 -- spaces and tabs
 abbrev pub AreBlanks : List ℕ → Type 0
@@ -43,12 +42,6 @@ pub cut_of_line : (dialect : Dialect) (bytes : List ℕ) → NeverComment dialec
     → IsCutPiece dialect bytes
 cut_of_line Crate bytes never closed is_bare = (closed, is_bare)
 cut_of_line Strict bytes never closed is_bare = inr (no_comment bytes never, closed, is_bare)
-
--- so are blanks
-cut_of_blanks : (dialect : Dialect) (bytes : List ℕ) → dialect ≡ Strict → AreBlanks bytes → IsClosed bytes → IsBareAfter bytes
-    → IsCutPiece dialect bytes
-cut_of_blanks dialect bytes strict blanks closed is_bare =
-    subst (λ (d : Dialect). IsCutPiece d bytes) (sym strict) (inr (blanks_begin_none bytes blanks, closed, is_bare))
 
 -- a newline ends a comment
 pub comment_ends : Leads Comment 10 None
@@ -90,26 +83,13 @@ blanks_end place next b hash space tab step = λ dialect bytes h. (
     other : (rest : List ℕ) → (eqb b 35 || (eqb b 32 || eqb b 9) && begins_comment rest) ≡ false
     other rest = rw (ne_eqb b 35 hash, ne_eqb b 32 space, ne_eqb b 9 tab) refl
 
--- a byte of a line
-pub line_goes_on : (place next : Place) (b : ℕ) → Steps place b (Some next) → Leads (Line place) b (Some (Line next))
-line_goes_on place next b step = λ dialect bytes h. (never_longer dialect bytes (b ∷ []) h.0, step bytes h.1)
-
--- the newline that ends it
+-- the newline that ends a line
 pub line_ends : (place : Place) (b : ℕ) → Steps place b None → Leads (Line place) b None
 line_ends place b step = (
   step.0,
   λ dialect bytes h.
       let w = step.1 bytes h.1 in
       cut_of_line dialect bytes h.0 w.0 w.1,
-)
-
--- the newline that ends blanks
-pub blanks_are_cut : (place : Place) (b : ℕ) → Steps place b None → Leads (Blanks place) b None
-blanks_are_cut place b step = (
-  step.0,
-  λ dialect bytes h.
-      let w = step.1 bytes h.2 in
-      cut_of_blanks dialect bytes h.0 h.1 w.0 w.1,
 )
 
 -- the place before the first byte
