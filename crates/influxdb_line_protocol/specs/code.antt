@@ -17,7 +17,6 @@ pub mod Shown
 pub mod Bases
 pub mod Marks
 pub mod Stops
-pub mod Walks
 pub mod Ahead
 pub mod Searches
 pub mod Tracks

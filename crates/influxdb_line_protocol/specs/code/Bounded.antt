@@ -43,9 +43,8 @@ kept stream = length stream.held.bytes
 
 -- 1 where a piece that is too long was skipped to its end, and its fault is to come
 abbrev pub faults_to_come : Skipped → ℕ
-faults_to_come Nothing = 0
-faults_to_come (Within track newlines) = 0
 faults_to_come (Ended newlines) = 1
+faults_to_come other = 0
 
 -- so many pieces and faults are given at most before another part comes
 abbrev pub most_given : HeldWithin → ℕ

@@ -8,11 +8,11 @@ use Rattle.std.proofs.lemmas.Bool.{cases_Bool, and_left, and_parts, and_right, l
 use Rattle.influxdb_line_protocol.specs.format.Dialects.{Dialect}
 use Rattle.influxdb_line_protocol.specs.format.Bytes.{is_one_of}
 use Rattle.influxdb_line_protocol.specs.format.Readings.{Fault, Text, Read, Reading, miss, fatal, reads, field_set_missing, take_while1}
-use Rattle.influxdb_line_protocol.specs.format.Readings.{timestamp_value_invalid, cannot_parse_entire_line, or_fault}
+use Rattle.influxdb_line_protocol.specs.format.Readings.{timestamp_value_invalid, or_fault}
 use Rattle.influxdb_line_protocol.specs.format.Names.{name, a_measurement}
 use Rattle.influxdb_line_protocol.specs.format.Values.{Value, fits_i64, integer_len, side_of}
 use Rattle.influxdb_line_protocol.specs.format.Points.{Pair}
-use Rattle.influxdb_line_protocol.specs.format.Lines.{Line, answer, byte, complete, field, field_set, front_before, separated_list}
+use Rattle.influxdb_line_protocol.specs.format.Lines.{Line, answer, byte, complete, field, field_set, separated_list}
 use Rattle.influxdb_line_protocol.specs.format.Lines.{spaces, tag, tag_set, timestamp, without_comma, ◌then◌}
 use Rattle.influxdb_line_protocol.specs.code.Light.{carries_no_text, fields_in, is_light_answer, is_light_in, is_single_field}
 use Rattle.influxdb_line_protocol.specs.code.Light.{is_single_line, is_single_tag, tags_in, NeedsMemory, CopiesIn, HasBackslash}
@@ -119,13 +119,7 @@ module _ (dialect : Dialect) (line : List ℕ) where
           then_not_light line (or_fault take_while1 (byte 32 tags.rest)) _ some (λ gap.
           then_not_light line (or_fault field_set_missing (field_set dialect (drop (spaces tags.rest) tags.rest))) _ some (λ fields.
           then_not_light line (timestamp fields.rest) _ some (λ t.
-          complete_not_light line (record {
-            series = front_before line tags.rest;
-            measurement = m;
-            tags = tags.value;
-            fields = fields.value;
-            timestamp = t.value;
-          }) t.rest some
+          complete_not_light line _ t.rest some
           (and_left _ _ (and_left _ _ h)))))))
 
   -- a line whose tags need memory is not light
@@ -148,13 +142,7 @@ module _ (dialect : Dialect) (line : List ℕ) where
           (then_not_light line (or_fault take_while1 (byte 32 after)) _ some (λ gap.
           then_not_light line (or_fault field_set_missing (field_set dialect (drop (spaces after) after))) _ some (λ fields.
           then_not_light line (timestamp fields.rest) _ some (λ t.
-          complete_not_light line (record {
-            series = front_before line after;
-            measurement = m;
-            tags = Some xs;
-            fields = fields.value;
-            timestamp = t.value;
-          }) t.rest some
+          complete_not_light line _ t.rest some
           (and_left _ _ (and_right _ _ h.1))))))
 
   module _ (m : Text) (rest : List ℕ) (tags : Read (Option (List (Pair Text Text)))) (gap : List ℕ)
@@ -183,46 +171,24 @@ module _ (dialect : Dialect) (line : List ℕ) where
             let some = backslash_at_end line (drop (spaces tags.rest) tags.rest) fields_end h.0 in
             rw (e, t, s, j)
             (then_not_light line (timestamp (without_comma dialect xs after)) _ some (λ t.
-            complete_not_light line (record {
-              series = front_before line tags.rest;
-              measurement = m;
-              tags = tags.value;
-              fields = xs;
-              timestamp = t.value;
-            }) t.rest some
+            complete_not_light line _ t.rest some
             (and_right _ _ h.1)))
 
     module _ (xs : List (Pair Text (Value Text))) (after : List ℕ)
         (f : field_set dialect (drop (spaces tags.rest) tags.rest) ≡ reads xs after) where
-      -- the answer for a line whose timestamp is at fault
-      pub timestamp_fault : (fault : Fault) → timestamp after ≡ Err fault → answer dialect line ≡ Err fault
-      unfolding answer
-      timestamp_fault fault n = rw (e, t, s, f, n) refl
-
-      -- the answer for a line of which something is left
-      pub trailing_fault : (n : Read (Option ℤ)) → timestamp after ≡ Ok n → 0 < length n.rest
-          → answer dialect line ≡ Err (cannot_parse_entire_line n.rest)
-      unfolding answer
-      trailing_fault n is some = rw (e, t, s, f, is) (left n.rest some)
-        where
-          left : (rest : List ℕ) → 0 < length rest
-              → complete (record {
-                series = front_before line tags.rest;
-                measurement = m;
-                tags = tags.value;
-                fields = xs;
-                timestamp = n.value;
-              }) rest ≡ Err (cannot_parse_entire_line rest)
-          left [] some = absurd (omega arith)
-          left (b ∷ rest) some = refl
-
       -- a line whose timestamp is at fault is not light
       pub timestamp_needs : (p q : ℕ) (fault : Fault) → timestamp after ≡ Err fault → carries_no_text fault ≡ false
           → is_light_in p q dialect line ≡ false
+      unfolding answer
       timestamp_needs p q fault is h = heavy_answer p q
-          (rw (timestamp_fault fault is) (and_right (not (is_one_of line 92)) (carries_no_text fault) h))
+          (rw (e, t, s, f, is) (and_right (not (is_one_of line 92)) (carries_no_text fault) h))
 
       -- a line of which something is left is not light
       pub trailing_needs : (p q : ℕ) (n : Read (Option ℤ)) → timestamp after ≡ Ok n → 0 < length n.rest
           → is_light_in p q dialect line ≡ false
-      trailing_needs p q n is some = heavy_answer p q (rw (trailing_fault n is some) (and_right (not (is_one_of line 92)) false refl))
+      unfolding answer
+      trailing_needs p q n is some = heavy_answer p q (rw (e, t, s, f, is) (left _ n.rest some))
+        where
+          left : (l : Line) (rest : List ℕ) → 0 < length rest → is_light_answer line (complete l rest) ≡ false
+          left l [] some = absurd (omega arith)
+          left l (b ∷ rest) some = and_right (not (is_one_of line 92)) false refl

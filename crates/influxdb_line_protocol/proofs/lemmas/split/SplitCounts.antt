@@ -21,12 +21,6 @@ pub count_more : (p : ℕ → Bool) (text : List ℕ) (at : ℕ) → at < length
     → count_by p (take (at + 1) text) ≡ count_by p (take at text) + cond (p (slice_index text at)) 1 0
 count_more p text at h = rw (take_more text at 0 h) (count_by-push p (take at text) (slice_index text at))
 
--- the bytes that pass of a front, and those after it
-pub count_both : (p : ℕ → Bool) (text : List ℕ) (at n : ℕ)
-    → count_by p (take (at + n) text) ≡ count_by p (take at text) + count_by p (take n (drop at text))
-count_both p text at n =
-    ap (count_by p) (take-add at n text) ∙ sum_by-append (λ x. cond (p x) 1 0) (take at text) (take n (drop at text))
-
 -- the bytes that pass of a whole text
 pub count_whole : (p : ℕ → Bool) (text : List ℕ) (at : ℕ) → count_by p (take at text) + count_by p (drop at text) ≡ count_by p text
 count_whole p text at =
@@ -47,7 +41,9 @@ module _ (p : ℕ → Bool) (text : List ℕ) (at m : ℕ) (room : at + 64 ≤ l
 
   -- the bytes that pass, one load further
   pub count_load : count_by p (take (at + 64) text) ≡ count_by p (take at text) + count_ones (m % 2 ^ 64)
-  count_load = count_both p text at 64 ∙ ap (λ (k : ℕ). count_by p (take at text) + k) (sym load_counts)
+  count_load =
+      ap (count_by p) (take-add at 64 text) ∙ sum_by-append (λ x. cond (p x) 1 0) (take at text) (take 64 (drop at text))
+      ∙ ap (λ (k : ℕ). count_by p (take at text) + k) (sym load_counts)
 
 -- a byte is counted where it is bare
 as_bare : (e t : Bool) → cond {A = ℕ} e 0 (cond t 1 0) ≡ cond (t && not e) 1 0

@@ -1,20 +1,18 @@
 -- The track of a piece, by the rules of both dialects.
 use Rattle.std.proofs.Common.{◌≡◌, ◌≢◌, ℕ, ◌⊎◌, false, ◌||◌, ◌&&◌, inl, inr, eqb, List, [], ◌∷◌, ◌++◌, refl, sym, ap, ◌∙◌, subst}
-use Rattle.std.proofs.Common.{append_assoc, append-nil, arith, Some, None, ◌+◌, ◌<◌, length, take, slice_index}
-use Rattle.std.proofs.lemmas.List.{take_more}
+use Rattle.std.proofs.Common.{append_assoc, append-nil, arith, Some, None, ◌+◌}
 use Rattle.std.specs.List.{All}
 use Rattle.std.proofs.lemmas.List.Elements.{All-nil, All-head, All-tail, All-push, All-weaker}
 use Rattle.std.proofs.lemmas.Bool.{ne_eqb}
 use Rattle.influxdb_line_protocol.specs.format.Dialects.{Dialect, Crate, Strict}
 use Rattle.influxdb_line_protocol.specs.declared.split.resumed.Part.TheVariants.{Head}
 use Rattle.influxdb_line_protocol.specs.declared.split.tracked.Place.{Place}
-use Rattle.influxdb_line_protocol.specs.declared.split.tracked.Track.{Track}
 use Rattle.influxdb_line_protocol.specs.declared.split.tracked.Track.TheVariants.{Comment, Blanks, Line}
 use Rattle.influxdb_line_protocol.specs.format.Escapes.{IsBareAfter}
 use Rattle.influxdb_line_protocol.specs.format.Piece.{IsClosed}
 use Rattle.influxdb_line_protocol.specs.format.Pieces.{begins_comment, IsCutPiece}
 use Rattle.influxdb_line_protocol.specs.code.Searches.{NeverComment}
-use Rattle.influxdb_line_protocol.specs.code.Tracks.{IsPlace, IsTrackOf, Leads, Steps}
+use Rattle.influxdb_line_protocol.specs.code.Tracks.{IsPlace, Leads, Steps}
 use Rattle.influxdb_line_protocol.proofs.lemmas.split.SplitBare.{is_escaped-nil}
 use Rattle.influxdb_line_protocol.proofs.lemmas.split.SplitPieces.{begins_comment-append}
 use Rattle.influxdb_line_protocol.proofs.lemmas.stream.KnownTexts.{no_comment}
@@ -99,13 +97,3 @@ first_place =
       escaped_is = is_escaped-nil;
       ends_in = (All-nil (λ b. (b ≢ 32) × (b ≢ 10)), record { equals_is = refl; commas_is = refl });
     }
-
--- the track of a longer front
-pub track_further : (dialect : Dialect) (bytes text : List ℕ) (at : ℕ) (track next : Track) → at < length text
-    → Leads track (slice_index text at) (Some next) → IsTrackOf dialect (bytes ++ take at text) track
-    → IsTrackOf dialect (bytes ++ take (at + 1) text) next
-track_further dialect bytes text at track next within leads h =
-    let b = slice_index text at in
-    let longer : (bytes ++ take at text) ++ b ∷ [] ≡ bytes ++ take (at + 1) text =
-    append_assoc bytes (take at text) (b ∷ []) ∙ ap (λ (t : List ℕ). bytes ++ t) (sym (take_more text at 0 within)) in
-    subst (λ (t : List ℕ). IsTrackOf dialect t next) longer (leads dialect (bytes ++ take at text) h)
