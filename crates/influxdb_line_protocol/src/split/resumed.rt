@@ -12,9 +12,7 @@ ghost use Rattle.influxdb_line_protocol.specs.format.Dialects.{Crate};
 ghost use Rattle.influxdb_line_protocol.specs.code.Rules.{rules_of};
 ghost use Rattle.influxdb_line_protocol.specs.code.Searches.{ends, IsKnown, IsStopped, SearchesOn};
 
-use super::{
-    Dialect, HEAD, Mark, NOTHING, PLAIN, QUOTED, far_len, first_cut, late_cut, plain_run,
-};
+use super::{Dialect, HEAD, Mark, NOTHING, PLAIN, QUOTED, far_len, first_cut, late_cut, plain_run};
 use memchr::memchr;
 
 /// A part of a piece, by what ends its stretches.

@@ -1,6 +1,6 @@
 -- A text has the same first cut in both dialects where a newline is the first of its newlines, quotes and backslashes.
-use Rattle.std.proofs.Common.{◌≡◌, ◌≢◌, ℕ, zero, suc, ◌+◌, ◌<◌, ◌≤◌, List, length, take, slice_index, Option, Some, None, refl, ap, subst, ◌∙◌, arith}
-use Rattle.std.proofs.Common.{MatchOption, inl, inr}
+use Rattle.std.proofs.Common.{◌≡◌, ◌≢◌, ℕ, zero, suc, ◌+◌, ◌<◌, ◌≤◌, List, length, take, slice_index, Option, Some, None}
+use Rattle.std.proofs.Common.{refl, ap, subst, ◌∙◌, arith, MatchOption, inl, inr}
 use Rattle.std.specs.Prelude.{◌==◌}
 use Rattle.std.specs.List.{All}
 use Rattle.std.proofs.lemmas.Bool.{cases_Bool, eqb-true}

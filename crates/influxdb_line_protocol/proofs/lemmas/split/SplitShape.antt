@@ -1,6 +1,6 @@
 -- The shape of a piece, a byte or a plain stretch further.
-use Rattle.std.proofs.Common.{◌≡◌, ◌≢◌, ℕ, true, false, cond, not, eqb, ◌⊎◌, inl, inr, List, [], ◌∷◌, ◌++◌, sym, ◌∙◌, ap, refl, subst, arith, append_assoc}
-use Rattle.std.proofs.Common.{append-nil}
+use Rattle.std.proofs.Common.{◌≡◌, ◌≢◌, ℕ, true, false, cond, not, eqb, ◌⊎◌, inl, inr, List, [], ◌∷◌, ◌++◌, sym, ◌∙◌, ap}
+use Rattle.std.proofs.Common.{refl, subst, arith, append_assoc, append-nil}
 use Rattle.std.proofs.lemmas.List.Elements.{All-append, All-cons, All-nil, All-push}
 use Rattle.std.proofs.lemmas.Bool.{ne_eqb}
 use Rattle.influxdb_line_protocol.specs.format.Escapes.{is_escaped_after, bare_after, bare, IsBareAfter}
@@ -68,7 +68,10 @@ IsPlain-escaped counted text b h e =
 IsPlain-one : (counted : List ℕ) (b : ℕ) → b ≢ 10 → (b ≡ 34 → ¬ HasMoreEquals counted) → IsPlain counted (b ∷ [])
 IsPlain-one counted b n q =
     let one : bare (b ∷ []) ≡ b ∷ [] = bare-push_bare [] b is_escaped-nil in
-    record { no_newline = rw one (All-cons (λ c. c ≢ 10) b [] n (All-nil (λ c. c ≢ 10))); no_opening = λ before after p. go before after (sym one ∙ p) }
+    record {
+      no_newline = rw one (All-cons (λ c. c ≢ 10) b [] n (All-nil (λ c. c ≢ 10)));
+      no_opening = λ before after p. go before after (sym one ∙ p);
+    }
   where
     go : (before after : List ℕ) → b ∷ [] ≡ before ++ 34 ∷ after → ¬ HasMoreEquals (counted ++ before)
     go [] after p = rw append-nil (q (cc))

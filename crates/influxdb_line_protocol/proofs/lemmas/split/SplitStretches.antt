@@ -160,7 +160,8 @@ quote_opens_nothing text e c at few q =
     record {
       within = omega arith;
       is_bare = rw whole (is_escaped-push_other (take at text) 34 (omega arith));
-      is_in = rw whole (Plain-other e c (take at text) 34 q.plain.is_bare (omega arith) (omega arith) (omega arith) (λ _. few) q.plain.is_in);
+      is_in = rw whole
+          (Plain-other e c (take at text) 34 q.plain.is_bare (omega arith) (omega arith) (omega arith) (λ _. few) q.plain.is_in);
     }
 
 -- where a quoted stretch ends that begins after a quote
@@ -185,7 +186,8 @@ module _ (text rest : List ℕ) (e c at n : ℕ) (more : c < e) (q : IsBeforeQuo
 
   -- the text ends there
   pub quoted_last : length text ≤ (at + 1) + n → IsLastPiece Crate text
-  quoted_last past = inr (q.plain.is_in.0, subst (λ (t : List ℕ). EndsQuoted t q.plain.is_in.0) (take_all ((at + 1) + n) text past) ends_quoted)
+  quoted_last past = inr
+      (q.plain.is_in.0, subst (λ (t : List ℕ). EndsQuoted t q.plain.is_in.0) (take_all ((at + 1) + n) text past) ends_quoted)
 
   -- a quote is there, and closes it
   pub quoted_closes : (at + 1) + n < length text → IsPlainTo text e c (((at + 1) + n) + 1)
