@@ -17,11 +17,9 @@ pub mod Shown
 pub mod Bases
 pub mod Marks
 pub mod Stops
-pub mod Walks
 pub mod Ahead
 pub mod Searches
 pub mod Tracks
 pub mod Streams
 pub mod Lending
 pub mod Bounded
-pub mod LendingWithin

@@ -59,11 +59,11 @@ fn fill<'a>(
     };
     parsed.series.measurement = measurement;
     let rest = tags::tag_set(alloc, rest, &mut parsed.series.tag_set, spare)?;
-    if strip_byte(b' ', rest).is_none() {
+    let Some(_after_space) = strip_byte(b' ', rest) else {
         return Err(Error::GenericParsingError {
             kind: ErrorKind::TakeWhile1,
         });
-    }
+    };
     parsed.series.raw_input = front_before(line, rest);
     let Some(rest) = fields::field_set(
         alloc,
@@ -165,7 +165,9 @@ impl<'a> Model for ParseLines<'a> {
 }
 
 impl<'a> ParseLines<'a> {
-    ghost use Rattle.influxdb_line_protocol.specs.code.ParseSteps.{GivesLine, most_items};
+    ghost use Rattle.std.specs.Prelude.{IfNone};
+    ghost use Rattle.influxdb_line_protocol.specs.code.ParseSteps.{GivesItem, GivesLine, most_items};
+    ghost use Rattle.influxdb_line_protocol.specs.code.ReadInto.{GivesInRoom, LeavesEmpty, item_in};
 
     // The next piece that holds more than blanks and comments, without those before it.
     #[inline(always)]
@@ -182,9 +184,7 @@ impl<'a> ParseLines<'a> {
         }
         None
     }
-}
 
-impl<'a> ParseLines<'a> {
     /// The text that is left: what comes after the piece of the last item, or `None` once there is none.
     ///
     /// Where an item ends in the text is told by it: `input.len() - rest.len()` bytes from the start, after its newline; or
@@ -200,45 +200,6 @@ impl<'a> ParseLines<'a> {
     {
         self.lines.remainder()
     }
-}
-
-/// Reads the lines of a text, one item a line.
-///
-/// A line that cannot be read is one `Err`, and the next lines are answered as if it had not been
-/// there. A refused request for memory is `Err(Error::OutOfMemory)` in its line's place. A line of
-/// at most 8 tags and 4 fields asks for none where each name and string of it is a part of the
-/// input, or where it holds no backslash and its fault carries no text.
-pub fn parse_lines(alloc: Global, input: &str) -> ParseLines<'_>
-    ensures { result ≡ record { dialect = Crate; text = Some input.now } }
-{
-    parse_lines_in(alloc, Dialect::Crate, input)
-}
-
-/// Reads all lines of a text by the rules of a dialect.
-///
-/// [`parse_lines`] does so by those of the crate; what it says of faults and of memory holds here too. In the strict
-/// dialect a comment ends at its own newline, and a comma after the first field stays in the rest of the line unless a
-/// second field follows it.
-///
-/// ```text
-/// parse_lines_in(alloc, Dialect::Crate, "m a=1i,")   gives  Ok, with the field a=1i
-/// parse_lines_in(alloc, Dialect::Strict, "m a=1i,")  gives  CannotParseEntireLine, with the rest ","
-/// ```
-#[inline]
-pub fn parse_lines_in(alloc: Global, dialect: Dialect, input: &str) -> ParseLines<'_>
-    ensures { result ≡ record { dialect = rules_of dialect; text = Some input.now } }
-{
-    ParseLines {
-        lines: split_lines_in(dialect, input),
-        spare: None,
-        alloc,
-    }
-}
-
-impl<'a> ParseLines<'a> {
-    ghost use Rattle.std.specs.Prelude.{IfNone};
-    ghost use Rattle.influxdb_line_protocol.specs.code.ParseSteps.{GivesItem, most_items};
-    ghost use Rattle.influxdb_line_protocol.specs.code.ReadInto.{GivesInRoom, LeavesEmpty, item_in};
 
     /// Reads the next item into a line that is used again.
     ///
@@ -273,6 +234,39 @@ impl<'a> ParseLines<'a> {
                 Some(Err(fault))
             }
         }
+    }
+}
+
+/// Reads the lines of a text, one item a line.
+///
+/// A line that cannot be read is one `Err`, and the next lines are answered as if it had not been
+/// there. A refused request for memory is `Err(Error::OutOfMemory)` in its line's place. A line of
+/// at most 8 tags and 4 fields asks for none where each name and string of it is a part of the
+/// input, or where it holds no backslash and its fault carries no text.
+pub fn parse_lines(alloc: Global, input: &str) -> ParseLines<'_>
+    ensures { result ≡ record { dialect = Crate; text = Some input.now } }
+{
+    parse_lines_in(alloc, Dialect::Crate, input)
+}
+
+/// Reads all lines of a text by the rules of a dialect.
+///
+/// [`parse_lines`] does so by those of the crate; what it says of faults and of memory holds here too. In the strict
+/// dialect a comment ends at its own newline, and a comma after the first field stays in the rest of the line unless a
+/// second field follows it.
+///
+/// ```text
+/// parse_lines_in(alloc, Dialect::Crate, "m a=1i,")   gives  Ok, with the field a=1i
+/// parse_lines_in(alloc, Dialect::Strict, "m a=1i,")  gives  CannotParseEntireLine, with the rest ","
+/// ```
+#[inline]
+pub fn parse_lines_in(alloc: Global, dialect: Dialect, input: &str) -> ParseLines<'_>
+    ensures { result ≡ record { dialect = rules_of dialect; text = Some input.now } }
+{
+    ParseLines {
+        lines: split_lines_in(dialect, input),
+        spare: None,
+        alloc,
     }
 }
 

@@ -1,17 +1,16 @@
 //! The pieces of a text.
 
 ghost use Rattle.std.specs.Prelude.{◌≡◌, ◌≢◌, ◌+◌, ◌-◌, ◌/◌, ◌^◌, ◌<◌, ◌≤◌, ◌==◌, ◌||◌, length, take, drop, option_map, slice_index};
-ghost use Rattle.std.specs.Prelude.{IfSome, MatchOption, true, false};
+ghost use Rattle.std.specs.Prelude.{IfSome, true, false};
 ghost use Rattle.std.specs.Iterator.{at_most};
-ghost use Rattle.std.specs.List.{All, count_by, range_with_len};
+ghost use Rattle.std.specs.List.{count_by, range_with_len};
 ghost use Rattle.influxdb_line_protocol.specs.format.Bytes.{backslash, newline, space, quote};
 ghost use Rattle.memchr.specs.Find.{IsFirstByte, is_byte3};
 ghost use Rattle.influxdb_line_protocol.specs.code.Lanes.{mask_of};
 ghost use Rattle.influxdb_line_protocol.specs.format.Escapes.{first_bare, is_bare_at, IsBareAfter, IsPassed};
-ghost use Rattle.influxdb_line_protocol.specs.code.Ahead.{IsAhead, AreSeen};
+ghost use Rattle.influxdb_line_protocol.specs.code.Ahead.{IsAhead, AreSeen, IsWalked};
 ghost use Rattle.influxdb_line_protocol.specs.code.Scan.{mask_at};
 ghost use Rattle.influxdb_line_protocol.specs.code.Stops.{is_stop, is_mark};
-ghost use Rattle.influxdb_line_protocol.specs.code.Walks.{IsWalked};
 ghost use Rattle.influxdb_line_protocol.specs.format.Pieces.{begins_comment, IsFirstCut, GivesPiece, most_pieces};
 ghost use Rattle.influxdb_line_protocol.specs.format.Dialects.{Crate};
 ghost use Rattle.influxdb_line_protocol.specs.code.Rules.{rules_of};
@@ -50,9 +49,21 @@ struct Stops {
     second: u8,
 }
 
+// What ends a head.
+const HEAD: Stops = Stops {
+    first: b' ',
+    second: b'\n',
+};
+
 // What ends a plain stretch.
 const PLAIN: Stops = Stops {
     first: b'\n',
+    second: b'"',
+};
+
+// What ends a quoted stretch.
+const QUOTED: Stops = Stops {
+    first: b'"',
     second: b'"',
 };
 
@@ -154,11 +165,7 @@ fn head_len(text: &[u8]) -> usize
     ensures within { result ≤ length text.now }
     ensures value { result ≡ first_bare (λ b. b == space || b == newline) text.now }
 {
-    let stops = Stops {
-        first: b' ',
-        second: b'\n',
-    };
-    stretch_len(stops, text)
+    stretch_len(HEAD, text)
 }
 
 // What a load showed of the bytes after a place: the masks of the bare newlines and quotes, of the bare `=` and of the bare
@@ -229,11 +236,7 @@ fn quoted_run(text: &[u8], ahead: Ahead) -> (usize, Ahead)
             return (at, seen_past(ahead, at));
         }
     }
-    let stops = Stops {
-        first: b'"',
-        second: b'"',
-    };
-    (stretch_len(stops, text), NOTHING)
+    (stretch_len(QUOTED, text), NOTHING)
 }
 
 // A place of a plain stretch: how many bare `=` and `,` come before it if no newline ends the stretch there, whether
@@ -542,14 +545,6 @@ fn is_comment(text: &[u8]) -> bool
     false
 }
 
-/// The place of the first newline.
-fn first_newline(text: &[u8]) -> Option<usize>
-    ensures { MatchOption result (All (λ b. b ≢ newline) text.now)
-        (λ i. (i < length text.now) × (slice_index text.now i ≡ newline) × All (λ b. b ≢ newline) (take i text.now)) }
-{
-    memchr(b'\n', text)
-}
-
 /// The place of the newline that ends the first piece, or `None` where the text is one piece.
 #[inline(always)]
 fn late_cut(dialect: Dialect, text: &[u8]) -> Option<usize>
@@ -557,7 +552,7 @@ fn late_cut(dialect: Dialect, text: &[u8]) -> Option<usize>
 {
     match dialect {
         Dialect::Crate => cut_by_stretches(text),
-        Dialect::Strict if is_comment(text) => first_newline(text),
+        Dialect::Strict if is_comment(text) => memchr(b'\n', text),
         Dialect::Strict => cut_by_stretches(text),
     }
 }

@@ -1,4 +1,3 @@
-pub mod SplitAppend
 pub mod SplitBare
 pub mod SplitJumps
 pub mod SplitMasks

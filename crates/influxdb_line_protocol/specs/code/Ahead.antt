@@ -1,8 +1,10 @@
--- What loads showed of the bytes of a text before these are searched.
-use Rattle.std.specs.Prelude.{◌≡◌, ℕ, ◌+◌, ◌<◌, ◌≤◌, ◌==◌, ◌||◌, true, List, length, take}
+-- What loads showed of the bytes of a text before these are searched, and what is known at a place of a plain stretch.
+use Rattle.std.specs.Prelude.{◌≡◌, ◌≢◌, ℕ, ◌+◌, ◌<◌, ◌≤◌, ◌==◌, ◌||◌, true, List, drop, length, slice_index, take}
+use Rattle.std.specs.List.{count_by}
 use Rattle.influxdb_line_protocol.specs.declared.split.Ahead.{Ahead}
+use Rattle.influxdb_line_protocol.specs.declared.split.Walk.{Walk}
 use Rattle.influxdb_line_protocol.specs.format.Bytes.{comma, equals, newline, quote, backslash}
-use Rattle.influxdb_line_protocol.specs.format.Escapes.{is_bare_at, is_escaped_after, IsBareAfter}
+use Rattle.influxdb_line_protocol.specs.format.Escapes.{bare, first_bare, is_bare_at, is_escaped_after, IsBareAfter, IsPassed}
 use Rattle.influxdb_line_protocol.specs.code.Scan.{mask_at}
 use Rattle.memchr.specs.Find.{is_byte3}
 use Rattle.influxdb_line_protocol.specs.code.Lanes.{mask_of}
@@ -27,3 +29,17 @@ pub record AreSeen (text : List ℕ) (marks : ℕ) : Type 0 where
   pub within : count ≤ length text
   pub few : count ≤ 64
   pub are : marks ≡ mask_of (is_byte3 backslash newline quote) text 0 count
+
+-- no bare newline or quote comes before the place; unless the text ends there, or by a newline the stretch, the bare equals
+-- signs and commas before it are counted; where the walk has ended, the first of those bytes is there; and what was seen
+-- after it is known
+pub record IsWalked (text : List ℕ) (walk : Walk) : Type 0 where
+  pub passed : IsPassed (λ b. b == newline || b == quote) text walk.at
+  pub equals_are : walk.at < length text → (walk.ended ≡ true → slice_index text walk.at ≢ newline)
+      → walk.equals ≡ count_by (λ b. b == equals) (bare (take walk.at text))
+  pub commas_are : walk.at < length text → (walk.ended ≡ true → slice_index text walk.at ≢ newline)
+      → walk.commas ≡ count_by (λ b. b == comma) (bare (take walk.at text))
+  pub few_equals : walk.equals ≤ walk.at
+  pub few_commas : walk.commas ≤ walk.at
+  pub ends : walk.ended ≡ true → walk.at ≡ first_bare (λ b. b == newline || b == quote) text
+  pub seen : IsAhead (drop (walk.at + 1) text) walk.later

@@ -43,9 +43,8 @@ kept stream = length stream.held.bytes
 
 -- 1 where a piece that is too long was skipped to its end, and its fault is to come
 abbrev pub faults_to_come : Skipped → ℕ
-faults_to_come Nothing = 0
-faults_to_come (Within track newlines) = 0
 faults_to_come (Ended newlines) = 1
+faults_to_come other = 0
 
 -- so many pieces and faults are given at most before another part comes
 abbrev pub most_given : HeldWithin → ℕ
@@ -67,14 +66,10 @@ GivesOf before text (Some (Err fault)) after =
 
 -- a call finds the first cut, or takes the first piece where it is too long
 abbrev pub FindsWithin : HeldWithin → Option (Result Mark TooLong) → HeldWithin → Type 0
-FindsWithin before None after =
-    (text : List ℕ) → Holds before text → Holds after text × IsLastPiece before.held.dialect text × (kept after ≤ before.limit)
+FindsWithin before None after = (text : List ℕ) → Holds before text → GivesOf before text None after
 FindsWithin before (Some (Ok cut)) after =
     (after ≡ before) × (before.skipped ≡ Nothing) × FindsCut before.held (Some cut) × (cut.at ≤ before.limit)
-FindsWithin before (Some (Err fault)) after =
-    (text : List ℕ) → Holds before text
-    → (piece rest : List ℕ) × IsTooLong before.limit piece × CutsTo before.held.dialect text piece rest × Holds after rest
-    × (fault.newlines ≡ newlines_in piece)
+FindsWithin before (Some (Err fault)) after = (text : List ℕ) → Holds before text → GivesOf before text (Some (Err fault)) after
 
 -- so it is of each text that it may hold; no more bytes are kept than before, and once one is given, fewer can be
 abbrev pub GivesWithin : HeldWithin → Option (Result (Bor (List ℕ)) TooLong) → HeldWithin → Type 0

@@ -5,6 +5,10 @@ use Rattle.std.specs.Io.BufRead.{Rests}
 use Rattle.influxdb_line_protocol.specs.code.Streams.{GivesCut, GivesCutText, GivesLast, GivesLastText, TakesPiece}
 use Rattle.influxdb_line_protocol.specs.declared.stream.LineStream.{LineStream}
 use Rattle.influxdb_line_protocol.specs.contracts.stream.LineStream.{the_row}
+use Rattle.influxdb_line_protocol.specs.code.Bounded.{GivesWithin, GivesLastWithin}
+use Rattle.influxdb_line_protocol.specs.declared.stream.bounded.BoundedLineStream.{BoundedLineStream}
+use Rattle.influxdb_line_protocol.specs.declared.stream.bounded.TooLong.{TooLong}
+use Rattle.influxdb_line_protocol.specs.contracts.stream.bounded.BoundedLineStream.{the_row as bounded_row}
 
 -- it gave a piece
 abbrev pub EndsAsCut : MutBor LineStream → Option (Bor (List ℕ)) → Fml
@@ -25,3 +29,11 @@ EndsAsLast stream result = Rests the_row stream (GivesLast stream.now result.now
 -- it gave the last piece as text
 abbrev pub EndsAsLastText : {E : Type 0} → MutBor LineStream → Result (Bor (List ℕ)) E → Fml
 EndsAsLastText stream result = Rests the_row stream (GivesLastText stream.now result)
+
+-- it gave a piece or a fault, where pieces have a greatest length
+abbrev pub EndsWithin : MutBor BoundedLineStream → Option (Result (Bor (List ℕ)) TooLong) → Fml
+EndsWithin stream result = Rests bounded_row stream (GivesWithin stream.now result)
+
+-- it gave the last piece or a fault
+abbrev pub EndsLastWithin : MutBor BoundedLineStream → Result (Bor (List ℕ)) TooLong → Fml
+EndsLastWithin stream result = Rests bounded_row stream (GivesLastWithin stream.now result)

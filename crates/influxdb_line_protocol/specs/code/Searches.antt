@@ -20,22 +20,17 @@ pub record IsCountOf (counted : List ℕ) (equal_signs commas : ℕ) : Type 0 wh
   pub equals_is : equal_signs ≡ count_by (λ b. b == equals) counted
   pub commas_is : commas ≡ count_by (λ b. b == comma) counted
 
--- a head and a tail that ends in a plain stretch, with these counts
-abbrev pub IsPlainPiece : ℕ → ℕ → List ℕ → Type 0
-IsPlainPiece equal_signs commas piece = (counted : List ℕ) × EndsPlain piece counted × IsCountOf counted equal_signs commas
-
 -- a head and a tail up to this place, which is bare and after a plain stretch, with these counts
 pub record IsPlainTo (text : List ℕ) (equal_signs commas at : ℕ) : Type 0 where
   pub within : at ≤ length text
   pub is_bare : IsBareAfter (take at text)
-  pub is_in : IsPlainPiece equal_signs commas (take at text)
+  pub is_in : (counted : List ℕ) × EndsPlain (take at text) counted × IsCountOf counted equal_signs commas
 
 -- a head and a tail up to a bare quote after a plain stretch, with these counts
 pub record IsBeforeQuote (text : List ℕ) (equal_signs commas at : ℕ) : Type 0 where
   pub within : at < length text
   pub here : slice_index text at ≡ quote
-  pub is_bare : IsBareAfter (take at text)
-  pub is_in : IsPlainPiece equal_signs commas (take at text)
+  pub plain : IsPlainTo text equal_signs commas at
 
 -- the bytes that end a stretch of this part of a piece
 abbrev pub ends : Part → ℕ → Bool

@@ -12,7 +12,7 @@ ghost use Rattle.influxdb_line_protocol.specs.format.Dialects.{Crate};
 ghost use Rattle.influxdb_line_protocol.specs.code.Rules.{rules_of};
 ghost use Rattle.influxdb_line_protocol.specs.code.Searches.{ends, IsKnown, IsStopped, SearchesOn};
 
-use super::{Dialect, Mark, NOTHING, PLAIN, Stops, far_len, first_cut, late_cut, plain_run};
+use super::{Dialect, HEAD, Mark, NOTHING, PLAIN, QUOTED, far_len, first_cut, late_cut, plain_run};
 use memchr::memchr;
 
 /// A part of a piece, by what ends its stretches.
@@ -69,15 +69,9 @@ fn end_of(part: Part, text: &[u8], searched: usize) -> usize
     ensures value { result ≡ first_bare (ends part) text.now }
 {
     let stops = match part {
-        Part::Head => Stops {
-            first: b' ',
-            second: b'\n',
-        },
+        Part::Head => HEAD,
         Part::Plain => PLAIN,
-        Part::Quoted => Stops {
-            first: b'"',
-            second: b'"',
-        },
+        Part::Quoted => QUOTED,
     };
     far_len(stops, text, searched)
 }
@@ -112,11 +106,7 @@ fn next_stretch(text: &[u8], from: Stretch, len: usize) -> Stretch
         ..from
     };
     match from.part {
-        Part::Head => Stretch {
-            equals: 0,
-            commas: 0,
-            ..after
-        },
+        Part::Head => after,
         Part::Plain => {
             let plain = plain_run(&text[from.at..], NOTHING);
             let equals = from.equals + plain.equals;

@@ -1,9 +1,9 @@
 //! Lines that come in parts, of which a piece has a greatest length.
 
-ghost use Rattle.std.specs.Prelude.{◌≡◌, ◌+◌, ◌++◌, ◌<◌, ◌≤◌, ℕ, List, [], length, IfSome, None, OnOk, OnErr};
+ghost use Rattle.std.specs.Prelude.{◌≡◌, ◌+◌, ◌++◌, ◌<◌, ◌≤◌, ℕ, List, [], length, IfSome, None, Err, OnOk, OnErr};
 ghost use Rattle.std.specs.Borrow.{sem};
 ghost use Rattle.influxdb_line_protocol.specs.code.Rules.{rules_of};
-ghost use Rattle.influxdb_line_protocol.specs.code.Bounded.{FindsWithin, Holds, IsTooLong, kept, KeepsRules, most_given};
+ghost use Rattle.influxdb_line_protocol.specs.code.Bounded.{FindsWithin, GivesLastWithin, Holds, kept, KeepsRules, most_given};
 ghost use Rattle.influxdb_line_protocol.specs.declared.stream.bounded.Skipped.{Skipped};
 ghost use Rattle.influxdb_line_protocol.specs.format.Bytes.{newlines_in};
 ghost use Rattle.influxdb_line_protocol.specs.format.Pieces.{IsLastPiece};
@@ -60,7 +60,7 @@ impl Model for BoundedLineStream {
 }
 
 impl BoundedLineStream {
-    ghost use Rattle.influxdb_line_protocol.specs.code.LendingWithin.{EndsWithin, EndsLastWithin};
+    ghost use Rattle.influxdb_line_protocol.specs.code.Lending.{EndsWithin, EndsLastWithin};
 
     /// A stream that holds nothing, by the rules of a dialect, whose pieces have so many bytes at most. A limit of
     /// `usize::MAX` is none: no piece is too long. No memory is taken.
@@ -166,10 +166,7 @@ impl BoundedLineStream {
 
     // Takes what is held, where that is a piece that is too long, and gives its fault.
     fn drops_last(&mut self) -> Option<TooLong>
-        ensures rules { KeepsRules self.old self.new }
-        ensures long { IfSome result (λ fault. Holds self.new [] × ((text : List ℕ) → Holds self.old text
-            → IsLastPiece self.old.held.dialect text
-            → IsTooLong self.old.limit text × (fault.newlines ≡ newlines_in text))) }
+        ensures long { IfSome result (λ fault. GivesLastWithin self.old (Err fault) self.new) }
         ensures short { result ≡ None → (self.new ≡ self.old) × (self.old.skipped ≡ Skipped.Nothing)
             × (length self.old.held.bytes ≤ self.old.limit) }
     {

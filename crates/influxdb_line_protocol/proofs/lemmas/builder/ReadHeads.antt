@@ -65,10 +65,6 @@ measurement_uncounted (b ∷ text) none =
 pub measurement_same : (text : List ℕ) → delimiters text ≡ 0 → spelling a_measurement text ≡ text
 measurement_same text none = escaped_uncounted (escapable a_measurement) text (measurement_uncounted text none)
 
--- so is a key, or a value
-pub name_same : (text : List ℕ) → delimiters text ≡ 0 → escaped (escapable a_tag_key) text ≡ text
-name_same text none = escaped_uncounted (escapable a_tag_key) text none
-
 -- a tag whose names hold none
 abbrev pub IsUndivided : Tag → Type 0
 IsUndivided t = (delimiters t.key ≡ 0) × (delimiters t.value ≡ 0)
@@ -127,8 +123,8 @@ tags_are (t ∷ tags) text h =
             names = ((ap delimiters shown ∙ no_key, ap delimiters read ∙ no_value), rest.names);
             is = tag_written text after key v value h.1 (flat_map built_tag (map logical_tag tags)) t.key.bytes
                 t.value.bytes h.2 p.text_is split rest.is
-                (ap (escaped (escapable a_tag_key)) shown ∙ name_same key no_key)
-                (ap (escaped (escapable a_tag_key)) read ∙ name_same value no_value);
+                (ap (escaped (escapable a_tag_key)) shown ∙ escaped_uncounted (escapable a_tag_key) key no_key)
+                (ap (escaped (escapable a_tag_key)) read ∙ escaped_uncounted (escapable a_tag_key) value no_value);
           };
     }
 

@@ -57,13 +57,8 @@ line_room dialect text l h =
     let separated = set_separated parts.measurement_rest parts.tags_rest l.tags parts.tags in
     let tags = room_after tag (λ t. (tag_no_longer t).holds) (some_tags l.tags) parts.measurement_rest parts.tags_rest separated in
     let fields = field_room dialect (drop (spaces parts.tags_rest) parts.tags_rest) parts.fields_rest l.fields parts.fields in
-    omega (
-      arith,
-      ap length front.is,
-      length-append front.front parts.measurement_rest,
-      length-drop
-          (spaces parts.tags_rest) parts.tags_rest,
-    )
+    let after = length-drop (spaces parts.tags_rest) parts.tags_rest in
+    omega (arith, ap length front.is, length-append front.front parts.measurement_rest, after)
 
 -- as many tags as were read
 tags_as_read : (o : Option (SmallVec (EscapedStr × EscapedStr))) → length (some_tags (option_map tags_of o)) ≡ length (some_items o)
@@ -74,11 +69,6 @@ tags_as_read (Some tags) = length-map tags.items tag_of
 pub item_columns_fit : (dialect : Dialect) (line : List ℕ) (item : Result ParsedLine Error) → length line < 2 ^ 63
     → Answers item (answer dialect line) → CanCountColumns item
 item_columns_fit dialect line (Ok parsed) short h =
-    omega (
-      arith,
-      line_room dialect line
-          (line_read parsed) h,
-      tags_as_read parsed.series.tag_set,
-      length-map parsed.field_set.items field_of,
-    )
+    let room = line_room dialect line (line_read parsed) h in
+    omega (arith, room, tags_as_read parsed.series.tag_set, length-map parsed.field_set.items field_of)
 item_columns_fit dialect line (Err e) short h = tt

@@ -1,8 +1,5 @@
 -- From the line that a call of `next_line` gives to the item of that line.
-use Rattle.std.proofs.Common.{◌≡◌, ℕ, ◌<◌, ◌≤◌, ◌^◌, List, length, true, subst, Option, Some, None, Result, Err, arith}
-use Rattle.std.specs.Prelude.{IfSome}
-use Rattle.std.specs.Option.{option_map}
-use Rattle.smallvec.specs.SmallVec.{SmallVec}
+use Rattle.std.proofs.Common.{◌≡◌, ℕ, ◌<◌, ◌≤◌, ◌^◌, List, length, true, subst, Result, Err}
 use Rattle.influxdb_line_protocol.specs.declared.error.Error.{Error}
 use Rattle.influxdb_line_protocol.specs.declared.parsed.ParsedLine.{ParsedLine}
 use Rattle.influxdb_line_protocol.specs.code.Light.{is_light, is_light_in}
@@ -48,19 +45,6 @@ gave_in_room tags fields more_tags more_fields before line answer others h k g l
       gave = g;
       light = λ small. light (more_room before.dialect line tags fields more_tags more_fields h k small);
     }
-
--- less room is kept where more is
-pub less_room : {T : Type 0} (n m : ℕ) (set : Option (SmallVec T)) → n ≤ m → IfSome set (λ s. m ≤ s.capacity)
-    → IfSome set (λ s. n ≤ s.capacity)
-less_room n m None h k = tt
-less_room n m (Some set) h k = omega arith
-
--- room is kept where the capacity stays
-pub same_room : {T : Type 0} (n : ℕ) (old new : Option (SmallVec T)) → option_map (λ s. s.capacity) new ≡ option_map (λ s. s.capacity) old
-    → IfSome old (λ s. n ≤ s.capacity) → IfSome new (λ s. n ≤ s.capacity)
-same_room n old None e h = tt
-same_room n None (Some new) e h = absurd (cc)
-same_room n (Some old) (Some new) e h = let same : new.capacity ≡ old.capacity = cc in omega arith
 
 -- `OutOfMemory` is not the item where it is not the answer
 pub same_want : {X Y : Type 0} (e : Error) → (let r : Result X Error = Err e in IsNotOutOfMemory r)

@@ -2,19 +2,18 @@
 use Rattle.std.proofs.Common.{◌≡◌, ℕ, ◌<◌, ◌≤◌, List, [], ◌∷◌, length, take, drop, Bool, true, false, not, ◌&&◌, ◌||◌, inl, inr, ap, refl}
 use Rattle.std.proofs.Common.{arith}
 use Rattle.std.specs.Prelude.{ℤ, Option, Some, None, Result, Ok, Err, nat_le, ◌==◌}
-use Rattle.std.specs.List.{list_all}
 use Rattle.std.specs.Result.{IsErr}
 use Rattle.std.specs.Str.Parse.{signed_digits_value}
 use Rattle.std.proofs.lemmas.Bool.{cases_Bool, and_left, and_parts, and_right, le-leb, leb-true}
 use Rattle.influxdb_line_protocol.specs.format.Dialects.{Dialect}
 use Rattle.influxdb_line_protocol.specs.format.Bytes.{is_one_of}
 use Rattle.influxdb_line_protocol.specs.format.Readings.{Fault, Text, Read, Reading, miss, fatal, reads, field_set_missing, take_while1}
-use Rattle.influxdb_line_protocol.specs.format.Readings.{timestamp_value_invalid, cannot_parse_entire_line, or_fault}
+use Rattle.influxdb_line_protocol.specs.format.Readings.{timestamp_value_invalid, or_fault}
 use Rattle.influxdb_line_protocol.specs.format.Names.{name, a_measurement}
 use Rattle.influxdb_line_protocol.specs.format.Values.{Value, fits_i64, integer_len, side_of}
 use Rattle.influxdb_line_protocol.specs.format.Points.{Pair}
-use Rattle.influxdb_line_protocol.specs.format.Lines.{Line, answer, byte, complete, field, field_set, front_before, separated_list}
-use Rattle.influxdb_line_protocol.specs.format.Lines.{some_tags, spaces, tag, tag_set, timestamp, without_comma, ◌then◌}
+use Rattle.influxdb_line_protocol.specs.format.Lines.{Line, answer, byte, complete, field, field_set, separated_list}
+use Rattle.influxdb_line_protocol.specs.format.Lines.{spaces, tag, tag_set, timestamp, without_comma, ◌then◌}
 use Rattle.influxdb_line_protocol.specs.code.Light.{carries_no_text, fields_in, is_light_answer, is_light_in, is_single_field}
 use Rattle.influxdb_line_protocol.specs.code.Light.{is_single_line, is_single_tag, tags_in, NeedsMemory, CopiesIn, HasBackslash}
 use Rattle.influxdb_line_protocol.specs.code.Light.{SetNeedsMemory, TagsNeedMemory}
@@ -32,17 +31,6 @@ complete_not_light : (line : List ℕ) (l : Line) (rest : List ℕ) → HasBacks
     → is_light_answer line (complete l rest) ≡ false
 complete_not_light line l [] some h = h
 complete_not_light line l (b ∷ rest) some h = rw some refl
-
--- a copy in one of three places
-first_copied : (a b c : Bool) → a ≡ false → (a && b && c) ≡ false
-first_copied a b c e = rw e refl
-
-second_copied : (a b c : Bool) → b ≡ false → (a && b && c) ≡ false
-second_copied true b c e = rw e refl
-second_copied false b c e = refl
-
-third_copied : (a b c : Bool) → c ≡ false → (a && b && c) ≡ false
-third_copied a b c e = and_right (a && b) c e
 
 -- a fault with a text after a backslash is one too
 fault_copied : (line text : List ℕ) (plain : Bool) → EndsIn line text → (not (is_one_of text 92) && plain) ≡ false
@@ -94,15 +82,15 @@ timestamp_carries text h =
 module _ (dialect : Dialect) (line : List ℕ) where
   heavy_answer : (p q : ℕ) → is_light_answer line (answer dialect line) ≡ false → is_light_in p q dialect line ≡ false
   unfolding is_light_in
-  heavy_answer p q h = third_copied (nat_le (tags_in line) p) (nat_le (fields_in line) q) (is_light_answer line (answer dialect line)) h
+  heavy_answer p q h = and_right _ _ h
 
   many_tags : (p q : ℕ) → nat_le (tags_in line) p ≡ false → is_light_in p q dialect line ≡ false
   unfolding is_light_in
-  many_tags p q h = first_copied (nat_le (tags_in line) p) (nat_le (fields_in line) q) (is_light_answer line (answer dialect line)) h
+  many_tags p q h = and_left _ _ (and_left _ _ h)
 
   many_fields : (p q : ℕ) → nat_le (fields_in line) q ≡ false → is_light_in p q dialect line ≡ false
   unfolding is_light_in
-  many_fields p q h = second_copied (nat_le (tags_in line) p) (nat_le (fields_in line) q) (is_light_answer line (answer dialect line)) h
+  many_fields p q h = and_left _ _ (and_right _ _ h)
 
   -- a line that needs no memory in some room needs none in more
   pub more_room : (p q more_tags more_fields : ℕ) → p ≤ more_tags → q ≤ more_fields → is_light_in p q dialect line ≡ true
@@ -131,14 +119,8 @@ module _ (dialect : Dialect) (line : List ℕ) where
           then_not_light line (or_fault take_while1 (byte 32 tags.rest)) _ some (λ gap.
           then_not_light line (or_fault field_set_missing (field_set dialect (drop (spaces tags.rest) tags.rest))) _ some (λ fields.
           then_not_light line (timestamp fields.rest) _ some (λ t.
-          complete_not_light line (record {
-            series = front_before line tags.rest;
-            measurement = m;
-            tags = tags.value;
-            fields = fields.value;
-            timestamp = t.value;
-          }) t.rest some
-          (first_copied m.is_single (list_all is_single_tag (some_tags tags.value)) (list_all is_single_field fields.value) h))))))
+          complete_not_light line _ t.rest some
+          (and_left _ _ (and_left _ _ h)))))))
 
   -- a line whose tags need memory is not light
   pub tags_need : (p q : ℕ) (m : Text) (rest : List ℕ) → name a_measurement line ≡ reads m rest
@@ -160,14 +142,8 @@ module _ (dialect : Dialect) (line : List ℕ) where
           (then_not_light line (or_fault take_while1 (byte 32 after)) _ some (λ gap.
           then_not_light line (or_fault field_set_missing (field_set dialect (drop (spaces after) after))) _ some (λ fields.
           then_not_light line (timestamp fields.rest) _ some (λ t.
-          complete_not_light line (record {
-            series = front_before line after;
-            measurement = m;
-            tags = Some xs;
-            fields = fields.value;
-            timestamp = t.value;
-          }) t.rest some
-          (second_copied m.is_single (list_all is_single_tag xs) (list_all is_single_field fields.value) h.1)))))
+          complete_not_light line _ t.rest some
+          (and_left _ _ (and_right _ _ h.1))))))
 
   module _ (m : Text) (rest : List ℕ) (tags : Read (Option (List (Pair Text Text)))) (gap : List ℕ)
       (e : name a_measurement line ≡ reads m rest) (t : tag_set rest ≡ Ok tags) (s : byte 32 tags.rest ≡ reads 32 gap) where
@@ -195,46 +171,24 @@ module _ (dialect : Dialect) (line : List ℕ) where
             let some = backslash_at_end line (drop (spaces tags.rest) tags.rest) fields_end h.0 in
             rw (e, t, s, j)
             (then_not_light line (timestamp (without_comma dialect xs after)) _ some (λ t.
-            complete_not_light line (record {
-              series = front_before line tags.rest;
-              measurement = m;
-              tags = tags.value;
-              fields = xs;
-              timestamp = t.value;
-            }) t.rest some
-            (third_copied m.is_single (list_all is_single_tag (some_tags tags.value)) (list_all is_single_field xs) h.1)))
+            complete_not_light line _ t.rest some
+            (and_right _ _ h.1)))
 
     module _ (xs : List (Pair Text (Value Text))) (after : List ℕ)
         (f : field_set dialect (drop (spaces tags.rest) tags.rest) ≡ reads xs after) where
-      -- the answer for a line whose timestamp is at fault
-      pub timestamp_fault : (fault : Fault) → timestamp after ≡ Err fault → answer dialect line ≡ Err fault
-      unfolding answer
-      timestamp_fault fault n = rw (e, t, s, f, n) refl
-
-      -- the answer for a line of which something is left
-      pub trailing_fault : (n : Read (Option ℤ)) → timestamp after ≡ Ok n → 0 < length n.rest
-          → answer dialect line ≡ Err (cannot_parse_entire_line n.rest)
-      unfolding answer
-      trailing_fault n is some = rw (e, t, s, f, is) (left n.rest some)
-        where
-          left : (rest : List ℕ) → 0 < length rest
-              → complete (record {
-                series = front_before line tags.rest;
-                measurement = m;
-                tags = tags.value;
-                fields = xs;
-                timestamp = n.value;
-              }) rest ≡ Err (cannot_parse_entire_line rest)
-          left [] some = absurd (omega arith)
-          left (b ∷ rest) some = refl
-
       -- a line whose timestamp is at fault is not light
       pub timestamp_needs : (p q : ℕ) (fault : Fault) → timestamp after ≡ Err fault → carries_no_text fault ≡ false
           → is_light_in p q dialect line ≡ false
+      unfolding answer
       timestamp_needs p q fault is h = heavy_answer p q
-          (rw (timestamp_fault fault is) (and_right (not (is_one_of line 92)) (carries_no_text fault) h))
+          (rw (e, t, s, f, is) (and_right (not (is_one_of line 92)) (carries_no_text fault) h))
 
       -- a line of which something is left is not light
       pub trailing_needs : (p q : ℕ) (n : Read (Option ℤ)) → timestamp after ≡ Ok n → 0 < length n.rest
           → is_light_in p q dialect line ≡ false
-      trailing_needs p q n is some = heavy_answer p q (rw (trailing_fault n is some) (and_right (not (is_one_of line 92)) false refl))
+      unfolding answer
+      trailing_needs p q n is some = heavy_answer p q (rw (e, t, s, f, is) (left _ n.rest some))
+        where
+          left : (l : Line) (rest : List ℕ) → 0 < length rest → is_light_answer line (complete l rest) ≡ false
+          left l [] some = absurd (omega arith)
+          left l (b ∷ rest) some = and_right (not (is_one_of line 92)) false refl

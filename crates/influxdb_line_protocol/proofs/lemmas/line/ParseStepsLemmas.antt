@@ -24,13 +24,10 @@ Skipped-more before piece others e h =
       blank = All-push IsBlankPiece h.skipped piece h.blank e;
     }
 
--- nothing is left of nothing
-trimmed_nil : trimmed [] ≡ []
-unfolding trimmed
-trimmed_nil = refl
-
+-- where something is left of a piece, it is not empty
 some_before_trimming : (piece : List ℕ) → 0 < length (trimmed piece) → 0 < length piece
-some_before_trimming [] h = let none : length (trimmed []) ≡ 0 = ap length trimmed_nil in absurd (omega arith)
+unfolding trimmed
+some_before_trimming [] h = let none : length (trimmed []) ≡ 0 = refl in absurd (omega arith)
 some_before_trimming (b ∷ piece) h = omega arith
 
 -- a piece is no longer than its text

@@ -3,6 +3,7 @@ use Rattle.std.proofs.Common.{◌≡◌, ℕ, zero, suc, ◌+◌, ◌-◌, ◌/�
 use Rattle.std.proofs.Common.{length-drop, refl, sym, ap, ap₂, ◌∙◌, subst, zero-add, arith}
 use Rattle.std.specs.Prelude.{◌==◌}
 use Rattle.std.specs.List.{range_with_len}
+use Rattle.std.proofs.Math.Seq.{take-add}
 use Rattle.std.proofs.lemmas.List.{drop-drop, drop-map, get_or-drop}
 use Rattle.std.proofs.lemmas.List.FromFn.{length-map-range_with_len}
 use Rattle.std.proofs.lemmas.Simd.{mask_l-lt}
@@ -14,7 +15,7 @@ use Rattle.influxdb_line_protocol.specs.format.Escapes.{is_bare_at, is_escaped_a
 use Rattle.influxdb_line_protocol.proofs.lemmas.lanes.MaskLemmas.{mask_l-drop}
 use Rattle.influxdb_line_protocol.proofs.lemmas.scan.BareMasks.{at_most_one, next_bare, one_escaped}
 use Rattle.influxdb_line_protocol.proofs.lemmas.split.SplitBare.{is_escaped-nil}
-use Rattle.influxdb_line_protocol.proofs.lemmas.split.SplitStretches.{bare_joined, take_run}
+use Rattle.influxdb_line_protocol.proofs.lemmas.split.SplitStretches.{bare_joined}
 
 -- what was seen, as a record
 abbrev pub ahead_of : ℕ → ℕ → ℕ → ℕ → Ahead
@@ -72,7 +73,7 @@ range_from p at (suc n) j =
 module _ (text : List ℕ) (at : ℕ) (is_bare : IsBareAfter (take at text)) where
   -- a place is escaped where it is in the text after it
   pub escaped_place : (k : ℕ) → is_escaped_after (take (at + k) text) ≡ is_escaped_after (take k (drop at text))
-  escaped_place k = ap is_escaped_after (take_run at k text) ∙ bare_joined (take at text) (take k (drop at text)) is_bare
+  escaped_place k = ap is_escaped_after (take-add at k text) ∙ bare_joined (take at text) (take k (drop at text)) is_bare
 
   -- so are the bare bytes that pass
   pub bare_place : (p : ℕ → Bool) (k : ℕ) → is_bare_at p text (at + k) ≡ is_bare_at p (drop at text) k

@@ -14,10 +14,9 @@ use Rattle.std.proofs.lemmas.Simd.{mask_l-mod, ones-mask_l}
 use Rattle.memchr.specs.Find.{IsFirstByte, is_byte3}
 use Rattle.influxdb_line_protocol.specs.declared.split.Ahead.{Ahead}
 use Rattle.influxdb_line_protocol.specs.declared.split.Walk.{Walk}
-use Rattle.influxdb_line_protocol.specs.code.Ahead.{IsAhead}
+use Rattle.influxdb_line_protocol.specs.code.Ahead.{IsAhead, IsWalked}
 use Rattle.influxdb_line_protocol.specs.code.Lanes.{first_set}
 use Rattle.influxdb_line_protocol.specs.code.Scan.{mask_at}
-use Rattle.influxdb_line_protocol.specs.code.Walks.{IsWalked}
 use Rattle.influxdb_line_protocol.specs.format.Escapes.{bare, is_bare_at, is_escaped_after, IsBareAfter, IsPassed}
 use Rattle.influxdb_line_protocol.proofs.lemmas.tokens.EscapeLemmas.{is_escaped_more}
 use Rattle.influxdb_line_protocol.proofs.lemmas.scan.BareMasks.{escaped_is_not_bare, lowest_passes, none_before, ones_low, to_next, to_stop}
@@ -107,24 +106,18 @@ module _ (text : List ℕ) (a : Ahead) (are : IsAhead text a) where
         ap (λ (k : ℕ). count_ones (k % 2 ^ run)) is ∙ ones_low (is_bare_at p text) 0 are.count run (omega (arith, short))
         ∙ sym (count_from p text run (omega (arith, stop_within)))
 
+    -- no more than all
+    low_few : (p : ℕ → Bool) (m : ℕ) → m ≡ mask_at (is_bare_at p text) 0 are.count → count_ones (m % 2 ^ run) ≤ run
+    low_few p m is = omega (arith, low_counts p m is, few_bare p text run (omega (arith, stop_within)))
+
     pub walk_ahead : IsWalked text (walk_at run (count_ones (a.equals % 2 ^ run)) (count_ones (a.commas % 2 ^ run)) true
         (ahead_of (a.passed - (run + 1)) (a.stops / 2 ^ run / 2) (a.equals / 2 ^ run / 2) (a.commas / 2 ^ run / 2)))
     walk_ahead = record {
       passed = stop_passed;
       equals_are = λ _ _. low_counts (λ b. b == 61) a.equals are.equals_are;
       commas_are = λ _ _. low_counts (λ b. b == 44) a.commas are.commas_are;
-      few_equals = omega (
-        arith,
-        low_counts (λ b. b == 61) a.equals are.equals_are,
-        few_bare (λ b. b == 61) text run
-            (omega (arith, stop_within)),
-      );
-      few_commas = omega (
-        arith,
-        low_counts (λ b. b == 44) a.commas are.commas_are,
-        few_bare (λ b. b == 44) text run
-            (omega (arith, stop_within)),
-      );
+      few_equals = low_few (λ b. b == 61) a.equals are.equals_are;
+      few_commas = low_few (λ b. b == 44) a.commas are.commas_are;
       ends = λ _. passed_to_stop ends_plain text run stop_within stop_ends stop_passed;
       seen = stop_later;
     }

@@ -9,7 +9,6 @@ use Rattle.std.proofs.lemmas.List.{get_or-drop, length-drop, length-map, take_mo
 use Rattle.std.proofs.lemmas.List.FromFn.{length-range_with_len}
 use Rattle.std.proofs.lemmas.List.Sums.{count_by-le-length, sum_by-append, sum_by-cons}
 use Rattle.std.proofs.lemmas.Simd.{length-chunk, mask_l-mod}
-use mir.Val.{bool_byte}
 use lib.Lanes.{chunk}
 use Rattle.influxdb_line_protocol.specs.code.Lanes.{mask_of}
 use Rattle.influxdb_line_protocol.specs.format.Escapes.{bare, is_bare_at, is_escaped_after, IsBareAfter}
@@ -17,26 +16,10 @@ use Rattle.influxdb_line_protocol.proofs.lemmas.lanes.MaskLemmas.{ones}
 use Rattle.influxdb_line_protocol.proofs.lemmas.scan.BareMasks.{one_escaped}
 use Rattle.influxdb_line_protocol.proofs.lemmas.split.SplitWalk.{count_bare_more, count_by-push}
 
--- a truth as a number
-pub as_number : (t : Bool) → bool_byte t ≡ cond t 1 0
-as_number true = refl
-as_number false = refl
-
--- it is one at most
-pub one_at_most : (t : Bool) (n : ℕ) → n ≡ bool_byte t → n ≤ 1
-one_at_most true n is = omega (arith, is)
-one_at_most false n is = omega (arith, is)
-
 -- the bytes that pass, one byte further
 pub count_more : (p : ℕ → Bool) (text : List ℕ) (at : ℕ) → at < length text
     → count_by p (take (at + 1) text) ≡ count_by p (take at text) + cond (p (slice_index text at)) 1 0
 count_more p text at h = rw (take_more text at 0 h) (count_by-push p (take at text) (slice_index text at))
-
--- the bytes that pass of a front, and those after it
-pub count_both : (p : ℕ → Bool) (text : List ℕ) (at n : ℕ)
-    → count_by p (take (at + n) text) ≡ count_by p (take at text) + count_by p (take n (drop at text))
-count_both p text at n =
-    ap (count_by p) (take-add at n text) ∙ sum_by-append (λ x. cond (p x) 1 0) (take at text) (take n (drop at text))
 
 -- the bytes that pass of a whole text
 pub count_whole : (p : ℕ → Bool) (text : List ℕ) (at : ℕ) → count_by p (take at text) + count_by p (drop at text) ≡ count_by p text
@@ -58,7 +41,9 @@ module _ (p : ℕ → Bool) (text : List ℕ) (at m : ℕ) (room : at + 64 ≤ l
 
   -- the bytes that pass, one load further
   pub count_load : count_by p (take (at + 64) text) ≡ count_by p (take at text) + count_ones (m % 2 ^ 64)
-  count_load = count_both p text at 64 ∙ ap (λ (k : ℕ). count_by p (take at text) + k) (sym load_counts)
+  count_load =
+      ap (count_by p) (take-add at 64 text) ∙ sum_by-append (λ x. cond (p x) 1 0) (take at text) (take 64 (drop at text))
+      ∙ ap (λ (k : ℕ). count_by p (take at text) + k) (sym load_counts)
 
 -- a byte is counted where it is bare
 as_bare : (e t : Bool) → cond {A = ℕ} e 0 (cond t 1 0) ≡ cond (t && not e) 1 0

@@ -284,7 +284,7 @@ piece_is_comment (p ∷ before) piece after text f h = elim (uncons Strict h) [
 ]
 
 -- a text up to a place, and after it
-split_at : (text : List ℕ) (i : ℕ) → i < length text → get_or text i 0 ≡ 10 → text ≡ take i text ++ 10 ∷ drop (i + 1) text
+pub split_at : (text : List ℕ) (i : ℕ) → i < length text → get_or text i 0 ≡ 10 → text ≡ take i text ++ 10 ∷ drop (i + 1) text
 split_at text i l e = sym (ap (λ x. take i text ++ x ∷ drop (i + 1) text) (sym e)
     ∙ ap (λ t. take i text ++ t) (sym (drop_more text i 0 l)) ∙ take-append-drop i text)
 
@@ -306,6 +306,14 @@ cut_of_comment text (Some i) e h = (
   ),
 )
 
+-- no front of a text that begins no comment begins one
+pub front_begins_none : (text : List ℕ) (n : ℕ) → begins_comment text ≡ false → begins_comment (take n text) ≡ false
+front_begins_none text n e = elim (cases_Bool (begins_comment (take n text))) [
+  | inl f ↦ absurd (both_ways (begins_comment text) e
+      (ap begins_comment (sym (take-append-drop n text)) ∙ begins_comment-append (take n text) (drop n text) f))
+  | inr f ↦ f
+]
+
 -- the rest is as in the other dialect
 pub cut_of_other : (text : List ℕ) (place : Option ℕ) → begins_comment text ≡ false → IsFirstCut Crate text place
     → IsFirstCut Strict text place
@@ -313,15 +321,7 @@ cut_of_other text None e h = inr (e, h)
 cut_of_other text (Some i) e h = (
   h.0,
   h.1,
-  inr (
-    elim (cases_Bool (begins_comment (take i text))) [
-      | inl f ↦ absurd (both_ways (begins_comment text) e
-          (ap begins_comment (sym (take-append-drop i text)) ∙ begins_comment-append (take i text) (drop i text) f))
-      | inr f ↦ f
-    ],
-    h.2.0,
-    h.2.1,
-  ),
+  inr (front_begins_none text i e, h.2.0, h.2.1),
 )
 
 -- what a call of `next` gives, by the bytes that it searched

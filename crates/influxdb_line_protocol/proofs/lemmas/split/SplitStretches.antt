@@ -1,25 +1,25 @@
 -- A piece, a stretch at a time.
 use Rattle.std.proofs.Common.{◌≡◌, ◌≢◌, ℕ, zero, suc, ◌+◌, ◌<◌, ◌≤◌, Bool, true, false, List, [], ◌∷◌, ◌++◌, length, take, drop}
-use Rattle.std.proofs.Common.{slice_index, Some, None, append_assoc, refl, sym, ap, ◌∙◌, subst, inl, inr, arith, length-drop}
+use Rattle.std.proofs.Common.{slice_index, Some, None, append_assoc, sym, ap, ◌∙◌, subst, inl, inr, arith, length-drop}
 use Rattle.std.specs.Prelude.{◌==◌, ◌||◌}
 use Rattle.std.specs.List.{All, count_by}
 use Rattle.std.proofs.lemmas.Bool.Decides.{nat_tests}
-use Rattle.std.proofs.lemmas.List.{take-append-drop, take-take, drop-take, take_all, take_more, drop_more, get_or-drop}
+use Rattle.std.proofs.lemmas.List.{take-append-drop, take_all, take_more, drop_more, get_or-drop}
 use Rattle.std.proofs.lemmas.Bool.{cases_eq}
+use Rattle.std.proofs.Math.Seq.{take-add}
 use Rattle.std.proofs.lemmas.List.Elements.{All-nil, All-tail, All-weaker}
 use Rattle.memchr.specs.Find.{IsFirstByte, Nowhere, Passes, is_byte3}
 use Rattle.influxdb_line_protocol.specs.declared.split.Walk.{Walk}
 use Rattle.influxdb_line_protocol.specs.format.Dialects.{Crate}
 use Rattle.influxdb_line_protocol.specs.format.Escapes.{is_escaped_after, bare, first_bare, IsBareAfter}
 use Rattle.influxdb_line_protocol.specs.laws.Meanings.{IsAtStop, IsBeforeStop}
-use Rattle.influxdb_line_protocol.specs.format.Piece.{IsHead, IsPlain, IsQuoted, EndsPlain, EndsQuoted, EndsQuoted.opened, IsClosed}
+use Rattle.influxdb_line_protocol.specs.format.Piece.{IsHead, IsPlain, EndsPlain, EndsQuoted, EndsQuoted.opened, IsClosed}
 use Rattle.influxdb_line_protocol.specs.format.Pieces.{IsLastPiece, IsFirstCut}
-use Rattle.influxdb_line_protocol.specs.code.Searches.{IsPlainTo, IsBeforeQuote}
-use Rattle.influxdb_line_protocol.specs.code.Walks.{IsWalked}
+use Rattle.influxdb_line_protocol.specs.code.Searches.{IsCountOf, IsPlainTo, IsBeforeQuote}
+use Rattle.influxdb_line_protocol.specs.code.Ahead.{IsWalked}
 use Rattle.influxdb_line_protocol.proofs.lemmas.split.SplitBare.{is_escaped-nil, is_escaped-append, is_escaped-push_other, flag_after}
 use Rattle.influxdb_line_protocol.proofs.lemmas.split.SplitShape.{last_place, IsHead-bare, EndsPlain-start, EndsPlain-bare}
-use Rattle.influxdb_line_protocol.proofs.lemmas.split.SplitShape.{EndsQuoted-close}
-use Rattle.influxdb_line_protocol.proofs.lemmas.split.SplitAppend.{EndsPlain-append}
+use Rattle.influxdb_line_protocol.proofs.lemmas.split.SplitShape.{EndsPlain-append, EndsQuoted-close}
 use Rattle.influxdb_line_protocol.proofs.lemmas.split.SplitWalk.{IsCountOf-append, Head-space, Plain-other, HasMoreEquals-from}
 use Rattle.influxdb_line_protocol.proofs.lemmas.laws.meanings.StopMeaning.{before_stop}
 
@@ -40,26 +40,10 @@ stretch_to passes text n is_first =
     (IsAtStop passes (take n text)) (drop_more text n 0 h) before.at_stop in
     record { none = before.none; is_bare = λ h. (at h).0; stops = λ h. (at h).1 }
 
--- a longer front
-pub take_run : (i n : ℕ) (xs : List ℕ) → take (i + n) xs ≡ take i xs ++ take n (drop i xs)
-take_run i n xs =
-    sym (take-append-drop i (take (i + n) xs))
-    ∙ ap (λ (t : List ℕ). t ++ drop i (take (i + n) xs)) (take-take i (i + n) xs (omega arith))
-    ∙ ap (λ (t : List ℕ). take i xs ++ t) (drop-take i n xs)
-
 -- a text in which nothing is escaped at its end does not change what is escaped after it
 pub bare_joined : (xs ys : List ℕ) → IsBareAfter xs → is_escaped_after (xs ++ ys) ≡ is_escaped_after ys
 bare_joined xs ys h =
     is_escaped-append xs ys ∙ ap (λ (f : Bool). flag_after f ys) (h ∙ sym is_escaped-nil) ∙ sym (is_escaped-append [] ys)
-
--- bytes without a space or a newline are a head
-head_is : (text : List ℕ) → All (λ b. (b == 32 || b == 10) ≡ false) (bare text) → IsHead text
-head_is text none = All-weaker (λ b. (b == 32 || b == 10) ≡ false) (λ b. (b ≢ 32) × (b ≢ 10))
-    (λ b h. grind (arith, nat_tests)) (bare text) none
-
--- bytes without a quote are between quotes
-quoted_is : (text : List ℕ) → All (λ b. (b == 34) ≡ false) (bare text) → IsQuoted text
-quoted_is text none = All-weaker (λ b. (b == 34) ≡ false) (λ b. b ≢ 34) (λ b h. grind (arith, nat_tests)) (bare text) none
 
 -- no byte of such a text is a quote
 none_before : (before after : List ℕ) → All (λ b. (b == 10 || b == 34) ≡ false) (before ++ 34 ∷ after) → ⊥
@@ -80,7 +64,8 @@ plain_is counted text none =
 module _ (text : List ℕ) (n : ℕ) (to : n ≡ first_bare (λ b. b == 32 || b == 10) text) where
   -- it is a head
   head_of : IsHead (take n text)
-  head_of = head_is (take n text) (stretch_to (λ b. b == 32 || b == 10) text n to).none
+  head_of = All-weaker (λ b. (b == 32 || b == 10) ≡ false) (λ b. (b ≢ 32) × (b ≢ 10))
+      (λ b h. grind (arith, nat_tests)) (bare (take n text)) (stretch_to (λ b. b == 32 || b == 10) text n to).none
 
   -- the text ends there
   pub head_last : length text ≤ n → IsLastPiece Crate text
@@ -91,8 +76,8 @@ module _ (text : List ℕ) (n : ℕ) (to : n ≡ first_bare (λ b. b == 32 || b 
   head_cut h newline = (h, newline, (inl head_of, (stretch_to (λ b. b == 32 || b == 10) text n to).is_bare h))
 
   -- a space is there, and begins a plain stretch
-  pub head_space : n < length text → slice_index text n ≢ 10 → IsPlainTo text 0 0 (n + 1)
-  head_space h other =
+  pub head_space : (e c : ℕ) → IsCountOf [] e c → n < length text → slice_index text n ≢ 10 → IsPlainTo text e c (n + 1)
+  head_space e c none h other =
       let stretch = stretch_to (λ b. b == 32 || b == 10) text n to in
       let here : slice_index text n ≡ 32 = grind (arith, nat_tests) in
       let whole : take (n + 1) text ≡ take n text ++ 32 ∷ [] = take_more text n 0 h ∙ ap (λ (b : ℕ). take n text ++ b ∷ []) here in
@@ -100,7 +85,7 @@ module _ (text : List ℕ) (n : ℕ) (to : n ≡ first_bare (λ b. b == 32 || b 
       record {
         within = omega arith;
         is_bare = rw whole (is_escaped-push_other (take n text) 32 (omega arith));
-        is_in = rw whole (Head-space 0 0 (take n text) bare_here (head_of, record { equals_is = refl; commas_is = refl }));
+        is_in = rw whole (Head-space e c (take n text) bare_here (head_of, none));
       }
 
 -- where a plain stretch ends that begins after a piece
@@ -112,7 +97,7 @@ module _ (text rest : List ℕ) (e c at n : ℕ) (p : IsPlainTo text e c at) (sa
 
   -- the piece with it is as long as both
   whole : take (at + n) text ≡ take at text ++ take n rest
-  whole = take_run at n text ∙ ap (λ (t : List ℕ). take at text ++ take n t) (sym same)
+  whole = take-add at n text ∙ ap (λ (t : List ℕ). take at text ++ take n t) (sym same)
 
   -- the piece with it ends in a plain stretch
   ends_plain : EndsPlain (take (at + n) text) (p.is_in.0 ++ bare (take n rest))
@@ -149,15 +134,18 @@ module _ (text rest : List ℕ) (e c at n : ℕ) (p : IsPlainTo text e c at) (sa
       record {
         within = h;
         here = grind (arith, nat_tests);
-        is_bare = bare_here h;
-        is_in = (
-          p.is_in.0 ++ bare (take n rest),
-          ends_plain,
-          IsCountOf-append p.is_in.0 (bare (take n rest)) e c walk.equals walk.commas p.is_in.2 (record {
-            equals_is = walked.equals_are inside (λ _. no_newline) ∙ ap (count_by (λ b. b == 61)) front;
-            commas_is = walked.commas_are inside (λ _. no_newline) ∙ ap (count_by (λ b. b == 44)) front;
-          }),
-        );
+        plain = record {
+          within = omega arith;
+          is_bare = bare_here h;
+          is_in = (
+            p.is_in.0 ++ bare (take n rest),
+            ends_plain,
+            IsCountOf-append p.is_in.0 (bare (take n rest)) e c walk.equals walk.commas p.is_in.2 (record {
+              equals_is = walked.equals_are inside (λ _. no_newline) ∙ ap (count_by (λ b. b == 61)) front;
+              commas_is = walked.commas_are inside (λ _. no_newline) ∙ ap (count_by (λ b. b == 44)) front;
+            }),
+          );
+        };
       }
 
 -- one byte more, a quote
@@ -172,7 +160,8 @@ quote_opens_nothing text e c at few q =
     record {
       within = omega arith;
       is_bare = rw whole (is_escaped-push_other (take at text) 34 (omega arith));
-      is_in = rw whole (Plain-other e c (take at text) 34 q.is_bare (omega arith) (omega arith) (omega arith) (λ _. few) q.is_in);
+      is_in = rw whole
+          (Plain-other e c (take at text) 34 q.plain.is_bare (omega arith) (omega arith) (omega arith) (λ _. few) q.plain.is_in);
     }
 
 -- where a quoted stretch ends that begins after a quote
@@ -185,18 +174,20 @@ module _ (text rest : List ℕ) (e c at n : ℕ) (more : c < e) (q : IsBeforeQuo
   -- the piece with it is as long as both and the quote between them
   whole_quoted : take ((at + 1) + n) text ≡ take at text ++ 34 ∷ take n rest
   whole_quoted =
-      take_run (at + 1) n text ∙ ap (λ (t : List ℕ). take (at + 1) text ++ take n t) (sym same)
+      take-add (at + 1) n text ∙ ap (λ (t : List ℕ). take (at + 1) text ++ take n t) (sym same)
       ∙ ap (λ (t : List ℕ). t ++ take n rest) (quote_more text e c at q) ∙ append_assoc (take at text) (34 ∷ []) (take n rest)
 
   -- the piece with it ends in a quoted stretch
-  ends_quoted : EndsQuoted (take ((at + 1) + n) text) q.is_in.0
+  ends_quoted : EndsQuoted (take ((at + 1) + n) text) q.plain.is_in.0
   ends_quoted = rw whole_quoted
-      (opened (take at text) q.is_in.0 (take n rest) q.is_in.1
-      (q.is_bare, HasMoreEquals-from q.is_in.0 e c q.is_in.2 more) (quoted_is (take n rest) quoted.none))
+      (opened (take at text) q.plain.is_in.0 (take n rest) q.plain.is_in.1
+      (q.plain.is_bare, HasMoreEquals-from q.plain.is_in.0 e c q.plain.is_in.2 more)
+      (All-weaker (λ b. (b == 34) ≡ false) (λ b. b ≢ 34) (λ b h. grind (arith, nat_tests)) (bare (take n rest)) quoted.none))
 
   -- the text ends there
   pub quoted_last : length text ≤ (at + 1) + n → IsLastPiece Crate text
-  quoted_last past = inr (q.is_in.0, subst (λ (t : List ℕ). EndsQuoted t q.is_in.0) (take_all ((at + 1) + n) text past) ends_quoted)
+  quoted_last past = inr
+      (q.plain.is_in.0, subst (λ (t : List ℕ). EndsQuoted t q.plain.is_in.0) (take_all ((at + 1) + n) text past) ends_quoted)
 
   -- a quote is there, and closes it
   pub quoted_closes : (at + 1) + n < length text → IsPlainTo text e c (((at + 1) + n) + 1)
@@ -214,7 +205,7 @@ module _ (text rest : List ℕ) (e c at n : ℕ) (more : c < e) (q : IsBeforeQuo
       record {
         within = omega arith;
         is_bare = rw longer (is_escaped-push_other front 34 (omega arith));
-        is_in = rw longer (q.is_in.0, EndsQuoted-close ends_quoted bare_front, q.is_in.2);
+        is_in = rw longer (q.plain.is_in.0, EndsQuoted-close ends_quoted bare_front, q.plain.is_in.2);
       }
 
 -- a byte that is no newline, quote or backslash lengthens a closed piece
@@ -242,10 +233,6 @@ quiet_front text (suc n) h none =
       is_bare = is_escaped-push_other (take n text) b (grind (arith, nat_tests));
       is_closed = closed_byte (take n text) b (grind (arith, nat_tests)) (grind (arith, nat_tests)) before.is_bare before.is_closed;
     })
-  where
-    not_found : (t : Bool) → ¬ (t ≡ true) → t ≡ false
-    not_found true h = absurd (h refl)
-    not_found false h = refl
 
 -- the first newline, quote or backslash
 pub quiet_cut : (text : List ℕ) (n : ℕ) → IsFirstByte (is_byte3 92 10 34) text (Some n) → slice_index text n ≡ 10

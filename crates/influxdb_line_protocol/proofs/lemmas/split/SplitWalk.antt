@@ -5,23 +5,16 @@ use Rattle.std.specs.List.{count_by}
 use Rattle.std.proofs.lemmas.List.{take_more}
 use Rattle.std.proofs.lemmas.List.Sums.{sum_by-append}
 use Rattle.std.proofs.lemmas.Bool.{ne_eqb, cases_Bool}
+pub use Rattle.influxdb_line_protocol.specs.declared.split.resumed.Part.{Part}
+pub use Rattle.influxdb_line_protocol.specs.declared.split.resumed.Part.TheVariants.{Head, Plain, Quoted}
 use Rattle.influxdb_line_protocol.specs.code.Searches.{IsCountOf}
+pub use Rattle.influxdb_line_protocol.specs.code.Tracks.{EndsIn as IsIn}
 use Rattle.influxdb_line_protocol.specs.format.Escapes.{is_escaped_after, bare, IsBareAfter}
-use Rattle.influxdb_line_protocol.specs.format.Piece.{IsHead, HasMoreEquals, EndsPlain, EndsQuoted}
+use Rattle.influxdb_line_protocol.specs.format.Piece.{HasMoreEquals}
 use Rattle.influxdb_line_protocol.proofs.lemmas.split.SplitBare.{bare-push_escaped, bare-push_bare}
 use Rattle.influxdb_line_protocol.proofs.lemmas.split.SplitShape.{IsHead-escaped, IsHead-bare, EndsPlain-escaped, EndsPlain-bare}
 use Rattle.influxdb_line_protocol.proofs.lemmas.split.SplitShape.{EndsPlain-start, EndsQuoted-escaped, EndsQuoted-bare, EndsQuoted-start}
 use Rattle.influxdb_line_protocol.proofs.lemmas.split.SplitShape.{EndsQuoted-close}
-
--- the part of a piece that its last byte is in
-pub data Part : Type 0 where
-  Head Plain Quoted : Part
-
--- the piece so far ends in this part, with these counts
-abbrev pub IsIn : Part → ℕ → ℕ → List ℕ → Type 0
-IsIn Head m n piece = IsHead piece × IsCountOf [] m n
-IsIn Plain m n piece = (counted : List ℕ) × EndsPlain piece counted × IsCountOf counted m n
-IsIn Quoted m n piece = (counted : List ℕ) × EndsQuoted piece counted × IsCountOf counted m n
 
 -- one byte more that is counted
 pub count_by-push : (p : ℕ → Bool) (xs : List ℕ) (b : ℕ) → count_by p (xs ++ b ∷ []) ≡ count_by p xs + cond (p b) 1 0

@@ -1,7 +1,6 @@
 -- What a stream holds whose pieces have a greatest length.
 use Rattle.std.proofs.Common.{◌≡◌, ◌⊎◌, inl, inr, ℕ, ◌+◌, ◌<◌, List, [], ◌∷◌, ◌++◌, length, take, drop, refl, sym, ap, ◌∙◌, subst, ◌==◌}
-use Rattle.std.proofs.Common.{ap₂, append_assoc, cond, length-append, arith, slice_index, take-append-drop, Ok, Err}
-use Rattle.std.proofs.lemmas.List.{drop_more}
+use Rattle.std.proofs.Common.{ap₂, append_assoc, cond, length-append, arith, Ok, Err}
 use Rattle.std.proofs.lemmas.List.Sums.{sum_by-append}
 use Rattle.influxdb_line_protocol.specs.format.Dialects.{Dialect, Crate, Strict}
 use Rattle.influxdb_line_protocol.specs.declared.split.resumed.Part.{Part}
@@ -16,7 +15,7 @@ use Rattle.influxdb_line_protocol.specs.format.Pieces.{IsCutPiece, IsLastPiece}
 use Rattle.influxdb_line_protocol.specs.code.Streams.{Held, TakesPiece}
 use Rattle.influxdb_line_protocol.specs.code.Tracks.{EndsIn, IsTrackOf, TracksOn}
 use Rattle.influxdb_line_protocol.specs.code.Bounded.{CutsTo, HoldsBy, IsTooLong}
-use Rattle.influxdb_line_protocol.proofs.lemmas.split.SplitPieces.{no_cut_within}
+use Rattle.influxdb_line_protocol.proofs.lemmas.split.SplitPieces.{no_cut_within, split_at}
 use Rattle.influxdb_line_protocol.proofs.lemmas.stream.KnownTexts.{no_comment}
 use Rattle.influxdb_line_protocol.proofs.lemmas.stream.TrackedPieces.{blanks_begin_none}
 
@@ -38,12 +37,6 @@ skips_more limit held skipped from to n more part is tracks counted text h =
     let k = subst (λ (s : Skipped). HoldsBy limit held s text) is h in
     (k.0, longer_is_too_long limit text part k.1, tracks held.dialect text k.2, more_newlines text part n more k.3 counted)
 
--- the bytes before a newline, and those after it
-parted : (bytes : List ℕ) (i : ℕ) → i < length bytes → slice_index bytes i ≡ 10 → take i bytes ++ 10 ∷ drop (i + 1) bytes ≡ bytes
-parted bytes i within here =
-    ap (λ (b : ℕ). take i bytes ++ b ∷ drop (i + 1) bytes) (sym here)
-    ∙ ap (λ (t : List ℕ). take i bytes ++ t) (sym (drop_more bytes i 0 within)) ∙ take-append-drop i bytes
-
 -- a part that ends one
 pub skips_to_end : (limit : ℕ) (old new : Held) (skipped : Skipped) (from : Track) (n more : ℕ) (part : List ℕ) (i : ℕ)
     → skipped ≡ Within from n → TracksOn part from (Ok i) → new.dialect ≡ old.dialect → new.bytes ≡ old.bytes ++ drop (i + 1) part
@@ -52,7 +45,7 @@ pub skips_to_end : (limit : ℕ) (old new : Held) (skipped : Skipped) (from : Tr
 skips_to_end limit old new skipped from n more part i is tracks dialect bytes counted text h =
     let k = subst (λ (s : Skipped). HoldsBy limit old s text) is h in
     let after : new.bytes ≡ drop (i + 1) part = bytes ∙ ap (λ (t : List ℕ). t ++ drop (i + 1) part) k.0 in
-    let split = parted part i tracks.0 tracks.1 in (
+    let split = sym (split_at part i tracks.0 tracks.1) in (
       text ++ take i part,
       longer_is_too_long limit text (take i part) k.1,
       (
@@ -82,7 +75,7 @@ place_is_last Plain e c bytes h = inl (inr (h.0, h.1))
 place_is_last Quoted e c bytes h = inr (h.0, h.1)
 
 -- bytes that have a track are one piece
-tracked_is_last : (dialect : Dialect) (bytes : List ℕ) (track : Track) → IsTrackOf dialect bytes track → IsLastPiece dialect bytes
+pub tracked_is_last : (dialect : Dialect) (bytes : List ℕ) (track : Track) → IsTrackOf dialect bytes track → IsLastPiece dialect bytes
 tracked_is_last dialect bytes Comment h = subst (λ (d : Dialect). IsLastPiece d bytes) (sym h.0) (inl h.1)
 tracked_is_last dialect bytes (Blanks place) h =
     subst (λ (d : Dialect). IsLastPiece d bytes) (sym h.0)
@@ -91,26 +84,12 @@ tracked_is_last Crate bytes (Line place) h = place_is_last place.part place.equa
 tracked_is_last Strict bytes (Line place) h =
     inr (no_comment bytes h.0, place_is_last place.part place.equals place.commas bytes h.1.ends_in)
 
--- so is what is held where bytes were skipped
-pub within_is_last : (limit : ℕ) (held : Held) (skipped : Skipped) (track : Track) (n : ℕ) (text : List ℕ) → skipped ≡ Within track n
-    → HoldsBy limit held skipped text → IsLastPiece held.dialect text
-within_is_last limit held skipped track n text is h =
-    let k = subst (λ (s : Skipped). HoldsBy limit held s text) is h in
-    tracked_is_last held.dialect text track k.2
-
--- then none are kept
-pub within_keeps_none : (limit : ℕ) (held : Held) (skipped : Skipped) (track : Track) (n : ℕ) (text : List ℕ) → skipped ≡ Within track n
-    → HoldsBy limit held skipped text → length held.bytes ≡ 0
-within_keeps_none limit held skipped track n text is h =
-    let k = subst (λ (s : Skipped). HoldsBy limit held s text) is h in
-    ap (λ (t : List ℕ). length t) k.0
-
 -- what is one piece has no newline that ends it
 pub no_end_within : (dialect : Dialect) (bytes : List ℕ) (track : Track) (i : ℕ) → IsTrackOf dialect [] track
     → TracksOn bytes track (Ok i) → IsLastPiece dialect bytes → ⊥
 no_end_within dialect bytes track i begins tracks is_last =
     no_cut_within dialect (take i bytes) (drop (i + 1) bytes) (tracks.2 dialect [] begins)
-    (subst (λ (t : List ℕ). IsLastPiece dialect t) (sym (parted bytes i tracks.0 tracks.1)) is_last)
+    (subst (λ (t : List ℕ). IsLastPiece dialect t) (split_at bytes i tracks.0 tracks.1) is_last)
 
 -- fewer bytes are kept once a piece is taken
 pub taking_keeps_fewer : (held after : Held) (piece : List ℕ) → TakesPiece held piece after → length after.bytes < length held.bytes

@@ -2,7 +2,7 @@
 use Rattle.std.proofs.Common.{◌≡◌, ◌≢◌, ℕ, Bool, true, false, ◌&&◌, ◌||◌, inl, inr, eqb, List, [], ◌∷◌, ◌++◌, length, take, drop, Some}
 use Rattle.std.proofs.Common.{Result, Ok, Err, refl, sym, ap, ◌∙◌, subst, arith, append-nil, take-append-drop}
 use Rattle.std.specs.List.{All}
-use Rattle.std.proofs.lemmas.Bool.{both_ways, cases_Bool, cases_eq}
+use Rattle.std.proofs.lemmas.Bool.{cases_eq}
 use Rattle.std.proofs.lemmas.List.{take_all}
 use Rattle.std.proofs.lemmas.List.Elements.{All-nil, All-cons, All-drop}
 use Rattle.influxdb_line_protocol.specs.format.Dialects.{Dialect, Crate, Strict}
@@ -11,7 +11,7 @@ use Rattle.influxdb_line_protocol.specs.declared.split.resumed.Search.{Search}
 use Rattle.influxdb_line_protocol.specs.declared.split.resumed.Search.TheVariants.{Begins, Quiet, Within}
 use Rattle.influxdb_line_protocol.specs.format.Pieces.{begins_comment, IsLastPiece}
 use Rattle.influxdb_line_protocol.specs.code.Searches.{NeverComment, SearchesOn}
-use Rattle.influxdb_line_protocol.proofs.lemmas.split.SplitPieces.{begins_comment-append, cut_of_other, IsLastPiece-extend}
+use Rattle.influxdb_line_protocol.proofs.lemmas.split.SplitPieces.{cut_of_other, front_begins_none, IsLastPiece-extend}
 
 -- a text without a cut up to a place, and without a newline after it, is one piece
 pub still_last : (dialect : Dialect) (text after : List ℕ) (quiet : ℕ) → IsLastPiece dialect (take quiet text)
@@ -54,14 +54,6 @@ never_comment Strict text after n e some (inr h) =
 pub no_comment : (text : List ℕ) → NeverComment Strict text → begins_comment text ≡ false
 no_comment text never = ap begins_comment (sym (append-nil text)) ∙ never []
 
--- and no front of it does
-no_comment_front : (text : List ℕ) (n : ℕ) → NeverComment Strict text → begins_comment (take n text) ≡ false
-no_comment_front text n never = elim (cases_Bool (begins_comment (take n text))) [
-  | inl e ↦ absurd (both_ways (begins_comment text) (no_comment text never)
-      (ap begins_comment (sym (take-append-drop n text)) ∙ begins_comment-append (take n text) (drop n text) e))
-  | inr e ↦ e
-]
-
 -- what a search by the rules of the crate found then holds by those of the dialect
 pub by_dialect : (dialect : Dialect) (text : List ℕ) (result : Result Mark Search) → NeverComment dialect text
     → SearchesOn Crate text result → SearchesOn dialect text result
@@ -69,5 +61,5 @@ by_dialect Crate text result never h = h
 by_dialect Strict text (Ok cut) never h = (cut_of_other text (Some cut.at) (no_comment text never) h.0, h.1)
 by_dialect Strict text (Err (Begins seen)) never h = (inr (no_comment text never, h.0), h.1)
 by_dialect Strict text (Err (Quiet n)) never h =
-    (inr (no_comment text never, h.0), (h.1.0, inr (no_comment_front text n never, h.1.1)))
+    (inr (no_comment text never, h.0), (h.1.0, inr (front_begins_none text n (no_comment text never), h.1.1)))
 by_dialect Strict text (Err (Within stretch)) never h = (inr (no_comment text never, h.0), (never, h.1.1))

@@ -12,10 +12,11 @@ use Rattle.influxdb_line_protocol.specs.declared.split.resumed.Search.{Search}
 use Rattle.influxdb_line_protocol.specs.declared.split.resumed.Search.TheVariants.{Begins, Quiet, Within}
 use Rattle.influxdb_line_protocol.specs.format.Escapes.{is_escaped_after, IsBareAfter, IsPassed}
 use Rattle.influxdb_line_protocol.specs.format.Pieces.{begins_comment, IsLastPiece}
-use Rattle.influxdb_line_protocol.specs.code.Searches.{BeginsAt, ends, IsBeforeQuote, IsKnown, IsPlainPiece, IsPlainTo, IsStopped}
+use Rattle.influxdb_line_protocol.specs.code.Searches.{BeginsAt, ends, IsBeforeQuote, IsKnown, IsPlainTo, IsStopped}
 use Rattle.influxdb_line_protocol.specs.code.Searches.{NeverComment}
 use Rattle.influxdb_line_protocol.specs.code.Ahead.{AreSeen}
 use Rattle.influxdb_line_protocol.specs.code.Streams.{IsHeldAt}
+use Rattle.influxdb_line_protocol.specs.code.Tracks.{EndsIn}
 
 module _ (text more : List ℕ) where
   -- a front of it
@@ -29,20 +30,16 @@ module _ (text more : List ℕ) where
       record {
         within = omega (arith, length-append text more, p.within);
         is_bare = subst IsBareAfter same p.is_bare;
-        is_in = subst (IsPlainPiece e c) same p.is_in;
+        is_in = subst (EndsIn Plain e c) same p.is_in;
       }
 
   -- a quote after one
   quote_longer : (e c at : ℕ) → IsBeforeQuote text e c at → IsBeforeQuote (text ++ more) e c at
-  quote_longer e c at q =
-      let within = q.within in
-      let same = sym (front at (omega arith)) in
-      record {
-        within = omega (arith, length-append text more, q.within);
-        here = get_or_append_left text more 0 at q.within ∙ q.here;
-        is_bare = subst IsBareAfter same q.is_bare;
-        is_in = subst (IsPlainPiece e c) same q.is_in;
-      }
+  quote_longer e c at q = record {
+    within = omega (arith, length-append text more, q.within);
+    here = get_or_append_left text more 0 at q.within ∙ q.here;
+    plain = plain_longer e c at q.plain;
+  }
 
   -- the start of a stretch
   begins_longer : (part : Part) (e c at : ℕ) → BeginsAt part text e c at → BeginsAt part (text ++ more) e c at

@@ -1,13 +1,12 @@
 -- The track of a piece, a byte further.
-use Rattle.std.proofs.Common.{◌≡◌, ◌≢◌, ℕ, ◌≤◌, Bool, true, false, ◌&&◌, not, List, [], ◌∷◌, ◌++◌, sym, ap, ◌∙◌, subst, Some}
+use Rattle.std.proofs.Common.{◌≡◌, ℕ, Bool, true, false, ◌&&◌, not, List, [], ◌∷◌, ◌++◌, sym, ap, ◌∙◌, subst, Some}
 use Rattle.std.specs.Prelude.{◌==◌}
 use Rattle.influxdb_line_protocol.specs.declared.split.resumed.Part.{Part}
-use Rattle.influxdb_line_protocol.specs.declared.split.resumed.Part.TheVariants.{Head, Plain, Quoted}
 use Rattle.influxdb_line_protocol.specs.declared.split.tracked.Place.{Place}
 use Rattle.influxdb_line_protocol.specs.format.Escapes.{is_escaped_after, IsBareAfter}
 use Rattle.influxdb_line_protocol.specs.code.Tracks.{EndsIn, Steps}
 use Rattle.influxdb_line_protocol.proofs.lemmas.tokens.EscapeLemmas.{is_escaped_push}
-use Rattle.influxdb_line_protocol.proofs.lemmas.split.SplitWalk as walk
+use Rattle.influxdb_line_protocol.proofs.lemmas.split.SplitWalk.{IsIn-escaped}
 
 -- a bare byte escapes the next one where it is a backslash
 escapes_next : (bytes : List ℕ) (b : ℕ) → IsBareAfter bytes → is_escaped_after (bytes ++ b ∷ []) ≡ (b == 92)
@@ -16,13 +15,6 @@ escapes_next bytes b h = is_escaped_push bytes b ∙ ap (λ (t : Bool). not t &&
 -- an escaped byte escapes nothing
 then_bare : (bytes : List ℕ) (b : ℕ) → is_escaped_after bytes ≡ true → IsBareAfter (bytes ++ b ∷ [])
 then_bare bytes b h = is_escaped_push bytes b ∙ ap (λ (t : Bool). not t && b == 92) h
-
--- an escaped byte
-pub escaped_step : (p : Part) (e c : ℕ) (bytes : List ℕ) (b : ℕ) → is_escaped_after bytes ≡ true → EndsIn p e c bytes
-    → EndsIn p e c (bytes ++ b ∷ []) × (is_escaped_after (bytes ++ b ∷ []) ≡ false)
-escaped_step Head e c bytes b h k = (walk.IsIn-escaped walk.Head e c bytes b h k, then_bare bytes b h)
-escaped_step Plain e c bytes b h k = (walk.IsIn-escaped walk.Plain e c bytes b h k, then_bare bytes b h)
-escaped_step Quoted e c bytes b h k = (walk.IsIn-escaped walk.Quoted e c bytes b h k, then_bare bytes b h)
 
 -- a bare byte leads to another place, where it leads to this part and these counts
 pub bare_step : (place : Place) (part next to : Part) (b e c : ℕ) (flag : Bool) → place.part ≡ part → place.is_escaped ≡ false
@@ -41,24 +33,8 @@ bare_step place part next to b e c flag is_part is_bare is_next flag_is step = �
 pub after_escape : (place : Place) (b : ℕ) → place.is_escaped ≡ true
     → Steps place b (Some (record { part = place.part; is_escaped = false; equals = place.equals; commas = place.commas }))
 after_escape place b is_escaped = λ bytes h.
-    let w = escaped_step place.part place.equals place.commas bytes b (h.escaped_is ∙ is_escaped) h.ends_in in
-    record { escaped_is = w.1; ends_in = w.0 }
-
--- a backslash or another byte of a head
-pub head_byte : (e c b : ℕ) → b ≢ 32 → b ≢ 10 → (bytes : List ℕ) → IsBareAfter bytes → EndsIn Head e c bytes
-    → EndsIn Head e c (bytes ++ b ∷ [])
-head_byte e c b n m bytes h k = walk.Head-other e c bytes b h n m k
-
--- a space after a head
-pub head_space : (e c : ℕ) (bytes : List ℕ) → IsBareAfter bytes → EndsIn Head e c bytes → EndsIn Plain e c (bytes ++ 32 ∷ [])
-head_space e c bytes h k = walk.Head-space e c bytes h k
-
--- a byte of a plain stretch that is neither counted nor opens a string
-pub plain_byte : (e c b : ℕ) → b ≢ 61 → b ≢ 44 → b ≢ 10 → (b ≡ 34 → e ≤ c) → (bytes : List ℕ) → IsBareAfter bytes
-    → EndsIn Plain e c bytes → EndsIn Plain e c (bytes ++ b ∷ [])
-plain_byte e c b n m l q bytes h k = walk.Plain-other e c bytes b h n m l q k
-
--- a byte of a string
-pub quoted_byte : (e c b : ℕ) → b ≢ 34 → (bytes : List ℕ) → IsBareAfter bytes → EndsIn Quoted e c bytes
-    → EndsIn Quoted e c (bytes ++ b ∷ [])
-quoted_byte e c b q bytes h k = walk.Quoted-other e c bytes b h q k
+    let escaped = h.escaped_is ∙ is_escaped in
+    record {
+      escaped_is = then_bare bytes b escaped;
+      ends_in = IsIn-escaped place.part place.equals place.commas bytes b escaped h.ends_in;
+    }

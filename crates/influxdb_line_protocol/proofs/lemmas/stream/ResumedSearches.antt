@@ -15,29 +15,25 @@ use Rattle.influxdb_line_protocol.specs.format.Dialects.{Crate}
 use Rattle.influxdb_line_protocol.specs.format.Escapes.{first_bare, is_bare_at, is_escaped_after, IsBareAfter, IsPassed}
 use Rattle.influxdb_line_protocol.specs.format.Pieces.{IsFirstCut, IsLastPiece}
 use Rattle.influxdb_line_protocol.specs.code.Searches.{BeginsAt, ends, IsBeforeQuote, IsPlainTo, IsStopped}
-use Rattle.influxdb_line_protocol.specs.code.Walks.{IsWalked}
+use Rattle.influxdb_line_protocol.specs.code.Ahead.{IsWalked}
 use Rattle.influxdb_line_protocol.proofs.lemmas.tokens.EscapeLemmas.{is_escaped_more}
 use Rattle.influxdb_line_protocol.proofs.lemmas.split.SplitBare.{is_escaped-nil}
 use Rattle.influxdb_line_protocol.proofs.lemmas.split.SplitJumps.{passed_start}
 use Rattle.influxdb_line_protocol.proofs.lemmas.split.SplitStretches.{stretch_to, head_last, head_cut, head_space, plain_last, plain_cut}
 use Rattle.influxdb_line_protocol.proofs.lemmas.split.SplitStretches.{plain_quote, quoted_last, quoted_closes}
 
--- no byte before the first bare one that passes is one
-none_before_first : (passes : ℕ → Bool) (text : List ℕ) (k : ℕ) → k < length text → k < first_bare passes text
-    → is_bare_at passes text k ≡ false
-unfolding first_bare
-none_before_first passes text k within h =
-    subst (λ (n : ℕ). is_bare_at passes text n ≡ false) (get_or-range_with_len 0 (length text) k 0 within ∙ zero-add k)
-    (fails_before_first (is_bare_at passes text) (range_with_len 0 (length text)) k 0 h)
-
 -- where no byte ends a stretch, each place of it is passed, up to a bare one
 pub passed_to : (passes : ℕ → Bool) (text : List ℕ) (n : ℕ) → length text ≡ first_bare passes text → n ≤ length text
     → IsBareAfter (take n text) → IsPassed passes text n
+unfolding first_bare
 passed_to passes text n to h is_bare =
     record {
       within = h;
       is_bare = λ _. is_bare;
-      passed = λ k l. none_before_first passes text k (omega arith) (omega (arith, to));
+      passed = λ k l.
+          let early : k < first_bare passes text = omega (arith, to) in
+          subst (λ (m : ℕ). is_bare_at passes text m ≡ false) (get_or-range_with_len 0 (length text) k 0 (omega arith) ∙ zero-add k)
+          (fails_before_first (is_bare_at passes text) (range_with_len 0 (length text)) k 0 early);
     }
 
 -- pairs of backslashes after a bare place leave what comes after them bare
@@ -53,22 +49,11 @@ even_backslashes text at (suc pairs) h all is_bare =
     let second : is_escaped_after (take ((n + 1) + 1) text) ≡ false = rw (is_escaped_more text (n + 1) (omega arith), first) refl in
     subst (λ (m : ℕ). IsBareAfter (take m text)) (omega arith) second
 
--- the byte that ends a stretch
-module _ (part : Part) (text rest : List ℕ) (e c at n : ℕ) (b : BeginsAt part text e c at) (same : rest ≡ drop at text)
-    (to : n ≡ first_bare (ends part) rest) where
-  -- it is one that does
-  pub ends_there : at + n < length text → ends part (slice_index text (at + n)) ≡ true
-  ends_there h =
-      let inside : n < length rest = omega (arith, ap length same, length-drop at text) in
-      let there : slice_index rest n ≡ slice_index text (at + n) = ap (λ (t : List ℕ). slice_index t n) same ∙ get_or-drop at text n 0 in
-      subst (λ (x : ℕ). ends part x ≡ true) there ((stretch_to (ends part) rest n to).stops inside)
-
 -- where no byte ends a stretch, the text is one piece
 pub stretch_last : (part : Part) (text rest : List ℕ) (e c at n : ℕ) → BeginsAt part text e c at → rest ≡ drop at text
     → n ≡ first_bare (ends part) rest → length text ≤ at + n → IsLastPiece Crate text
 stretch_last Head text rest e c at n b same to past =
-    let start : rest ≡ text = same ∙ ap (λ (i : ℕ). drop i text) b in
-    head_last text n (subst (λ (t : List ℕ). n ≡ first_bare (ends Head) t) start to) (omega (arith, b))
+    head_last text n (rw (same, b) at to) (omega (arith, b))
 stretch_last Plain text rest e c at n b same to past = plain_last text rest e c at n b same to past
 stretch_last Quoted text rest e c at n b same to past =
     quoted_last text rest e c b.0 n b.2 b.3 (same ∙ ap (λ (i : ℕ). drop i text) b.1) to (omega (arith, b.1))
@@ -78,24 +63,23 @@ pub stretch_cut : (part : Part) (text rest : List ℕ) (e c at n : ℕ) → Begi
     → n ≡ first_bare (ends part) rest → at + n < length text → slice_index text (at + n) ≡ 10
     → IsFirstCut Crate text (Some (at + n))
 stretch_cut Head text rest e c at n b same to h newline =
-    let start : rest ≡ text = same ∙ ap (λ (i : ℕ). drop i text) b in
     let place : n ≡ at + n = omega (arith, b) in
     subst (λ (i : ℕ). IsFirstCut Crate text (Some i)) place
-    (head_cut text n (subst (λ (t : List ℕ). n ≡ first_bare (ends Head) t) start to) (omega (arith, b))
+    (head_cut text n (rw (same, b) at to) (omega (arith, b))
     (subst (λ (i : ℕ). slice_index text i ≡ 10) (sym place) newline))
 stretch_cut Plain text rest e c at n b same to h newline = plain_cut text rest e c at n b same to h newline
 stretch_cut Quoted text rest e c at n b same to h newline =
-    let quote = ends_there Quoted text rest e c at n b same to h in
-    absurd (both_ways (slice_index text (at + n) == 34) (rw newline refl) quote)
+    let quote = (stretch_to (ends Quoted) rest n to).stops (omega (arith, ap length same, length-drop at text)) in
+    let here = ap (λ (t : List ℕ). slice_index t n) same ∙ get_or-drop at text n 0 ∙ newline in
+    absurd (both_ways (slice_index rest n == 34) (rw here refl) quote)
 
 -- a space that ends a head begins a plain stretch
-pub head_goes_on : (text rest : List ℕ) (at n : ℕ) → at ≡ 0 → rest ≡ drop at text → n ≡ first_bare (ends Head) rest
-    → at + n < length text → slice_index text (at + n) ≢ 10 → IsPlainTo text 0 0 ((at + n) + 1)
-head_goes_on text rest at n b same to h other =
-    let start : rest ≡ text = same ∙ ap (λ (i : ℕ). drop i text) b in
+pub head_goes_on : (text rest : List ℕ) (e c at n : ℕ) → at ≡ 0 → e ≤ at → c ≤ at → rest ≡ drop at text → n ≡ first_bare (ends Head) rest
+    → at + n < length text → slice_index text (at + n) ≢ 10 → IsPlainTo text e c ((at + n) + 1)
+head_goes_on text rest e c at n b few_equals few_commas same to h other =
     let place : n ≡ at + n = omega (arith, b) in
-    subst (λ (i : ℕ). IsPlainTo text 0 0 (i + 1)) place
-    (head_space text n (subst (λ (t : List ℕ). n ≡ first_bare (ends Head) t) start to) (omega (arith, b))
+    subst (λ (i : ℕ). IsPlainTo text e c (i + 1)) place
+    (head_space text n (rw (same, b) at to) e c (record { equals_is = omega (arith, b); commas_is = omega (arith, b) }) (omega (arith, b))
     (subst (λ (i : ℕ). slice_index text i ≢ 10) (sym place) other))
 
 -- a quote that ends a quoted stretch begins a plain one

@@ -1,6 +1,8 @@
 -- The answers of the pieces that a stream gives are those of all that was pushed.
 use Rattle.std.proofs.Common.{◌≡◌, ℕ, List, [], ◌∷◌, ◌++◌, subst, sym, ap, ◌∙◌, append_assoc, append-nil, refl, Result}
+use Rattle.std.specs.List.{All}
 use Rattle.std.proofs.lemmas.Grind.{flat_map-append}
+use Rattle.std.proofs.lemmas.List.Elements.{All-head, All-nil, All-push, All-tail}
 use Rattle.influxdb_line_protocol.specs.format.Dialects.{Dialect}
 use Rattle.influxdb_line_protocol.specs.format.Readings.{Fault}
 use Rattle.influxdb_line_protocol.specs.format.Lines.{Line}
@@ -11,24 +13,13 @@ use Rattle.influxdb_line_protocol.specs.laws.StreamLaws.{Run.taken}
 use Rattle.influxdb_line_protocol.proofs.lemmas.split.SplitPieces.{IsLastPiece-cut, same_pieces}
 use Rattle.influxdb_line_protocol.proofs.lemmas.stream.StreamRuns.{runs_give_pieces}
 
--- each of these texts is one piece
-abbrev AreSingle : Dialect → List (List ℕ) → Type 0
-AreSingle dialect [] = Unit {0}
-AreSingle dialect (text ∷ texts) = IsLastPiece dialect text × AreSingle dialect texts
-
--- one more
-one_more : (dialect : Dialect) (texts : List (List ℕ)) (text : List ℕ) → AreSingle dialect texts → IsLastPiece dialect text
-    → AreSingle dialect (texts ++ text ∷ [])
-one_more dialect [] text h k = (k, tt)
-one_more dialect (first ∷ texts) text h k = (h.0, one_more dialect texts text h.1 k)
-
 -- each piece that was given is one piece
 given_are_single : (dialect : Dialect) (given : List ℕ) (pieces : List (List ℕ)) (held : List ℕ) → Run dialect given pieces held
-    → AreSingle dialect pieces
-given_are_single dialect given pieces held begun = tt
+    → All (IsLastPiece dialect) pieces
+given_are_single dialect given pieces held begun = All-nil (IsLastPiece dialect)
 given_are_single dialect given pieces held (pushed g ps l part r) = given_are_single dialect g ps l r
 given_are_single dialect given pieces held (taken g ps piece l r c) =
-    one_more dialect ps piece (given_are_single dialect g ps (piece ++ 10 ∷ l) r) (IsLastPiece-cut dialect piece c)
+    All-push (IsLastPiece dialect) ps piece (given_are_single dialect g ps (piece ++ 10 ∷ l) r) (IsLastPiece-cut dialect piece c)
 
 -- the answers of a text that is one piece
 single_answers : (dialect : Dialect) (text : List ℕ) (answers : List (Result Line Fault)) → IsLastPiece dialect text
@@ -37,12 +28,12 @@ single_answers dialect text answers h k =
     k.answered ∙ ap (answers_of dialect) (same_pieces dialect refl k.are (last text h)) ∙ append-nil (answers_of_piece dialect text)
 
 -- the answers of such texts
-answers_alone : (dialect : Dialect) (texts : List (List ℕ)) (answers : List (Result Line Fault)) → AreSingle dialect texts
+answers_alone : (dialect : Dialect) (texts : List (List ℕ)) (answers : List (Result Line Fault)) → All (IsLastPiece dialect) texts
     → HaveAnswers dialect texts answers → answers ≡ answers_of dialect texts
 answers_alone dialect [] answers h k = k
 answers_alone dialect (text ∷ texts) answers h k =
-    k.4 ∙ ap (λ xs. xs ++ k.1) (single_answers dialect text k.0 h.0 k.2)
-    ∙ ap (λ xs. answers_of_piece dialect text ++ xs) (answers_alone dialect texts k.1 h.1 k.3)
+    k.4 ∙ ap (λ xs. xs ++ k.1) (single_answers dialect text k.0 (All-head (IsLastPiece dialect) text texts h) k.2)
+    ∙ ap (λ xs. answers_of_piece dialect text ++ xs) (answers_alone dialect texts k.1 (All-tail (IsLastPiece dialect) text texts h) k.3)
 
 -- the answers of the pieces, and of what is held and comes, are those of all
 pub streams_give_answers : StreamsGiveAnswers

@@ -1,24 +1,21 @@
 -- The track of a piece, by the rules of both dialects.
 use Rattle.std.proofs.Common.{◌≡◌, ◌≢◌, ℕ, ◌⊎◌, false, ◌||◌, ◌&&◌, inl, inr, eqb, List, [], ◌∷◌, ◌++◌, refl, sym, ap, ◌∙◌, subst}
-use Rattle.std.proofs.Common.{append_assoc, append-nil, arith, Some, None, ◌+◌, ◌<◌, length, take, slice_index}
-use Rattle.std.proofs.lemmas.List.{take_more}
+use Rattle.std.proofs.Common.{append_assoc, append-nil, arith, Some, None, ◌+◌}
 use Rattle.std.specs.List.{All}
 use Rattle.std.proofs.lemmas.List.Elements.{All-nil, All-head, All-tail, All-push, All-weaker}
 use Rattle.std.proofs.lemmas.Bool.{ne_eqb}
 use Rattle.influxdb_line_protocol.specs.format.Dialects.{Dialect, Crate, Strict}
 use Rattle.influxdb_line_protocol.specs.declared.split.resumed.Part.TheVariants.{Head}
 use Rattle.influxdb_line_protocol.specs.declared.split.tracked.Place.{Place}
-use Rattle.influxdb_line_protocol.specs.declared.split.tracked.Track.{Track}
 use Rattle.influxdb_line_protocol.specs.declared.split.tracked.Track.TheVariants.{Comment, Blanks, Line}
 use Rattle.influxdb_line_protocol.specs.format.Escapes.{IsBareAfter}
 use Rattle.influxdb_line_protocol.specs.format.Piece.{IsClosed}
 use Rattle.influxdb_line_protocol.specs.format.Pieces.{begins_comment, IsCutPiece}
 use Rattle.influxdb_line_protocol.specs.code.Searches.{NeverComment}
-use Rattle.influxdb_line_protocol.specs.code.Tracks.{IsPlace, IsTrackOf, Leads, Steps}
+use Rattle.influxdb_line_protocol.specs.code.Tracks.{IsPlace, Leads, Steps}
 use Rattle.influxdb_line_protocol.proofs.lemmas.split.SplitBare.{is_escaped-nil}
 use Rattle.influxdb_line_protocol.proofs.lemmas.split.SplitPieces.{begins_comment-append}
 use Rattle.influxdb_line_protocol.proofs.lemmas.stream.KnownTexts.{no_comment}
-use Rattle.influxdb_line_protocol.proofs.lemmas.stream.LongerTexts.{never_longer}
 
 -- spaces and tabs
 abbrev pub AreBlanks : List ℕ → Type 0
@@ -43,12 +40,6 @@ pub cut_of_line : (dialect : Dialect) (bytes : List ℕ) → NeverComment dialec
     → IsCutPiece dialect bytes
 cut_of_line Crate bytes never closed is_bare = (closed, is_bare)
 cut_of_line Strict bytes never closed is_bare = inr (no_comment bytes never, closed, is_bare)
-
--- so are blanks
-cut_of_blanks : (dialect : Dialect) (bytes : List ℕ) → dialect ≡ Strict → AreBlanks bytes → IsClosed bytes → IsBareAfter bytes
-    → IsCutPiece dialect bytes
-cut_of_blanks dialect bytes strict blanks closed is_bare =
-    subst (λ (d : Dialect). IsCutPiece d bytes) (sym strict) (inr (blanks_begin_none bytes blanks, closed, is_bare))
 
 -- a newline ends a comment
 pub comment_ends : Leads Comment 10 None
@@ -90,26 +81,13 @@ blanks_end place next b hash space tab step = λ dialect bytes h. (
     other : (rest : List ℕ) → (eqb b 35 || (eqb b 32 || eqb b 9) && begins_comment rest) ≡ false
     other rest = rw (ne_eqb b 35 hash, ne_eqb b 32 space, ne_eqb b 9 tab) refl
 
--- a byte of a line
-pub line_goes_on : (place next : Place) (b : ℕ) → Steps place b (Some next) → Leads (Line place) b (Some (Line next))
-line_goes_on place next b step = λ dialect bytes h. (never_longer dialect bytes (b ∷ []) h.0, step bytes h.1)
-
--- the newline that ends it
+-- the newline that ends a line
 pub line_ends : (place : Place) (b : ℕ) → Steps place b None → Leads (Line place) b None
 line_ends place b step = (
   step.0,
   λ dialect bytes h.
       let w = step.1 bytes h.1 in
       cut_of_line dialect bytes h.0 w.0 w.1,
-)
-
--- the newline that ends blanks
-pub blanks_are_cut : (place : Place) (b : ℕ) → Steps place b None → Leads (Blanks place) b None
-blanks_are_cut place b step = (
-  step.0,
-  λ dialect bytes h.
-      let w = step.1 bytes h.2 in
-      cut_of_blanks dialect bytes h.0 h.1 w.0 w.1,
 )
 
 -- the place before the first byte
@@ -119,13 +97,3 @@ first_place =
       escaped_is = is_escaped-nil;
       ends_in = (All-nil (λ b. (b ≢ 32) × (b ≢ 10)), record { equals_is = refl; commas_is = refl });
     }
-
--- the track of a longer front
-pub track_further : (dialect : Dialect) (bytes text : List ℕ) (at : ℕ) (track next : Track) → at < length text
-    → Leads track (slice_index text at) (Some next) → IsTrackOf dialect (bytes ++ take at text) track
-    → IsTrackOf dialect (bytes ++ take (at + 1) text) next
-track_further dialect bytes text at track next within leads h =
-    let b = slice_index text at in
-    let longer : (bytes ++ take at text) ++ b ∷ [] ≡ bytes ++ take (at + 1) text =
-    append_assoc bytes (take at text) (b ∷ []) ∙ ap (λ (t : List ℕ). bytes ++ t) (sym (take_more text at 0 within)) in
-    subst (λ (t : List ℕ). IsTrackOf dialect t next) longer (leads dialect (bytes ++ take at text) h)

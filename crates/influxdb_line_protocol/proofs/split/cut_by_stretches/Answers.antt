@@ -18,8 +18,8 @@ returns-then-branch-eq10 c =
 
 pub loop-equals-init : goal.loop-equals-init
 loop-equals-init c = record {
-  plain = head_space c.args.text.now c.head_len-head.result c.head_len-head.ensures.value
-      (grind (arith, common_steps)) (λ h. grind (arith, common_steps));
+  plain = head_space c.args.text.now c.head_len-head.result c.head_len-head.ensures.value 0 0
+      (record { equals_is = refl; commas_is = refl }) (grind (arith, common_steps)) (λ h. grind (arith, common_steps));
   seen = nothing_ahead _;
   counts = (omega arith, omega arith);
 }

@@ -1,5 +1,5 @@
 use Rattle.std.proofs.Common.{◌+◌, ◌-◌, length, cond}
-use Rattle.influxdb_line_protocol.specs.code.Walks.{IsWalked}
+use Rattle.influxdb_line_protocol.specs.code.Ahead.{IsWalked}
 use Rattle.influxdb_line_protocol.proofs.split.far_plain.Given as goal
 
 -- what was walked over is known

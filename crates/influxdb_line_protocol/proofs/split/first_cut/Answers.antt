@@ -3,7 +3,8 @@ use Rattle.influxdb_line_protocol.proofs.lemmas.split.QuietCuts.{cut_at_newline,
 use Rattle.influxdb_line_protocol.proofs.split.first_cut.Goals as goal
 
 pub returns-in_err-found-clause-cut : goal.returns-in_err-found-clause-cut
-returns-in_err-found-clause-cut c = rw c.from_residual.ensures (no_cut (rules_of c.args.dialect) c.args.text.now c.in_err-found.ensures.first)
+returns-in_err-found-clause-cut c =
+    rw c.from_residual.ensures (no_cut (rules_of c.args.dialect) c.args.text.now c.in_err-found.ensures.first)
 
 pub returns-then-text-found-eq10-clause-cut : goal.returns-then-text-found-eq10-clause-cut
 returns-then-text-found-eq10-clause-cut c =

@@ -1,5 +1,5 @@
 use Rattle.std.proofs.Common.{◌≡◌, ◌-◌, false, length}
-use Rattle.influxdb_line_protocol.specs.code.Walks.{IsWalked}
+use Rattle.influxdb_line_protocol.specs.code.Ahead.{IsWalked}
 use Rattle.influxdb_line_protocol.proofs.split.plain_run.Given as goal
 
 -- what was walked over is known

@@ -1,11 +1,9 @@
-use Rattle.std.proofs.Common.{rules, ◌≡◌, ◌≤◌, ℕ, List, arith, max, true, Err, Ok}
+use Rattle.std.proofs.Common.{rules, ◌≡◌, ◌≤◌, arith, max, true, Err, Ok}
 use Rattle.influxdb_line_protocol.specs.code.Light.{inline_fields, inline_tags, is_light, is_light_in}
 use Rattle.influxdb_line_protocol.specs.format.Lines.{answer}
 use Rattle.influxdb_line_protocol.specs.code.Lookups.{room_of}
 use Rattle.influxdb_line_protocol.specs.code.Parsed.{FillsLine, Answers}
 use Rattle.influxdb_line_protocol.specs.code.Outcomes.{IsNotOutOfMemory}
-use Rattle.influxdb_line_protocol.specs.code.ParseSteps.{GaveLine}
-use Rattle.influxdb_line_protocol.specs.format.Pieces.{PiecesLeft}
 use Rattle.influxdb_line_protocol.proofs.lemmas.line.GivenLines.{gave_in_room, gave_item, same_want}
 use Rattle.influxdb_line_protocol.proofs.lemmas.line.LightLemmas.{more_room}
 use Rattle.influxdb_line_protocol.proofs.line.ParseLines.next_into.Goals as goal
@@ -15,9 +13,7 @@ pub returns-clause-gives : goal.returns-clause-gives
 returns-clause-gives c =
     let before = c.args.self.now in
     let text = c.in_ok-text.text.now in
-    let given : (c.self.inside.lines.dialect ≡ before.dialect)
-    × ((others : List (List ℕ)) → PiecesLeft c.self.inside.lines others → GaveLine before text others) =
-    rw c.self.view_is c.in_ok-text.ensures.gives in
+    let given = rw (← c.self.view_is) at c.in_ok-text.ensures.gives in
     let sets = c.clear_sets.new.parsed in
     let filled : FillsLine c.fill.new.parsed c.fill.result (answer before.dialect text) = search rules in
     let wants : is_light_in (room_of sets.series.tag_set) sets.field_set.capacity before.dialect text ≡ true
@@ -48,9 +44,7 @@ pub returns-clause-memory : goal.returns-clause-memory
 returns-clause-memory c =
     let before = c.args.self.now in
     let text = c.in_ok-text.text.now in
-    let given : (c.self.inside.lines.dialect ≡ before.dialect)
-    × ((others : List (List ℕ)) → PiecesLeft c.self.inside.lines others → GaveLine before text others) =
-    rw c.self.view_is c.in_ok-text.ensures.gives in
+    let given = rw (← c.self.view_is) at c.in_ok-text.ensures.gives in
     let sets = c.clear_sets.new.parsed in
     let wants : is_light_in (room_of sets.series.tag_set) sets.field_set.capacity before.dialect text ≡ true
     → IsNotOutOfMemory c.fill.result = search rules in

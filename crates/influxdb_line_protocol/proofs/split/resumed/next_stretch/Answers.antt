@@ -20,9 +20,10 @@ returns-in-Head-clause-stopped c =
     let begins : s.at ≡ 0 = subst (λ (p : Part). BeginsAt p text s.equals s.commas s.at) c.in-Head.is h.begins in
     let to : c.args.len ≡ first_bare (ends Head) (drop s.at text) = subst (λ (p : Part). c.args.len ≡ first_bare (ends p) (drop s.at text))
     c.in-Head.is c.requires.ended in
-    stopped_at_start text Plain 0 0 ((s.at + c.args.len) + 1)
-    (head_goes_on text (drop s.at text) s.at c.args.len begins refl to c.requires.room c.requires.goes_on)
-    (omega (arith, c.requires.room)) (omega arith) (omega arith)
+    stopped_at_start text Plain s.equals s.commas ((s.at + c.args.len) + 1)
+    (head_goes_on text (drop s.at text) s.equals s.commas s.at c.args.len begins
+    h.few_equals h.few_commas refl to c.requires.room c.requires.goes_on)
+    (omega (arith, c.requires.room)) (omega (arith, h.few_equals)) (omega (arith, h.few_commas))
 
 pub returns-in-Quoted-clause-stopped : goal.returns-in-Quoted-clause-stopped
 returns-in-Quoted-clause-stopped c =

@@ -14,13 +14,15 @@ cut_from-requires-in-None-late_cut c = stopped_at_start c.args.text.now Head 0 0
 pub returns-in-Within : goal.returns-in-Within
 returns-in-Within c =
     let text = c.args.text.now in
-    let known : IsKnown (rules_of c.args.dialect) text (Within c.in-Within.stretch) = subst (IsKnown (rules_of c.args.dialect) text) c.in-Within.is c.requires in
+    let known : IsKnown (rules_of c.args.dialect) text (Within c.in-Within.stretch) =
+    subst (IsKnown (rules_of c.args.dialect) text) c.in-Within.is c.requires in
     by_dialect (rules_of c.args.dialect) text c.cut_from.result known.0 c.cut_from.ensures
 
 pub returns-in-Quiet : goal.returns-in-Quiet
 returns-in-Quiet c =
     let text = c.args.text.now in
-    let known : IsKnown (rules_of c.args.dialect) text (Quiet c.in-Quiet.n) = subst (IsKnown (rules_of c.args.dialect) text) c.in-Quiet.is c.requires in
+    let known : IsKnown (rules_of c.args.dialect) text (Quiet c.in-Quiet.n) =
+    subst (IsKnown (rules_of c.args.dialect) text) c.in-Quiet.is c.requires in
     all_quiet (rules_of c.args.dialect) text
     (still_last (rules_of c.args.dialect) text _ c.in-Quiet.n known.1 (take_rest text c.in-Quiet.n)
     (c.has_newline.ensures.none c.if-not-has_newline.true))

@@ -1,6 +1,7 @@
 use Rattle.std.proofs.Common.{refl, arith}
 use Rattle.influxdb_line_protocol.specs.declared.split.resumed.Part.TheVariants.{Head, Plain}
-use Rattle.influxdb_line_protocol.proofs.lemmas.stream.PieceTracks.{bare_step, head_byte, head_space}
+use Rattle.influxdb_line_protocol.proofs.lemmas.split.SplitWalk.{Head-other, Head-space}
+use Rattle.influxdb_line_protocol.proofs.lemmas.stream.PieceTracks.{bare_step}
 use Rattle.influxdb_line_protocol.proofs.split.tracked.after_head.Goals as goal
 
 pub returns-in-32-clause-steps : goal.returns-in-32-clause-steps
@@ -8,10 +9,10 @@ returns-in-32-clause-steps c =
     let p = c.args.place in
     rw c.in-32.is
     (bare_step p Head Plain Plain 32 p.equals p.commas p.is_escaped c.requires.head c.requires.is_bare refl c.requires.is_bare
-    (head_space p.equals p.commas))
+    (Head-space p.equals p.commas))
 
 pub returns-in_default-clause-steps : goal.returns-in_default-clause-steps
 returns-in_default-clause-steps c =
     let p = c.args.place in
     bare_step p Head Head p.part c.args.byte p.equals p.commas _ c.requires.head c.requires.is_bare c.requires.head refl
-    (head_byte p.equals p.commas c.args.byte (omega arith) (omega arith))
+    (λ bytes h k. Head-other p.equals p.commas bytes c.args.byte h (omega arith) (omega arith) k)

@@ -1,7 +1,6 @@
-use Rattle.std.proofs.Common.{◌++◌, List, ℕ, take, subst, arith}
-use Rattle.std.proofs.lemmas.List.{take_all}
+use Rattle.std.proofs.Common.{◌++◌, ◌∙◌, List, ℕ, take, ap, append_assoc, subst, sym, arith}
+use Rattle.std.proofs.lemmas.List.{take_all, take_more}
 use Rattle.influxdb_line_protocol.specs.code.Tracks.{IsTrackOf}
-use Rattle.influxdb_line_protocol.proofs.lemmas.stream.TrackedPieces.{track_further}
 use Rattle.influxdb_line_protocol.proofs.split.tracked.track_on.Goals as goal
 
 pub returns-in-None : goal.returns-in-None
@@ -16,13 +15,13 @@ returns-in-None c =
 pub loop-at-preserved : goal.loop-at-preserved
 loop-at-preserved c =
     let text = c.args.text.now in
-    let few = c.in-Some.ensures.few in
-    let before = c.loop-at.invariant.few in
+    let front = take c.loop-at.at text in
     record {
       leads = λ dialect bytes h.
-          track_further dialect bytes text c.loop-at.at c.loop-at.track c.in-Some.next (omega arith) c.in-Some.ensures.leads
-          (c.loop-at.invariant.leads dialect bytes h);
-      few = omega arith;
+          let longer = ap (λ (t : List ℕ). bytes ++ t) (sym (take_more text c.loop-at.at 0 (omega arith))) in
+          subst (λ (t : List ℕ). IsTrackOf dialect t c.in-Some.next) (append_assoc bytes front _ ∙ longer)
+          (c.in-Some.ensures.leads dialect (bytes ++ front) (c.loop-at.invariant.leads dialect bytes h));
+      few = omega (arith, c.in-Some.ensures.few, c.loop-at.invariant.few);
     }
 
 pub returns : goal.returns

@@ -1,4 +1,4 @@
-use Rattle.std.proofs.Common.{◌≡◌, ℕ, List, ap, arith, subst, sym, ◌∙◌}
+use Rattle.std.proofs.Common.{rules, ◌≡◌, ℕ, List, ap, arith, subst, sym, ◌∙◌}
 use Rattle.influxdb_line_protocol.specs.code.Bounded.{HeldWithin, Holds, IsTooLong}
 use Rattle.influxdb_line_protocol.specs.code.Streams.{Held}
 use Rattle.influxdb_line_protocol.specs.format.Bytes.{newlines_in}
@@ -11,6 +11,7 @@ pub returns-clause-long : goal.returns-clause-long
 returns-clause-long c =
     let s = c.self.inside in
     let n = c.match-self.newlines in (
+      search rules,
       sym (ap (λ (h : Held). h.bytes) c.take_all.follows.holds-at-none.1),
       subst
           (λ (v : HeldWithin). (text : List ℕ) → Holds v text → IsLastPiece v.held.dialect text

@@ -1,20 +1,21 @@
-use Rattle.std.proofs.Common.{◌≡◌, ◌<◌, ◌≤◌, length, List, ℕ, subst, sym, arith}
+use Rattle.std.proofs.Common.{ap, ◌≡◌, ◌<◌, ◌≤◌, length, List, ℕ, subst, sym, arith}
 use Rattle.influxdb_line_protocol.specs.format.Bytes.{newlines_in}
 use Rattle.influxdb_line_protocol.specs.format.Pieces.{IsLastPiece}
 use Rattle.influxdb_line_protocol.specs.code.Bounded.{CutsTo, HeldWithin, Holds, HoldsBy, IsTooLong, kept}
 use Rattle.influxdb_line_protocol.specs.code.Streams.{Held, TakesPiece}
-use Rattle.influxdb_line_protocol.proofs.lemmas.stream.BoundedStreams.{takes_within, within_is_last, within_keeps_none}
+use Rattle.influxdb_line_protocol.specs.declared.stream.bounded.Skipped.TheVariants.{Within}
+use Rattle.influxdb_line_protocol.proofs.lemmas.stream.BoundedStreams.{takes_within, tracked_is_last}
 use Rattle.influxdb_line_protocol.proofs.stream.bounded.BoundedLineStream.first.Goals as goal
 
 pub returns-in-Within-clause-finds : goal.returns-in-Within-clause-finds
 returns-in-Within-clause-finds c = λ text h.
     let s = c.self.inside in
     let holds = subst (λ (v : HeldWithin). Holds v text) (sym c.self.view_is) h in
-    let none = within_keeps_none s.limit s.stream s.skipped c.in-Within.track c.in-Within.newlines text c.in-Within.is holds in (
+    let k : HoldsBy s.limit s.stream (Within c.in-Within.track c.in-Within.newlines) text = rw c.in-Within.is at holds in (
       h,
       subst (λ (v : HeldWithin). IsLastPiece v.held.dialect text) c.self.view_is
-          (within_is_last s.limit s.stream s.skipped c.in-Within.track c.in-Within.newlines text c.in-Within.is holds),
-      subst (λ (v : HeldWithin). kept v ≤ v.limit) c.self.view_is (omega (arith, none)),
+          (tracked_is_last s.stream.dialect text c.in-Within.track k.2),
+      subst (λ (v : HeldWithin). kept v ≤ v.limit) c.self.view_is (omega (arith, ap (λ (t : List ℕ). length t) k.0)),
     )
 
 pub returns-in-Some-2-clause-finds : goal.returns-in-Some-2-clause-finds
