@@ -1,6 +1,6 @@
 -- Digits at the start of a text, by lanes and by groups.
 use Rattle.std.proofs.Common.{◌≡◌, ◌∙◌, ℕ, suc, ◌+◌, ◌-◌, ◌*◌, ◌^◌, ◌%◌, ◌<◌, ◌≤◌, Bool, true, false, not, eqb, List, [], ◌∷◌, map, length}
-use Rattle.std.proofs.Common.{take, drop, get_or, replicate, refl, sym, ap, arith}
+use Rattle.std.proofs.Common.{take, drop, get_or, refl, sym, ap, arith}
 use Rattle.std.specs.Prelude.{◌==◌, if◌then◌else◌}
 use Rattle.std.specs.Int.{w64, trailing_zeros}
 use Rattle.std.specs.List.{prefix_len}

@@ -47,10 +47,6 @@ four_sum : (a b c d : ℕ) → a < 10 → b < 10 → c < 10 → d < 10
     ≡ a * 1000 + b * 100 + c * 10 + d
 four_sum a b c d ha hb hc hd = omega (arith, ha, hb, hc, hd)
 
--- the number goes on by four digits as by their number
-four_after : (n a b c d : ℕ) → (((n * 10 + a) * 10 + b) * 10 + c) * 10 + d ≡ n * 10000 + (a * 1000 + b * 100 + c * 10 + d)
-four_after n a b c d = omega arith
-
 pub are_groups : (k : ℕ) (ds : List ℕ) → length ds ≡ 4 * k → AllBelowBase 10 ds → AreGroups k ds
 are_groups zero [] e small = record { firsts_fit = tt; others_fit = tt; sums = refl; number = λ n. refl; below = tt; size = refl }
 are_groups zero (a ∷ ds) e small = absurd (omega (arith, e))
@@ -65,7 +61,7 @@ are_groups (suc k) (a ∷ (b ∷ (c ∷ (d ∷ ds)))) e (ha, (hb, (hc, (hd, smal
       firsts_fit = (omega (arith, ha), (omega arith, (omega arith, (omega arith, rest.firsts_fit))));
       others_fit = (omega arith, (omega (arith, hb), (omega (arith, hc), (omega (arith, hd), rest.others_fit))));
       sums = ap₂ (λ (x : ℕ) l. x ∷ l) (four_sum a b c d ha hb hc hd) rest.sums;
-      number = λ n. ap (λ m. number_from_digits_after 10 m ds) (four_after n a b c d) ∙ rest.number (n * 10000 + group);
+      number = λ n. ap (λ m. number_from_digits_after 10 m ds) (omega arith) ∙ rest.number (n * 10000 + group);
       below = (omega (arith, ha, hb, hc, hd), rest.below);
       size = ap suc rest.size;
     }

@@ -75,8 +75,7 @@ module _ (known text : List ℕ) where
 
 -- a bare byte that is no bare stop is no stop
 bare_fails : (t e : Bool) → e ≡ false → (t && not e) ≡ false → t ≡ false
-bare_fails false e bare h = refl
-bare_fails true e bare h = absurd (false≢true (sym h ∙ ap not bare))
+bare_fails t e bare h = grind arith
 
 module _ (known : List ℕ) (stops : ℕ → Bool) (text : List ℕ) where
   pub walk_start : EscapeScan known stops text 0 0

@@ -11,7 +11,8 @@ by_word : (b : Bool) (n : ℕ) (text : List ℕ) → 0 < n → word_len true_wor
     → word_len false_words text ≡ (if b then 0 else n)
     → (boolean_at true true_words text otherwise boolean_at false false_words text) ≡ reads (boolean b) (drop n text)
 by_word true n text some ones others = rw (boolean_reads true true_words text n ones some) refl
-by_word false n text some others ones = rw (boolean_misses true true_words text others, boolean_reads false false_words text n ones some) refl
+by_word false n text some others ones =
+    rw (boolean_misses true true_words text others, boolean_reads false false_words text n ones some) refl
 
 pub returns-in_err-value-clause-value : goal.returns-in_err-value-clause-value
 returns-in_err-value-clause-value c =

@@ -29,5 +29,4 @@ returns-in-None c =
     let some : 0 < digits_len text = omega (arith, c.requires.whole, c.requires.some) in
     let mark = rw c.requires.whole at c.requires.mark in
     let refused = unsigned_overflows text some mark (rw front at c.in-None.ensures) in
-    let is = c.out_of_range.ensures.unsigned refl in
     rw refused (record { value = rw (← front) (search rules); less = search rules; memory = λ out. refl })
