@@ -131,12 +131,13 @@ same_moved xs ys rise up moves =
     same_elements xs ys rise up (λ e h. Contains-permutation xs ys e moves h)
     (λ e h. Contains-permutation ys xs e (IsPermutation-sym xs ys moves) h)
 
--- keys that rise from one to the next rise
+-- what the test of less says
 less_from_test : (o : Ordering) → is_lt o ≡ true → o ≡ Less
 less_from_test Less h = refl
 less_from_test Equal h = cc
 less_from_test Greater h = cc
 
+-- keys that rise from one to the next rise
 pub passes_rise : (es : List (List ℕ × List ℕ)) → is_strictly_sorted (entry_keys es) ≡ true → Rise es
 passes_rise [] h = tt
 passes_rise (e ∷ []) h = (tt, tt)
