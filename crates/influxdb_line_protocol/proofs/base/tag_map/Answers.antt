@@ -1,10 +1,10 @@
 use Rattle.std.proofs.Common.{◌≡◌, ◌<◌, true, false, length, map, get_or, [], refl, sym, ◌∙◌, arith}
 use borrow.Author.Count.{below_more}
-use Rattle.std.proofs.lemmas.List.{take_all}
+use Rattle.std.proofs.lemmas.List.{take_all, length-map}
 use Rattle.influxdb_line_protocol.specs.code.Bases.{first_repeated, is_repeated_at, keys_of}
 use Rattle.influxdb_line_protocol.specs.code.Parsed.{tag_of}
 use Rattle.influxdb_line_protocol.proofs.lemmas.series.BaseLemmas.{by_key_nil, entries_more, first_repeated_is, has_more, key_is}
-use Rattle.influxdb_line_protocol.proofs.lemmas.series.BaseLemmas.{length_keys, length_tags}
+use Rattle.influxdb_line_protocol.proofs.lemmas.series.BaseLemmas.{length_keys}
 use Rattle.influxdb_line_protocol.proofs.base.tag_map.Goals as goal
 
 pub loop-key-init : goal.loop-key-init
@@ -25,7 +25,7 @@ returns-then-contains_key c =
     let repeated : is_repeated_at keys i ≡ true = rw here
     (sym (c.loop-key.invariant.has c.as_str-name.result.now) ∙ (sym c.contains_key.ensures ∙ c.if-contains_key.true)) in
     let first : first_repeated keys ≡ i = first_repeated_is keys i (omega arith) c.loop-key.invariant.passed (λ h. repeated) in
-    rw first (rw (length_tags tags) within, c.in_ok-tag_key.ensures.ok ∙ sym here)
+    rw first (rw (length-map tags tag_of) within, c.in_ok-tag_key.ensures.ok ∙ sym here)
 
 pub loop-key-preserved : goal.loop-key-preserved
 loop-key-preserved c =
@@ -53,4 +53,4 @@ returns c =
     let length_is = length_keys tags in
     let at_end : i ≡ length tags = omega arith in
     let first : first_repeated keys ≡ i = first_repeated_is keys i (omega arith) c.loop-key.invariant.passed (λ h. absurd (omega arith)) in
-    (rw (length_tags tags) (first ∙ at_end), rw (take_all i tags (omega arith)) at c.loop-key.invariant.entries)
+    (rw (length-map tags tag_of) (first ∙ at_end), rw (take_all i tags (omega arith)) at c.loop-key.invariant.entries)

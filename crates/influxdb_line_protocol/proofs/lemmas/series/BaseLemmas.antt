@@ -13,7 +13,8 @@ use Rattle.std.specs.declared.borrow.CowStr.{CowStr}
 use Rattle.influxdb_line_protocol.specs.declared.error.Error.{Error}
 use Rattle.std.specs.Ordering.{is_lt, is_ge, match_ordering, nat_cmp}
 use Rattle.std.specs.Str.{bytes_eq}
-use Rattle.std.proofs.lemmas.List.{map_more}
+use Rattle.std.proofs.Common.{length-drop}
+use Rattle.std.proofs.lemmas.List.{map_more, length-map}
 use Rattle.std.proofs.lemmas.List.Folds.{list_any_more}
 use Rattle.std.proofs.lemmas.List.FromFn.{length-range_with_len, get_or-range_with_len}
 use Rattle.std.proofs.lemmas.List.Sums.{fold_push, position_or_len_is}
@@ -37,15 +38,11 @@ rise_from (k ∷ []) i h = absurd (omega arith)
 rise_from (k ∷ l ∷ keys) zero h = refl
 rise_from (k ∷ l ∷ keys) (suc i) h = rise_from (l ∷ keys) i (omega arith)
 
--- the last key rises
-rise_last : (keys : List (List ℕ)) (i : ℕ) → length keys ≤ suc i → is_strictly_sorted (drop i keys) ≡ true
-rise_last [] zero h = refl
-rise_last [] (suc i) h = refl
-rise_last (k ∷ []) zero h = refl
-rise_last (k ∷ l ∷ keys) zero h = absurd (omega arith)
-rise_last (k ∷ []) (suc zero) h = refl
-rise_last (k ∷ []) (suc (suc i)) h = refl
-rise_last (k ∷ l ∷ keys) (suc i) h = rise_last (l ∷ keys) i (omega arith)
+-- a key alone rises
+short_rises : (keys : List (List ℕ)) → length keys ≤ 1 → is_strictly_sorted keys ≡ true
+short_rises [] h = refl
+short_rises (k ∷ []) h = refl
+short_rises (k ∷ l ∷ keys) h = absurd (omega arith)
 
 -- a test that fails is not passed
 lt_from_ge : (o : Ordering) (b : Bool) → is_ge o ≡ b → is_lt o ≡ not b
@@ -64,15 +61,9 @@ pub key_is : (tags : List (EscapedStr × EscapedStr)) (i : ℕ) (t : EscapedStr 
     → get_or (keys_of (map tag_of tags)) i [] ≡ text_of t.0
 key_is tags i t within is = key_at tags i t within ∙ ap (λ (t : EscapedStr × EscapedStr). text_of t.0) (sym is)
 
--- how many tags
-pub length_tags : (tags : List (EscapedStr × EscapedStr)) → length (map tag_of tags) ≡ length tags
-length_tags [] = refl
-length_tags (t ∷ tags) = ap suc (length_tags tags)
-
 -- how many keys
 pub length_keys : (tags : List (EscapedStr × EscapedStr)) → length (keys_of (map tag_of tags)) ≡ length tags
-length_keys [] = refl
-length_keys (t ∷ tags) = ap suc (length_keys tags)
+length_keys tags = length-map (map tag_of tags) _ ∙ length-map tags tag_of
 
 -- two keys, one after the other, that are compared
 pub rise_at : (tags : List (EscapedStr × EscapedStr)) (i at : ℕ) (d e : EscapedStr × EscapedStr) (b : Bool) → suc i ≡ at → at < length tags
@@ -87,7 +78,8 @@ rise_at tags i at d e b next within test =
 -- at the end
 pub rise_end : (tags : List (EscapedStr × EscapedStr)) (i : ℕ) → length tags ≤ suc i
     → is_strictly_sorted (drop i (keys_of (map tag_of tags))) ≡ true
-rise_end tags i h = rise_last (keys_of (map tag_of tags)) i (rw (length_keys tags) h)
+rise_end tags i h =
+    let keys = keys_of (map tag_of tags) in short_rises (drop i keys) (omega (arith, length-drop i keys, length_keys tags))
 
 -- what fixes the first repeated key
 pub first_repeated_is : (keys : List (List ℕ)) (n : ℕ) → n ≤ length keys

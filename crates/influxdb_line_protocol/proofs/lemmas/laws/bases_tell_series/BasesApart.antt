@@ -1,6 +1,6 @@
 -- Where names hold none of the bytes that part a base, the base fixes the series.
 use Rattle.std.proofs.Common.{◌≡◌, ℕ, zero, suc, ◌+◌, Bool, true, false, List, [], ◌∷◌, ◌++◌, ◌||◌, length, take, drop, refl, sym, ap, ◌∙◌}
-use Rattle.std.proofs.Common.{subst, inl, inr, append_assoc, Some}
+use Rattle.std.proofs.Common.{subst, inl, inr, append_assoc}
 use Rattle.std.specs.Prelude.{◌==◌}
 use Rattle.std.specs.List.{flat_map, list_any}
 use Rattle.std.specs.List.Sorted.{IsPermutation}
@@ -100,18 +100,14 @@ same_parts m n es fs h k p q same =
     let parts = first_part 44 m n (flat_map based_tag es) (flat_map based_tag fs) h k (tags_begin es) (tags_begin fs) same in
     (parts.0, same_tags es fs p q parts.1)
 
--- two texts that there are
-same_some : (x y : List ℕ) → Some x ≡ Some y → x ≡ y
-same_some x y e = cc
-
 pub one_base_is_one_series : OneBaseIsOneSeries
 one_base_is_one_series raw text m other tags others h k p q same =
     let left = or_parts (is_one_of m.bytes 44) (list_any is_tag_delimited tags) p in
     let right = or_parts (is_one_of other.bytes 44) (list_any is_tag_delimited others) q in
     let one = by_key_permutes tags h.repeats_none in
     let two = by_key_permutes others k.repeats_none in
-    let texts = same_some (base_text m.bytes (by_key tags)) (base_text other.bytes (by_key others))
-    (sym (base_is raw m tags h) ∙ same ∙ base_is text other others k) in
+    let bases = sym (base_is raw m tags h) ∙ same ∙ base_is text other others k in
+    let texts : base_text m.bytes (by_key tags) ≡ base_text other.bytes (by_key others) = cc in
     let parts = same_parts m.bytes other.bytes (by_key tags) (by_key others) left.0 right.0
     (sym (list_any-IsPermutation is_parted (in_order tags) (by_key tags) one) ∙ same_test tags ∙ left.1)
     (sym (list_any-IsPermutation is_parted (in_order others) (by_key others) two) ∙ same_test others ∙ right.1) texts in

@@ -1,5 +1,5 @@
 -- Tags by their keys: one list for each set of tags without a repeated key.
-use Rattle.std.proofs.Common.{◌≡◌, ℕ, suc, ◌<◌, true, false, List, [], ◌∷◌, ◌++◌, length, get_or, take, refl, sym, ap, ◌∙◌, subst, inl, inr}
+use Rattle.std.proofs.Common.{◌≡◌, ℕ, ◌<◌, true, false, List, [], ◌∷◌, ◌++◌, length, get_or, take, refl, sym, ap, ◌∙◌, subst, inl, inr}
 use Rattle.std.proofs.Common.{arith, append_assoc, length-append, zero-add}
 use Rattle.std.specs.declared.cmp.Ordering.{Ordering}
 use Rattle.std.specs.declared.cmp.Ordering.TheVariants.{Less, Equal, Greater}
@@ -10,6 +10,7 @@ use Rattle.std.specs.List.Sorted.{IsPermutation}
 use Rattle.std.specs.Ordering.{is_lt, match_ordering, nat_cmp, ordering_reverse}
 use Rattle.std.specs.Str.{bytes_eq}
 use Rattle.std.proofs.lemmas.Bool.{and_parts}
+use Rattle.std.proofs.lemmas.List.{length-map}
 use Rattle.std.proofs.lemmas.Cmp.{nat_list_cmp_total, tied_itself}
 use Rattle.std.proofs.lemmas.List.FromFn.{get_or-range_with_len}
 use Rattle.std.proofs.lemmas.List.Sums.{fails_before_first}
@@ -130,12 +131,13 @@ same_moved xs ys rise up moves =
     same_elements xs ys rise up (λ e h. Contains-permutation xs ys e moves h)
     (λ e h. Contains-permutation ys xs e (IsPermutation-sym xs ys moves) h)
 
--- keys that rise from one to the next rise
+-- what the test of less says
 less_from_test : (o : Ordering) → is_lt o ≡ true → o ≡ Less
 less_from_test Less h = refl
 less_from_test Equal h = cc
 less_from_test Greater h = cc
 
+-- keys that rise from one to the next rise
 pub passes_rise : (es : List (List ℕ × List ℕ)) → is_strictly_sorted (entry_keys es) ≡ true → Rise es
 passes_rise [] h = tt
 passes_rise (e ∷ []) h = (tt, tt)
@@ -188,10 +190,6 @@ new_after front (t ∷ tags) none =
           (subst (λ (ts : List (Pair Text Text)). NoneRepeated ts) (sym (append_assoc front (t ∷ []) tags)) none)),
     )
 
-length_keys : (tags : List (Pair Text Text)) → length (keys_of tags) ≡ length tags
-length_keys [] = refl
-length_keys (t ∷ tags) = ap suc (length_keys tags)
-
 none_repeated : (keys : List (List ℕ)) → first_repeated keys ≡ length keys → (k : ℕ) → k < length keys → is_repeated_at keys k ≡ false
 unfolding first_repeated
 none_repeated keys e k h =
@@ -202,8 +200,8 @@ none_repeated keys e k h =
 pub by_key_permutes : (tags : List (Pair Text Text)) → first_repeated (keys_of tags) ≡ length tags
     → IsPermutation (in_order tags) (by_key tags)
 by_key_permutes tags once =
-    by_key_moves tags (new_after [] tags
-    (λ k h. none_repeated (keys_of tags) (once ∙ sym (length_keys tags)) k (omega (arith, length_keys tags))))
+    let len = length-map tags (λ (t : Pair Text Text). t.key.bytes) in
+    by_key_moves tags (new_after [] tags (λ k h. none_repeated (keys_of tags) (once ∙ sym len) k (omega arith)))
 
 -- where the keys rise, that is their own order
 pub by_key_in_order : (tags : List (Pair Text Text)) → first_repeated (keys_of tags) ≡ length tags

@@ -1,7 +1,6 @@
 -- A name that is admitted reads back as it was spelled.
 use Rattle.std.proofs.Common.{◌≡◌, ◌≢◌, ℕ, ◌<◌, List, [], ◌∷◌, length, slice_index, Bool, true, false, not, refl, ap, arith, inl}
 use Rattle.std.proofs.Common.{inr}
-use Rattle.std.specs.Prelude.{◌==◌}
 use Rattle.std.specs.List.{list_all}
 use Rattle.std.proofs.lemmas.Bool.{cases_Bool, and_parts, eqb-false, not-true}
 use Rattle.std.proofs.lemmas.Grind.{common_steps}
@@ -24,13 +23,6 @@ stop_escapable a_measurement b may plain = grind (arith, common_steps)
 stop_escapable a_tag_key b may plain = grind (arith, common_steps)
 stop_escapable a_tag_value b may plain = grind (arith, common_steps)
 stop_escapable a_field_key b may plain = grind (arith, common_steps)
-
--- a byte that is not escaped is no backslash
-pub plain_no_backslash : (kind : NameKind) (b : ℕ) → is_escapable kind b ≡ false → (b == 92) ≡ false
-plain_no_backslash a_measurement b plain = grind (arith, common_steps)
-plain_no_backslash a_tag_key b plain = grind (arith, common_steps)
-plain_no_backslash a_tag_value b plain = grind (arith, common_steps)
-plain_no_backslash a_field_key b plain = grind (arith, common_steps)
 
 -- a backslash ends no name
 pub backslash_no_stop : (kind : NameKind) → is_stop kind 92 ≡ false

@@ -31,15 +31,12 @@ one_line piece h =
     let e : (length (trimmed piece) == 0) ≡ false = ne_eqb (length (trimmed piece)) 0 (λ none. absurd (omega arith)) in
     rw e refl
 
--- what is left of two lists of pieces
-lines_append : (front others : List (List ℕ)) → trimmed_lines (front ++ others) ≡ trimmed_lines front ++ trimmed_lines others
-lines_append front others = flat_map-append trimmed_line front others
-
 -- what is left of blank pieces, one that is not blank, and others
 lines_from : (skipped : List (List ℕ)) (piece : List ℕ) (front : List (List ℕ)) → All IsBlankPiece skipped → 0 < length (trimmed piece)
     → trimmed_lines (skipped ++ piece ∷ front) ≡ trimmed piece ∷ trimmed_lines front
 lines_from skipped piece front blank some =
-    lines_append skipped (piece ∷ front) ∙ ap (λ (l : List (List ℕ)). l ++ trimmed_lines (piece ∷ front)) (blank_lines skipped blank)
+    flat_map-append trimmed_line skipped (piece ∷ front)
+    ∙ ap (λ (l : List (List ℕ)). l ++ trimmed_lines (piece ∷ front)) (blank_lines skipped blank)
     ∙ ap (λ (l : List (List ℕ)). l ++ trimmed_lines front) (one_line piece some)
 
 -- the items that calls gave are those of the pieces before the ones that are left
@@ -71,7 +68,7 @@ items_are_of_pieces dialect text pieces items h drained =
     let found = items_so_far dialect text items last.0 ended.skipped last.1 ended.left in
     let same : found.0 ++ ended.skipped ≡ pieces = same_pieces dialect refl found.1 h in
     let none : trimmed_lines pieces ≡ trimmed_lines found.0 =
-    ap trimmed_lines (sym same) ∙ lines_append found.0 ended.skipped
+    ap trimmed_lines (sym same) ∙ flat_map-append trimmed_line found.0 ended.skipped
     ∙ ap (λ (l : List (List ℕ)). trimmed_lines found.0 ++ l) (blank_lines ended.skipped ended.blank)
     ∙ append-nil (trimmed_lines found.0) in
     subst (λ ls. AreItemsOf dialect ls items) (sym none) found.2

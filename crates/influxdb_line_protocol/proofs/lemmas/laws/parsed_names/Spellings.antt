@@ -3,7 +3,7 @@ use Rattle.std.proofs.Common.{◌≡◌, ◌≢◌, ℕ, ◌<◌, List, [], ◌�
 use Rattle.std.proofs.Common.{subst, arith, inl, inr, append_assoc, append-nil}
 use Rattle.std.specs.Prelude.{◌==◌}
 use Rattle.std.specs.List.{list_all}
-use Rattle.std.proofs.lemmas.Bool.{cases_Bool, false≢true, and_parts, and_right, eqb-true, eqb-false, ne_eqb}
+use Rattle.std.proofs.lemmas.Bool.{cases_Bool, false≢true, and_parts, and_right, eqb-true, ne_eqb}
 use Rattle.std.proofs.lemmas.Grind.{common_steps}
 use Rattle.std.proofs.lemmas.List.{take_at, drop_at}
 use Rattle.influxdb_line_protocol.proofs.lemmas.split.SplitWalk.{Part, Head, Plain, Head-other, Head-space, Plain-other}
@@ -18,7 +18,7 @@ use Rattle.influxdb_line_protocol.specs.format.Trimming.{trimmed}
 use Rattle.influxdb_line_protocol.specs.format.Lines.{spaces}
 use Rattle.influxdb_line_protocol.proofs.lemmas.names.NameLemmas.{escapable_backslash, without_escapes_plain_byte, without_escapes_known}
 use Rattle.influxdb_line_protocol.proofs.lemmas.names.NameLemmas.{logical_ends, name_fatal, name_reads}
-use Rattle.influxdb_line_protocol.proofs.lemmas.laws.batch_reads_back.NameReadsBack.{may_hold, stop_escapable, plain_no_backslash}
+use Rattle.influxdb_line_protocol.proofs.lemmas.laws.batch_reads_back.NameReadsBack.{may_hold, stop_escapable}
 use Rattle.influxdb_line_protocol.proofs.lemmas.laws.batch_reads_back.NameReadsBack.{backslash_no_stop, escaped_found, escaped_plain}
 use Rattle.influxdb_line_protocol.proofs.lemmas.laws.batch_reads_back.NameReadsBack.{admitted_parts, begins_otherwise, read_name}
 use Rattle.influxdb_line_protocol.proofs.lemmas.scan.ScanLemmas.{bare_len, first_bare_len}
@@ -125,7 +125,7 @@ spelled_to {kind = kind} done rest ends = stops_here kind rest ends
 spelled_to {kind = kind} (escape b n s known more) rest
     ends = rw (backslash_no_stop kind, and_right (is_stop kind b) false refl, spelled_to more rest ends) refl
 spelled_to {kind = kind} (plain b n s other may more) rest
-    ends = rw (stop_escapable kind b may other, plain_no_backslash kind b other, spelled_to more rest ends) refl
+    ends = rw (stop_escapable kind b may other, ne_eqb b 92 (no_backslash kind b other), spelled_to more rest ends) refl
 spelled_to {kind = kind} (pair c n s never more) rest
     ends = rw (backslash_no_stop kind, and_right (is_stop kind c) false refl, spelled_to more rest ends) refl
 
@@ -136,7 +136,7 @@ spelled_logical {kind = kind} done = refl
 spelled_logical {kind = kind} (escape b n s known more) = without_escapes_known (escapable kind) b s known
     ∙ ap (λ (xs : List ℕ). b ∷ xs) (spelled_logical more)
 spelled_logical {kind = kind} (plain b n s other may more) =
-    without_escapes_plain_byte (escapable kind) b s (eqb-false b 92 (plain_no_backslash kind b other))
+    without_escapes_plain_byte (escapable kind) b s (no_backslash kind b other)
     ∙ ap (λ (xs : List ℕ). b ∷ xs) (spelled_logical more)
 spelled_logical {kind = kind} (pair c n s never more) = rw (never_unescapable kind c never)
     (ap (λ (xs : List ℕ). 92 ∷ c ∷ xs) (spelled_logical more))
