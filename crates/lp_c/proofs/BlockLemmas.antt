@@ -1,10 +1,12 @@
 -- Rows that are filled one after another.
-use Rattle.std.proofs.Common.{◌≡◌, ◌∙◌, ◌<◌, ◌≤◌, ◌+◌, ◌==◌, ℕ, List, [], ◌∷◌, ◌++◌, length, map, take, drop, sym, ap, Option, Some, None, Result, Ok, Err}
+use Rattle.std.proofs.Common.{◌≡◌, ◌∙◌, ◌<◌, ◌≤◌, ◌+◌, ◌==◌, ℕ, List, [], ◌∷◌, ◌++◌, length, map, take, drop, sym, ap}
+use Rattle.std.proofs.Common.{Option, Some, None, Result, Ok, Err}
 use Rattle.std.proofs.Common.{arith, set, true, false, if◌then◌else◌, refl}
 use Rattle.std.proofs.Math.Logic.{∥∥₁_map, ∥∥₁_map₂}
 use Rattle.std.proofs.Math.Seq.{take-add}
 use Rattle.std.proofs.lemmas.Bool.{false≢true}
-use Rattle.std.proofs.lemmas.List.{drop_all, drop-set, drop-take, length-drop, length-set, length-take-le, take-set, take_all, take-take, take_more_set}
+use Rattle.std.proofs.lemmas.List.{drop_all, drop-set, drop-take, length-drop, length-set, length-take-le}
+use Rattle.std.proofs.lemmas.List.{take-set, take_all, take-take, take_more_set}
 use Rattle.influxdb_line_protocol.specs.declared.error.Error.{Error}
 use Rattle.influxdb_line_protocol.specs.declared.parsed.ParsedLine.{ParsedLine}
 use Rattle.influxdb_line_protocol.specs.format.Lines as format

@@ -35,5 +35,6 @@ pub left_more : {T : Type 0} (f : T → ℕ) (ts : List T) (t : T) (i before aft
     → i < length ts → t ≡ get_or ts i t → before + sum_by f (take i ts) ≡ all → after + f t ≡ before
     → after + sum_by f (take (i + 1) ts) ≡ all
 left_more f ts t i before after all here is left taken =
-    let step : sum_by f (take (i + 1) ts) ≡ sum_by f (take i ts) + f t = sum_by_more f ts i t here ∙ ap (λ x. sum_by f (take i ts) + f x) (sym is) in
+    let step : sum_by f (take (i + 1) ts) ≡ sum_by f (take i ts) + f t =
+    sum_by_more f ts i t here ∙ ap (λ x. sum_by f (take i ts) + f x) (sym is) in
     rw step (omega arith)

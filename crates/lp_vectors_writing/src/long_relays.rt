@@ -25,7 +25,11 @@ fn a_long_line_between_short_ones_is_one_item(rt: HostRuntime) {
         (
             0,
             b"".as_slice(),
-            b"item 1: the line is too long\nitem 2: the line is too long\nitem 3: the line is too long\nitem 4: the line is too long\n".as_slice(),
+            b"item 1: the line is too long\n\
+              item 2: the line is too long\n\
+              item 3: the line is too long\n\
+              item 4: the line is too long\n"
+                .as_slice(),
         ),
     ] {
         for at_once in [false, true] {

@@ -66,17 +66,34 @@ fn each_fault_names_the_line_on_which_its_piece_begins(rt: HostRuntime) {
         (
             23,
             b"m a=1i\nm s=\"a\nb\"\nn a=2i\n".as_slice(),
-            b"line 4: A generic parsing error occurred: TakeWhile1\nline 7: A generic parsing error occurred: TakeWhile1\nline 9: the line is too long\nline 12: the line is not UTF-8\nline 15: A generic parsing error occurred: TakeWhile1\n".as_slice(),
+            b"line 4: A generic parsing error occurred: TakeWhile1\n\
+              line 7: A generic parsing error occurred: TakeWhile1\n\
+              line 9: the line is too long\n\
+              line 12: the line is not UTF-8\n\
+              line 15: A generic parsing error occurred: TakeWhile1\n"
+                .as_slice(),
         ),
         (
             24,
             b"m a=1i\nm s=\"a\nb\"\nm s=\"\n\nabcdefghijklmnop\"\nn a=2i\n".as_slice(),
-            b"line 4: A generic parsing error occurred: TakeWhile1\nline 7: A generic parsing error occurred: TakeWhile1\nline 12: the line is not UTF-8\nline 15: A generic parsing error occurred: TakeWhile1\n".as_slice(),
+            b"line 4: A generic parsing error occurred: TakeWhile1\n\
+              line 7: A generic parsing error occurred: TakeWhile1\n\
+              line 12: the line is not UTF-8\n\
+              line 15: A generic parsing error occurred: TakeWhile1\n"
+                .as_slice(),
         ),
         (
             5,
             b"".as_slice(),
-            b"line 1: the line is too long\nline 4: A generic parsing error occurred: TakeWhile1\nline 5: the line is too long\nline 7: A generic parsing error occurred: TakeWhile1\nline 9: the line is too long\nline 12: the line is too long\nline 14: the line is too long\nline 15: A generic parsing error occurred: TakeWhile1\n".as_slice(),
+            b"line 1: the line is too long\n\
+              line 4: A generic parsing error occurred: TakeWhile1\n\
+              line 5: the line is too long\n\
+              line 7: A generic parsing error occurred: TakeWhile1\n\
+              line 9: the line is too long\n\
+              line 12: the line is too long\n\
+              line 14: the line is too long\n\
+              line 15: A generic parsing error occurred: TakeWhile1\n"
+                .as_slice(),
         ),
     ] {
         for dialect in [Dialect::Crate, Dialect::Strict] {
@@ -127,7 +144,10 @@ fn newlines_of_a_long_piece_are_counted_over_blocks(rt: HostRuntime) -> Result<(
     for (limit, wanted) in [
         (
             1_000,
-            b"line 1: the line is too long\nline 100002: A generic parsing error occurred: TakeWhile1\nline 100003: the line is too long\n".as_slice(),
+            b"line 1: the line is too long\n\
+              line 100002: A generic parsing error occurred: TakeWhile1\n\
+              line 100003: the line is too long\n"
+                .as_slice(),
         ),
         (
             1_000_000,

@@ -131,7 +131,10 @@ fn a_piece_that_is_no_text_is_one_item(rt: HostRuntime) {
         (
             b"# \xff\nx\nm a=1i\n\xc3".as_slice(),
             b"m a=1i\n".as_slice(),
-            b"item 1: the line is not UTF-8\nitem 2: A generic parsing error occurred: TakeWhile1\nitem 4: the line is not UTF-8\n".as_slice(),
+            b"item 1: the line is not UTF-8\n\
+              item 2: A generic parsing error occurred: TakeWhile1\n\
+              item 4: the line is not UTF-8\n"
+                .as_slice(),
         ),
     ] {
         let mut reader = Trickle::new(input, 0);

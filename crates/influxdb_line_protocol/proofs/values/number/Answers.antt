@@ -39,9 +39,11 @@ returns-clause-value c =
     let other : (slice_index text (integer_len text) ≢ 117) ⊎ (slice_index text 0 ≡ 45) =
     elim c.else-has_byte_at-2.branch [
       | else-has_byte_at-2-via-then-has_byte_at-2+else-not-has_byte_at w ↦
-          inr (eqb-true _ 45 (rw c.as_bytes-bytes.ensures.value at (sym w.has_byte_at-then-has_byte_at-2.ensures ∙ w.if-not-has_byte_at.false)))
+          inr (eqb-true _ 45
+          (rw c.as_bytes-bytes.ensures.value at (sym w.has_byte_at-then-has_byte_at-2.ensures ∙ w.if-not-has_byte_at.false)))
       | else-has_byte_at-2-via-else-has_byte_at-2 w ↦
           inl (eqb-false _ 117
-          (rw (c.as_bytes-bytes.ensures.value, c.integer_len-whole.ensures.value) at (sym c.has_byte_at-2.ensures ∙ w.if-has_byte_at-2.false)))
+          (rw (c.as_bytes-bytes.ensures.value, c.integer_len-whole.ensures.value)
+          at (sym c.has_byte_at-2.ensures ∙ w.if-has_byte_at-2.false)))
     ] in
     rw (float_is text no_i other) c.float.ensures.value

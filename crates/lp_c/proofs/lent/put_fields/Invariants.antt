@@ -10,5 +10,6 @@ invariant-loop-place l = record {
   size : l.at + length l.fields ≤ length l.parts;
   others : take l.at l.parts ≡ take l.at l.initial.parts;
   shown : map field_shown (take l.place (drop l.at l.parts)) ≡ map (λ field. Some (field_of field)) (take l.place l.fields);
-  left : length l.room.bytes.now + sum_by (λ field. copied_field (field_of field)) (take l.place l.fields) ≡ length l.initial.room.bytes.now;
+  left : length l.room.bytes.now + sum_by (λ field. copied_field (field_of field)) (take l.place l.fields)
+      ≡ length l.initial.room.bytes.now;
 }

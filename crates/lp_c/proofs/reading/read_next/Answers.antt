@@ -9,7 +9,8 @@ use Rattle.lp_c.proofs.reading.read_next.Goals.{then-not-is_more, else-not-is_mo
 pub returns-clause-reads : goal.returns-clause-reads
 returns-clause-reads c =
     let begun : c.args.items.now ≡ left_of c.args.lines.now = c.requires.left c.if-lines.false in
-    let left : left_of c.leave.new.lines ≡ record { dialect = c.args.items.now.dialect; text = c.next_into.new.self.text } = search (rules) in
+    let left : left_of c.leave.new.lines ≡ record { dialect = c.args.items.now.dialect; text = c.next_into.new.self.text } =
+    search (rules) in
     ∣ record {
       item = option_map (item_in c.next_into.new.line) c.next_into.result;
       answer = c.put_item-answer.result;

@@ -23,7 +23,8 @@ loop-k-init c =
 pub walk_to-requires-clause-first : goal.walk_to-requires-clause-first
 walk_to-requires-clause-first c = λ other cut_there there.
     none_passed (rules_of c.args.dialect) c.args.input.now c.args.count c.loop-k.k c.loop-k.ends.items c.loop-k.walk.at
-    c.loop-k.invariant.so_far c.loop-k.invariant.found c.loop-k-test.true other cut_there (subst (λ (n : ℕ). n ≤ other) c.even_end.ensures there)
+    c.loop-k.invariant.so_far c.loop-k.invariant.found c.loop-k-test.true other cut_there
+    (subst (λ (n : ℕ). n ≤ other) c.even_end.ensures there)
 
 pub loop-k-preserved : goal.loop-k-preserved
 loop-k-preserved c =

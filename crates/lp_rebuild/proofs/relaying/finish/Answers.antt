@@ -19,7 +19,8 @@ returns-clause-ok g c =
     on_ok_weaker c.pour_and_flush.result
     (λ poured text holds is_last.
     let last = gives.2 text holds (subst (λ e. IsLastPiece e text) (sym c.requires.dialect) is_last) in
-    let takes = subst (λ l. TakesItems old l (made c.take_piece.new.so_far)) (last_items d c.args.stream.now.limit text c.finish.result last)
+    let takes = subst (λ l. TakesItems old l (made c.take_piece.new.so_far))
+    (last_items d c.args.stream.now.limit text c.finish.result last)
     (at_no_fault c.take_piece.result c.if-is_err.ensures.value c.take_piece.ensures.taken) in
     relays_poured old old (made c.take_piece.new.so_far) _ _ _ _ _ _ _ [] _ [] (relays_none old _ _) takes poured)
     c.pour_and_flush.ensures.ok
@@ -32,7 +33,8 @@ returns-clause-part g c =
     on_err_weaker c.pour_and_flush.result
     (λ part text holds is_last.
     let last = gives.2 text holds (subst (λ e. IsLastPiece e text) (sym c.requires.dialect) is_last) in
-    let takes = subst (λ l. TakesItems old l (made c.take_piece.new.so_far)) (last_items d c.args.stream.now.limit text c.finish.result last)
+    let takes = subst (λ l. TakesItems old l (made c.take_piece.new.so_far))
+    (last_items d c.args.stream.now.limit text c.finish.result last)
     (at_no_fault c.take_piece.result c.if-is_err.ensures.value c.take_piece.ensures.taken) in
     part_poured old old (made c.take_piece.new.so_far) _ _ _ _ _ _ [] _ [] (relays_none old _ _) takes part)
     c.pour_and_flush.ensures.part

@@ -18,7 +18,8 @@ returns-in-Some-clause-taken c =
     let laws = c.pieces_join.ensures in
     let gives = subst (λ left. GivesItem left (Some item) c.next_into.new.self) c.parse_lines_in-lines.ensures c.in-Some.ensures.gives in
     let given = piece_item laws.some laws.one (rules_of c.args.dialect) c.args.text.now c.requires.piece c.next_into.new.self item gives in
-    on_ok_weaker c.take.result (λ takes. takes_text (rules_of c.args.dialect) c.args.text.now item c.args.so_far.now c.take.new.so_far given takes)
+    on_ok_weaker c.take.result
+    (λ takes. takes_text (rules_of c.args.dialect) c.args.text.now item c.args.so_far.now c.take.new.so_far given takes)
     c.take.ensures.taken
 
 pub returns-clause-taken : goal.returns-clause-taken
