@@ -1,9 +1,9 @@
 //! The pieces of a text.
 
 ghost use Rattle.std.specs.Prelude.{◌≡◌, ◌≢◌, ◌+◌, ◌-◌, ◌/◌, ◌^◌, ◌<◌, ◌≤◌, ◌==◌, ◌||◌, length, take, drop, option_map, slice_index};
-ghost use Rattle.std.specs.Prelude.{IfSome, true, false};
+ghost use Rattle.std.specs.Prelude.{IfSome, MatchOption, true, false};
 ghost use Rattle.std.specs.Iterator.{at_most};
-ghost use Rattle.std.specs.List.{count_by, range_with_len};
+ghost use Rattle.std.specs.List.{All, count_by, range_with_len};
 ghost use Rattle.influxdb_line_protocol.specs.format.Bytes.{backslash, newline, space, quote};
 ghost use Rattle.memchr.specs.Find.{IsFirstByte, is_byte3};
 ghost use Rattle.influxdb_line_protocol.specs.code.Lanes.{mask_of};
@@ -545,6 +545,14 @@ fn is_comment(text: &[u8]) -> bool
     false
 }
 
+/// The place of the first newline.
+fn first_newline(text: &[u8]) -> Option<usize>
+    ensures { MatchOption result (All (λ b. b ≢ newline) text.now)
+        (λ i. (i < length text.now) × (slice_index text.now i ≡ newline) × All (λ b. b ≢ newline) (take i text.now)) }
+{
+    memchr(b'\n', text)
+}
+
 /// The place of the newline that ends the first piece, or `None` where the text is one piece.
 #[inline(always)]
 fn late_cut(dialect: Dialect, text: &[u8]) -> Option<usize>
@@ -552,7 +560,7 @@ fn late_cut(dialect: Dialect, text: &[u8]) -> Option<usize>
 {
     match dialect {
         Dialect::Crate => cut_by_stretches(text),
-        Dialect::Strict if is_comment(text) => memchr(b'\n', text),
+        Dialect::Strict if is_comment(text) => first_newline(text),
         Dialect::Strict => cut_by_stretches(text),
     }
 }

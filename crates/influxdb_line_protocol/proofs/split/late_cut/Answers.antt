@@ -1,13 +1,11 @@
 use Rattle.std.proofs.Common.{◌∙◌, sym}
 use Rattle.influxdb_line_protocol.proofs.lemmas.split.SplitPieces.{cut_of_comment, cut_of_other}
-use Rattle.influxdb_line_protocol.proofs.lemmas.split.QuietCuts.{first_newline}
 use Rattle.influxdb_line_protocol.proofs.split.late_cut.Goals as goal
 
 pub returns-in-Strict : goal.returns-in-Strict
 returns-in-Strict c =
-    rw c.in-Strict.is
-    (cut_of_comment c.args.text.now c.memchr.result (sym c.is_comment.ensures ∙ c.if-is_comment.true)
-    (first_newline c.args.text.now c.memchr.result c.memchr.ensures))
+    rw c.in-Strict.is (cut_of_comment c.args.text.now c.first_newline.result
+    (sym c.is_comment.ensures ∙ c.if-is_comment.true) c.first_newline.ensures)
 
 pub returns-in-Strict-2 : goal.returns-in-Strict-2
 returns-in-Strict-2 c =
