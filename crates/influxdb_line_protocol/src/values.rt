@@ -257,8 +257,8 @@ fn boolean(text: &str) -> Option<(FieldValue<'_>, &str)>
 
 /// A value at the start of `text`, and the rest. `None` where none is there.
 ///
-/// Its first byte says whether it is a number, a text or a Boolean, and what follows the integer in
-/// front of a number, which number. One out of range is the line's fault.
+/// Its first byte says whether it is a number, a text or a Boolean, and the byte after the integer that a number begins with
+/// says which number. One out of range is the line's fault.
 #[inline(always)]
 pub(crate) fn value<'a>(
     alloc: Global,

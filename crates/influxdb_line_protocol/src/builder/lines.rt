@@ -99,7 +99,7 @@ pub(super) fn are_fields_admitted(fields: &[(EscapedStr<'_>, values::FieldValue<
 ///
 /// A name is admitted where it is not empty, holds no tab and no newline, and does not end in a
 /// backslash; a measurement, besides, holds no NUL and does not begin with `#`. It takes no memory.
-#[tactic(auto, using(crate::proofs::lemmas::builder::WrittenAgainLemmas::tags_admitted, crate::proofs::lemmas::builder::WrittenAgainLemmas::fields_admitted), unfolding(crate::specs::format::Points::is_admitted_point))]
+#[tactic(auto, using(crate::proofs::lemmas::builder::WrittenAgainLemmas::sets), unfolding(crate::specs::format::Points::is_admitted_point))]
 pub fn is_admitted(line: &ParsedLine<'_>) -> bool
     ensures { result ≡ is_admitted_point (parsed_point line.now) }
 {

@@ -191,7 +191,7 @@ fn write_after<B: BufMut>(
 
 // Whether each name of a line is admitted, where those of its measurement and tags are. The keys are, where they are
 // known to get no backslash.
-#[tactic(auto, using(crate::proofs::lemmas::builder::ReadFields::line_admitted, crate::proofs::lemmas::builder::ReadFields::admitted_by_keys, crate::proofs::lemmas::builder::WrittenAgainLemmas::fields_admitted))]
+#[tactic(auto, using(crate::proofs::lemmas::builder::ReadFields::lines_admitted))]
 fn is_admitted_after(extent: Option<Extent>, line: &ParsedLine<'_>) -> bool
     requires read { IsReadLine line.now }
     requires head { is_admitted_head (parsed_point line.now) ≡ true }
@@ -268,7 +268,7 @@ fn spelled_head<'l>(line: &'l ParsedLine<'_>) -> Option<&'l [u8]>
 /// # Errors
 ///
 /// As for [`write_line`], and only where each name is admitted. The builder is then as before.
-#[tactic(auto, using(crate::proofs::lemmas::builder::ReadFields::line_has_field, crate::proofs::lemmas::builder::ReadFields::head_not_admitted))]
+#[tactic(auto, using(crate::proofs::lemmas::builder::ReadFields::lines_not_admitted))]
 pub fn write_parsed<B: BufMut>(
     builder: LineProtocolBuilder<B, BeforeMeasurement>,
     line: &ParsedLine<'_>,

@@ -29,7 +29,7 @@ pub trait FieldValue: Drop {
 }
 
 // How many digits the number has.
-#[tactic(auto, using(crate::proofs::lemmas::builder::BuilderLemmas::length_decimal, crate::proofs::lemmas::builder::BuilderLemmas::length_digit))]
+#[tactic(auto, using(crate::proofs::lemmas::builder::BuilderLemmas::lengths_of_decimals))]
 fn decimal_len(n: u64) -> usize
     ensures value { result ≡ length (decimal n) }
     ensures few { result ≤ 20 }

@@ -117,3 +117,6 @@ length_decimal n (suc k) low high fits =
 -- the length of a digit
 pub length_digit : (n : ℕ) → n < 10 → length (decimal n) ≡ 1
 length_digit n small = ap length (decimal_digit n small)
+
+-- the lengths of a digit and of longer numbers
+pub ruleset lengths_of_decimals = (length_decimal, length_digit)

@@ -22,6 +22,7 @@ use Rattle.influxdb_line_protocol.specs.code.Texts.{text_of}
 use Rattle.influxdb_line_protocol.specs.format.Trimming.{trimmed}
 use Rattle.influxdb_line_protocol.specs.code.WrittenAgain.{HasReadValue, IsHeadOf, is_admitted_head, IsPlainKey, text_after}
 use Rattle.influxdb_line_protocol.proofs.lemmas.builder.BuilderLemmas.{length_escaped}
+use Rattle.influxdb_line_protocol.proofs.lemmas.builder.WrittenAgainLemmas.{fields_admitted}
 use Rattle.influxdb_line_protocol.proofs.lemmas.laws.lines_are_points.LinesArePoints.{FieldFits, line_fields_fit, lines_are_points}
 use Rattle.influxdb_line_protocol.proofs.lemmas.builder.ReadHeads.{delimiters, line_names, read_admitted}
 
@@ -82,6 +83,11 @@ head_not_admitted l head =
     go : (a b c : Bool) → (a && b) ≡ false → (a && b && c) ≡ false
     go true b c e = rw e refl
     go false b c e = refl
+
+-- whether a line is admitted, where its measurement and its tags are, and where they are not
+pub ruleset lines_admitted = (line_admitted, admitted_by_keys, fields_admitted)
+
+pub ruleset lines_not_admitted = (line_has_field, head_not_admitted)
 
 -- what is written for a line
 pub text_after_is : (text : List ℕ) (l : ParsedLine) → IsHeadOf text (parsed_point l) → text_after text l ≡ built (parsed_point l)

@@ -38,6 +38,9 @@ pub fields_admitted : (fields : List (EscapedStr × FieldValue))
 fields_admitted [] = refl
 fields_admitted (f ∷ fields) = ap (λ (b : Bool). is_admitted_field (point_field f) && b) (fields_admitted fields)
 
+-- both sets
+pub ruleset sets = (tags_admitted, fields_admitted)
+
 -- the text of a line, from that of its parts
 pub parts_text_is : (parts : Parts) (line : ParsedLine)
     → parts.measurement.now ≡ text_of line.series.measurement
