@@ -1,6 +1,6 @@
 #!/usr/bin/env bash
 # Compares the documents with what they copy: docs/DEFINITIONS.md with specs/, and the blocks of code in README.md, CALLING.md
-# and docs/CALLERS.md with the examples; and the imports between modules with the layers of docs/ARCHITECTURE.md;
+# and docs/CALLERS.md with the examples; imports, and files of definitions and lemmas, with the map in docs/ARCHITECTURE.md;
 # the header for C with crates/lp_c; and the packages of bindings/ with the header. Needs Python 3.10, and no package.
 set -eu
 here=$(cd "$(dirname "$0")" && pwd)

@@ -1,7 +1,9 @@
 #!/usr/bin/env python3
-"""Whether the imports of the crates' modules go down the layers of docs/ARCHITECTURE.md, and the format names no code.
+"""Whether the imports of the crates' modules go down the layers of docs/ARCHITECTURE.md, which names each file of definitions and
+lemmas, and whether the format names no code.
 
-    checks/layers.py            prints each import that goes up a layer or closes a cycle; status 1 where there is one
+    checks/layers.py            prints each import that goes up a layer or closes a cycle, and each file that the map does not
+                                name; status 1 where there is one
     checks/layers.py --all      prints every import between modules, with what is imported
 
 The crates are those that the map lists with layers of modules. A module is a file of a crate's src/ with the files in its
@@ -155,6 +157,17 @@ def format_imports():
                 yield f"format: {path.name} imports {name}"
 
 
+def unnamed_files():
+    """The files of definitions and lemmas that the map does not name. A file beside a folder of its name only lists that folder."""
+    text = MAP.read_text(encoding="utf-8")
+    for folder in ("specs", "proofs"):
+        for path in sorted(CRATES.glob(f"*/{folder}/**/*.antt")):
+            inside = path.relative_to(path.parents[[it.name for it in path.parents].index(folder)])
+            is_lemmas = folder == "specs" or len(inside.parts) == 1 or inside.parts[0] == "lemmas"
+            if is_lemmas and path.stem != "Lib" and not path.with_suffix("").is_dir() and f"`{path.stem}`" not in text:
+                yield f"map: docs/ARCHITECTURE.md does not name {path.relative_to(TOP)}"
+
+
 def wrong_in(crate, lines, everything):
     """Prints the imports of a crate that are wrong, and gives how many modules it has and how many imports are wrong."""
     source = CRATES / crate / "src"
@@ -179,7 +192,7 @@ def main(words):
         print(f"layers: {fault}", file=sys.stderr)
         return 1
     number, wrong = (sum(count) for count in zip(*counts))
-    strange = list(format_imports())
+    strange = [*format_imports(), *unnamed_files()]
     print("".join(f"{line}\n" for line in strange), end="")
     print(f"layers: {number} modules of {len(crates)} crates, {wrong} imports that go up or close a cycle")
     return 1 if wrong or strange else 0
