@@ -29,6 +29,8 @@ pub mod render;
 pub mod short_line;
 pub mod short_texts;
 #[cfg(test)]
+mod tables;
+#[cfg(test)]
 mod tags;
 #[cfg(test)]
 mod values;

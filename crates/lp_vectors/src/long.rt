@@ -5,6 +5,7 @@ use crate::fault::Fault;
 use crate::render;
 use influxdb_line_protocol::Dialect;
 use std::alloc::{AllocError, Global};
+use std::process::Abort;
 
 const DIALECTS: [Dialect; 2] = [Dialect::Crate, Dialect::Strict];
 
@@ -23,41 +24,75 @@ fn repeated(
     Ok(text)
 }
 
+// Each text with its part repeated has the items with theirs repeated.
+fn sets_are_read_so(
+    rt: &impl Abort,
+    alloc: Global,
+    rows: &[(&str, &str, &str, &str, &str, &str)],
+) -> Result<(), Fault> {
+    for row in rows {
+        let (before, part, after, wanted_before, wanted_part, wanted_after) = *row;
+        for count in [3, 4, 7, 8, 14, 999] {
+            let text = repeated(alloc, before, part, count, after)?;
+            let wanted = repeated(alloc, wanted_before, wanted_part, count, wanted_after)?;
+            for dialect in DIALECTS {
+                let rendered = render::items_in(alloc, dialect, text.as_str())?;
+                assert_eq!(rt; rendered.as_str(), wanted.as_str(), "{count} of {part}");
+            }
+        }
+    }
+    Ok(())
+}
+
 #[test]
 fn long_sets_are_read_whole(rt: HostRuntime) -> Result<(), Fault> {
     // What is repeated is between two texts, in the line and in what is rendered of it.
-    for (before, part, after, wanted_before, wanted_part, wanted_after) in [
-        ("m a=1i", ",b=2u", "", "S<m> S<a>=1i", " S<b>=2u", ""),
-        (
-            "m a=1i",
-            ",\\,=\"\\\\\"",
-            " 5",
-            "S<m> S<a>=1i",
-            " S<,>=S<\\>",
-            " at 5",
-        ),
-        (
-            "m,k=v",
-            ",t=w",
-            " f=1i",
-            "S<m>,S<k>=S<v>",
-            ",S<t>=S<w>",
-            " S<f>=1i",
-        ),
-        (
-            "m,k=v",
-            ",\\==x\\ y",
-            " f=1i",
-            "S<m>,S<k>=S<v>",
-            ",S<=>=C<x y>",
-            " S<f>=1i",
-        ),
-    ] {
-        for count in [3, 4, 7, 8, 14, 999] {
-            let text = repeated(rt.alloc(), before, part, count, after)?;
-            let wanted = repeated(rt.alloc(), wanted_before, wanted_part, count, wanted_after)?;
+    sets_are_read_so(
+        &rt,
+        rt.alloc(),
+        &[
+            ("m a=1i", ",b=2u", "", "S<m> S<a>=1i", " S<b>=2u", ""),
+            (
+                "m a=1i",
+                ",\\,=\"\\\\\"",
+                " 5",
+                "S<m> S<a>=1i",
+                " S<,>=S<\\>",
+                " at 5",
+            ),
+            (
+                "m,k=v",
+                ",t=w",
+                " f=1i",
+                "S<m>,S<k>=S<v>",
+                ",S<t>=S<w>",
+                " S<f>=1i",
+            ),
+            (
+                "m,k=v",
+                ",\\==x\\ y",
+                " f=1i",
+                "S<m>,S<k>=S<v>",
+                ",S<=>=C<x y>",
+                " S<f>=1i",
+            ),
+        ],
+    )
+}
+
+// Each text with its part repeated has the fault with that part repeated.
+fn faults_have_this_text(
+    rt: &impl Abort,
+    alloc: Global,
+    rows: &[(&str, &str, &str, &str, &str)],
+) -> Result<(), Fault> {
+    for row in rows {
+        let (before, part, after, wanted_before, wanted_after) = *row;
+        for count in [65, 100_000] {
+            let text = repeated(alloc, before, part, count, after)?;
+            let wanted = repeated(alloc, wanted_before, part, count, wanted_after)?;
             for dialect in DIALECTS {
-                let rendered = render::items_in(rt.alloc(), dialect, text.as_str())?;
+                let rendered = render::items_in(alloc, dialect, text.as_str())?;
                 assert_eq!(rt; rendered.as_str(), wanted.as_str(), "{count} of {part}");
             }
         }
@@ -67,22 +102,16 @@ fn long_sets_are_read_whole(rt: HostRuntime) -> Result<(), Fault> {
 
 #[test]
 fn long_faults_tell_all_of_their_text(rt: HostRuntime) -> Result<(), Fault> {
-    for (before, part, after, wanted_before, wanted_after) in [
-        ("m a=1i", "x", "", "rest <", ">"),
-        ("m a=1i ", "x\\", "", "rest < ", ">"),
-        ("m a=", "9", "i", "IntegerValueInvalid Above <", ">"),
-        ("m a=-", "9", "i", "IntegerValueInvalid Below <-", ">"),
-        ("m a=", "9", "u", "UIntegerValueInvalid Above <", ">"),
-        ("m a=1i ", "9", "", "TimestampValueInvalid Above <", ">"),
-    ] {
-        for count in [65, 100_000] {
-            let text = repeated(rt.alloc(), before, part, count, after)?;
-            let wanted = repeated(rt.alloc(), wanted_before, part, count, wanted_after)?;
-            for dialect in DIALECTS {
-                let rendered = render::items_in(rt.alloc(), dialect, text.as_str())?;
-                assert_eq!(rt; rendered.as_str(), wanted.as_str(), "{count} of {part}");
-            }
-        }
-    }
-    Ok(())
+    faults_have_this_text(
+        &rt,
+        rt.alloc(),
+        &[
+            ("m a=1i", "x", "", "rest <", ">"),
+            ("m a=1i ", "x\\", "", "rest < ", ">"),
+            ("m a=", "9", "i", "IntegerValueInvalid Above <", ">"),
+            ("m a=-", "9", "i", "IntegerValueInvalid Below <-", ">"),
+            ("m a=", "9", "u", "UIntegerValueInvalid Above <", ">"),
+            ("m a=1i ", "9", "", "TimestampValueInvalid Above <", ">"),
+        ],
+    )
 }

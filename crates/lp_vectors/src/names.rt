@@ -1,49 +1,44 @@
 //! Names with escapes, read and compared. `Foo` and `wea` are the Rust crate's own tests, the others follow the format's rules.
 
 use crate::fault::Fault;
-use crate::render;
+use crate::{render, tables};
 use influxdb_line_protocol::EscapedStr;
+use std::alloc::Global;
 use std::collections::HashSet;
+use std::process::Abort;
 
 #[test]
 fn lines_have_these_names(rt: HostRuntime) -> Result<(), Fault> {
-    for (text, wanted) in [
-        ("weat\\\nher f=1i", "C<weat\\\nher> S<f>=1i"),
-        ("a\\\\ f=1i", "EndsWithBackslash"),
-        ("a\\\\\\ b f=1i", "C<a\\ b> S<f>=1i"),
-        ("\\=x f=1i", "C<\\=x> S<f>=1i"),
-        ("m \\=x=1i", "S<m> C<=x>=1i"),
-        ("\\, f=1i", "S<,> S<f>=1i"),
-        ("m f\\\\=1i", "EndsWithBackslash"),
-        ("weather\\", "EndsWithBackslash"),
-        ("weather\\\\ f=1i", "EndsWithBackslash"),
-        ("\\wea\\ther f=1i", "C<\\wea\\ther> S<f>=1i"),
-        ("\\\\wea\\\\ther f=1i", "C<\\wea\\ther> S<f>=1i"),
-        ("w\\\t f=1i", "C<w\\\t> S<f>=1i"),
-        ("w\\\\\t f=1i", "EndsWithBackslash"),
-        ("\0 field=1 1234", "MeasurementValueInvalid"),
-    ] {
-        assert_eq!(rt;
-            render::items(rt.alloc(), text)?.as_str(),
-            wanted,
-            "of {text}"
-        );
-    }
-    Ok(())
+    tables::items_are(
+        &rt,
+        rt.alloc(),
+        &[
+            ("weat\\\nher f=1i", "C<weat\\\nher> S<f>=1i"),
+            ("a\\\\ f=1i", "EndsWithBackslash"),
+            ("a\\\\\\ b f=1i", "C<a\\ b> S<f>=1i"),
+            ("\\=x f=1i", "C<\\=x> S<f>=1i"),
+            ("m \\=x=1i", "S<m> C<=x>=1i"),
+            ("\\, f=1i", "S<,> S<f>=1i"),
+            ("m f\\\\=1i", "EndsWithBackslash"),
+            ("weather\\", "EndsWithBackslash"),
+            ("weather\\\\ f=1i", "EndsWithBackslash"),
+            ("\\wea\\ther f=1i", "C<\\wea\\ther> S<f>=1i"),
+            ("\\\\wea\\\\ther f=1i", "C<\\wea\\ther> S<f>=1i"),
+            ("w\\\t f=1i", "C<w\\\t> S<f>=1i"),
+            ("w\\\\\t f=1i", "EndsWithBackslash"),
+            ("\0 field=1 1234", "MeasurementValueInvalid"),
+        ],
+    )
 }
 
-// Each name as a measurement, as a tag's key and value, and as a field's key. What is wanted is what the Rust crate gave.
-#[test]
-fn names_of_each_kind_are_read_so(rt: HostRuntime) -> Result<(), Fault> {
-    let alloc = rt.alloc();
-    for (name, measurement, other) in [
-        ("wea\\,ther", "C<wea,ther>", "C<wea,ther>"),
-        ("wea\\ ther", "C<wea ther>", "C<wea ther>"),
-        ("wea\\=ther", "C<wea\\=ther>", "C<wea=ther>"),
-        ("\\\\wea\\\\ther", "C<\\wea\\ther>", "C<\\wea\\ther>"),
-        ("\\wea\\ther", "C<\\wea\\ther>", "C<\\wea\\ther>"),
-        ("weat\\\nher", "C<weat\\\nher>", "C<weat\\\nher>"),
-    ] {
+// Each name is read so as a measurement, and so as another name.
+fn names_are_read_so(
+    rt: &impl Abort,
+    alloc: Global,
+    rows: &[(&str, &str, &str)],
+) -> Result<(), Fault> {
+    for row in rows {
+        let (name, measurement, other) = *row;
         let text = format!(in alloc; "{name} f=1i\nm,{name}=v f=1i\nm,k={name} f=1i\nm {name}=1i")?;
         let wanted = format!(in alloc;
             "{measurement} S<f>=1i|S<m>,{other}=S<v> S<f>=1i|S<m>,S<k>={other} S<f>=1i|S<m> {other}=1i"
@@ -54,29 +49,51 @@ fn names_of_each_kind_are_read_so(rt: HostRuntime) -> Result<(), Fault> {
     Ok(())
 }
 
+// Each name as a measurement, as a tag's key and value, and as a field's key. What is wanted is what the Rust crate gave.
+#[test]
+fn names_of_each_kind_are_read_so(rt: HostRuntime) -> Result<(), Fault> {
+    names_are_read_so(
+        &rt,
+        rt.alloc(),
+        &[
+            ("wea\\,ther", "C<wea,ther>", "C<wea,ther>"),
+            ("wea\\ ther", "C<wea ther>", "C<wea ther>"),
+            ("wea\\=ther", "C<wea\\=ther>", "C<wea=ther>"),
+            ("\\\\wea\\\\ther", "C<\\wea\\ther>", "C<\\wea\\ther>"),
+            ("\\wea\\ther", "C<\\wea\\ther>", "C<\\wea\\ther>"),
+            ("weat\\\nher", "C<weat\\\nher>", "C<weat\\\nher>"),
+        ],
+    )
+}
+
 // What is wanted is what the Rust crate gave.
 #[test]
 fn no_name_ends_in_a_backslash(rt: HostRuntime) -> Result<(), Fault> {
-    for text in ["weather\\", "m,weather\\", "m,k=weather\\", "m weather\\"] {
-        let rendered = render::items(rt.alloc(), text)?;
-        assert_eq!(rt; rendered.as_str(), "EndsWithBackslash", "of {text}");
-    }
-    Ok(())
+    tables::items_are(
+        &rt,
+        rt.alloc(),
+        &[
+            ("weather\\", "EndsWithBackslash"),
+            ("m,weather\\", "EndsWithBackslash"),
+            ("m,k=weather\\", "EndsWithBackslash"),
+            ("m weather\\", "EndsWithBackslash"),
+        ],
+    )
 }
 
 // What is wanted is what the Rust crate gave.
 #[test]
 fn a_newline_ends_a_name_of_any_kind(rt: HostRuntime) -> Result<(), Fault> {
-    for (text, wanted) in [
-        ("weat\nher f=1i", "TakeWhile1|S<her> S<f>=1i"),
-        ("m,weat\nher=v f=1i", "TagSetMalformed|S<her=v> S<f>=1i"),
-        ("m,k=weat\nher f=1i", "TakeWhile1|S<her> S<f>=1i"),
-        ("m weat\nher=1i", "FieldSetMissing|TakeWhile1"),
-    ] {
-        let rendered = render::items(rt.alloc(), text)?;
-        assert_eq!(rt; rendered.as_str(), wanted, "of {text}");
-    }
-    Ok(())
+    tables::items_are(
+        &rt,
+        rt.alloc(),
+        &[
+            ("weat\nher f=1i", "TakeWhile1|S<her> S<f>=1i"),
+            ("m,weat\nher=v f=1i", "TagSetMalformed|S<her=v> S<f>=1i"),
+            ("m,k=weat\nher f=1i", "TakeWhile1|S<her> S<f>=1i"),
+            ("m weat\nher=1i", "FieldSetMissing|TakeWhile1"),
+        ],
+    )
 }
 
 #[test]
