@@ -25,12 +25,4 @@ rm -f "$told"
 
 checks/differential.sh
 bindings/test.sh
-
-# For a check of the library the gate plans on 12 GB, where it takes 2.5, so it would leave processors idle. It is told how many
-# checks may run side by side: as many as there are processors, and memory for 5 GB each, which is the most that one takes.
-available=$(sed -n 's/^MemAvailable: *\([0-9]*\) kB$/\1/p' /proc/meminfo)
-at_once=$((available / 5000000))
-[ "$at_once" -lt "$(nproc)" ] || at_once=$(nproc)
-[ "$at_once" -gt 0 ] || at_once=1
-export RT_JOBS=${RT_JOBS:-$at_once}
 exec rt ci
