@@ -5,18 +5,16 @@ use lp_vectors::exhausted_memory::ExhaustedMemory;
 use lp_vectors::fault::Fault;
 use lp_vectors::render;
 use std::alloc::Global;
+use std::process::Abort;
 
-#[test]
-fn want_of_memory_is_one_item_in_its_lines_place(rt: HostRuntime) -> Result<(), Fault> {
-    let alloc = rt.alloc();
-    for text in [
-        "a\\ b f=1i\nm f=1i",
-        "m,a=1,b=1,c=1,d=1,e=1,f=1,g=1,h=1,i=1 x=1i\nm f=1i",
-        "k a=1i,b=1i,c=1i,d=1i,e=1i\nm f=1i",
-        "m a=1x\nm f=1i",
-        "m s=\"a\\b\"\nm f=1i",
-        "m a=9223372036854775808i\nm f=1i",
-    ] {
+// The first line of each text is answered with `OutOfMemory` where memory is exhausted. The second one takes none, and is read.
+fn have_their_first_line_refused(
+    rt: &impl Abort,
+    alloc: Global,
+    rows: &[&str],
+) -> Result<(), Fault> {
+    for row in rows {
+        let text = *row;
         let mut lines = parse_lines(alloc, text);
         let exhausted = ExhaustedMemory::new(alloc)?;
         let first = lines.next();
@@ -36,22 +34,29 @@ fn want_of_memory_is_one_item_in_its_lines_place(rt: HostRuntime) -> Result<(), 
 }
 
 #[test]
-fn light_lines_are_read_without_memory(rt: HostRuntime) -> Result<(), Fault> {
-    let alloc = rt.alloc();
-    for (text, wanted) in [
-        (
-            "cpu,host=A,region=west usage_system=64i 1590488773254420000",
-            "S<cpu>,S<host>=S<A>,S<region>=S<west> S<usage_system>=64i at 1590488773254420000",
-        ),
-        ("\\,,\\==x a=\"\\\\\"", "S<,>,S<=>=S<x> S<a>=S<\\>"),
-        (
-            "m,a=1,b=1,c=1,d=1,e=1,f=1,g=1,h=1 a=1i,b=1u,c=1.5,d=t",
-            "S<m>,S<a>=S<1>,S<b>=S<1>,S<c>=S<1>,S<d>=S<1>,S<e>=S<1>,S<f>=S<1>,S<g>=S<1>,S<h>=S<1> S<a>=1i S<b>=1u S<c>=f<1.5> S<d>=true",
-        ),
-        ("m 5", "FieldSetMissing"),
-        ("m,=v f=1i", "TagSetMalformed"),
-        ("m", "TakeWhile1"),
-    ] {
+fn a_refused_request_is_one_item_in_its_lines_place(rt: HostRuntime) -> Result<(), Fault> {
+    have_their_first_line_refused(
+        &rt,
+        rt.alloc(),
+        &[
+            "a\\ b f=1i\nm f=1i",
+            "m,a=1,b=1,c=1,d=1,e=1,f=1,g=1,h=1,i=1 x=1i\nm f=1i",
+            "k a=1i,b=1i,c=1i,d=1i,e=1i\nm f=1i",
+            "m a=1x\nm f=1i",
+            "m s=\"a\\b\"\nm f=1i",
+            "m a=9223372036854775808i\nm f=1i",
+        ],
+    )
+}
+
+// The first line of each text is this item where memory is exhausted.
+fn are_read_without_memory(
+    rt: &impl Abort,
+    alloc: Global,
+    rows: &[(&str, &str)],
+) -> Result<(), Fault> {
+    for row in rows {
+        let (text, wanted) = *row;
         let mut lines = parse_lines(alloc, text);
         let exhausted = ExhaustedMemory::new(alloc)?;
         let item = lines.next();
@@ -64,6 +69,29 @@ fn light_lines_are_read_without_memory(rt: HostRuntime) -> Result<(), Fault> {
         assert_eq!(rt; rendered.as_str(), wanted);
     }
     Ok(())
+}
+
+#[test]
+fn light_lines_are_read_without_memory(rt: HostRuntime) -> Result<(), Fault> {
+    are_read_without_memory(
+        &rt,
+        rt.alloc(),
+        &[
+            (
+                "cpu,host=A,region=west usage_system=64i 1590488773254420000",
+                "S<cpu>,S<host>=S<A>,S<region>=S<west> S<usage_system>=64i at 1590488773254420000",
+            ),
+            ("\\,,\\==x a=\"\\\\\"", "S<,>,S<=>=S<x> S<a>=S<\\>"),
+            (
+                "m,a=1,b=1,c=1,d=1,e=1,f=1,g=1,h=1 a=1i,b=1u,c=1.5,d=t",
+                "S<m>,S<a>=S<1>,S<b>=S<1>,S<c>=S<1>,S<d>=S<1>,S<e>=S<1>,S<f>=S<1>,S<g>=S<1>,S<h>=S<1> \
+                 S<a>=1i S<b>=1u S<c>=f<1.5> S<d>=true",
+            ),
+            ("m 5", "FieldSetMissing"),
+            ("m,=v f=1i", "TagSetMalformed"),
+            ("m", "TakeWhile1"),
+        ],
+    )
 }
 
 // The item of the first line of `text`, rendered, where just one request for each of these sizes is granted.

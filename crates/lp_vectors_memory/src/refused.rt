@@ -18,6 +18,7 @@ use lp_vectors::render;
 use lp_vectors::short_line::{LINE, first_refused, refusal};
 use std::alloc::{AllocError, Global};
 use std::borrow::CowStr;
+use std::process::Abort;
 
 const FOUR_LINES: &str =
     "m a=1i\na\\ b,c\\,d=e\\=f g\\ h=\"i\\\"j\"\nm,a=1,b=1,c=1,d=1,e=1,f=1,g=1,h=1,i=1 v=1i,w=1i,x=1i,y=1i,z=1i\nm a=1x";
@@ -73,6 +74,20 @@ fn items_with(alloc: Global, place: usize, granted: &[usize]) -> Result<String, 
     Ok(rendered)
 }
 
+// The items of the four lines are these where just one request for each of these sizes is granted at a place.
+fn have_these_items(
+    rt: &impl Abort,
+    alloc: Global,
+    rows: &[(usize, &[usize], &str)],
+) -> Result<(), Fault> {
+    for row in rows {
+        let (place, granted, wanted) = *row;
+        let rendered = items_with(alloc, place, granted)?;
+        assert_eq!(rt; rendered.as_str(), wanted, "at {place}");
+    }
+    Ok(())
+}
+
 #[test]
 fn each_request_of_four_lines_is_refused_in_turn(rt: HostRuntime) -> Result<(), Fault> {
     let [first, second, third, fourth] = FOUR_ITEMS;
@@ -80,24 +95,24 @@ fn each_request_of_four_lines_is_refused_in_turn(rt: HostRuntime) -> Result<(), 
     let third_refused = format!(in rt.alloc(); "{first}|{second}|OutOfMemory|{fourth}|")?;
     let fourth_refused = format!(in rt.alloc(); "{first}|{second}|{third}|OutOfMemory|")?;
     let none_refused = format!(in rt.alloc(); "{first}|{second}|{third}|{fourth}|")?;
-    for (place, granted, wanted) in [
-        (0, [].as_slice(), &none_refused),
-        (1, [].as_slice(), &second_refused),
-        (1, [3usize].as_slice(), &second_refused),
-        (1, [3, 3].as_slice(), &second_refused),
-        (1, [3, 3, 3].as_slice(), &second_refused),
-        (1, [3, 3, 3, 3].as_slice(), &second_refused),
-        (1, [3, 3, 3, 3, 3].as_slice(), &none_refused),
-        (2, [].as_slice(), &third_refused),
-        (2, [1_024].as_slice(), &third_refused),
-        (2, [1_024, 1_008].as_slice(), &none_refused),
-        (3, [].as_slice(), &fourth_refused),
-        (3, [1].as_slice(), &none_refused),
-    ] {
-        let rendered = items_with(rt.alloc(), place, granted)?;
-        assert_eq!(rt; rendered.as_str(), wanted.as_str(), "at {place}");
-    }
-    Ok(())
+    have_these_items(
+        &rt,
+        rt.alloc(),
+        &[
+            (0, [].as_slice(), none_refused.as_str()),
+            (1, [].as_slice(), second_refused.as_str()),
+            (1, [3usize].as_slice(), second_refused.as_str()),
+            (1, [3, 3].as_slice(), second_refused.as_str()),
+            (1, [3, 3, 3].as_slice(), second_refused.as_str()),
+            (1, [3, 3, 3, 3].as_slice(), second_refused.as_str()),
+            (1, [3, 3, 3, 3, 3].as_slice(), none_refused.as_str()),
+            (2, [].as_slice(), third_refused.as_str()),
+            (2, [1_024].as_slice(), third_refused.as_str()),
+            (2, [1_024, 1_008].as_slice(), none_refused.as_str()),
+            (3, [].as_slice(), fourth_refused.as_str()),
+            (3, [1].as_slice(), none_refused.as_str()),
+        ],
+    )
 }
 
 // The base of a series, rendered, where just one request for each of these sizes is granted.
@@ -115,33 +130,47 @@ fn base_with(alloc: Global, text: &str, granted: &[usize]) -> Result<String, Fau
     }
 }
 
-#[test]
-fn each_request_of_a_base_is_refused_in_turn(rt: HostRuntime) -> Result<(), Fault> {
-    for (text, granted, wanted) in [
-        ("foo,tag2=2,tag1=1 f=1i", [].as_slice(), "OutOfMemory"),
-        (
-            "foo,tag2=2,tag1=1 f=1i",
-            [488usize].as_slice(),
-            "OutOfMemory",
-        ),
-        (
-            "foo,tag2=2,tag1=1 f=1i",
-            [488, 17].as_slice(),
-            "owned foo,tag1=1,tag2=2",
-        ),
-        ("foo,tag=1,tag=2 f=1i", [].as_slice(), "OutOfMemory"),
-        ("foo,tag=1,tag=2 f=1i", [488].as_slice(), "OutOfMemory"),
-        (
-            "foo,tag=1,tag=2 f=1i",
-            [488, 3].as_slice(),
-            "DuplicateTag <tag>",
-        ),
-        ("\\,,k=v f=1i", [].as_slice(), "borrowed \\,,k=v"),
-    ] {
-        let rendered = base_with(rt.alloc(), text, granted)?;
+// The series of each line has this base where just one request for each of these sizes is granted.
+fn have_these_bases(
+    rt: &impl Abort,
+    alloc: Global,
+    rows: &[(&str, &[usize], &str)],
+) -> Result<(), Fault> {
+    for row in rows {
+        let (text, granted, wanted) = *row;
+        let rendered = base_with(alloc, text, granted)?;
         assert_eq!(rt; rendered.as_str(), wanted, "of {text}");
     }
     Ok(())
+}
+
+#[test]
+fn each_request_of_a_base_is_refused_in_turn(rt: HostRuntime) -> Result<(), Fault> {
+    have_these_bases(
+        &rt,
+        rt.alloc(),
+        &[
+            ("foo,tag2=2,tag1=1 f=1i", [].as_slice(), "OutOfMemory"),
+            (
+                "foo,tag2=2,tag1=1 f=1i",
+                [488usize].as_slice(),
+                "OutOfMemory",
+            ),
+            (
+                "foo,tag2=2,tag1=1 f=1i",
+                [488, 17].as_slice(),
+                "owned foo,tag1=1,tag2=2",
+            ),
+            ("foo,tag=1,tag=2 f=1i", [].as_slice(), "OutOfMemory"),
+            ("foo,tag=1,tag=2 f=1i", [488].as_slice(), "OutOfMemory"),
+            (
+                "foo,tag=1,tag=2 f=1i",
+                [488, 3].as_slice(),
+                "DuplicateTag <tag>",
+            ),
+            ("\\,,k=v f=1i", [].as_slice(), "borrowed \\,,k=v"),
+        ],
+    )
 }
 
 // Makes a call of a builder: where it is to be refused, once so and then again.

@@ -5,6 +5,7 @@ use lp_vectors::exhausted_memory::ExhaustedMemory;
 use lp_vectors::fault::Fault;
 use lp_vectors::render;
 use std::alloc::{AllocError, Global};
+use std::process::Abort;
 
 // A line of 20 tags and 20 fields.
 fn wide_line(alloc: Global) -> Result<String, AllocError> {
@@ -22,24 +23,11 @@ fn room(line: &ParsedLine<'_>) -> (usize, usize) {
     (tags, line.field_set.capacity())
 }
 
-#[test]
-fn a_line_as_wide_asks_for_no_memory(rt: HostRuntime) -> Result<(), Fault> {
-    let alloc = rt.alloc();
+// A line of 20 tags and 20 fields that is read after another and these lines, into the same line, asks for no memory.
+fn come_between_wide_lines(rt: &impl Abort, alloc: Global, rows: &[&str]) -> Result<(), Fault> {
     let wide = wide_line(alloc)?;
-    for between in [
-        "",
-        "m",
-        "m,",
-        ",x",
-        "m f=1i",
-        "m f=1i\nm f=1i",
-        "m,a=1 f=1i",
-        "m f=1i\nm,a=1 f=1i",
-        "m,a\\,b=1 f=1i",
-        "m,t=v f",
-        "m f=1x",
-        "m,a=1 f=9223372036854775808i",
-    ] {
+    for row in rows {
+        let between = *row;
         let text = format!(in alloc; "{wide}\n{between}\n{wide}")?;
         let mut lines = parse_lines(alloc, text.as_str());
         let mut line = ParsedLine::new(alloc);
@@ -62,19 +50,31 @@ fn a_line_as_wide_asks_for_no_memory(rt: HostRuntime) -> Result<(), Fault> {
 }
 
 #[test]
-fn a_fault_leaves_the_line_empty(rt: HostRuntime) -> Result<(), Fault> {
-    let alloc = rt.alloc();
-    for fault in [
-        "m 5",
-        "m,=v f=1i",
-        "m",
-        ",x",
-        "a\\ b,c\\,d=e\\=f g=x",
-        "m,t=v f=1i x",
-        "m,t=v f=1i,g=9223372036854775808i",
-        "m,t=v f=1i 9223372036854775808",
-        "m,t\\=v",
-    ] {
+fn a_line_as_wide_asks_for_no_memory(rt: HostRuntime) -> Result<(), Fault> {
+    come_between_wide_lines(
+        &rt,
+        rt.alloc(),
+        &[
+            "",
+            "m",
+            "m,",
+            ",x",
+            "m f=1i",
+            "m f=1i\nm f=1i",
+            "m,a=1 f=1i",
+            "m f=1i\nm,a=1 f=1i",
+            "m,a\\,b=1 f=1i",
+            "m,t=v f",
+            "m f=1x",
+            "m,a=1 f=9223372036854775808i",
+        ],
+    )
+}
+
+// Each fault leaves a line empty that held tags, fields and a timestamp.
+fn leave_the_line_empty(rt: &impl Abort, alloc: Global, rows: &[&str]) -> Result<(), Fault> {
+    for row in rows {
+        let fault = *row;
         let text = format!(in alloc; "a\\ b,c\\,d=e\\=f g\\ h=\"i\\\"j\",k=1i 5\n{fault}")?;
         let mut lines = parse_lines(alloc, text.as_str());
         let mut line = ParsedLine::new(alloc);
@@ -95,7 +95,26 @@ fn a_fault_leaves_the_line_empty(rt: HostRuntime) -> Result<(), Fault> {
 }
 
 #[test]
-fn want_of_memory_leaves_the_line_empty(rt: HostRuntime) -> Result<(), Fault> {
+fn a_fault_leaves_the_line_empty(rt: HostRuntime) -> Result<(), Fault> {
+    leave_the_line_empty(
+        &rt,
+        rt.alloc(),
+        &[
+            "m 5",
+            "m,=v f=1i",
+            "m",
+            ",x",
+            "a\\ b,c\\,d=e\\=f g=x",
+            "m,t=v f=1i x",
+            "m,t=v f=1i,g=9223372036854775808i",
+            "m,t=v f=1i 9223372036854775808",
+            "m,t\\=v",
+        ],
+    )
+}
+
+#[test]
+fn a_refused_request_leaves_the_line_empty(rt: HostRuntime) -> Result<(), Fault> {
     let alloc = rt.alloc();
     let wide = wide_line(alloc)?;
     let text = format!(in alloc; "{wide}\nm,a=1 f=1i")?;

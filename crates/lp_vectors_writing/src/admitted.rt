@@ -5,6 +5,7 @@ use influxdb_line_protocol::{
 };
 use lp_vectors::fault::Fault;
 use std::alloc::Global;
+use std::process::Abort;
 
 // A line with this measurement and one field.
 fn named<'a>(alloc: Global, measurement: &'a str) -> Result<ParsedLine<'a>, Fault> {
@@ -29,25 +30,35 @@ fn named<'a>(alloc: Global, measurement: &'a str) -> Result<ParsedLine<'a>, Faul
     }
 }
 
-#[test]
-fn measurements_are_admitted_so(rt: HostRuntime) -> Result<(), Fault> {
-    for (measurement, wanted) in [
-        ("m", true),
-        ("a b,c", true),
-        ("a\\b", true),
-        ("", false),
-        ("m\\", false),
-        ("#m", false),
-        ("#x", false),
-        ("m#", true),
-        ("a\tb", false),
-        ("a\nb", false),
-        ("a\0b", false),
-    ] {
-        let line = named(rt.alloc(), measurement)?;
+// A line of each measurement is admitted, or is not.
+fn are_admitted_so(rt: &impl Abort, alloc: Global, rows: &[(&str, bool)]) -> Result<(), Fault> {
+    for row in rows {
+        let (measurement, wanted) = *row;
+        let line = named(alloc, measurement)?;
         assert_eq!(rt; is_admitted(&line), wanted, "{measurement}");
     }
     Ok(())
+}
+
+#[test]
+fn measurements_are_admitted_so(rt: HostRuntime) -> Result<(), Fault> {
+    are_admitted_so(
+        &rt,
+        rt.alloc(),
+        &[
+            ("m", true),
+            ("a b,c", true),
+            ("a\\b", true),
+            ("", false),
+            ("m\\", false),
+            ("#m", false),
+            ("#x", false),
+            ("m#", true),
+            ("a\tb", false),
+            ("a\nb", false),
+            ("a\0b", false),
+        ],
+    )
 }
 
 #[test]

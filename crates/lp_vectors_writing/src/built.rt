@@ -6,6 +6,7 @@ use influxdb_line_protocol::{FloatText, LineProtocolBuilder};
 use lp_vectors::fault::Fault;
 use lp_vectors::render;
 use std::alloc::Global;
+use std::process::Abort;
 
 // A value whose text is so many zeros.
 #[derive(Drop)]
@@ -110,30 +111,38 @@ fn no_room_takes_the_empty_text_alone(rt: HostRuntime) -> Result<(), Fault> {
     Ok(())
 }
 
-#[test]
-fn names_and_values_read_back(rt: HostRuntime) -> Result<(), Fault> {
-    for (name, measurement, key) in [
-        ("plain", "S<plain>", "S<plain>"),
-        ("with space", "C<with space>", "C<with space>"),
-        ("with,comma", "C<with,comma>", "C<with,comma>"),
-        ("with=eq", "S<with=eq>", "C<with=eq>"),
-        (
-            "with\"doublequote",
-            "S<with\"doublequote>",
-            "S<with\"doublequote>",
-        ),
-        (
-            "with'singlequote",
-            "S<with'singlequote>",
-            "S<with'singlequote>",
-        ),
-        (
-            "with\\ backslash",
-            "C<with\\ backslash>",
-            "C<with\\ backslash>",
-        ),
-    ] {
-        let builder = LineProtocolBuilder::new(rt.alloc());
+// Names, and what they read back as: a measurement, and any other name. They are those of the Rust crate's own tests.
+const NAMES: &[(&str, &str, &str)] = &[
+    ("plain", "S<plain>", "S<plain>"),
+    ("with space", "C<with space>", "C<with space>"),
+    ("with,comma", "C<with,comma>", "C<with,comma>"),
+    ("with=eq", "S<with=eq>", "C<with=eq>"),
+    (
+        "with\"doublequote",
+        "S<with\"doublequote>",
+        "S<with\"doublequote>",
+    ),
+    (
+        "with'singlequote",
+        "S<with'singlequote>",
+        "S<with'singlequote>",
+    ),
+    (
+        "with\\ backslash",
+        "C<with\\ backslash>",
+        "C<with\\ backslash>",
+    ),
+];
+
+// Each name reads back where it is all names of a line with each kind of value: the measurement and the keys so.
+fn read_back_with_each_value(
+    rt: &impl Abort,
+    alloc: Global,
+    rows: &[(&str, &str, &str)],
+) -> Result<(), Fault> {
+    for row in rows {
+        let (name, measurement, key) = *row;
+        let builder = LineProtocolBuilder::new(alloc);
         let builder = accepted(builder.measurement(name))?;
         let builder = accepted(builder.tag(name, name))?;
         let builder = accepted(builder.field(name, false))?;
@@ -145,84 +154,131 @@ fn names_and_values_read_back(rt: HostRuntime) -> Result<(), Fault> {
         let builder = accepted(accepted(builder.timestamp(1234))?.close_line())?;
         let bytes = builder.build();
         let text = str::from_utf8(bytes.as_slice())?;
-        let wanted = format!(in rt.alloc();
+        let wanted = format!(in alloc;
             "{measurement},{key}={key} {key}=false {key}=51i {key}=51u {key}=f<51> {key}=C<some \" value> at 1234"
         )?;
-        assert_eq!(rt; render::items(rt.alloc(), text)?.as_str(), wanted.as_str());
+        assert_eq!(rt; render::items(alloc, text)?.as_str(), wanted.as_str());
+    }
+    Ok(())
+}
+
+#[test]
+fn names_and_values_read_back(rt: HostRuntime) -> Result<(), Fault> {
+    read_back_with_each_value(&rt, rt.alloc(), NAMES)
+}
+
+// Each string is written so, and read back as this item.
+fn strings_read_back(
+    rt: &impl Abort,
+    alloc: Global,
+    rows: &[(&str, &str, &str)],
+) -> Result<(), Fault> {
+    for row in rows {
+        let (text, wanted, item) = *row;
+        let builder = LineProtocolBuilder::new(alloc);
+        let builder = accepted(accepted(builder.measurement("m"))?.field("s", text))?;
+        let bytes = accepted(builder.close_line())?.build();
+        let built = str::from_utf8(bytes.as_slice())?;
+        assert_eq!(rt; built, wanted);
+        assert_eq!(rt; render::items(alloc, built)?.as_str(), item);
     }
     Ok(())
 }
 
 #[test]
 fn strings_are_written_and_read_back_so(rt: HostRuntime) -> Result<(), Fault> {
-    for (text, wanted, item) in [
-        ("a\\", "m s=\"a\\\\\"\n", "S<m> S<s>=C<a\\>"),
-        (
-            "foo \\\" bar",
-            "m s=\"foo \\\\\\\" bar\"\n",
-            "S<m> S<s>=C<foo \\\" bar>",
-        ),
-        (
-            "foo \\ bar",
-            "m s=\"foo \\\\ bar\"\n",
-            "S<m> S<s>=C<foo \\ bar>",
-        ),
-        (
-            "some value",
-            "m s=\"some value\"\n",
-            "S<m> S<s>=S<some value>",
-        ),
-        ("", "m s=\"\"\n", "S<m> S<s>=S<>"),
-    ] {
-        let builder = LineProtocolBuilder::new(rt.alloc());
-        let builder = accepted(accepted(builder.measurement("m"))?.field("s", text))?;
-        let bytes = accepted(builder.close_line())?.build();
-        let built = str::from_utf8(bytes.as_slice())?;
-        assert_eq!(rt; built, wanted);
-        assert_eq!(rt; render::items(rt.alloc(), built)?.as_str(), item);
+    strings_read_back(
+        &rt,
+        rt.alloc(),
+        &[
+            ("a\\", "m s=\"a\\\\\"\n", "S<m> S<s>=C<a\\>"),
+            (
+                "foo \\\" bar",
+                "m s=\"foo \\\\\\\" bar\"\n",
+                "S<m> S<s>=C<foo \\\" bar>",
+            ),
+            (
+                "foo \\ bar",
+                "m s=\"foo \\\\ bar\"\n",
+                "S<m> S<s>=C<foo \\ bar>",
+            ),
+            (
+                "some value",
+                "m s=\"some value\"\n",
+                "S<m> S<s>=S<some value>",
+            ),
+            ("", "m s=\"\"\n", "S<m> S<s>=S<>"),
+        ],
+    )
+}
+
+// A line of each measurement and field key is written so, and read back as these items.
+fn names_read_back(
+    rt: &impl Abort,
+    alloc: Global,
+    rows: &[(&str, &str, &str, &str)],
+) -> Result<(), Fault> {
+    for row in rows {
+        let (measurement, key, bytes, wanted) = *row;
+        let builder = LineProtocolBuilder::new(alloc);
+        let builder = accepted(accepted(builder.measurement(measurement))?.field(key, 1i64))?;
+        let built = accepted(builder.close_line())?.build();
+        let text = str::from_utf8(built.as_slice())?;
+        assert_eq!(rt; text, bytes);
+        assert_eq!(rt; render::items(alloc, text)?.as_str(), wanted);
     }
     Ok(())
 }
 
 #[test]
 fn other_names_read_back_otherwise(rt: HostRuntime) -> Result<(), Fault> {
-    for (measurement, key, bytes, wanted) in [
-        ("", "f", " f=1i\n", "TakeWhile1"),
-        ("m", "", "m =1i\n", "FieldSetMissing"),
-        ("w\\", "f", "w\\\\ f=1i\n", "EndsWithBackslash"),
-        ("a\tb", "f", "a\tb f=1i\n", "TakeWhile1"),
-        ("w\\\t", "f", "w\\\\\t f=1i\n", "EndsWithBackslash"),
-    ] {
-        let builder = LineProtocolBuilder::new(rt.alloc());
-        let builder = accepted(accepted(builder.measurement(measurement))?.field(key, 1i64))?;
-        let built = accepted(builder.close_line())?.build();
+    names_read_back(
+        &rt,
+        rt.alloc(),
+        &[
+            ("", "f", " f=1i\n", "TakeWhile1"),
+            ("m", "", "m =1i\n", "FieldSetMissing"),
+            ("w\\", "f", "w\\\\ f=1i\n", "EndsWithBackslash"),
+            ("a\tb", "f", "a\tb f=1i\n", "TakeWhile1"),
+            ("w\\\t", "f", "w\\\\\t f=1i\n", "EndsWithBackslash"),
+        ],
+    )
+}
+
+// A line with each tag is written so, and read back as these items.
+fn tags_read_back(
+    rt: &impl Abort,
+    alloc: Global,
+    rows: &[(&str, &str, &str, &str)],
+) -> Result<(), Fault> {
+    for row in rows {
+        let (key, value, bytes, wanted) = *row;
+        let builder = LineProtocolBuilder::new(alloc);
+        let builder = accepted(accepted(builder.measurement("m"))?.tag(key, value))?;
+        let built = accepted(accepted(builder.field("f", 1i64))?.close_line())?.build();
         let text = str::from_utf8(built.as_slice())?;
         assert_eq!(rt; text, bytes);
-        assert_eq!(rt; render::items(rt.alloc(), text)?.as_str(), wanted);
+        assert_eq!(rt; render::items(alloc, text)?.as_str(), wanted);
     }
     Ok(())
 }
 
 #[test]
 fn tags_that_are_not_admitted_read_back_otherwise(rt: HostRuntime) -> Result<(), Fault> {
-    for (key, value, bytes, wanted) in [
-        ("", "v", "m,=v f=1i\n", "TagSetMalformed"),
-        ("k", "x\ny", "m,k=x\ny f=1i\n", "TakeWhile1|S<y> S<f>=1i"),
-        (
-            "k\\\nx",
-            "v",
-            "m,k\\\\\nx=v f=1i\n",
-            "EndsWithBackslash|S<x=v> S<f>=1i",
-        ),
-    ] {
-        let builder = LineProtocolBuilder::new(rt.alloc());
-        let builder = accepted(accepted(builder.measurement("m"))?.tag(key, value))?;
-        let built = accepted(accepted(builder.field("f", 1i64))?.close_line())?.build();
-        let text = str::from_utf8(built.as_slice())?;
-        assert_eq!(rt; text, bytes);
-        assert_eq!(rt; render::items(rt.alloc(), text)?.as_str(), wanted);
-    }
-    Ok(())
+    tags_read_back(
+        &rt,
+        rt.alloc(),
+        &[
+            ("", "v", "m,=v f=1i\n", "TagSetMalformed"),
+            ("k", "x\ny", "m,k=x\ny f=1i\n", "TakeWhile1|S<y> S<f>=1i"),
+            (
+                "k\\\nx",
+                "v",
+                "m,k\\\\\nx=v f=1i\n",
+                "EndsWithBackslash|S<x=v> S<f>=1i",
+            ),
+        ],
+    )
 }
 
 #[test]
@@ -275,31 +331,14 @@ fn true_line(
     Ok(builder.build())
 }
 
-// The names are those of the Rust crate's own tests.
-#[test]
-fn a_name_reads_back_in_each_place(rt: HostRuntime) -> Result<(), Fault> {
-    let alloc = rt.alloc();
-    for (name, measurement, key) in [
-        ("plain", "S<plain>", "S<plain>"),
-        ("with space", "C<with space>", "C<with space>"),
-        ("with,comma", "C<with,comma>", "C<with,comma>"),
-        ("with=eq", "S<with=eq>", "C<with=eq>"),
-        (
-            "with\"doublequote",
-            "S<with\"doublequote>",
-            "S<with\"doublequote>",
-        ),
-        (
-            "with'singlequote",
-            "S<with'singlequote>",
-            "S<with'singlequote>",
-        ),
-        (
-            "with\\ backslash",
-            "C<with\\ backslash>",
-            "C<with\\ backslash>",
-        ),
-    ] {
+// Each name reads back in each place of a line: as a measurement, and as any other name, so.
+fn read_back_in_each_place(
+    rt: &impl Abort,
+    alloc: Global,
+    rows: &[(&str, &str, &str)],
+) -> Result<(), Fault> {
+    for row in rows {
+        let (name, measurement, key) = *row;
         let mut batch = true_line(alloc, name, None, "dummy")?;
         batch.append(&mut true_line(alloc, "m", Some((name, "dummy")), "dummy")?)?;
         batch.append(&mut true_line(alloc, "m", Some(("dummy", name)), "dummy")?)?;
@@ -311,6 +350,11 @@ fn a_name_reads_back_in_each_place(rt: HostRuntime) -> Result<(), Fault> {
         assert_eq!(rt; rendered.as_str(), wanted.as_str());
     }
     Ok(())
+}
+
+#[test]
+fn a_name_reads_back_in_each_place(rt: HostRuntime) -> Result<(), Fault> {
+    read_back_in_each_place(&rt, rt.alloc(), NAMES)
 }
 
 #[test]

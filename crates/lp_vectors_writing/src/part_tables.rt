@@ -4,36 +4,18 @@ use influxdb_line_protocol::Dialect;
 use lp_rebuild::{part_ends, rebuild_in};
 use lp_vectors::fault::Fault;
 use std::alloc::Global;
+use std::process::Abort;
 
-#[test]
-fn lines_are_parted_so(rt: HostRuntime) -> Result<(), Fault> {
-    for (text, count, wanted) in [
-        ("m a=1i\nm a=2i\nm a=3i\n", 0, [21].as_slice()),
-        ("m a=1i\nm a=2i\nm a=3i\n", 1, [21].as_slice()),
-        ("m a=1i\nm a=2i\nm a=3i\n", 2, [14, 21].as_slice()),
-        ("m a=1i\nm a=2i\nm a=3i\n", 3, [7, 14, 21].as_slice()),
-        ("m a=1i\nm a=2i\nm a=3i\n", 4, [7, 14, 21, 21].as_slice()),
-        // There are more parts than lines, and the last line ends with the text.
-        ("m a=1i\nm a=2i", 2, [7, 13].as_slice()),
-        ("m a=1i\nm a=2i", 3, [7, 7, 13].as_slice()),
-        ("m a=1i", 2, [0, 6].as_slice()),
-        ("a\n", 5, [0, 0, 2, 2, 2].as_slice()),
-        ("", 3, [0, 0, 0].as_slice()),
-        // The newline between the quotes ends no line.
-        ("m s=\"a\nb\"\nn c=1i", 2, [10, 16].as_slice()),
-        ("m s=\"a\nb\"\nn c=1i", 4, [10, 10, 10, 16].as_slice()),
-        // Nor does the newline after the backslash.
-        ("m\\\n a=1i\nn b=1i\n", 4, [9, 9, 16, 16].as_slice()),
-        (
-            "m\\\n a=1i\nn b=1i\n",
-            8,
-            [9, 9, 9, 9, 16, 16, 16, 16].as_slice(),
-        ),
-        // A quote that is not closed takes all lines after it.
-        ("m a=1i\nm s=\"\nm a=1i\n", 3, [7, 7, 20].as_slice()),
-    ] {
+// Each text is cut into so many parts at these ends, in both dialects.
+fn are_parted_so(
+    rt: &impl Abort,
+    alloc: Global,
+    rows: &[(&str, usize, &[usize])],
+) -> Result<(), Fault> {
+    for row in rows {
+        let (text, count, wanted) = *row;
         for dialect in [Dialect::Crate, Dialect::Strict] {
-            let ends = part_ends(rt.alloc(), dialect, text.as_bytes(), count)?;
+            let ends = part_ends(alloc, dialect, text.as_bytes(), count)?;
             assert_eq!(rt; ends.as_slice(), wanted, "{count} parts of {text}");
         }
     }
@@ -41,29 +23,76 @@ fn lines_are_parted_so(rt: HostRuntime) -> Result<(), Fault> {
 }
 
 #[test]
-fn comments_are_parted_by_the_rules_of_the_dialect(rt: HostRuntime) -> Result<(), Fault> {
-    for (dialect, text, count, wanted) in [
-        // A quote opens in the comment.
-        (Dialect::Crate, "# a=\"\nm b=1i\n", 2, [0, 13].as_slice()),
-        (Dialect::Strict, "# a=\"\nm b=1i\n", 2, [6, 13].as_slice()),
-        // A backslash ends it.
-        (
-            Dialect::Crate,
-            "# c\\\nm a=1i\n",
-            3,
-            [12, 12, 12].as_slice(),
-        ),
-        (
-            Dialect::Strict,
-            "# c\\\nm a=1i\n",
-            3,
-            [5, 12, 12].as_slice(),
-        ),
-    ] {
-        let ends = part_ends(rt.alloc(), dialect, text.as_bytes(), count)?;
+fn lines_are_parted_so(rt: HostRuntime) -> Result<(), Fault> {
+    are_parted_so(
+        &rt,
+        rt.alloc(),
+        &[
+            ("m a=1i\nm a=2i\nm a=3i\n", 0, [21].as_slice()),
+            ("m a=1i\nm a=2i\nm a=3i\n", 1, [21].as_slice()),
+            ("m a=1i\nm a=2i\nm a=3i\n", 2, [14, 21].as_slice()),
+            ("m a=1i\nm a=2i\nm a=3i\n", 3, [7, 14, 21].as_slice()),
+            ("m a=1i\nm a=2i\nm a=3i\n", 4, [7, 14, 21, 21].as_slice()),
+            // There are more parts than lines, and the last line ends with the text.
+            ("m a=1i\nm a=2i", 2, [7, 13].as_slice()),
+            ("m a=1i\nm a=2i", 3, [7, 7, 13].as_slice()),
+            ("m a=1i", 2, [0, 6].as_slice()),
+            ("a\n", 5, [0, 0, 2, 2, 2].as_slice()),
+            ("", 3, [0, 0, 0].as_slice()),
+            // The newline between the quotes ends no line.
+            ("m s=\"a\nb\"\nn c=1i", 2, [10, 16].as_slice()),
+            ("m s=\"a\nb\"\nn c=1i", 4, [10, 10, 10, 16].as_slice()),
+            // Nor does the newline after the backslash.
+            ("m\\\n a=1i\nn b=1i\n", 4, [9, 9, 16, 16].as_slice()),
+            (
+                "m\\\n a=1i\nn b=1i\n",
+                8,
+                [9, 9, 9, 9, 16, 16, 16, 16].as_slice(),
+            ),
+            // A quote that is not closed takes all lines after it.
+            ("m a=1i\nm s=\"\nm a=1i\n", 3, [7, 7, 20].as_slice()),
+        ],
+    )
+}
+
+// Each text is cut into so many parts at these ends, in this dialect.
+fn are_parted_so_in(
+    rt: &impl Abort,
+    alloc: Global,
+    rows: &[(Dialect, &str, usize, &[usize])],
+) -> Result<(), Fault> {
+    for row in rows {
+        let (dialect, text, count, wanted) = *row;
+        let ends = part_ends(alloc, dialect, text.as_bytes(), count)?;
         assert_eq!(rt; ends.as_slice(), wanted, "{count} parts of {text}");
     }
     Ok(())
+}
+
+#[test]
+fn comments_are_parted_by_the_rules_of_the_dialect(rt: HostRuntime) -> Result<(), Fault> {
+    are_parted_so_in(
+        &rt,
+        rt.alloc(),
+        &[
+            // A quote opens in the comment.
+            (Dialect::Crate, "# a=\"\nm b=1i\n", 2, [0, 13].as_slice()),
+            (Dialect::Strict, "# a=\"\nm b=1i\n", 2, [6, 13].as_slice()),
+            // A backslash ends it.
+            (
+                Dialect::Crate,
+                "# c\\\nm a=1i\n",
+                3,
+                [12, 12, 12].as_slice(),
+            ),
+            (
+                Dialect::Strict,
+                "# c\\\nm a=1i\n",
+                3,
+                [5, 12, 12].as_slice(),
+            ),
+        ],
+    )
 }
 
 #[test]
@@ -109,16 +138,10 @@ fn rebuilt_apart(
     Ok((batch, carried, refused))
 }
 
-#[test]
-fn parts_are_rebuilt_as_the_text_is(rt: HostRuntime) -> Result<(), Fault> {
-    let alloc = rt.alloc();
-    for text in [
-        "m a=T 5\n# c\nx\nw\\\t a=1i\n",
-        "m s=\"a\nb\\\"\n\" 7\n\nn c=1i",
-        "m\\\n a=1i\n,x\nm é=1i\n",
-        "# a=\"\nm b=1i\n# c\\\nn d=2i\n\n\n x=\"\n",
-        "",
-    ] {
+// The parts of each text, however many, are rebuilt as the whole is.
+fn are_rebuilt_apart(rt: &impl Abort, alloc: Global, rows: &[&str]) -> Result<(), Fault> {
+    for row in rows {
+        let text = *row;
         for dialect in [Dialect::Crate, Dialect::Strict] {
             let whole = rebuild_in(alloc, dialect, text)?;
             for count in 0..12 {
@@ -134,4 +157,19 @@ fn parts_are_rebuilt_as_the_text_is(rt: HostRuntime) -> Result<(), Fault> {
         }
     }
     Ok(())
+}
+
+#[test]
+fn parts_are_rebuilt_as_the_text_is(rt: HostRuntime) -> Result<(), Fault> {
+    are_rebuilt_apart(
+        &rt,
+        rt.alloc(),
+        &[
+            "m a=T 5\n# c\nx\nw\\\t a=1i\n",
+            "m s=\"a\nb\\\"\n\" 7\n\nn c=1i",
+            "m\\\n a=1i\n,x\nm é=1i\n",
+            "# a=\"\nm b=1i\n# c\\\nn d=2i\n\n\n x=\"\n",
+            "",
+        ],
+    )
 }

@@ -6,6 +6,7 @@ use lp_rebuild::{DeviceFault, Kept, RunFault, Source, rebuild, relay, relay_in};
 use lp_vectors::drops::{Basin, Trickle};
 use lp_vectors::fault::Fault;
 use std::alloc::Global;
+use std::process::Abort;
 
 const TEXT: &[u8] = b"m a=T 5\n# c\nx\nw\\\t a=1i\n";
 
@@ -43,17 +44,10 @@ impl<'a> Source for Cut<'a> {
     }
 }
 
-#[test]
-fn a_text_that_is_cut_at_each_place_is_relayed_as_it_is_rebuilt(
-    rt: HostRuntime,
-) -> Result<(), Fault> {
-    let alloc = rt.alloc();
-    for text in [
-        "m a=T 5\n# c\nx\nw\\\t a=1i\n",
-        "m s=\"a\nb\\\"\n\" 7\n\nn c=1i",
-        "m\\\n a=1i\n,x\nm é=1i\n",
-        "",
-    ] {
+// Each text is relayed as it is rebuilt, wherever it is cut into two reads.
+fn are_relayed_as_rebuilt(rt: &impl Abort, alloc: Global, rows: &[&str]) -> Result<(), Fault> {
+    for row in rows {
+        let text = *row;
         let rebuilt = rebuild(alloc, text)?;
         for first in 0..text.len() {
             let mut reader = Cut {
@@ -80,6 +74,22 @@ fn a_text_that_is_cut_at_each_place_is_relayed_as_it_is_rebuilt(
         }
     }
     Ok(())
+}
+
+#[test]
+fn a_text_that_is_cut_at_each_place_is_relayed_as_it_is_rebuilt(
+    rt: HostRuntime,
+) -> Result<(), Fault> {
+    are_relayed_as_rebuilt(
+        &rt,
+        rt.alloc(),
+        &[
+            "m a=T 5\n# c\nx\nw\\\t a=1i\n",
+            "m s=\"a\nb\\\"\n\" 7\n\nn c=1i",
+            "m\\\n a=1i\n,x\nm é=1i\n",
+            "",
+        ],
+    )
 }
 
 #[test]
@@ -175,21 +185,36 @@ fn each_pause_of_the_input_flushes(rt: HostRuntime) {
     assert_eq!(rt; ended.err.flushes(), TEXT.len() + 1);
 }
 
-#[test]
-fn what_came_before_a_fault_of_the_reader_is_written(rt: HostRuntime) {
-    let first = b"item 2: A generic parsing error occurred: TakeWhile1\n".as_slice();
-    for (reader_at, out, err) in [
-        (1, b"".as_slice(), b"".as_slice()),
-        (8, b"".as_slice(), b"".as_slice()),
-        (9, OUT, b"".as_slice()),
-        (15, OUT, first),
-        (24, OUT, ERR),
-    ] {
-        let ended = relay_with(rt.alloc(), reader_at, 0, 0);
+// A reader that fails at each of these reads leaves these outputs.
+fn read_faults_leave(
+    rt: &impl Abort,
+    alloc: Global,
+    rows: &[(usize, &[u8], &[u8])],
+) -> Result<(), Fault> {
+    for row in rows {
+        let (reader_at, out, err) = *row;
+        let ended = relay_with(alloc, reader_at, 0, 0);
         assert_eq!(rt; ended.fault, Some(RunFault::Read), "at {reader_at}");
         assert_eq!(rt; ended.out.as_slice(), out, "at {reader_at}");
         assert_eq!(rt; ended.err.as_slice(), err, "at {reader_at}");
     }
+    Ok(())
+}
+
+#[test]
+fn what_came_before_a_fault_of_the_reader_is_written(rt: HostRuntime) -> Result<(), Fault> {
+    let first = b"item 2: A generic parsing error occurred: TakeWhile1\n".as_slice();
+    read_faults_leave(
+        &rt,
+        rt.alloc(),
+        &[
+            (1, b"".as_slice(), b"".as_slice()),
+            (8, b"".as_slice(), b"".as_slice()),
+            (9, OUT, b"".as_slice()),
+            (15, OUT, first),
+            (24, OUT, ERR),
+        ],
+    )
 }
 
 #[test]
