@@ -157,9 +157,15 @@ uint32_t lp_line_write(const lp_line *line, const lp_part *parts, size_t parts_l
 /* The line as it is shown: strings have no quotes, and there is no newline. */
 uint32_t lp_line_show(const lp_line *line, const lp_part *parts, size_t parts_len, uint8_t *out, size_t room, size_t *len);
 
-/* The text that tells the series of the line from others; fields are not looked at. LP_FAULT: a key of the tags is repeated,
- * and that key is put out. */
+/* The base of the series of the line: measurement and tags, in the order of their keys; fields are not looked at. LP_FAULT: a
+ * key of the tags is repeated, and that key is put out. A base tells its series from others where lp_line_is_base_safe holds for
+ * both: `m,a=1\,b\=2` and `m,a=1,b=2` are two series with one base, `m,\,=v` and `m,,=v` are one series with two. */
 uint32_t lp_line_base(const lp_line *line, const lp_part *parts, size_t parts_len, uint8_t *out, size_t room, size_t *len);
+
+/* Whether the base of the line is safe to group by. LP_WRITTEN: `safe` says so: no measurement and no tag value holds a comma, no
+ * tag key an `=`, and no name is a comma, a space or, in a tag, an `=` alone. Where two lines that were read are safe and have
+ * bases, their bases are the same exactly where measurement and tags are. With at most eight tags it takes no memory. */
+uint32_t lp_line_is_base_safe(const lp_line *line, const lp_part *parts, size_t parts_len, bool *safe);
 
 /* Whether the line reads back where it is written: whether each of its names is admitted. LP_WRITTEN: `admitted` says so.
  * With at most eight tags and four fields it takes no memory. */

@@ -16,6 +16,9 @@ static const char TEXT[] = "c\\ pu,h\\=ost=A\\ B,zone=w msg=\"a\\\"b\",up=t 5\nm
 #define MANY "m,a=1,b=1,c=1,d=1,e=1,f=1,g=1,h=1,i=1 a=1,b=1,c=1,d=1,e=1"
 static const char GROWN[] = MANY "\n" MANY " rest";
 
+/* Two lines, of which the second one holds copies: a block of two rows ends after it. */
+static const char COPIED[] = "m f=1\nc\\ pu,h\\=ost=A\\ B s=\"\\\"q\"";
+
 /* Each lent block is of just the length that was asked for, so that the address sanitizer sees what is touched past it. */
 static struct seen read_all(const uint8_t *text, size_t len, bool strict) {
     struct seen seen = { 0, 0, 0, 0, 0, 0 };
@@ -54,11 +57,11 @@ static struct seen read_blocks(const uint8_t *text, size_t len, size_t parts_len
     struct seen seen = { 0, 0, 0, 0, 0, 0 };
     lp_lines lines = LP_NO_LINES;
     lp_row rows[2] = { LP_EMPTY_ROW, LP_EMPTY_ROW };
-    lp_part parts[8];
+    lp_part parts[16];
     uint8_t bytes[64];
     size_t filled = 0;
     uint32_t answer = lp_lines_begin(text, len, false, &lines) ? LP_LINE : LP_END;
-    lp_empty_parts(parts, 8);
+    lp_empty_parts(parts, 16);
     while (answer != LP_END) {
         lp_room room = { bytes, bytes_len };
         answer = lp_lines_block(&lines, &room, rows, 2, parts, parts_len, &filled);
@@ -122,6 +125,9 @@ int main(void) {
     long grown_requests = lp_requests;
     failed |= more.lines != 1 || more.faults != 1 || more.others || more.out_of_memory || grown_requests < 4;
     failed |= refuse_each(grown, grown_len, grown_requests, 2);
+    struct seen blocks = read_blocks(grown, grown_len, 16, 64);
+    struct seen copies = read_blocks((const uint8_t *)COPIED, sizeof COPIED - 1, 16, 64);
+    failed |= blocks.lines != 1 || blocks.faults != 1 || blocks.others || copies.lines != 2 || copies.faults || copies.others;
     free(grown);
     free(text);
     printf("%d lines, %d faults, more parts %d times, more room %d times; each of %ld requests refused in turn\n",

@@ -79,6 +79,47 @@ static bool is_tested(void) {
     return good && lp_line_is_admitted(&line, PARTS, 7, &admitted) == LP_WRITTEN && !admitted;
 }
 
+/* Reads the one line of a text: whether its base is safe to group by is as wanted, and so is the base. */
+static bool has_base(const char *text, bool wanted, const char *base) {
+    lp_lines lines = LP_NO_LINES;
+    lp_line line = LP_EMPTY_LINE;
+    lp_part parts[10];
+    uint8_t bytes[32], out[32];
+    lp_room room = { bytes, sizeof bytes };
+    size_t len = 0;
+    bool safe = !wanted;
+    lp_empty_parts(parts, 10);
+    bool good = lp_lines_begin((const uint8_t *)text, strlen(text), false, &lines);
+    good = good && lp_lines_next(&lines, &room, &line, parts, 10) == LP_LINE;
+    good = good && lp_line_is_base_safe(&line, parts, 10, &safe) == LP_WRITTEN && safe == wanted;
+    return good && lp_line_base(&line, parts, 10, out, sizeof out, &len) == LP_WRITTEN && len == strlen(base) &&
+           memcmp(out, base, len) == 0;
+}
+
+/* The second series is none of the first's, and has its base; the two after it are one series, with two bases. */
+static bool are_bases_safe(void) {
+    return has_base("m,b=2,a=1 f=t", true, "m,a=1,b=2") && has_base("m,a=1\\,b\\=2 f=t", false, "m,a=1,b=2") &&
+           has_base("m,\\,=v f=t", false, "m,\\,=v") && has_base("m,,=v f=t", false, "m,,=v") &&
+           has_base("m\\,n f=t", false, "m,n") && has_base("m,k\\=l=v f=t", false, "m,k=l=v") &&
+           has_base("m,k\\,l=\\=\\  f=t", true, "m,k,l== ") && has_base("\\  f=t", false, "\\ ");
+}
+
+/* With nine tags a test may ask for memory: where it is refused, and where there is no series, nothing is told. */
+static bool is_nothing_told(void) {
+    const lp_part parts[] = { PARTS[1], PARTS[1], PARTS[1], PARTS[1], PARTS[1], PARTS[1], PARTS[1], PARTS[1], PARTS[1], PARTS[2] };
+    lp_line line = LINE;
+    bool told = true, good = true;
+    line.tags = 9, line.fields = 1;
+    lp_requests = 0, lp_refused = 0;
+    good &= lp_line_is_base_safe(&line, parts, 10, &told) == LP_OUT_OF_MEMORY && told;
+    lp_requests = 0;
+    good &= lp_line_is_admitted(&line, parts, 10, &told) == LP_OUT_OF_MEMORY && told;
+    lp_refused = -1;
+    line.tags = 10;
+    good &= lp_line_is_base_safe(&line, parts, 10, &told) == LP_NOT_A_LINE && told;
+    return good & (lp_line_is_admitted(&line, parts, 10, &told) == LP_NOT_A_LINE) & told;
+}
+
 /* The second item has no field. */
 static bool is_rebuilt(void) {
     static const char text[] = "m f=1i 5\nm f\n b,x=y  g=t\n", carried[] = "m f=1i 5\nb,x=y g=true\n";
@@ -101,7 +142,7 @@ int main(void) {
     good &= writes(lp_line_show, &LINE, PARTS, LP_WRITTEN, SHOWN, sizeof SHOWN - 1);
     good &= writes(lp_line_base, &LINE, PARTS, LP_WRITTEN, BASE, sizeof BASE - 1);
     good &= writes(lp_line_base, &LINE, repeated, LP_FAULT, "k", 1);
-    good &= is_tested() && is_rebuilt();
+    good &= is_tested() && are_bases_safe() && is_nothing_told() && is_rebuilt();
     long requests = refused(lp_line_write, sizeof WRITTEN - 1, &good) + refused(lp_line_show, sizeof SHOWN - 1, &good);
     requests += refused(lp_line_base, sizeof BASE - 1, &good);
     printf("lines, bases and rebuilt texts written, each of %ld requests refused in turn\n", requests);

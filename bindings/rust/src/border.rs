@@ -210,12 +210,24 @@ extern "C" {
         room: usize,
         len: *mut usize,
     ) -> u32;
+    pub(crate) fn lp_line_is_base_safe(line: *const Line<'_>, parts: *const Part<'_>, parts_len: usize, safe: *mut bool) -> u32;
 }
 
 /// Ends as a refused request of the standard library does.
 #[cold]
 pub(crate) fn refuse_memory() -> ! {
     alloc::handle_alloc_error(alloc::Layout::new::<Line<'_>>())
+}
+
+/// Whether the base of this line is safe to group by.
+pub(crate) fn is_base_safe(line: &Line<'_>, parts: &[Part<'_>]) -> bool {
+    let mut safe = false;
+    // SAFETY: each pointer is that of a borrow, and `safe` is apart from what is read.
+    let answer = unsafe { lp_line_is_base_safe(line, parts.as_ptr(), parts.len(), &mut safe) };
+    if answer == answer::OUT_OF_MEMORY {
+        refuse_memory()
+    }
+    safe
 }
 
 // What a call answers over this buffer, and the length that it tells.

@@ -16,7 +16,7 @@ pub(crate) struct Given {
 
 fn given(at: *mut c_void) -> Given {
     if at.is_null() {
-        Given { ok: 0, at: ptr::dangling_mut::<u128>().cast() }
+        Given { ok: 0, at: ptr::NonNull::<u128>::dangling().as_ptr().cast() }
     } else {
         Given { ok: 1, at }
     }

@@ -134,8 +134,10 @@ impl<'a> Series<'a> {
         self.measurement.is_escaped() || tags.any(|(key, value)| key.is_escaped() || value.is_escaped())
     }
 
-    /// The text that tells this series from others: its tags are sorted, and escapes are gone. A key that is repeated is an
-    /// error.
+    /// The measurement and the tags, in the order of their keys. A key that is repeated is an error.
+    ///
+    /// A base tells its series from others where [`Series::is_base_safe`] holds for both: `m,a=1\,b\=2` and `m,a=1,b=2` are two
+    /// series with one base, `m,\,=v` and `m,,=v` are one series with two.
     ///
     /// ```
     /// let line = influxdb_line_protocol::parse_lines("m,b=2,a=1 f=1i").next().unwrap().unwrap();
@@ -152,6 +154,21 @@ impl<'a> Series<'a> {
                 _ => unreachable!("a series was refused"),
             }
         })
+    }
+
+    /// Whether the base of this series is safe to group by: no measurement and no tag value holds a comma, no tag key an `=`,
+    /// and no name is a comma, a space or, in a tag, an `=` alone.
+    ///
+    /// Where two series that were read are safe and have bases, their bases are the same exactly where measurement and tags are.
+    ///
+    /// ```
+    /// let line = influxdb_line_protocol::parse_lines("m,a=1\\,b\\=2 f=1i").next().unwrap().unwrap();
+    /// assert!(!line.series.is_base_safe());
+    /// assert_eq!(line.series.generate_base().unwrap(), "m,a=1,b=2");
+    /// ```
+    pub fn is_base_safe(&self) -> bool {
+        let (line, tags) = self.handed();
+        border::is_base_safe(&line, &tags)
     }
 }
 

@@ -102,6 +102,30 @@ fn bases_are_borrowed_where_nothing_changes() {
 }
 
 #[test]
+fn bases_are_safe_where_no_name_divides_them_or_is_one_escape_alone() {
+    let rows = [
+        ("m", true),
+        ("m,a=1,b=2", true),
+        ("m\\ n,a\\,b=1\\=2", true),
+        ("m,a=1\\,b\\=2", false),
+        ("m\\,n", false),
+        ("m,a\\=b=1", false),
+        ("\\ ,a=1", false),
+        ("m,\\,=v", false),
+        ("m,,=v", false),
+        ("m,a=\\=", false),
+        ("m,a=1,b=2,c=3,d=4,e=5,f=6,g=7,h=8,i=9", true),
+        ("m,a=1,b=2,c=3,d=4,e=5,f=6,g=7,h=8,i=\\,9", false),
+    ];
+    for (series, safe) in rows {
+        assert_eq!(line(&format!("{series} f=1i")).series.is_base_safe(), safe, "{series}");
+    }
+    let base = |series: &str| line(&format!("{series} f=1i")).series.generate_base().unwrap().into_owned();
+    assert_eq!(base("m,a=1\\,b\\=2"), base("m,a=1,b=2"));
+    assert_eq!((base("m,\\,=v"), base("m,,=v")), ("m,\\,=v".into(), "m,,=v".into()));
+}
+
+#[test]
 fn lines_that_are_no_line_protocol_are_shown() {
     let mut read = line("m\\ n,k=a\\,b f=1e999,g=\"q\\\"\" 5");
     assert_eq!(read.to_string(), "m\\ n,k=a\\,b f=inf,g=q\\\" 5");

@@ -1,24 +1,30 @@
-//! The base of a series: the text that tells it from other series.
+//! The base of a series: a text by which series can be grouped, and a test of whether this one can.
 
-ghost use Rattle.std.specs.Prelude.{◌≡◌, ◌&&◌, ◌-◌, ◌^◌, ◌++◌, IfOk, OnOk, length, map, min, true, string_bytes};
-ghost use Rattle.std.specs.List.{list_all};
+ghost use Rattle.std.specs.Prelude.{◌≡◌, ◌&&◌, ◌-◌, ◌^◌, ◌++◌, IfOk, OnOk, length, map, min, not, true, string_bytes};
+ghost use Rattle.std.specs.List.{list_all, list_any};
 ghost use Rattle.std.specs.Option.{option_map};
 ghost use Rattle.influxdb_line_protocol.specs.code.Bases.{GivesBase, GivesMap, GivesOwned, base_by_key, base_of, base_text, based_tag};
-ghost use Rattle.influxdb_line_protocol.specs.code.Bases.{entry_bytes, in_order, is_borrowed, keys_of, is_strictly_sorted};
+ghost use Rattle.influxdb_line_protocol.specs.code.Bases.{entry_bytes, in_order, is_ambiguous_name, is_ambiguous_tag, is_base_safe, is_borrowed};
+ghost use Rattle.influxdb_line_protocol.specs.code.Bases.{is_byte_alone, is_strictly_sorted, keys_of};
 ghost use Rattle.influxdb_line_protocol.specs.code.Light.{is_single_tag};
+ghost use Rattle.influxdb_line_protocol.specs.format.Bytes.{is_one_of};
 ghost use Rattle.influxdb_line_protocol.specs.format.Lines.{some_tags};
 ghost use Rattle.influxdb_line_protocol.specs.code.Outcomes.{IsNotOutOfMemory};
 ghost use Rattle.influxdb_line_protocol.specs.code.Parsed.{tag_of, tags_of};
-ghost use Rattle.influxdb_line_protocol.specs.code.Texts.{is_single_slice, read_of};
+ghost use Rattle.influxdb_line_protocol.specs.code.Texts.{is_single_slice, read_of, text_of};
+ghost use Rattle.influxdb_line_protocol.specs.code.Tokens.{known_of};
 
+use crate::sets::TokenKind;
 use crate::{Error, EscapedStr, Result, Series, TagSet};
 use std::alloc::{AllocError, Global};
 use std::borrow::CowStr;
 use std::collections::BTreeMap;
 
 impl<'a> Series<'a> {
-    /// The text that tells this series from others: its measurement, and its tags in the order of
-    /// their keys, by bytes.
+    /// A text by which series can be grouped: the measurement, and the tags in the order of their keys, by bytes.
+    ///
+    /// It tells this series from others if [`is_base_safe`](Self::is_base_safe), and else it may not: `m,a=1\,b\=2` and
+    /// `m,a=1,b=2` are two series with one base, and `m,\,=v` and `m,,=v` one series with two.
     ///
     /// Where each key is greater than the one before it and no name is a copy, it is `raw_input`,
     /// borrowed; that takes no memory and is never refused. Else it is a text of its own, unescaped.
@@ -38,6 +44,75 @@ impl<'a> Series<'a> {
     {
         base(alloc, self.raw_input, &self.measurement, self.tags())
     }
+
+    /// Whether the base of this series is safe to group by.
+    ///
+    /// It is if the measurement and the tag values hold no comma and the tag keys no `=`, which divide the names in a base, and
+    /// no name is one byte alone that a backslash may escape in it, such as the tag key `,`: some bases have the backslash
+    /// then, and some do not. Two series that were read, that repeat no key, and whose bases are both safe, have the same base
+    /// exactly if they have the same measurement and the same tags, in any order; `laws::bases_tell_series` says so.
+    ///
+    /// It takes no memory, and reads each name once.
+    ///
+    /// ```text
+    /// m,a=1,b=2      true
+    /// m,a=1\,b\=2    false: the value holds a comma
+    /// m,\,=v         false: the key is a comma alone
+    /// m,,=v          false: it is the same series
+    /// ```
+    pub fn is_base_safe(&self) -> bool
+        ensures { result ≡ is_base_safe (read_of self.now.measurement) (some_tags (option_map tags_of self.now.tag_set)) }
+    {
+        !is_ambiguous(&self.measurement, self.tags())
+    }
+}
+
+// Whether the byte is among these.
+fn has_byte(bytes: &[u8], wanted: u8) -> bool
+    ensures { result ≡ is_one_of bytes.now wanted }
+{
+    bytes.iter().any(|byte| *byte == wanted)
+}
+
+// Whether a name is one byte that a backslash may escape in it.
+fn is_known_alone(kind: TokenKind, name: &[u8]) -> bool
+    ensures { result ≡ is_byte_alone (known_of kind) name.now }
+{
+    match name {
+        [byte] => kind.is_known(*byte),
+        _ => false,
+    }
+}
+
+// Whether a name is ambiguous in a base, where this byte divides it from the next name.
+fn is_ambiguous_name(kind: TokenKind, divider: u8, name: &EscapedStr<'_>) -> bool
+    ensures { result ≡ is_ambiguous_name (known_of kind) divider (text_of name.now) }
+{
+    let bytes = name.as_str().as_bytes();
+    has_byte(bytes, divider) || is_known_alone(kind, bytes)
+}
+
+// Whether a name of the tag is ambiguous in a base.
+fn is_ambiguous_tag<'a>(key: &EscapedStr<'a>, value: &EscapedStr<'a>) -> bool
+    ensures { result ≡ is_ambiguous_tag (tag_of (key.now, value.now)) }
+{
+    is_ambiguous_name(TokenKind::TagKey, b'=', key)
+        || is_ambiguous_name(TokenKind::TagValue, b',', value)
+}
+
+// Whether a name of some tag is ambiguous in a base.
+fn is_some_ambiguous<'a>(tags: &[(EscapedStr<'a>, EscapedStr<'a>)]) -> bool
+    ensures { result ≡ list_any (λ t. is_ambiguous_tag (tag_of t)) tags.now }
+{
+    tags.iter().any(|(key, value)| is_ambiguous_tag(key, value))
+}
+
+// Whether a name of the measurement or of the tags is ambiguous in their base.
+#[tactic(auto, using(crate::proofs::lemmas::series::BaseLemmas::any_ambiguous))]
+fn is_ambiguous<'a>(measurement: &EscapedStr<'a>, tags: &[(EscapedStr<'a>, EscapedStr<'a>)]) -> bool
+    ensures { not result ≡ is_base_safe (read_of measurement.now) (map tag_of tags.now) }
+{
+    is_ambiguous_name(TokenKind::Measurement, b',', measurement) || is_some_ambiguous(tags)
 }
 
 // The base of a series with this raw text, measurement and tags.

@@ -8,6 +8,7 @@ ghost use Rattle.influxdb_line_protocol.specs.laws.PointsOfLines.{LinesArePoints
 ghost use Rattle.influxdb_line_protocol.specs.laws.GivenItems.{ItemsAreOfPieces, ItemsAreAnswers, ItemsSoFar, GivenLinesWereRead};
 ghost use Rattle.influxdb_line_protocol.specs.laws.BaseLaws.{ClearSeriesHaveBases, SameSeriesHaveOneBase, TagsByKeyAreSorted};
 ghost use Rattle.influxdb_line_protocol.specs.laws.BaseLaws.{OneBaseIsOneSeries, PlainSeriesAreClear, ReadSeriesAreParsed};
+ghost use Rattle.influxdb_line_protocol.specs.laws.BaseLaws.{SafeBasesTellSeries, SameSeriesAreSafeAlike};
 ghost use Rattle.influxdb_line_protocol.specs.laws.Meanings.{LogicalIsWithoutEscapes, TheMostIsRead, TheNextHasTheFault, TheFirstMisses};
 ghost use Rattle.influxdb_line_protocol.specs.laws.Meanings.{CountIsOfTheMost, FloatFrontIsFloat, FloatFrontIsLongest, WordFrontIsWord};
 ghost use Rattle.influxdb_line_protocol.specs.laws.Meanings.{WordFrontIsLongest, TrimmedIsAfterBlanks, TrimmedFrontIsLongest};
@@ -160,10 +161,16 @@ pub fn tags_by_key_are_sorted()
 /// only then. A raw text without a backslash meets all that this asks of names. The series of each
 /// line that is read is a parsed one: it is the front of the line that was read as measurement and
 /// tags, and alone it reads to the same.
+///
+/// Where two parsed series repeat no key, and their bases are both safe to group by, as
+/// [`Series::is_base_safe`](crate::Series::is_base_safe) tells, the bases are equal exactly if the measurements and the sets
+/// of tags are. The same series are safe alike, however they are spelled.
 pub fn bases_tell_series()
     ensures exist { ClearSeriesHaveBases }
     ensures same { SameSeriesHaveOneBase }
     ensures only { OneBaseIsOneSeries }
     ensures plain { PlainSeriesAreClear }
     ensures read { ReadSeriesAreParsed }
+    ensures safe { SafeBasesTellSeries }
+    ensures alike { SameSeriesAreSafeAlike }
 {}

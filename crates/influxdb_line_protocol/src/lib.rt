@@ -1,7 +1,8 @@
 //! Reads and writes InfluxDB line protocol.
 //!
-//! [`parse_lines`] reads a text line by line: a line that cannot be read is one fault, and the next
-//! lines are answered as if it had not been there. [`builder`] writes lines that read back.
+//! [`parse_lines`] reads a text piece by piece: a piece that cannot be read is one fault, and the next pieces are answered as
+//! if it had not been there. A piece is a line, together with the lines after it that it takes in: those inside its quotes,
+//! and the line after a backslash at its end. [`builder`] writes lines that read back.
 #![tactic(auto)]
 
 mod base;
@@ -33,5 +34,5 @@ pub use line::{ParseLines, parse_lines, parse_lines_in};
 pub use literals::FloatText;
 pub use parsed::{FieldSet, ParsedLine, Series, TagSet};
 pub use split::{Dialect, SplitLines, split_lines, split_lines_in};
-pub use stream::{BoundedLineStream, LineStream, TooLong};
+pub use stream::{BoundedLineStream, LineStream, PieceTooLong};
 pub use values::FieldValue;

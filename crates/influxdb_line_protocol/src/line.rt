@@ -237,10 +237,13 @@ impl<'a> ParseLines<'a> {
     }
 }
 
-/// Reads the lines of a text, one item a line.
+/// Reads the pieces of a text, one item for each that holds more than blanks and comments.
 ///
-/// A line that cannot be read is one `Err`, and the next lines are answered as if it had not been
-/// there. A refused request for memory is `Err(Error::OutOfMemory)` in its line's place. A line of
+/// A piece is a line, together with the lines after it that it takes in: up to the quote that closes a string, and after a
+/// backslash at its end. A piece that cannot be read is one `Err`, and the next pieces are answered as if it had not been
+/// there. So `m a="x`, a newline and `n b=1i` are one `Err(FieldSetMissing)`, since the quote is never closed.
+///
+/// A refused request for memory is `Err(Error::OutOfMemory)` in its line's place. A line of
 /// at most 8 tags and 4 fields asks for none where each name and string of it is a part of the
 /// input, or where it holds no backslash and its fault carries no text.
 pub fn parse_lines(alloc: Global, input: &str) -> ParseLines<'_>

@@ -567,7 +567,7 @@ fn late_cut(dialect: Dialect, text: &[u8]) -> Option<usize>
 
 /// The same, with what was seen at the start of the text, and then of what comes after that newline.
 #[inline(always)]
-fn first_cut(dialect: Dialect, text: &[u8], seen: u64) -> Option<Mark>
+pub(crate) fn first_cut(dialect: Dialect, text: &[u8], seen: u64) -> Option<Mark>
     requires { AreSeen text.now seen }
     ensures cut { IsFirstCut (rules_of dialect) text.now (option_map (λ m. m.at) result) }
     ensures later { IfSome result (λ m. AreSeen (drop (m.at + 1) text.now) m.later) }

@@ -1,20 +1,41 @@
 //! Lines that come in parts.
 
-ghost use Rattle.std.specs.Prelude.{◌≡◌, ◌++◌, [], length, OnOk, OnErr, Some};
+ghost use Rattle.std.specs.Prelude.{◌≡◌, ◌++◌, ◌≤◌, [], drop, length, vec_len, IsUtf8, MatchResult, OnOk, OnErr, Some};
 ghost use Rattle.std.specs.Borrow.{sem};
 ghost use Rattle.influxdb_line_protocol.specs.format.Dialects.{Crate};
 ghost use Rattle.influxdb_line_protocol.specs.code.Rules.{rules_of};
 ghost use Rattle.influxdb_line_protocol.specs.code.Streams.{FindsCut};
 ghost use Rattle.influxdb_line_protocol.specs.format.Pieces.{IsLastPiece};
 
-use crate::split::{Dialect, Mark, Search, search_on};
+use crate::split::{Dialect, Mark, Search, first_cut, search_on};
+use simdutf8::basic;
 use std::alloc::{AllocError, Global};
 use std::marker::Model;
 use std::str::{self, Utf8Error};
 
 mod bounded;
 
-pub use bounded::{BoundedLineStream, TooLong};
+pub use bounded::{BoundedLineStream, PieceTooLong};
+
+// Drops the first `n` bytes.
+fn remove_front(buffer: &mut Vec<u8>, n: usize)
+    requires { n ≤ vec_len buffer.old }
+    ensures { buffer.new.items ≡ drop n buffer.old.items }
+{
+    let len = buffer.len();
+    buffer.as_mut_slice().copy_within(n..len, 0);
+    buffer.truncate(len - n);
+}
+
+// The bytes as text. The test goes by wide loads, and where it fails once more byte by byte, for the place of the error.
+fn read_text(bytes: &[u8]) -> Result<&str, Utf8Error>
+    ensures { MatchResult result (λ text. (text.now ≡ bytes.now) × IsUtf8 bytes.now) (λ _. ¬ (IsUtf8 bytes.now)) }
+{
+    match basic::from_utf8(bytes) {
+        Ok(text) => Ok(text),
+        Err(_) => str::from_utf8(bytes),
+    }
+}
 
 /// The pieces of a text that comes in parts: what [`split_lines`](crate::split_lines) gives for all of it.
 ///
@@ -90,12 +111,29 @@ impl LineStream {
     fn compact(&mut self)
         ensures { self.new ≡ self.old }
     {
-        self.buffer.drain(..self.start);
+        remove_front(&mut self.buffer, self.start);
         self.start = 0;
     }
 
-    // The cut that ends the first piece, or `None` until its newline has come.
+    // The cut that ends the first piece, or `None` until its newline has come. Most are found with no look at where a search
+    // stopped, which is large.
+    #[inline(always)]
     fn cut(&mut self) -> Option<Mark>
+        ensures stays { self.new ≡ self.old }
+        ensures found { FindsCut self.old result }
+    {
+        if let Search::Begins(seen) = self.known {
+            if let Some(cut) = first_cut(self.dialect, &self.buffer[self.start..], seen) {
+                return Some(cut);
+            }
+        }
+        self.cut_on()
+    }
+
+    // The same, by a search that goes on where it stopped.
+    #[cold]
+    #[inline(never)]
+    fn cut_on(&mut self) -> Option<Mark>
         ensures stays { self.new ≡ self.old }
         ensures found { FindsCut self.old result }
     {
@@ -121,6 +159,7 @@ impl LineStream {
     }
 
     /// The first piece that a newline ends, or `None` until that newline has come.
+    #[inline(always)]
     pub fn next(&mut self) -> Option<&[u8]>
         ensures* after { sem 𝓛 (EndsAsCut self.entry result) }
     {
@@ -133,7 +172,7 @@ impl LineStream {
         ensures* after { sem 𝓛 (EndsAsCutText self.entry result) }
     {
         let piece = self.next()?;
-        Some(str::from_utf8(piece))
+        Some(read_text(piece))
     }
 
     /// The last piece: all that is held, once [`next`](Self::next) has given `None` and no more parts come. Then nothing
@@ -174,6 +213,6 @@ impl LineStream {
         requires { IsLastPiece self.old.dialect self.old.bytes }
         ensures* after { sem 𝓛 (EndsAsLastText self.entry result) }
     {
-        str::from_utf8(self.finish())
+        read_text(self.finish())
     }
 }

@@ -32,7 +32,7 @@ pub extern "C" fn lp_lines_begin<'a>(text: &'a [u8], strict: bool, lines: &mut L
     ensures begun { IsTrue result → left_of lines.new ≡ record { dialect = dialect_of strict; text = Some text.now } }
     ensures refused { IsFalse result → lines.new ≡ lines.old }
 {
-    if str::from_utf8(text).is_err() {
+    if simdutf8::basic::from_utf8(text).is_err() {
         return false;
     }
     *lines = Lines {

@@ -86,7 +86,7 @@ pub extern "C" fn lp_rebuild(
     ensures rebuilds { result ≢ answer_number NotUtf8 → result ≢ answer_number OutOfMemory →
         RebuildsInto (dialect_of strict) text.now batch.old batch.new faults.old faults.new counts.new result }
 {
-    let Ok(text) = str::from_utf8(text) else {
+    let Ok(text) = simdutf8::basic::from_utf8(text) else {
         return Answer::NotUtf8.number();
     };
     let Ok(rebuilt) = rebuild_in(alloc, dialect_of(strict), text) else {

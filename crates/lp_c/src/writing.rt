@@ -1,9 +1,11 @@
 //! Lines that are written, shown or tested, and bases of series: each into a buffer that the caller lends.
 
-ghost use Rattle.std.specs.Prelude.{◌≡◌, ◌≢◌, ◌≤◌, ◌++◌, length, drop};
+ghost use Rattle.std.specs.Prelude.{◌≡◌, ◌≢◌, ◌≤◌, ◌++◌, length, drop, false};
+ghost use Rattle.influxdb_line_protocol.specs.code.Bases.{is_base_safe};
+ghost use Rattle.influxdb_line_protocol.specs.format.Lines.{some_tags};
 ghost use Rattle.influxdb_line_protocol.specs.format.Points.{is_admitted_point};
 ghost use Rattle.lp_c.specs.declared.views.Answer.TheVariants.{MoreRoom, NotALine, OutOfMemory, Written};
-ghost use Rattle.lp_c.specs.Handed.{IsLineIn, IsSeriesIn};
+ghost use Rattle.lp_c.specs.Handed.{IsLineIn, IsSeriesIn, tag_set_in, text_in};
 ghost use Rattle.lp_c.specs.Numbers.{answer_number};
 ghost use Rattle.lp_c.specs.Writing.{PutsOut, Writes, answer_for_base, base_in, built_in, point_in, shown_in, text_of_base};
 
@@ -107,10 +109,11 @@ pub extern "C" fn lp_line_show(
     }
 }
 
-/// The base of the series of a line: the text that tells it from other series.
+/// The base of the series of a line.
 ///
 /// Answers as [`lp_line_write`] does, but where a key of the tags is repeated it answers `Fault`, and writes that key. The
-/// fields are not looked at.
+/// fields are not looked at. It tells the series from others if [`lp_line_is_base_safe`], and else it may not: `m,a=1\,b\=2` and
+/// `m,a=1,b=2` are two series with one base, and `m,\,=v` and `m,,=v` one series with two.
 #[unsafe(no_mangle)]
 pub extern "C" fn lp_line_base(
     alloc: Global,
@@ -135,5 +138,33 @@ pub extern "C" fn lp_line_base(
             len,
         ),
         Err(_) => Answer::OutOfMemory.number(),
+    }
+}
+
+/// Whether the base of the series of a line is safe to group by: whether no measurement and no tag value holds a comma, no tag
+/// key an `=`, and no name is one byte alone that a backslash may escape in it.
+///
+/// Answers `Written` and sets `safe`; or `NotALine` or `OutOfMemory`, and changes nothing. The fields are not looked at. With
+/// at most eight tags it takes no memory.
+#[unsafe(no_mangle)]
+pub extern "C" fn lp_line_is_base_safe(
+    alloc: Global,
+    line: &Line<'_>,
+    parts: &[Part<'_>],
+    safe: &mut bool,
+) -> u32
+    ensures not_a_line { result ≡ answer_number NotALine → (¬ IsSeriesIn line.now parts.now) × (safe.new ≡ safe.old) }
+    ensures out_of_memory { result ≡ answer_number OutOfMemory → safe.new ≡ safe.old }
+    ensures memory { line.now.tags ≤ 8 → result ≢ answer_number OutOfMemory }
+    ensures told { result ≢ answer_number NotALine → result ≢ answer_number OutOfMemory →
+        (result ≡ answer_number Written) × IsSeriesIn line.now parts.now
+        × (safe.new ≡ is_base_safe (text_in false line.now.measurement) (some_tags (tag_set_in false line.now parts.now))) }
+{
+    match series_in(alloc, false, line, parts) {
+        Ok(series) => {
+            *safe = series.is_base_safe();
+            Answer::Written.number()
+        }
+        Err(answer) => answer.number(),
     }
 }

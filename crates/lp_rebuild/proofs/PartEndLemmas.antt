@@ -1,5 +1,5 @@
 -- The ends of parts that were found so far.
-use Rattle.std.proofs.Common.{◌≡◌, ℕ, suc, ◌+◌, ◌-◌, ◌*◌, ◌/◌, ◌<◌, ◌≤◌, List, [], ◌∷◌, ◌++◌, length, slice_index, slice_index_or}
+use Rattle.std.proofs.Common.{◌≡◌, ℕ, suc, ◌+◌, ◌-◌, ◌*◌, ◌/◌, ◌<◌, ◌≤◌, List, [], ◌∷◌, ◌++◌, length, max, slice_index, slice_index_or}
 use Rattle.std.proofs.Common.{refl, sym, ap, subst, ◌∙◌, length-append, arith, inl, inr}
 use Rattle.std.specs.List.Sorted.{IsNonDecreasing}
 use Rattle.std.proofs.Math.Nat.{div-mul-le_self, eq-or-lt_of_le}
@@ -15,10 +15,10 @@ use Rattle.lp_rebuild.proofs.PartLemmas.{AreCutsFrom, parts_after}
 
 -- these ends were found, and the walk is at the last one, or at the text's start
 pub record EndsSoFar (dialect : Dialect) (text : List ℕ) (count : ℕ) (ends : List ℕ) (at : ℕ) : Type 0 where
-  pub each : (k : ℕ) → k < length ends → IsCutFor dialect text ((k + 1) * length text / count) (slice_index ends k)
+  pub each : (k : ℕ) → k < length ends → IsCutFor dialect text (max 1 ((k + 1) * length text / count)) (slice_index ends k)
   pub below : (k d : ℕ) → k < length ends → slice_index_or ends k d ≤ at
   pub rise : IsNonDecreasing ends
-  pub first : (other : ℕ) → IsCutAt dialect text other → length ends * length text / count ≤ other → at ≤ other
+  pub first : (other : ℕ) → IsCutAt dialect text other → max 1 (length ends * length text / count) ≤ other → at ≤ other
 
 -- the start of a text is a cut
 pub start_is_cut : PiecesExist → (dialect : Dialect) (text : List ℕ) → IsCutAt dialect text 0
@@ -34,21 +34,26 @@ ends_none dialect text count =
       first = λ other h there. omega arith;
     }
 
+-- the greater of 1 and a number rises with it
+max_rises : (a b : ℕ) → a ≤ b → max 1 a ≤ max 1 b
+max_rises a b h = grind arith
+
 -- the parts of one length end in order
-even_ends_rise : (k len count : ℕ) → 0 < count → k * len / count ≤ (k + 1) * len / count
+even_ends_rise : (k len count : ℕ) → 0 < count → max 1 (k * len / count) ≤ max 1 ((k + 1) * len / count)
 even_ends_rise k len count some =
-    le-div (k * len / count) ((k + 1) * len) count some
-    (omega (arith, div-mul-le_self (k * len) count, mul-le k len (k + 1) len (omega arith) (omega arith)))
+    max_rises (k * len / count) ((k + 1) * len / count)
+    (le-div (k * len / count) ((k + 1) * len) count some
+    (omega (arith, div-mul-le_self (k * len) count, mul-le k len (k + 1) len (omega arith) (omega arith))))
 
 -- the walk has passed no cut for the next end
 pub none_passed : (dialect : Dialect) (text : List ℕ) (count k : ℕ) (ends : List ℕ) (at : ℕ) → EndsSoFar dialect text count ends at
-    → length ends + 1 ≡ k → k < count → (other : ℕ) → IsCutAt dialect text other → k * length text / count ≤ other → at ≤ other
+    → length ends + 1 ≡ k → k < count → (other : ℕ) → IsCutAt dialect text other → max 1 (k * length text / count) ≤ other → at ≤ other
 none_passed dialect text count k ends at so_far is few other cut_there there =
     so_far.first other cut_there
     (omega (
       arith,
       even_ends_rise (length ends) (length text) count (omega arith),
-      ap (λ (n : ℕ). n * length text / count) is,
+      ap (λ (n : ℕ). max 1 (n * length text / count)) is,
     ))
 
 -- an element of a list, and one after them
@@ -66,19 +71,19 @@ push_cases P xs y d before new k h =
 
 -- one more was found
 pub ends_more : (dialect : Dialect) (text : List ℕ) (count k : ℕ) (ends : List ℕ) (at new : ℕ) → EndsSoFar dialect text count ends at
-    → length ends + 1 ≡ k → IsCutFor dialect text (k * length text / count) new → at ≤ new
+    → length ends + 1 ≡ k → IsCutFor dialect text (max 1 (k * length text / count)) new → at ≤ new
     → EndsSoFar dialect text count (ends ++ new ∷ []) new
 ends_more dialect text count k ends at new so_far is found up =
     let len = length-append ends (new ∷ []) in
-    let here : IsCutFor dialect text ((length ends + 1) * length text / count) new =
-    subst (λ (n : ℕ). IsCutFor dialect text (n * length text / count) new) (sym is) found in
+    let here : IsCutFor dialect text (max 1 ((length ends + 1) * length text / count)) new =
+    subst (λ (n : ℕ). IsCutFor dialect text (max 1 (n * length text / count)) new) (sym is) found in
     record {
-      each = push_cases (λ j x. IsCutFor dialect text ((j + 1) * length text / count) x) ends new 0 so_far.each here;
+      each = push_cases (λ j x. IsCutFor dialect text (max 1 ((j + 1) * length text / count)) x) ends new 0 so_far.each here;
       below = λ j d. push_cases (λ i x. x ≤ new) ends new d (λ i h. omega (arith, so_far.below i d h)) (omega arith) j;
       rise = IsNonDecreasingBy-push (λ x. x) ends new so_far.rise
           (λ d some. omega (arith, so_far.below (length ends - 1) d (omega arith)));
       first = λ other cut_there there.
-          found.first other cut_there (subst (λ (n : ℕ). n * length text / count ≤ other) (len ∙ is) there);
+          found.first other cut_there (subst (λ (n : ℕ). max 1 (n * length text / count) ≤ other) (len ∙ is) there);
     }
 
 -- places that rise and are cuts

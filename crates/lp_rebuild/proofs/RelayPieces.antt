@@ -6,7 +6,7 @@ use Rattle.influxdb_line_protocol.specs.format.Dialects.{Dialect}
 use Rattle.influxdb_line_protocol.specs.format.Bytes.{newlines_in}
 use Rattle.influxdb_line_protocol.specs.format.Pieces.{IsCutPiece, IsLastPiece}
 use Rattle.influxdb_line_protocol.specs.code.Bounded.{GivesOf, HeldWithin, Holds, IsLastOf, IsTooLong}
-use Rattle.influxdb_line_protocol.specs.declared.stream.bounded.TooLong.{TooLong}
+use Rattle.influxdb_line_protocol.specs.declared.stream.bounded.PieceTooLong.{PieceTooLong}
 use Rattle.influxdb_line_protocol.specs.laws.StreamLaws.{Run, Run.taken}
 use Rattle.lp_rebuild.specs.declared.batch.Place.{Place}
 use Rattle.lp_rebuild.specs.Relaying.{Item, limit_of, items_of_bytes, items_of_piece, items_of}
@@ -19,7 +19,7 @@ use Rattle.lp_rebuild.proofs.RelayLemmas.{part_of_none, part_poured, part_so_far
 use Rattle.lp_rebuild.proofs.RelayLemmas.{part_same, relays_then}
 
 -- the piece that a call gave, or that is too long, and the rest, which the stream then holds
-pub record Given (dialect : Dialect) (limit : ℕ) (text : List ℕ) (result : Result (Bor (List ℕ)) TooLong) (after : HeldWithin)
+pub record Given (dialect : Dialect) (limit : ℕ) (text : List ℕ) (result : Result (Bor (List ℕ)) PieceTooLong) (after : HeldWithin)
     : Type 0 where
   pub piece : List ℕ
   pub rest : List ℕ
@@ -31,7 +31,7 @@ pub record Given (dialect : Dialect) (limit : ℕ) (text : List ℕ) (result : R
 
 -- a call gave one
 pub given_piece : (dialect : Dialect) (limit : ℕ) (before after : HeldWithin) (text : List ℕ)
-    (result : Result (Bor (List ℕ)) TooLong) → before.held.dialect ≡ dialect → before.limit ≡ limit
+    (result : Result (Bor (List ℕ)) PieceTooLong) → before.held.dialect ≡ dialect → before.limit ≡ limit
     → GivesOf before text (Some result) after → Given dialect limit text result after
 given_piece dialect limit before after text (Ok piece) same bound h =
     record {
@@ -55,7 +55,7 @@ given_piece dialect limit before after text (Err e) same bound h =
     }
 
 -- the items of the last piece
-pub last_items : (dialect : Dialect) (limit : ℕ) (text : List ℕ) (result : Result (Bor (List ℕ)) TooLong)
+pub last_items : (dialect : Dialect) (limit : ℕ) (text : List ℕ) (result : Result (Bor (List ℕ)) PieceTooLong)
     → IsLastOf limit text result → items_given dialect result ≡ items_of_piece dialect (limit_of limit) text
 last_items dialect limit text (Ok piece) h = ap (items_of_bytes dialect) h.0 ∙ sym (items_of_short dialect limit text h.1)
 last_items dialect limit text (Err e) h = sym (item_of_long dialect limit text h.0)
@@ -124,7 +124,7 @@ some_none dialect limit text old a e =
 
 -- a piece more was taken, and what is held was written
 pub pieces_more : (dialect : Dialect) (limit : ℕ) (text : List ℕ) (before after : HeldWithin) (old now next poured : Made)
-    (a b c e f g : Option (List ℕ)) (result : Result (Bor (List ℕ)) TooLong)
+    (a b c e f g : Option (List ℕ)) (result : Result (Bor (List ℕ)) PieceTooLong)
     → (p : RelaysPieces dialect (limit_of limit) text before old now a b e f) → Given dialect limit p.rest result after
     → TakesItems now (items_given dialect result) next → poured.place ≡ place_after now.place (newlines_given result)
     → RelaysItems next poured b c f g [] []
@@ -144,7 +144,7 @@ pieces_more dialect limit text before after old now next poured a b c e f g resu
 
 -- the same, where a beginning of it was written
 pub pieces_part : (dialect : Dialect) (limit : ℕ) (text : List ℕ) (before after : HeldWithin) (old now next : Made)
-    (a b c e f g : Option (List ℕ)) (result : Result (Bor (List ℕ)) TooLong)
+    (a b c e f g : Option (List ℕ)) (result : Result (Bor (List ℕ)) PieceTooLong)
     → (p : RelaysPieces dialect (limit_of limit) text before old now a b e f) → Given dialect limit p.rest result after
     → TakesItems now (items_given dialect result) next → RelaysPart next b c f g [] []
     → RelaysSome dialect (limit_of limit) text old a c e g

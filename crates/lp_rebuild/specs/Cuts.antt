@@ -1,5 +1,5 @@
 -- Where a text can be cut, so that its parts can be read apart.
-use Rattle.std.specs.Prelude.{◌≡◌, ℕ, ◌+◌, ◌-◌, ◌*◌, ◌/◌, ◌<◌, ◌≤◌, List, [], ◌∷◌, ◌++◌, length, take, slice_index, slice_range}
+use Rattle.std.specs.Prelude.{◌≡◌, ℕ, ◌+◌, ◌-◌, ◌*◌, ◌/◌, ◌<◌, ◌≤◌, List, [], ◌∷◌, ◌++◌, length, max, take, slice_index, slice_range}
 use Rattle.std.specs.List.Sorted.{IsNonDecreasing}
 use Rattle.influxdb_line_protocol.specs.format.Dialects.{Dialect}
 use Rattle.influxdb_line_protocol.specs.format.Pieces.{Pieces}
@@ -17,12 +17,12 @@ pub record IsCutFor (dialect : Dialect) (text : List ℕ) (place at : ℕ) : Typ
   pub last : at < place → (other : ℕ) → IsCutAt dialect text other → other ≤ at
 
 -- the ends of so many parts, of one part for 0: each but the last is the cut for where it ends if all parts have one
--- length, and the last is the text's end
+-- length, or for 1 where that is 0, and the last is the text's end
 pub record ArePartEnds (dialect : Dialect) (text : List ℕ) (count : ℕ) (ends : List ℕ) : Type 0 where
   pub cuts : List ℕ
   pub are : ends ≡ cuts ++ length text ∷ []
   pub count_is : length cuts ≡ count - 1
-  pub each : (k : ℕ) → k < length cuts → IsCutFor dialect text ((k + 1) * length text / count) (slice_index cuts k)
+  pub each : (k : ℕ) → k < length cuts → IsCutFor dialect text (max 1 ((k + 1) * length text / count)) (slice_index cuts k)
   pub rise : IsNonDecreasing ends
 
 -- the parts of a text with these ends, of which the first begins at this place

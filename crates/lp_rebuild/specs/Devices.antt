@@ -2,10 +2,24 @@
 use Rattle.std.specs.Prelude.{◌≡◌, ℕ, ◌+◌, Bool, List, Result, MatchResult}
 use Rattle.std.specs.Vec.{vec_capacity}
 use Rattle.lp_rebuild.specs.declared.devices.Kept.{Kept}
+use Rattle.lp_rebuild.specs.declared.devices.Reading.{Reading}
+use Rattle.lp_rebuild.specs.declared.devices.Writing.{Writing}
 
 -- a failed call adds one to the count of failures, and no other does
 abbrev pub CountsFailure : {T E : Type 0} → Result T E → ℕ → ℕ → Type 0
 CountsFailure result old new = MatchResult result (λ _. new ≡ old) (λ _. new ≡ old + 1)
+
+-- the failures of a source over a reader so far
+abbrev pub reading_failures : {R : Type 0} → Reading R → ℕ
+reading_failures r = r.failures.count
+
+-- the failures of a sink over a writer so far
+abbrev pub writing_failures : {W : Type 0} → Writing W → ℕ
+writing_failures w = w.failures.count
+
+-- whether all that was written to a sink over a writer was flushed
+abbrev pub writing_is_flushed : {W : Type 0} → Writing W → Bool
+writing_is_flushed w = w.flushes.is_flushed
 
 -- the bytes that a sink in memory holds
 abbrev pub kept_bytes : Kept → List ℕ

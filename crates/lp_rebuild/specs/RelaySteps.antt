@@ -5,7 +5,7 @@ use Rattle.std.specs.Io.KnownBytes.{Appends}
 use Rattle.influxdb_line_protocol.specs.format.Dialects.{Dialect}
 use Rattle.influxdb_line_protocol.specs.format.Bytes.{newlines_in}
 use Rattle.influxdb_line_protocol.specs.format.Pieces.{IsLastPiece}
-use Rattle.influxdb_line_protocol.specs.declared.stream.bounded.TooLong.{TooLong}
+use Rattle.influxdb_line_protocol.specs.declared.stream.bounded.PieceTooLong.{PieceTooLong}
 use Rattle.influxdb_line_protocol.specs.code.Bounded.{HeldWithin, Holds}
 use Rattle.influxdb_line_protocol.specs.laws.StreamLaws.{Run}
 use Rattle.lp_rebuild.specs.declared.batch.Place.{Place}
@@ -21,12 +21,12 @@ use Rattle.lp_rebuild.specs.Relaying.{Item, too_long, is_carried_item, items_of_
 use Rattle.lp_rebuild.specs.Relaying.{refused_items}
 
 -- the items of what a call gave: those of a piece, or that of one that is too long
-abbrev pub items_given : Dialect → Result (Bor (List ℕ)) TooLong → List Item
+abbrev pub items_given : Dialect → Result (Bor (List ℕ)) PieceTooLong → List Item
 items_given dialect (Ok piece) = items_of_bytes dialect piece.now
 items_given dialect (Err _) = too_long ∷ []
 
 -- the newlines of what a call gave
-abbrev pub newlines_given : Result (Bor (List ℕ)) TooLong → ℕ
+abbrev pub newlines_given : Result (Bor (List ℕ)) PieceTooLong → ℕ
 newlines_given (Ok piece) = newlines_in piece.now
 newlines_given (Err fault) = fault.newlines
 

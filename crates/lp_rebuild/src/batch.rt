@@ -148,8 +148,8 @@ pub(crate) fn take(
 ///
 /// # Errors
 ///
-/// Where a request for memory is refused, also one of the parser for a line; what was rebuilt so far
-/// is dropped.
+/// Where a request for memory is refused, also one of the parser for a line, and where a line, once it is written, would be
+/// longer than `usize::MAX` bytes; what was rebuilt so far is dropped.
 pub fn rebuild(alloc: Global, input: &str) -> Result<Rebuilt, AllocError>
     ensures rebuilds { IfOk result (λ r. Rebuilds input.now r) }
     ensures reads_back { IfOk result (λ r. ReadsBack input.now r) }
@@ -165,7 +165,7 @@ pub fn rebuild(alloc: Global, input: &str) -> Result<Rebuilt, AllocError>
 ///
 /// # Errors
 ///
-/// Where a request for memory is refused, as for [`rebuild`].
+/// Those of [`rebuild`].
 #[inline]
 pub fn rebuild_in(alloc: Global, dialect: Dialect, input: &str) -> Result<Rebuilt, AllocError>
     ensures rebuilds { IfOk result (λ r. RebuildsIn (rules_of dialect) input.now r) }

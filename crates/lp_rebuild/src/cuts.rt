@@ -1,5 +1,5 @@
 //! Where a text can be cut, so that its parts can be rebuilt or relayed apart.
-ghost use Rattle.std.specs.Prelude.{◌≡◌, ◌<◌, ◌≤◌, ◌*◌, ◌/◌, ℕ, List, length, IfOk, OnOk, Result};
+ghost use Rattle.std.specs.Prelude.{◌≡◌, ◌<◌, ◌≤◌, ◌*◌, ◌/◌, ℕ, List, length, max, IfOk, OnOk, Result};
 ghost use Rattle.influxdb_line_protocol.specs.code.Rules.{rules_of};
 ghost use Rattle.influxdb_line_protocol.specs.format.Readings.{Fault};
 ghost use Rattle.influxdb_line_protocol.specs.format.Lines.{Line};
@@ -78,12 +78,12 @@ fn walk_to(dialect: Dialect, walk: &mut Walk, input: &[u8], place: usize) -> Res
     Ok(())
 }
 
-// Where the first `k` of so many parts end, if all have one length.
+// Where the first `k` of so many parts end, if all have one length. None ends at the start.
 fn even_end(len: usize, k: usize, count: usize) -> usize
     requires { k < count }
-    ensures { result ≡ k * len / count }
+    ensures { result ≡ max 1 (k * len / count) }
 {
-    (k as u128 * len as u128 / count as u128) as usize
+    ((k as u128 * len as u128 / count as u128) as usize).max(1)
 }
 
 /// Where a text can be cut into so many parts of about one length, so that each can be rebuilt or relayed on a machine of
@@ -94,14 +94,16 @@ fn even_end(len: usize, k: usize, count: usize) -> usize
 /// items of the parts are those of the text, in order. What the parts give is, one after another, what the text gives; but
 /// the numbers of its items begin anew in each part.
 ///
-/// Part `k` ends at the first such place at or after `k * input.len() / count`, or where none is there, at the last one of
-/// all: a line is never cut, so a part may be empty, and then two ends are equal. A `count` of 0 is taken as 1.
+/// Part `k` ends at the first such place at or after `k * input.len() / count`, though not at 0, or where none is there, at the
+/// last one of all: a line is never cut, so a part may be empty, and then two ends are equal. Where no newline ends a piece,
+/// all parts but the last are empty, and end at 0. A `count` of 0 is taken as 1.
 ///
 /// The text need not be UTF-8. It is searched once. What is held of it is one block and the piece that has not ended yet.
 ///
 /// ```text
 /// part_ends(alloc, Dialect::Crate, b"m a=1i\nm a=2i\nm a=3i\n", 2)   gives  [14, 21]
 /// part_ends(alloc, Dialect::Crate, b"m s=\"a\nb\"\nn c=1i", 2)       gives  [10, 16]
+/// part_ends(alloc, Dialect::Crate, b"a\n", 5)                       gives  [2, 2, 2, 2, 2]
 /// ```
 ///
 /// # Errors

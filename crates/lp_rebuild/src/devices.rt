@@ -6,6 +6,7 @@ ghost use Rattle.std.specs.Prelude.{Option, ◌≡◌, ℕ, ◌+◌, ◌≤◌, 
 ghost use Rattle.std.specs.Prelude.{IfOk, IsOk, OnOk, OnErr};
 ghost use Rattle.std.specs.Io.KnownBytes.{ReadConsumes, WriteAppends, Keeps};
 ghost use Rattle.lp_rebuild.specs.Devices.{CountsFailure, kept_bytes, kept_capacity, kept_failures, kept_is_flushed};
+ghost use Rattle.lp_rebuild.specs.Devices.{reading_failures, writing_failures, writing_is_flushed};
 
 use crate::failures::Failures;
 use crate::flushes::Flushes;
@@ -83,7 +84,7 @@ pub struct Reading<R> {
 impl<R: Read> Reading<R> {
     /// A source that has not failed so far. It takes no memory.
     pub fn new(inner: R) -> Self
-        ensures { result.failures.count ≡ 0 }
+        ensures { reading_failures result ≡ 0 }
     {
         Reading {
             inner,
@@ -95,7 +96,7 @@ impl<R: Read> Reading<R> {
 impl<R: Read> Source for Reading<R> {
     ghost bytes = { λ _. None };
 
-    ghost failures = { λ r. r.failures.count };
+    ghost failures = { λ r. reading_failures r };
 
     fn read(&mut self, buf: &mut [u8]) -> Result<usize, DeviceFault> {
         match self.inner.read(buf) {
@@ -135,8 +136,8 @@ pub struct Writing<W> {
 impl<W: Write> Writing<W> {
     /// A sink that has not failed so far. It takes no memory.
     pub fn new(inner: W) -> Self
-        ensures unfailed { result.failures.count ≡ 0 }
-        ensures flushed { result.flushes.is_flushed ≡ true }
+        ensures unfailed { writing_failures result ≡ 0 }
+        ensures flushed { writing_is_flushed result ≡ true }
     {
         Writing {
             inner,
@@ -149,9 +150,9 @@ impl<W: Write> Writing<W> {
 impl<W: Write> Sink for Writing<W> {
     ghost bytes = { λ _. None };
 
-    ghost failures = { λ w. w.failures.count };
+    ghost failures = { λ w. writing_failures w };
 
-    ghost is_flushed = { λ w. w.flushes.is_flushed };
+    ghost is_flushed = { λ w. writing_is_flushed w };
 
     fn write(&mut self, buf: &[u8]) -> Result<usize, DeviceFault> {
         match self.inner.write(buf) {

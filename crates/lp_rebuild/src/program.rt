@@ -194,7 +194,7 @@ pub fn run_in<R: Source, W: Sink, E: Sink>(
         (writer_told E.bytes E.failures E.is_flushed err.old) (writer_told E.bytes E.failures E.is_flushed err.new) }
 {
     let input = read_all(alloc, reader)?;
-    let Ok(text) = str::from_utf8(input.as_slice()) else {
+    let Ok(text) = simdutf8::basic::from_utf8(input.as_slice()) else {
         return Err(RunFault::NotUtf8);
     };
     let Ok(rebuilt) = rebuild_in(alloc, dialect, text) else {

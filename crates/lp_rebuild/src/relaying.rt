@@ -1,5 +1,5 @@
 //! From a reader to two writers, line by line as they come.
-ghost use Rattle.std.specs.Prelude.{◌≡◌, ◌+◌, ◌≤◌, ◌++◌, List, [], ℕ, string_bytes, true, OnOk, OnErr};
+ghost use Rattle.std.specs.Prelude.{◌≡◌, ◌+◌, ◌≤◌, ◌<◌, ◌++◌, List, [], ℕ, length, string_bytes, true, OnOk, OnErr};
 ghost use Rattle.influxdb_line_protocol.specs.code.Bounded.{Holds, KeepsRules};
 ghost use Rattle.influxdb_line_protocol.specs.code.Rules.{rules_of};
 ghost use Rattle.influxdb_line_protocol.specs.format.Pieces.{IsLastPiece};
@@ -58,6 +58,8 @@ fn pour_full<W: Sink, E: Sink>(
     ensures place { so_far.new.place ≡ so_far.old.place }
     ensures ok { OnOk result (RelaysItems (made so_far.old) (made so_far.new)
         (W.bytes out.old) (W.bytes out.new) (E.bytes err.old) (E.bytes err.new) [] []) }
+    ensures held { OnOk result
+        ((length so_far.new.batch.items < BLOCK) × (length (string_bytes so_far.new.faults) < BLOCK)) }
     ensures part { OnErr result (RelaysPart (made so_far.old)
         (W.bytes out.old) (W.bytes out.new) (E.bytes err.old) (E.bytes err.new) [] []) }
     ensures counts { CountsWriteFault result
@@ -129,7 +131,7 @@ fn relay_pieces<W: Sink, E: Sink>(
     Ok(())
 }
 
-// Takes a part of the text, and each piece that is there then. Where the input pauses, all is written and flushed.
+// Takes a part of the text, and each piece that is there then. All that these make is written and flushed.
 fn relay_part<W: Sink, E: Sink>(
     alloc: Global,
     dialect: Dialect,
@@ -147,21 +149,21 @@ fn relay_part<W: Sink, E: Sink>(
         → RelaysAllPieces (rules_of dialect) (limit_of stream.old.limit) (text ++ part.now) stream.new
         (made so_far.old) (made so_far.new)
         (W.bytes out.old) (W.bytes out.new) (E.bytes err.old) (E.bytes err.new)) }
+    ensures none { OnOk result
+        ((so_far.new.batch.items ≡ []) × (string_bytes so_far.new.faults ≡ [])) }
     ensures fits { OnOk result (so_far.new.carried + so_far.new.refused ≤ usize.MAX) }
     ensures part { OnErr result ((text : List ℕ) → Holds stream.old text
         → RelaysSome (rules_of dialect) (limit_of stream.old.limit) (text ++ part.now) (made so_far.old)
         (W.bytes out.old) (W.bytes out.new) (E.bytes err.old) (E.bytes err.new)) }
     ensures counts { CountsWriteFault result
         (W.failures out.old) (W.failures out.new) (E.failures err.old) (E.failures err.new) }
+    ensures flushed { OnOk result ((W.is_flushed out.new ≡ true) × (E.is_flushed err.new ≡ true)) }
 {
     if stream.push(part).is_err() {
         return Err(RunFault::OutOfMemory);
     }
     relay_pieces(alloc, dialect, stream, so_far, out, err)?;
-    if part.len() < BLOCK {
-        pour_and_flush(so_far, out, err)?;
-    }
-    Ok(())
+    pour_and_flush(so_far, out, err)
 }
 
 // Takes the last piece, writes all that is held, and flushes.
@@ -201,9 +203,10 @@ fn finish<W: Sink, E: Sink>(
 /// Relays the lines that `reader` gives, as they come: each that [`rebuild`](crate::rebuild) would write again goes to
 /// `out`, and the fault of every other item, with its number, to `err`.
 ///
-/// What is held of the input is the line that has not ended yet and one block, and of the output less than a block and
-/// what one line makes. It is written where it fills a block; and where a read gave less than a block, and at the end, it
-/// is written and flushed. So `out` and `err` gain what [`run`](crate::run) writes, but not in its order.
+/// What each read completes is written and flushed before the next read is asked for, and the rest at the end. What is held of
+/// the input is the line that has not ended yet and one block, and of the output less than a block and what one line makes,
+/// since it is written too where it fills a block. So `out` and `err` gain what [`run`](crate::run) writes, but not in its
+/// order.
 ///
 /// Input that is not UTF-8 does not end it: each piece that is not is one item, whose fault line is `item N: the line is
 /// not UTF-8`, and the pieces before and after it are read as ever.

@@ -1,5 +1,5 @@
 //! What a relay takes of a piece of its input.
-ghost use Rattle.std.specs.Prelude.{◌≡◌, ◌+◌, ◌<◌, ◌≤◌, length, map, IfOk, OnOk};
+ghost use Rattle.std.specs.Prelude.{◌≡◌, ◌+◌, ◌<◌, ◌≤◌, length, map, IfOk, IsUtf8, MatchResult, OnOk};
 ghost use Rattle.influxdb_line_protocol.specs.code.Rules.{rules_of};
 ghost use Rattle.influxdb_line_protocol.specs.format.Bytes.{newlines_in};
 ghost use Rattle.influxdb_line_protocol.specs.format.Pieces.{IsLastPiece};
@@ -9,9 +9,12 @@ ghost use Rattle.lp_rebuild.specs.RelaySteps.{TakesItems, first_place, items_giv
 ghost use Rattle.lp_rebuild.specs.RelaySteps.{newlines_given, place_after};
 
 use crate::batch::{Place, Progress, refuse, take};
-use influxdb_line_protocol::{Dialect, ParsedLine, TooLong, laws, parse_lines_in};
+use influxdb_line_protocol::{
+    Dialect, EscapedStr, FieldSet, ParsedLine, PieceTooLong, Series, TagSet, laws, parse_lines_in,
+};
+use simdutf8::basic::{self, Utf8Error};
 use std::alloc::{AllocError, Global};
-use std::str;
+use std::{mem, str};
 
 /// What the fault lines of a relay name.
 #[derive(Clone, Copy, Debug, PartialEq, Eq)]
@@ -45,6 +48,62 @@ pub(crate) fn nothing_made(alloc: Global, numbering: Numbering) -> Progress
     }
 }
 
+// Frees the memory of a tag set that has grown.
+#[inline(never)]
+fn free_tags<'a>(alloc: Global, tags: &mut TagSet<'a>) {
+    *tags = TagSet::new(alloc);
+}
+
+// Frees the memory of a field set that has grown.
+#[inline(never)]
+fn free_fields<'a>(alloc: Global, fields: &mut FieldSet<'a>) {
+    *fields = FieldSet::new(alloc);
+}
+
+// Frees the memory that a line holds: to drop a line would visit each place of its sets, also those that hold nothing.
+#[inline(always)]
+fn free<'a>(alloc: Global, parsed: &mut ParsedLine<'a>) {
+    parsed.series.measurement = EscapedStr::SingleSlice("");
+    if let Some(tags) = &mut parsed.series.tag_set {
+        tags.clear();
+        if tags.spilled() {
+            free_tags(alloc, tags);
+        }
+    }
+    parsed.field_set.clear();
+    if parsed.field_set.spilled() {
+        free_fields(alloc, &mut parsed.field_set);
+    }
+}
+
+// Takes the text of a piece by way of a line: it is written again or refused, unless it is blank.
+#[inline(always)]
+fn take_by_line<'a>(
+    alloc: Global,
+    dialect: Dialect,
+    so_far: &mut Progress,
+    text: &'a str,
+    line: &mut ParsedLine<'a>,
+) -> Result<(), AllocError>
+    requires room { so_far.old.carried + so_far.old.refused < usize.MAX }
+    requires piece { IsLastPiece (rules_of dialect) text.now }
+    ensures taken { OnOk result
+        (TakesItems (made so_far.old) (map answered (answers_of_piece (rules_of dialect) text.now)) (made so_far.new)) }
+    ensures counted { OnOk result
+        (so_far.new.carried + so_far.new.refused ≤ so_far.old.carried + so_far.old.refused + 1) }
+{
+    laws::items_are_answers();
+    laws::pieces_join();
+    let mut lines = parse_lines_in(alloc, dialect, text);
+    match lines.next_into(line) {
+        Some(answer) => {
+            let answer = answer;
+            take(alloc, so_far, &answer, line)
+        }
+        None => Ok(()),
+    }
+}
+
 // Takes the text of a piece: its line is written again or refused, unless it is blank.
 fn take_text(
     alloc: Global,
@@ -59,17 +118,34 @@ fn take_text(
     ensures counted { OnOk result
         (so_far.new.carried + so_far.new.refused ≤ so_far.old.carried + so_far.old.refused + 1) }
 {
-    laws::items_are_answers();
-    laws::pieces_join();
-    let mut line = ParsedLine::new(alloc);
-    let mut lines = parse_lines_in(alloc, dialect, text);
-    match lines.next_into(&mut line) {
-        Some(answer) => {
-            let answer = answer;
-            take(alloc, so_far, &answer, &line)
-        }
-        None => Ok(()),
+    let mut line = ParsedLine {
+        series: Series {
+            raw_input: "",
+            measurement: EscapedStr::SingleSlice(""),
+            tag_set: Some(TagSet::new(alloc)),
+        },
+        field_set: FieldSet::new(alloc),
+        timestamp: None,
+    };
+    let taken = take_by_line(alloc, dialect, so_far, text, &mut line);
+    free(alloc, &mut line);
+    // It holds no memory.
+    mem::forget(line);
+    taken
+}
+
+// From this length on `simdutf8` tests bytes. It is several times as fast as std where they are not ASCII; where they are, it
+// takes longer below this length.
+const LONG: usize = 128;
+
+// The text of bytes, where they are UTF-8.
+fn text_of(bytes: &[u8]) -> Result<&str, Utf8Error>
+    ensures cases { MatchResult result (λ text. (text.now ≡ bytes.now) × IsUtf8 bytes.now) (λ _. ¬ (IsUtf8 bytes.now)) }
+{
+    if bytes.len() < LONG {
+        return str::from_utf8(bytes).map_err(|_| Utf8Error);
     }
+    basic::from_utf8(bytes)
 }
 
 // Takes the bytes of a piece: their text, or where they are not UTF-8 a fault.
@@ -86,7 +162,7 @@ fn take_bytes(
     ensures counted { OnOk result
         (so_far.new.carried + so_far.new.refused ≤ so_far.old.carried + so_far.old.refused + 1) }
 {
-    match str::from_utf8(piece) {
+    match text_of(piece) {
         Ok(text) => take_text(alloc, dialect, so_far, text),
         Err(_) => refuse(so_far, NOT_UTF8),
     }
@@ -97,7 +173,7 @@ fn take_given(
     alloc: Global,
     dialect: Dialect,
     so_far: &mut Progress,
-    piece: Result<&[u8], TooLong>,
+    piece: Result<&[u8], PieceTooLong>,
 ) -> Result<(), AllocError>
     requires room { so_far.old.carried + so_far.old.refused < usize.MAX }
     requires piece { IfOk piece (λ bytes. IsLastPiece (rules_of dialect) bytes.now) }
@@ -127,7 +203,7 @@ fn newlines_in(bytes: &[u8]) -> usize
 }
 
 // The place of the next piece. Newlines are counted where it is a line, and it is refused where that would not fit.
-fn place_after(place: Place, piece: Result<&[u8], TooLong>) -> Result<Place, AllocError>
+fn place_after(place: Place, piece: Result<&[u8], PieceTooLong>) -> Result<Place, AllocError>
     ensures { IfOk result (λ next. next ≡ place_after place (newlines_given piece.entry)) }
 {
     let Place::OnLine(line) = place else {
@@ -146,7 +222,7 @@ pub(crate) fn take_piece(
     alloc: Global,
     dialect: Dialect,
     so_far: &mut Progress,
-    piece: Result<&[u8], TooLong>,
+    piece: Result<&[u8], PieceTooLong>,
 ) -> Result<(), AllocError>
     requires fits { so_far.old.carried + so_far.old.refused ≤ usize.MAX }
     requires piece { IfOk piece (λ bytes. IsLastPiece (rules_of dialect) bytes.now) }

@@ -65,9 +65,18 @@ asks_help [] = false
 asks_help (word ∷ []) = bytes_eq word.now (codes "--help")
 asks_help (word ∷ next ∷ words) = false
 
+-- the greatest number of parts that an input is cut into
+abbrev pub most_parts : ℕ
+most_parts = 1000000
+
+-- so many parts, or none where they are too many
+abbrev pub few_parts : Dialect → ℕ → Option Task
+few_parts dialect parts = if nat_lt most_parts parts then None else Some (Cut dialect parts)
+
 -- `--cut` and a number ask for the ends of so many parts
 abbrev pub cut_task : Dialect → List ℕ → List ℕ → Option Task
-cut_task dialect word count = if bytes_eq word (codes "--cut") then option_map (Cut dialect) (decimal count) else None
+cut_task dialect word count =
+    if bytes_eq word (codes "--cut") then option_and_then (few_parts dialect) (decimal count) else None
 
 -- the cut that words ask for: these two words, alone or after `--strict`
 abbrev pub asked_cut : List (Bor (List ℕ)) → Option Task

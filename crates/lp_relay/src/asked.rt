@@ -4,7 +4,7 @@ ghost use Rattle.influxdb_line_protocol.specs.code.Rules.{rules_of};
 ghost use Rattle.lp_rebuild.specs.Cuts.{ArePartEnds};
 ghost use Rattle.lp_rebuild.specs.Relaying.{limit_of};
 ghost use Rattle.lp_rebuild.specs.NumberedRelays.{RelaysNumbered};
-ghost use Rattle.lp_rebuild.specs.Running.{reader_told, writer_told};
+ghost use Rattle.lp_rebuild.specs.Running.{CountsReadFault, reader_told, writer_told};
 
 use crate::words::Settings;
 use influxdb_line_protocol::Dialect;
@@ -43,15 +43,16 @@ pub fn relay_as_asked<R: Source, W: Sink, E: Sink>(
 ///
 /// # Errors
 ///
-/// `Read` where `reader` failed, and `OutOfMemory` where memory was refused.
+/// `Read` where `reader` failed, and only there; `OutOfMemory` where memory was refused.
 pub fn part_ends_of<R: Source>(
     alloc: Global,
     dialect: Dialect,
     count: usize,
     reader: &mut R,
 ) -> Result<Vec<usize>, RunFault>
-    ensures { IfOk result (λ ends. IfSome (R.bytes reader.old) (λ bs.
+    ensures ends { IfOk result (λ ends. IfSome (R.bytes reader.old) (λ bs.
         ArePartEnds (rules_of dialect) bs count ends.items)) }
+    ensures counts { CountsReadFault result (R.failures reader.old) (R.failures reader.new) }
 {
     let input = read_all(alloc, reader)?;
     match part_ends(alloc, dialect, input.as_slice(), count) {

@@ -4,14 +4,17 @@
 
 mod asked;
 mod meter;
+mod noted;
 mod words;
 
 use asked::{part_ends_of, relay_as_asked};
 use influxdb_line_protocol::Dialect;
 use lp_rebuild::{Reading, Relayed, RunFault, Writing};
 use meter::{Counted, Meter, MeteredSink, MeteredSource};
+use noted::Noted;
+use std::cell::Cell;
 use std::env;
-use std::io::IsTerminal;
+use std::io::{self, IsTerminal};
 use std::process::ExitCode;
 use words::{HELP, Settings, Task, USAGE, status_of_relay, task_of};
 
@@ -28,48 +31,69 @@ fn asked_of(rt: &HostRuntime) -> Option<Task> {
 }
 
 // Relays standard input.
-fn relay_quietly(rt: &HostRuntime, settings: Settings) -> Result<Relayed, RunFault> {
-    let mut reader = Reading::new(rt.stdin());
-    let mut out = Writing::new(rt.stdout());
-    let mut err = Writing::new(rt.stderr());
+fn relay_quietly(
+    rt: &HostRuntime,
+    settings: Settings,
+    error: &Cell<Option<io::Error>>,
+) -> Result<Relayed, RunFault> {
+    let mut reader = Reading::new(Noted::new(error, rt.stdin()));
+    let mut out = Writing::new(Noted::new(error, rt.stdout()));
+    let mut err = Writing::new(Noted::new(error, rt.stderr()));
     relay_as_asked(rt.alloc(), settings, &mut reader, &mut out, &mut err)
 }
 
 // Relays standard input, and shows on the terminal how far it is.
-fn relay_with_progress(rt: &HostRuntime, settings: Settings) -> Result<Relayed, RunFault> {
+fn relay_with_progress(
+    rt: &HostRuntime,
+    settings: Settings,
+    error: &Cell<Option<io::Error>>,
+) -> Result<Relayed, RunFault> {
     let meter = Meter::new(rt);
     let is_out_shown = rt.stdout().is_terminal();
-    let mut reader = MeteredSource::new(&meter, Reading::new(rt.stdin()));
-    let mut out = MeteredSink::new(
-        &meter,
-        Counted::Lines,
-        is_out_shown,
-        Writing::new(rt.stdout()),
-    );
-    let mut err = MeteredSink::new(&meter, Counted::Faults, true, Writing::new(rt.stderr()));
+    let reader = Reading::new(Noted::new(error, rt.stdin()));
+    let out = Writing::new(Noted::new(error, rt.stdout()));
+    let err = Writing::new(Noted::new(error, rt.stderr()));
+    let mut reader = MeteredSource::new(&meter, reader);
+    let mut out = MeteredSink::new(&meter, Counted::Lines, is_out_shown, out);
+    let mut err = MeteredSink::new(&meter, Counted::Faults, true, err);
     let answer = relay_as_asked(rt.alloc(), settings, &mut reader, &mut out, &mut err);
     meter.clear();
     answer
 }
 
+// Says why a run failed, and what the system said of the device that did.
+fn say_fault(rt: &HostRuntime, fault: RunFault, error: &Cell<Option<io::Error>>) {
+    let _ = match error.get() {
+        Some(error) => eprintln!(rt; "lp_relay: {fault}: {error}"),
+        None => eprintln!(rt; "lp_relay: {fault}"),
+    };
+}
+
 // Relays standard input, and answers with the exit status.
 fn relay_input(rt: &HostRuntime, settings: Settings) -> u8 {
+    let error = Cell::new(None);
     let answer = if settings.progress && rt.stderr().is_terminal() {
-        relay_with_progress(rt, settings)
+        relay_with_progress(rt, settings, &error)
     } else {
-        relay_quietly(rt, settings)
+        relay_quietly(rt, settings, &error)
     };
-    if let Err(fault) = &answer {
-        let _ = eprintln!(rt; "lp_relay: {fault}");
+    if let Err(fault) = answer {
+        say_fault(rt, fault, &error);
     }
     status_of_relay(&answer)
 }
 
 // Prints where standard input can be cut into parts, a line for each end.
-fn print_ends(rt: &HostRuntime, dialect: Dialect, count: usize) -> Result<(), RunFault> {
-    let mut reader = Reading::new(rt.stdin());
+fn print_ends(
+    rt: &HostRuntime,
+    dialect: Dialect,
+    count: usize,
+    error: &Cell<Option<io::Error>>,
+) -> Result<(), RunFault> {
+    let mut reader = Reading::new(Noted::new(error, rt.stdin()));
     for end in part_ends_of(rt.alloc(), dialect, count, &mut reader)? {
-        if println!(rt; "{end}").is_err() {
+        if let Err(fault) = println!(rt; "{end}") {
+            error.set(Some(fault));
             return Err(RunFault::Write);
         }
     }
@@ -78,10 +102,11 @@ fn print_ends(rt: &HostRuntime, dialect: Dialect, count: usize) -> Result<(), Ru
 
 // Says where standard input can be cut into parts, and answers with the exit status.
 fn cut_input(rt: &HostRuntime, dialect: Dialect, count: usize) -> u8 {
-    match print_ends(rt, dialect, count) {
+    let error = Cell::new(None);
+    match print_ends(rt, dialect, count, &error) {
         Ok(()) => 0,
         Err(fault) => {
-            let _ = eprintln!(rt; "lp_relay: {fault}");
+            say_fault(rt, fault, &error);
             2
         }
     }

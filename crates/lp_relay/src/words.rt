@@ -22,7 +22,8 @@ and writes `item N: FAULT` to standard error for each item that it cannot write 
   --progress         shows on standard error, where that is a terminal, how far the relay is: bytes
                      read, lines written, faults, and MB/s, each second while input comes
   --cut PARTS        prints where the input, which is held whole, can be cut into so many parts of
-                     about one length, to be relayed apart: the end of each, in bytes, a line each
+                     about one length, 1000000 at most, to be relayed apart: the end of each, in
+                     bytes, a line each
   --help             prints this
 
 The options of a relay come in any order, each at most once; --cut PARTS comes alone, or after
@@ -33,6 +34,10 @@ ran out, the output could not be written, or the arguments are wrong.";
 
 /// The greatest length of a line, in bytes, where the words give none: 16 MiB.
 pub const DEFAULT_MAX_LINE: usize = 16_777_216;
+
+/// The greatest number of parts that an input is cut into, since the ends of all are held: those of so many take 8 MB. No
+/// machine runs as many processes at once.
+pub const MOST_PARTS: usize = 1_000_000;
 
 /// How the relay is to run.
 #[derive(Clone, Copy, Debug, PartialEq, Eq)]
@@ -157,7 +162,11 @@ fn cut_task_of(dialect: Dialect, word: &str, count: &str) -> Option<Task>
     if word != "--cut" {
         return None;
     }
-    Some(Task::Cut(dialect, decimal_of(count)?))
+    let parts = decimal_of(count)?;
+    if parts > MOST_PARTS {
+        return None;
+    }
+    Some(Task::Cut(dialect, parts))
 }
 
 // The cut that words ask for.
@@ -175,9 +184,9 @@ fn cut_of(words: &[&str]) -> Option<Task>
 
 /// What the words after the program's name ask for, or `None` where they are not as [`USAGE`] says.
 ///
-/// The options of a relay come in any order, each at most once; `--cut` and a number come alone or after `--strict`, and
-/// `--help` comes alone. A number, as after `--max-line`, is a decimal one that a `usize` holds: digits alone, of which the
-/// first may be zeros. It takes no memory.
+/// The options of a relay come in any order, each at most once; `--cut` and a number, [`MOST_PARTS`] at most, come alone or
+/// after `--strict`, and `--help` comes alone. A number, as after `--max-line`, is a decimal one that a `usize` holds: digits
+/// alone, of which the first may be zeros. It takes no memory.
 ///
 /// ```text
 /// task_of(&[])                          gives  a relay of the crate's dialect with the default length
@@ -186,6 +195,7 @@ fn cut_of(words: &[&str]) -> Option<Task>
 /// task_of(&["--strict", "--strict"])    gives  None
 /// task_of(&["--max-line", "+80"])       gives  None
 /// task_of(&["--cut", "4"])              gives  the ends of 4 parts of the input
+/// task_of(&["--cut", "1000001"])        gives  None
 /// task_of(&["--cut", "4", "--strict"])  gives  None
 /// task_of(&["--help", "--strict"])      gives  None
 /// ```

@@ -28,6 +28,12 @@ fn lines_are_answered_by_their_dialect(rt: HostRuntime) -> Result<(), Fault> {
                 "rest <\nn c=2i>",
                 "S<m> S<b>=1i|S<n> S<c>=2i",
             ),
+            // The measurement ends at a newline that is bare.
+            (
+                "# a=\"\nweat\nher f=1i",
+                "TakeWhile1",
+                "TakeWhile1|S<her> S<f>=1i",
+            ),
             ("#\\\nm b=1i", "S<m> S<b>=1i", "S<m> S<b>=1i"),
             (
                 "#x f=\"a\nm k\",c=1i\n",

@@ -2,7 +2,7 @@
 
 use crate::taken::{takes_answers, takes_last, takes_last_answer, takes_pieces};
 use influxdb_line_protocol::{
-    BoundedLineStream, Dialect, LineStream, TooLong, split_lines, split_lines_in,
+    BoundedLineStream, Dialect, LineStream, PieceTooLong, split_lines, split_lines_in,
 };
 use lp_vectors::exhausted_memory::ExhaustedMemory;
 use lp_vectors::fault::Fault;
@@ -122,11 +122,11 @@ fn bytes_that_are_let_go_take_no_memory(rt: HostRuntime) -> Result<(), Fault> {
     assert!(rt; is_short_refused(rt.alloc(), &mut stream, end)?);
     assert!(rt; stream.next().is_none());
     stream.push(end)?;
-    assert!(rt; stream.next() == Some(Err(TooLong { newlines: 1 })));
+    assert!(rt; stream.next() == Some(Err(PieceTooLong { newlines: 1 })));
     assert!(rt; stream.next() == Some(Ok(b"m a=1i".as_slice())));
     assert!(rt; stream.next() == Some(Ok(b"n b=2i".as_slice())));
-    assert!(rt; stream.next() == Some(Err(TooLong { newlines: 0 })));
-    assert!(rt; stream.next() == Some(Err(TooLong { newlines: 0 })));
+    assert!(rt; stream.next() == Some(Err(PieceTooLong { newlines: 0 })));
+    assert!(rt; stream.next() == Some(Err(PieceTooLong { newlines: 0 })));
     assert!(rt; stream.next().is_none());
     assert!(rt; stream.finish() == Ok(b"o c=3i".as_slice()));
     Ok(())
@@ -142,7 +142,7 @@ fn the_first_part_is_refused_where_pieces_have_a_greatest_length(
     assert!(rt; stream.finish() == Ok(b"".as_slice()));
     assert!(rt; is_short_refused(rt.alloc(), &mut stream, b"m a=1i\n")?);
     stream.push(b"m a=1i\n")?;
-    assert!(rt; stream.next() == Some(Err(TooLong { newlines: 0 })));
+    assert!(rt; stream.next() == Some(Err(PieceTooLong { newlines: 0 })));
     assert!(rt; stream.next().is_none());
     Ok(())
 }

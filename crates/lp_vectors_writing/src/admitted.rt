@@ -1,75 +1,86 @@
 //! Lines whose names were changed, and whether they are admitted.
 
 use influxdb_line_protocol::{
-    EscapedStr, LineProtocolBuilder, ParsedLine, Series, is_admitted, parse_lines, write_line,
+    EscapedStr, FieldValue, LineProtocolBuilder, ParsedLine, TagSet, is_admitted, write_line,
 };
 use lp_vectors::fault::Fault;
-use std::alloc::Global;
+use std::alloc::{AllocError, Global};
 use std::process::Abort;
 
-// A line with this measurement and one field.
-fn named<'a>(alloc: Global, measurement: &'a str) -> Result<ParsedLine<'a>, Fault> {
-    match parse_lines(alloc, "m f=1i").next() {
-        Some(Ok(line)) => {
-            let ParsedLine {
-                series: _,
-                field_set,
-                timestamp,
-            } = line;
-            Ok(ParsedLine {
-                series: Series {
-                    raw_input: "m",
-                    measurement: EscapedStr::from(measurement),
-                    tag_set: None,
-                },
-                field_set,
-                timestamp,
-            })
-        }
-        _ => Err(Fault::Unexpected),
-    }
+// A line of these names: its measurement, the key and the value of a tag, and the key of a field.
+fn line_of<'a>(alloc: Global, names: [&'a str; 4]) -> Result<ParsedLine<'a>, AllocError> {
+    let [measurement, tag_key, tag_value, field_key] = names;
+    let mut tags = TagSet::new(alloc);
+    tags.push((EscapedStr::from(tag_key), EscapedStr::from(tag_value)))?;
+    let mut line = ParsedLine::new(alloc);
+    line.series.measurement = EscapedStr::from(measurement);
+    line.series.tag_set = Some(tags);
+    line.field_set
+        .push((EscapedStr::from(field_key), FieldValue::Boolean(true)))?;
+    Ok(line)
 }
 
-// A line of each measurement is admitted, or is not.
-fn are_admitted_so(rt: &impl Abort, alloc: Global, rows: &[(&str, bool)]) -> Result<(), Fault> {
+// Each name is admitted so: as a measurement, and as any other name.
+fn are_admitted_so(
+    rt: &impl Abort,
+    alloc: Global,
+    rows: &[(&str, bool, bool)],
+) -> Result<(), Fault> {
     for row in rows {
-        let (measurement, wanted) = *row;
-        let line = named(alloc, measurement)?;
-        assert_eq!(rt; is_admitted(&line), wanted, "{measurement}");
+        let (name, as_measurement, as_other) = *row;
+        let line = line_of(alloc, [name, "k", "v", "f"])?;
+        assert_eq!(rt; is_admitted(&line), as_measurement, "measurement {name}");
+        let line = line_of(alloc, ["m", name, "v", "f"])?;
+        assert_eq!(rt; is_admitted(&line), as_other, "tag key {name}");
+        let line = line_of(alloc, ["m", "k", name, "f"])?;
+        assert_eq!(rt; is_admitted(&line), as_other, "tag value {name}");
+        let line = line_of(alloc, ["m", "k", "v", name])?;
+        assert_eq!(rt; is_admitted(&line), as_other, "field key {name}");
     }
     Ok(())
 }
 
+// The names of module `built` are among them.
 #[test]
-fn measurements_are_admitted_so(rt: HostRuntime) -> Result<(), Fault> {
+fn names_are_admitted_so(rt: HostRuntime) -> Result<(), Fault> {
     are_admitted_so(
         &rt,
         rt.alloc(),
         &[
-            ("m", true),
-            ("a b,c", true),
-            ("a\\b", true),
-            ("", false),
-            ("m\\", false),
-            ("#m", false),
-            ("#x", false),
-            ("m#", true),
-            ("a\tb", false),
-            ("a\nb", false),
-            ("a\0b", false),
+            ("m", true, true),
+            ("with space", true, true),
+            ("with,comma", true, true),
+            ("with=eq", true, true),
+            ("with\"doublequote", true, true),
+            ("with'singlequote", true, true),
+            ("with\\ backslash", true, true),
+            ("a b,c", true, true),
+            ("a\\b", true, true),
+            ("m#", true, true),
+            ("#m", false, true),
+            ("#x", false, true),
+            ("a\0b", false, true),
+            ("", false, false),
+            ("m\\", false, false),
+            ("w\\", false, false),
+            ("a\tb", false, false),
+            ("w\\\t", false, false),
+            ("a\nb", false, false),
+            ("x\ny", false, false),
+            ("k\\\nx", false, false),
         ],
     )
 }
 
 #[test]
 fn a_line_is_written_again_so(rt: HostRuntime) -> Result<(), Fault> {
-    let line = named(rt.alloc(), "w\\\t")?;
+    let line = line_of(rt.alloc(), ["w\\\t", "k", "v", "f"])?;
     assert!(rt; line.field_set.len() > 0);
     match write_line(LineProtocolBuilder::new(rt.alloc()), &line) {
         Ok(builder) => {
             assert_eq!(rt;
                 str::from_utf8(builder.build().as_slice())?,
-                "w\\\\\t f=1i\n"
+                "w\\\\\t,k=v f=true\n"
             );
         }
         Err(_) => return Err(Fault::Unexpected),

@@ -73,7 +73,7 @@ impl<'a> CutText<'a> {
     }
 }
 
-// Each part is less than a block, so all lines that have ended are written before the next read.
+// All lines that have ended are written before the next read.
 #[test]
 fn where_a_read_fails_the_lines_that_ended_before_are_written(
     rt: HostRuntime,

@@ -37,8 +37,11 @@ fn lines_are_parted_so(rt: HostRuntime) -> Result<(), Fault> {
             ("m a=1i\nm a=2i", 2, [7, 13].as_slice()),
             ("m a=1i\nm a=2i", 3, [7, 7, 13].as_slice()),
             ("m a=1i", 2, [0, 6].as_slice()),
-            ("a\n", 5, [0, 0, 2, 2, 2].as_slice()),
             ("", 3, [0, 0, 0].as_slice()),
+            // There are more parts than bytes, and none ends at the start.
+            ("a\n", 5, [2, 2, 2, 2, 2].as_slice()),
+            ("\n\nm", 4, [1, 1, 2, 3].as_slice()),
+            ("\n\nm", 6, [1, 1, 1, 2, 2, 3].as_slice()),
             // The newline between the quotes ends no line.
             ("m s=\"a\nb\"\nn c=1i", 2, [10, 16].as_slice()),
             ("m s=\"a\nb\"\nn c=1i", 4, [10, 10, 10, 16].as_slice()),

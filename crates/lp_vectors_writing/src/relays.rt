@@ -2,7 +2,7 @@
 //! format's rules.
 
 use influxdb_line_protocol::Dialect;
-use lp_rebuild::{DeviceFault, Kept, RunFault, Source, rebuild, relay, relay_in};
+use lp_rebuild::{DeviceFault, Failures, Kept, RunFault, Source, rebuild, relay, relay_in};
 use lp_vectors::drops::{Basin, Trickle};
 use lp_vectors::fault::Fault;
 use std::alloc::Global;
@@ -155,6 +155,62 @@ fn a_piece_that_is_no_text_is_one_item(rt: HostRuntime) {
         assert_eq!(rt; out.as_slice(), wanted);
         assert_eq!(rt; err.as_slice(), faults);
     }
+}
+
+// A source that gives as much as is asked for, and fails once nothing is left.
+#[derive(Drop)]
+struct Failing<'a> {
+    left: &'a [u8],
+    failures: Failures,
+}
+
+impl<'a> Source for Failing<'a> {
+    ghost use Rattle.std.specs.Prelude.{None};
+
+    ghost bytes = { λ _. None };
+
+    ghost failures = { λ f. f.failures.count };
+
+    fn read(&mut self, buf: &mut [u8]) -> Result<usize, DeviceFault> {
+        if self.left.is_empty() && !buf.is_empty() {
+            self.failures.add();
+            return Err(DeviceFault);
+        }
+        self.left.read(buf)
+    }
+}
+
+// Whole lines of so many bytes, at least 7.
+fn lines_of(alloc: Global, len: usize) -> Result<String, Fault> {
+    let mut text = String::new(alloc);
+    while text.len().saturating_add(14) <= len {
+        text.push_str("m a=1i\n")?;
+    }
+    while text.len().saturating_add(6) < len {
+        text.push('m')?;
+    }
+    text.push_str(" a=1i\n")?;
+    Ok(text)
+}
+
+// A read asks for 65,536 bytes, and may be given just as many.
+#[test]
+fn what_each_read_completes_is_written_before_the_next_one(rt: HostRuntime) -> Result<(), Fault> {
+    let alloc = rt.alloc();
+    for len in [7, 100, 65_535, 65_536, 65_537, 131_072] {
+        let text = lines_of(alloc, len)?;
+        let mut reader = Failing {
+            left: text.as_bytes(),
+            failures: Failures::new(),
+        };
+        let mut out = Kept::new(alloc);
+        let mut err = Kept::new(alloc);
+        let answer = relay(alloc, &mut reader, &mut out, &mut err);
+        assert_eq!(rt; text.len(), len);
+        assert_eq!(rt; answer.err(), Some(RunFault::Read), "{len} bytes");
+        assert!(rt; out.as_slice() == text.as_bytes(), "{len} bytes");
+    }
+    Ok(())
 }
 
 // A relay over the text: its fault, and what the sinks hold.

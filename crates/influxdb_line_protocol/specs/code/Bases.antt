@@ -1,6 +1,6 @@
--- The base of a series: the text that tells it from other series.
-use Rattle.std.specs.Prelude.{◌≡◌, ℕ, ◌<◌, ◌==◌, ◌&&◌, Bool, true, false, List, [], ◌∷◌, ◌++◌, length, take, map, slice_index_or}
-use Rattle.std.specs.Prelude.{if◌then◌else◌, Result, Ok, Err, String, string_bytes}
+-- The base of a series, a text by which series can be grouped, and whether it is safe to do so.
+use Rattle.std.specs.Prelude.{◌≡◌, ℕ, ◌<◌, ◌==◌, ◌&&◌, ◌||◌, Bool, true, false, not, List, [], ◌∷◌, ◌++◌, length, take, map}
+use Rattle.std.specs.Prelude.{slice_index_or, if◌then◌else◌, Result, Ok, Err, String, string_bytes}
 use Rattle.std.specs.BTreeMap.{BTreeMap, insert_entry}
 use Rattle.std.specs.Borrow.{Bor}
 use Rattle.std.specs.Cmp.Lexicographic.{slice_cmp}
@@ -11,7 +11,8 @@ use Rattle.std.specs.declared.borrow.CowStr.{CowStr}
 use Rattle.std.specs.declared.borrow.CowStr.TheVariants.{Borrowed, Owned}
 use Rattle.influxdb_line_protocol.specs.declared.error.Error.{Error}
 use Rattle.influxdb_line_protocol.specs.declared.error.Error.TheVariants.{DuplicateTag, OutOfMemory}
-use Rattle.influxdb_line_protocol.specs.format.Bytes.{comma, equals}
+use Rattle.influxdb_line_protocol.specs.format.Bytes.{comma, equals, is_one_of}
+use Rattle.influxdb_line_protocol.specs.format.Names.{a_measurement, a_tag_key, a_tag_value, escapable}
 use Rattle.influxdb_line_protocol.specs.format.Readings.{Text}
 use Rattle.influxdb_line_protocol.specs.format.Points.{Pair}
 use Rattle.influxdb_line_protocol.specs.code.Light.{is_single_tag}
@@ -67,6 +68,26 @@ base_of raw measurement tags =
     if measurement.is_single && list_all is_single_tag tags then borrowed raw
     else owned (base_text measurement.bytes (in_order tags))
     else base_by_key measurement.bytes tags
+
+-- whether a text is one of these bytes alone
+abbrev pub is_byte_alone : List ℕ → List ℕ → Bool
+is_byte_alone bytes (b ∷ []) = is_one_of bytes b
+is_byte_alone bytes text = false
+
+-- whether a name is ambiguous in a base: it holds the byte that divides it from the next name, or it is one byte alone that a
+-- backslash may escape in it, which is spelled with the backslash in some bases
+abbrev pub is_ambiguous_name : List ℕ → ℕ → List ℕ → Bool
+is_ambiguous_name known divider text = is_one_of text divider || is_byte_alone known text
+
+-- whether the key or the value of a tag is
+abbrev pub is_ambiguous_tag : Pair Text Text → Bool
+is_ambiguous_tag t =
+    is_ambiguous_name (escapable a_tag_key) equals t.key.bytes || is_ambiguous_name (escapable a_tag_value) comma t.value.bytes
+
+-- whether the base of a series is safe to group by: none of its names is ambiguous
+abbrev pub is_base_safe : Text → List (Pair Text Text) → Bool
+is_base_safe measurement tags =
+    not (is_ambiguous_name (escapable a_measurement) comma measurement.bytes || list_any is_ambiguous_tag tags)
 
 -- the code fails so for this base: it is a repeated key; `OutOfMemory` may be in the place of each
 abbrev pub FailsForBase : Error → Base → Type 0

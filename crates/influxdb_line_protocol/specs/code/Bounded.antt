@@ -5,7 +5,7 @@ use Rattle.influxdb_line_protocol.specs.format.Dialects.{Dialect}
 use Rattle.influxdb_line_protocol.specs.declared.split.Mark.{Mark}
 use Rattle.influxdb_line_protocol.specs.declared.stream.bounded.Skipped.{Skipped}
 use Rattle.influxdb_line_protocol.specs.declared.stream.bounded.Skipped.TheVariants.{Nothing, Within, Ended}
-use Rattle.influxdb_line_protocol.specs.declared.stream.bounded.TooLong.{TooLong}
+use Rattle.influxdb_line_protocol.specs.declared.stream.bounded.PieceTooLong.{PieceTooLong}
 use Rattle.influxdb_line_protocol.specs.format.Bytes.{newline, newlines_in}
 use Rattle.influxdb_line_protocol.specs.format.Pieces.{IsCutPiece, IsLastPiece}
 use Rattle.influxdb_line_protocol.specs.code.Streams.{FindsCut, Held}
@@ -56,7 +56,7 @@ KeepsRules before after = (after.held.dialect ≡ before.held.dialect) × (after
 
 -- of a text that the stream holds, a call gives the first piece that a newline ends, or in its place a fault where it is
 -- too long, which has the number of its newlines; where it gives none, no more bytes are kept than a piece may have
-abbrev pub GivesOf : HeldWithin → List ℕ → Option (Result (Bor (List ℕ)) TooLong) → HeldWithin → Type 0
+abbrev pub GivesOf : HeldWithin → List ℕ → Option (Result (Bor (List ℕ)) PieceTooLong) → HeldWithin → Type 0
 GivesOf before text None after = Holds after text × IsLastPiece before.held.dialect text × (kept after ≤ before.limit)
 GivesOf before text (Some (Ok piece)) after =
     (rest : List ℕ) × (length piece.now ≤ before.limit) × CutsTo before.held.dialect text piece.now rest × Holds after rest
@@ -65,25 +65,25 @@ GivesOf before text (Some (Err fault)) after =
     × (fault.newlines ≡ newlines_in piece)
 
 -- a call finds the first cut, or takes the first piece where it is too long
-abbrev pub FindsWithin : HeldWithin → Option (Result Mark TooLong) → HeldWithin → Type 0
+abbrev pub FindsWithin : HeldWithin → Option (Result Mark PieceTooLong) → HeldWithin → Type 0
 FindsWithin before None after = (text : List ℕ) → Holds before text → GivesOf before text None after
 FindsWithin before (Some (Ok cut)) after =
     (after ≡ before) × (before.skipped ≡ Nothing) × FindsCut before.held (Some cut) × (cut.at ≤ before.limit)
 FindsWithin before (Some (Err fault)) after = (text : List ℕ) → Holds before text → GivesOf before text (Some (Err fault)) after
 
 -- so it is of each text that it may hold; no more bytes are kept than before, and once one is given, fewer can be
-abbrev pub GivesWithin : HeldWithin → Option (Result (Bor (List ℕ)) TooLong) → HeldWithin → Type 0
+abbrev pub GivesWithin : HeldWithin → Option (Result (Bor (List ℕ)) PieceTooLong) → HeldWithin → Type 0
 GivesWithin before result after =
     KeepsRules before after × (kept after ≤ kept before) × IfSome result (λ _. most_given after < most_given before)
     × ((text : List ℕ) → Holds before text → GivesOf before text result after)
 
 -- a call gives a text that is one piece, or a fault in its place, which has the number of its newlines
-abbrev pub IsLastOf : ℕ → List ℕ → Result (Bor (List ℕ)) TooLong → Type 0
+abbrev pub IsLastOf : ℕ → List ℕ → Result (Bor (List ℕ)) PieceTooLong → Type 0
 IsLastOf limit text (Ok piece) = (piece.now ≡ text) × (length text ≤ limit)
 IsLastOf limit text (Err fault) = IsTooLong limit text × (fault.newlines ≡ newlines_in text)
 
 -- a call gives the last piece, and the stream then holds nothing
-abbrev pub GivesLastWithin : HeldWithin → Result (Bor (List ℕ)) TooLong → HeldWithin → Type 0
+abbrev pub GivesLastWithin : HeldWithin → Result (Bor (List ℕ)) PieceTooLong → HeldWithin → Type 0
 GivesLastWithin before result after =
     KeepsRules before after × Holds after []
     × ((text : List ℕ) → Holds before text → IsLastPiece before.held.dialect text → IsLastOf before.limit text result)

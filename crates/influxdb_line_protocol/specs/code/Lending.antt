@@ -7,7 +7,7 @@ use Rattle.influxdb_line_protocol.specs.declared.stream.LineStream.{LineStream}
 use Rattle.influxdb_line_protocol.specs.contracts.stream.LineStream.{the_row}
 use Rattle.influxdb_line_protocol.specs.code.Bounded.{GivesWithin, GivesLastWithin}
 use Rattle.influxdb_line_protocol.specs.declared.stream.bounded.BoundedLineStream.{BoundedLineStream}
-use Rattle.influxdb_line_protocol.specs.declared.stream.bounded.TooLong.{TooLong}
+use Rattle.influxdb_line_protocol.specs.declared.stream.bounded.PieceTooLong.{PieceTooLong}
 use Rattle.influxdb_line_protocol.specs.contracts.stream.bounded.BoundedLineStream.{the_row as bounded_row}
 
 -- it gave a piece
@@ -31,9 +31,9 @@ abbrev pub EndsAsLastText : {E : Type 0} → MutBor LineStream → Result (Bor (
 EndsAsLastText stream result = Rests the_row stream (GivesLastText stream.now result)
 
 -- it gave a piece or a fault, where pieces have a greatest length
-abbrev pub EndsWithin : MutBor BoundedLineStream → Option (Result (Bor (List ℕ)) TooLong) → Fml
+abbrev pub EndsWithin : MutBor BoundedLineStream → Option (Result (Bor (List ℕ)) PieceTooLong) → Fml
 EndsWithin stream result = Rests bounded_row stream (GivesWithin stream.now result)
 
 -- it gave the last piece or a fault
-abbrev pub EndsLastWithin : MutBor BoundedLineStream → Result (Bor (List ℕ)) TooLong → Fml
+abbrev pub EndsLastWithin : MutBor BoundedLineStream → Result (Bor (List ℕ)) PieceTooLong → Fml
 EndsLastWithin stream result = Rests bounded_row stream (GivesLastWithin stream.now result)

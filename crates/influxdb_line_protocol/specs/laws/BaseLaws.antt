@@ -6,7 +6,7 @@ use Rattle.std.specs.List.Sorted.{IsPermutation}
 use Rattle.std.specs.Option.{is_some}
 use Rattle.influxdb_line_protocol.specs.format.Dialects.{Dialect}
 use Rattle.influxdb_line_protocol.specs.code.Bases.{Base, borrowed, owned, duplicate_key, base_of, by_key, first_repeated, in_order}
-use Rattle.influxdb_line_protocol.specs.code.Bases.{keys_of, is_strictly_sorted}
+use Rattle.influxdb_line_protocol.specs.code.Bases.{is_base_safe, keys_of, is_strictly_sorted}
 use Rattle.influxdb_line_protocol.specs.format.Bytes.{backslash, comma, equals, is_one_of}
 use Rattle.influxdb_line_protocol.specs.format.Lines.{Line, answer, some_tags, tag_set}
 use Rattle.influxdb_line_protocol.specs.format.Names.{a_measurement, a_tag_key, a_tag_value, escapable, is_one_escape, name, spelled}
@@ -86,6 +86,21 @@ OneBaseIsOneSeries =
     → is_delimited measurement tags ≡ false → is_delimited other others ≡ false
     → base_bytes (base_of raw measurement tags) ≡ base_bytes (base_of text other others)
     → IsSameSeries measurement other tags others
+
+-- Two parsed series that repeat no key, and whose bases are safe to group by, have one base exactly if they are the same series.
+abbrev pub SafeBasesTellSeries : Type 0
+SafeBasesTellSeries =
+    (raw text : List ℕ) (measurement other : Text) (tags others : List (Pair Text Text))
+    → IsParsedSeries raw measurement tags → IsParsedSeries text other others
+    → first_repeated (keys_of tags) ≡ length tags → first_repeated (keys_of others) ≡ length others
+    → is_base_safe measurement tags ≡ true → is_base_safe other others ≡ true
+    → (base_bytes (base_of raw measurement tags) ≡ base_bytes (base_of text other others)) ↔ IsSameSeries measurement other tags others
+
+-- The same series are safe to group by alike, however they are spelled.
+abbrev pub SameSeriesAreSafeAlike : Type 0
+SameSeriesAreSafeAlike =
+    (measurement other : Text) (tags others : List (Pair Text Text)) → IsSameSeries measurement other tags others
+    → is_base_safe measurement tags ≡ is_base_safe other others
 
 -- A raw text without a backslash spells no name as an escape alone, and its names hold no such comma and no such `=`.
 abbrev pub PlainSeriesAreClear : Type 0

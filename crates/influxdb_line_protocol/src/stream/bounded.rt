@@ -15,7 +15,7 @@ use std::marker::Model;
 
 /// A piece was longer than it may be.
 #[derive(Clone, Copy, Debug, PartialEq, Eq)]
-pub struct TooLong {
+pub struct PieceTooLong {
     /// How many newlines the piece has, not counting the one that ends it.
     pub newlines: usize,
 }
@@ -126,7 +126,7 @@ impl BoundedLineStream {
     }
 
     // The cut of the first piece, or a fault where that is too long and was taken, or `None` until its newline has come.
-    fn first(&mut self) -> Option<Result<Mark, TooLong>>
+    fn first(&mut self) -> Option<Result<Mark, PieceTooLong>>
         ensures rules { KeepsRules self.old self.new }
         ensures few { kept self.new ≤ kept self.old }
         ensures fewer { IfSome result (λ found. OnErr found (most_given self.new < most_given self.old)) }
@@ -137,7 +137,7 @@ impl BoundedLineStream {
             Skipped::Within { .. } => return None,
             Skipped::Ended { newlines } => {
                 self.skipped = Skipped::Nothing;
-                return Some(Err(TooLong { newlines }));
+                return Some(Err(PieceTooLong { newlines }));
             }
         }
         match self.stream.cut() {
@@ -148,14 +148,14 @@ impl BoundedLineStream {
             Some(cut) if cut.at <= self.limit => Some(Ok(cut)),
             Some(cut) => {
                 let newlines = newlines_in(self.stream.take(cut));
-                Some(Err(TooLong { newlines }))
+                Some(Err(PieceTooLong { newlines }))
             }
         }
     }
 
     /// The first piece that a newline ends, or a fault in its place where it is too long, or `None` until that newline has
     /// come.
-    pub fn next(&mut self) -> Option<Result<&[u8], TooLong>>
+    pub fn next(&mut self) -> Option<Result<&[u8], PieceTooLong>>
         ensures* after { sem 𝓛 (EndsWithin self.entry result) }
     {
         match self.first()? {
@@ -165,7 +165,7 @@ impl BoundedLineStream {
     }
 
     // Takes what is held, where that is a piece that is too long, and gives its fault.
-    fn drops_last(&mut self) -> Option<TooLong>
+    fn drops_last(&mut self) -> Option<PieceTooLong>
         ensures long { IfSome result (λ fault. GivesLastWithin self.old (Err fault) self.new) }
         ensures short { result ≡ None → (self.new ≡ self.old) × (self.old.skipped ≡ Skipped.Nothing)
             × (length self.old.held.bytes ≤ self.old.limit) }
@@ -177,12 +177,12 @@ impl BoundedLineStream {
         };
         self.stream.take_all();
         self.skipped = Skipped::Nothing;
-        Some(TooLong { newlines })
+        Some(PieceTooLong { newlines })
     }
 
     /// The last piece, or a fault in its place where it is too long, once [`next`](Self::next) has given `None` and no more
     /// parts come. Then nothing is held, and the parts of another text can be given.
-    pub fn finish(&mut self) -> Result<&[u8], TooLong>
+    pub fn finish(&mut self) -> Result<&[u8], PieceTooLong>
         ensures* after { sem 𝓛 (EndsLastWithin self.entry result) }
     {
         match self.drops_last() {

@@ -1,6 +1,7 @@
 use Rattle.influxdb_line_protocol.proofs.lemmas.laws.bases_tell_series.BasesTellSeries.{clear_series_have_bases, same_series_have_one_base}
 use Rattle.influxdb_line_protocol.proofs.lemmas.laws.bases_tell_series.BasesApart.{one_base_is_one_series, plain_series_are_clear}
 use Rattle.influxdb_line_protocol.proofs.lemmas.laws.bases_tell_series.ParsedSeries.{read_series_are_parsed}
+use Rattle.influxdb_line_protocol.proofs.lemmas.laws.bases_tell_series.SafeBases.{safe_bases_tell_series, same_series_are_safe_alike}
 use Rattle.influxdb_line_protocol.proofs.laws.bases_tell_series.Goals as goal
 
 pub returns-clause-exist : goal.returns-clause-exist
@@ -17,3 +18,9 @@ returns-clause-plain c = plain_series_are_clear
 
 pub returns-clause-read : goal.returns-clause-read
 returns-clause-read c = read_series_are_parsed
+
+pub returns-clause-safe : goal.returns-clause-safe
+returns-clause-safe c = safe_bases_tell_series
+
+pub returns-clause-alike : goal.returns-clause-alike
+returns-clause-alike c = same_series_are_safe_alike

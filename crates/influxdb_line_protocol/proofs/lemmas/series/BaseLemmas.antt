@@ -22,7 +22,7 @@ use Rattle.std.proofs.lemmas.Map.Text.{btree_map_updates_str}
 use Rattle.influxdb_line_protocol.specs.declared.escaped.EscapedStr.{EscapedStr}
 use Rattle.influxdb_line_protocol.specs.code.Bases.{Base, FailsForBase, GivesBase, base_by_key, base_of, base_text, in_order, is_borrowed}
 use Rattle.influxdb_line_protocol.specs.code.Bases.{borrowed, owned, duplicate_key, by_key, entry_bytes, first_repeated, is_repeated_at}
-use Rattle.influxdb_line_protocol.specs.code.Bases.{keys_of, is_strictly_sorted}
+use Rattle.influxdb_line_protocol.specs.code.Bases.{is_ambiguous_tag, keys_of, is_strictly_sorted}
 use Rattle.influxdb_line_protocol.specs.code.Light.{is_single_tag}
 use Rattle.influxdb_line_protocol.specs.code.Parsed.{tag_of}
 use Rattle.influxdb_line_protocol.specs.format.Points.{Pair}
@@ -157,6 +157,12 @@ pub all_single : (tags : List (EscapedStr × EscapedStr))
     → list_all is_single_tag (map tag_of tags) ≡ list_all (λ t. is_single_tag (tag_of t)) tags
 all_single [] = refl
 all_single (t ∷ tags) = ap (λ (b : Bool). is_single_tag (tag_of t) && b) (all_single tags)
+
+-- the test of ambiguous tags, as the code has it
+pub any_ambiguous : (tags : List (EscapedStr × EscapedStr))
+    → list_any is_ambiguous_tag (map tag_of tags) ≡ list_any (λ t. is_ambiguous_tag (tag_of t)) tags
+any_ambiguous [] = refl
+any_ambiguous (t ∷ tags) = ap (λ (b : Bool). is_ambiguous_tag (tag_of t) || b) (any_ambiguous tags)
 
 -- the rows: keys that do not rise
 pub base_falls : (raw : List ℕ) (m : Text) (tags : List (Pair Text Text))

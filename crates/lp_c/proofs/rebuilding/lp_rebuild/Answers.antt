@@ -11,7 +11,7 @@ rebuilds_same d e s t r p q h = rw (← p, ← q) h
 pub returns-clause-rebuilds : goal.returns-clause-rebuilds
 returns-clause-rebuilds c = λ _ _. record {
   rebuilt = c.in-Ok-rebuild_in.rebuilt;
-  is = rebuilds_same _ _ _ _ _ c.dialect_of.ensures c.in-Ok.ensures.cases.0 c.in-Ok-rebuild_in.ensures.rebuilds;
+  is = rebuilds_same _ _ _ _ _ c.dialect_of.ensures c.in-Ok.ensures.0 c.in-Ok-rebuild_in.ensures.rebuilds;
   counted = c.count.ensures;
   puts = c.put_both.ensures;
 }

@@ -17,7 +17,7 @@ returns-then-is_err g c =
       flushed = search rules;
       part = λ failed.
           batch_part (rules_of c.args.dialect) _ _ _ _ _ _ _ _ _ read.ok read.end
-          (c.in-Ok.ensures.cases.0 ∙ c.as_slice.ensures.value) c.in-Ok-rebuild_in.ensures.rebuilds
+          (c.in-Ok.ensures.0 ∙ c.as_slice.ensures.value) c.in-Ok-rebuild_in.ensures.rebuilds
           c.as_slice-2.ensures.value (at_fault c.write_all.result c.if-is_err.ensures.value c.write_all.ensures.part);
       write = search rules;
       counts = search rules;
@@ -37,7 +37,7 @@ returns-then-is_err-2 g c =
       flushed = search rules;
       part = λ failed.
           faults_part (rules_of c.args.dialect) _ _ _ _ _ _ _ _ _ _ _ read.ok read.end
-          (c.in-Ok.ensures.cases.0 ∙ c.as_slice.ensures.value) c.in-Ok-rebuild_in.ensures.rebuilds
+          (c.in-Ok.ensures.0 ∙ c.as_slice.ensures.value) c.in-Ok-rebuild_in.ensures.rebuilds
           c.as_slice-2.ensures.value c.as_slice-3.ensures.value
           (at_no_fault c.write_all.result c.if-is_err.ensures.value c.write_all.ensures.ok)
           (at_fault c.write_all-2.result c.if-is_err-2.ensures.value c.write_all-2.ensures.part);

@@ -14,5 +14,5 @@ returns-in-Ok-clause-taken c =
 pub returns-in-Err-clause-taken : goal.returns-in-Err-clause-taken
 returns-in-Err-clause-taken c =
     on_ok_weaker c.refuse.result
-    (takes_bad_bytes (rules_of c.args.dialect) c.args.piece.now c.args.so_far.now c.refuse.new.so_far c.in-Err.ensures.cases.0)
+    (takes_bad_bytes (rules_of c.args.dialect) c.args.piece.now c.args.so_far.now c.refuse.new.so_far c.in-Err.ensures.cases)
     c.refuse.ensures.refused

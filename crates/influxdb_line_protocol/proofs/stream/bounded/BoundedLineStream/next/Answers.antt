@@ -1,6 +1,6 @@
 use Rattle.std.proofs.Common.{◌≡◌, ◌+◌, ◌<◌, ◌≤◌, length, List, ℕ, Result, Some, refl, subst, ap, ◌∙◌, arith}
 use Rattle.influxdb_line_protocol.specs.declared.split.Mark.{Mark}
-use Rattle.influxdb_line_protocol.specs.declared.stream.bounded.TooLong.{TooLong}
+use Rattle.influxdb_line_protocol.specs.declared.stream.bounded.PieceTooLong.{PieceTooLong}
 use Rattle.influxdb_line_protocol.specs.declared.stream.bounded.Skipped.TheVariants.{Nothing}
 use Rattle.influxdb_line_protocol.specs.code.Bounded.{CutsTo, FindsWithin, HeldWithin, Holds, HoldsBy, faults_to_come, kept, most_given}
 use Rattle.influxdb_line_protocol.proofs.lemmas.stream.BoundedStreams.{takes_within, taking_keeps_fewer}
@@ -12,7 +12,7 @@ returns-in-Ok c =
     let now = c.args.self.now in
     let piece = c.take.result.now in
     let after = c.take.follows.lender-at-none in
-    let finds = subst (λ (r : Result Mark TooLong). FindsWithin now (Some r) c.first.new.self) c.in-Ok.is c.in_ok-cut.ensures.finds in
+    let finds = subst (λ (r : Result Mark PieceTooLong). FindsWithin now (Some r) c.first.new.self) c.in-Ok.is c.in_ok-cut.ensures.finds in
     let same = c.self.view_is ∙ finds.0 in
     let nothing : s.skipped ≡ Nothing = ap (λ (v : HeldWithin). v.skipped) same ∙ finds.1 in
     let takes = c.take.follows.holds-at-none in

@@ -5,7 +5,7 @@ use Rattle.influxdb_line_protocol.specs.code.ReadInto.{item_in}
 use Rattle.influxdb_line_protocol.specs.code.ParseSteps.{GivesItem, HadBlankPieces}
 use Rattle.lp_rebuild.proofs.BatchLemmas.{item_is_read}
 use Rattle.lp_rebuild.proofs.RelayLemmas.{piece_item, piece_blank, takes_text, takes_blank}
-use Rattle.lp_rebuild.proofs.taking.take_text.Goals as goal
+use Rattle.lp_rebuild.proofs.taking.take_by_line.Goals as goal
 
 pub take-requires-clause-read : goal.take-requires-clause-read
 take-requires-clause-read c =

@@ -1,0 +1,314 @@
+/* Hands names, strings and copies of up to a million bytes and lines of up to a hundred thousand tags and fields over the border,
+ * each to every call that may answer that memory is out, and rebuilds a text of four million bytes. What must come is composed
+ * here, by the rules of docs/FORMAT.md. Each block that is lent has just the length that is needed. */
+#include "influxdb_line_protocol.h"
+#include <stdio.h>
+#include <stdlib.h>
+#include <string.h>
+
+enum { LONGEST = 1048577 };
+enum order { RISING, FALLING, REPEATED };
+
+/* A line: how many bytes each of its names and strings has, and how many tags and fields it has; whether names hold spaces, and
+ * strings quotes, which are spelled with a backslash; and how the keys of its tags come: the last one may repeat the first. */
+struct shape { size_t bytes, tags, fields; bool escaped; enum order order; };
+
+/* A text that is composed. */
+struct text { uint8_t *at; size_t len, room; };
+
+/* What is lent to read two lines. */
+struct lent { lp_row rows[2]; lp_part *parts; uint8_t *bytes; };
+
+static bool must(bool holds, const char *what, const struct shape *shape) {
+    if (!holds) fprintf(stderr, "sizes: %s is wrong: %zu bytes, %zu tags, %zu fields, escaped %d, order %d\n", what,
+                        shape->bytes, shape->tags, shape->fields, shape->escaped, (int)shape->order);
+    return holds;
+}
+
+static void *lend(void *old, size_t size) {
+    void *new = realloc(old, size ? size : 1);
+    if (!new) abort();
+    return new;
+}
+
+static void put(struct text *text, const void *bytes, size_t len) {
+    if (text->room - text->len < len) text->at = lend(text->at, text->room = 2 * text->room + len);
+    memcpy(text->at + text->len, bytes, len);
+    text->len += len;
+}
+
+/* The name or string of this kind and number: letters, and six digits at the end where it is longer than they are. */
+static const uint8_t *name_of(const struct shape *shape, char kind, size_t number) {
+    static uint8_t name[LONGEST + 1];
+    const uint8_t known = kind == 's' ? '"' : ' ';
+    for (size_t at = 0; at < shape->bytes; at++) {
+        name[at] = shape->escaped && at % 64 == 0 ? known : (uint8_t)('a' + ((size_t)kind + at) % 26);
+    }
+    if (shape->bytes > 6) snprintf((char *)name + shape->bytes - 6, 7, "%06zu", number);
+    return name;
+}
+
+/* Puts that name or string, with its escapes where it is spelled. */
+static void put_name(struct text *text, const struct shape *shape, char kind, size_t number, bool spelled) {
+    const uint8_t *name = name_of(shape, kind, number);
+    for (size_t at = 0; at < shape->bytes; at++) {
+        if (spelled && (name[at] == ' ' || name[at] == '"')) put(text, "\\", 1);
+        put(text, &name[at], 1);
+    }
+}
+
+/* The number of the tag at this place. */
+static size_t tag_number(const struct shape *shape, size_t at) {
+    if (shape->order == FALLING) return shape->tags - 1 - at;
+    return shape->order == REPEATED && at == shape->tags - 1 ? 0 : at;
+}
+
+/* Puts measurement and tags: as they are spelled, or without escapes and in the order of their keys. */
+static void put_series(struct text *text, const struct shape *shape, bool spelled) {
+    put_name(text, shape, 'm', 0, spelled);
+    for (size_t at = 0; at < shape->tags; at++) {
+        size_t number = spelled ? tag_number(shape, at) : at;
+        put(text, ",", 1);
+        put_name(text, shape, 'k', number, spelled);
+        put(text, "=", 1);
+        put_name(text, shape, 'v', number, spelled);
+    }
+}
+
+/* Puts a line: its series; its fields, by turns a string, in these quotes, and an integer; and a timestamp. */
+static void put_line(struct text *text, const struct shape *shape, const char *quote) {
+    char integer[32];
+    put_series(text, shape, true);
+    for (size_t at = 0; at < shape->fields; at++) {
+        put(text, at ? "," : " ", 1);
+        put_name(text, shape, 'f', at, true);
+        put(text, "=", 1);
+        if (at % 2) {
+            put(text, integer, (size_t)snprintf(integer, sizeof integer, "-%zui", at));
+            continue;
+        }
+        put(text, quote, strlen(quote));
+        put_name(text, shape, 's', at, true);
+        put(text, quote, strlen(quote));
+    }
+    put(text, " -7", 3);
+}
+
+/* Whether a text that holds an escape and more is a copy: one escape alone is a part of the input. */
+static bool has_copies(const struct shape *shape) { return shape->escaped && shape->bytes > 1; }
+
+static bool shows(const lp_view *view, const struct shape *shape, char kind, size_t number) {
+    return view->copied == has_copies(shape) && view->text.len == shape->bytes &&
+           memcmp(view->text.at, name_of(shape, kind, number), shape->bytes) == 0;
+}
+
+static bool shows_tags(const lp_part *parts, const struct shape *shape) {
+    bool good = true;
+    for (size_t at = 0; at < shape->tags; at++) {
+        size_t number = tag_number(shape, at);
+        good &= parts[at].kind == LP_TAG && shows(&parts[at].key, shape, 'k', number) && shows(&parts[at].text, shape, 'v', number);
+    }
+    return good;
+}
+
+static bool shows_fields(const lp_part *parts, const struct shape *shape) {
+    bool good = true;
+    for (size_t at = 0; at < shape->fields; at++) {
+        good &= shows(&parts[at].key, shape, 'f', at);
+        if (at % 2) good &= parts[at].kind == LP_INTEGER && parts[at].integer == -(int64_t)at;
+        else good &= parts[at].kind == LP_STRING && shows(&parts[at].text, shape, 's', at);
+    }
+    return good;
+}
+
+static bool shows_line(const lp_line *line, const lp_part *parts, const struct shape *shape) {
+    return line->tags == shape->tags && line->fields == shape->fields && line->has_tag_set && line->has_timestamp &&
+           line->timestamp == -7 && shows(&line->measurement, shape, 'm', 0) && shows_tags(parts, shape) &&
+           shows_fields(parts + shape->tags, shape);
+}
+
+/* Reads the line by itself, with nothing lent, then a byte too little, then just enough. */
+static bool reads_next(const struct text *text, const struct shape *shape, struct lent *lent) {
+    const size_t parts_len = shape->tags + shape->fields;
+    const size_t copied = has_copies(shape) ? (1 + 2 * shape->tags + shape->fields + (shape->fields + 1) / 2) * shape->bytes : 0;
+    lp_lines lines = LP_NO_LINES;
+    lp_line *line = &lent->rows[0].line;
+    bool good = must(lp_lines_begin(text->at, text->len, false, &lines), "lp_lines_begin", shape);
+    lp_room room = { lent->bytes, 0 };
+    good &= must(lp_lines_next(&lines, &room, line, lent->parts, 0) == LP_MORE_PARTS, "LP_MORE_PARTS", shape);
+    good &= must(line->tags + line->fields == parts_len && line->copied_len == copied, "how much a line takes", shape);
+    lent->parts = lend(lent->parts, 2 * parts_len * sizeof *lent->parts);
+    lp_empty_parts(lent->parts, 2 * parts_len);
+    lent->bytes = lend(lent->bytes, 2 * copied);
+    room = (lp_room){ lent->bytes, copied ? copied - 1 : 0 };
+    if (copied) good &= must(lp_lines_next(&lines, &room, line, lent->parts, parts_len) == LP_MORE_ROOM, "LP_MORE_ROOM", shape);
+    room = (lp_room){ lent->bytes, copied };
+    good &= must(lp_lines_next(&lines, &room, line, lent->parts, parts_len) == LP_LINE, "lp_lines_next", shape);
+    good &= must(shows_line(line, lent->parts, shape), "the line of lp_lines_next", shape);
+    return good & must(lp_lines_next(&lines, &room, line, lent->parts, parts_len) == LP_END, "LP_END", shape);
+}
+
+/* Reads the line twice in one block, with just enough lent. */
+static bool reads_block(const struct text *twice, const struct shape *shape, struct lent *lent) {
+    const size_t parts_len = shape->tags + shape->fields, copied = lent->rows[0].line.copied_len;
+    lp_lines lines = LP_NO_LINES;
+    size_t filled = 77;
+    lp_room room = { lent->bytes, 2 * copied };
+    bool good = must(lp_lines_begin(twice->at, twice->len, true, &lines), "lp_lines_begin", shape);
+    good &= must(lp_lines_block(&lines, &room, lent->rows, 2, lent->parts, 2 * parts_len, &filled) == LP_LINE, "lp_lines_block", shape);
+    good &= must(filled == 2 && lent->rows[1].parts_at == parts_len && room.len == 0, "what a block takes", shape);
+    good &= must(shows_line(&lent->rows[0].line, lent->parts, shape), "the first row", shape);
+    return good & must(shows_line(&lent->rows[1].line, lent->parts + parts_len, shape), "the second row", shape);
+}
+
+/* Reads a fault whose text has so many bytes. */
+static bool reads_fault(const struct shape *shape) {
+    struct text text = { NULL, 0, 0 };
+    lp_lines lines = LP_NO_LINES;
+    lp_line line = LP_EMPTY_LINE;
+    lp_part part;
+    uint8_t *bytes = lend(NULL, shape->bytes + 1);
+    lp_room room = { bytes, shape->bytes };
+    lp_empty_parts(&part, 1);
+    put(&text, "m f=t ", 6);
+    put(&text, name_of(shape, 'm', 0), shape->bytes);
+    bool good = must(lp_lines_begin(text.at, text.len, false, &lines), "lp_lines_begin", shape);
+    good &= must(lp_lines_next(&lines, &room, &line, &part, 1) == LP_MORE_ROOM, "a fault without room", shape);
+    room.len = shape->bytes + 1;
+    good &= must(lp_lines_next(&lines, &room, &line, &part, 1) == LP_FAULT, "a fault", shape);
+    good &= must(line.fault == LP_CANNOT_PARSE_ENTIRE_LINE && line.fault_text.len == shape->bytes + 1 &&
+                 memcmp(line.fault_text.at, text.at + 5, shape->bytes + 1) == 0, "the text of a fault", shape);
+    free(bytes);
+    free(text.at);
+    return good;
+}
+
+typedef uint32_t writer(const lp_line *, const lp_part *, size_t, uint8_t *, size_t, size_t *);
+
+/* Puts a text out into a buffer that is a byte too short, and into one of just its length. */
+static bool puts_out(writer *write, const struct lent *lent, uint32_t wanted, const struct text *text, const char *what,
+                     const struct shape *shape) {
+    const lp_line *line = &lent->rows[0].line;
+    const size_t parts_len = shape->tags + shape->fields;
+    uint8_t *out = lend(NULL, text->len);
+    size_t len = 77;
+    bool good = write(line, lent->parts, parts_len, out, text->len - 1, &len) == LP_MORE_ROOM && len == text->len;
+    len = 77;
+    good &= write(line, lent->parts, parts_len, out, text->len, &len) == wanted && len == text->len;
+    good &= memcmp(out, text->at, text->len) == 0;
+    free(out);
+    return must(good, what, shape);
+}
+
+static bool puts_line(const struct text *written, const struct shape *shape, const struct lent *lent) {
+    struct text shown = { NULL, 0, 0 };
+    put_line(&shown, shape, "");
+    bool good = puts_out(lp_line_write, lent, LP_WRITTEN, written, "lp_line_write", shape);
+    good &= puts_out(lp_line_show, lent, LP_WRITTEN, &shown, "lp_line_show", shape);
+    free(shown.at);
+    return good;
+}
+
+/* Says of the measurement and of each tag that it is a copy. */
+static void say_copied(struct lent *lent, const struct shape *shape) {
+    lent->rows[0].line.measurement.copied = true;
+    for (size_t at = 0; at < shape->tags; at++) lent->parts[at].key.copied = lent->parts[at].text.copied = true;
+}
+
+/* The base: as the line spells it, where the keys rise and no text is a copy; or without escapes, in the order of the keys. */
+static bool puts_base(const struct shape *shape, struct lent *lent) {
+    struct text base = { NULL, 0, 0 }, unescaped = { NULL, 0, 0 };
+    uint32_t wanted = shape->order == REPEATED ? LP_FAULT : LP_WRITTEN;
+    if (shape->order == REPEATED) put_name(&unescaped, shape, 'k', 0, false);
+    else put_series(&unescaped, shape, false);
+    if (shape->order == RISING && !has_copies(shape)) put_series(&base, shape, true);
+    else put(&base, unescaped.at, unescaped.len);
+    bool good = puts_out(lp_line_base, lent, wanted, &base, "lp_line_base", shape);
+    say_copied(lent, shape);
+    good &= puts_out(lp_line_base, lent, wanted, &unescaped, "lp_line_base of copies", shape);
+    free(base.at);
+    free(unescaped.at);
+    return good;
+}
+
+/* Whether the line that is handed in is admitted, and with a last tag, or else a last field, whose name is not. */
+static bool is_tested(const struct shape *shape, struct lent *lent) {
+    static const lp_view bad = { { (const uint8_t *)"a\t", 2 }, false };
+    const lp_line *line = &lent->rows[0].line;
+    const size_t parts_len = shape->tags + shape->fields;
+    bool admitted = false;
+    bool good = lp_line_is_admitted(line, lent->parts, parts_len, &admitted) == LP_WRITTEN && admitted;
+    lp_part *last_tag = &lent->parts[shape->tags - 1], *last_field = &lent->parts[parts_len - 1];
+    const lp_part tag = *last_tag;
+    last_tag->text = bad;
+    good &= lp_line_is_admitted(line, lent->parts, parts_len, &admitted) == LP_WRITTEN && !admitted;
+    *last_tag = tag;
+    last_field->key = bad;
+    admitted = true;
+    good &= lp_line_is_admitted(line, lent->parts, parts_len, &admitted) == LP_WRITTEN && !admitted;
+    return must(good, "lp_line_is_admitted", shape);
+}
+
+/* The line is read, by itself and twice in a block, and handed in. */
+static bool is_right(const struct shape *shape) {
+    struct text twice = { NULL, 0, 0 };
+    struct lent lent = { { LP_EMPTY_ROW, LP_EMPTY_ROW }, lend(NULL, 0), lend(NULL, 0) };
+    put_line(&twice, shape, "\"");
+    put(&twice, "\n", 1);
+    const size_t len = twice.len;
+    put_line(&twice, shape, "\"");
+    const struct text once = { twice.at, len - 1, 0 }, written = { twice.at, len, 0 };
+    bool good = reads_fault(shape) & reads_next(&once, shape, &lent);
+    if (good) good = reads_block(&twice, shape, &lent);
+    if (good) good = puts_line(&written, shape, &lent) & puts_base(shape, &lent) & is_tested(shape, &lent);
+    free(twice.at);
+    free(lent.parts);
+    free(lent.bytes);
+    return good;
+}
+
+/* A text of so many items, by turns a line and a fault; the batch and the fault lines that it is rebuilt to. */
+static void put_items(size_t items, struct text *text, struct text *batch, struct text *faults) {
+    char line[128];
+    for (size_t at = 1; at <= items; at += 2) {
+        put(text, line, (size_t)snprintf(line, sizeof line, "m,host=a\\ %zu  up=T,f=%zui %zu\nm f=1i x%zu\n", at, at, at, at));
+        put(batch, line, (size_t)snprintf(line, sizeof line, "m,host=a\\ %zu up=true,f=%zui %zu\n", at, at, at));
+        put(faults, line, (size_t)snprintf(line, sizeof line,
+            "item %zu: Could not parse entire line. Found trailing content: ' x%zu'\n", at + 1, at));
+    }
+}
+
+/* Rebuilds a text of so many items into buffers of which one is a byte too short, and into ones of just their lengths. */
+static bool rebuilds(size_t items) {
+    struct text text = { NULL, 0, 0 }, batch = { NULL, 0, 0 }, faults = { NULL, 0, 0 };
+    lp_counts counts = { 77, 77, 77, 77 };
+    put_items(items, &text, &batch, &faults);
+    uint8_t *out = lend(NULL, batch.len), *err = lend(NULL, faults.len);
+    bool good = lp_rebuild(false, text.at, text.len, out, batch.len, err, faults.len - 1, &counts) == LP_MORE_ROOM;
+    good &= counts.batch_len == batch.len && counts.faults_len == faults.len;
+    good &= lp_rebuild(true, text.at, text.len, out, batch.len, err, faults.len, &counts) == LP_WRITTEN;
+    good &= counts.batch_len == batch.len && memcmp(out, batch.at, batch.len) == 0 && counts.carried == items / 2;
+    good &= counts.faults_len == faults.len && memcmp(err, faults.at, faults.len) == 0 && counts.refused == items / 2;
+    if (!good) fprintf(stderr, "sizes: lp_rebuild of %zu items in %zu bytes is wrong\n", items, text.len);
+    void *all[] = { text.at, batch.at, faults.at, out, err };
+    for (size_t at = 0; at < 5; at++) free(all[at]);
+    return good && (items < 100000 || text.len > 4000000);
+}
+
+int main(void) {
+    static const size_t sizes[][3] = {
+        { 1, 1, 1 }, { 65, 1, 1 }, { 1025, 1, 1 }, { 65537, 1, 1 }, { LONGEST, 1, 1 },
+        { 8, 9, 9 }, { 8, 17, 17 }, { 8, 1001, 1001 }, { 8, 100001, 100001 }, { 65537, 17, 17 },
+    };
+    bool good = rebuilds(2) && rebuilds(160000);
+    int lines = 0;
+    for (size_t at = 0; at < 6 * (sizeof sizes / sizeof *sizes); at++) {
+        const size_t *size = sizes[at / 6];
+        const struct shape shape = { size[0], size[1], size[2], at % 2 == 1, (enum order)(at % 6 / 2) };
+        if (shape.order != RISING && shape.tags == 1) continue;
+        good &= is_right(&shape);
+        lines++;
+    }
+    printf("%d lines of up to %d bytes a name and 100001 tags and fields handed over, and 4 MB rebuilt\n", lines, LONGEST);
+    return !good;
+}
