@@ -1,0 +1,16 @@
+//! Tests of what is large. Each call that may answer that memory is refused succeeds at each size, where there is memory: no
+//! contract can say that, and small tables pass where a call gives up at a size of its own.
+#![tactic(auto)]
+
+#[cfg(test)]
+mod bases;
+#[cfg(test)]
+mod built;
+#[cfg(test)]
+mod lines;
+#[cfg(test)]
+mod rebuilt;
+#[cfg(test)]
+mod rows;
+#[cfg(test)]
+mod streams;

@@ -1,0 +1,77 @@
+//! Long and wide lines: what is read of them in both dialects, one by one and into one line, what is shown of them, and that they
+//! are written again; and copies of long names and values.
+
+use crate::rows::{self, Row, assert_same};
+use influxdb_line_protocol::{
+    Dialect, EscapedStr, FieldValue, LineProtocolBuilder, is_admitted, write_line,
+};
+use lp_vectors::fault::Fault;
+use lp_vectors::render;
+use std::alloc::Global;
+use std::process::Abort;
+
+// Each line is read and shown so, and written again as it is.
+fn are_read_so(rt: &impl Abort, alloc: Global, rows: &[Row]) -> Result<(), Fault> {
+    for row in rows {
+        let by_crate = render::items_in(alloc, Dialect::Crate, row.text.as_str())?;
+        assert_same(rt, by_crate.as_bytes(), row.item.as_bytes());
+        let by_strict = render::items_in(alloc, Dialect::Strict, row.text.as_str())?;
+        assert_same(rt, by_strict.as_bytes(), row.item.as_bytes());
+        let line = rows::parsed(alloc, row.text.as_str())?;
+        let shown = format!(in alloc; "{line}")?;
+        assert_same(rt, shown.as_bytes(), row.shown.as_bytes());
+        assert!(rt; is_admitted(&line));
+        assert!(rt; line.field_set.len() > 0);
+        match write_line(LineProtocolBuilder::new(alloc), &line) {
+            Ok(lines) => {
+                let wanted = format!(in alloc; "{}\n", row.text)?;
+                assert_same(rt, lines.build().as_slice(), wanted.as_bytes());
+            }
+            Err(_) => return Err(Fault::Unexpected),
+        }
+    }
+    Ok(())
+}
+
+#[test]
+fn lines_of_each_size_are_read_shown_and_written(rt: HostRuntime) -> Result<(), Fault> {
+    let rows = rows::all(rt.alloc())?;
+    are_read_so(&rt, rt.alloc(), rows.as_slice())
+}
+
+// A name that is held so is copied as it is, and given as this `String`.
+fn is_copied(
+    rt: &impl Abort,
+    alloc: Global,
+    name: EscapedStr<'_>,
+    text: &str,
+) -> Result<(), Fault> {
+    let copy = name.clone(alloc)?;
+    let rendered = render::name(alloc, &name)?;
+    assert_same(
+        rt,
+        render::name(alloc, &copy)?.as_bytes(),
+        rendered.as_bytes(),
+    );
+    assert_same(rt, name.to_string(alloc)?.as_bytes(), text.as_bytes());
+    assert_same(rt, copy.into_string(alloc)?.as_bytes(), text.as_bytes());
+    let value = FieldValue::String(name).clone(alloc)?;
+    assert_same(
+        rt,
+        render::value(alloc, &value)?.as_bytes(),
+        rendered.as_bytes(),
+    );
+    Ok(())
+}
+
+#[test]
+fn texts_of_each_size_are_copied(rt: HostRuntime) -> Result<(), Fault> {
+    let alloc = rt.alloc();
+    for long in rows::long_texts(alloc)?.iter() {
+        let text = long.text.as_str();
+        is_copied(&rt, alloc, EscapedStr::from(text), text)?;
+        let copy = String::from_str(alloc, text)?;
+        is_copied(&rt, alloc, EscapedStr::CopiedValue(copy), text)?;
+    }
+    Ok(())
+}
