@@ -10,12 +10,12 @@ The shared library is made by `bindings/build.sh`. It is found by the variable I
 package, or in `bindings/out`.
 """
 
-from .items import Fault, FaultKind, Line, Side, Unsigned, Value
+from .items import Fault, FaultKind, FloatText, Line, Side, Unsigned, Value
 from .reading import parse, split
 from .rebuilding import Rebuilt, rebuild
 from .writing import Builder, DuplicateTag, base, is_admitted, show, write
 
 __all__ = [
-    "Builder", "DuplicateTag", "Fault", "FaultKind", "Line", "Rebuilt", "Side", "Unsigned", "Value",
+    "Builder", "DuplicateTag", "Fault", "FaultKind", "FloatText", "Line", "Rebuilt", "Side", "Unsigned", "Value",
     "base", "is_admitted", "parse", "rebuild", "show", "split", "write",
 ]

@@ -2,9 +2,21 @@
 
 from __future__ import annotations
 
+import re
 from dataclasses import dataclass, field
 from enum import IntEnum
+from operator import index
+from reprlib import repr as short
 from typing import List, Optional, Tuple, Union
+
+_LITERAL = re.compile(r"-?[0-9]+(\.[0-9]+)?([eE][+-]?[0-9]+)?")
+
+
+def as_integer(number: int) -> int:
+    """A number that must be an integer, as an `int`. `bool` is none here, though Python counts it among its integers."""
+    if isinstance(number, bool):
+        raise TypeError("'bool' object cannot be interpreted as an integer")
+    return index(number)
 
 
 class Unsigned(int):
@@ -12,8 +24,37 @@ class Unsigned(int):
 
     __slots__ = ()
 
+    def __new__(cls, number: int = 0) -> Unsigned:
+        return super().__new__(cls, as_integer(number))
+
+
+class FloatText(float):
+    """A float that is written as `text` spells it: `FloatText("1e400")`. ValueError where that is no literal of a float.
+
+    Reading gives it where the float nearest to the literal is infinite, since a plain float would have lost what was read.
+    """
+
+    __slots__ = ("text",)
+    text: str
+
+    def __new__(cls, text: str) -> FloatText:
+        if not isinstance(text, str):
+            raise TypeError(f"the literal of a float is a str, not {type(text).__name__}")
+        if not _LITERAL.fullmatch(text):
+            raise ValueError(f"{short(text)} is no literal of a float")
+        number = super().__new__(cls, text)
+        number.text = text
+        return number
+
+    def __getnewargs__(self) -> Tuple[str]:
+        return (self.text,)
+
+    def __repr__(self) -> str:
+        return f"FloatText({self.text!r})"
+
 
 Value = Union[int, Unsigned, float, str, bool]
+"""The value of a field. A `bool` is a boolean, and no integer; a `float` is finite, or a FloatText."""
 
 
 class FaultKind(IntEnum):

@@ -118,8 +118,10 @@ EMPTY_ROW = EMPTY_LINE + bytes(ctypes.sizeof(Row) - ctypes.sizeof(Line))
 
 
 def encoded(text: Union[str, bytes]) -> bytes:
-    """The bytes of a text."""
-    return text.encode() if isinstance(text, str) else bytes(text)
+    """The bytes of a text: a `str`, or what lends its bytes. TypeError for all else, of which `bytes` alone would make some."""
+    if isinstance(text, bytes):
+        return text
+    return text.encode() if isinstance(text, str) else bytes(memoryview(text))
 
 
 def unwritten(size: int) -> bytes:

@@ -4,12 +4,13 @@ from __future__ import annotations
 
 import ctypes
 from itertools import repeat
+from math import isfinite
 from operator import sub
 from struct import calcsize
 from typing import Iterator, List, Tuple, Union
 
 from . import library as lp
-from .items import Fault, FaultKind, Line, Side, Unsigned, Value
+from .items import Fault, FaultKind, FloatText, Line, Side, Unsigned, Value
 
 _ITEMS = 256
 """At most so many items are read at once."""
@@ -76,8 +77,9 @@ class _Block:
         """The keys and values of the first parts."""
         column, texts = self.parts.column, self.texts(self.parts, lp.Part.text.offset, count)
         values = [
-            text if kind in (lp.TAG, lp.STRING) else float(text) if kind == lp.FLOAT else integer if kind == lp.INTEGER
-            else Unsigned(unsigned) if kind == lp.UNSIGNED else boolean == 1
+            text if kind in (lp.TAG, lp.STRING)
+            else (number if isfinite(number := float(text)) else FloatText(text)) if kind == lp.FLOAT
+            else integer if kind == lp.INTEGER else int.__new__(Unsigned, unsigned) if kind == lp.UNSIGNED else boolean == 1
             for kind, text, integer, unsigned, boolean in zip(
                 column("I", lp.Part.kind.offset, count), texts, column("q", lp.Part.integer.offset, count),
                 column("Q", lp.Part.unsigned_integer.offset, count), column("B", lp.Part.boolean.offset, count))]

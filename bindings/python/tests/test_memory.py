@@ -3,8 +3,7 @@
 import os
 import subprocess
 import sys
-
-import pytest
+import unittest
 
 PROGRAM = r"""
 import ctypes
@@ -13,11 +12,13 @@ from line_protocol import library
 
 refused, requests = (ctypes.c_long.in_dll(library.LIBRARY, name) for name in ("lp_refused", "lp_requests"))
 line = line_protocol.Line("m", [("t", "a b")], [("f", 1)])
+builder = line_protocol.Builder().measurement("a").field("f", 1).close_line().measurement("b").field("g", 2)
 for call in (
     lambda: list(line_protocol.parse('a\\ b,h\\ =x f=1i\nm f=99999999999999999999i\nlast f=1')),
     lambda: line_protocol.write(line),
     lambda: line_protocol.base(line),
     lambda: line_protocol.rebuild('m f=1i\nm f'),
+    lambda: builder.close_line().measurement("b").field("g", 2),
 ):
     refused.value, requests.value = -1, 0
     call()
@@ -30,15 +31,18 @@ for call in (
         except MemoryError:
             continue
         raise AssertionError(f"request {at} was refused, and nothing was said")
+refused.value = -1
+assert builder.close_line().build() == "a f=1i\nb g=2i\nb g=2i\n", builder.build()
 print("refused")
 """
 
 
-def test_each_request_refused_in_turn():
-    library = os.environ.get("LP_REFUSED_LIBRARY")
-    if not library:
-        pytest.skip("LP_REFUSED_LIBRARY names no library")
-    said = subprocess.run(
-        [sys.executable, "-c", PROGRAM], env={**os.environ, "INFLUXDB_LINE_PROTOCOL_LIBRARY": library},
-        capture_output=True, text=True, check=False)
-    assert (said.returncode, said.stdout) == (0, "refused\n"), said.stderr
+class Memory(unittest.TestCase):
+    def test_each_request_refused_in_turn(self):
+        library = os.environ.get("LP_REFUSED_LIBRARY")
+        if not library:
+            self.skipTest("LP_REFUSED_LIBRARY names no library")
+        said = subprocess.run(
+            [sys.executable, "-B", "-c", PROGRAM], env={**os.environ, "INFLUXDB_LINE_PROTOCOL_LIBRARY": library},
+            capture_output=True, text=True, check=False)
+        self.assertEqual((said.returncode, said.stdout), (0, "refused\n"), said.stderr)

@@ -1,108 +1,105 @@
 """What is read, in one block and over several."""
 
+import contextlib
+import io
 import runpy
+import unittest
 from pathlib import Path
-
-import pytest
 
 from line_protocol import Fault, FaultKind, Line, Side, Unsigned, parse, split
 
 
-def test_each_kind_of_value():
-    [line] = parse('cpu,host=A,zone=w i=-64i,u=18446744073709551615u,f=1.5e3,s="a b",t=T,n=false -5')
-    assert line.measurement == "cpu"
-    assert line.tags == [("host", "A"), ("zone", "w")]
-    assert line.fields == [("i", -64), ("u", 2**64 - 1), ("f", 1500.0), ("s", "a b"), ("t", True), ("n", False)]
-    assert [type(value) for _, value in line.fields] == [int, Unsigned, float, str, bool, bool]
-    assert line.timestamp == -5
+class Lines(unittest.TestCase):
+    def test_each_kind_of_value(self):
+        [line] = parse('cpu,host=A,zone=w i=-64i,u=18446744073709551615u,f=1.5e3,s="a b",t=T,n=false -5')
+        self.assertEqual(line.measurement, "cpu")
+        self.assertEqual(line.tags, [("host", "A"), ("zone", "w")])
+        self.assertEqual(
+            line.fields, [("i", -64), ("u", 2**64 - 1), ("f", 1500.0), ("s", "a b"), ("t", True), ("n", False)])
+        self.assertEqual([type(value) for _, value in line.fields], [int, Unsigned, float, str, bool, bool])
+        self.assertEqual(line.timestamp, -5)
+
+    def test_escapes_are_taken_off(self):
+        [line] = parse('c\\ pu,h\\=ost=A\\ B msg="a\\"b",k\\,l=1i')
+        self.assertEqual(line, Line("c pu", [("h=ost", "A B")], [("msg", 'a"b'), ("k,l", 1)]))
+
+    def test_texts_beyond_ascii(self):
+        text = 'é,ü=ö\\ ß ä="€\\"",x=1i\n'
+        wanted = Line("é", [("ü", "ö ß")], [("ä", '€"'), ("x", 1)])
+        self.assertEqual(list(parse(text)), [wanted])
+        self.assertEqual(list(parse(text.encode())), [wanted])
+
+    def test_a_zero_timestamp_is_one(self):
+        self.assertEqual([line.timestamp for line in parse("m f=1i 0\nm f=1i")], [0, None])
+
+    def test_an_empty_string(self):
+        self.assertEqual(list(parse('m f=""')), [Line("m", [], [("f", "")])])
+
+    def test_no_item(self):
+        for text in ("", "\n\n", "# a comment", "  \n#\n"):
+            with self.subTest(text=text):
+                self.assertEqual(list(parse(text)), [])
+
+    def test_faults_are_in_their_places(self):
+        items = list(parse("a f=1i\nm 5\nm f=9223372036854775808i\nm u=-1u\nm f=1 rest\nb f=2i"))
+        self.assertEqual([type(item) for item in items], [Line, Fault, Fault, Fault, Fault, Line])
+        self.assertEqual(items[1], Fault(FaultKind.FIELD_SET_MISSING))
+        self.assertEqual(items[2], Fault(FaultKind.INTEGER_VALUE_INVALID, "9223372036854775808", Side.ABOVE))
+        self.assertEqual(items[4].kind, FaultKind.CANNOT_PARSE_ENTIRE_LINE)
+        self.assertIn("rest", items[4].text)
+
+    def test_repeated_keys_are_kept(self):
+        [line] = parse("m,a=1,a=2 f=1i,f=2i")
+        self.assertEqual((line.tags, line.fields), ([("a", "1"), ("a", "2")], [("f", 1), ("f", 2)]))
+
+    def test_the_strict_dialect(self):
+        [line] = parse("m a=1i,")
+        self.assertEqual(line.fields, [("a", 1)])
+        [fault] = parse("m a=1i,", strict=True)
+        self.assertEqual((fault.kind, fault.text), (FaultKind.CANNOT_PARSE_ENTIRE_LINE, ","))
+        text = '# it a="\nm b=1i\nn c=2i'
+        self.assertEqual((len(list(parse(text))), len(list(parse(text, strict=True)))), (1, 2))
+        self.assertEqual(list(split(text, strict=True)), ['# it a="', "m b=1i", "n c=2i"])
+
+    def test_bytes_that_are_no_text(self):
+        with self.assertRaises(UnicodeDecodeError):
+            parse(b"m f=1i\n\xff")
+        with self.assertRaises(UnicodeDecodeError):
+            split(b"\xff")
+
+    def test_pieces(self):
+        self.assertEqual(list(split('a f=1\n b f="x\ny"\nc')), ["a f=1", ' b f="x\ny"', "c"])
+
+    def test_the_example_prints_its_items(self):
+        printed = io.StringIO()
+        with contextlib.redirect_stdout(printed):
+            runpy.run_path(str(Path(__file__).parent.parent / "example.py"))
+        self.assertEqual(
+            printed.getvalue(), "disk usage [('host', 'a')] [('free', 42.5)] None\na fault: FIELD_SET_MISSING \n")
 
 
-def test_escapes_are_taken_off():
-    [line] = parse('c\\ pu,h\\=ost=A\\ B msg="a\\"b",k\\,l=1i')
-    assert line == Line("c pu", [("h=ost", "A B")], [("msg", 'a"b'), ("k,l", 1)])
+class Blocks(unittest.TestCase):
+    def test_blocks_lose_nothing(self):
+        for count in (1, 255, 256, 257, 1000):
+            with self.subTest(count=count):
+                text = "\n".join(f'm,t=a\\ {i} f={i}i,g="\\"{i}" {i}' for i in range(count))
+                self.assertEqual(
+                    list(parse(text)), [Line("m", [("t", f"a {i}")], [("f", i), ("g", f'"{i}')], i) for i in range(count)])
 
+    def test_a_line_with_more_parts_than_a_block_has(self):
+        fields = [(f"f{i}", i) for i in range(10_000)]
+        text = "a f=1i\nw " + ",".join(f"{key}={value}i" for key, value in fields) + "\nb f=2i"
+        self.assertEqual(
+            list(parse(text)), [Line("a", [], [("f", 1)]), Line("w", [], fields), Line("b", [], [("f", 2)])])
 
-def test_texts_beyond_ascii():
-    text = 'é,ü=ö\\ ß ä="€\\"",x=1i\n'
-    wanted = Line("é", [("ü", "ö ß")], [("ä", '€"'), ("x", 1)])
-    assert list(parse(text)) == [wanted]
-    assert list(parse(text.encode())) == [wanted]
+    def test_a_text_with_more_copies_than_a_block_has_room(self):
+        long = "\\ x" * 20_000
+        text = f"a\\ b f=1i\nm,t={long} f=1i\nc\\ d f=2i\nm f=1 {long}"
+        items = list(parse(text))
+        self.assertEqual([item.measurement for item in items[:3]], ["a b", "m", "c d"])
+        self.assertEqual(items[1].tags, [("t", " x" * 20_000)])
+        self.assertIsInstance(items[3], Fault)
 
-
-def test_a_zero_timestamp_is_one():
-    assert [line.timestamp for line in parse("m f=1i 0\nm f=1i")] == [0, None]
-
-
-def test_an_empty_string():
-    assert list(parse('m f=""')) == [Line("m", [], [("f", "")])]
-
-
-@pytest.mark.parametrize("text", ["", "\n\n", "# a comment", "  \n#\n"])
-def test_no_item(text):
-    assert list(parse(text)) == []
-
-
-def test_faults_are_in_their_places():
-    items = list(parse("a f=1i\nm 5\nm f=9223372036854775808i\nm u=-1u\nm f=1 rest\nb f=2i"))
-    assert [type(item) for item in items] == [Line, Fault, Fault, Fault, Fault, Line]
-    assert items[1] == Fault(FaultKind.FIELD_SET_MISSING)
-    assert items[2] == Fault(FaultKind.INTEGER_VALUE_INVALID, "9223372036854775808", Side.ABOVE)
-    assert items[4].kind == FaultKind.CANNOT_PARSE_ENTIRE_LINE
-    assert "rest" in items[4].text
-
-
-def test_repeated_keys_are_kept():
-    [line] = parse("m,a=1,a=2 f=1i,f=2i")
-    assert (line.tags, line.fields) == ([("a", "1"), ("a", "2")], [("f", 1), ("f", 2)])
-
-
-def test_the_strict_dialect():
-    [line] = parse("m a=1i,")
-    assert line.fields == [("a", 1)]
-    [fault] = parse("m a=1i,", strict=True)
-    assert (fault.kind, fault.text) == (FaultKind.CANNOT_PARSE_ENTIRE_LINE, ",")
-    text = '# it a="\nm b=1i\nn c=2i'
-    assert (len(list(parse(text))), len(list(parse(text, strict=True)))) == (1, 2)
-    assert list(split(text, strict=True)) == ['# it a="', "m b=1i", "n c=2i"]
-
-
-@pytest.mark.parametrize("count", [1, 255, 256, 257, 1000])
-def test_blocks_lose_nothing(count):
-    text = "\n".join(f"m,t=a\\ {i} f={i}i,g=\"\\\"{i}\" {i}" for i in range(count))
-    assert list(parse(text)) == [Line("m", [("t", f"a {i}")], [("f", i), ("g", f'"{i}')], i) for i in range(count)]
-
-
-def test_a_line_with_more_parts_than_a_block_has():
-    fields = [(f"f{i}", i) for i in range(10_000)]
-    text = "a f=1i\nw " + ",".join(f"{key}={value}i" for key, value in fields) + "\nb f=2i"
-    assert list(parse(text)) == [Line("a", [], [("f", 1)]), Line("w", [], fields), Line("b", [], [("f", 2)])]
-
-
-def test_a_text_with_more_copies_than_a_block_has_room():
-    long = "\\ x" * 20_000
-    text = f"a\\ b f=1i\nm,t={long} f=1i\nc\\ d f=2i\nm f=1 {long}"
-    items = list(parse(text))
-    assert [item.measurement for item in items[:3]] == ["a b", "m", "c d"]
-    assert items[1].tags == [("t", " x" * 20_000)]
-    assert isinstance(items[3], Fault)
-
-
-def test_bytes_that_are_no_text():
-    with pytest.raises(UnicodeDecodeError):
-        parse(b"m f=1i\n\xff")
-    with pytest.raises(UnicodeDecodeError):
-        split(b"\xff")
-
-
-def test_the_text_is_kept_while_it_is_read():
-    items = parse(b"m f=1i\n" * 1000)
-    assert sum(1 for _ in items) == 1000
-
-
-def test_pieces():
-    assert list(split("a f=1\n b f=\"x\ny\"\nc")) == ["a f=1", ' b f="x\ny"', "c"]
-
-
-def test_the_example_prints_its_items(capsys):
-    runpy.run_path(str(Path(__file__).parent.parent / "example.py"))
-    assert capsys.readouterr().out == "disk usage [('host', 'a')] [('free', 42.5)] None\na fault: FIELD_SET_MISSING \n"
+    def test_the_text_is_kept_while_it_is_read(self):
+        items = parse(b"m f=1i\n" * 1000)
+        self.assertEqual(sum(1 for _ in items), 1000)
