@@ -5,10 +5,11 @@
 #
 # REBUILD and RELAY are built programs, such as ./lp_rebuild and ./lp_relay. Without them the sources are compiled unproved
 # by `rt try`, which takes seconds; the gate proves them. For a wrong argument a given program must also leave the input
-# unread. A given RELAY is also run where its input fails, where its output is full or closed, and where standard error is a
+# unread. Given programs are also run where an input fails, where an output is full or closed, and where standard error is a
 # terminal.
 set -eu
 top=$(cd "$(dirname "$0")/.." && pwd)
+. "$top/checks/left_out.sh"
 PATH=$PATH:/opt/rattle/bin
 rebuild=${1:+$(readlink -f "$1")}
 relay=${2:+$(readlink -f "$2")}
@@ -25,14 +26,14 @@ run() {
     fi
 }
 
-# wanted STATUS OUTPUT FAULTS [ARGUMENT..], where the input is `text`.
+# wanted STATUS OUTPUT FAULTS [ARGUMENT..], where the input is `text`, in which `\n` is a newline.
 text='m a=1i,\n'
 wanted() {
     local status_wanted=$1 status
     printf '%s' "$2" >"$work/out_wanted"
     printf '%s' "$3" >"$work/err_wanted"
     shift 3
-    printf "$text" >"$work/input"
+    printf '%b' "$text" >"$work/input"
     run "$@"
     if [ "$status" != "$status_wanted" ] || ! cmp -s "$work/out" "$work/out_wanted" || ! cmp -s "$work/err" "$work/err_wanted"; then
         echo "arguments: with the arguments ($*) the status of $crate is $status, where $status_wanted is wanted, and"
@@ -153,39 +154,101 @@ lists=$((lists + 1))
 echo "arguments: $lists lists answered"
 [ -n "$relay" ] || exit 0
 
-# ends STATUS FAULT: how the relay that was run last ended.
-ends() {
-    if [ "$status" != "$1" ] || [ "$(tail -n 1 "$work/err")" != "$2" ]; then
-        echo "arguments: the relay ends with status $status, where $1 is wanted, and says $(tail -n 1 "$work/err")"
+# stopped MESSAGE WHAT: the program that was run last has status 2, and its last line of standard error is like this pattern.
+stopped() {
+    local last
+    last=$(tail -n 1 "$work/err")
+    # shellcheck disable=SC2053
+    if [ "$status" != 2 ] || [[ $last != $1 ]]; then
+        echo "arguments: where $2, the status is $status, where 2 is wanted, and standard error ends with: $last"
+        exit 1
+    fi
+    devices=$((devices + 1))
+}
+# Runs a program of this name where its input fails, and where its output or standard error is full or closed.
+fail_devices() {
+    local name=$1 command process
+    shift
+    command="($*)"
+    : >"$work/err"
+    "$@" <"$work" >"$work/out" 2>"$work/err" && status=0 || status=$?
+    stopped "$name: cannot read the input*" "the input of $command is a folder"
+    "$@" <&- >"$work/out" 2>"$work/err" && status=0 || status=$?
+    stopped "$name: cannot read the input*" "the input of $command is closed"
+    "$@" <"$work/long" >/dev/full 2>"$work/err" && status=0 || status=$?
+    stopped "$name: cannot write the output*" "the output of $command is full"
+    "$@" <"$work/long" >&- 2>"$work/err" && status=0 || status=$?
+    stopped "$name: cannot write the output*" "the output of $command is closed"
+    "$@" <"$work/fifo" >"$work/unread" 2>"$work/err" &
+    process=$!
+    exec 3>"$work/fifo" 4<"$work/unread" 4<&-
+    cat "$work/long" >&3 || true
+    exec 3>&-
+    wait "$process" && status=0 || status=$?
+    stopped "$name: cannot write the output*" "nothing reads the output of $command"
+    : >"$work/err"
+    "$@" <"$work" >"$work/out" 2>/dev/full && status=0 || status=$?
+    stopped "" "the input of $command is a folder and standard error is full"
+}
+mkfifo "$work/fifo" "$work/unread"
+yes 'm a=1i' | head -n 100000 >"$work/long"
+devices=0
+[ -z "$rebuild" ] || fail_devices lp_rebuild "$rebuild"
+fail_devices lp_relay "$relay"
+fail_devices lp_relay "$relay" --cut 2
+for program in ${rebuild:+"$rebuild"} "$relay"; do
+    printf 'm a=1i\nx\n' | "$program" 2>/dev/full >"$work/out" && status=0 || status=$?
+    stopped "" "standard error is full, and $program has a fault to write"
+done
+"$relay" --help </dev/null >/dev/full 2>"$work/err" && status=0 || status=$?
+stopped "" "the output of --help is full"
+echo "arguments: the programs end where a device fails, in $devices ways"
+
+# Puts `first` into `fifo`, and once the relay runs for more than a second, `last`.
+feed() { { cat "$work/first"; sleep 2.5; cat "$work/last"; } >"$work/fifo" & }
+# Runs the relay so, with standard error on a terminal, and the output where this redirection says, or else there too.
+show_progress() {
+    feed
+    script -qec "'$relay' --progress <'$work/fifo' $1" /dev/null </dev/null >"$work/err" && status=0 || status=$?
+}
+# shown STATUS WHAT TEXT: how the relay ended, and what it showed. In TEXT backslashes are those of `printf %b`.
+shown() {
+    printf '%b' "$3" >"$work/err_wanted"
+    if [ "$status" != "$1" ] || ! cmp -s "$work/err" "$work/err_wanted"; then
+        echo "arguments: where $2, the status of the relay is $status, where $1 is wanted, and it shows"
+        cat -v "$work/err"
         exit 1
     fi
 }
-yes 'm a=1i' | head -n 100000 >"$work/long"
-"$relay" <"$work" >"$work/out" 2>"$work/err" && status=0 || status=$?
-ends 2 "lp_relay: cannot read the input"
-"$relay" <"$work/long" >/dev/full 2>"$work/err" && status=0 || status=$?
-ends 2 "lp_relay: cannot write the output"
-"$relay" --help </dev/null >/dev/full 2>"$work/err" && status=0 || status=$?
-ends 2 ""
-{ "$relay" <"$work/long" 2>"$work/err" && echo 0 >"$work/status" || echo $? >"$work/status"; } | head -n 1 >"$work/out"
-status=$(cat "$work/status")
-ends 2 "lp_relay: cannot write the output"
-echo "arguments: the relay ends where its input fails and where its output is full or closed"
-
-# Standard error is a terminal: progress is shown once a second has passed, and cleared before the fault line.
+printf 'm a=1i\n' >"$work/first"
+printf 'm a=,\n' >"$work/last"
+feed
+"$relay" --progress <"$work/fifo" >"$work/out" 2>"$work/err" && status=0 || status=$?
+shown 1 "standard error is a file" "item 2: No fields were provided\n"
 if ! command -v script >/dev/null; then
-    echo "arguments: there is no script here, so no terminal was tried"
+    left_out "progress on a terminal" "there is no script, for checks/arguments.sh"
     exit 0
 fi
-mkfifo "$work/fifo"
-{ printf 'm a=1i\n'; sleep 2.5; printf 'm a=,\n'; } >"$work/fifo" &
-command="'$relay' --progress <'$work/fifo' >'$work/out'"
-script -qec "$command" /dev/null </dev/null >"$work/err" && status=0 || status=$?
-printf '\r\033[K%s\r\033[K%s\r\n' "13 bytes read, 1 lines written, faults: 0, 0.0 MB/s" \
-    "item 2: No fields were provided" >"$work/err_wanted"
-if [ "$status" != 1 ] || ! cmp -s "$work/err" "$work/err_wanted" || ! printf 'm a=1i\n' | cmp -s - "$work/out"; then
-    echo "arguments: on a terminal the relay ends with status $status, where 1 is wanted, and shows"
-    cat -v "$work/err"
+clear='\r\033[K'
+show_progress ">'$work/out'"
+shown 1 "standard error is a terminal" \
+    "${clear}13 bytes read, 1 lines written, faults: 0, 0.0 MB/s${clear}item 2: No fields were provided\r\n"
+cmp "$work/first" "$work/out"
+cp "$work/first" "$work/last"
+show_progress ""
+shown 0 "both outputs are a terminal" "m a=1i\r\n${clear}14 bytes read, 1 lines written, faults: 0, 0.0 MB/s${clear}m a=1i\r\n"
+
+# Three faults, and 300,001 lines of seven bytes. The rate lies between that of the pause and that of the whole run.
+{ printf 'x\nx\nx\n'; yes 'm a=1i' | head -n 300000; } >"$work/first"
+begun=$(date +%s%3N)
+show_progress ">'$work/out'"
+passed=$(($(date +%s%3N) - begun))
+tenths=$(sed -n '$s/.* faults: 3, \([0-9]*\)\.\([0-9]\) MB.*/\1\2/p' "$work/err")
+tenths=$((10#${tenths:-0}))
+shown 1 "there are faults and lines" "$(printf "item %s: ${missing%?}"'\\r\\n' 1 2 3)${clear}2100013 bytes read, \
+300000 lines written, faults: 3, $((tenths / 10)).$((tenths % 10)) MB/s$clear"
+if [ "$tenths" -gt $((2100013 / 250000)) ] || [ "$tenths" -lt $((2100013 / (100 * passed))) ]; then
+    echo "arguments: in $passed ms the relay shows a rate of $((tenths / 10)).$((tenths % 10)) MB/s"
     exit 1
 fi
 echo "arguments: the relay shows its progress on a terminal, and nowhere else"

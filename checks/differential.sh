@@ -12,9 +12,10 @@ built=$(mktemp -d)
 trap 'rm -rf "$built"' EXIT
 cp -r "$here/differential" "$built/crate"
 cd "$built/crate"
+. "$here/left_out.sh"
 # shellcheck disable=SC2086
 if ! CARGO_NET_RETRY=1 cargo fetch ${CARGO_FLAGS:-} >"$built/log" 2>&1; then
-    echo "differential: cargo cannot have the Rust crate here, so nothing was compared: $(tail -n 1 "$built/log")"
+    left_out checks/differential.sh "cargo cannot have the Rust crate: $(tail -n 1 "$built/log")"
     exit 0
 fi
 . "$here/library.sh"

@@ -14,12 +14,13 @@ if [ $# -ne 1 ]; then
 fi
 seconds=$1
 . "$here/library.sh"
+. "$here/left_out.sh"
 built=$(mktemp -d)
 trap 'rm -rf "$built"' EXIT
 
 echo 'int LLVMFuzzerTestOneInput(const char *t, long n) { return t && n < 0; }' >"$built/probe.c"
 if ! clang -fsanitize=fuzzer,address "$built/probe.c" -o "$built/probe" >/dev/null 2>&1; then
-    echo "fuzz: there is no clang with libFuzzer here, so nothing was tried"
+    left_out checks/fuzz.sh "there is no clang with libFuzzer"
     exit 0
 fi
 build_library

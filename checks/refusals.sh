@@ -4,8 +4,9 @@
 set -eu
 here=$(cd "$(dirname "$0")" && pwd)
 top=$(dirname "$here")
+. "$here/left_out.sh"
 if ! command -v cc >/dev/null; then
-    echo "refusals: there is no cc here, so nothing was tried"
+    left_out checks/refusals.sh "there is no cc"
     exit 0
 fi
 . "$here/library.sh"
@@ -18,7 +19,8 @@ watched=", watched by the address sanitizer"
 echo 'int main(void) { return 0; }' >"$built/probe.c"
 if ! { cc $sanitizer "$built/probe.c" -o "$built/probe" && "$built/probe"; } >/dev/null 2>&1; then
     sanitizer=
-    watched=", without an address sanitizer"
+    watched=
+    left_out "address sanitizer" "cc has none, so leaks are not seen by checks/refusals.sh"
 fi
 cc -O2 -Wall -Wextra $sanitizer -Wl,--wrap=malloc,--wrap=realloc,--wrap=free "$here/refusals.c" "$library" "$heap" \
     -o "$built/refusals"

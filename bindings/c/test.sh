@@ -1,16 +1,17 @@
 #!/usr/bin/env bash
 # Builds the static library of crates/lp_c, and programs over it, watched by the address and undefined behaviour sanitizers;
 # compares what the example prints with example.out, and lets lending.c read and writing.c write with little lent and memory
-# refused. threads.c is watched by the thread sanitizer, and by helgrind, which sees the library's own loads and stores too; and
-# the archive must hold no variable. The header goes through a C++ compiler too.
+# refused, and sizes.c hand over what is large. threads.c is watched by the thread sanitizer, and by helgrind, which sees the
+# library's own loads and stores too; and the archive must hold no variable. The header goes through a C++ compiler too.
 #
 #     bindings/c/test.sh             makes the archive first
 #     bindings/c/test.sh ARCHIVE     takes one that was made before
 set -eu
 here=$(cd "$(dirname "$0")" && pwd)
 top=$(dirname "$(dirname "$here")")
+. "$top/checks/left_out.sh"
 if ! command -v "${CC:-cc}" >/dev/null; then
-    echo "c: there is no cc here, so nothing was tried"
+    left_out bindings/c "there is no ${CC:-cc}"
     exit 0
 fi
 "$(dirname "$here")/build.sh" "$@" >/dev/null
@@ -42,7 +43,12 @@ if ! written=$("$built/writing"); then
     echo "c: what should be written was not: $written" >&2
     exit 1
 fi
-said="the example prints what it should; $lent; $written"
+build sizes "${watched[@]}"
+if ! sizes=$("$built/sizes"); then
+    echo "c: what should come of what is large did not come: $sizes" >&2
+    exit 1
+fi
+said="the example prints what it should; $lent; $written; $sizes"
 
 # Runs threads.c, built with these flags, by this command.
 run_threads() {
@@ -65,14 +71,18 @@ printf 'int main(void) { return 0; }\n' >"$built/nothing.c"
 if "${CC:-cc}" -fsanitize=thread "$built/nothing.c" -o "$built/nothing" 2>/dev/null && "$built/nothing"; then
     run_threads -fsanitize=thread
     watchers+=("the thread sanitizer")
+else
+    left_out "thread sanitizer" "${CC:-cc} has none, so it does not watch bindings/c"
 fi
 if command -v valgrind >/dev/null; then
     run_threads "" valgrind -q --tool=helgrind --error-exitcode=1
     watchers+=(helgrind)
+else
+    left_out helgrind "there is no valgrind, so it does not watch bindings/c"
 fi
 if [ ${#watchers[@]} = 0 ]; then
     run_threads ""
-    said="$said; threads side by side, watched by nothing: there is no thread sanitizer and no valgrind here"
+    said="$said; threads side by side, watched by nothing"
 else
     said="$said; $(cat "$built/log"), watched by $(printf '%s and ' "${watchers[@]}" | sed 's/ and $//')"
 fi
@@ -81,5 +91,7 @@ if command -v g++ >/dev/null; then
         >"$built/header.cpp"
     g++ -Wall -Wextra -Werror -I"$top/include" "$built/header.cpp" -o "$built/header"
     said="$said, and the header is C++ too"
+else
+    left_out "header as C++" "there is no g++"
 fi
 echo "c: $said"

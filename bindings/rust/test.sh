@@ -4,13 +4,16 @@
 #
 # ORIGINAL: files of any name below it count: a test module is what follows `#[cfg(test)]` in one of them.
 # LP_LIB_DIR: the folder of liblp_c.a, crates/lp_c/out by default.
-# CARGO_FLAGS: more words for cargo, as where the crates lie if crates.io is out of reach.
+# CARGO_FLAGS: more words for cargo, as where the crates lie.
+# The crates come from crates.io, or where that is out of reach, from Debian's packages librust-bytes-dev, librust-nom-dev and
+# librust-smallvec-dev.
 set -eu
 here=$(cd "$(dirname "$0")" && pwd)
+. "$here/../../checks/left_out.sh"
 export LP_LIB_DIR=${LP_LIB_DIR:-$here/../../crates/lp_c/out}
 LP_LIB_DIR=$(cd "$LP_LIB_DIR" && pwd)
 if ! command -v cargo >/dev/null; then
-    echo "rust: there is no cargo here, so nothing was tried"
+    left_out bindings/rust "there is no cargo"
     exit 0
 fi
 built=$(mktemp -d)
@@ -19,16 +22,27 @@ export CARGO_TARGET_DIR=${CARGO_TARGET_DIR:-$built/target}
 # Cargo writes its lock file beside the crate, so the crate is copied.
 mkdir "$built/crate"
 cp -r "$here"/{Cargo.toml,build.rs,src,tests,examples,original} "$built/crate/"
-# shellcheck disable=SC2086
-if ! (cd "$built/crate" && CARGO_NET_RETRY=1 cargo fetch ${CARGO_FLAGS:-}) >"$built/log" 2>&1; then
-    echo "rust: cargo cannot have the crates here, so nothing was tried: $(tail -n 1 "$built/log")"
-    exit 0
+# Tries whether cargo can have the crates with these flags.
+fetch() {
+    flags=$*
+    # shellcheck disable=SC2086
+    (cd "$built/crate" && CARGO_NET_RETRY=1 cargo fetch $flags) >"$built/log" 2>&1
+}
+debian='--offline --config source.crates-io.replace-with="debian" --config source.debian.directory="/usr/share/cargo/registry"'
+crates=
+if ! fetch "${CARGO_FLAGS:-}"; then
+    failure=$(tail -n 1 "$built/log")
+    if ! fetch "${CARGO_FLAGS:-} $debian"; then
+        left_out bindings/rust "cargo cannot have the crates from crates.io ($failure) or Debian ($(tail -n 1 "$built/log"))"
+        exit 0
+    fi
+    crates=" over Debian's crates"
 fi
 
 # Runs `cargo test` with these words in the copy, and tells how many tests passed.
 try() {
     # shellcheck disable=SC2086
-    if ! (cd "$built/crate" && cargo test ${CARGO_FLAGS:-} "$@") >"$built/log" 2>&1; then
+    if ! (cd "$built/crate" && cargo test $flags "$@") >"$built/log" 2>&1; then
         cat "$built/log" >&2
         echo "rust: a test failed" >&2
         exit 1
@@ -38,6 +52,7 @@ try() {
 
 # The test module of this name, of the file below ORIGINAL that has it.
 take_tests() {
+    # shellcheck disable=SC2016
     find "$ORIGINAL" -type f -print0 | sort -z | xargs -0 awk -v first="mod $1 {" '
         FNR == 1 && found { exit }
         FNR == 1 { marked = 0 }
@@ -56,15 +71,16 @@ take_examples() {
 
 own=$(try)
 # shellcheck disable=SC2086
-if ! (cd "$built/crate" && cargo run -q --example lines ${CARGO_FLAGS:-}) >"$built/printed" 2>"$built/log" ||
+if ! (cd "$built/crate" && cargo run -q --example lines $flags) >"$built/printed" 2>"$built/log" ||
     ! printf 'disk usage at None\na fault: No fields were provided\n' | diff - "$built/printed"; then
     cat "$built/log" >&2
     echo "rust: the example does not print its items" >&2
     exit 1
 fi
-said="$own own tests passed"
+said="$own own tests passed$crates"
 if [ -z "${ORIGINAL:-}" ]; then
-    echo "rust: $said; ORIGINAL names no folder, so the original crate's were not tried"
+    echo "rust: $said"
+    left_out "original crate's tests" "ORIGINAL names no folder with its source"
     exit 0
 fi
 crate=$built/crate

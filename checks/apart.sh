@@ -1,0 +1,185 @@
+#!/usr/bin/env bash
+# Runs examples/apart.sh over a sparse file of more than 2^32 bytes, and then where its arguments are wrong, or a command, a folder or
+# an output fails. A stub is in the relay's place.
+#
+#   checks/apart.sh [RELAY]
+#
+# RELAY: a built lp_relay, which then relays a file in parts too.
+# shellcheck disable=SC2016
+set -eu
+top=$(cd "$(dirname "$0")/.." && pwd)
+apart=$top/examples/apart.sh
+relay=${1:+$(readlink -f "$1")}
+work=$(mktemp -d)
+trap 'rm -rf "$work"' EXIT
+cd "$work"
+
+# For --cut the stub does what CUTS says. It knows one wrong option. Of /dev/null it writes nothing, and else what RELAYS says.
+cat >stub <<'STUB'
+#!/bin/sh
+case " $* " in
+*" --cut "*) eval "$CUTS" ;;
+*" --wrong "*) echo 'usage: stub' >&2; exit 2 ;;
+*" --help "*) echo 'usage: stub' ;;
+*) [ /dev/stdin -ef /dev/null ] || eval "$RELAYS" ;;
+esac
+STUB
+chmod +x stub
+export LP_RELAY=$work/stub CUTS RELAYS
+
+# Runs a command, and leaves `out`, `err` and `status`. Both outputs are pipes, also where no file can be written.
+run() {
+    { { "$@" 2>&3 | cat >out; echo "${PIPESTATUS[0]}" >ended; } 3>&1 | cat >err; }
+    status=$(cat ended)
+}
+
+# wanted STATUS OUTPUT ERROR COMMAND..: ERROR is a pattern for the last line of standard error.
+wanted() {
+    local status status_wanted=$1 output=$2 error=$3 last
+    shift 3
+    run "$@"
+    last=$(tail -n 1 err)
+    # shellcheck disable=SC2053
+    if [ "$status" != "$status_wanted" ] || [ "$(cat out)" != "$output" ] || [[ $last != $error ]]; then
+        echo "apart: ($*) ends with status $status, where $status_wanted is wanted, writes $(head -c 200 out), and says"
+        head -n 20 err
+        exit 1
+    fi
+    tried=$((tried + 1))
+}
+tried=0
+
+# A file whose parts begin and end with marks: 2^31 and 2^32 bytes are within the second part and the fourth.
+ends=(2147483640 2147483653 2325000000 4294967300 4300000000)
+truncate -s "${ends[-1]}" large
+sums=
+start=0
+for number in 1 2 3 4 5; do
+    end=${ends[number - 1]}
+    printf '<%s' "$number" | dd of=large seek="$start" oflag=seek_bytes conv=notrunc status=none
+    printf '%s>' "$number" | dd of=large seek="$((end - 2))" oflag=seek_bytes conv=notrunc status=none
+    sums+=$({ printf '<%s' "$number"; head -c "$((end - start - 4))" /dev/zero; printf '%s>' "$number"; } | cksum)$'\n'
+    start=$end
+done
+CUTS="printf '%s\n' ${ends[*]}"
+RELAYS="cksum"
+wanted 0 "${sums%?}" "" "$apart" large 5
+rm large
+
+# From here on the file has 30 bytes, and each relay writes again what it reads.
+text='first line,second one,the rest'
+printf '%s' "$text" >"a small file"
+file="a small file"
+cuts="printf '%s\n' 10 10 20 30"
+CUTS=$cuts
+RELAYS="cat"
+wanted 0 "$text" "" "$apart" "$file" 4
+cp "$file" ./--in
+wanted 0 "$text" "" "$apart" --in 4
+from_a_file() { "$apart" /dev/stdin 4 <"$file"; }
+wanted 0 "$text" "" from_a_file
+CUTS="echo \"\$*\" >&2; $cuts"
+RELAYS='cat >&2; echo "$*"'
+wanted 0 $'--lines --strict\n--lines --strict\n--lines --strict\n--lines --strict' "*part 4, e,the rest" "$apart" "$file" 4 --lines --strict
+grep -qx -- '--strict --cut 4' err
+CUTS=$cuts
+RELAYS='cat; [ "$1" != --strict ] || { echo "item 1: no line" >&2; exit 1; }'
+wanted 1 "$text" "part 4, item 1: no line" "$apart" "$file" 4 --strict
+[ "$(wc -l <err)" = 4 ]
+
+# Wrong arguments. What can be read only once is not read.
+wanted 2 "" "apart: usage: *" "$apart"
+wanted 2 "" "apart: usage: *" "$apart" "$file"
+for parts in "" 0 04 -1 +4 4.0 1e2 1000 18446744073709551620 x; do
+    wanted 2 "" "apart: $parts is not a number of parts*" "$apart" "$file" "$parts"
+done
+wanted 2 "" "apart: with the options (--wrong) the status of * is 2" "$apart" "$file" 4 --wrong
+wanted 2 "" "apart: the options (--help) are not *" "$apart" "$file" 4 --help
+wanted 2 "" "apart: * is not a regular file*" "$apart" "$work" 4
+wanted 2 "" "apart: none is not a regular file*" "$apart" none 4
+wanted 2 "" "apart: * is not a regular file*" "$apart" <(cat "$file") 4
+from_a_pipe() { printf '%s' "$text" | { "$apart" /dev/stdin 4 && ended=0 || ended=$?; cat; return "$ended"; }; }
+wanted 2 "$text" "apart: /dev/stdin is not a regular file*" from_a_pipe
+wanted 2 "" "apart: with the options () the status of none is 127" env LP_RELAY=none "$apart" "$file" 4
+
+# Ends that are none.
+ends_wanted() {
+    CUTS=$1
+    wanted 2 "" "$2" "$apart" "$file" 4
+}
+ends_wanted "$cuts; exit 3" "apart: the status of --cut is 3"
+ends_wanted ":" "apart: --cut gives 1 ends for 4 parts"
+ends_wanted "printf '%s\n' 10 20 30" "apart: --cut gives 3 ends for 4 parts"
+ends_wanted "printf '%s\n' 10 20 30 30 30" "apart: --cut gives 5 ends for 4 parts"
+ends_wanted "printf '%s\n' 10 2e+01 30 30" "apart: --cut gives the end 2e+01 after 10"
+ends_wanted "printf '%s\n' 10 020 30 30" "apart: --cut gives the end 020 after 10"
+ends_wanted "printf '%s\n' 20 10 30 30" "apart: --cut gives the end 10 after 20"
+ends_wanted "printf '%s\n' 10 20 20 29" "apart: a small file has 30 bytes, but the last part ends at 29"
+ends_wanted "printf '%s\n' 10 20 30 40" "apart: a small file has 30 bytes, but the last part ends at 40"
+CUTS=$cuts
+
+# A relay that fails, at the third part. What the parts before it gave was put out.
+relays_wanted() {
+    RELAYS=$1
+    wanted 2 "first line" "$2" "$apart" "$file" 4
+}
+relays_wanted 'text=$(cat); case $text in ,*) echo "lp_relay: why" >&2; exit 2 ;; *) printf %s "$text" ;; esac' \
+    "apart: part 3: the status of the relay is 2"
+grep -qx 'part 3, lp_relay: why' err
+relays_wanted 'text=$(cat); case $text in ,*) kill -9 $$ ;; *) printf %s "$text" ;; esac' \
+    "apart: part 3: the status of the relay is 137"
+RELAYS="cat"
+
+# A dd that fails at the third part, gives less and says so, says nothing, or finds that the file has become shorter.
+mkdir broken
+printf '#!/bin/sh\ncase " $* " in *" skip=10 count=10 "*) eval "$READS" ;; esac\nexec %s "$@"\n' "$(command -v dd)" >broken/dd
+chmod +x broken/dd
+dd_wanted() {
+    wanted 2 "first line" "apart: part 3: $2" env "READS=$1" "PATH=$work/broken:$PATH" "$apart" "$file" 4
+}
+dd_wanted 'echo "dd: why" >&2; exit 1' "the status of dd is 1"
+grep -qx 'part 3, dd: why' err
+dd_wanted 'set -- "$@" count=7' "dd gave 7 bytes of 10"
+dd_wanted 'exit 0' "dd gave no bytes of 10"
+dd_wanted 'truncate -s 13 "a small file"' "dd gave 3 bytes of 10"
+printf '%s' "$text" >"$file"
+
+# A TMPDIR that is missing, that holds nothing, and that holds too little. A limit of the shell is in the place of a full disk.
+limited() { (trap '' XFSZ; ulimit -f "$1"; shift; exec "$@"); }
+wanted 2 "" "apart: there is no TMPDIR to write to" env TMPDIR="$work/none" "$apart" "$file" 4
+wanted 2 "" "apart: part 1: its status is not known" limited 0 "$apart" "$file" 4
+grep -qx 'apart: nothing more can be written to TMPDIR' err
+RELAYS='head -c 100000 /dev/zero || exit 2'
+wanted 2 "" "apart: part 1: the status of the relay is 2" limited 8 "$apart" "$file" 4
+
+# An output that is full, that is closed, or that nobody reads any longer.
+RELAYS='yes | head -c 1000000; echo "item 1: no line" >&2; exit 1'
+to_full() { "$apart" "$file" 4 >/dev/full; }
+wanted 2 "" "apart: the output cannot be written" to_full
+to_closed() { "$apart" "$file" 4 >&-; }
+wanted 2 "" "apart: the output cannot be written" to_closed
+to_a_closed_pipe() { "$apart" "$file" 4 | head -c 1; return "${PIPESTATUS[0]}"; }
+wanted 2 y "apart: the output cannot be written" to_a_closed_pipe
+faults_to_full() { "$apart" "$file" 4 2>/dev/full; }
+RELAYS='cat; echo "item 1: no line" >&2; exit 1'
+wanted 2 "first line" "" faults_to_full
+echo "apart: $tried runs with a stub ended as they should"
+[ -n "$relay" ] || exit 0
+
+# Lines that a relay carries, one of which has a newline within a string, and two that it refuses.
+item='m s="a
+b"'
+yes "$item"$'\nx\n# c\ncpu f=1i,g=2 5\ny' | head -n 6000 >lines
+yes "$item"$'\ncpu f=1i,g=2 5' | head -n 3000 >wanted
+for parts in 1 2 7 64 999; do
+    run env LP_RELAY="$relay" "$apart" lines "$parts"
+    # Each second item is refused, so the first one that a part refuses is its first or its second.
+    faults=$(grep -cE '^part [0-9]+, item [0-9]+: A generic parsing error occurred: TakeWhile1$' err)
+    refusing=$(cut -d , -f 1 err | uniq | wc -l)
+    if [ "$status" != 1 ] || ! cmp out wanted || [ "$faults" != 2000 ] || [ "$(wc -l <err)" != 2000 ] ||
+        [ "$(grep -cE ', item [12]: ' err)" != "$refusing" ]; then
+        echo "apart: in $parts parts the status of lp_relay is $status, where 1 is wanted, with $faults faults of 2000"
+        exit 1
+    fi
+done
+echo "apart: a relay's parts give what the whole gives"

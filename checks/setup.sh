@@ -1,0 +1,76 @@
+#!/usr/bin/env bash
+# Installs from Debian what the checks use and this machine lacks, and says what is lacking then. The checks leave out what needs it.
+#
+#   checks/setup.sh               installs where CI is `true`, and elsewhere says what to install; its status is 0
+#   checks/setup.sh --install     installs; its status is 1 where something is still lacking
+#
+# It takes root and apt-get to install. The crates, of packages librust-*, are for bindings/rust/test.sh where crates.io is out of
+# reach.
+set -eu
+packages=(gcc g++ git valgrind bsdutils python3 cargo librust-bytes-dev librust-nom-dev librust-smallvec-dev)
+
+# Tells whether what the checks use of a package is here, of the package or of anything else.
+is_here() {
+    local crate=${1#librust-}
+    case $1 in
+    gcc) command -v cc ;;
+    bsdutils) command -v script ;;
+    python3) python3 -c 'import sys; sys.exit(sys.version_info < (3, 10))' ;;
+    librust-*) compgen -G "/usr/share/cargo/registry/${crate%-dev}-[0-9]*" ;;
+    *) command -v "$1" ;;
+    esac >/dev/null 2>&1
+}
+
+# Puts the packages in `lacking` of which something is not here.
+look() {
+    local package
+    lacking=()
+    for package in "${packages[@]}"; do
+        is_here "$package" || lacking+=("$package")
+    done
+}
+
+# Runs apt-get, for ten minutes at most. It tries a download three times, and waits for another run of its own kind.
+get() {
+    DEBIAN_FRONTEND=noninteractive timeout 600 apt-get -y -qq -o Acquire::Retries=3 -o Acquire::http::Timeout=30 \
+        -o DPkg::Lock::Timeout=120 "$@" </dev/null >"$log" 2>&1 || {
+        echo "setup: apt-get $*: $(grep -v '^W: ' "$log" | tail -n 1)"
+        return 1
+    }
+}
+
+# Installs what is lacking: in one run of apt-get, and where that fails, each package in a run of its own.
+install() {
+    local package
+    get update || true
+    get install --no-install-recommends "${lacking[@]}" && return
+    for package in "${lacking[@]}"; do
+        get install --no-install-recommends "$package" || true
+    done
+}
+
+log=$(mktemp)
+trap 'rm -f "$log"' EXIT
+case "$*" in
+"" | --install) ;;
+*)
+    echo "usage: checks/setup.sh [--install]" >&2
+    exit 2
+    ;;
+esac
+look
+wanted=${lacking[*]}
+if [ -z "$wanted" ]; then
+    echo "setup: all that the checks use is here"
+    exit 0
+fi
+if [ "$*" != --install ] && [ "${CI:-}" != true ]; then
+    echo "setup: lacking: $wanted; checks/setup.sh --install installs them"
+elif [ "$(id -u)" != 0 ] || ! command -v apt-get >/dev/null; then
+    echo "setup: lacking: $wanted; they are installed by root alone, and by apt-get"
+else
+    install
+    look
+    echo "setup: of $wanted, lacking: ${lacking[*]:-nothing}"
+fi
+[ "$*" != --install ] || [ ${#lacking[@]} = 0 ]
