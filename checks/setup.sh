@@ -30,9 +30,12 @@ look() {
     done
 }
 
-# Runs apt-get, for ten minutes at most. It tries a download three times, and waits for another run of its own kind.
+# Runs apt-get, whose runs take ten minutes at most together. It tries a download three times, and waits for another run of its own
+# kind.
 get() {
-    DEBIAN_FRONTEND=noninteractive timeout 600 apt-get -y -qq -o Acquire::Retries=3 -o Acquire::http::Timeout=30 \
+    local left=$((600 - SECONDS))
+    [ "$left" -gt 0 ] || return 1
+    DEBIAN_FRONTEND=noninteractive timeout "$left" apt-get -y -qq -o Acquire::Retries=3 -o Acquire::http::Timeout=30 \
         -o DPkg::Lock::Timeout=120 "$@" </dev/null >"$log" 2>&1 || {
         echo "setup: apt-get $*: $(grep -v '^W: ' "$log" | tail -n 1)"
         return 1

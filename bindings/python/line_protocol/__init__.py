@@ -13,9 +13,9 @@ package, or in `bindings/out`.
 from .items import Fault, FaultKind, FloatText, Line, Side, Unsigned, Value
 from .reading import parse, split
 from .rebuilding import Rebuilt, rebuild
-from .writing import Builder, DuplicateTag, base, is_admitted, show, write
+from .writing import Builder, DuplicateTag, base, is_admitted, is_base_safe, show, write
 
 __all__ = [
     "Builder", "DuplicateTag", "Fault", "FaultKind", "FloatText", "Line", "Rebuilt", "Side", "Unsigned", "Value",
-    "base", "is_admitted", "parse", "rebuild", "show", "split", "write",
+    "base", "is_admitted", "is_base_safe", "parse", "rebuild", "show", "split", "write",
 ]

@@ -97,6 +97,7 @@ def _load() -> ctypes.CDLL:
         ("lp_line_write", out, ctypes.c_uint32),
         ("lp_line_show", out, ctypes.c_uint32),
         ("lp_line_base", out, ctypes.c_uint32),
+        ("lp_line_is_base_safe", [at, at, size, at], ctypes.c_uint32),
         ("lp_line_is_admitted", [at, at, size, at], ctypes.c_uint32),
         ("lp_rebuild", [flag, at, size, at, size, at, size, at], ctypes.c_uint32),
     ]:

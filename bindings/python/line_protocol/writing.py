@@ -167,22 +167,39 @@ def show(line: Line) -> str:
 
 
 def base(line: Line) -> str:
-    """The text that tells the series of a line from others. Fields and timestamp are not looked at. DuplicateTag where a key of
-    the tags is repeated."""
+    """The base of the series of a line: its measurement and its tags, in the order of their keys. Fields and timestamp are not
+    looked at. DuplicateTag where a key of the tags is repeated.
+
+    A base tells its series from others where `is_base_safe` holds for both: `m,a=1\\,b\\=2` and `m,a=1,b=2` are two series with
+    one base. `m,\\,=v` and `m,,=v` are one series, and with one base here, but with two where the library reads the lines.
+    """
     answer, text = _put_out(lp.LIBRARY.lp_line_base, _series(line))
     if answer == lp.FAULT:
         raise DuplicateTag(text)
     return text
 
 
-def is_admitted(line: Line) -> bool:
-    """Whether a line reads back where it is written: whether each of its names is admitted."""
-    handed, admitted = _Handed(_line(line)), ctypes.c_bool()
-    answer = lp.LIBRARY.lp_line_is_admitted(
-        handed.line, lp.address(handed.parts), handed.parts_len, ctypes.byref(admitted))
+def _answer(call: Callable[..., int], line: _Encoded) -> bool:
+    """What a call says of a line."""
+    handed, told = _Handed(line), ctypes.c_bool()
+    answer = call(handed.line, lp.address(handed.parts), handed.parts_len, ctypes.byref(told))
     if answer != lp.WRITTEN:
         raise _failed(answer)
-    return admitted.value
+    return told.value
+
+
+def is_base_safe(line: Line) -> bool:
+    """Whether the base of a line is safe to group by: no measurement and no tag value holds a comma, no tag key an `=`, and no
+    name is a comma, a space or, in a tag, an `=` alone. Fields and timestamp are not looked at.
+
+    Where two lines are safe and have bases, their bases are the same exactly where measurement and tags are.
+    """
+    return _answer(lp.LIBRARY.lp_line_is_base_safe, _series(line))
+
+
+def is_admitted(line: Line) -> bool:
+    """Whether a line reads back where it is written: whether each of its names is admitted."""
+    return _answer(lp.LIBRARY.lp_line_is_admitted, _line(line))
 
 
 class Builder:

@@ -17,6 +17,7 @@ for call in (
     lambda: list(line_protocol.parse('a\\ b,h\\ =x f=1i\nm f=99999999999999999999i\nlast f=1')),
     lambda: line_protocol.write(line),
     lambda: line_protocol.base(line),
+    lambda: line_protocol.is_base_safe(line_protocol.Line("m", 9 * [("t", "a")])),
     lambda: line_protocol.rebuild('m f=1i\nm f'),
     lambda: builder.close_line().measurement("b").field("g", 2),
 ):

@@ -5,7 +5,7 @@ import math
 import unittest
 from concurrent.futures import ThreadPoolExecutor
 
-from line_protocol import DuplicateTag, Line, Rebuilt, Unsigned, base, is_admitted, parse, rebuild, show, write
+from line_protocol import DuplicateTag, Line, Rebuilt, Unsigned, base, is_admitted, is_base_safe, parse, rebuild, show, write
 
 LINE = Line(
     "c pu", [("z", "a,b"), ("h=", "é")],
@@ -33,6 +33,25 @@ class Writing(unittest.TestCase):
         for fields in ([], [("f", math.nan)], [("f", None)], [(None, 1)]):
             with self.subTest(fields=fields):
                 self.assertEqual(base(Line("m", [("a", "2")], fields)), "m,a=2")
+                self.assertTrue(is_base_safe(Line("m", [("a", "2")], fields)))
+
+    def test_bases_are_safe_where_no_name_divides_them_or_is_one_escape_alone(self):
+        more = "".join(f",{key}=v" for key in "abcdefgh")
+        for series, text, safe in (
+                ("m", "m", True),
+                ("m,b=2,a=1", "m,a=1,b=2", True),
+                ("m\\ n,a\\,b=1\\=2", "m n,a,b=1=2", True),
+                ("m,a=1\\,b\\=2", "m,a=1,b=2", False),
+                ("m\\,n", "m,n", False),
+                ("m,a\\=b=1", "m,a=b=1", False),
+                ("m,,=v", "m,,=v", False),
+                ("m,\\,=v", "m,,=v", False),
+                ("m,a=\\=", "m,a==", False),
+                ("m" + more + ",i=9", "m" + more + ",i=9", True),
+                ("m" + more + ",i=\\,9", "m" + more + ",i=,9", False)):
+            with self.subTest(series=series):
+                [line] = parse(series + " f=1i")
+                self.assertEqual((base(line), is_base_safe(line)), (text, safe))
 
     def test_names_that_do_not_read_back(self):
         self.assertTrue(is_admitted(LINE))
