@@ -3,7 +3,7 @@
 ghost use Rattle.influxdb_line_protocol.specs.format.Pieces.{IsLastPiece};
 
 use influxdb_line_protocol::{
-    BoundedLineStream, Dialect, LineStream, SplitLines, PieceTooLong, split_lines_in,
+    BoundedLineStream, Dialect, LineStream, PieceTooLong, SplitLines, split_lines_in,
 };
 use lp_vectors::cuts::Parts;
 use std::alloc::AllocError;
@@ -51,7 +51,11 @@ fn newlines_in(bytes: &[u8]) -> usize {
 }
 
 // Whether this is the next piece, or where it has more bytes than the limit a fault with the number of its newlines.
-fn is_answer(answer: Result<&[u8], PieceTooLong>, limit: usize, pieces: &mut SplitLines<'_>) -> bool {
+fn is_answer(
+    answer: Result<&[u8], PieceTooLong>,
+    limit: usize,
+    pieces: &mut SplitLines<'_>,
+) -> bool {
     let Some(wanted) = pieces.next() else {
         return false;
     };
