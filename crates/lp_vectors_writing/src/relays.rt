@@ -183,10 +183,10 @@ impl<'a> Source for Failing<'a> {
 // Whole lines of so many bytes, at least 7.
 fn lines_of(alloc: Global, len: usize) -> Result<String, Fault> {
     let mut text = String::new(alloc);
-    while text.len().saturating_add(14) <= len {
+    for _ in 1..len / 7 {
         text.push_str("m a=1i\n")?;
     }
-    while text.len().saturating_add(6) < len {
+    for _ in text.len().saturating_add(6)..len {
         text.push('m')?;
     }
     text.push_str(" a=1i\n")?;
