@@ -68,7 +68,8 @@ typedef struct lp_view { lp_text text; bool copied; } lp_view;
 /* Room for copies. A call takes what it uses off the front. */
 typedef struct lp_room { uint8_t *at; size_t len; } lp_room;
 
-/* A tag or a field. `kind`, of enum lp_kind, tells which of the values counts. */
+/* A tag or a field. `kind`, of enum lp_kind, tells which of the values counts; where a part was read, the others are empty, 0 and
+ * false. */
 typedef struct lp_part {
     lp_view key;
     lp_view text;
@@ -78,14 +79,15 @@ typedef struct lp_part {
     bool boolean;
 } lp_part;
 
-/* A line without its parts, or a fault. */
+/* A line without its parts, or a fault. Where a line was read, `fault` and `side` are 0; where a fault was, there are no tags, no
+ * fields and no timestamp. What else it holds is left open: `fault_text` of a line, `series` and `measurement` of a fault. */
 typedef struct lp_line {
     lp_text series;       /* the part of the input that holds the measurement and the tags */
     lp_view measurement;
     lp_text fault_text;   /* what the fault names, in the room */
     size_t tags;          /* so many of the parts are tags: the first ones */
     size_t fields;        /* and so many after them are fields */
-    size_t copied_len;    /* so many bytes of room are taken */
+    size_t copied_len;    /* so many bytes of room are taken, by copies or by `fault_text` */
     int64_t timestamp;    /* 0 where the line has none */
     uint32_t fault;       /* of enum lp_fault_kind */
     uint32_t side;        /* of enum lp_side, where the fault is that of a number */
@@ -129,7 +131,9 @@ bool lp_lines_begin(const uint8_t *text, size_t len, bool strict, lp_lines *line
 /* Reads the next item, and passes it but for the two last answers.
  * LP_LINE: `line` and its first `tags` + `fields` parts show all of it. LP_FAULT: `fault`, `side` and `fault_text` show it.
  * LP_OUT_OF_MEMORY: this item is lost, and the next ones are not. LP_END: no item is left.
- * LP_MORE_PARTS: lend `tags` + `fields` parts, LP_MORE_ROOM: lend `copied_len` bytes, and call again: `lines` is as it was. */
+ * LP_MORE_PARTS: lend `tags` + `fields` parts, LP_MORE_ROOM: lend `copied_len` bytes, and call again: `lines` is as it was.
+ * Left open is what no answer names: what parts and room hold at these two and at LP_FAULT, but for `fault_text`, and past the
+ * parts of a line; and `line` at LP_END and LP_OUT_OF_MEMORY. Where more is asked for, the length of the room is as it was. */
 uint32_t lp_lines_next(lp_lines *lines, lp_room *room, lp_line *line, lp_part *parts, size_t parts_len);
 
 /* Reads items into rows, as lp_lines_next does, as long as rows, parts and room last: `filled` is how many rows were filled.

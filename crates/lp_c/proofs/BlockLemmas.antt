@@ -31,6 +31,9 @@ shows_own read line xs h = record {
   fields = ap (λ l. map field_shown (take line.fields l)) (drop-take line.tags line.fields xs)
       ∙ (ap (map field_shown) (take-take line.fields line.fields (drop line.tags xs) (omega arith)) ∙ h.fields);
   timestamp = h.timestamp;
+  no_timestamp = h.no_timestamp;
+  fault = h.fault;
+  side = h.side;
 }
 
 -- what is answered for a line that was passed rests on its own parts alone

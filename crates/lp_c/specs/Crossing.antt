@@ -1,8 +1,9 @@
 -- What a caller in C sees of what was read.
-use Rattle.std.specs.Prelude.{◌≡◌, ◌<◌, ◌+◌, ◌-◌, ◌^◌, ◌==◌, ℕ, ℤ, List, [], Bool, true, false, not, Option, Some, None, Result, Ok, Err}
-use Rattle.std.specs.Prelude.{length, map, take, drop, min, string_bytes, if◌then◌else◌}
+use Rattle.std.specs.Prelude.{◌≡◌, ◌<◌, ◌+◌, ◌-◌, ◌^◌, ◌==◌, ◌&&◌, ℕ, ℤ, pos, List, [], Bool, true, false, not, Option, Some, None}
+use Rattle.std.specs.Prelude.{Result, Ok, Err, length, map, take, drop, min, string_bytes, if◌then◌else◌}
 use Rattle.std.specs.List.{sum_by}
 use Rattle.std.specs.Option.{option_map, is_some}
+use Rattle.std.specs.Ordering.{int_eq}
 use Rattle.influxdb_line_protocol.specs.format.Dialects.{Dialect, Crate, Strict}
 use Rattle.influxdb_line_protocol.specs.declared.parsed.ParsedLine.{ParsedLine}
 use Rattle.influxdb_line_protocol.specs.declared.error.Error.{Error}
@@ -46,9 +47,26 @@ left_of lines = record { dialect = dialect_of lines.strict; text = left_text lin
 abbrev pub text_shown : View → Text
 text_shown view = record { bytes = view.text.now; is_single = not view.copied }
 
--- whether a part is of this kind
+-- whether a part has no text
+abbrev pub has_no_text : Part → Bool
+has_no_text part = length part.text.text.now == 0 && not part.text.copied
+
+-- whether a part has no number
+abbrev pub has_no_number : Part → Bool
+has_no_number part = int_eq part.integer (pos 0) && part.unsigned == 0
+
+-- whether the values of a part that are not of this kind are empty, zero and false
+abbrev pub has_no_other : Kind → Part → Bool
+has_no_other Kind.Tag part = has_no_number part && not part.boolean
+has_no_other Kind.Integer part = has_no_text part && part.unsigned == 0 && not part.boolean
+has_no_other Kind.Unsigned part = has_no_text part && int_eq part.integer (pos 0) && not part.boolean
+has_no_other Kind.Float part = not part.text.copied && has_no_number part && not part.boolean
+has_no_other Kind.String part = has_no_number part && not part.boolean
+has_no_other Kind.Boolean part = has_no_text part && has_no_number part
+
+-- whether a part is of this kind, and has no value of another
 abbrev pub is_kind : Kind → Part → Bool
-is_kind kind part = part.kind == kind_number kind
+is_kind kind part = part.kind == kind_number kind && has_no_other kind part
 
 -- the tag that a part shows, where it is one
 abbrev pub tag_shown : Part → Option (Pair Text Text)
@@ -72,7 +90,7 @@ field_shown part = option_map (λ value. record { key = text_shown part.key; val
 abbrev pub timestamp_shown : Line → Option ℤ
 timestamp_shown line = if line.has_timestamp then Some line.timestamp else None
 
--- the line and its parts show all of this line
+-- the line and its parts show all of this line, and nothing of an item before it
 pub record ShowsLine (read : format.Line) (line : Line) (parts : List Part) : Type 0 where
   pub series : line.series.now ≡ read.series
   pub measurement : text_shown line.measurement ≡ read.measurement
@@ -80,6 +98,9 @@ pub record ShowsLine (read : format.Line) (line : Line) (parts : List Part) : Ty
   pub tags : map tag_shown (take line.tags parts) ≡ map Some (some_tags read.tags)
   pub fields : map field_shown (take line.fields (drop line.tags parts)) ≡ map Some read.fields
   pub timestamp : timestamp_shown line ≡ read.timestamp
+  pub no_timestamp : line.has_timestamp ≡ false → line.timestamp ≡ pos 0
+  pub fault : line.fault ≡ fault_number FaultKind.None
+  pub side : line.side ≡ side_number Side.Neither
 
 -- how many bytes of room a text takes
 abbrev pub copied_text : Text → ℕ
@@ -151,11 +172,17 @@ fault_seen error.TagSetMalformed = bare_fault FaultKind.TagSetMalformed
 fault_seen (error.GenericParsingError kind) = bare_fault FaultKind.GenericParsingError
 fault_seen error.OutOfMemory = None
 
--- the line shows this fault
+-- the line shows this fault, and how many bytes of room its text takes; it has no tags, no fields and no timestamp
 pub record ShowsFault (fault : FaultSeen) (line : Line) : Type 0 where
   pub kind : line.fault ≡ fault_number fault.kind
   pub side : line.side ≡ side_number fault.side
   pub text : line.fault_text.now ≡ fault.text
+  pub copied_len : line.copied_len ≡ length fault.text
+  pub tags : line.tags ≡ 0
+  pub fields : line.fields ≡ 0
+  pub has_tag_set : line.has_tag_set ≡ false
+  pub has_timestamp : line.has_timestamp ≡ false
+  pub timestamp : line.timestamp ≡ pos 0
 
 -- what is answered for a fault: it is shown, or its text takes more room than was lent
 abbrev pub AnswersFault : Option FaultSeen → ℕ → Answer → Line → Type 0

@@ -1,5 +1,6 @@
 pub mod Blocks
 pub mod Crossing
+pub mod Freeing
 pub mod Handed
 pub mod Numbers
 pub mod Rebuilding

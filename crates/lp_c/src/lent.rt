@@ -1,6 +1,7 @@
 //! What is read is put into what the caller lends.
 
-ghost use Rattle.std.specs.Prelude.{◌≡◌, ◌≢◌, ◌+◌, ◌≤◌, ◌-◌, ◌^◌, drop, length, map, min, take, None, Some, MatchOption};
+ghost use Rattle.std.specs.Prelude.{◌≡◌, ◌≢◌, ◌+◌, ◌≤◌, ◌-◌, ◌^◌, [], drop, false, length, map, min, pos, take, true};
+ghost use Rattle.std.specs.Prelude.{None, Some, MatchOption};
 ghost use Rattle.std.specs.List.{sum_by};
 ghost use Rattle.influxdb_line_protocol.specs.code.Parsed.{field_of, line_read, tag_of, value_of};
 ghost use Rattle.influxdb_line_protocol.specs.code.Texts.{read_of};
@@ -8,7 +9,7 @@ ghost use Rattle.influxdb_line_protocol.specs.format.Lines.{some_tags};
 ghost use Rattle.lp_c.specs.Crossing.{copied_field, copied_in, copied_tag, copied_text, copied_value};
 ghost use Rattle.influxdb_line_protocol.specs.code.Lookups.{some_items};
 ghost use Rattle.lp_c.specs.Crossing.{field_shown, tag_shown, text_shown, value_shown, fault_seen, side_of};
-ghost use Rattle.lp_c.specs.Numbers.{answer_number, kind_number};
+ghost use Rattle.lp_c.specs.Numbers.{answer_number, fault_number, kind_number, side_number};
 ghost use Rattle.lp_c.specs.Crossing.{AnswersFault, AnswersLine, CountsLine, ShowsLine};
 
 use crate::views::{Answer, FaultKind, Kind, Line, Part, Room, Side, View};
@@ -97,6 +98,10 @@ fn put_view<'a>(room: &mut Room<'a>, text: &EscapedStr<'a>, view: &mut View<'a>)
 fn begin_part(kind: Kind, part: &mut Part<'_>)
     ensures key { part.new.key ≡ part.old.key }
     ensures kind { part.new.kind ≡ kind_number kind }
+    ensures text { text_shown part.new.text ≡ record { bytes = []; is_single = true } }
+    ensures integer { part.new.integer ≡ pos 0 }
+    ensures unsigned { part.new.unsigned ≡ 0 }
+    ensures boolean { part.new.boolean ≡ false }
 {
     part.text.text = b"";
     part.text.copied = false;
@@ -202,6 +207,8 @@ fn put_parts<'a>(
     parts: &mut [Part<'a>],
 )
     requires counts { CountsLine (line_read parsed.now) line.old }
+    requires fault { line.old.fault ≡ fault_number FaultKind.None }
+    requires side { line.old.side ≡ side_number Side.Neither }
     requires parts { line.old.tags + line.old.fields ≤ length parts.old }
     requires room { copied_in (line_read parsed.now) ≤ length room.old.bytes.now }
     ensures counts { CountsLine (line_read parsed.now) line.new }
@@ -253,6 +260,7 @@ pub fn put_line<'a>(
 {
     count(parsed, line);
     line.fault = FaultKind::None.number();
+    line.side = Side::Neither.number();
     if parts.len() < line.tags || parts.len() - line.tags < line.fields {
         return Answer::MoreParts;
     }
@@ -326,6 +334,11 @@ pub fn put_fault<'a>(error: &Error, room: &mut Room<'a>, line: &mut Line<'a>) ->
         return Answer::OutOfMemory;
     };
     line.copied_len = text.len();
+    line.tags = 0;
+    line.fields = 0;
+    line.has_tag_set = false;
+    line.has_timestamp = false;
+    line.timestamp = 0;
     if room.bytes.len() < text.len() {
         return Answer::MoreRoom;
     }

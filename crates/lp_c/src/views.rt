@@ -22,7 +22,7 @@ pub struct Room<'a> {
     pub bytes: &'a mut [u8],
 }
 
-/// A tag or a field. Which of the values counts is told by `kind`; the others are empty, zero and false.
+/// A tag or a field. Which of the values counts is told by `kind`; where a part was read, the others are empty, zero and false.
 #[repr(C)]
 #[derive(Clone, Copy)]
 pub struct Part<'a> {
@@ -40,7 +40,7 @@ pub struct Part<'a> {
     pub boolean: bool,
 }
 
-/// A line without its tags and fields, which are parts; or the fault of a line.
+/// A line without its tags and fields, which are parts; or the fault of a line, which has no tags, no fields and no timestamp.
 #[repr(C)]
 #[derive(Clone, Copy)]
 pub struct Line<'a> {

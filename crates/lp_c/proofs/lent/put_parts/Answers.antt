@@ -16,4 +16,7 @@ returns-clause-shown c =
       tags = seen_since _ _ _ _ _ _ _ read c.requires.counts.tags c.put_fields.ensures.others c.put_tags.ensures.shown;
       fields = seen_as _ _ _ _ _ _ (ap (map _) (sym c.as_slice.ensures)) c.requires.counts.fields c.put_fields.ensures.shown;
       timestamp = search (rules);
+      no_timestamp = search (rules);
+      fault = search (rules);
+      side = search (rules);
     }

@@ -1,0 +1,14 @@
+-- What is freed of a line that was read into.
+use Rattle.std.specs.Prelude.{◌≡◌, ◌≤◌, [], true}
+use Rattle.influxdb_line_protocol.specs.declared.parsed.ParsedLine.{ParsedLine}
+use Rattle.influxdb_line_protocol.specs.code.Light.{inline_fields, inline_tags}
+use Rattle.influxdb_line_protocol.specs.code.Lookups.{room_of, some_items}
+use Rattle.influxdb_line_protocol.specs.code.Texts.{is_single_slice}
+
+-- the line holds no memory: its measurement is no copy, and its sets hold nothing and have no more room than new ones
+pub record HoldsNoMemory (line : ParsedLine) : Type 0 where
+  pub measurement : is_single_slice line.series.measurement ≡ true
+  pub tags : some_items line.series.tag_set ≡ []
+  pub fields : line.field_set.items ≡ []
+  pub tag_room : room_of line.series.tag_set ≤ inline_tags
+  pub field_room : line.field_set.capacity ≤ inline_fields
