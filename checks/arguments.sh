@@ -206,10 +206,13 @@ echo "arguments: the programs end where a device fails, in $devices ways"
 
 # Puts `first` into `fifo`, and once the relay runs for more than a second, `last`.
 feed() { { cat "$work/first"; sleep 2.5; cat "$work/last"; } >"$work/fifo" & }
-# Runs the relay so, with standard error on a terminal, and the output where this redirection says, or else there too.
+# Runs the relay so, with standard error on a terminal, and the output where this redirection says, or else there too. More words
+# are more options.
 show_progress() {
+    local place=$1
+    shift
     feed
-    script -qec "'$relay' --progress <'$work/fifo' $1" /dev/null </dev/null >"$work/err" && status=0 || status=$?
+    script -qec "'$relay' --progress $* <'$work/fifo' $place" /dev/null </dev/null >"$work/err" && status=0 || status=$?
 }
 # shown STATUS WHAT TEXT: how the relay ended, and what it showed. In TEXT backslashes are those of `printf %b`.
 shown() {
@@ -237,6 +240,13 @@ cmp "$work/first" "$work/out"
 cp "$work/first" "$work/last"
 show_progress ""
 shown 0 "both outputs are a terminal" "m a=1i\r\n${clear}14 bytes read, 1 lines written, faults: 0, 0.0 MB/s${clear}m a=1i\r\n"
+printf '# c\nm a=1i,\n' >"$work/first"
+printf 'm abcd=1i\n' >"$work/last"
+show_progress ">'$work/out'" --strict --lines --max-line 8
+fault=${strict_fault#item 1}
+shown 1 "there are more options" "line 2${fault%?}\r\n${clear}22 bytes read, 0 lines written, faults: 1, 0.0 MB/s\
+${clear}line 3: the line is too long\r\n"
+cmp /dev/null "$work/out"
 
 # Three faults, and 300,001 lines of seven bytes. The rate lies between that of the pause and that of the whole run.
 { printf 'x\nx\nx\n'; yes 'm a=1i' | head -n 300000; } >"$work/first"

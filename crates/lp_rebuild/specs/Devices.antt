@@ -9,6 +9,14 @@ use Rattle.lp_rebuild.specs.declared.devices.Writing.{Writing}
 abbrev pub CountsFailure : {T E : Type 0} → Result T E → ℕ → ℕ → Type 0
 CountsFailure result old new = MatchResult result (λ _. new ≡ old) (λ _. new ≡ old + 1)
 
+-- the reader that a source is over
+abbrev pub reading_inner : {R : Type 0} → Reading R → R
+reading_inner r = r.inner
+
+-- the writer that a sink is over
+abbrev pub writing_inner : {W : Type 0} → Writing W → W
+writing_inner w = w.inner
+
 -- the failures of a source over a reader so far
 abbrev pub reading_failures : {R : Type 0} → Reading R → ℕ
 reading_failures r = r.failures.count

@@ -1,8 +1,9 @@
 //! Where a text can be cut, so that its parts can be rebuilt or relayed apart.
-ghost use Rattle.std.specs.Prelude.{◌≡◌, ◌<◌, ◌≤◌, ◌*◌, ◌/◌, ℕ, List, length, max, IfOk, OnOk, Result};
+ghost use Rattle.std.specs.Prelude.{◌≡◌, ◌<◌, ◌≤◌, ◌*◌, ◌/◌, ℕ, List, ◌+◌, length, max, IfOk, OnOk, Result};
 ghost use Rattle.influxdb_line_protocol.specs.code.Rules.{rules_of};
 ghost use Rattle.influxdb_line_protocol.specs.format.Readings.{Fault};
 ghost use Rattle.influxdb_line_protocol.specs.format.Lines.{Line};
+ghost use Rattle.influxdb_line_protocol.specs.format.Pieces.{IsLastPiece};
 ghost use Rattle.influxdb_line_protocol.specs.format.Items.{HasAnswers};
 ghost use Rattle.influxdb_line_protocol.specs.laws.StreamLaws.{HaveAnswers};
 ghost use Rattle.lp_rebuild.specs.Cuts.{ArePartEnds, IsCutAt, IsCutFor, JoinsPieces, parts_from};
@@ -29,12 +30,14 @@ fn take_piece_len(stream: &mut LineStream) -> Option<usize>
     Some(piece.len())
 }
 
-// Gives the stream the next block of the text.
+// Gives the stream, which holds the piece that has not ended yet, the next block of the text.
 fn give_block(dialect: Dialect, walk: &mut Walk, input: &[u8]) -> Result<(), AllocError>
     requires walk { IsWalkOf (rules_of dialect) input.now walk.old }
     requires more { walk.old.given < length input.now }
+    requires piece { IsLastPiece (rules_of dialect) walk.old.stream.bytes }
     ensures walk { OnOk result (IsWalkOf (rules_of dialect) input.now walk.new) }
     ensures further { OnOk result (walk.old.given < walk.new.given) }
+    ensures block { walk.new.given ≤ walk.old.given + BLOCK }
     ensures at { walk.new.at ≡ walk.old.at }
 {
     let end = walk.given + BLOCK.min(input.len() - walk.given);

@@ -6,7 +6,7 @@ ghost use Rattle.std.specs.Prelude.{Option, ◌≡◌, ℕ, ◌+◌, ◌≤◌, 
 ghost use Rattle.std.specs.Prelude.{IfOk, IsOk, OnOk, OnErr};
 ghost use Rattle.std.specs.Io.KnownBytes.{ReadConsumes, WriteAppends, Keeps};
 ghost use Rattle.lp_rebuild.specs.Devices.{CountsFailure, kept_bytes, kept_capacity, kept_failures, kept_is_flushed};
-ghost use Rattle.lp_rebuild.specs.Devices.{reading_failures, writing_failures, writing_is_flushed};
+ghost use Rattle.lp_rebuild.specs.Devices.{reading_failures, reading_inner, writing_failures, writing_inner, writing_is_flushed};
 
 use crate::failures::Failures;
 use crate::flushes::Flushes;
@@ -74,7 +74,7 @@ pub trait Sink {
         ensures flushed { OnOk result (is_flushed self.new ≡ true) };
 }
 
-/// A source over a reader of std. Its bytes are not known to contracts.
+/// A source over a reader of std. Its `bytes` are not known to contracts, but each read hands over what the reader gives.
 #[derive(Drop)]
 pub struct Reading<R> {
     inner: R,
@@ -84,7 +84,8 @@ pub struct Reading<R> {
 impl<R: Read> Reading<R> {
     /// A source that has not failed so far. It takes no memory.
     pub fn new(inner: R) -> Self
-        ensures { reading_failures result ≡ 0 }
+        ensures inner { reading_inner result ≡ inner }
+        ensures unfailed { reading_failures result ≡ 0 }
     {
         Reading {
             inner,
@@ -98,7 +99,11 @@ impl<R: Read> Source for Reading<R> {
 
     ghost failures = { λ r. reading_failures r };
 
-    fn read(&mut self, buf: &mut [u8]) -> Result<usize, DeviceFault> {
+    fn read(&mut self, buf: &mut [u8]) -> Result<usize, DeviceFault>
+        ensures bound { IfOk result (λ n. n ≤ length buf.new) }
+        ensures inner { ReadConsumes (R.remaining (reading_inner self.old)) (R.remaining (reading_inner self.new)) result buf.new }
+        ensures counts { CountsFailure result (reading_failures self.old) (reading_failures self.new) }
+    {
         match self.inner.read(buf) {
             Ok(n) => Ok(n),
             Err(_) => {
@@ -124,8 +129,8 @@ impl<'a> Source for &'a [u8] {
     }
 }
 
-/// A sink over a writer of std. Its bytes are not known to contracts. A writer that takes nothing of
-/// bytes that it was given has failed.
+/// A sink over a writer of std. Its `bytes` are not known to contracts, but each write hands the writer what it takes. A
+/// writer that takes nothing of bytes that it was given has failed.
 #[derive(Drop)]
 pub struct Writing<W> {
     inner: W,
@@ -136,6 +141,7 @@ pub struct Writing<W> {
 impl<W: Write> Writing<W> {
     /// A sink that has not failed so far. It takes no memory.
     pub fn new(inner: W) -> Self
+        ensures inner { writing_inner result ≡ inner }
         ensures unfailed { writing_failures result ≡ 0 }
         ensures flushed { writing_is_flushed result ≡ true }
     {
@@ -154,7 +160,13 @@ impl<W: Write> Sink for Writing<W> {
 
     ghost is_flushed = { λ w. writing_is_flushed w };
 
-    fn write(&mut self, buf: &[u8]) -> Result<usize, DeviceFault> {
+    fn write(&mut self, buf: &[u8]) -> Result<usize, DeviceFault>
+        ensures bound { IfOk result (λ n. n ≤ length buf.now) }
+        ensures moves { IfOk result (λ n. 0 < length buf.now → 0 < n) }
+        ensures inner { WriteAppends (W.contents (writing_inner self.old)) (W.contents (writing_inner self.new)) result buf.now }
+        ensures counts { CountsFailure result (writing_failures self.old) (writing_failures self.new) }
+        ensures unflushed { IfOk result (λ n. 0 < n → writing_is_flushed self.new ≡ false) }
+    {
         match self.inner.write(buf) {
             Ok(n) if n > 0 || buf.is_empty() => {
                 self.flushes.on_write();
@@ -167,7 +179,11 @@ impl<W: Write> Sink for Writing<W> {
         }
     }
 
-    fn flush(&mut self) -> Result<(), DeviceFault> {
+    fn flush(&mut self) -> Result<(), DeviceFault>
+        ensures inner { Keeps (W.contents (writing_inner self.old)) (W.contents (writing_inner self.new)) }
+        ensures counts { CountsFailure result (writing_failures self.old) (writing_failures self.new) }
+        ensures flushed { OnOk result (writing_is_flushed self.new ≡ true) }
+    {
         match self.inner.flush() {
             Ok(()) => {
                 self.flushes.on_flush();

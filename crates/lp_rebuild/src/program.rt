@@ -1,5 +1,5 @@
 //! From a reader to two writers.
-ghost use Rattle.std.specs.Prelude.{◌≡◌, ◌+◌, ◌<◌, ◌≤◌, take, drop, length, option_map, vec_len, true, IfOk, OnOk, OnErr};
+ghost use Rattle.std.specs.Prelude.{◌≡◌, ◌+◌, ◌<◌, ◌≤◌, take, drop, length, max, option_map, vec_len, true, IfOk, OnOk, OnErr};
 ghost use Rattle.std.specs.Io.KnownBytes.{Appends, Consumes, IsAtEnd};
 ghost use Rattle.influxdb_line_protocol.specs.code.Rules.{rules_of};
 ghost use Rattle.lp_rebuild.specs.Devices.{CountsFailure};
@@ -48,6 +48,7 @@ fn make_room(input: &mut Vec<u8>, filled: usize) -> Result<(), AllocError>
     ensures front { take filled input.new.items ≡ take filled input.old.items }
     ensures within { filled ≤ vec_len input.new }
     ensures room { OnOk result (filled + BLOCK ≤ vec_len input.new) }
+    ensures few { vec_len input.new ≤ max (vec_len input.old) (filled + BLOCK) }
 {
     let end = filled + BLOCK;
     if input.len() < end {
@@ -78,6 +79,7 @@ pub(crate) fn read_block<R: Source>(
     requires { filled ≤ vec_len input.old }
     ensures front { take filled input.new.items ≡ take filled input.old.items }
     ensures within { filled ≤ vec_len input.new }
+    ensures few { vec_len input.new ≤ max (vec_len input.old) (filled + BLOCK) }
     ensures fits { IfOk result (λ n. filled + n ≤ vec_len input.new) }
     ensures ok { IfOk result
         (λ n. Consumes (R.bytes reader.old) (R.bytes reader.new) (take n (drop filled input.new.items))) }

@@ -1,11 +1,11 @@
 //! Runs of the program over devices that fail, at each call in turn. The answers come from the format's rules.
 
-use lp_rebuild::{RunFault, Writing, run};
+use lp_rebuild::{Kept, Reading, RunFault, Writing, relay, run};
 use lp_vectors::drops::{Basin, Trickle};
 use lp_vectors::fault::Fault;
 use std::alloc::Global;
 use std::cell::Cell;
-use std::io::{self, Write};
+use std::io::{self, Read, Write};
 
 const TEXT: &[u8] = b"m a=T 5\n# c\nx\nw\\\t a=1i\n";
 
@@ -126,4 +126,95 @@ fn a_writer_that_takes_nothing_has_failed(rt: HostRuntime) {
         assert_eq!(rt; out_count.get(), out_flushes);
         assert_eq!(rt; err_count.get(), err_flushes);
     }
+}
+
+// A writer of std that takes all, and fails at each flush.
+#[derive(Drop)]
+struct Stuck;
+
+impl Write for Stuck {
+    fn write(&mut self, buf: &[u8]) -> io::Result<usize> {
+        Ok(buf.len())
+    }
+
+    fn flush(&mut self) -> io::Result<()> {
+        Err(io::Error::from(io::ErrorKind::Other))
+    }
+}
+
+#[test]
+fn a_flush_that_fails_is_a_failed_write(rt: HostRuntime) {
+    let mut reader = TEXT;
+    let mut stuck = Writing::new(Stuck);
+    let mut other = Basin::new(0);
+    let answer = run(rt.alloc(), &mut reader, &mut stuck, &mut other);
+    assert_eq!(rt; answer.err(), Some(RunFault::Write));
+    assert!(rt; other.as_slice().is_empty());
+    let mut reader = TEXT;
+    let mut other = Basin::new(0);
+    let answer = run(rt.alloc(), &mut reader, &mut other, &mut stuck);
+    assert_eq!(rt; answer.err(), Some(RunFault::Write));
+    assert_eq!(rt; other.as_slice(), OUT);
+    let mut reader = TEXT;
+    let mut other = Basin::new(0);
+    let answer = relay(rt.alloc(), &mut reader, &mut other, &mut stuck);
+    assert_eq!(rt; answer.err(), Some(RunFault::Write));
+    assert_eq!(rt; other.as_slice(), OUT);
+}
+
+// A reader of std that gives so many bytes at each call, and fails at one where that is `None`. After these it is at its end.
+#[derive(Drop)]
+struct Stepped<'a> {
+    left: &'a [u8],
+    steps: &'a [Option<usize>],
+}
+
+impl<'a> Read for Stepped<'a> {
+    fn read(&mut self, buf: &mut [u8]) -> io::Result<usize> {
+        let [step, steps @ ..] = self.steps else {
+            return Ok(0);
+        };
+        self.steps = steps;
+        let Some(most) = *step else {
+            return Err(io::Error::from(io::ErrorKind::Other));
+        };
+        let n = most.min(buf.len()).min(self.left.len());
+        let left: &'a [u8] = self.left;
+        buf[..n].copy_from_slice(&left[..n]);
+        self.left = &left[n..];
+        Ok(n)
+    }
+}
+
+// A full block is 65,536 bytes, which are 9,362 of the 10,000 lines, and 2 bytes.
+#[test]
+fn all_that_a_reader_gives_is_read_until_it_fails(rt: HostRuntime) -> Result<(), Fault> {
+    let mut text = Vec::new(rt.alloc());
+    for _ in 0..10_000 {
+        text.extend_from_slice(b"m a=1i\n")?;
+    }
+    let (full, short) = (Some(65_536), Some(3));
+    for (steps, fault, relayed, written) in [
+        ([full, full, full], None, 70_000, 70_000),
+        ([full, short, full], None, 70_000, 70_000),
+        ([short, full, full], None, 70_000, 70_000),
+        ([full, None, full], Some(RunFault::Read), 65_534, 0),
+        ([full, short, None], Some(RunFault::Read), 65_534, 0),
+        ([short, None, full], Some(RunFault::Read), 0, 0),
+        ([None, full, full], Some(RunFault::Read), 0, 0),
+    ] {
+        let (left, steps) = (text.as_slice(), steps.as_slice());
+        let mut reader = Reading::new(Stepped { left, steps });
+        let mut out = Kept::new(rt.alloc());
+        let mut err = Kept::new(rt.alloc());
+        let answer = relay(rt.alloc(), &mut reader, &mut out, &mut err);
+        assert_eq!(rt; answer.err(), fault);
+        assert_eq!(rt; Some(out.as_slice()), text.get(..relayed));
+        let mut reader = Reading::new(Stepped { left, steps });
+        let mut out = Kept::new(rt.alloc());
+        let answer = run(rt.alloc(), &mut reader, &mut out, &mut err);
+        assert_eq!(rt; answer.err(), fault);
+        assert_eq!(rt; Some(out.as_slice()), text.get(..written));
+    }
+    Ok(())
 }
