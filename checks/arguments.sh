@@ -250,6 +250,7 @@ cmp /dev/null "$work/out"
 
 # Three faults, and 300,001 lines of seven bytes. The rate lies between that of the pause and that of the whole run.
 { printf 'x\nx\nx\n'; yes 'm a=1i' | head -n 300000; } >"$work/first"
+printf 'm a=1i\n' >"$work/last"
 begun=$(date +%s%3N)
 show_progress ">'$work/out'"
 passed=$(($(date +%s%3N) - begun))
