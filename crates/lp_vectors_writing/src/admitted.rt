@@ -1,7 +1,8 @@
 //! Lines whose names were changed, and whether they are admitted.
 
 use influxdb_line_protocol::{
-    EscapedStr, FieldValue, LineProtocolBuilder, ParsedLine, TagSet, is_admitted, write_line,
+    EscapedStr, FieldSet, FieldValue, LineProtocolBuilder, ParsedLine, Series, TagSet, is_admitted,
+    write_line,
 };
 use lp_vectors::fault::Fault;
 use std::alloc::{AllocError, Global};
@@ -12,12 +13,17 @@ fn line_of<'a>(alloc: Global, names: [&'a str; 4]) -> Result<ParsedLine<'a>, All
     let [measurement, tag_key, tag_value, field_key] = names;
     let mut tags = TagSet::new(alloc);
     tags.push((EscapedStr::from(tag_key), EscapedStr::from(tag_value)))?;
-    let mut line = ParsedLine::new(alloc);
-    line.series.measurement = EscapedStr::from(measurement);
-    line.series.tag_set = Some(tags);
-    line.field_set
-        .push((EscapedStr::from(field_key), FieldValue::Boolean(true)))?;
-    Ok(line)
+    let mut field_set = FieldSet::new(alloc);
+    field_set.push((EscapedStr::from(field_key), FieldValue::Boolean(true)))?;
+    Ok(ParsedLine {
+        series: Series {
+            raw_input: "",
+            measurement: EscapedStr::from(measurement),
+            tag_set: Some(tags),
+        },
+        field_set,
+        timestamp: None,
+    })
 }
 
 // Each name is admitted so: as a measurement, and as any other name.
