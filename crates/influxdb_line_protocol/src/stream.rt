@@ -1,6 +1,6 @@
 //! Lines that come in parts.
 
-ghost use Rattle.std.specs.Prelude.{◌≡◌, ◌++◌, ◌≤◌, [], drop, length, vec_len, IsUtf8, MatchResult, OnOk, OnErr, Some};
+ghost use Rattle.std.specs.Prelude.{◌≡◌, ◌++◌, ◌-◌, ◌≤◌, [], drop, length, vec_len, IsUtf8, MatchResult, OnOk, OnErr, Some};
 ghost use Rattle.std.specs.Borrow.{sem};
 ghost use Rattle.influxdb_line_protocol.specs.format.Dialects.{Crate};
 ghost use Rattle.influxdb_line_protocol.specs.code.Rules.{rules_of};
@@ -17,14 +17,21 @@ mod bounded;
 
 pub use bounded::{BoundedLineStream, PieceTooLong};
 
-// Drops the first `n` bytes.
-fn remove_front(buffer: &mut Vec<u8>, n: usize)
-    requires { n ≤ vec_len buffer.old }
-    ensures { buffer.new.items ≡ drop n buffer.old.items }
+// Drops the bytes before `start` if they are as many as those after it, and tells where those after it begin. So each byte
+// is moved once at most, and what was given takes no more room than what is held.
+fn compact(buffer: &mut Vec<u8>, start: usize) -> usize
+    requires { start ≤ vec_len buffer.old }
+    ensures few { result ≤ vec_len buffer.old - start }
+    ensures within { result ≤ vec_len buffer.new }
+    ensures others { drop result buffer.new.items ≡ drop start buffer.old.items }
 {
     let len = buffer.len();
-    buffer.as_mut_slice().copy_within(n..len, 0);
-    buffer.truncate(len - n);
+    if start < len - start {
+        return start;
+    }
+    buffer.as_mut_slice().copy_within(start..len, 0);
+    buffer.truncate(len - start);
+    0
 }
 
 // The bytes as text. The test goes by wide loads, and where it fails once more byte by byte, for the place of the error.
@@ -85,9 +92,11 @@ impl LineStream {
     pub fn new_in(alloc: Global, dialect: Dialect) -> LineStream
         ensures { result ≡ record { dialect = rules_of dialect; bytes = [] } }
     {
+        let buffer = Vec::new(alloc);
+        prove!(buffer.capacity() == 0);
         LineStream {
             dialect,
-            buffer: Vec::new(alloc),
+            buffer,
             start: 0,
             known: Search::Begins(0),
         }
@@ -101,18 +110,9 @@ impl LineStream {
         ensures ok { OnOk result (self.new.bytes ≡ self.old.bytes ++ part.now) }
         ensures err { OnErr result (self.new.bytes ≡ self.old.bytes) }
     {
-        if self.start >= self.buffer.len() - self.start {
-            self.compact();
-        }
+        self.start = compact(&mut self.buffer, self.start);
+        prove!(self.start <= self.buffer.len() - self.start);
         self.buffer.extend_from_slice(part)
-    }
-
-    // Drops the bytes of the pieces that were given.
-    fn compact(&mut self)
-        ensures { self.new ≡ self.old }
-    {
-        remove_front(&mut self.buffer, self.start);
-        self.start = 0;
     }
 
     // The cut that ends the first piece, or `None` until its newline has come. Most are found with no look at where a search
