@@ -1,22 +1,45 @@
 # shellcheck shell=bash
-# For the scripts `lp_rebuild` and `lp_relay`: `launch NAME CRATE ARGUMENTS..` runs the program of a crate, and ends with its exit
-# status. Where the program was not built from these sources, they are proved and it is built first; a terminal sees how far
-# that is.
+# For the scripts that build crates. `launch NAME CRATE ARGUMENTS..`, of `lp_rebuild` and `lp_relay`, runs the program of a crate,
+# and ends with its exit status. If the program was not built from these sources, they are proved and it is built first; a terminal
+# sees how far that is.
 top=$(cd "$(dirname "$(readlink -f "${BASH_SOURCE[0]}")")" && pwd)
 PATH=$PATH:/opt/rattle/bin
 
-# What a program is built from.
-sources() {
-    find "$top/crates.txt" "$top"/crates/{influxdb_line_protocol,lp_rebuild,"$1"}/{src,specs,proofs} \
-        -type f -print0 2>/dev/null | sort -z | xargs -0 cat | cksum
+# The line of a crate in crates.txt.
+line_of() {
+    grep -E "^$1( [^:]*)?:" "$top/crates.txt"
 }
 
-# Keeps what comes in `log`. On a terminal the last line that says how far a proof is stays in sight, after `$1`.
+# Adds to `below`, the lowest first, a crate and the crates of this repository on which it stands.
+add_below() {
+    local crate=$1 name words low
+    [[ " ${below[*]-} " != *" $crate "* ]] || return 0
+    while IFS=: read -r name words; do
+        [ "${name%% *}" = "$crate" ] || continue
+        for low in $words; do
+            [ ! -d "$top/crates/$low" ] || add_below "$low"
+        done
+    done <"$top/crates.txt"
+    below+=("$crate")
+}
+
+# What a program is built from.
+sources() {
+    local crate below=() folders=()
+    add_below "$1"
+    for crate in "${below[@]}"; do
+        folders+=("$top/crates/$crate"/{src,specs,proofs})
+    done
+    find "$top/crates.txt" "${folders[@]}" -type f -print0 2>/dev/null | sort -z | xargs -0 cat | cksum
+}
+
+# Keeps what comes in `log`. On a terminal the last line that says how far a proof is, or what is waited for, stays in sight, after
+# `$1`.
 keep_log() {
     local line
     while IFS= read -r line; do
         printf '%s\n' "$line" >>"$log"
-        if [ -t 2 ] && [[ $line = "so far: "* ]]; then
+        if [ -t 2 ] && [[ $line = "so far: "* || $line = *"waiting for"* ]]; then
             printf '\r\033[K%s: %s' "$1" "${line%%;*}" >&2
         fi
     done
@@ -31,22 +54,32 @@ build() {
     [ ! -t 2 ] || printf '\r\033[K%s: done\n' "$what" >&2
 }
 
+# Proves and builds the libraries on which a crate stands, and the crate by a command of `rt`. `$1` is whom a message is from. What
+# `rt` says is shown if that fails.
+build_all() {
+    local name=$1 crate=$2 command=$3 low log below=()
+    log=$(mktemp)
+    add_below "$crate"
+    for low in "${below[@]}"; do
+        if ! build "$name" "$low" "$([ "$low" = "$crate" ] && echo "$command" || echo lib)"; then
+            [ ! -t 2 ] || echo >&2
+            cat "$log" >&2
+            rm -f "$log"
+            echo "$name: $low was not built" >&2
+            return 1
+        fi
+    done
+    rm -f "$log"
+}
+
 launch() {
-    local name=$1 crate=$2 wanted log
+    local name=$1 crate=$2 wanted
     local program=$top/crates/$crate/out/$crate stamp=$top/crates/$crate/out/launcher.stamp
     shift 2
     wanted=$(sources "$crate")
     if [ ! -x "$program" ] || [ "$(cat "$stamp" 2>/dev/null)" != "$wanted" ]; then
-        log=$(mktemp)
         [ ! -t 2 ] || echo "$name: proving and building the program, which takes some minutes" >&2
-        if ! { build "$name" influxdb_line_protocol lib && build "$name" lp_rebuild lib && build "$name" "$crate" run; }; then
-            [ ! -t 2 ] || echo >&2
-            cat "$log" >&2
-            rm -f "$log"
-            echo "$name: the program was not built" >&2
-            exit 2
-        fi
-        rm -f "$log"
+        build_all "$name" "$crate" run || exit 2
         echo "$wanted" >"$stamp"
     fi
     exec "$program" "$@"

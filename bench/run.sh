@@ -12,8 +12,7 @@
 # bench/streams.tsv, and nowhere if files are given.
 set -eu
 here=$(cd "$(dirname "$0")" && pwd)
-top=$(dirname "$here")
-PATH=$PATH:/opt/rattle/bin
+. "$here/../launch.sh"
 export PYTHONDONTWRITEBYTECODE=1
 built=$(mktemp -d)
 trap 'rm -rf "$built"' EXIT
@@ -34,8 +33,8 @@ else
     set -- "${files[@]}"
 fi
 
-for crate in influxdb_line_protocol lp_rebuild lp_bench lp_bench_streams lp_c; do
-    (cd "$top/crates/$crate" && rt lib > "$built/rt.log" 2>&1) || { tail -n 20 "$built/rt.log" >&2; exit 1; }
+for crate in lp_bench lp_bench_streams lp_c; do
+    build_all bench "$crate" lib
 done
 heap=$(dirname "$(dirname "$(readlink -f "$(command -v rt)")")")/c/liblibc_c.a
 archive=$top/crates/lp_c/out/liblp_c.a

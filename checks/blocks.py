@@ -7,7 +7,7 @@ examples of the packages in bindings/.
 
 In a document the line `<!-- block NAME -->` comes before a block. A stretch of an example goes from the line `// [NAME]` to
 `// [end]`, or with `#` in the place of `//`; the spaces that begin all its lines are left out. A NAME with a `/` is a whole file
-without these lines: of bindings/, or else from crates/lp_examples on.
+without these lines: of bindings/ or crates/, or else from crates/lp_examples on.
 """
 
 import re
@@ -18,7 +18,7 @@ from pathlib import Path
 TOP = Path(__file__).resolve().parent.parent
 EXAMPLES = TOP / "crates" / "lp_examples"
 PLACES = ["crates/lp_examples/src/*.rt", "bindings/c/example.c", "bindings/rust/examples/*.rs", "bindings/python/example.py"]
-DOCUMENTS = ["README.md", "CALLING.md", "docs/CALLERS.md"]
+DOCUMENTS = ["README.md", "docs/RATTLE.md", "docs/BINDINGS.md"]
 LANGUAGES = ("rust", "antt", "c", "rs", "python")  # of the blocks that must be copies
 
 MARK = re.compile(r"^ *(?://|#) \[(\w+)\]$")
@@ -64,7 +64,7 @@ def stretches():
 def wanted(name, known, where):
     """The lines that a block of this name must have."""
     if "/" in name:
-        path = (TOP if name.startswith("bindings/") else EXAMPLES) / name
+        path = (TOP if name.startswith(("bindings/", "crates/")) else EXAMPLES) / name
         if not path.is_file():
             raise Fault(f"{where}: there is no file {name}")
         return [line for line in path.read_text(encoding="utf-8").rstrip("\n").splitlines() if not MARK.match(line)]

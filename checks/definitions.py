@@ -237,18 +237,6 @@ def differ(wanted):
     return f"it has {len(old)} lines, and specs/ gives {len(new)}"
 
 
-def dead_links(wanted):
-    """The links of the documents to subjects that the list does not have, in words."""
-    anchors = {line[4:].lower() for line in wanted.splitlines() if line.startswith("### ")}
-    found = []
-    for path in sorted([*TOP.glob("*.md"), *TOP.glob("docs/*.md")]):
-        for number, line in enumerate(path.read_text(encoding="utf-8").splitlines(), 1):
-            for anchor in re.findall(r"DEFINITIONS\.md#(\w+)", line):
-                if anchor not in anchors:
-                    found.append(f"{path.relative_to(TOP)}:{number} links to `{anchor}`, which is no file of specs/")
-    return found
-
-
 def print_bare():
     for subject in subjects():
         for definition in subject.definitions:
@@ -272,10 +260,6 @@ def main(words):
     if difference:
         print(f"definitions: docs/DEFINITIONS.md is not what specs/ says: {difference}", file=sys.stderr)
         print("definitions: run checks/definitions.py --write", file=sys.stderr)
-        return 1
-    dead = dead_links(wanted)
-    if dead:
-        print("\n".join(f"definitions: {link}" for link in dead), file=sys.stderr)
         return 1
     print(f"definitions: docs/DEFINITIONS.md says what specs/ says, {wanted.count('- **`')} definitions")
     return 0

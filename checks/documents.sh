@@ -1,7 +1,8 @@
 #!/usr/bin/env bash
-# Compares the documents with what they copy: docs/DEFINITIONS.md with specs/, and the blocks of code in README.md, CALLING.md
-# and docs/CALLERS.md with the examples; imports, and files of definitions and lemmas, with the map in docs/ARCHITECTURE.md;
-# the header for C with crates/lp_c; and the packages of bindings/ with the header. Needs Python 3.10, and no package.
+# Compares the documents with what they copy: docs/DEFINITIONS.md with specs/, and the blocks of code in README.md, docs/RATTLE.md
+# and docs/BINDINGS.md with the examples; each link with what it leads to; imports, and files of definitions and lemmas, with the map in
+# docs/ARCHITECTURE.md; the header for C with crates/lp_c; and the packages of bindings/ with the header. Needs Python 3.10, and no
+# package.
 set -eu
 here=$(cd "$(dirname "$0")" && pwd)
 if ! python3 -c 'import sys; sys.exit(sys.version_info < (3, 10))' 2>/dev/null; then
@@ -11,6 +12,7 @@ if ! python3 -c 'import sys; sys.exit(sys.version_info < (3, 10))' 2>/dev/null; 
 fi
 python3 -B "$here/definitions.py"
 python3 -B "$here/blocks.py"
+python3 -B "$here/links.py"
 python3 -B "$here/layers.py"
 python3 -B "$here/header.py"
 python3 -B "$here/bindings.py"

@@ -27,7 +27,6 @@ static bool print_lines(const uint8_t *text, size_t len) {
     lp_lines lines = LP_NO_LINES;
     lp_line line = LP_EMPTY_LINE;
     uint32_t answer;
-    // [lines_in_c]
     lp_part parts[8];  /* lent for the tags and fields of a line */
     uint8_t bytes[64]; /* and for those of its texts that hold escapes, without them */
     lp_empty_parts(parts, 8);
@@ -38,7 +37,6 @@ static bool print_lines(const uint8_t *text, size_t len) {
         if (answer == LP_LINE) print_line(&line, parts);
         if (answer == LP_FAULT) print_fault(&line);
     } while (answer == LP_LINE || answer == LP_FAULT);
-    // [end]
     return answer == LP_END;
 }
 

@@ -4,7 +4,6 @@ use influxdb_line_protocol::parse_lines;
 use std::alloc::Global;
 use std::io;
 
-// [print]
 /// Prints each line of `text`, and the fault of each line that cannot be read.
 pub fn print_lines(rt: &impl Print, alloc: Global, text: &str) -> io::Result<()> {
     for item in parse_lines(alloc, text) {
@@ -15,4 +14,3 @@ pub fn print_lines(rt: &impl Print, alloc: Global, text: &str) -> io::Result<()>
     }
     Ok(())
 }
-// [end]
