@@ -1,14 +1,15 @@
 #!/usr/bin/env python3
-"""Whether the imports of the crates' modules go down the layers of docs/ARCHITECTURE.md, which names each file of definitions and
-lemmas, and whether the format names no code.
+"""Whether crates and modules, with their definitions and proofs, stand on nothing above them in docs/ARCHITECTURE.md.
 
-    checks/layers.py            prints each import that goes up a layer or closes a cycle, and each file that the map does not
-                                name; status 1 where there is one
+    checks/layers.py            prints each import that goes up a layer or closes a cycle, and each file of definitions or lemmas
+                                that the page of its crate does not name; status 1 if there is one
     checks/layers.py --all      prints every import between modules, with what is imported
 
-The crates are those that the map lists with layers of modules. A module is a file of a crate's src/ with the files in its
-folder. An import is a path from `crate`, in a `use` or in the code; what the root hands on counts for the module that it is of.
-A ghost `use` is none. The definitions of specs/format/ may import each other and std, and nothing else.
+The map in docs/ARCHITECTURE.md lists the crates, each above those that it uses, and below a crate its modules in layers. A module
+is a file of a crate's src/ with the files in its folder. An import is a path from `crate`, in a `use` or in the code; what the root
+hands on counts for the module that it is of. A ghost `use` is none. Of proofs, a folder of proofs/ or proofs/lemmas/ that has the
+name of a module is of that module's layer, and imports no lemmas of a layer above. Of definitions, those of specs/format/ import
+each other and std, those of specs/code/ none of specs/laws/.
 """
 
 import re
@@ -17,8 +18,7 @@ from pathlib import Path
 
 TOP = Path(__file__).resolve().parent.parent
 CRATES = TOP / "crates"
-LIBRARY = "influxdb_line_protocol"
-FORMAT = CRATES / LIBRARY / "specs" / "format"
+ROOMS = ["format", "code", "laws"]  # of definitions, the lowest first
 MAP = TOP / "docs" / "ARCHITECTURE.md"
 
 
@@ -149,23 +149,75 @@ def report(graph, layer, circles, everything):
     return wrong
 
 
-def format_imports():
-    """What the definitions of the format import beside each other and std."""
-    for path in sorted(FORMAT.glob("*.antt")):
-        for name in re.findall(r"^use Rattle\.([\w.]+)", path.read_text(encoding="utf-8"), re.M):
-            if not name.startswith(("std.", f"{LIBRARY}.specs.format.")):
-                yield f"format: {path.name} imports {name}"
+def crates_in_map():
+    """The crates that the map names, from the top."""
+    words = re.findall(r"^(\w+) ", MAP.read_text(encoding="utf-8"), re.M)
+    return [word for word in words if (CRATES / word / "src").is_dir()]
+
+
+def crates_out_of_order():
+    """The crates that the map does not name, or names below one that they use."""
+    order = crates_in_map()
+    for name, words in re.findall(r"^(\w+)(?: [^:\n]*)?:(.*)$", (TOP / "crates.txt").read_text(encoding="utf-8"), re.M):
+        if name not in order:
+            yield f"map: docs/ARCHITECTURE.md does not name the crate {name}"
+        for low in words.split():
+            if low in order and name in order and order.index(low) < order.index(name):
+                yield f"map: {name} uses {low}, which is above it"
+
+
+def imported(path):
+    """What a file of definitions or proofs imports, as lists of words after `Rattle`."""
+    text = path.read_text(encoding="utf-8")
+    return [name.rstrip(".").split(".") for name in re.findall(r"^(?:pub )?use Rattle\.([\w.]+)", text, re.M)]
+
+
+def room_of(words):
+    """The room of definitions of a path in words, if it has one."""
+    return words[2] if len(words) > 2 and words[1] == "specs" and words[2] in ROOMS else None
+
+
+def definition_imports():
+    """The definitions that import what their room may not."""
+    for path in sorted(CRATES.glob("*/specs/**/*.antt")):
+        crate, *inside = path.relative_to(CRATES).with_suffix("").parts
+        room = room_of([crate, *inside])
+        for words in imported(path) if room else []:
+            other = room_of(words)
+            known = words[0] == "std" or other
+            if (other and ROOMS.index(other) > ROOMS.index(room)) or (room == "format" and not known):
+                yield f"definitions: {path.relative_to(TOP)} imports {'.'.join(words)}"
+
+
+def module_of(words, layer):
+    """The module to which a path of proofs in words belongs, if it has one."""
+    inside = words[2:]
+    if inside[:1] == ["lemmas"]:
+        inside = inside[1:]
+    return inside[0] if inside and inside[0] in layer else None
+
+
+def proof_imports(crate, layer):
+    """The proofs of a crate that import lemmas of a module above theirs."""
+    for path in sorted((CRATES / crate / "proofs").rglob("*.antt")):
+        own = module_of([crate, *path.relative_to(CRATES / crate).with_suffix("").parts], layer)
+        for words in imported(path) if own else []:
+            other = module_of(words, layer) if words[:2] == [crate, "proofs"] else None
+            if other and layer[other] > layer[own]:
+                yield f"proofs: {path.relative_to(TOP)} imports {'.'.join(words)}, of a layer above"
 
 
 def unnamed_files():
-    """The files of definitions and lemmas that the map does not name. A file beside a folder of its name only lists that folder."""
-    text = MAP.read_text(encoding="utf-8")
+    """The files of definitions and lemmas that the page of their crate does not name. A file beside a folder of its name only lists
+    that folder."""
     for folder in ("specs", "proofs"):
         for path in sorted(CRATES.glob(f"*/{folder}/**/*.antt")):
-            inside = path.relative_to(path.parents[[it.name for it in path.parents].index(folder)])
-            is_lemmas = folder == "specs" or len(inside.parts) == 1 or inside.parts[0] == "lemmas"
+            crate, _, *inside = path.relative_to(CRATES).parts
+            page = CRATES / crate / "README.md"
+            text = page.read_text(encoding="utf-8") if page.is_file() else ""
+            is_lemmas = folder == "specs" or len(inside) == 1 or inside[0] == "lemmas"
             if is_lemmas and path.stem != "Lib" and not path.with_suffix("").is_dir() and f"`{path.stem}`" not in text:
-                yield f"map: docs/ARCHITECTURE.md does not name {path.relative_to(TOP)}"
+                yield f"page: crates/{crate}/README.md does not name {path.relative_to(CRATES / crate)}"
 
 
 def wrong_in(crate, lines, everything):
@@ -178,7 +230,9 @@ def wrong_in(crate, lines, everything):
     wrong = report(graph, layer, circles, everything)
     for circle in circles:
         print(f"each of these reaches each other: {' '.join(circle)}")
-    return len(names), wrong + len(circles)
+    strange = [*proof_imports(crate, layer)]
+    print("".join(f"{line}\n" for line in strange), end="")
+    return len(names), wrong + len(circles) + len(strange)
 
 
 def main(words):
@@ -192,7 +246,7 @@ def main(words):
         print(f"layers: {fault}", file=sys.stderr)
         return 1
     number, wrong = (sum(count) for count in zip(*counts))
-    strange = [*format_imports(), *unnamed_files()]
+    strange = [*crates_out_of_order(), *definition_imports(), *unnamed_files()]
     print("".join(f"{line}\n" for line in strange), end="")
     print(f"layers: {number} modules of {len(crates)} crates, {wrong} imports that go up or close a cycle")
     return 1 if wrong or strange else 0
