@@ -5,11 +5,8 @@
 top=$(cd "$(dirname "$(readlink -f "${BASH_SOURCE[0]}")")" && pwd)
 PATH=$PATH:/opt/rattle/bin
 
-# What a program is built from.
-sources() {
-    find "$top/crates.txt" "$top"/crates/{influxdb_line_protocol,lp_rebuild,"$1"}/{src,specs,proofs} \
-        -type f -print0 2>/dev/null | sort -z | xargs -0 cat | cksum
-}
+# shellcheck source=crates.sh
+. "$top/crates.sh"
 
 # Keeps what comes in `log`. On a terminal the last line that says how far a proof is stays in sight, after `$1`.
 keep_log() {
@@ -31,15 +28,24 @@ build() {
     [ ! -t 2 ] || printf '\r\033[K%s: done\n' "$what" >&2
 }
 
+# Proves the libraries that a crate stands on, and builds its program.
+build_all() {
+    local name=$1 crate=$2 library
+    for library in $(crates_of "$top" "$crate"); do
+        [ "$library" = "$crate" ] || build "$name" "$library" lib || return 1
+    done
+    build "$name" "$crate" run
+}
+
 launch() {
     local name=$1 crate=$2 wanted log
     local program=$top/crates/$crate/out/$crate stamp=$top/crates/$crate/out/launcher.stamp
     shift 2
-    wanted=$(sources "$crate")
+    wanted=$(sources_of "$top" "$crate")
     if [ ! -x "$program" ] || [ "$(cat "$stamp" 2>/dev/null)" != "$wanted" ]; then
         log=$(mktemp)
         [ ! -t 2 ] || echo "$name: proving and building the program, which takes some minutes" >&2
-        if ! { build "$name" influxdb_line_protocol lib && build "$name" lp_rebuild lib && build "$name" "$crate" run; }; then
+        if ! build_all "$name" "$crate"; then
             [ ! -t 2 ] || echo >&2
             cat "$log" >&2
             rm -f "$log"

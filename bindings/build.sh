@@ -9,9 +9,11 @@ set -eu
 here=$(cd "$(dirname "$0")" && pwd)
 top=$(dirname "$here")
 PATH=$PATH:/opt/rattle/bin
+# shellcheck source=../crates.sh
+. "$top/crates.sh"
 archive=${1:-$top/crates/lp_c/out/liblp_c.a}
 if [ $# = 0 ]; then
-    for crate in influxdb_line_protocol lp_rebuild lp_c; do
+    for crate in $(crates_of "$top" lp_c); do
         if ! said=$(cd "$top/crates/$crate" && rt lib 2>&1); then
             printf '%s\n' "$said" | tail -n 20 >&2
             echo "build: $crate was not built" >&2

@@ -4,20 +4,17 @@
 PATH=$PATH:/opt/rattle/bin
 library=$top/crates/lp_checks/out/liblp_checks.a
 heap=$(dirname "$(dirname "$(readlink -f "$(command -v rt)")")")/c/liblibc_c.a
-
-sources() {
-    find "$top/crates.txt" "$top"/crates/{influxdb_line_protocol,lp_rebuild,lp_checks}/{src,specs,proofs} \
-        -type f -print0 2>/dev/null | sort -z | xargs -0 cat | cksum
-}
+# shellcheck source=../crates.sh
+. "$top/crates.sh"
 
 build_library() {
     local wanted stamp=$top/crates/lp_checks/out/checks.stamp log crate
-    wanted=$(sources)
+    wanted=$(sources_of "$top" lp_checks)
     if [ -f "$library" ] && [ "$(cat "$stamp" 2>/dev/null)" = "$wanted" ]; then
         return
     fi
     log=$(mktemp)
-    for crate in influxdb_line_protocol lp_rebuild lp_checks; do
+    for crate in $(crates_of "$top" lp_checks); do
         if ! (cd "$top/crates/$crate" && rt lib) >"$log" 2>&1; then
             tail -n 20 "$log" >&2
             rm -f "$log"
