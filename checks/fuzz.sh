@@ -36,11 +36,16 @@ cat >"$built/toolchain/bin/clang" <<EOF
 exec "$kit/toolchain/bin/clang" "\$@" -fsanitize-coverage=inline-8bit-counters,pc-table,trace-cmp
 EOF
 chmod +x "$built/toolchain/bin/clang"
+libraries=() below=()
+add_below lp_checks
+for crate in "${below[@]}"; do
+    [ "$crate" = lp_checks ] || libraries+=(-L "dependency=$top/crates/$crate/out/rlib")
+done
 (cd "$top/crates/lp_checks" && "$kit/bin/rattle" build --crate-name lp_checks src/lib.rt --crate-type staticlib \
     --extern "std=$kit/rlibs/std.rlib" -L "dependency=$kit/rlibs" \
     --extern "influxdb_line_protocol=$top/crates/influxdb_line_protocol/out/rlib/influxdb_line_protocol.rlib" \
     --extern "lp_rebuild=$top/crates/lp_rebuild/out/rlib/lp_rebuild.rlib" \
-    -L "dependency=$top/crates/influxdb_line_protocol/out/rlib" -L "dependency=$top/crates/lp_rebuild/out/rlib" \
+    "${libraries[@]}" \
     --antt-project "$kit/rattle/logic/antt-project.json" --logic-built "$kit/logic_built" --links lp_checks= \
     --incremental out/incremental --backend llvm --toolchain "$built/toolchain" -o "$built/liblp_checks.a") \
     >"$built/log" 2>&1 || { tail -n 20 "$built/log" >&2; exit 1; }

@@ -1,17 +1,15 @@
 #!/usr/bin/env bash
-# Each text of this folder is a use of the builder that must not compile: put into a copy of the library, the
+# Each text of this folder is a use of the builder that must not compile: put into a copy of the builder's crate, the
 # compiler must refuse the call that the text's second line names, for the state that the builder is in.
 set -eu
 here=$(cd "$(dirname "$0")" && pwd)
 top=$(dirname "$here")
 copy=$(mktemp -d)
 trap 'rm -rf "$copy"' EXIT
-mkdir -p "$copy/crates"
 cp "$top/HANDLES" "$copy/"
-grep '^influxdb_line_protocol:' "$top/crates.txt" >"$copy/crates.txt"
-(cd "$top/crates" && tar --exclude=out -cf - influxdb_line_protocol) | tar -C "$copy/crates" -xf -
+"$top/bin/take" "$copy" lp_build >/dev/null
 git -C "$copy" init -q
-crate=$copy/crates/influxdb_line_protocol
+crate=$copy/crates/lp_build
 echo 'pub mod misuse;' >>"$crate/src/lib.rt"
 
 refused=0

@@ -1,14 +1,2 @@
-pub mod split
-pub mod stream
-pub mod tokens
-pub mod lanes
-pub mod scan
-pub mod names
-pub mod values
-pub mod literals
-pub mod digits
-pub mod line
-pub mod fields
 pub mod laws
-pub mod builder
-pub mod series
+pub mod stream

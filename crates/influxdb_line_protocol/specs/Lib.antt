@@ -1,3 +1,4 @@
 pub mod format
 pub mod code
 pub mod laws
+pub mod types

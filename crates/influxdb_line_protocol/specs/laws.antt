@@ -1,9 +1,9 @@
 pub mod GivenItems
-pub mod NamesOfLines
-pub mod PointsOfLines
-pub mod UnreadableNames
-pub mod Laws
-pub mod Meanings
-pub mod MeaningsOfAnswers
-pub mod BaseLaws
+pub use Rattle.lp_format.specs.laws.NamesOfLines
+pub use Rattle.lp_format.specs.laws.PointsOfLines
+pub use Rattle.lp_format.specs.laws.UnreadableNames
+pub use Rattle.lp_format.specs.laws.Laws
+pub use Rattle.lp_format.specs.laws.Meanings
+pub use Rattle.lp_format.specs.laws.MeaningsOfAnswers
+pub use Rattle.lp_lines.specs.laws.BaseLaws
 pub mod StreamLaws

@@ -1,22 +1,22 @@
 //! Laws of the definitions, each the contract of a function that does nothing.
 
-ghost use Rattle.influxdb_line_protocol.specs.laws.Laws.{AdmittedBatchesReadBack, OtherBatchesDoNotReadBack, ItemsHaveReadableNames};
-ghost use Rattle.influxdb_line_protocol.specs.laws.Laws.{OtherPointsEndWithBackslash, NamesAreParsed, ParsedNamesAreInLines};
-ghost use Rattle.influxdb_line_protocol.specs.laws.Laws.{StrictFieldsEnd, PiecesExist, PiecesAreUnique, PiecesAreTheText, PiecesJoin};
-ghost use Rattle.influxdb_line_protocol.specs.laws.Laws.{AnswersJoin, CommentTextIsIgnored};
-ghost use Rattle.influxdb_line_protocol.specs.laws.PointsOfLines.{LinesArePoints};
+ghost use Rattle.lp_format.specs.laws.Laws.{AdmittedBatchesReadBack, OtherBatchesDoNotReadBack, ItemsHaveReadableNames};
+ghost use Rattle.lp_format.specs.laws.Laws.{OtherPointsEndWithBackslash, NamesAreParsed, ParsedNamesAreInLines};
+ghost use Rattle.lp_format.specs.laws.Laws.{StrictFieldsEnd, PiecesExist, PiecesAreUnique, PiecesAreTheText, PiecesJoin};
+ghost use Rattle.lp_format.specs.laws.Laws.{AnswersJoin, CommentTextIsIgnored};
+ghost use Rattle.lp_format.specs.laws.PointsOfLines.{LinesArePoints};
 ghost use Rattle.influxdb_line_protocol.specs.laws.GivenItems.{ItemsAreOfPieces, ItemsAreAnswers, ItemsSoFar, GivenLinesWereRead};
-ghost use Rattle.influxdb_line_protocol.specs.laws.BaseLaws.{ClearSeriesHaveBases, SameSeriesHaveOneBase, TagsByKeyAreSorted};
-ghost use Rattle.influxdb_line_protocol.specs.laws.BaseLaws.{OneBaseIsOneSeries, PlainSeriesAreClear, ReadSeriesAreParsed};
-ghost use Rattle.influxdb_line_protocol.specs.laws.BaseLaws.{SafeBasesTellSeries, SameSeriesAreSafeAlike};
-ghost use Rattle.influxdb_line_protocol.specs.laws.Meanings.{LogicalIsWithoutEscapes, TheMostIsRead, TheNextHasTheFault, TheFirstMisses};
-ghost use Rattle.influxdb_line_protocol.specs.laws.Meanings.{CountIsOfTheMost, FloatFrontIsFloat, FloatFrontIsLongest, WordFrontIsWord};
-ghost use Rattle.influxdb_line_protocol.specs.laws.Meanings.{WordFrontIsLongest, TrimmedIsAfterBlanks, TrimmedFrontIsLongest};
-ghost use Rattle.influxdb_line_protocol.specs.laws.Meanings.{NameEndsBeforeStop, BodyEndsBeforeQuote};
-ghost use Rattle.influxdb_line_protocol.specs.laws.MeaningsOfAnswers.{AnswerIsByRows};
+ghost use Rattle.lp_lines.specs.laws.BaseLaws.{ClearSeriesHaveBases, SameSeriesHaveOneBase, TagsByKeyAreSorted};
+ghost use Rattle.lp_lines.specs.laws.BaseLaws.{OneBaseIsOneSeries, PlainSeriesAreClear, ReadSeriesAreParsed};
+ghost use Rattle.lp_lines.specs.laws.BaseLaws.{SafeBasesTellSeries, SameSeriesAreSafeAlike};
+ghost use Rattle.lp_format.specs.laws.Meanings.{LogicalIsWithoutEscapes, TheMostIsRead, TheNextHasTheFault, TheFirstMisses};
+ghost use Rattle.lp_format.specs.laws.Meanings.{CountIsOfTheMost, FloatFrontIsFloat, FloatFrontIsLongest, WordFrontIsWord};
+ghost use Rattle.lp_format.specs.laws.Meanings.{WordFrontIsLongest, TrimmedIsAfterBlanks, TrimmedFrontIsLongest};
+ghost use Rattle.lp_format.specs.laws.Meanings.{NameEndsBeforeStop, BodyEndsBeforeQuote};
+ghost use Rattle.lp_format.specs.laws.MeaningsOfAnswers.{AnswerIsByRows};
 ghost use Rattle.influxdb_line_protocol.specs.laws.StreamLaws.{FrontsKeepTheirCuts, TakenIsFirst, RunsGivePieces, RunsEnd};
 ghost use Rattle.influxdb_line_protocol.specs.laws.StreamLaws.{StreamsAnswerAll, StreamsGiveAnswers, Utf8ByPieces};
-ghost use Rattle.influxdb_line_protocol.specs.format.Lines.{tag, field};
+ghost use Rattle.lp_format.specs.format.Lines.{tag, field};
 
 /// Where memory and room suffice, a batch built from points, followed by any text, parses to exactly
 /// those points in order and then to what that text alone gives, if and only if every name is

@@ -7,8 +7,8 @@ use Rattle.std.proofs.Math.Seq.{take-add}
 use Rattle.std.proofs.lemmas.Bool.{false≢true}
 use Rattle.std.proofs.lemmas.List.{drop_all, drop-set, drop-take, length-drop, length-set, length-take-le}
 use Rattle.std.proofs.lemmas.List.{take-set, take_all, take-take, take_more_set}
-use Rattle.influxdb_line_protocol.specs.declared.error.Error.{Error}
-use Rattle.influxdb_line_protocol.specs.declared.parsed.ParsedLine.{ParsedLine}
+use Rattle.influxdb_line_protocol.specs.types.Error.{Error}
+use Rattle.influxdb_line_protocol.specs.types.ParsedLine.{ParsedLine}
 use Rattle.influxdb_line_protocol.specs.format.Lines as format
 use Rattle.influxdb_line_protocol.specs.code.Parsed.{line_read}
 use Rattle.lp_c.specs.Blocks.{ReadsBlock, Rows, is_item, parts_of, more}

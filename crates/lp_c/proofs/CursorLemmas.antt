@@ -1,7 +1,7 @@
 -- What a cursor has left.
 use Rattle.std.proofs.Common.{ℕ, List, [], Option, Some, None, Result, refl}
-use Rattle.influxdb_line_protocol.specs.declared.error.Error.{Error}
-use Rattle.influxdb_line_protocol.specs.declared.parsed.ParsedLine.{ParsedLine}
+use Rattle.influxdb_line_protocol.specs.types.Error.{Error}
+use Rattle.influxdb_line_protocol.specs.types.ParsedLine.{ParsedLine}
 use Rattle.influxdb_line_protocol.specs.format.Dialects.{Dialect}
 use Rattle.influxdb_line_protocol.specs.format.Pieces.{Left, Pieces, PiecesLeft}
 use Rattle.influxdb_line_protocol.specs.code.ParseSteps.{GivesItem}

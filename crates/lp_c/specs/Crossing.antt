@@ -5,11 +5,11 @@ use Rattle.std.specs.List.{sum_by}
 use Rattle.std.specs.Option.{option_map, is_some}
 use Rattle.std.specs.Ordering.{int_eq}
 use Rattle.influxdb_line_protocol.specs.format.Dialects.{Dialect, Crate, Strict}
-use Rattle.influxdb_line_protocol.specs.declared.parsed.ParsedLine.{ParsedLine}
-use Rattle.influxdb_line_protocol.specs.declared.error.Error.{Error}
-use Rattle.influxdb_line_protocol.specs.declared.error.Error.TheVariants as error
-use Rattle.influxdb_line_protocol.specs.declared.error.OutOfRange.{OutOfRange}
-use Rattle.influxdb_line_protocol.specs.declared.error.OutOfRange.TheVariants as range
+use Rattle.influxdb_line_protocol.specs.types.ParsedLine.{ParsedLine}
+use Rattle.influxdb_line_protocol.specs.types.Error.{Error}
+use Rattle.influxdb_line_protocol.specs.types.Error.TheVariants as error
+use Rattle.influxdb_line_protocol.specs.types.OutOfRange.{OutOfRange}
+use Rattle.influxdb_line_protocol.specs.types.OutOfRange.TheVariants as range
 use Rattle.influxdb_line_protocol.specs.format.Lines as format
 use Rattle.influxdb_line_protocol.specs.format.Lines.{some_tags}
 use Rattle.influxdb_line_protocol.specs.format.Pieces.{GivesPiece, Left}

@@ -1,6 +1,6 @@
 -- What is freed of a line that was read into.
 use Rattle.std.specs.Prelude.{◌≡◌, ◌≤◌, [], true}
-use Rattle.influxdb_line_protocol.specs.declared.parsed.ParsedLine.{ParsedLine}
+use Rattle.influxdb_line_protocol.specs.types.ParsedLine.{ParsedLine}
 use Rattle.influxdb_line_protocol.specs.code.Light.{inline_fields, inline_tags}
 use Rattle.influxdb_line_protocol.specs.code.Lookups.{room_of, some_items}
 use Rattle.influxdb_line_protocol.specs.code.Texts.{is_single_slice}

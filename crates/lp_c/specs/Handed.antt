@@ -6,7 +6,7 @@ use Rattle.influxdb_line_protocol.specs.format.Readings.{Text}
 use Rattle.influxdb_line_protocol.specs.format.Values.{IsFloat, Value, integer, unsigned, float, string, boolean}
 use Rattle.influxdb_line_protocol.specs.format.Points.{Pair}
 use Rattle.influxdb_line_protocol.specs.format.Lines as format
-use Rattle.influxdb_line_protocol.specs.declared.parsed.Series.{Series}
+use Rattle.influxdb_line_protocol.specs.types.Series.{Series}
 use Rattle.influxdb_line_protocol.specs.code.Parsed as code
 use Rattle.influxdb_line_protocol.specs.code.Texts.{read_of}
 use Rattle.std.specs.Option.{option_map}

@@ -2,7 +2,8 @@
 
 ghost use Rattle.std.specs.Prelude.{◌≡◌, ◌≤◌, ◌<◌, ◌+◌, [], ◌∷◌, ◌++◌, length, map, false, IfOk, IfErr, OnOk, IsUtf8};
 ghost use Rattle.std.specs.List.{AllByRecursion};
-ghost use Rattle.influxdb_line_protocol.specs.code.Parsed.{field_of, line_read, tag_of, value_of};
+ghost use Rattle.influxdb_line_protocol.specs.code.Parsed.{field_of, line_read, tag_of};
+ghost use Rattle.influxdb_line_protocol.specs.code.ReadValues.{value_of};
 ghost use Rattle.influxdb_line_protocol.specs.code.Texts.{read_of};
 ghost use Rattle.lp_c.specs.Handed.{IsFieldIn, IsLineIn, IsSeriesIn, IsSeriesRead, IsTagIn, IsValueIn, RefusesFor};
 ghost use Rattle.lp_c.specs.declared.views.Answer.TheVariants.{NotALine};

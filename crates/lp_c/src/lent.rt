@@ -3,7 +3,8 @@
 ghost use Rattle.std.specs.Prelude.{◌≡◌, ◌≢◌, ◌+◌, ◌≤◌, ◌-◌, ◌^◌, [], drop, false, length, map, min, pos, take, true};
 ghost use Rattle.std.specs.Prelude.{None, Some, MatchOption};
 ghost use Rattle.std.specs.List.{sum_by};
-ghost use Rattle.influxdb_line_protocol.specs.code.Parsed.{field_of, line_read, tag_of, value_of};
+ghost use Rattle.influxdb_line_protocol.specs.code.Parsed.{field_of, line_read, tag_of};
+ghost use Rattle.influxdb_line_protocol.specs.code.ReadValues.{value_of};
 ghost use Rattle.influxdb_line_protocol.specs.code.Texts.{read_of};
 ghost use Rattle.influxdb_line_protocol.specs.format.Lines.{some_tags};
 ghost use Rattle.lp_c.specs.Crossing.{copied_field, copied_in, copied_tag, copied_text, copied_value};

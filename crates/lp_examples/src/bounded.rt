@@ -2,7 +2,7 @@
 
 // [bounded]
 ghost use Rattle.std.specs.Prelude.{◌≡◌, ◌⊎◌, ◌-◌, min, vec_len, vec_capacity};
-ghost use Rattle.influxdb_line_protocol.specs.declared.builder.buffer.NoRoom.TheVariants.{OutOfMemory, Full};
+ghost use Rattle.influxdb_line_protocol.specs.types.NoRoom.TheVariants.{OutOfMemory, Full};
 
 use influxdb_line_protocol::builder::{BufMut, NoRoom};
 

@@ -3,7 +3,7 @@
 // [numbers]
 ghost use Rattle.std.specs.Prelude.{◌≡◌, ◌<◌, ◌^◌, ℕ, ℤ, Some, pos};
 ghost use Rattle.influxdb_line_protocol.specs.code.Lookups.{value_by_key};
-ghost use Rattle.influxdb_line_protocol.specs.declared.values.FieldValue.TheVariants.{I64, U64};
+ghost use Rattle.influxdb_line_protocol.specs.types.FieldValue.TheVariants.{I64, U64};
 
 use influxdb_line_protocol::{FieldValue, ParsedLine};
 

@@ -8,9 +8,9 @@ use Rattle.std.proofs.lemmas.Bool.Decides.{nat_tests}
 use Rattle.std.proofs.lemmas.List.Elements.{All-tail}
 use Rattle.std.proofs.lemmas.List.Sums.{sum_by-append}
 use Rattle.influxdb_line_protocol.specs.format.Dialects.{Dialect}
-use Rattle.influxdb_line_protocol.specs.declared.error.Error.{Error}
-use Rattle.influxdb_line_protocol.specs.declared.error.Error.TheVariants as error
-use Rattle.influxdb_line_protocol.specs.declared.parsed.ParsedLine.{ParsedLine}
+use Rattle.influxdb_line_protocol.specs.types.Error.{Error}
+use Rattle.influxdb_line_protocol.specs.types.Error.TheVariants as error
+use Rattle.influxdb_line_protocol.specs.types.ParsedLine.{ParsedLine}
 use Rattle.lp_rebuild.specs.declared.batch.Place.{Place}
 use Rattle.lp_rebuild.specs.declared.batch.Place.TheVariants.{ByNumber}
 use Rattle.lp_rebuild.specs.declared.batch.Progress.{Progress}

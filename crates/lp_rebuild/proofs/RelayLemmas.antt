@@ -7,8 +7,8 @@ use Rattle.std.specs.List.{All}
 use Rattle.std.specs.Io.KnownBytes.{Appends}
 use Rattle.std.proofs.KnownBytes.{Appends-nil}
 use Rattle.influxdb_line_protocol.specs.format.Dialects.{Dialect}
-use Rattle.influxdb_line_protocol.specs.declared.error.Error.{Error}
-use Rattle.influxdb_line_protocol.specs.declared.parsed.ParsedLine.{ParsedLine}
+use Rattle.influxdb_line_protocol.specs.types.Error.{Error}
+use Rattle.influxdb_line_protocol.specs.types.ParsedLine.{ParsedLine}
 use Rattle.influxdb_line_protocol.specs.format.Readings.{Fault}
 use Rattle.influxdb_line_protocol.specs.format.Points.{built_all}
 use Rattle.influxdb_line_protocol.specs.format.Lines.{Line, answer}

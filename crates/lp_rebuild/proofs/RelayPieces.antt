@@ -6,7 +6,7 @@ use Rattle.influxdb_line_protocol.specs.format.Dialects.{Dialect}
 use Rattle.influxdb_line_protocol.specs.format.Bytes.{newlines_in}
 use Rattle.influxdb_line_protocol.specs.format.Pieces.{IsCutPiece, IsLastPiece}
 use Rattle.influxdb_line_protocol.specs.code.Bounded.{GivesOf, HeldWithin, Holds, IsLastOf, IsTooLong}
-use Rattle.influxdb_line_protocol.specs.declared.stream.bounded.PieceTooLong.{PieceTooLong}
+use Rattle.influxdb_line_protocol.specs.types.PieceTooLong.{PieceTooLong}
 use Rattle.influxdb_line_protocol.specs.laws.StreamLaws.{Run, Run.taken}
 use Rattle.lp_rebuild.specs.declared.batch.Place.{Place}
 use Rattle.lp_rebuild.specs.Relaying.{Item, limit_of, items_of_bytes, items_of_piece, items_of}

@@ -5,8 +5,8 @@ use Rattle.std.specs.Prelude.{◌==◌, if◌then◌else◌}
 use Rattle.std.specs.Borrow.{Bor}
 use Rattle.std.specs.Str.{all_ascii_digits}
 use Rattle.std.specs.Str.Parse.{digits_value}
-use Rattle.influxdb_line_protocol.specs.declared.split.Dialect.{Dialect}
-use Rattle.influxdb_line_protocol.specs.declared.split.Dialect.TheVariants.{Crate, Strict}
+use Rattle.influxdb_line_protocol.specs.types.Dialect.{Dialect}
+use Rattle.influxdb_line_protocol.specs.types.Dialect.TheVariants.{Crate, Strict}
 use Rattle.lp_rebuild.specs.declared.program.RunFault.{RunFault}
 use Rattle.lp_rebuild.specs.declared.taking.Numbering.TheVariants.{Items, Lines}
 use Rattle.lp_rebuild.specs.declared.relaying.Relayed.{Relayed}

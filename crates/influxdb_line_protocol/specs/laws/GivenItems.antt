@@ -2,16 +2,16 @@
 use Rattle.std.specs.Prelude.{ℕ, ◌==◌, if◌then◌else◌, List, [], ◌∷◌, ◌++◌, length, Some, Result, Ok}
 use Rattle.std.specs.Iterator.{Drains, Yields}
 use Rattle.std.specs.List.{flat_map}
-use Rattle.influxdb_line_protocol.specs.format.Dialects.{Dialect}
-use Rattle.influxdb_line_protocol.specs.declared.error.Error.{Error}
-use Rattle.influxdb_line_protocol.specs.declared.parsed.ParsedLine.{ParsedLine}
-use Rattle.influxdb_line_protocol.specs.format.Readings.{Fault}
-use Rattle.influxdb_line_protocol.specs.format.Trimming.{trimmed}
-use Rattle.influxdb_line_protocol.specs.format.Pieces.{Left, Pieces, PiecesLeft}
-use Rattle.influxdb_line_protocol.specs.format.Lines.{Line}
-use Rattle.influxdb_line_protocol.specs.format.Items.{HasAnswers}
-use Rattle.influxdb_line_protocol.specs.code.Parsed.{Answers, IsReadLine}
-use Rattle.influxdb_line_protocol.specs.code.ParseSteps.{GivesItem, IsItemOf}
+use Rattle.lp_format.specs.format.Dialects.{Dialect}
+use Rattle.lp_values.specs.declared.error.Error.{Error}
+use Rattle.lp_lines.specs.declared.parsed.ParsedLine.{ParsedLine}
+use Rattle.lp_format.specs.format.Readings.{Fault}
+use Rattle.lp_format.specs.format.Trimming.{trimmed}
+use Rattle.lp_format.specs.format.Pieces.{Left, Pieces, PiecesLeft}
+use Rattle.lp_format.specs.format.Lines.{Line}
+use Rattle.lp_format.specs.format.Items.{HasAnswers}
+use Rattle.lp_lines.specs.code.Parsed.{Answers, IsReadLine}
+use Rattle.lp_lines.specs.code.ParseSteps.{GivesItem, IsItemOf}
 
 -- what is left of a piece when it is trimmed, unless that is nothing
 abbrev pub trimmed_line : List ℕ → List (List ℕ)

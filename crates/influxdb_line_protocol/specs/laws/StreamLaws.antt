@@ -1,13 +1,13 @@
 -- What the pieces that a stream gives are of all that was pushed.
 use Rattle.std.specs.Prelude.{◌≡◌, ℕ, List, [], ◌∷◌, ◌++◌, Some, ◌↔◌, Result}
 use Rattle.std.specs.Str.{IsUtf8}
-use Rattle.influxdb_line_protocol.specs.format.Dialects.{Dialect}
-use Rattle.influxdb_line_protocol.specs.format.Bytes.{newline}
-use Rattle.influxdb_line_protocol.specs.format.Pieces.{IsCutPiece, IsLastPiece, IsFirstCut, Pieces}
-use Rattle.influxdb_line_protocol.specs.format.Readings.{Fault}
-use Rattle.influxdb_line_protocol.specs.format.Lines.{Line}
-use Rattle.influxdb_line_protocol.specs.format.Items.{HasAnswers}
-use Rattle.influxdb_line_protocol.specs.code.Streams.{Held, TakesPiece}
+use Rattle.lp_format.specs.format.Dialects.{Dialect}
+use Rattle.lp_format.specs.format.Bytes.{newline}
+use Rattle.lp_format.specs.format.Pieces.{IsCutPiece, IsLastPiece, IsFirstCut, Pieces}
+use Rattle.lp_format.specs.format.Readings.{Fault}
+use Rattle.lp_format.specs.format.Lines.{Line}
+use Rattle.lp_format.specs.format.Items.{HasAnswers}
+use Rattle.lp_split.specs.code.Streams.{Held, TakesPiece}
 
 -- The first cut of a text is the first cut of each text that begins with it.
 abbrev pub FrontsKeepTheirCuts : Type 0

@@ -1,4 +1,4 @@
-use Rattle.influxdb_line_protocol.proofs.lemmas.literals.FloatLemmas.{float_len_float, float_len_longest}
+use Rattle.lp_format.proofs.lemmas.literals.FloatLemmas.{float_len_float, float_len_longest}
 use Rattle.influxdb_line_protocol.proofs.laws.longest_float_is_read.Goals as goal
 
 pub returns-clause-literal : goal.returns-clause-literal

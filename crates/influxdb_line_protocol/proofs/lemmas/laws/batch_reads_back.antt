@@ -1,12 +1,3 @@
-pub mod NameReadsBack
-pub mod IntegerReadsBack
-pub mod ReadLines
-pub mod FloatReadsBack
-pub mod ValueReadsBack
-pub mod PartsReadBack
-pub mod LineReadsBack
-pub mod Reaches
-pub mod LinePieces
 pub mod BatchesReadBack
 pub mod FatalNames
 pub mod FatalTags

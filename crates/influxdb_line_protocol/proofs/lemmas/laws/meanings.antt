@@ -1,9 +1,2 @@
-pub mod LogicalMeaning
-pub mod JoinedMeaning
-pub mod ShorterRests
-pub mod TrimMeaning
-pub mod StopMeaning
-pub mod AnswerMeaning
-pub mod CountMeaning
 pub mod WordMeaning
 pub mod ByKeyMeaning

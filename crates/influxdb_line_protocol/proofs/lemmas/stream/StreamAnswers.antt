@@ -3,14 +3,14 @@ use Rattle.std.proofs.Common.{◌≡◌, ℕ, List, [], ◌∷◌, ◌++◌, sub
 use Rattle.std.specs.List.{All}
 use Rattle.std.proofs.lemmas.Grind.{flat_map-append}
 use Rattle.std.proofs.lemmas.List.Elements.{All-head, All-nil, All-push, All-tail}
-use Rattle.influxdb_line_protocol.specs.format.Dialects.{Dialect}
-use Rattle.influxdb_line_protocol.specs.format.Readings.{Fault}
-use Rattle.influxdb_line_protocol.specs.format.Lines.{Line}
-use Rattle.influxdb_line_protocol.specs.format.Items.{HasAnswers, answers_of, answers_of_piece}
-use Rattle.influxdb_line_protocol.specs.format.Pieces.{IsLastPiece, Pieces.last}
+use Rattle.lp_format.specs.format.Dialects.{Dialect}
+use Rattle.lp_format.specs.format.Readings.{Fault}
+use Rattle.lp_format.specs.format.Lines.{Line}
+use Rattle.lp_format.specs.format.Items.{HasAnswers, answers_of, answers_of_piece}
+use Rattle.lp_format.specs.format.Pieces.{IsLastPiece, Pieces.last}
 use Rattle.influxdb_line_protocol.specs.laws.StreamLaws.{HaveAnswers, StreamsGiveAnswers, StreamsAnswerAll, Run, Run.begun, Run.pushed}
 use Rattle.influxdb_line_protocol.specs.laws.StreamLaws.{Run.taken}
-use Rattle.influxdb_line_protocol.proofs.lemmas.split.SplitPieces.{IsLastPiece-cut, same_pieces}
+use Rattle.lp_format.proofs.lemmas.split.SplitPieces.{IsLastPiece-cut, same_pieces}
 use Rattle.influxdb_line_protocol.proofs.lemmas.stream.StreamRuns.{runs_give_pieces}
 
 -- each piece that was given is one piece

@@ -5,7 +5,7 @@ use Rattle.std.specs.Str.{IsUtf8}
 use Rattle.std.proofs.Math.Seq.{get_or-append_seam, drop-append_seam}
 use Rattle.std.proofs.lemmas.List.{get_or_append_left, take_at, take-append-le}
 use Rattle.std.proofs.lemmas.Str.{IsUtf8-append, IsUtf8-take, IsUtf8-drop, IsCharBoundary-after_ascii, IsCharBoundary-at_seam}
-use Rattle.influxdb_line_protocol.specs.format.Pieces.{IsCutPiece, Pieces, Pieces.cut, Pieces.last}
+use Rattle.lp_format.specs.format.Pieces.{IsCutPiece, Pieces, Pieces.cut, Pieces.last}
 use Rattle.influxdb_line_protocol.specs.laws.StreamLaws.{FrontsKeepTheirCuts, TakenIsFirst, RunsGivePieces, RunsEnd, Utf8ByPieces}
 use Rattle.influxdb_line_protocol.specs.laws.StreamLaws.{Run.begun, Run.pushed, Run.taken}
 

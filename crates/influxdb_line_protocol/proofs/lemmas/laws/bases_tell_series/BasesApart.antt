@@ -6,22 +6,22 @@ use Rattle.std.specs.List.{flat_map, list_any}
 use Rattle.std.specs.List.Sorted.{IsPermutation}
 use Rattle.std.proofs.lemmas.Bool.{cases_Bool, eq-eqb, ne_eqb, false≢true, or_from, or_parts}
 use Rattle.std.proofs.lemmas.List.Sorted.{IsPermutation-sym, IsPermutation-trans, list_any-IsPermutation}
-use Rattle.influxdb_line_protocol.specs.laws.BaseLaws.{OneBaseIsOneSeries, PlainSeriesAreClear, is_tag_delimited, is_tag_one_escape}
-use Rattle.influxdb_line_protocol.specs.laws.BaseLaws.{spelled_tags}
-use Rattle.influxdb_line_protocol.specs.code.Bases.{base_text, based_tag, by_key, in_order}
-use Rattle.influxdb_line_protocol.specs.format.Bytes.{is_one_of}
-use Rattle.influxdb_line_protocol.specs.format.Escapes.{without_escapes}
-use Rattle.influxdb_line_protocol.specs.format.Lines.{tag}
-use Rattle.influxdb_line_protocol.specs.laws.Meanings.{SeparatedAfterComma}
-use Rattle.influxdb_line_protocol.specs.format.Names.{NameKind, a_measurement, a_tag_key, a_tag_value, escapable, is_one_escape, is_stop}
-use Rattle.influxdb_line_protocol.specs.format.Names.{spelled, spelled_len}
-use Rattle.influxdb_line_protocol.specs.format.Points.{Pair}
-use Rattle.influxdb_line_protocol.specs.format.Readings.{Text}
-use Rattle.influxdb_line_protocol.proofs.lemmas.names.NameLemmas.{without_escapes_same, no_backslash}
-use Rattle.influxdb_line_protocol.proofs.lemmas.fields.ReadingLemmas.{name_parts}
-use Rattle.influxdb_line_protocol.proofs.lemmas.scan.ScanLemmas.{bare_len, first_bare_len}
-use Rattle.influxdb_line_protocol.proofs.lemmas.laws.bases_tell_series.SortedTags.{by_key_permutes}
-use Rattle.influxdb_line_protocol.proofs.lemmas.laws.bases_tell_series.BasesTellSeries.{base_is, tag_parts, tags_separated, value_part}
+use Rattle.lp_lines.specs.laws.BaseLaws.{OneBaseIsOneSeries, PlainSeriesAreClear, is_tag_delimited, is_tag_one_escape}
+use Rattle.lp_lines.specs.laws.BaseLaws.{spelled_tags}
+use Rattle.lp_lines.specs.code.Bases.{base_text, based_tag, by_key, in_order}
+use Rattle.lp_format.specs.format.Bytes.{is_one_of}
+use Rattle.lp_format.specs.format.Escapes.{without_escapes}
+use Rattle.lp_format.specs.format.Lines.{tag}
+use Rattle.lp_format.specs.laws.Meanings.{SeparatedAfterComma}
+use Rattle.lp_format.specs.format.Names.{NameKind, a_measurement, a_tag_key, a_tag_value, escapable, is_one_escape, is_stop}
+use Rattle.lp_format.specs.format.Names.{spelled, spelled_len}
+use Rattle.lp_format.specs.format.Points.{Pair}
+use Rattle.lp_format.specs.format.Readings.{Text}
+use Rattle.lp_format.proofs.lemmas.names.NameLemmas.{without_escapes_same, no_backslash}
+use Rattle.lp_values.proofs.lemmas.fields.ReadingLemmas.{name_parts}
+use Rattle.lp_split.proofs.lemmas.scan.ScanLemmas.{bare_len, first_bare_len}
+use Rattle.lp_lines.proofs.lemmas.laws.bases_tell_series.SortedTags.{by_key_permutes}
+use Rattle.lp_lines.proofs.lemmas.laws.bases_tell_series.BasesTellSeries.{base_is, tag_parts, tags_separated, value_part}
 
 -- nothing, or a text that begins with this byte
 abbrev Begins : ℕ → List ℕ → Type 0

@@ -4,21 +4,21 @@ use Rattle.std.specs.Prelude.{◌==◌}
 use Rattle.std.specs.List.{list_any}
 use Rattle.std.proofs.lemmas.Bool.{cases_Bool, false≢true, not-true, or_from, or_parts}
 use Rattle.std.proofs.lemmas.List.Sorted.{list_any-IsPermutation}
-use Rattle.influxdb_line_protocol.specs.laws.BaseLaws.{IsClearSeries, IsParsedSeries, SafeBasesTellSeries, SameSeriesAreSafeAlike}
-use Rattle.influxdb_line_protocol.specs.laws.BaseLaws.{has_one_escape, is_delimited, is_tag_delimited, is_tag_one_escape, spelled_tags}
-use Rattle.influxdb_line_protocol.specs.code.Bases.{first_repeated, in_order, is_ambiguous_name, is_ambiguous_tag, is_base_safe}
-use Rattle.influxdb_line_protocol.specs.code.Bases.{is_byte_alone, keys_of}
-use Rattle.influxdb_line_protocol.specs.format.Bytes.{is_one_of}
-use Rattle.influxdb_line_protocol.specs.format.Escapes.{without_escapes}
-use Rattle.influxdb_line_protocol.specs.format.Lines.{tag}
-use Rattle.influxdb_line_protocol.specs.laws.Meanings.{SeparatedAfterComma}
-use Rattle.influxdb_line_protocol.specs.format.Names.{NameKind, a_measurement, a_tag_key, a_tag_value, escapable, is_one_escape}
-use Rattle.influxdb_line_protocol.specs.format.Names.{read_text, spelled, spelled_len}
-use Rattle.influxdb_line_protocol.specs.format.Points.{Pair}
-use Rattle.influxdb_line_protocol.specs.format.Readings.{Text}
-use Rattle.influxdb_line_protocol.proofs.lemmas.fields.ReadingLemmas.{name_parts}
-use Rattle.influxdb_line_protocol.proofs.lemmas.laws.bases_tell_series.BasesTellSeries.{same_series_have_one_base, tag_parts}
-use Rattle.influxdb_line_protocol.proofs.lemmas.laws.bases_tell_series.BasesTellSeries.{tags_separated, value_part}
+use Rattle.lp_lines.specs.laws.BaseLaws.{IsClearSeries, IsParsedSeries, SafeBasesTellSeries, SameSeriesAreSafeAlike}
+use Rattle.lp_lines.specs.laws.BaseLaws.{has_one_escape, is_delimited, is_tag_delimited, is_tag_one_escape, spelled_tags}
+use Rattle.lp_lines.specs.code.Bases.{first_repeated, in_order, is_ambiguous_name, is_ambiguous_tag, is_base_safe}
+use Rattle.lp_lines.specs.code.Bases.{is_byte_alone, keys_of}
+use Rattle.lp_format.specs.format.Bytes.{is_one_of}
+use Rattle.lp_format.specs.format.Escapes.{without_escapes}
+use Rattle.lp_format.specs.format.Lines.{tag}
+use Rattle.lp_format.specs.laws.Meanings.{SeparatedAfterComma}
+use Rattle.lp_format.specs.format.Names.{NameKind, a_measurement, a_tag_key, a_tag_value, escapable, is_one_escape}
+use Rattle.lp_format.specs.format.Names.{read_text, spelled, spelled_len}
+use Rattle.lp_format.specs.format.Points.{Pair}
+use Rattle.lp_format.specs.format.Readings.{Text}
+use Rattle.lp_values.proofs.lemmas.fields.ReadingLemmas.{name_parts}
+use Rattle.lp_lines.proofs.lemmas.laws.bases_tell_series.BasesTellSeries.{same_series_have_one_base, tag_parts}
+use Rattle.lp_lines.proofs.lemmas.laws.bases_tell_series.BasesTellSeries.{tags_separated, value_part}
 use Rattle.influxdb_line_protocol.proofs.lemmas.laws.bases_tell_series.BasesApart.{one_base_is_one_series}
 
 -- one known escape is read as its byte alone

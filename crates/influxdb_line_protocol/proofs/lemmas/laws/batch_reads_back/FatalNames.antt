@@ -5,24 +5,24 @@ use Rattle.std.specs.Prelude.{◌==◌}
 use Rattle.std.specs.List.{list_all}
 use Rattle.std.proofs.lemmas.Bool.{cases_Bool, false≢true, both_ways, and_from, and_right, not_from_false, ne_eqb}
 use Rattle.std.proofs.lemmas.Grind.{flat_map-append}
-use Rattle.influxdb_line_protocol.specs.format.Dialects.{Dialect, Crate, Strict}
-use Rattle.influxdb_line_protocol.specs.format.Bytes.{is_one_of}
-use Rattle.influxdb_line_protocol.specs.format.Escapes.{escaped, escaped_byte}
-use Rattle.influxdb_line_protocol.specs.format.Readings.{Fault, ends_with_backslash, fatal}
-use Rattle.influxdb_line_protocol.specs.format.Names.{NameKind, a_measurement, a_tag_key, a_tag_value, a_field_key, ends_in_backslash}
-use Rattle.influxdb_line_protocol.specs.format.Names.{escapable, is_stop, name}
-use Rattle.influxdb_line_protocol.specs.format.Piece.{IsClosed}
-use Rattle.influxdb_line_protocol.specs.format.Points.{never_in, is_admitted_name, spelling}
-use Rattle.influxdb_line_protocol.specs.format.Pieces.{IsLastPiece, Pieces, Pieces.last, Pieces.cut}
-use Rattle.influxdb_line_protocol.specs.format.Lines.{Line, answer}
-use Rattle.influxdb_line_protocol.specs.format.Items.{answers_of_piece, answers_of}
-use Rattle.influxdb_line_protocol.specs.laws.NamesOfLines.{IsParsedName}
-use Rattle.influxdb_line_protocol.proofs.lemmas.split.SplitPieces.{no_cut_within}
-use Rattle.influxdb_line_protocol.proofs.lemmas.laws.batch_reads_back.NameReadsBack.{may_hold, escaped_plain}
-use Rattle.influxdb_line_protocol.proofs.lemmas.laws.batch_reads_back.Reaches.{reaches_start}
-use Rattle.influxdb_line_protocol.proofs.lemmas.laws.parsed_names.Spellings.{SpelledAs, never_unescapable, never_stops, spelling_as, Stops}
-use Rattle.influxdb_line_protocol.proofs.lemmas.laws.parsed_names.Spellings.{spelled_fatal, spelled_begins, reaches_head, BeginsLine}
-use Rattle.influxdb_line_protocol.proofs.lemmas.laws.parsed_names.Spellings.{line_no_comment, line_trimmed, line_some}
+use Rattle.lp_format.specs.format.Dialects.{Dialect, Crate, Strict}
+use Rattle.lp_format.specs.format.Bytes.{is_one_of}
+use Rattle.lp_format.specs.format.Escapes.{escaped, escaped_byte}
+use Rattle.lp_format.specs.format.Readings.{Fault, ends_with_backslash, fatal}
+use Rattle.lp_format.specs.format.Names.{NameKind, a_measurement, a_tag_key, a_tag_value, a_field_key, ends_in_backslash}
+use Rattle.lp_format.specs.format.Names.{escapable, is_stop, name}
+use Rattle.lp_format.specs.format.Piece.{IsClosed}
+use Rattle.lp_format.specs.format.Points.{never_in, is_admitted_name, spelling}
+use Rattle.lp_format.specs.format.Pieces.{IsLastPiece, Pieces, Pieces.last, Pieces.cut}
+use Rattle.lp_format.specs.format.Lines.{Line, answer}
+use Rattle.lp_format.specs.format.Items.{answers_of_piece, answers_of}
+use Rattle.lp_format.specs.laws.NamesOfLines.{IsParsedName}
+use Rattle.lp_format.proofs.lemmas.split.SplitPieces.{no_cut_within}
+use Rattle.lp_format.proofs.lemmas.laws.batch_reads_back.NameReadsBack.{may_hold, escaped_plain}
+use Rattle.lp_lines.proofs.lemmas.laws.batch_reads_back.Reaches.{reaches_start}
+use Rattle.lp_lines.proofs.lemmas.laws.parsed_names.Spellings.{SpelledAs, never_unescapable, never_stops, spelling_as, Stops}
+use Rattle.lp_lines.proofs.lemmas.laws.parsed_names.Spellings.{spelled_fatal, spelled_begins, reaches_head, BeginsLine}
+use Rattle.lp_lines.proofs.lemmas.laws.parsed_names.Spellings.{line_no_comment, line_trimmed, line_some}
 
 -- nothing, or this byte at the start
 abbrev pub StopsWith : ℕ → List ℕ → Type 0

@@ -4,17 +4,17 @@ use Rattle.std.proofs.Common.{arith, inl, inr, append_assoc}
 use Rattle.std.specs.List.{AllByRecursion, list_all, flat_map}
 use Rattle.std.proofs.lemmas.Bool.{cases_Bool, false≢true, and_parts}
 use Rattle.std.proofs.lemmas.List.{length-append}
-use Rattle.influxdb_line_protocol.proofs.lemmas.split.SplitWalk.{Head}
-use Rattle.influxdb_line_protocol.specs.format.Readings.{ends_with_backslash, Reading, fatal, reads}
-use Rattle.influxdb_line_protocol.specs.format.Names.{a_tag_key, a_tag_value}
-use Rattle.influxdb_line_protocol.specs.format.Points.{Tag, is_admitted_name, is_admitted_tag, spelling, built_tag}
-use Rattle.influxdb_line_protocol.specs.format.Lines.{tag, after_comma, many, separated_list}
-use Rattle.influxdb_line_protocol.specs.laws.NamesOfLines.{IsParsedName}
-use Rattle.influxdb_line_protocol.proofs.lemmas.laws.batch_reads_back.ReadLines.{read_tag}
-use Rattle.influxdb_line_protocol.proofs.lemmas.laws.batch_reads_back.PartsReadBack.{tag_text, tag_reads_back}
-use Rattle.influxdb_line_protocol.proofs.lemmas.laws.batch_reads_back.Reaches.{Reaches}
-use Rattle.influxdb_line_protocol.proofs.lemmas.laws.batch_reads_back.LinePieces.{AdmittedTag}
-use Rattle.influxdb_line_protocol.proofs.lemmas.laws.parsed_names.Spellings.{name_reads_back, reaches_name, reaches_head, reaches_other}
+use Rattle.lp_split.specs.declared.split.resumed.Part.TheVariants.{Head}
+use Rattle.lp_format.specs.format.Readings.{ends_with_backslash, Reading, fatal, reads}
+use Rattle.lp_format.specs.format.Names.{a_tag_key, a_tag_value}
+use Rattle.lp_format.specs.format.Points.{Tag, is_admitted_name, is_admitted_tag, spelling, built_tag}
+use Rattle.lp_format.specs.format.Lines.{tag, after_comma, many, separated_list}
+use Rattle.lp_format.specs.laws.NamesOfLines.{IsParsedName}
+use Rattle.lp_format.proofs.lemmas.laws.batch_reads_back.ReadLines.{read_tag}
+use Rattle.lp_lines.proofs.lemmas.laws.batch_reads_back.PartsReadBack.{tag_text, tag_reads_back}
+use Rattle.lp_lines.proofs.lemmas.laws.batch_reads_back.Reaches.{Reaches}
+use Rattle.lp_lines.proofs.lemmas.laws.batch_reads_back.LinePieces.{AdmittedTag}
+use Rattle.lp_lines.proofs.lemmas.laws.parsed_names.Spellings.{name_reads_back, reaches_name, reaches_head, reaches_other}
 use Rattle.influxdb_line_protocol.proofs.lemmas.laws.batch_reads_back.FatalNames.{StopsWith, FatalName, fatal_name, fatal_here, around}
 
 -- what is fatal for all that are joined by commas, the first of which this is or which come after others

@@ -4,32 +4,33 @@ use Rattle.std.proofs.Common.{append_assoc, append-nil, Ok, Err, Result}
 use Rattle.std.specs.List.{AllByRecursion, Contains, list_all, flat_map}
 use Rattle.std.proofs.lemmas.Bool.{cases_Bool, false≢true, and_from}
 use Rattle.std.proofs.lemmas.List.{length-append}
-use Rattle.influxdb_line_protocol.proofs.lemmas.split.SplitWalk.{Head, Plain, Plain-comma}
-use Rattle.influxdb_line_protocol.specs.format.Dialects.{Dialect}
-use Rattle.influxdb_line_protocol.specs.format.Readings.{Fault}
-use Rattle.influxdb_line_protocol.specs.format.Names.{a_measurement, a_field_key}
-use Rattle.influxdb_line_protocol.specs.format.Piece.{EndsPlain}
-use Rattle.influxdb_line_protocol.specs.format.Points.{Point, IsPoint, Tag, Field, IsValue, is_admitted_name, is_admitted_tag}
-use Rattle.influxdb_line_protocol.specs.format.Points.{is_admitted_field, is_admitted_point, spelling, built, built_all, built_tag}
-use Rattle.influxdb_line_protocol.specs.format.Points.{built_field, built_fields, built_value, built_timestamp, line_of}
-use Rattle.influxdb_line_protocol.specs.format.Lines.{Line, point_of, field, spaces, answer}
-use Rattle.influxdb_line_protocol.specs.format.Items.{HasAnswers, item_of, answers_of}
-use Rattle.influxdb_line_protocol.specs.laws.NamesOfLines.{IsParsedName}
-use Rattle.influxdb_line_protocol.specs.laws.Laws.{IsAdmittedPoint, OtherBatchesDoNotReadBack}
-use Rattle.influxdb_line_protocol.proofs.lemmas.split.SplitPieces.{pieces_exist, same_pieces}
-use Rattle.influxdb_line_protocol.proofs.lemmas.split.SplitBare.{is_escaped-push_other}
-use Rattle.influxdb_line_protocol.proofs.lemmas.laws.batch_reads_back.NameReadsBack.{admitted_parts}
-use Rattle.influxdb_line_protocol.proofs.lemmas.laws.batch_reads_back.ReadLines.{read_field}
-use Rattle.influxdb_line_protocol.proofs.lemmas.laws.batch_reads_back.PartsReadBack.{tag_set_reads_back, field_reads_back}
-use Rattle.influxdb_line_protocol.proofs.lemmas.laws.batch_reads_back.Reaches.{Reaches, reaches_start}
-use Rattle.influxdb_line_protocol.proofs.lemmas.laws.batch_reads_back.LinePieces.{reaches_tags, reaches_field, AdmittedTag, AdmittedField}
-use Rattle.influxdb_line_protocol.proofs.lemmas.laws.batch_reads_back.LinePieces.{admitted_tags, line_parts}
-use Rattle.influxdb_line_protocol.proofs.lemmas.laws.batch_reads_back.LineReadsBack.{measurement_reads_back}
+use Rattle.lp_split.specs.declared.split.resumed.Part.TheVariants.{Head, Plain}
+use Rattle.lp_split.proofs.lemmas.split.SplitWalk.{Plain-comma}
+use Rattle.lp_format.specs.format.Dialects.{Dialect}
+use Rattle.lp_format.specs.format.Readings.{Fault}
+use Rattle.lp_format.specs.format.Names.{a_measurement, a_field_key}
+use Rattle.lp_format.specs.format.Piece.{EndsPlain}
+use Rattle.lp_format.specs.format.Points.{Point, IsPoint, Tag, Field, IsValue, is_admitted_name, is_admitted_tag}
+use Rattle.lp_format.specs.format.Points.{is_admitted_field, is_admitted_point, spelling, built, built_all, built_tag}
+use Rattle.lp_format.specs.format.Points.{built_field, built_fields, built_value, built_timestamp, line_of}
+use Rattle.lp_format.specs.format.Lines.{Line, point_of, field, spaces, answer}
+use Rattle.lp_format.specs.format.Items.{HasAnswers, item_of, answers_of}
+use Rattle.lp_format.specs.laws.NamesOfLines.{IsParsedName}
+use Rattle.lp_format.specs.laws.Laws.{IsAdmittedPoint, OtherBatchesDoNotReadBack}
+use Rattle.lp_format.proofs.lemmas.split.SplitPieces.{pieces_exist, same_pieces}
+use Rattle.lp_format.proofs.lemmas.split.SplitBare.{is_escaped-push_other}
+use Rattle.lp_format.proofs.lemmas.laws.batch_reads_back.NameReadsBack.{admitted_parts}
+use Rattle.lp_format.proofs.lemmas.laws.batch_reads_back.ReadLines.{read_field}
+use Rattle.lp_lines.proofs.lemmas.laws.batch_reads_back.PartsReadBack.{tag_set_reads_back, field_reads_back}
+use Rattle.lp_lines.proofs.lemmas.laws.batch_reads_back.Reaches.{Reaches, reaches_start}
+use Rattle.lp_lines.proofs.lemmas.laws.batch_reads_back.LinePieces.{reaches_tags, reaches_field, AdmittedTag, AdmittedField}
+use Rattle.lp_lines.proofs.lemmas.laws.batch_reads_back.LinePieces.{admitted_tags, line_parts}
+use Rattle.lp_lines.proofs.lemmas.laws.batch_reads_back.LineReadsBack.{measurement_reads_back}
 use Rattle.influxdb_line_protocol.proofs.lemmas.laws.batch_reads_back.BatchesReadBack.{admitted_batches_read_back}
-use Rattle.influxdb_line_protocol.proofs.lemmas.laws.parsed_names.ParsedNames.{ParsedPoint, answers_parsed}
-use Rattle.influxdb_line_protocol.proofs.lemmas.laws.parsed_names.Spellings.{admitted_spelled, name_reads_back, measurement_begins}
-use Rattle.influxdb_line_protocol.proofs.lemmas.laws.parsed_names.Spellings.{spelled_spaces, reaches_name, reaches_other}
-use Rattle.influxdb_line_protocol.proofs.lemmas.laws.parsed_names.Spellings.{reaches_gap, reaches_field_key, BeginsLine}
+use Rattle.lp_lines.proofs.lemmas.laws.parsed_names.ParsedNames.{ParsedPoint, answers_parsed}
+use Rattle.lp_lines.proofs.lemmas.laws.parsed_names.Spellings.{admitted_spelled, name_reads_back, measurement_begins}
+use Rattle.lp_lines.proofs.lemmas.laws.parsed_names.Spellings.{spelled_spaces, reaches_name, reaches_other}
+use Rattle.lp_lines.proofs.lemmas.laws.parsed_names.Spellings.{reaches_gap, reaches_field_key, BeginsLine}
 use Rattle.influxdb_line_protocol.proofs.lemmas.laws.batch_reads_back.FatalNames.{StopsWith, Fails, first_fails, FatalName, fatal_name}
 use Rattle.influxdb_line_protocol.proofs.lemmas.laws.batch_reads_back.FatalNames.{fatal_here, around, measurement_fails}
 use Rattle.influxdb_line_protocol.proofs.lemmas.laws.batch_reads_back.FatalTags.{ManyFail, first_of_many, later_of_many, second_fails}

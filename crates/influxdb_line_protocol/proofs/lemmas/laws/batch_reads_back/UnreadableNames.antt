@@ -4,22 +4,22 @@ use Rattle.std.proofs.Common.{append_assoc, Ok, Err, Result}
 use Rattle.std.specs.List.{AllByRecursion, Contains}
 use Rattle.std.proofs.lemmas.Bool.{cases_Bool, both_ways}
 use Rattle.std.proofs.lemmas.Grind.{flat_map-append}
-use Rattle.influxdb_line_protocol.specs.format.Dialects.{Dialect}
-use Rattle.influxdb_line_protocol.specs.format.Readings.{Fault, ends_with_backslash}
-use Rattle.influxdb_line_protocol.specs.format.Names.{NameKind, a_measurement, a_tag_key, a_tag_value, a_field_key, ends_in_backslash}
-use Rattle.influxdb_line_protocol.specs.format.Points.{Point, IsPoint, is_admitted_point, built, built_all, line_of}
-use Rattle.influxdb_line_protocol.specs.format.Lines.{Line, point_of}
-use Rattle.influxdb_line_protocol.specs.format.Items.{HasAnswers, item_of, answers_of}
-use Rattle.influxdb_line_protocol.specs.laws.NamesOfLines.{names_of, IsParsedName, BeginsNoComment}
-use Rattle.influxdb_line_protocol.specs.laws.UnreadableNames.{IsUnreadable, IsUnreadable.empty, IsUnreadable.ends, IsUnreadable.begins}
-use Rattle.influxdb_line_protocol.specs.laws.UnreadableNames.{IsUnreadable.alone, HasReadableNames}
-use Rattle.influxdb_line_protocol.specs.laws.Laws.{ItemsHaveReadableNames, OtherPointsEndWithBackslash}
-use Rattle.influxdb_line_protocol.proofs.lemmas.split.SplitPieces.{pieces_exist}
+use Rattle.lp_format.specs.format.Dialects.{Dialect}
+use Rattle.lp_format.specs.format.Readings.{Fault, ends_with_backslash}
+use Rattle.lp_format.specs.format.Names.{NameKind, a_measurement, a_tag_key, a_tag_value, a_field_key, ends_in_backslash}
+use Rattle.lp_format.specs.format.Points.{Point, IsPoint, is_admitted_point, built, built_all, line_of}
+use Rattle.lp_format.specs.format.Lines.{Line, point_of}
+use Rattle.lp_format.specs.format.Items.{HasAnswers, item_of, answers_of}
+use Rattle.lp_format.specs.laws.NamesOfLines.{names_of, IsParsedName, BeginsNoComment}
+use Rattle.lp_format.specs.laws.UnreadableNames.{IsUnreadable, IsUnreadable.empty, IsUnreadable.ends, IsUnreadable.begins}
+use Rattle.lp_format.specs.laws.UnreadableNames.{IsUnreadable.alone, HasReadableNames}
+use Rattle.lp_format.specs.laws.Laws.{ItemsHaveReadableNames, OtherPointsEndWithBackslash}
+use Rattle.lp_format.proofs.lemmas.split.SplitPieces.{pieces_exist}
 use Rattle.influxdb_line_protocol.proofs.lemmas.laws.batch_reads_back.BatchesReadBack.{admitted_batches_read_back}
-use Rattle.influxdb_line_protocol.proofs.lemmas.laws.parsed_names.ParsedNames.{ParsedPoint, names_are_parsed, nothing_in_nil}
+use Rattle.lp_lines.proofs.lemmas.laws.parsed_names.ParsedNames.{ParsedPoint, names_are_parsed, nothing_in_nil}
 use Rattle.influxdb_line_protocol.proofs.lemmas.laws.batch_reads_back.FatalNames.{first_fails}
 use Rattle.influxdb_line_protocol.proofs.lemmas.laws.batch_reads_back.RefusedBatches.{point_fails, same_answers}
-use Rattle.influxdb_line_protocol.proofs.lemmas.laws.Elements.{first_element, first_or_later, later_element}
+use Rattle.lp_format.proofs.lemmas.laws.Elements.{first_element, first_or_later, later_element}
 
 -- a name as a line can have it is not unreadable
 parsed_is_readable : {kind : NameKind} {n : List ℕ} → IsParsedName kind n → ¬ IsUnreadable kind n

@@ -6,17 +6,17 @@ use Rattle.std.specs.List.{All}
 use Rattle.std.proofs.lemmas.Bool.{cases_Bool, eq-eqb, ne_eqb}
 use Rattle.std.proofs.lemmas.Grind.{flat_map-append}
 use Rattle.std.proofs.lemmas.List.Elements.{All-tail}
-use Rattle.influxdb_line_protocol.specs.format.Dialects.{Dialect}
-use Rattle.influxdb_line_protocol.specs.declared.error.Error.{Error}
-use Rattle.influxdb_line_protocol.specs.declared.parsed.ParsedLine.{ParsedLine}
-use Rattle.influxdb_line_protocol.specs.format.Trimming.{trimmed}
-use Rattle.influxdb_line_protocol.specs.format.Pieces.{Left, PiecesLeft}
-use Rattle.influxdb_line_protocol.specs.format.Items.{answers_of, answers_of_piece}
-use Rattle.influxdb_line_protocol.specs.code.ParseSteps.{GivesItem, IsBlankPiece}
+use Rattle.lp_format.specs.format.Dialects.{Dialect}
+use Rattle.lp_values.specs.declared.error.Error.{Error}
+use Rattle.lp_lines.specs.declared.parsed.ParsedLine.{ParsedLine}
+use Rattle.lp_format.specs.format.Trimming.{trimmed}
+use Rattle.lp_format.specs.format.Pieces.{Left, PiecesLeft}
+use Rattle.lp_format.specs.format.Items.{answers_of, answers_of_piece}
+use Rattle.lp_lines.specs.code.ParseSteps.{GivesItem, IsBlankPiece}
 use Rattle.influxdb_line_protocol.specs.laws.GivenItems.{trimmed_line, trimmed_lines, AreItemsOf, AreAnswers, ItemsAreOfPieces}
 use Rattle.influxdb_line_protocol.specs.laws.GivenItems.{ItemsAreAnswers, GivenLinesWereRead, ItemsSoFar}
-use Rattle.influxdb_line_protocol.specs.format.Lines.{answer}
-use Rattle.influxdb_line_protocol.proofs.lemmas.split.SplitPieces.{pieces_exist, same_pieces}
+use Rattle.lp_format.specs.format.Lines.{answer}
+use Rattle.lp_format.proofs.lemmas.split.SplitPieces.{pieces_exist, same_pieces}
 
 -- nothing is left of blank pieces
 blank_lines : (pieces : List (List ℕ)) → All IsBlankPiece pieces → trimmed_lines pieces ≡ []

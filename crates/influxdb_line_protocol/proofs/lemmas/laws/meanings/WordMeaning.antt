@@ -7,10 +7,10 @@ use Rattle.std.proofs.lemmas.Bool.{cases_Bool, both_ways, ltb-true, ltb-false}
 use Rattle.std.proofs.lemmas.Bool.Decides.{Decides-eqb}
 use Rattle.std.proofs.lemmas.List.{length-take-le, take-append-drop, take_at}
 use Rattle.std.proofs.lemmas.Slice.Eq.{starts_is}
-use Rattle.influxdb_line_protocol.specs.format.Values.{longer_front}
-use Rattle.influxdb_line_protocol.specs.laws.Meanings.{WordFrontIsWord, WordFrontIsLongest}
-use Rattle.influxdb_line_protocol.proofs.lemmas.laws.parsed_names.ParsedNames.{nothing_in_nil}
-use Rattle.influxdb_line_protocol.proofs.lemmas.laws.Elements.{first_element, first_or_later, later_element}
+use Rattle.lp_format.specs.format.Values.{longer_front}
+use Rattle.lp_format.specs.laws.Meanings.{WordFrontIsWord, WordFrontIsLongest}
+use Rattle.lp_lines.proofs.lemmas.laws.parsed_names.ParsedNames.{nothing_in_nil}
+use Rattle.lp_format.proofs.lemmas.laws.Elements.{first_element, first_or_later, later_element}
 
 -- what is known of the longer of a front and a word
 record Step (text : List ℕ) (n : ℕ) (word : List ℕ) (m : ℕ) : Type 0 where

@@ -5,28 +5,29 @@ use Rattle.std.specs.Prelude.{pos}
 use Rattle.std.specs.List.{Contains}
 use Rattle.std.specs.Str.{IsUtf8}
 use Rattle.std.proofs.lemmas.Str.{IsUtf8-append, IsUtf8-nil}
-use Rattle.influxdb_line_protocol.proofs.lemmas.split.SplitWalk.{Plain, Plain-equals}
-use Rattle.influxdb_line_protocol.specs.format.Dialects.{Dialect, Crate, Strict}
-use Rattle.influxdb_line_protocol.specs.format.Readings.{Text, reads}
-use Rattle.influxdb_line_protocol.specs.format.Names.{NameKind, a_measurement, a_tag_key, a_tag_value, a_field_key, ends_in_backslash}
-use Rattle.influxdb_line_protocol.specs.format.Names.{escapable, read_text}
-use Rattle.influxdb_line_protocol.specs.format.Values.{Value, integer, value, integer_at}
-use Rattle.influxdb_line_protocol.specs.format.Points.{Pair}
-use Rattle.influxdb_line_protocol.specs.format.Pieces.{IsLastPiece, Pieces.last, begins_comment}
-use Rattle.influxdb_line_protocol.specs.format.Lines.{Line, tag, field, tag_set, field_set, front_before, answer}
-use Rattle.influxdb_line_protocol.specs.format.Items.{HasAnswers, answers_of_piece}
-use Rattle.influxdb_line_protocol.specs.laws.NamesOfLines.{IsParsedName}
-use Rattle.influxdb_line_protocol.specs.laws.Laws.{ParsedNamesAreInLines}
-use Rattle.influxdb_line_protocol.proofs.lemmas.split.SplitBare.{is_escaped-push_other}
-use Rattle.influxdb_line_protocol.proofs.lemmas.laws.batch_reads_back.Reaches.{Reaches, reaches_start}
-use Rattle.influxdb_line_protocol.proofs.lemmas.laws.batch_reads_back.LinePieces.{reaches_simple}
-use Rattle.influxdb_line_protocol.proofs.lemmas.laws.batch_reads_back.LineReadsBack.{answer_from_parts}
-use Rattle.influxdb_line_protocol.proofs.lemmas.laws.parsed_names.KeptNames.{name_kept}
+use Rattle.lp_split.specs.declared.split.resumed.Part.TheVariants.{Plain}
+use Rattle.lp_split.proofs.lemmas.split.SplitWalk.{Plain-equals}
+use Rattle.lp_format.specs.format.Dialects.{Dialect, Crate, Strict}
+use Rattle.lp_format.specs.format.Readings.{Text, reads}
+use Rattle.lp_format.specs.format.Names.{NameKind, a_measurement, a_tag_key, a_tag_value, a_field_key, ends_in_backslash}
+use Rattle.lp_format.specs.format.Names.{escapable, read_text}
+use Rattle.lp_format.specs.format.Values.{Value, integer, value, integer_at}
+use Rattle.lp_format.specs.format.Points.{Pair}
+use Rattle.lp_format.specs.format.Pieces.{IsLastPiece, Pieces.last, begins_comment}
+use Rattle.lp_format.specs.format.Lines.{Line, tag, field, tag_set, field_set, front_before, answer}
+use Rattle.lp_format.specs.format.Items.{HasAnswers, answers_of_piece}
+use Rattle.lp_format.specs.laws.NamesOfLines.{IsParsedName}
+use Rattle.lp_format.specs.laws.Laws.{ParsedNamesAreInLines}
+use Rattle.lp_format.proofs.lemmas.split.SplitBare.{is_escaped-push_other}
+use Rattle.lp_lines.proofs.lemmas.laws.batch_reads_back.Reaches.{Reaches, reaches_start}
+use Rattle.lp_lines.proofs.lemmas.laws.batch_reads_back.LinePieces.{reaches_simple}
+use Rattle.lp_lines.proofs.lemmas.laws.batch_reads_back.LineReadsBack.{answer_from_parts}
+use Rattle.lp_lines.proofs.lemmas.laws.parsed_names.KeptNames.{name_kept}
 use Rattle.influxdb_line_protocol.proofs.lemmas.laws.parsed_names.Utf8Spellings.{utf8_push, spelling_utf8}
-use Rattle.influxdb_line_protocol.proofs.lemmas.laws.parsed_names.Spellings.{SpelledAs, SpelledAs.done, SpelledAs.plain, spelled_as}
-use Rattle.influxdb_line_protocol.proofs.lemmas.laws.parsed_names.Spellings.{spelled_logical, spelled_reads, spelled_begins, spelled_spaces}
-use Rattle.influxdb_line_protocol.proofs.lemmas.laws.parsed_names.Spellings.{BeginsLine, line_no_comment, line_trimmed, line_some}
-use Rattle.influxdb_line_protocol.proofs.lemmas.laws.parsed_names.Spellings.{reaches_head, reaches_other, reaches_gap, reaches_field_key}
+use Rattle.lp_lines.proofs.lemmas.laws.parsed_names.Spellings.{SpelledAs, SpelledAs.done, SpelledAs.plain, spelled_as}
+use Rattle.lp_lines.proofs.lemmas.laws.parsed_names.Spellings.{spelled_logical, spelled_reads, spelled_begins, spelled_spaces}
+use Rattle.lp_lines.proofs.lemmas.laws.parsed_names.Spellings.{BeginsLine, line_no_comment, line_trimmed, line_some}
+use Rattle.lp_lines.proofs.lemmas.laws.parsed_names.Spellings.{reaches_head, reaches_other, reaches_gap, reaches_field_key}
 
 -- a name that is not empty and does not end in a backslash, with a spelling
 record Spelled (kind : NameKind) (n s : List ℕ) : Type 0 where

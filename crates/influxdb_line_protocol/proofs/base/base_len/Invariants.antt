@@ -1,7 +1,0 @@
-use Rattle.std.proofs.Common.{◌≡◌, ◌^◌, ◌-◌, length, min, take, map}
-use Rattle.influxdb_line_protocol.specs.code.Bases.{base_text, in_order}
-use Rattle.influxdb_line_protocol.specs.code.Parsed.{tag_of}
-use Rattle.influxdb_line_protocol.proofs.base.base_len.Given as goal
-
-abbrev pub invariant-loop-key : goal.invariant-loop-key
-invariant-loop-key l = l.len ≡ min (length (base_text l.fn.measurement (in_order (map tag_of (take l.key-index l.tags))))) (2 ^ 64 - 1)

@@ -1,7 +1,0 @@
-use Rattle.influxdb_line_protocol.specs.format.Bytes.{is_one_of}
-use Rattle.influxdb_line_protocol.specs.code.Marks.{listed}
-use Rattle.influxdb_line_protocol.proofs.lemmas.builder.MarkLemmas.{first_decides}
-use Rattle.influxdb_line_protocol.proofs.builder.marks.is_free_of.Goals as goal
-
-pub returns : goal.returns
-returns c = first_decides (is_one_of (listed c.args.marks)) c.args.text.now c.before_first.result c.before_first.ensures

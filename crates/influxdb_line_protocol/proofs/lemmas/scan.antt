@@ -1,4 +1,0 @@
-pub mod MaskBits
-pub mod EscapedMasks
-pub mod BareMasks
-pub mod ScanLemmas

@@ -1,3 +1,0 @@
-pub mod ShownLemmas
-pub mod BaseLemmas
-pub mod BaseOrder

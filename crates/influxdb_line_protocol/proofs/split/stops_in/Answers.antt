@@ -1,5 +1,0 @@
-use Rattle.influxdb_line_protocol.proofs.lemmas.split.SplitMasks.{mask_of_stops}
-use Rattle.influxdb_line_protocol.proofs.split.stops_in.Goals as goal
-
-pub returns : goal.returns
-returns c = mask_of_stops c.args.stops c.args.text.now c.args.at c.requires

@@ -1,0 +1,14 @@
+use Rattle.std.proofs.Common.{◌≡◌, ◌+◌, ◌<◌, ◌^◌, true, length, drop}
+use Rattle.std.specs.List.{AllByRecursion}
+use Rattle.lp_format.specs.format.Bytes.{space, comma}
+use Rattle.lp_build.specs.code.WrittenAgain.{HasReadValue, IsPlainKey, fields_text}
+use Rattle.lp_build.proofs.builder.parsed.measure_read_fields.Given as goal
+
+-- what is counted and what is left to count make the whole; where all keys that are left are plain, all are; all
+-- values that are left can be read
+abbrev pub invariant-loop-field : goal.invariant-loop-field
+invariant-loop-field l =
+    (l.len < 2 ^ 64)
+    × (l.len + length (fields_text comma (drop l.field-index l.fields)) ≡ length (fields_text space l.fields))
+    × (l.is_plain ≡ true → AllByRecursion IsPlainKey (drop l.field-index l.fields) → AllByRecursion IsPlainKey l.fields)
+    × AllByRecursion HasReadValue (drop l.field-index l.fields)

@@ -1,0 +1,122 @@
+-- Escaped texts: how long they are, and what comes before and after the first byte with a backslash.
+-- And how many digits a number has.
+use Rattle.std.proofs.Common.{◌≡◌, ℕ, suc, zero, ◌+◌, ◌<◌, Bool, true, false, cond, List, [], ◌∷◌, ◌++◌, length, take, drop, get_or, arith}
+use Rattle.std.proofs.Common.{ap, refl, sym, ◌-◌, subst, zero-add, add-one, length-drop, length-append, ◌∙◌, ◌≤◌, ◌^◌, ◌*◌, ◌/◌}
+use Rattle.std.proofs.lemmas.List.{take_all}
+use Rattle.std.specs.Fmt.{decimal}
+use Rattle.std.proofs.Math.Nat.{pow-zero, pow-suc}
+use Rattle.std.proofs.lemmas.Fmt.{decimal_step, decimal_digit}
+use Rattle.std.specs.Prelude.{count_by}
+use Rattle.std.proofs.lemmas.Grind.{common_steps}
+use Rattle.lp_format.specs.format.Bytes.{backslash, is_one_of}
+use Rattle.lp_format.specs.format.Escapes.{escaped}
+use Rattle.lp_build.specs.code.Marks.{ComeBefore}
+
+-- the length with one byte more
+length_step : (p : ℕ → Bool) (b : ℕ) (v : Bool) (t text : List ℕ) → p b ≡ v
+    → length t ≡ length text + count_by p text
+    → length (cond v (backslash ∷ b ∷ []) (b ∷ []) ++ t) ≡ length (b ∷ text) + count_by p (b ∷ text)
+length_step p b true t text h e = grind (arith, common_steps)
+length_step p b false t text h e = grind (arith, common_steps)
+
+-- an escaped text is longer by the bytes that get a backslash
+pub length_escaped : (bytes text : List ℕ)
+    → length (escaped bytes text) ≡ length text + count_by (is_one_of bytes) text
+unfolding escaped
+length_escaped bytes [] = refl
+length_escaped bytes (b ∷ text) =
+    let rest = length_escaped bytes text in
+    length_step (is_one_of bytes) b (is_one_of bytes b) (escaped bytes text) text refl rest
+
+-- nothing gets a backslash in an empty text
+pub escaped_nothing : (bytes : List ℕ) → escaped bytes [] ≡ []
+unfolding escaped
+escaped_nothing bytes = refl
+
+-- a byte that gets a backslash counts
+pub uncounted : (p : ℕ → Bool) (b : ℕ) (v : Bool) (text : List ℕ) → p b ≡ v → count_by p (b ∷ text) ≡ 0
+    → (v ≡ false) × (count_by p text ≡ 0)
+uncounted p b true text h none = absurd (grind (arith, common_steps))
+uncounted p b false text h none = (refl, grind (arith, common_steps))
+
+-- a text stays where no byte of it gets a backslash
+pub escaped_uncounted : (bytes text : List ℕ) → count_by (is_one_of bytes) text ≡ 0 → escaped bytes text ≡ text
+unfolding escaped
+escaped_uncounted bytes [] none = refl
+escaped_uncounted bytes (b ∷ text) none =
+    let step = uncounted (is_one_of bytes) b (is_one_of bytes b) text refl none in
+    let rest : escaped bytes text ≡ text = escaped_uncounted bytes text step.1 in
+    rw step.0 (ap (λ (xs : List ℕ). b ∷ xs) rest)
+
+-- a text that is as long as its escaped one stays
+pub escaped_as_long : (bytes text : List ℕ) → length (escaped bytes text) ≡ length text → escaped bytes text ≡ text
+escaped_as_long bytes text same = escaped_uncounted bytes text (omega (arith, length_escaped bytes text))
+
+-- a text without a byte that gets a backslash stays
+pub escaped_same : (bytes text : List ℕ)
+    → ((k : ℕ) → k < length text → is_one_of bytes (get_or text k 0) ≡ false) → escaped bytes text ≡ text
+unfolding escaped
+escaped_same bytes [] none = refl
+escaped_same bytes (b ∷ text) none =
+    let rest : escaped bytes text ≡ text = escaped_same bytes text (λ k h. none (suc k) (omega arith)) in
+    rw (none 0 (omega arith)) (ap (λ (xs : List ℕ). b ∷ xs) rest)
+
+-- the first byte that gets one divides it
+escaped_at : (bytes text : List ℕ) (at : ℕ)
+    → at < length text → is_one_of bytes (get_or text at 0) ≡ true
+    → ((k : ℕ) → k < at → is_one_of bytes (get_or text k 0) ≡ false)
+    → escaped bytes text ≡ take at text ++ backslash ∷ get_or text at 0 ∷ escaped bytes (drop (suc at) text)
+unfolding escaped
+escaped_at bytes [] at within here before = absurd (omega arith)
+escaped_at bytes (b ∷ text) zero within here before = rw here refl
+escaped_at bytes (b ∷ text) (suc at) within here before =
+    rw (before 0 (omega arith))
+    (ap (λ (xs : List ℕ). b ∷ xs) (escaped_at bytes text at (omega arith) here (λ k h. before (suc k) (omega arith))))
+
+-- a slice to the end
+rest_of : (text : List ℕ) (n : ℕ) → take (length text - n) (drop n text) ≡ drop n text
+rest_of text n = take_all (length text - n) (drop n text) (omega (arith, length-drop n text))
+
+-- the same, as the code finds the byte and slices after it
+pub escaped_first : (bytes text : List ℕ) (mark : ℕ → Bool) (at : ℕ)
+    → ((b : ℕ) → mark b ≡ is_one_of bytes b) → ComeBefore mark text 0 (length text) at → at < length text
+    → escaped bytes text
+    ≡ take at text ++ backslash ∷ get_or text at 0 ∷ escaped bytes (take (length text - (at + 1)) (drop (at + 1) text))
+escaped_first bytes text mark at same run within =
+    let here : mark (get_or text at 0) ≡ true =
+    subst (λ (k : ℕ). mark (get_or text k 0) ≡ true) (zero-add at) (run.here within) in
+    rw (rest_of text (at + 1), add-one)
+    (escaped_at bytes text at within (sym (same (get_or text at 0)) ∙ here)
+    (λ k h. sym (same (get_or text k 0)) ∙ run.none k (omega arith) (omega arith)))
+
+-- where no byte is found, the text stays
+pub escaped_none : (bytes text : List ℕ) (mark : ℕ → Bool) (at : ℕ)
+    → ((b : ℕ) → mark b ≡ is_one_of bytes b) → ComeBefore mark text 0 (length text) at → at ≡ length text
+    → escaped bytes text ≡ text
+escaped_none bytes text mark at same run all =
+    escaped_same bytes text (λ k h. sym (same (get_or text k 0)) ∙ run.none k (omega arith) (omega arith))
+
+-- a power of ten is positive
+power_positive : (k : ℕ) → 0 < 10 ^ k
+power_positive zero = omega (arith, pow-zero 10)
+power_positive (suc k) = omega (arith, pow-suc 10 k, power_positive k)
+
+-- the length of a number that lies between two powers of ten
+pub length_decimal : (n k : ℕ)
+    → 10 ^ k ≤ n → n < 10 * 10 ^ k → n < 2 ^ 64 → length (decimal n) ≡ k + 1
+length_decimal n zero low high fits = ap length (decimal_digit n high)
+length_decimal n (suc k) low high fits =
+    let power : 10 ^ suc k ≡ 10 ^ k * 10 = pow-suc 10 k in
+    let positive : 0 < 10 ^ k = power_positive k in
+    let step : length (decimal n) ≡ length (decimal (n / 10)) + 1 =
+    ap length (decimal_step n (omega arith) fits) ∙ length-append _ _ in
+    let less : length (decimal (n / 10)) ≡ k + 1 =
+    length_decimal (n / 10) k (omega arith) (omega arith) (omega arith) in
+    omega arith
+
+-- the length of a digit
+pub length_digit : (n : ℕ) → n < 10 → length (decimal n) ≡ 1
+length_digit n small = ap length (decimal_digit n small)
+
+-- the lengths of a digit and of longer numbers
+pub ruleset lengths_of_decimals = (length_decimal, length_digit)

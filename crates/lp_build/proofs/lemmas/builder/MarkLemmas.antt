@@ -1,0 +1,141 @@
+-- From the mask of one load to the bytes that are marks, and from loads to a whole text.
+use Rattle.std.proofs.Common.{◌≡◌, ℕ, ◌+◌, ◌-◌, ◌/◌, ◌%◌, ◌^◌, ◌<◌, ◌≤◌, eqb, Bool, true, false, cond, not, ◌||◌, List, map, length, drop}
+use Rattle.std.proofs.Common.{get_or, replicate, bit_or, refl, sym, ap, ◌∙◌, subst, arith, inl, inr}
+use Rattle.std.proofs.lemmas.Bool.{cases_eq, eq-eqb, ne_eqb}
+use Rattle.std.proofs.lemmas.Simd.{length-chunk, run_in_chunk_le, run_in_chunk_fails, run_in_chunk_stops, chunk-drop}
+use Rattle.std.proofs.lemmas.List.{take_rest}
+use Rattle.std.proofs.lemmas.List.Sums.{list_all-from_AllPass, sum_by-append}
+use Rattle.std.proofs.lemmas.List.Elements.{All-from_get_or}
+use Rattle.std.proofs.lemmas.List.Folds.{list_all_at}
+use Rattle.std.specs.List.{list_all, count_by}
+use Rattle.std.specs.Prelude.{count_ones}
+use lib.Lanes.{chunk, zip2, mask_l, top}
+use Rattle.lp_build.specs.declared.builder.marks.Marks.{Marks}
+use Rattle.lp_format.specs.format.Bytes.{is_one_of}
+use Rattle.lp_build.specs.code.Marks.{ComeBefore, listed}
+use Rattle.lp_scan.specs.code.Lanes.{first_set, mask_of}
+use Rattle.lp_scan.proofs.lemmas.lanes.LaneLemmas.{lanes_of, lanes_or}
+use Rattle.lp_scan.proofs.lemmas.lanes.MaskLemmas.{shifted, ones, lowest, mask_by_lanes}
+
+-- a lane that is equal to another
+abbrev equal_lane : ℕ → ℕ → ℕ
+equal_lane a b = cond (eqb a b) 255 0
+
+-- the top bit of four lanes that were compared
+any_lane : (e f g h : Bool)
+    → top 7 (bit_or (bit_or (cond e 255 0) (cond f 255 0)) (bit_or (cond g 255 0) (cond h 255 0)))
+    ≡ e || (f || (g || (h || false)))
+any_lane true true true true = refl
+any_lane true true true false = refl
+any_lane true true false true = refl
+any_lane true true false false = refl
+any_lane true false true true = refl
+any_lane true false true false = refl
+any_lane true false false true = refl
+any_lane true false false false = refl
+any_lane false true true true = refl
+any_lane false true true false = refl
+any_lane false true false true = refl
+any_lane false true false false = refl
+any_lane false false true true = refl
+any_lane false false true false = refl
+any_lane false false false true = refl
+any_lane false false false false = refl
+
+eqb_swap : (a b : ℕ) → eqb a b ≡ eqb b a
+eqb_swap a b =
+    elim (cases_eq a b) [
+      | inl same ↦ eq-eqb a b same ∙ sym (eq-eqb b a (sym same))
+      | inr other ↦ ne_eqb a b other ∙ sym (ne_eqb b a (omega arith))
+    ]
+
+-- the lane of a byte that was compared with each mark
+abbrev compared : Marks → ℕ → ℕ
+compared m x =
+    bit_or (bit_or (equal_lane x m.first) (equal_lane x m.second)) (bit_or (equal_lane x m.third) (equal_lane x m.fourth))
+
+-- its top bit tells a mark
+mark_lane : (m : Marks) (x : ℕ) → top 7 (compared m x) ≡ is_one_of (listed m) x
+mark_lane m x =
+    rw (← eqb_swap x m.first, ← eqb_swap x m.second, ← eqb_swap x m.third, ← eqb_swap x m.fourth)
+    (any_lane (eqb x m.first) (eqb x m.second) (eqb x m.third) (eqb x m.fourth))
+
+-- the mask of the lanes of a load is that of its bytes
+pub mask_of_load : (m : Marks) (d : List ℕ) (i n : ℕ) → i + n ≤ length d → n ≤ 64
+    → (let v = chunk i n d in
+    mask_l (map (top 7) (zip2 bit_or
+    (zip2 bit_or (zip2 equal_lane v (replicate n m.first)) (zip2 equal_lane v (replicate n m.second)))
+    (zip2 bit_or (zip2 equal_lane v (replicate n m.third)) (zip2 equal_lane v (replicate n m.fourth))))) % 2 ^ 64) ≡
+    mask_of (is_one_of (listed m)) d i n
+mask_of_load m d i n room few =
+    let v = chunk i n d in
+    let long = length-chunk i n d room in
+    mask_by_lanes (is_one_of (listed m)) d i n room few (compared m) (mark_lane m) _
+    (lanes_or _ _ v (lanes_or _ _ v (lanes_of v m.first long) (lanes_of v m.second long))
+    (lanes_or _ _ v (lanes_of v m.third long) (lanes_of v m.fourth long)))
+
+-- its lowest bit tells how many of the bytes come before the first mark
+pub come_before : (q : ℕ → Bool) (d : List ℕ) (i n r : ℕ) → i + n ≤ length d → n ≤ 64
+    → r ≡ first_set (mask_of q d i n) n → ComeBefore q d i n r
+come_before q d i n r room few found =
+    let counted = found ∙ lowest q d i n room few in
+    record {
+      within = run_in_chunk_le q d i n r 0 room counted;
+      none = run_in_chunk_fails q d i n r 0 room counted;
+      here = run_in_chunk_stops q d i n r 0 room counted;
+    }
+
+-- what a text counts is what a load counts, and what comes after it
+pub count_after : (q : ℕ → Bool) (d : List ℕ) (at n : ℕ) → count_by q (drop at d) ≡ count_by q (chunk at n d) + count_by q (drop (at + n) d)
+count_after q d at n = ap (count_by q) (chunk-drop at n d) ∙ sum_by-append (λ b. cond (q b) 1 0) (chunk at n d) (drop (at + n) d)
+
+-- of a load at the end, the bits after what was seen count the rest
+pub count_last : (q : ℕ → Bool) (d : List ℕ) (seen n : ℕ) → n ≤ length d → seen ≤ length d → length d - n ≤ seen
+    → count_ones (mask_of q d (length d - n) n / 2 ^ (n - (length d - seen))) ≡ count_by q (drop seen d)
+count_last q d seen n room within overlaps =
+    let new = length d - seen in
+    let place : length d - n + (n - new) ≡ seen = omega arith in
+    let left : n - (n - new) ≡ new = omega arith in
+    ap count_ones (shifted q d (length d - n) n (n - new) (omega arith))
+    ∙ ones q d (length d - n + (n - new)) (n - (n - new))
+    ∙ ap (λ (k : ℕ). count_by q (chunk k (n - (n - new)) d)) place
+    ∙ ap (λ (k : ℕ). count_by q (chunk seen k d)) left
+    ∙ ap (count_by q) (take_rest d seen)
+
+-- two loads that overlap count a text that is no longer than both
+pub count_overlapping : (q : ℕ → Bool) (d : List ℕ) (n first last : ℕ) → n ≤ length d → length d < n + n
+    → first ≡ mask_of q d 0 n → last ≡ mask_of q d (length d - n) n
+    → count_ones first + count_ones (last / 2 ^ (n + n - length d)) ≡ count_by q d
+count_overlapping q d n first last room few front after =
+    let shift : n + n - length d ≡ n - (length d - n) = omega arith in
+    let from : n ≡ 0 + n = omega arith in
+    let seen = ap count_ones front ∙ ones q d 0 n in
+    let rest =
+    ap (λ (k : ℕ). count_ones (last / 2 ^ k)) shift
+    ∙ ap (λ (m : ℕ). count_ones (m / 2 ^ (n - (length d - n)))) after
+    ∙ count_last q d n n room room (omega arith)
+    ∙ ap (λ (k : ℕ). count_by q (drop k d)) from in
+    omega (arith, seen, rest, count_after q d 0 n)
+
+-- a text in which no byte passes the test
+free_whole : (q : ℕ → Bool) (d : List ℕ) → ((k : ℕ) → k < length d → q (get_or d k 0) ≡ false)
+    → list_all (λ b. not (q b)) d ≡ true
+free_whole q d none =
+    list_all-from_AllPass (λ b. not (q b)) d
+    (All-from_get_or (λ b. not (q b) ≡ true) d 0 (λ k inside. ap not (none k inside)))
+
+-- a text in which one does
+not_free : (q : ℕ → Bool) (d : List ℕ) (k : ℕ) → k < length d → q (get_or d k 0) ≡ true
+    → list_all (λ b. not (q b)) d ≡ false
+not_free q d k inside here = list_all_at (λ b. not (q b)) d k 0 inside (ap not here)
+
+-- where the first mark is decides
+pub first_decides : (q : ℕ → Bool) (d : List ℕ) (r : ℕ) → ComeBefore q d 0 (length d) r → eqb r (length d) ≡ list_all (λ b. not (q b)) d
+first_decides q d r run =
+    elim (cases_eq r (length d)) [
+      | inl whole ↦ eq-eqb r (length d) whole ∙ sym (free_whole q d (λ k inside. run.none k (omega arith) (omega arith)))
+      | inr other ↦
+          let short : r < length d = omega (arith, run.within) in
+          let place : 0 + r ≡ r = omega arith in
+          ne_eqb r (length d) other ∙ sym (not_free q d r short (subst (λ (k : ℕ). q (get_or d k 0) ≡ true) place (run.here short)))
+    ]

@@ -1,0 +1,2 @@
+pub mod lines_are_points
+pub mod bases_tell_series

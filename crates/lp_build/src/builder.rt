@@ -1,0 +1,361 @@
+//! Writes lines, in typed states.
+//!
+//! A [`LineProtocolBuilder`] begins before a measurement. Its type says what may come next, so a
+//! line without a field, a tag after a field or a second timestamp does not compile, and
+//! [`LineProtocolBuilder::build`] gives the buffer back between two lines alone.
+
+ghost use Rattle.std.specs.Prelude.{◌≡◌, ◌≢◌, ◌+◌, ◌<◌, ◌≤◌, ◌^◌, [], ◌∷◌, ◌++◌, true, length, IfOk, IfErr, IsOk};
+ghost use Rattle.std.specs.Option.{SomeIff};
+ghost use Rattle.std.specs.Fmt.{signed_decimal};
+ghost use Rattle.lp_build.specs.declared.builder.buffer.NoRoom.{NoRoom};
+ghost use Rattle.lp_build.specs.declared.builder.buffer.NoRoom.TheVariants.{TooLong};
+ghost use Rattle.lp_format.specs.format.Bytes.{newline, space, comma};
+ghost use Rattle.lp_format.specs.format.Names.{a_field_key, a_measurement, a_tag_key, a_tag_value, escapable};
+ghost use Rattle.lp_format.specs.format.Points.{built_tag, field_text, spelling};
+ghost use Rattle.lp_build.specs.code.Built.{IsPlainText, Writes, buffer_of};
+
+use lp_scan::sets::TokenKind;
+use std::alloc::Global;
+use std::marker::PhantomData;
+
+mod buffer;
+mod lines;
+mod marks;
+mod parsed;
+mod texts;
+mod values;
+
+pub use buffer::{BufMut, NoRoom};
+pub use lines::{is_admitted, write_line};
+pub use parsed::{Written, write_parsed};
+use texts::{escaped_len, put_escaped};
+pub use values::FieldValue;
+
+// The length of a tag with the comma before it, where a `usize` holds it.
+fn tag_len(key: &[u8], value: &[u8]) -> Option<usize>
+    ensures { let text = built_tag (record { key = key.now; value = value.now }) in
+        SomeIff result (length text < 2 ^ 64) (length text) }
+{
+    let key_len = escaped_len(TokenKind::TagKey, key);
+    let value_len = escaped_len(TokenKind::TagValue, value);
+    key_len.checked_add(value_len)?.checked_add(2)
+}
+
+// Appends a tag with the comma before it.
+fn put_tag<B: BufMut>(buf: &mut B, is_plain: bool, key: &[u8], value: &[u8])
+    requires plain { is_plain ≡ true → IsPlainText (escapable a_tag_key) key.now × IsPlainText (escapable a_tag_value) value.now }
+    requires room { length (built_tag (record { key = key.now; value = value.now })) ≤ B.room buf.old }
+    ensures bytes { B.bytes buf.new
+        ≡ B.bytes buf.old ++ built_tag (record { key = key.now; value = value.now }) }
+    ensures room { B.room buf.old
+        ≤ B.room buf.new + length (built_tag (record { key = key.now; value = value.now })) }
+{
+    buf.put(b",");
+    put_escaped(buf, TokenKind::TagKey, is_plain, key);
+    buf.put(b"=");
+    put_escaped(buf, TokenKind::TagValue, is_plain, value);
+}
+
+// The length of a field with the byte before it, where a `usize` holds it.
+fn field_len<F: FieldValue>(key: &[u8], value: &F) -> Option<usize>
+    ensures { let text = space ∷ field_text key.now (F.text value.now) in
+        SomeIff result (length text < 2 ^ 64) (length text) }
+{
+    let key_len = escaped_len(TokenKind::FieldKey, key);
+    let value_len = value.fmt_len()?;
+    key_len.checked_add(value_len)?.checked_add(2)
+}
+
+// Appends `before`, and then a field.
+fn put_field<B: BufMut, F: FieldValue>(
+    buf: &mut B,
+    before: u8,
+    is_plain: bool,
+    key: &[u8],
+    value: &F,
+)
+    requires plain { is_plain ≡ true → IsPlainText (escapable a_field_key) key.now }
+    requires room { length (before ∷ field_text key.now (F.text value.now)) ≤ B.room buf.old }
+    ensures bytes { B.bytes buf.new ≡ B.bytes buf.old ++ before ∷ field_text key.now (F.text value.now) }
+    ensures room { B.room buf.old ≤ B.room buf.new + length (before ∷ field_text key.now (F.text value.now)) }
+{
+    buf.put(&[before]);
+    put_escaped(buf, TokenKind::FieldKey, is_plain, key);
+    buf.put(b"=");
+    value.fmt(buf);
+}
+
+/// No line is open: a measurement begins one, or the buffer is given back.
+#[derive(Clone, Copy, Debug, Default)]
+pub struct BeforeMeasurement;
+
+/// A line has its measurement, and its tags so far: a tag or the first field comes next.
+#[derive(Clone, Copy, Debug)]
+pub struct AfterMeasurement;
+
+/// A state that no builder is in.
+#[derive(Clone, Copy, Debug)]
+pub struct AfterTag;
+
+/// A line has a field: a field, the timestamp or the end of the line comes next.
+#[derive(Clone, Copy, Debug)]
+pub struct AfterField;
+
+/// A line has its timestamp: its end comes next.
+#[derive(Clone, Copy, Debug)]
+pub struct AfterTimestamp;
+
+/// A builder in the state `S`, which appends lines to a `B`.
+///
+/// Each writing call makes room for its whole text, and then appends exactly that text. Where it is
+/// refused it gives the builder back, in the state and with the bytes that it had.
+///
+/// ```
+/// let line = LineProtocolBuilder::new(alloc);
+/// let line = line.measurement("weather").map_err(|refused| refused.cause)?;
+/// let line = line.tag("city", "Bad Ems").map_err(|refused| refused.cause)?;
+/// let line = line.field("degrees", 21i64).map_err(|refused| refused.cause)?;
+/// let line = line.timestamp(1_234).map_err(|refused| refused.cause)?;
+/// let lines = line.close_line().map_err(|refused| refused.cause)?;
+/// // weather,city=Bad\ Ems degrees=21i 1234
+/// let bytes = lines.build();
+/// ```
+#[derive(Drop)]
+pub struct LineProtocolBuilder<B: BufMut, S> {
+    buf: B,
+    state: PhantomData<S>,
+}
+
+/// A refused call: the builder as it was before the call, and why it was refused.
+#[derive(Drop)]
+pub struct Refused<B: BufMut, S> {
+    /// The builder, in the state in which the call was made, with the bytes that it had.
+    pub builder: LineProtocolBuilder<B, S>,
+    /// Why the call was refused.
+    pub cause: NoRoom,
+}
+
+impl<B: BufMut, S> LineProtocolBuilder<B, S> {
+    // A builder over `buf`, in this state.
+    fn over(buf: B) -> Self
+        ensures { buffer_of result ≡ buf }
+    {
+        LineProtocolBuilder {
+            buf,
+            state: PhantomData,
+        }
+    }
+
+    // The buffer, with room for `n` more bytes.
+    fn with_room(self, n: usize) -> Result<B, Refused<B, S>>
+        ensures bytes { IfOk result (λ b. B.bytes b ≡ B.bytes (buffer_of self)) }
+        ensures more { IfOk result (λ b. B.room (buffer_of self) ≤ B.room b) }
+        ensures room { IfOk result (λ b. n ≤ B.room b) }
+        ensures unchanged { IfErr result (λ r. B.bytes (buffer_of r.builder) ≡ B.bytes (buffer_of self)) }
+        ensures kept { IfErr result (λ r. B.room (buffer_of self) ≤ B.room (buffer_of r.builder)) }
+        ensures refused { IfErr result (λ r. B.room (buffer_of self) < n) }
+        ensures cause { IfErr result (λ r. B.refuses r.cause) }
+        ensures fits { IfErr result (λ r. r.cause ≢ TooLong) }
+        ensures succeeds { n ≤ B.room (buffer_of self) → IsOk result }
+    {
+        let LineProtocolBuilder { mut buf, state: _ } = self;
+        match buf.reserve(n) {
+            Ok(()) => Ok(buf),
+            Err(cause) => Err(Refused {
+                builder: LineProtocolBuilder::over(buf),
+                cause,
+            }),
+        }
+    }
+
+    // The refusal of a text whose length no `usize` holds.
+    fn too_long(self) -> Refused<B, S>
+        ensures builder { buffer_of result.builder ≡ buffer_of self }
+        ensures cause { result.cause ≡ TooLong }
+    {
+        Refused {
+            builder: self,
+            cause: NoRoom::TooLong,
+        }
+    }
+
+    // Appends `before`, and then a field.
+    fn add_field<F: FieldValue>(
+        self,
+        before: u8,
+        key: &str,
+        value: &F,
+    ) -> Result<LineProtocolBuilder<B, AfterField>, Refused<B, S>>
+        ensures { Writes B.bytes B.room B.refuses
+            (before ∷ field_text key.now (F.text value.now)) (buffer_of self) result }
+    {
+        let Some(n) = field_len(key.as_bytes(), value) else {
+            return Err(self.too_long());
+        };
+        let mut buf = self.with_room(n)?;
+        put_field(&mut buf, before, false, key.as_bytes(), value);
+        Ok(LineProtocolBuilder::over(buf))
+    }
+
+    // Ends the line.
+    fn end_line(self) -> Result<LineProtocolBuilder<B, BeforeMeasurement>, Refused<B, S>>
+        ensures { Writes B.bytes B.room B.refuses (newline ∷ []) (buffer_of self) result }
+    {
+        let mut buf = self.with_room(1)?;
+        buf.put(b"\n");
+        Ok(LineProtocolBuilder::over(buf))
+    }
+}
+
+impl LineProtocolBuilder<Vec<u8>, BeforeMeasurement> {
+    /// A builder over an empty `Vec`, without a line. It takes no memory.
+    pub fn new(alloc: Global) -> Self
+        ensures { (buffer_of result).items ≡ [] }
+    {
+        LineProtocolBuilder::new_with(Vec::new(alloc))
+    }
+}
+
+impl<B: BufMut> LineProtocolBuilder<B, BeforeMeasurement> {
+    /// A builder that appends to `buf`. What `buf` holds should be closed lines, if its bytes are
+    /// to read back.
+    pub fn new_with(buf: B) -> Self
+        ensures { buffer_of result ≡ buf }
+    {
+        Self::over(buf)
+    }
+
+    /// Begins a line by its measurement: `name`, with a backslash before each `,`, space and `\`.
+    ///
+    /// # Errors
+    ///
+    /// What the buffer answers where it has no room for that text. The builder is then as before.
+    pub fn measurement(
+        self,
+        name: &str,
+    ) -> Result<LineProtocolBuilder<B, AfterMeasurement>, Refused<B, BeforeMeasurement>>
+        ensures { Writes B.bytes B.room B.refuses
+            (spelling a_measurement name.now) (buffer_of self) result }
+    {
+        let mut buf = self.with_room(escaped_len(TokenKind::Measurement, name.as_bytes()))?;
+        put_escaped(&mut buf, TokenKind::Measurement, false, name.as_bytes());
+        Ok(LineProtocolBuilder::over(buf))
+    }
+
+    /// The buffer, with all lines that were written.
+    pub fn build(self) -> B
+        ensures { result ≡ buffer_of self }
+    {
+        self.buf
+    }
+}
+
+impl<B: BufMut> LineProtocolBuilder<B, AfterMeasurement> {
+    /// Appends a tag: a comma, `key`, `=` and `value`, each of the two with a backslash before each
+    /// `,`, `=`, space and `\`. Tags are written as they come, also where a key repeats.
+    ///
+    /// # Errors
+    ///
+    /// `TooLong` where no `usize` holds the length of that text, and else what the buffer answers
+    /// where it has no room for it. The builder is then as before.
+    pub fn tag(
+        self,
+        key: &str,
+        value: &str,
+    ) -> Result<LineProtocolBuilder<B, AfterMeasurement>, Refused<B, AfterMeasurement>>
+        ensures { Writes B.bytes B.room B.refuses
+            (built_tag (record { key = key.now; value = value.now })) (buffer_of self) result }
+    {
+        let Some(n) = tag_len(key.as_bytes(), value.as_bytes()) else {
+            return Err(self.too_long());
+        };
+        let mut buf = self.with_room(n)?;
+        put_tag(&mut buf, false, key.as_bytes(), value.as_bytes());
+        Ok(LineProtocolBuilder::over(buf))
+    }
+
+    /// Appends the first field: a space, `key` with a backslash before each `,`, `=`, space and `\`,
+    /// then `=` and the value's text.
+    ///
+    /// # Errors
+    ///
+    /// `TooLong` where no `usize` holds the length of that text, and else what the buffer answers
+    /// where it has no room for it. The builder is then as before.
+    pub fn field<F: FieldValue>(
+        self,
+        key: &str,
+        value: F,
+    ) -> Result<LineProtocolBuilder<B, AfterField>, Refused<B, AfterMeasurement>>
+        ensures { Writes B.bytes B.room B.refuses
+            (space ∷ field_text key.now (F.text value)) (buffer_of self) result }
+    {
+        self.add_field(b' ', key, &value)
+    }
+}
+
+impl<B: BufMut> LineProtocolBuilder<B, AfterField> {
+    /// Appends a field after the first: a comma, and then as there.
+    ///
+    /// # Errors
+    ///
+    /// `TooLong` where no `usize` holds the length of that text, and else what the buffer answers
+    /// where it has no room for it. The builder is then as before.
+    pub fn field<F: FieldValue>(
+        self,
+        key: &str,
+        value: F,
+    ) -> Result<LineProtocolBuilder<B, AfterField>, Refused<B, AfterField>>
+        ensures { Writes B.bytes B.room B.refuses
+            (comma ∷ field_text key.now (F.text value)) (buffer_of self) result }
+    {
+        self.add_field(b',', key, &value)
+    }
+
+    /// Appends the timestamp: a space and the number.
+    ///
+    /// # Errors
+    ///
+    /// What the buffer answers where it has no room for that text. The builder is then as before.
+    pub fn timestamp(
+        self,
+        timestamp: i64,
+    ) -> Result<LineProtocolBuilder<B, AfterTimestamp>, Refused<B, AfterField>>
+        ensures { Writes B.bytes B.room B.refuses
+            (space ∷ signed_decimal timestamp) (buffer_of self) result }
+    {
+        let mut digits = itoa::Buffer::new();
+        let digits = digits.format(timestamp).as_bytes();
+        let mut buf = self.with_room(digits.len() + 1)?;
+        buf.put(b" ");
+        buf.put(digits);
+        Ok(LineProtocolBuilder::over(buf))
+    }
+
+    /// Ends the line with a newline.
+    ///
+    /// # Errors
+    ///
+    /// What the buffer answers where it has no room for one byte. The builder is then as before.
+    pub fn close_line(
+        self,
+    ) -> Result<LineProtocolBuilder<B, BeforeMeasurement>, Refused<B, AfterField>>
+        ensures { Writes B.bytes B.room B.refuses (newline ∷ []) (buffer_of self) result }
+    {
+        self.end_line()
+    }
+}
+
+impl<B: BufMut> LineProtocolBuilder<B, AfterTimestamp> {
+    /// Ends the line with a newline.
+    ///
+    /// # Errors
+    ///
+    /// What the buffer answers where it has no room for one byte. The builder is then as before.
+    pub fn close_line(
+        self,
+    ) -> Result<LineProtocolBuilder<B, BeforeMeasurement>, Refused<B, AfterTimestamp>>
+        ensures { Writes B.bytes B.room B.refuses (newline ∷ []) (buffer_of self) result }
+    {
+        self.end_line()
+    }
+}

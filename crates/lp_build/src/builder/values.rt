@@ -1,0 +1,115 @@
+//! Values of fields, as the builder writes them.
+
+ghost use Rattle.std.specs.Prelude.{◌≡◌, ◌+◌, ◌<◌, ◌≤◌, ◌^◌, List, ◌++◌, ℕ, true, length};
+ghost use Rattle.std.specs.Option.{SomeIff};
+ghost use Rattle.std.specs.Fmt.{decimal};
+ghost use Rattle.lp_format.specs.format.Values.{integer, unsigned, string, boolean, quotable};
+ghost use Rattle.lp_format.specs.format.Points.{built_value};
+ghost use Rattle.lp_build.specs.code.Built.{IsPlainText};
+
+use super::buffer::BufMut;
+use super::texts::{escaped_len, put_escaped};
+use lp_scan::sets::TokenKind;
+
+/// A value that a field can have.
+///
+/// Its meaning is `text`, the bytes that a line has for it.
+pub trait FieldValue: Drop {
+    ghost text: { Self → List ℕ };
+
+    /// The length of the text, and `None` where no `usize` holds it.
+    fn fmt_len(&self) -> Option<usize>
+        ensures { SomeIff result (length (text self.now) < 2 ^ 64) (length (text self.now)) };
+
+    /// Appends the text, for which there must be room. It takes no more room than that.
+    fn fmt<B: BufMut>(&self, buf: &mut B)
+        requires { length (text self.now) ≤ B.room buf.old }
+        ensures bytes { B.bytes buf.new ≡ B.bytes buf.old ++ text self.now }
+        ensures room { B.room buf.old ≤ B.room buf.new + length (text self.now) };
+}
+
+// How many digits the number has.
+#[tactic(auto, using(crate::proofs::lemmas::builder::BuilderLemmas::lengths_of_decimals))]
+fn decimal_len(n: u64) -> usize
+    ensures value { result ≡ length (decimal n) }
+    ensures few { result ≤ 20 }
+{
+    match n.checked_ilog10() {
+        Some(last) => last as usize + 1,
+        None => 1,
+    }
+}
+
+/// The number and `i`.
+impl FieldValue for i64 {
+    ghost text = { λ z. built_value (integer z) };
+
+    fn fmt_len(&self) -> Option<usize> {
+        let sign_len = usize::from(*self < 0);
+        Some(sign_len + decimal_len(self.unsigned_abs()) + 1)
+    }
+
+    fn fmt<B: BufMut>(&self, buf: &mut B) {
+        let mut digits = itoa::Buffer::new();
+        buf.put(digits.format(*self).as_bytes());
+        buf.put(b"i");
+    }
+}
+
+/// The number and `u`.
+impl FieldValue for u64 {
+    ghost text = { λ n. built_value (unsigned n) };
+
+    fn fmt_len(&self) -> Option<usize> {
+        Some(decimal_len(*self) + 1)
+    }
+
+    fn fmt<B: BufMut>(&self, buf: &mut B) {
+        let mut digits = itoa::Buffer::new();
+        buf.put(digits.format(*self).as_bytes());
+        buf.put(b"u");
+    }
+}
+
+/// `true` or `false`.
+impl FieldValue for bool {
+    ghost text = { λ b. built_value (boolean b) };
+
+    fn fmt_len(&self) -> Option<usize> {
+        if *self { Some(4) } else { Some(5) }
+    }
+
+    fn fmt<B: BufMut>(&self, buf: &mut B) {
+        if *self {
+            buf.put(b"true");
+        } else {
+            buf.put(b"false");
+        }
+    }
+}
+
+/// The text between quotes, with a backslash before each `"` and `\`.
+impl FieldValue for &str {
+    ghost text = { λ s. built_value (string s.now) };
+
+    fn fmt_len(&self) -> Option<usize> {
+        escaped_len(TokenKind::String, self.as_bytes()).checked_add(2)
+    }
+
+    fn fmt<B: BufMut>(&self, buf: &mut B) {
+        put_string(buf, false, self.as_bytes());
+    }
+}
+
+// Appends `text` between quotes, with its backslashes.
+#[inline(always)]
+pub(super) fn put_string<B: BufMut>(buf: &mut B, is_plain: bool, text: &[u8])
+    requires plain { is_plain ≡ true → IsPlainText quotable text.now }
+    requires room { length (built_value (string text.now)) ≤ B.room buf.old }
+    ensures bytes { B.bytes buf.new ≡ B.bytes buf.old ++ built_value (string text.now) }
+    ensures room { B.room buf.old ≤ B.room buf.new + length (built_value (string text.now)) }
+{
+    buf.put(b"\"");
+    put_escaped(buf, TokenKind::String, is_plain, text);
+    buf.put(b"\"");
+}

@@ -1,0 +1,4 @@
+pub mod NameReadsBack
+pub mod IntegerReadsBack
+pub mod ReadLines
+pub mod FloatReadsBack

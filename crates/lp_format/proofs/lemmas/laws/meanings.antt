@@ -1,0 +1,5 @@
+pub mod LogicalMeaning
+pub mod JoinedMeaning
+pub mod ShorterRests
+pub mod TrimMeaning
+pub mod CountMeaning

@@ -1,0 +1,329 @@
+-- What is joined by commas is read as the most that are at the start.
+use Rattle.std.proofs.Common.{◌≡◌, ◌≢◌, ℕ, zero, suc, ◌<◌, ◌≤◌, List, [], ◌∷◌, ◌++◌, length, refl, sym, ap, ◌∙◌, subst, inl, inr, arith}
+use Rattle.std.proofs.Common.{length-append}
+use Rattle.std.specs.Prelude.{◌==◌}
+use Rattle.std.proofs.lemmas.Bool.{cases_Bool, eqb-true}
+use Rattle.lp_format.specs.format.Readings.{Fault, Reading, miss, fatal, reads}
+use Rattle.lp_format.specs.format.Lines.{after_comma, separated_list, many, prepend}
+use Rattle.lp_format.specs.laws.Meanings.{SeparatedBy, SeparatedAfterComma, LongestList, WholeList, NextHasFault}
+use Rattle.lp_format.specs.laws.Meanings.{TheMostIsRead, TheNextHasTheFault, TheFirstMisses}
+use Rattle.lp_format.proofs.lemmas.line.LineLemmas.{byte_reads}
+
+module _ {A : Type 0} where
+  -- one value that the first gives, and each other that the second gives
+  abbrev pub Chain : (List ℕ → Reading A) → (List ℕ → Reading A) → List A → List ℕ → List ℕ → Type 0
+  Chain f g [] text rest = text ≡ rest
+  Chain f g (x ∷ xs) text rest = (after : List ℕ) × (f text ≡ reads x after) × Chain g g xs after rest
+
+  -- what reads after them
+  abbrev pub next : (List ℕ → Reading A) → (List ℕ → Reading A) → List A → List ℕ → Reading A
+  next f g [] rest = f rest
+  next f g (x ∷ xs) rest = next g g xs rest
+
+  -- where all are given by one, so is the next
+  pub next_same : (g : List ℕ → Reading A) (xs : List A) (rest : List ℕ) → next g g xs rest ≡ g rest
+  next_same g [] rest = refl
+  next_same g (x ∷ xs) rest = next_same g xs rest
+
+  -- a reading that gives no value
+  abbrev pub GivesNone : Reading A → Type 0
+  GivesNone r = (y : A) (after : List ℕ) → r ≢ reads y after
+
+  -- no more are there than those after which none is read
+  chain_most : (f g : List ℕ → Reading A) (xs ys : List A) (text a b : List ℕ) → Chain f g xs text a → Chain f g ys text b
+      → GivesNone (next f g xs a) → length ys ≤ length xs
+  chain_most f g [] [] text a b h k none = omega arith
+  chain_most f g [] (y ∷ ys) text a b h k none = absurd (none y k.0 (ap f (sym h) ∙ k.1))
+  chain_most f g (x ∷ xs) [] text a b h k none = omega arith
+  chain_most f g (x ∷ xs) (y ∷ ys) text a b h k none =
+      let same : k.0 ≡ h.0 = let e = sym k.1 ∙ h.1 in cc in
+      let fewer = chain_most g g xs ys h.0 a b h.2 (subst (λ (t : List ℕ). Chain g g ys t b) same k.2) none in
+      omega arith
+
+  -- two such are the same
+  chain_same : (f g : List ℕ → Reading A) (xs ys : List A) (text a b : List ℕ) → Chain f g xs text a → Chain f g ys text b
+      → GivesNone (next f g xs a) → GivesNone (next f g ys b) → (xs ≡ ys) × (a ≡ b)
+  chain_same f g [] [] text a b h k none nor = (refl, sym h ∙ k)
+  chain_same f g [] (y ∷ ys) text a b h k none nor = absurd (none y k.0 (ap f (sym h) ∙ k.1))
+  chain_same f g (x ∷ xs) [] text a b h k none nor = absurd (nor x h.0 (ap f (sym k) ∙ h.1))
+  chain_same f g (x ∷ xs) (y ∷ ys) text a b h k none nor =
+      let first : x ≡ y = cc in
+      let same : k.0 ≡ h.0 = cc in
+      let more = chain_same g g xs ys h.0 a b h.2 (subst (λ (t : List ℕ). Chain g g ys t b) same k.2) none nor in
+      (cc (first, more.0), more.1)
+
+  -- one more
+  chain_push : (f g : List ℕ → Reading A) (xs : List A) (text a : List ℕ) (y : A) (after : List ℕ) → Chain f g xs text a
+      → next f g xs a ≡ reads y after → Chain f g (xs ++ y ∷ []) text after
+  chain_push f g [] text a y after h e = (after, ap f h ∙ e, refl)
+  chain_push f g (x ∷ xs) text a y after h e = (h.0, h.1, chain_push g g xs h.0 a y after h.2 e)
+
+  -- what is given for as many, by what reads after them
+  pub ended : List A → List ℕ → Reading A → Reading (List A)
+  ended xs rest miss = reads xs rest
+  ended xs rest (fatal e) = fatal e
+  ended xs rest (reads y after) = reads xs rest
+
+  -- one more at the start
+  ended_more : (x : A) (xs : List A) (rest : List ℕ) (r : Reading A) → prepend (x ∷ []) (ended xs rest r) ≡ ended (x ∷ xs) rest r
+  unfolding ended
+  ended_more x xs rest miss = refl
+  ended_more x xs rest (fatal e) = refl
+  ended_more x xs rest (reads y after) = refl
+
+  -- what is given for one and as many more, by what reads after them
+  pub outcome : List A → List ℕ → Reading A → Reading (List A)
+  outcome [] rest miss = miss
+  outcome [] rest (fatal e) = fatal e
+  outcome [] rest (reads y after) = miss
+  outcome (x ∷ xs) rest r = ended (x ∷ xs) rest r
+
+  -- where values are given, none reads after them, and they are one or more
+  outcome_reads : (xs ys : List A) (rest suffix : List ℕ) (r : Reading A) → GivesNone r → outcome xs rest r ≡ reads ys suffix
+      → (xs ≡ ys) × (rest ≡ suffix) × (0 < length xs) × (r ≡ miss)
+  unfolding outcome ended
+  outcome_reads [] ys rest suffix miss none e = absurd (cc)
+  outcome_reads [] ys rest suffix (fatal f) none e = absurd (cc)
+  outcome_reads xs ys rest suffix (reads y after) none e = absurd (none y after refl)
+  outcome_reads (x ∷ xs) ys rest suffix miss none e = (cc, cc, omega arith, refl)
+  outcome_reads (x ∷ xs) ys rest suffix (fatal f) none e = absurd (cc)
+
+  -- a fault is that of the next
+  outcome_fatal : (xs : List A) (rest : List ℕ) (r : Reading A) (f : Fault) → outcome xs rest r ≡ fatal f → r ≡ fatal f
+  unfolding outcome ended
+  outcome_fatal [] rest miss f e = absurd (cc)
+  outcome_fatal [] rest (fatal d) f e = cc
+  outcome_fatal [] rest (reads y after) f e = absurd (cc)
+  outcome_fatal (x ∷ xs) rest miss f e = absurd (cc)
+  outcome_fatal (x ∷ xs) rest (fatal d) f e = cc
+  outcome_fatal (x ∷ xs) rest (reads y after) f e = absurd (cc)
+
+  -- a miss is that of the first
+  outcome_miss : (xs : List A) (rest : List ℕ) (r : Reading A) → GivesNone r → outcome xs rest r ≡ miss → (xs ≡ []) × (r ≡ miss)
+  unfolding outcome ended
+  outcome_miss [] rest miss none e = (refl, refl)
+  outcome_miss [] rest (fatal d) none e = absurd (cc)
+  outcome_miss xs rest (reads y after) none e = absurd (none y after refl)
+  outcome_miss (x ∷ xs) rest miss none e = absurd (cc)
+  outcome_miss (x ∷ xs) rest (fatal d) none e = absurd (cc)
+
+  -- one or more values after which the next misses
+  outcome_is_reads : (xs : List A) (rest : List ℕ) → 0 < length xs → outcome xs rest miss ≡ reads xs rest
+  unfolding outcome ended
+  outcome_is_reads [] rest h = absurd (omega arith)
+  outcome_is_reads (x ∷ xs) rest h = refl
+
+  -- values after which the next has a fault
+  outcome_is_fatal : (xs : List A) (rest : List ℕ) (e : Fault) → outcome xs rest (fatal e) ≡ fatal e
+  unfolding outcome ended
+  outcome_is_fatal [] rest e = refl
+  outcome_is_fatal (x ∷ xs) rest e = refl
+
+  -- what is read by as many as are at the start
+  record Tail (g : List ℕ → Reading A) (n : ℕ) (text : List ℕ) : Type 0 where
+    xs : List A
+    rest : List ℕ
+    chain : Chain g g xs text rest
+    none : GivesNone (g rest)
+    ends : many g n text ≡ ended xs rest (g rest)
+
+  module _ (g : List ℕ → Reading A) (nothing : g [] ≡ miss)
+      (shorter : (text : List ℕ) (x : A) (rest : List ℕ) → g text ≡ reads x rest → length rest < length text) where
+    tail_more : (n : ℕ) (text : List ℕ) → length text ≤ suc n → ((after : List ℕ) → length after ≤ n → Tail g n after)
+        → (r : Reading A) → g text ≡ r → Tail g (suc n) text
+    unfolding ended
+    tail_more n text room more miss e =
+        record { xs = []; rest = text; chain = refl; none = λ y after is. cc; ends = rw e refl }
+    tail_more n text room more (fatal f) e =
+        record { xs = []; rest = text; chain = refl; none = λ y after is. cc; ends = rw e refl }
+    tail_more n text room more (reads x after) e =
+        let less = shorter text x after e in
+        let t = more after (omega arith) in
+        record {
+          xs = x ∷ t.xs;
+          rest = t.rest;
+          chain = (after, e, t.chain);
+          none = t.none;
+          ends = rw e (ap (prepend (x ∷ [])) t.ends ∙ ended_more x t.xs t.rest (g t.rest));
+        }
+
+    tail_is : (n : ℕ) (text : List ℕ) → length text ≤ n → Tail g n text
+    unfolding ended
+    tail_is zero [] room = record { xs = []; rest = []; chain = refl; none = λ y after is. cc; ends = rw nothing refl }
+    tail_is zero (b ∷ text) room = absurd (omega arith)
+    tail_is (suc n) text room = tail_more n text room (λ after less. tail_is n after less) (g text) refl
+
+  -- what is read of a text
+  pub record Whole (one : List ℕ → Reading A) (text : List ℕ) : Type 0 where
+    pub xs : List A
+    pub rest : List ℕ
+    pub chain : Chain one (after_comma one) xs text rest
+    pub none : GivesNone (next one (after_comma one) xs rest)
+    pub ends : separated_list one text ≡ outcome xs rest (next one (after_comma one) xs rest)
+
+  -- after a comma, it is what the text after the comma gives
+  after_whole : (one : List ℕ → Reading A) (text suffix : List ℕ) → text ≡ 44 ∷ suffix → after_comma one text ≡ one suffix
+  after_whole one text suffix e = rw (byte_reads 44 text suffix e) refl
+
+  -- a comma, and one after it
+  after_parts : (one : List ℕ → Reading A) (text : List ℕ) (r : Reading A) → after_comma one text ≡ r → r ≢ miss
+      → (suffix : List ℕ) × (text ≡ 44 ∷ suffix) × (one suffix ≡ r)
+  after_parts one [] r e some = absurd (some (sym e))
+  after_parts one (b ∷ suffix) r e some =
+      elim (cases_Bool (b == 44)) [
+        | inl comma ↦ (
+          suffix,
+          ap (λ (c : ℕ). c ∷ suffix) (eqb-true b 44 comma),
+          sym (after_whole one (b ∷ suffix) suffix (ap (λ (c : ℕ). c ∷ suffix) (eqb-true b 44 comma))) ∙ e,
+        )
+        | inr differs ↦ absurd (some (sym (rw differs at e)))
+      ]
+
+  -- the two ways to say what is there
+  from_after : (one : List ℕ → Reading A) (xs : List A) (text rest : List ℕ) → SeparatedAfterComma one xs text rest
+      → Chain (after_comma one) (after_comma one) xs text rest
+  from_after one [] text rest h = h
+  from_after one (x ∷ xs) text rest h = (h.1, after_whole one text h.0 h.2 ∙ h.3, from_after one xs h.1 rest h.4)
+
+  -- and back
+  to_after : (one : List ℕ → Reading A) (xs : List A) (text rest : List ℕ) → Chain (after_comma one) (after_comma one) xs text rest
+      → SeparatedAfterComma one xs text rest
+  to_after one [] text rest h = h
+  to_after one (x ∷ xs) text rest h =
+      let p = after_parts one text (reads x h.0) h.1 (λ e. cc) in
+      (p.0, h.0, p.1, p.2, to_after one xs h.0 rest h.2)
+
+  -- with the first
+  from_separated : (one : List ℕ → Reading A) (xs : List A) (text rest : List ℕ) → SeparatedBy one xs text rest
+      → Chain one (after_comma one) xs text rest
+  from_separated one [] text rest h = h
+  from_separated one (x ∷ xs) text rest h = (h.0, h.1, from_after one xs h.0 rest h.2)
+
+  -- and back
+  to_separated : (one : List ℕ → Reading A) (xs : List A) (text rest : List ℕ)
+      → Chain one (after_comma one) xs text rest → SeparatedBy one xs text rest
+  to_separated one [] text rest h = h
+  to_separated one (x ∷ xs) text rest h = (h.0, h.1, to_after one xs h.0 rest h.2)
+
+  -- the two ways to say that the next has a fault
+  from_fault : (one : List ℕ → Reading A) (xs : List A) (rest : List ℕ) (e : Fault) → NextHasFault one xs rest e
+      → next one (after_comma one) xs rest ≡ fatal e
+  from_fault one [] rest e h = h
+  from_fault one (x ∷ xs) rest e h = next_same (after_comma one) xs rest ∙ after_whole one rest h.0 h.1 ∙ h.2
+
+  -- and back
+  to_fault : (one : List ℕ → Reading A) (xs : List A) (rest : List ℕ) (e : Fault) → next one (after_comma one) xs rest ≡ fatal e
+      → NextHasFault one xs rest e
+  to_fault one [] rest e h = h
+  to_fault one (x ∷ xs) rest e h = after_parts one rest (fatal e) (sym (next_same (after_comma one) xs rest) ∙ h) (λ k. cc)
+
+  -- after the most that are there none is read
+  none_after_most : (one : List ℕ → Reading A) (text : List ℕ) (xs : List A) (rest : List ℕ) → LongestList one text xs rest
+      → GivesNone (next one (after_comma one) xs rest)
+  none_after_most one text xs rest h y after e =
+      let pushed = chain_push one (after_comma one) xs text rest y after (from_separated one xs text rest h.separated) e in
+      let fits = h.most (xs ++ y ∷ []) after (to_separated one (xs ++ y ∷ []) text after pushed) in
+      absurd (omega (arith, length-append xs (y ∷ [])))
+
+  -- a reading that gives none and has no fault misses
+  misses : (r : Reading A) → GivesNone r → ((e : Fault) → r ≢ fatal e) → r ≡ miss
+  misses miss none fine = refl
+  misses (fatal e) none fine = absurd (fine e refl)
+  misses (reads y after) none fine = absurd (none y after refl)
+
+  module _ (one : List ℕ → Reading A)
+      (no_longer : (text : List ℕ) (x : A) (rest : List ℕ) → one text ≡ reads x rest → length rest ≤ length text) where
+    pub after_shorter : (text : List ℕ) (x : A) (rest : List ℕ) → after_comma one text ≡ reads x rest → length rest < length text
+    after_shorter text x rest e =
+        let p = after_parts one text (reads x rest) e (λ k. cc) in
+        let h = no_longer p.0 x rest p.2 in
+        omega (arith, ap length p.1)
+
+    whole_by : (text : List ℕ) (r : Reading A) → one text ≡ r → Whole one text
+    unfolding outcome
+    whole_by text miss e = record { xs = []; rest = text; chain = refl; none = λ y after is. cc; ends = rw e refl }
+    whole_by text (fatal f) e = record { xs = []; rest = text; chain = refl; none = λ y after is. cc; ends = rw e refl }
+    whole_by text (reads x after) e =
+        let t = tail_is (after_comma one) refl after_shorter (length after) after (omega arith) in
+        let last = next_same (after_comma one) t.xs t.rest in
+        record {
+          xs = x ∷ t.xs;
+          rest = t.rest;
+          chain = (after, e, t.chain);
+          none = λ y suffix is. t.none y suffix (sym last ∙ is);
+          ends = rw e (ap (prepend (x ∷ [])) t.ends ∙ ended_more x t.xs t.rest (after_comma one t.rest)
+              ∙ ap (ended (x ∷ t.xs) t.rest) (sym last));
+        }
+
+    pub whole_is : (text : List ℕ) → Whole one text
+    whole_is text = whole_by text (one text) refl
+
+    -- what is read is that of the most that are there
+    read_is : (text : List ℕ) (xs : List A) (rest : List ℕ) → Chain one (after_comma one) xs text rest
+        → GivesNone (next one (after_comma one) xs rest) → separated_list one text ≡ outcome xs rest (next one (after_comma one) xs rest)
+    read_is text xs rest h none =
+        let w = whole_is text in
+        let same = chain_same one (after_comma one) w.xs xs text w.rest rest w.chain h w.none none in
+        subst (λ (ys : List A). separated_list one text ≡ outcome ys rest (next one (after_comma one) ys rest)) same.0
+        (subst (λ (t : List ℕ). separated_list one text ≡ outcome w.xs t (next one (after_comma one) w.xs t)) same.1 w.ends)
+
+    -- they are there, and no more are
+    pub longest : (text : List ℕ) (xs : List A) (rest : List ℕ) → Chain one (after_comma one) xs text rest
+        → GivesNone (next one (after_comma one) xs rest) → LongestList one text xs rest
+    longest text xs rest h none =
+        record {
+          separated = to_separated one xs text rest h;
+          most = λ others suffix k. chain_most one (after_comma one) xs others text rest suffix h
+              (from_separated one others text suffix k) none;
+        }
+
+    in_full : (text : List ℕ) (xs : List A) (rest : List ℕ) → separated_list one text ≡ reads xs rest → WholeList one text xs rest
+    in_full text xs rest e =
+        let w = whole_is text in
+        let p = outcome_reads w.xs xs w.rest rest (next one (after_comma one) w.xs w.rest) w.none (sym w.ends ∙ e) in
+        subst (λ (ys : List A). WholeList one text ys rest) p.0
+        (subst (λ (t : List ℕ). WholeList one text w.xs t) p.1
+        (record {
+          some = p.2;
+          longest = longest text w.xs w.rest w.chain w.none;
+          no_fault = λ f k. let d = sym p.3 ∙ from_fault one w.xs w.rest f k in cc;
+        }))
+
+    full_is_read : (text : List ℕ) (xs : List A) (rest : List ℕ) → WholeList one text xs rest → separated_list one text ≡ reads xs rest
+    full_is_read text xs rest h =
+        let none = none_after_most one text xs rest h.longest in
+        let last = misses (next one (after_comma one) xs rest) none (λ f k. h.no_fault f (to_fault one xs rest f k)) in
+        read_is text xs rest (from_separated one xs text rest h.longest.separated) none ∙ ap (outcome xs rest) last
+        ∙ outcome_is_reads xs rest h.some
+
+    pub the_most_is_read : TheMostIsRead one
+    the_most_is_read text xs rest = (in_full text xs rest, full_is_read text xs rest)
+
+    fault_is : (text : List ℕ) (e : Fault) (xs : List A) (rest : List ℕ) → LongestList one text xs rest
+        → NextHasFault one xs rest e → separated_list one text ≡ fatal e
+    fault_is text e xs rest h k =
+        read_is text xs rest (from_separated one xs text rest h.separated) (none_after_most one text xs rest h)
+        ∙ ap (outcome xs rest) (from_fault one xs rest e k) ∙ outcome_is_fatal xs rest e
+
+    pub the_next_has_the_fault : TheNextHasTheFault one
+    the_next_has_the_fault text e = (
+      (λ h.
+          let w = whole_is text in
+          let last = outcome_fatal w.xs w.rest (next one (after_comma one) w.xs w.rest) e (sym w.ends ∙ h) in
+          (w.xs, w.rest, longest text w.xs w.rest w.chain w.none, to_fault one w.xs w.rest e last)),
+      (λ h. fault_is text e h.0 h.1 h.2 h.3),
+    )
+
+    first_by : (text : List ℕ) (xs : List A) (rest : List ℕ) → Chain one (after_comma one) xs text rest → xs ≡ []
+        → next one (after_comma one) xs rest ≡ miss → one text ≡ miss
+    first_by text [] rest h e last = ap one h ∙ last
+    first_by text (x ∷ xs) rest h e last = absurd (cc)
+
+    pub the_first_misses : TheFirstMisses one
+    the_first_misses text = (
+      (λ h.
+          let w = whole_is text in
+          let p = outcome_miss w.xs w.rest (next one (after_comma one) w.xs w.rest) w.none (sym w.ends ∙ h) in
+          first_by text w.xs w.rest w.chain p.0 p.1),
+      (λ e. rw e refl),
+    )

@@ -1,0 +1,117 @@
+-- What is left after what was read is no longer than the text.
+use Rattle.std.proofs.Common.{◌≡◌, ℕ, ◌+◌, ◌≤◌, List, [], ◌∷◌, length, drop, Bool, true, false, cond, refl, ap, arith, length-drop}
+use Rattle.lp_format.specs.format.Readings.{Fault, Read, Reading, miss, fatal, reads, ◌>>=◌, ◌otherwise◌}
+use Rattle.lp_format.specs.format.Names.{NameKind, a_tag_key, a_tag_value, a_field_key, name}
+use Rattle.lp_format.specs.format.Values.{value, integer_at, unsigned_at, float_at, string_at, boolean_at, body_len}
+use Rattle.lp_format.specs.format.Values.{true_words, false_words}
+use Rattle.lp_format.specs.format.Lines.{byte, key_value, tag, field}
+
+-- what the reading leaves is no longer than the text
+pub record IsNoLonger {A : Type 0} (text : List ℕ) (r : Reading A) : Type 0 where
+  pub holds : (x : A) (rest : List ℕ) → r ≡ reads x rest → length rest ≤ length text
+
+-- a miss leaves nothing
+none_left : {A : Type 0} (text : List ℕ) → IsNoLonger {A = A} text miss
+none_left text = record { holds = λ x rest e. absurd (cc) }
+
+-- a fault leaves nothing
+fault_left : {A : Type 0} (text : List ℕ) (f : Fault) → IsNoLonger {A = A} text (fatal f)
+fault_left text f = record { holds = λ x rest e. absurd (cc) }
+
+-- a reading by what it leaves
+some_left : {A : Type 0} (text : List ℕ) (x : A) (rest : List ℕ) → length rest ≤ length text → IsNoLonger text (reads x rest)
+some_left text x rest h = record { holds = λ y after e. let same : rest ≡ after = cc in omega (arith, ap length same) }
+
+-- a part of the text is dropped
+dropped : {A : Type 0} (text : List ℕ) (n : ℕ) (x : A) → IsNoLonger text (reads x (drop n text))
+dropped text n x = some_left text x (drop n text) (omega (arith, length-drop n text))
+
+-- either of two
+either : {A : Type 0} (text : List ℕ) (b : Bool) (r s : Reading A) → IsNoLonger text r → IsNoLonger text s → IsNoLonger text (cond b r s)
+either text true r s h k = h
+either text false r s h k = k
+
+-- the first of two that does not miss
+one_of_two : {A : Type 0} (text : List ℕ) (r s : Reading A) → IsNoLonger text r → IsNoLonger text s → IsNoLonger text (r otherwise s)
+one_of_two text miss s h k = k
+one_of_two text (fatal e) s h k = h
+one_of_two text (reads x rest) s h k = h
+
+-- one after another
+and_then : {A B : Type 0} (text : List ℕ) (r : Reading A) (f : Read A → Reading B) → IsNoLonger text r
+    → ((x : Read A) → IsNoLonger x.rest (f x)) → IsNoLonger text (r >>= f)
+and_then text miss f h k = none_left text
+and_then text (fatal e) f h k = fault_left text e
+and_then text (reads x rest) f h k =
+    record {
+      holds = λ y after e.
+          let near = (k (record { value = x; rest = rest })).holds y after e in
+          let far = h.holds x rest refl in
+          omega arith;
+    }
+
+-- a byte
+byte_no_longer : (b : ℕ) (text : List ℕ) → IsNoLonger text (byte b text)
+byte_no_longer b [] = none_left []
+byte_no_longer b (c ∷ rest) = either (c ∷ rest) _ (reads b rest) miss (some_left (c ∷ rest) b rest (omega arith)) (none_left (c ∷ rest))
+
+-- a name
+name_no_longer : (kind : NameKind) (text : List ℕ) → IsNoLonger text (name kind text)
+unfolding name
+name_no_longer kind text = either text _ _ _ (none_left text) (either text _ _ _ (fault_left text _) (dropped text _ _))
+
+-- an integer
+integer_no_longer : (text : List ℕ) → IsNoLonger text (integer_at text)
+unfolding integer_at
+integer_no_longer text = either text _ _ _ (either text _ _ _ (dropped text _ _) (fault_left text _)) (none_left text)
+
+-- an unsigned integer
+unsigned_no_longer : (text : List ℕ) → IsNoLonger text (unsigned_at text)
+unfolding unsigned_at
+unsigned_no_longer text = either text _ _ _ (either text _ _ _ (dropped text _ _) (fault_left text _)) (none_left text)
+
+-- a float
+float_no_longer : (text : List ℕ) → IsNoLonger text (float_at text)
+unfolding float_at
+float_no_longer text = either text _ _ _ (none_left text) (dropped text _ _)
+
+-- a string
+string_no_longer : (text : List ℕ) → IsNoLonger text (string_at text)
+unfolding string_at
+string_no_longer [] = none_left []
+string_no_longer (b ∷ after) =
+    either (b ∷ after) _ _ _ (some_left (b ∷ after) _ _ (omega (arith, length-drop (body_len after + 1) after))) (none_left (b ∷ after))
+
+-- a boolean
+boolean_no_longer : (b : Bool) (words : List (List ℕ)) (text : List ℕ) → IsNoLonger text (boolean_at b words text)
+unfolding boolean_at
+boolean_no_longer b words text = either text _ _ _ (none_left text) (dropped text _ _)
+
+-- a value
+value_no_longer : (text : List ℕ) → IsNoLonger text (value text)
+unfolding value
+value_no_longer text =
+    let two = one_of_two text (integer_at text) (unsigned_at text) (integer_no_longer text) (unsigned_no_longer text) in
+    let three = one_of_two text _ (float_at text) two (float_no_longer text) in
+    let four = one_of_two text _ (string_at text) three (string_no_longer text) in
+    let five = one_of_two text _ (boolean_at true true_words text) four (boolean_no_longer true true_words text) in
+    one_of_two text _ (boolean_at false false_words text) five (boolean_no_longer false false_words text)
+
+-- the rest after a key and such a value
+key_value_no_longer : {V : Type 0} (kind : NameKind) (part : List ℕ → Reading V) → ((text : List ℕ) → IsNoLonger text (part text))
+    → (text : List ℕ) → IsNoLonger text (key_value kind part text)
+key_value_no_longer kind part part_no_longer text =
+    and_then text (name kind text) _ (name_no_longer kind text) λ key.
+    and_then key.rest (byte 61 key.rest) _ (byte_no_longer 61 key.rest) λ after.
+    and_then after.rest (part after.rest) _ (part_no_longer after.rest) λ x.
+    some_left x.rest _ x.rest (omega arith)
+
+-- the rest after a tag
+pub tag_no_longer : (text : List ℕ) → IsNoLonger text (tag text)
+unfolding tag
+tag_no_longer text = key_value_no_longer a_tag_key (name a_tag_value) (name_no_longer a_tag_value) text
+
+-- the rest after a field
+pub field_no_longer : (text : List ℕ) → IsNoLonger text (field text)
+unfolding field
+field_no_longer text = key_value_no_longer a_field_key value value_no_longer text

@@ -1,0 +1,72 @@
+-- A comment has no answer, so that another one in its place changes no answer.
+use Rattle.std.proofs.Common.{◌≡◌, ◌≢◌, ℕ, ◌==◌, ◌||◌, true, false, List, [], ◌∷◌, ◌++◌, Result, refl, sym, ap, ◌∙◌, arith, inl}
+use Rattle.std.proofs.Common.{inr}
+use Rattle.std.specs.List.{All}
+use Rattle.std.proofs.lemmas.Bool.{and_parts, cases_Bool, false≢true, ne_eqb}
+use Rattle.std.proofs.lemmas.Grind.{common_steps, flat_map-append}
+use Rattle.std.proofs.lemmas.List.Elements.{All-head, All-tail}
+use Rattle.lp_format.specs.format.Dialects.{Dialect, Strict}
+use Rattle.lp_format.specs.format.Items.{answers_of, answers_of_piece}
+use Rattle.lp_format.specs.laws.Laws.{CommentTextIsIgnored}
+use Rattle.lp_format.specs.format.Lines.{Line}
+use Rattle.lp_format.specs.format.Pieces.{begins_comment, IsComment}
+use Rattle.lp_format.specs.format.Readings.{Fault}
+use Rattle.lp_format.specs.format.Trimming.{trimmed}
+use Rattle.lp_format.proofs.lemmas.split.SplitPieces.{begins_comment-append, comment_replaced, piece_is_comment, same_pieces}
+use Rattle.lp_format.proofs.lemmas.line.TrimLemmas.{is_blank, left_of, trimmed_is}
+
+-- nothing is left of a line inside a comment
+inside_left : (text : List ℕ) → All (λ b. b ≢ 10) text → left_of true text ≡ []
+inside_left [] h = refl
+inside_left (b ∷ text) h =
+    rw (ne_eqb b 10 (All-head (λ c. c ≢ 10) b text h)) (inside_left text (All-tail (λ c. c ≢ 10) b text h))
+
+-- a space and a tab are blanks
+blank_is : (b : ℕ) → (b == 32 || b == 9) ≡ true → is_blank b ≡ true
+blank_is b e = grind (arith, common_steps)
+
+-- nothing is left of a comment
+comment_left : (text : List ℕ) → begins_comment text ≡ true → All (λ b. b ≢ 10) text → left_of false text ≡ []
+comment_left [] e h = absurd (false≢true e)
+comment_left (b ∷ text) e h =
+    let on : (b == 10) ≡ false = ne_eqb b 10 (All-head (λ c. c ≢ 10) b text h) in
+    let rest = All-tail (λ c. c ≢ 10) b text h in
+    elim (cases_Bool (b == 35)) [
+      | inl sharp ↦ rw (on, sharp) (inside_left text rest)
+      | inr plain ↦
+          let after = and_parts (b == 32 || b == 9) (begins_comment text) (rw plain at e) in
+          rw (on, plain, blank_is b after.0) (comment_left text after.1 rest)
+    ]
+
+-- a comment has no answer
+comment_answers : (piece : List ℕ) → IsComment piece → answers_of_piece Strict piece ≡ []
+unfolding answers_of_piece
+comment_answers piece h =
+    let none : trimmed piece ≡ [] = trimmed_is piece ∙ comment_left piece h.0 h.1 in
+    rw none refl
+
+-- a piece without answers adds none to those of the pieces around it
+answers_without : (dialect : Dialect) (before : List (List ℕ)) (piece : List ℕ) (after : List (List ℕ))
+    → answers_of_piece dialect piece ≡ []
+    → answers_of dialect (before ++ piece ∷ after) ≡ answers_of dialect before ++ answers_of dialect after
+answers_without dialect before piece after none =
+    flat_map-append (answers_of_piece dialect) before (piece ∷ after)
+    ∙ ap (λ (l : List (Result Line Fault)). answers_of dialect before ++ (l ++ answers_of dialect after)) none
+
+-- other bytes after the `#` of a comment leave the other pieces and all answers as they are
+pub comment_text_is_ignored : CommentTextIsIgnored
+comment_text_is_ignored front old new before after text answers f n h k =
+    let other = comment_replaced before front old new after text f n h in
+    let was = piece_is_comment before (front ++ old) after text (begins_comment-append front old f) h in
+    let now = piece_is_comment before (front ++ new) after other.0 (begins_comment-append front new f) other.1 in (
+      other.0,
+      other.1,
+      record {
+        pieces = before ++ (front ++ new) ∷ after;
+        are = other.1;
+        answered =
+            k.answered ∙ ap (answers_of Strict) (same_pieces Strict refl k.are h)
+            ∙ answers_without Strict before (front ++ old) after (comment_answers (front ++ old) was)
+            ∙ sym (answers_without Strict before (front ++ new) after (comment_answers (front ++ new) now));
+      },
+    )

@@ -1,0 +1,107 @@
+-- How a spelling is read from left to right.
+use Rattle.std.proofs.Common.{◌≡◌, ◌≢◌, ℕ, suc, zero, ◌-◌, ◌<◌, List, [], ◌∷◌, length, drop, get_or, true, false, refl, sym, ap, ◌∙◌, arith}
+use Rattle.std.proofs.Common.{inl, inr}
+use Rattle.std.specs.Prelude.{◌==◌}
+use Rattle.std.proofs.lemmas.Bool.{cases_Bool, or_parts, eqb-false, eq-eqb, ne_eqb}
+use Rattle.lp_format.specs.format.Bytes.{is_one_of}
+use Rattle.lp_format.specs.format.Names.{NameKind, a_measurement, a_tag_key, a_tag_value, a_field_key, ends_in_backslash}
+use Rattle.lp_format.specs.format.Names.{escapable, is_escapable, read_text, logical, name, spelled, spelled_len}
+use Rattle.lp_format.specs.format.Escapes.{without_escapes}
+use Rattle.lp_format.specs.format.Readings.{miss, fatal, reads, ends_with_backslash}
+
+-- a byte that is no backslash stays
+pub without_escapes_plain_byte : (known : List ℕ) (b : ℕ) (rest : List ℕ) → b ≢ 92
+    → without_escapes known (b ∷ rest) ≡ b ∷ without_escapes known rest
+unfolding without_escapes
+without_escapes_plain_byte known b [] h = refl
+without_escapes_plain_byte known b (c ∷ rest) h = rw (ne_eqb b 92 h) refl
+
+-- a known escape gives its second byte
+pub without_escapes_known : (known : List ℕ) (c : ℕ) (rest : List ℕ) → is_one_of known c ≡ true
+    → without_escapes known (92 ∷ c ∷ rest) ≡ c ∷ without_escapes known rest
+unfolding without_escapes
+without_escapes_known known c rest h = rw h refl
+
+-- a text that holds no backslash
+abbrev pub HasNoBackslash : List ℕ → Type 0
+HasNoBackslash text = (i : ℕ) → i < length text → get_or text i 0 ≢ 92
+
+-- what holds no backslash is its own logical text
+pub without_escapes_same : (known : List ℕ) (text : List ℕ) → HasNoBackslash text → without_escapes known text ≡ text
+unfolding without_escapes
+without_escapes_same known [] none = refl
+without_escapes_same known (b ∷ text) none =
+    without_escapes_plain_byte known b text (none 0 (omega arith))
+    ∙ ap (λ (xs : List ℕ). b ∷ xs) (without_escapes_same known text (λ i l. none (suc i) (omega arith)))
+
+-- a backslash may escape a backslash
+pub escapable_backslash : (kind : NameKind) → is_escapable kind 92 ≡ true
+escapable_backslash a_measurement = refl
+escapable_backslash a_tag_key = refl
+escapable_backslash a_tag_value = refl
+escapable_backslash a_field_key = refl
+
+-- the last byte of a longer text
+ends_cons : (b : ℕ) (xs : List ℕ) → 0 < length xs → ends_in_backslash (b ∷ xs) ≡ ends_in_backslash xs
+ends_cons b [] h = absurd (omega arith)
+ends_cons b (c ∷ xs) h =
+    let e : length (b ∷ c ∷ xs) - 1 ≡ suc (length (c ∷ xs) - 1) = omega arith in
+    rw e refl
+
+logical_nonempty : (kind : NameKind) (text : List ℕ) → 0 < length text → 0 < length (logical kind text)
+unfolding without_escapes
+logical_nonempty kind [] h = absurd (omega arith)
+logical_nonempty kind (b ∷ []) h = h
+logical_nonempty kind (b ∷ c ∷ rest) h =
+    elim (cases_Bool (b == 92)) [
+      | inl e ↦ elim (cases_Bool (is_escapable kind c)) [ inl k ↦ rw (e, k) (omega arith) | inr k ↦ rw (e, k) (omega arith) ]
+      | inr e ↦ rw e (omega arith)
+    ]
+
+logical_ends_cons : (kind : NameKind) (c : ℕ) (rest : List ℕ) → ends_in_backslash (logical kind rest) ≡ ends_in_backslash rest
+    → ends_in_backslash (c ∷ logical kind rest) ≡ ends_in_backslash (c ∷ rest)
+unfolding without_escapes
+logical_ends_cons kind c [] h = refl
+logical_ends_cons kind c (d ∷ rest) h =
+    ends_cons c (logical kind (d ∷ rest)) (logical_nonempty kind (d ∷ rest) (omega arith)) ∙ h ∙ sym (ends_cons c (d ∷ rest) (omega arith))
+
+-- a name ends in a backslash if its spelling does
+pub logical_ends : (kind : NameKind) (text : List ℕ) → ends_in_backslash (logical kind text) ≡ ends_in_backslash text
+unfolding without_escapes
+logical_ends kind [] = refl
+logical_ends kind (b ∷ []) = refl
+logical_ends kind (b ∷ c ∷ rest) =
+    elim (cases_Bool (b == 92)) [
+      | inl e ↦
+          elim (cases_Bool (is_escapable kind c)) [
+            | inl k ↦ rw (e, k) (logical_ends_cons kind c rest (logical_ends kind rest) ∙ sym (ends_cons b (c ∷ rest) (omega arith)))
+            | inr k ↦ rw (e, k) (ends_cons b (c ∷ logical kind rest) (omega arith)
+                ∙ logical_ends_cons kind c rest (logical_ends kind rest) ∙ sym (ends_cons b (c ∷ rest) (omega arith)))
+          ]
+      | inr e ↦ rw e (logical_ends_cons kind b (c ∷ rest) (logical_ends kind (c ∷ rest)))
+    ]
+
+-- a text without a backslash, by its test
+pub no_backslash : (text : List ℕ) → is_one_of text 92 ≡ false → HasNoBackslash text
+no_backslash [] h i l = absurd (omega arith)
+no_backslash (b ∷ text) h zero l = eqb-false b 92 (or_parts (b == 92) (is_one_of text 92) h).0
+no_backslash (b ∷ text) h (suc i) l = no_backslash text (or_parts (b == 92) (is_one_of text 92) h).1 i (omega arith)
+
+-- the three outcomes of a name
+pub name_misses : (kind : NameKind) (text : List ℕ) → length (spelled kind text) ≡ 0 → name kind text ≡ miss
+unfolding name
+name_misses kind text h = rw (eq-eqb _ _ h) refl
+
+pub name_fatal : (kind : NameKind) (text : List ℕ) → 0 < length (spelled kind text) → ends_in_backslash (spelled kind text) ≡ true
+    → name kind text ≡ fatal ends_with_backslash
+unfolding name
+name_fatal kind text some h =
+    let ne : length (spelled kind text) ≡ 0 → ⊥ = λ e. absurd (omega arith) in
+    rw (ne_eqb _ _ ne, logical_ends kind (spelled kind text), h) refl
+
+pub name_reads : (kind : NameKind) (text : List ℕ) → 0 < length (spelled kind text) → ends_in_backslash (spelled kind text) ≡ false
+    → name kind text ≡ reads (read_text (escapable kind) (spelled kind text)) (drop (spelled_len kind text) text)
+unfolding name
+name_reads kind text some h =
+    let ne : length (spelled kind text) ≡ 0 → ⊥ = λ e. absurd (omega arith) in
+    rw (ne_eqb _ _ ne, logical_ends kind (spelled kind text), h) refl

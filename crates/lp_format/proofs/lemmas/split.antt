@@ -1,0 +1,4 @@
+pub mod SplitBare
+pub mod SplitMachine
+pub mod SplitPieces
+pub mod SplitShape

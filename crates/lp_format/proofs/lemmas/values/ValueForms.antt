@@ -1,0 +1,110 @@
+-- The first bytes of a value decide its form.
+use Rattle.std.proofs.Common.{◌≡◌, ◌≢◌, ◌⊎◌, ◌∙◌, ℕ, ◌<◌, ◌≤◌, List, [], ◌∷◌, true, false, slice_index, refl, sym, arith, inl, inr}
+use Rattle.std.specs.Prelude.{◌==◌, ◌||◌}
+use Rattle.std.specs.Char.{is_ascii_digit}
+use Rattle.std.proofs.lemmas.Bool.{cases_eq, eq-eqb, eqb-false, ne_eqb, or_parts}
+use Rattle.std.proofs.lemmas.Grind.{common_steps}
+use Rattle.lp_format.specs.format.Readings.{Reading, Text, miss, fatal, reads, ◌otherwise◌}
+use Rattle.lp_format.specs.format.Values.{Value, value, integer_at, unsigned_at, float_at, string_at, boolean_at, integer_len}
+use Rattle.lp_format.specs.format.Values.{digits_len, float_len, longer_front, true_words, false_words}
+use Rattle.lp_format.proofs.lemmas.literals.FloatLemmas.{float_misses}
+use Rattle.lp_format.proofs.lemmas.values.ValueLemmas.{boolean_misses, digits_of_minus, digits_of_plain, integer_misses}
+use Rattle.lp_format.proofs.lemmas.values.ValueLemmas.{integer_unmarked, unsigned_decides, unsigned_misses, unsigned_unmarked}
+
+-- where no integer is, no digits are
+no_digits : (text : List ℕ) → integer_len text ≡ 0 → digits_len text ≡ 0
+no_digits text none =
+    elim (cases_eq (slice_index text 0) 45) [
+      | inl minus ↦ digits_of_minus text minus
+      | inr plain ↦ digits_of_plain text plain ∙ none
+    ]
+
+-- and no number
+pub no_number : (text : List ℕ) → integer_len text ≡ 0 → (integer_at text otherwise unsigned_at text otherwise float_at text) ≡ miss
+no_number text none =
+    let no_float : float_len text ≡ 0 = rw (eq-eqb (integer_len text) 0 none) refl in
+    rw (integer_misses text none, unsigned_misses text (no_digits text none), float_misses text no_float) refl
+
+-- digits and `u`, without `-`
+pub unsigned_is : (text : List ℕ) → 0 < integer_len text → slice_index text (integer_len text) ≢ 105
+    → slice_index text (integer_len text) ≡ 117 → slice_index text 0 ≢ 45
+    → (integer_at text otherwise unsigned_at text otherwise float_at text) ≡ unsigned_at text
+unsigned_is text some no_i mark plain =
+    let same = digits_of_plain text plain in
+    unsigned_decides text (float_at text) (integer_unmarked text no_i) (rw same some) (rw same mark)
+
+-- without either mark, or with `-` at the start of `u`, it is a float or nothing
+pub float_is : (text : List ℕ) → slice_index text (integer_len text) ≢ 105
+    → (slice_index text (integer_len text) ≢ 117) ⊎ (slice_index text 0 ≡ 45)
+    → (integer_at text otherwise unsigned_at text otherwise float_at text) ≡ float_at text
+float_is text no_i (inl no_u) =
+    rw (integer_unmarked text no_i) (elim (cases_eq (slice_index text 0) 45) [
+      | inl minus ↦ rw (unsigned_misses text (digits_of_minus text minus)) refl
+      | inr plain ↦ rw (unsigned_unmarked text (λ mark. no_u (rw (digits_of_plain text plain) at mark))) refl
+    ])
+float_is text no_i (inr minus) = rw (integer_unmarked text no_i, unsigned_misses text (digits_of_minus text minus)) refl
+
+-- a miss after a reading changes nothing
+otherwise_miss : (r : Reading (Value Text)) → (r otherwise miss) ≡ r
+otherwise_miss miss = refl
+otherwise_miss (fatal fault) = refl
+otherwise_miss (reads v rest) = refl
+
+-- a digit or `-` is neither a quote nor a letter
+number_byte : (b : ℕ) → (is_ascii_digit b || b == 45) ≡ true → (45 ≤ b) × (b ≤ 57)
+number_byte b first = (grind (arith, common_steps), grind (arith, common_steps))
+
+-- no integer is where the first byte is neither a digit nor `-`
+no_integer : (text : List ℕ) → (is_ascii_digit (slice_index text 0) || slice_index text 0 == 45) ≡ false → integer_len text ≡ 0
+no_integer [] other = refl
+no_integer (b ∷ rest) other =
+    let parts = or_parts (is_ascii_digit b) (b == 45) other in
+    let no_minus : (45 == b) ≡ false = ne_eqb 45 b (λ e. absurd (eqb-false b 45 parts.1 (sym e))) in
+    rw (no_minus, parts.0) refl
+
+-- a word that begins with another byte is not at the start
+word_misses : (text word : List ℕ) (n w : ℕ) → slice_index text 0 ≢ w → longer_front text n (w ∷ word) ≡ n
+word_misses [] word n w other = refl
+word_misses (b ∷ rest) word n w other = rw (ne_eqb w b (λ e. absurd (other (sym e)))) refl
+
+-- no Boolean is at the start of a text that begins with a byte below the letters
+no_boolean : (text : List ℕ) → slice_index text 0 < 70
+    → (boolean_at true true_words text ≡ miss) × (boolean_at false false_words text ≡ miss)
+no_boolean text below =
+    let t : slice_index text 0 ≢ 116 = λ e. absurd (omega arith) in
+    let T : slice_index text 0 ≢ 84 = λ e. absurd (omega arith) in
+    let f : slice_index text 0 ≢ 102 = λ e. absurd (omega arith) in
+    let F : slice_index text 0 ≢ 70 = λ e. absurd (omega arith) in
+    (boolean_misses true true_words text (simp word_misses), boolean_misses false false_words text (simp word_misses))
+
+-- no string is where the first byte is no quote
+no_string : (text : List ℕ) → slice_index text 0 ≢ 34 → string_at text ≡ miss
+unfolding string_at
+no_string [] other = refl
+no_string (b ∷ rest) other = rw (ne_eqb b 34 other) refl
+
+-- a digit or `-` at the start: a number
+pub number_form : (text : List ℕ) → (is_ascii_digit (slice_index text 0) || slice_index text 0 == 45) ≡ true
+    → value text ≡ (integer_at text otherwise unsigned_at text otherwise float_at text)
+unfolding value
+number_form text first =
+    let range = number_byte (slice_index text 0) first in
+    let no_word = no_boolean text (omega (arith, range.1)) in
+    let no_text = no_string text (λ e. absurd (omega (arith, e, range.0))) in
+    let same = otherwise_miss (integer_at text otherwise unsigned_at text otherwise float_at text) in
+    rw (no_text, no_word.0, no_word.1, same, same, same) refl
+
+-- a quote at the start: a text
+pub string_form : (text : List ℕ) → slice_index text 0 ≡ 34 → value text ≡ string_at text
+unfolding value
+string_form text first =
+    let number = no_number text (no_integer text (rw first refl)) in
+    let no_word = no_boolean text (omega (arith, first)) in
+    let same = otherwise_miss (string_at text) in
+    rw (number, no_word.0, no_word.1, same, same) refl
+
+-- else a Boolean
+pub boolean_form : (text : List ℕ) → (is_ascii_digit (slice_index text 0) || slice_index text 0 == 45) ≡ false → slice_index text 0 ≢ 34
+    → value text ≡ (boolean_at true true_words text otherwise boolean_at false false_words text)
+unfolding value
+boolean_form text other no_quote = rw (no_number text (no_integer text other), no_string text no_quote) refl

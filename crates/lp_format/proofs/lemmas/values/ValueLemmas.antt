@@ -1,0 +1,214 @@
+-- Numbers at the start of a text.
+use Rattle.std.proofs.Common.{◌≡◌, ◌≢◌, ℕ, zero, suc, ◌+◌, ◌-◌, ◌^◌, ◌<◌, ◌≤◌, List, [], ◌∷◌, length, take, drop, get_or, Bool, slice_index}
+use Rattle.std.proofs.Common.{true, false, refl, sym, ap, subst, arith, inl, inr, add-zero, zero-add, one-add}
+use Rattle.std.specs.Prelude.{◌==◌, if◌then◌else◌, IsUtf8, IsCharBoundary, ℤ, pos, negsuc, FitsSigned, leb, nat_lt}
+use Rattle.std.specs.Char.{is_ascii_digit, digit_value}
+use Rattle.std.specs.Int.{w64}
+use Rattle.std.specs.Str.Parse.{AllDigits, IsNumeral, digits_value, signed_digits_value}
+use Rattle.std.proofs.lemmas.Bool.{cases_Bool, cases_lt, false_from_ne_true, and_parts, eqb-false, eqb-true, eq-eqb, ne_eqb, leb-true}
+use Rattle.std.proofs.lemmas.Bool.{ltb-true, lt-ltb, le-leb, and_from}
+use Rattle.std.proofs.lemmas.List.{drop-drop, drop_more, get_or-drop, get_or_past, length-drop, length-take, length-take-le}
+use Rattle.std.proofs.lemmas.List.Sums.{prefix_len_passes, prefix_len-le-length}
+use Rattle.std.proofs.lemmas.Grind.{common_steps}
+use Rattle.std.proofs.lemmas.Str.{IsCharBoundary-after_ascii, IsCharBoundary-start, digit_value_digit}
+use Rattle.lp_format.specs.format.Values.{Value, digits_len, integer, integer_at, integer_len, side_of, fits_i64, boolean}
+use Rattle.lp_format.specs.format.Values.{boolean_at, unsigned, unsigned_at, word_len}
+use Rattle.lp_format.specs.format.Readings.{Reading, Text, ◌otherwise◌, above, miss, fatal, reads, integer_value_invalid}
+use Rattle.lp_format.specs.format.Readings.{uinteger_value_invalid}
+
+-- a digit, by its test
+pub digit_range : (b : ℕ) → is_ascii_digit b ≡ true → (48 ≤ b) × (b ≤ 57)
+digit_range b h = grind (arith, common_steps)
+
+-- the digits at the start are digits
+pub all_digits : (text : List ℕ) → AllDigits 10 (take (digits_len text) text)
+all_digits [] = tt
+all_digits (b ∷ text) =
+    elim (cases_Bool (is_ascii_digit b)) [
+      | inl yes_digit ↦
+          let range = digit_range b yes_digit in
+          let value : digit_value b + 48 ≡ b = digit_value_digit b range in
+          rw (yes_digit, one-add) (omega arith, all_digits text)
+      | inr other ↦ rw other tt
+    ]
+
+-- what fits an i64, by its test
+pub fits_from_test : (z : ℤ) → fits_i64 z ≡ true → FitsSigned w64 z
+fits_from_test (pos n) h = record { sfits = ltb-true n (2 ^ 63) h }
+fits_from_test (negsuc n) h = record { sfits = negative_fits n (and_parts (leb n 9223372036854775807) true h).0 }
+  where
+    negative_fits : (n : ℕ) → leb n 9223372036854775807 ≡ true → n < 9223372036854775808
+    negative_fits n h = omega (arith, leb-true n 9223372036854775807 h)
+
+pub test_from_fits : (z : ℤ) → FitsSigned w64 z → fits_i64 z ≡ true
+test_from_fits (pos n) h = lt-ltb n (2 ^ 63) h.sfits
+test_from_fits (negsuc n) h = and_from (leb n 9223372036854775807) true (le-leb n 9223372036854775807 (omega (arith, h.sfits))) refl
+
+-- after digits a text may be cut
+pub digits_boundary : (text : List ℕ) (sign d : ℕ) → IsUtf8 text → d ≡ digits_len (drop sign text) → 0 < d → IsCharBoundary text (sign + d)
+digits_boundary text sign d utf8 e some =
+    let last : is_ascii_digit (get_or (drop sign text) (d - 1) 0) ≡ true = prefix_len_passes is_ascii_digit
+    (drop sign text) (d - 1) 0 (omega arith) in
+    let byte : is_ascii_digit (get_or text (sign + (d - 1)) 0) ≡ true = rw (← get_or-drop sign text (d - 1) 0) last in
+    let range = digit_range (get_or text (sign + (d - 1)) 0) byte in
+    let within : d ≤ length text - sign = omega (arith, prefix_len-le-length is_ascii_digit (drop sign text), length-drop sign text) in
+    let next : sign + d ≡ sign + (d - 1) + 1 = omega arith in
+    rw next (IsCharBoundary-after_ascii text (sign + (d - 1)) utf8 (omega arith) (omega arith))
+
+-- the same, after no digits too
+pub digits_end : (text : List ℕ) (d : ℕ) → IsUtf8 text → d ≡ digits_len text → IsCharBoundary text d
+digits_end text zero utf8 e = IsCharBoundary-start text utf8
+digits_end text (suc d) utf8 e = subst (IsCharBoundary text) (zero-add (suc d)) (digits_boundary text 0 (suc d) utf8 e (omega arith))
+
+-- and after a sign and digits
+pub negative_end : (text : List ℕ) (r : ℕ) → IsUtf8 text
+    → r ≡ (if digits_len (drop 1 text) == 0 then 0 else 1 + digits_len (drop 1 text)) → IsCharBoundary text r
+negative_end text r utf8 e =
+    elim (cases_Bool (digits_len (drop 1 text) == 0)) [
+      | inl none ↦ rw (e, none) (IsCharBoundary-start text utf8)
+      | inr some ↦ rw (e, some)
+          (digits_boundary text 1 (digits_len (drop 1 text)) utf8 refl
+          (omega (arith, eqb-false (digits_len (drop 1 text)) 0 some)))
+    ]
+
+-- digits at the start, where there is one
+pub front_numeral : (text : List ℕ) → digits_len text ≢ 0 → IsNumeral 10 (take (digits_len text) text)
+front_numeral text some =
+    let len = length-take-le (digits_len text) text (prefix_len-le-length is_ascii_digit text) in
+    (omega arith, all_digits text)
+
+-- the outcomes of an integer
+pub integer_misses : (text : List ℕ) → integer_len text ≡ 0 → integer_at text ≡ miss
+unfolding integer_at
+integer_misses text e = rw (eq-eqb (integer_len text) 0 e) refl
+
+pub integer_unmarked : (text : List ℕ) → slice_index text (integer_len text) ≢ 105 → integer_at text ≡ miss
+unfolding integer_at
+integer_unmarked text other =
+    elim (cases_Bool (integer_len text == 0)) [
+      | inl none ↦ rw none refl
+      | inr some ↦ rw (some, ne_eqb (slice_index text (integer_len text)) 105 other) refl
+    ]
+
+pub integer_reads : (text : List ℕ) → 0 < integer_len text → slice_index text (integer_len text) ≡ 105
+    → fits_i64 (signed_digits_value 10 (take (integer_len text) text)) ≡ true
+    → integer_at text ≡ reads (integer (signed_digits_value 10 (take (integer_len text) text))) (drop (integer_len text + 1) text)
+unfolding integer_at
+integer_reads text some mark fits =
+    let ne : integer_len text ≡ 0 → ⊥ = λ e. absurd (omega arith) in
+    rw (ne_eqb (integer_len text) 0 ne, eq-eqb (slice_index text (integer_len text)) 105 mark, fits) refl
+
+pub integer_overflows : (text : List ℕ) → 0 < integer_len text → slice_index text (integer_len text) ≡ 105
+    → fits_i64 (signed_digits_value 10 (take (integer_len text) text)) ≡ false
+    → integer_at text ≡ fatal (integer_value_invalid (side_of (take (integer_len text) text)) (take (integer_len text) text))
+unfolding integer_at
+integer_overflows text some mark fits =
+    let ne : integer_len text ≡ 0 → ⊥ = λ e. absurd (omega arith) in
+    rw (ne_eqb (integer_len text) 0 ne, eq-eqb (slice_index text (integer_len text)) 105 mark, fits) refl
+
+-- the byte at a place, from what follows it
+pub byte_at_drop : (text rest : List ℕ) (n b : ℕ) → drop n text ≡ b ∷ rest → (slice_index text n ≡ b) × (drop (n + 1) text ≡ rest)
+byte_at_drop text rest n b e =
+    let at = ap (λ (xs : List ℕ). get_or xs 0 0) e in
+    let after = ap (λ (xs : List ℕ). drop 1 xs) e in
+    (rw (get_or-drop n text 0 0, add-zero n) at at, rw (drop-drop 1 n text) at after)
+
+-- and what follows a place, from its byte
+pub after_byte : (text : List ℕ) (n b : ℕ) → slice_index text n ≡ suc b → drop n text ≡ suc b ∷ drop (n + 1) text
+after_byte text n b e =
+    elim (cases_lt n (length text)) [
+      | inl within ↦ rw (drop_more text n 0 within, e) refl
+      | inr past ↦ let past_end : 0 ≡ suc b = rw (get_or_past text n 0 past) at e in absurd (omega arith)
+    ]
+
+-- what a parse of the number gives: where it fits
+pub integer_parsed : (text number rest : List ℕ) (z : ℤ) → number ≡ take (integer_len text) text → drop (integer_len text) text ≡ 105 ∷ rest
+    → 0 < length number → FitsSigned w64 (signed_digits_value 10 number) → z ≡ signed_digits_value 10 number
+    → integer_at text ≡ reads (integer z) rest
+integer_parsed text number rest z e marked some fits same =
+    let byte = byte_at_drop text rest (integer_len text) 105 marked in
+    let taken : 0 < integer_len text = omega (arith, length-take (integer_len text) text, ap length e) in
+    rw (same, e, ← byte.1) (integer_reads text taken byte.0 (test_from_fits _ (rw e at fits)))
+
+-- an integer and its mark decide
+pub integer_decides : (text : List ℕ) (other : Reading (Value Text)) → 0 < integer_len text → slice_index text (integer_len text) ≡ 105
+    → (integer_at text otherwise other) ≡ integer_at text
+unfolding integer_at
+integer_decides text other some mark =
+    let taken = ne_eqb (integer_len text) 0 (λ e. absurd (omega arith)) in
+    elim (cases_Bool (fits_i64 (signed_digits_value 10 (take (integer_len text) text)))) [
+      | inl fits ↦ rw (taken, eq-eqb (slice_index text (integer_len text)) 105 mark, fits) refl
+      | inr none ↦ rw (taken, eq-eqb (slice_index text (integer_len text)) 105 mark, none) refl
+    ]
+
+-- after a letter a text may be cut
+pub letter_boundary : (text : List ℕ) (n b : ℕ) → IsUtf8 text → slice_index text n ≡ suc b → suc b < 128 → IsCharBoundary text (n + 1)
+letter_boundary text n b utf8 e small =
+    elim (cases_lt n (length text)) [
+      | inl within ↦ IsCharBoundary-after_ascii text n utf8 within (omega (arith, e))
+      | inr past ↦ let past_end : 0 ≡ suc b = rw (get_or_past text n 0 past) at e in absurd (omega arith)
+    ]
+
+-- the digits at the start and the integer at the start
+pub digits_of_plain : (text : List ℕ) → slice_index text 0 ≢ 45 → digits_len text ≡ integer_len text
+digits_of_plain text other =
+    let no_minus : (45 == slice_index text 0) ≡ false = ne_eqb 45 (slice_index text 0) (λ e. other (sym e)) in
+    elim (cases_Bool (digits_len text == 0)) [
+      | inl none ↦ rw (no_minus, none) (eqb-true (digits_len text) 0 none)
+      | inr some ↦ rw (no_minus, some) (sym (zero-add (digits_len text)))
+    ]
+
+pub digits_of_minus : (text : List ℕ) → slice_index text 0 ≡ 45 → digits_len text ≡ 0
+digits_of_minus [] e = refl
+digits_of_minus (b ∷ rest) e = rw e refl
+
+-- the outcomes of an unsigned integer
+pub unsigned_misses : (text : List ℕ) → digits_len text ≡ 0 → unsigned_at text ≡ miss
+unfolding unsigned_at
+unsigned_misses text e = rw (eq-eqb (digits_len text) 0 e) refl
+
+pub unsigned_unmarked : (text : List ℕ) → slice_index text (digits_len text) ≢ 117 → unsigned_at text ≡ miss
+unfolding unsigned_at
+unsigned_unmarked text other =
+    elim (cases_Bool (digits_len text == 0)) [
+      | inl none ↦ rw none refl
+      | inr some ↦ rw (some, ne_eqb (slice_index text (digits_len text)) 117 other) refl
+    ]
+
+pub unsigned_reads : (text : List ℕ) → 0 < digits_len text → slice_index text (digits_len text) ≡ 117
+    → digits_value 10 (take (digits_len text) text) < 2 ^ 64
+    → unsigned_at text ≡ reads (unsigned (digits_value 10 (take (digits_len text) text))) (drop (digits_len text + 1) text)
+unfolding unsigned_at
+unsigned_reads text some mark small =
+    let ne : digits_len text ≡ 0 → ⊥ = λ e. absurd (omega arith) in
+    rw (ne_eqb (digits_len text) 0 ne, eq-eqb (slice_index text (digits_len text)) 117 mark, lt-ltb _ (2 ^ 64) small) refl
+
+pub unsigned_overflows : (text : List ℕ) → 0 < digits_len text → slice_index text (digits_len text) ≡ 117
+    → 2 ^ 64 ≤ digits_value 10 (take (digits_len text) text)
+    → unsigned_at text ≡ fatal (uinteger_value_invalid above (take (digits_len text) text))
+unfolding unsigned_at
+unsigned_overflows text some mark large =
+    let ne : digits_len text ≡ 0 → ⊥ = λ e. absurd (omega arith) in
+    let test : nat_lt (digits_value 10 (take (digits_len text) text)) (2 ^ 64) ≡ false =
+    false_from_ne_true _ (λ t. absurd (omega (arith, large, ltb-true _ (2 ^ 64) t))) in
+    rw (ne_eqb (digits_len text) 0 ne, eq-eqb (slice_index text (digits_len text)) 117 mark, test) refl
+
+-- digits and their mark decide
+pub unsigned_decides : (text : List ℕ) (other : Reading (Value Text)) → integer_at text ≡ miss → 0 < digits_len text
+    → slice_index text (digits_len text) ≡ 117
+    → (integer_at text otherwise unsigned_at text otherwise other) ≡ unsigned_at text
+unsigned_decides text other no_integer some mark =
+    elim (cases_lt (digits_value 10 (take (digits_len text) text)) (2 ^ 64)) [
+      | inl small ↦ rw (no_integer, unsigned_reads text some mark small) refl
+      | inr large ↦ rw (no_integer, unsigned_overflows text some mark large) refl
+    ]
+
+-- the outcomes of a Boolean
+pub boolean_misses : (b : Bool) (words : List (List ℕ)) (text : List ℕ) → word_len words text ≡ 0 → boolean_at b words text ≡ miss
+unfolding boolean_at
+boolean_misses b words text none = rw (eq-eqb (word_len words text) 0 none) refl
+
+pub boolean_reads : (b : Bool) (words : List (List ℕ)) (text : List ℕ) (n : ℕ) → word_len words text ≡ n → 0 < n
+    → boolean_at b words text ≡ reads (boolean b) (drop n text)
+unfolding boolean_at
+boolean_reads b words text n is some = rw (is, ne_eqb n 0 (λ e. absurd (omega arith))) refl

@@ -1,0 +1,64 @@
+-- What `{}` writes of values, series and lines. No backslash is doubled.
+use Rattle.std.specs.Prelude.{ℕ, zero, suc, ◌==◌, ℤ, List, [], ◌∷◌, ◌++◌, not, true, false, codes, decimal, Option, Some, None}
+use Rattle.std.specs.Fmt.{signed_decimal}
+use Rattle.std.specs.List.{filter, join_by}
+use Rattle.lp_format.specs.format.Bytes.{space, comma, equals, backslash, letter_i, letter_u}
+use Rattle.lp_format.specs.format.Escapes.{escaped}
+use Rattle.lp_format.specs.format.Names.{NameKind, a_measurement, a_tag_key, a_tag_value, a_field_key, escapable}
+use Rattle.lp_format.specs.format.Readings.{Text}
+use Rattle.lp_format.specs.format.Values.{quotable, Value, integer, unsigned, float, string, boolean}
+use Rattle.lp_format.specs.format.Points.{Pair}
+use Rattle.lp_format.specs.format.Lines.{Line}
+
+-- the bytes that a backslash is shown before: those that one escapes, but for the backslash
+abbrev pub shown_escapes : List ℕ → List ℕ
+shown_escapes known = filter (λ b. not (b == backslash)) known
+
+-- a name of this kind
+abbrev pub shown_name : NameKind → Text → List ℕ
+shown_name kind name = escaped (shown_escapes (escapable kind)) name.bytes
+
+-- a value: a string has no quotes around it
+abbrev pub shown_value : Value Text → List ℕ
+shown_value (integer z) = signed_decimal z ++ letter_i ∷ []
+shown_value (unsigned n) = decimal n ++ letter_u ∷ []
+shown_value (float text) = text
+shown_value (string text) = escaped (shown_escapes quotable) text.bytes
+shown_value (boolean true) = codes "true"
+shown_value (boolean false) = codes "false"
+
+-- what is shown of a tag
+abbrev pub shown_tag : Pair Text Text → List ℕ
+shown_tag t = shown_name a_tag_key t.key ++ equals ∷ shown_name a_tag_value t.value
+
+-- what is shown of a field
+abbrev pub shown_field : Pair Text (Value Text) → List ℕ
+shown_field f = shown_name a_field_key f.key ++ equals ∷ shown_value f.value
+
+-- what comes before the item at this place in a list with commas
+abbrev pub comma_before : ℕ → List ℕ
+comma_before zero = []
+comma_before (suc place) = comma ∷ []
+
+-- a comma and the tags, where there is a tag set, and be it empty
+abbrev pub shown_tags : Option (List (Pair Text Text)) → List ℕ
+shown_tags None = []
+shown_tags (Some tags) = comma ∷ join_by shown_tag (comma ∷ []) tags
+
+-- a measurement and a tag set
+abbrev pub shown_series : Text → Option (List (Pair Text Text)) → List ℕ
+shown_series measurement tags = shown_name a_measurement measurement ++ shown_tags tags
+
+-- a space and the fields, where there is one
+abbrev pub shown_fields : List (Pair Text (Value Text)) → List ℕ
+shown_fields [] = []
+shown_fields (f ∷ fields) = space ∷ join_by shown_field (comma ∷ []) (f ∷ fields)
+
+-- a space and the timestamp, where there is one
+abbrev pub shown_timestamp : Option ℤ → List ℕ
+shown_timestamp None = []
+shown_timestamp (Some t) = space ∷ signed_decimal t
+
+-- a line
+abbrev pub shown_line : Line → List ℕ
+shown_line l = shown_series l.measurement l.tags ++ shown_fields l.fields ++ shown_timestamp l.timestamp

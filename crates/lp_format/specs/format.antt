@@ -1,0 +1,12 @@
+pub mod Bytes
+pub mod Dialects
+pub mod Escapes
+pub mod Readings
+pub mod Names
+pub mod Values
+pub mod Trimming
+pub mod Points
+pub mod Piece
+pub mod Pieces
+pub mod Lines
+pub mod Items

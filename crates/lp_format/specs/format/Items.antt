@@ -1,0 +1,32 @@
+-- The answers for a text, one for each piece that holds more than blanks and comments, and its items.
+use Rattle.std.specs.Prelude.{◌≡◌, ℕ, ◌==◌, List, [], ◌∷◌, length, map, if◌then◌else◌, Result, Ok, Err}
+use Rattle.std.specs.List.{flat_map}
+use Rattle.lp_format.specs.format.Dialects.{Dialect}
+use Rattle.lp_format.specs.format.Readings.{Fault}
+use Rattle.lp_format.specs.format.Points.{Point}
+use Rattle.lp_format.specs.format.Trimming.{trimmed}
+use Rattle.lp_format.specs.format.Pieces.{Pieces}
+use Rattle.lp_format.specs.format.Lines.{Line, answer, point_of}
+
+-- the answer for a piece: none where nothing is left of it when it is trimmed
+unfoldable pub answers_of_piece : Dialect → List ℕ → List (Result Line Fault)
+answers_of_piece dialect piece = if length (trimmed piece) == 0 then [] else answer dialect (trimmed piece) ∷ []
+
+-- the answers for pieces, in order
+abbrev pub answers_of : Dialect → List (List ℕ) → List (Result Line Fault)
+answers_of dialect pieces = flat_map (answers_of_piece dialect) pieces
+
+-- the answers for a text are those of its pieces, in order
+pub record HasAnswers (dialect : Dialect) (text : List ℕ) (answers : List (Result Line Fault)) : Type 0 where
+  pub pieces : List (List ℕ)
+  pub are : Pieces dialect text pieces
+  pub answered : answers ≡ answers_of dialect pieces
+
+-- an answer by its logical texts: a point, or a fault
+abbrev pub item_of : Result Line Fault → Result Point Fault
+item_of (Ok line) = Ok (point_of line)
+item_of (Err fault) = Err fault
+
+-- the items of a text are its answers, by their logical texts
+abbrev pub HasItems : Dialect → List ℕ → List (Result Point Fault) → Type 0
+HasItems dialect text items = (answers : List (Result Line Fault)) × HasAnswers dialect text answers × (items ≡ map item_of answers)

@@ -1,0 +1,123 @@
+-- Points, which of them are admitted, and the lines that the builder writes for them.
+use Rattle.std.specs.Prelude.{ℕ, ◌<◌, ℤ, ◌≡◌, ◌==◌, ◌&&◌, ◌^◌, Bool, true, false, not, List, [], ◌∷◌, ◌++◌, length, slice_index, codes}
+use Rattle.std.specs.Prelude.{Option, Some, None, decimal, IfSome, if◌then◌else◌}
+use Rattle.std.specs.List.{list_all, flat_map, AllByRecursion}
+use Rattle.std.specs.Fmt.{signed_decimal}
+use Rattle.lp_format.specs.format.Bytes.{nul, tab, newline, space, quote, hash, comma, equals, letter_i, letter_u, is_one_of}
+use Rattle.lp_format.specs.format.Escapes.{escaped}
+use Rattle.lp_format.specs.format.Names.{NameKind, a_measurement, a_tag_key, a_tag_value, a_field_key, escapable}
+use Rattle.lp_format.specs.format.Names.{ends_in_backslash}
+use Rattle.lp_format.specs.format.Values.{IsFloat, Value, integer, unsigned, float, string, boolean, quotable, fits_i64}
+
+-- a key and the logical text of it: a tag, or a field
+pub record Pair (K A : Type 0) : Type 0 where
+  pub key : K
+  pub value : A
+
+-- a tag by its logical texts
+abbrev pub Tag : Type 0
+Tag = Pair (List ℕ) (List ℕ)
+
+-- a field by its logical texts
+abbrev pub Field : Type 0
+Field = Pair (List ℕ) (Value (List ℕ))
+
+-- what a line says, by its logical texts
+pub record Point : Type 0 where
+  pub measurement : List ℕ
+  pub tags : List Tag
+  pub fields : List Field
+  pub timestamp : Option ℤ
+
+-- a number in the range of its type, or a float literal; any string and either boolean
+abbrev pub IsValue : Value (List ℕ) → Type 0
+IsValue (integer z) = fits_i64 z ≡ true
+IsValue (unsigned n) = n < 2 ^ 64
+IsValue (float t) = IsFloat t
+IsValue other = Unit {0}
+
+-- at least one field, numbers in range, floats that are literals; names and strings are any texts
+pub record IsPoint (p : Point) : Type 0 where
+  pub some_field : 0 < length p.fields
+  pub values : AllByRecursion (λ f. IsValue f.value) p.fields
+  pub timestamp : IfSome p.timestamp (λ t. fits_i64 t ≡ true)
+
+-- the bytes that a name may not hold, since no escape keeps them in it
+abbrev pub never_in : NameKind → List ℕ
+never_in a_measurement = tab ∷ newline ∷ nul ∷ []
+never_in other = tab ∷ newline ∷ []
+
+abbrev is_measurement : NameKind → Bool
+is_measurement a_measurement = true
+is_measurement other = false
+
+-- whether a name is admitted: it is not empty, holds no tab and no newline, and does not end in a backslash; a
+-- measurement, besides, holds no NUL and does not begin with `#`
+unfoldable pub is_admitted_name : NameKind → List ℕ → Bool
+is_admitted_name kind name =
+    not (length name == 0) && not (ends_in_backslash name) && list_all (λ b. not (is_one_of (never_in kind) b)) name
+    && not (slice_index name 0 == hash && is_measurement kind)
+
+-- whether both names of a tag are admitted
+abbrev pub is_admitted_tag : Tag → Bool
+is_admitted_tag t = is_admitted_name a_tag_key t.key && is_admitted_name a_tag_value t.value
+
+-- whether the key of a field is admitted
+abbrev pub is_admitted_field : Field → Bool
+is_admitted_field f = is_admitted_name a_field_key f.key
+
+-- whether all names of a point are admitted
+unfoldable pub is_admitted_point : Point → Bool
+is_admitted_point p =
+    is_admitted_name a_measurement p.measurement && list_all is_admitted_tag p.tags && list_all is_admitted_field p.fields
+
+-- a name as the builder spells it
+abbrev pub spelling : NameKind → List ℕ → List ℕ
+spelling kind name = escaped (escapable kind) name
+
+-- a value as the builder spells it
+abbrev pub built_value : Value (List ℕ) → List ℕ
+built_value (integer z) = signed_decimal z ++ letter_i ∷ []
+built_value (unsigned n) = decimal n ++ letter_u ∷ []
+built_value (float t) = t
+built_value (string t) = quote ∷ escaped quotable t ++ quote ∷ []
+built_value (boolean true) = codes "true"
+built_value (boolean false) = codes "false"
+
+-- a tag with the comma before it
+abbrev pub built_tag : Tag → List ℕ
+built_tag t = comma ∷ spelling a_tag_key t.key ++ equals ∷ spelling a_tag_value t.value
+
+-- a field whose value has this text, without what divides it from what comes before
+abbrev pub field_text : List ℕ → List ℕ → List ℕ
+field_text key value = spelling a_field_key key ++ equals ∷ value
+
+-- a field as the builder writes it, without the byte that divides it from what comes before
+abbrev pub built_field : Field → List ℕ
+built_field f = field_text f.key (built_value f.value)
+
+-- the fields, the first after this byte and each other after a comma
+abbrev pub built_fields : ℕ → List Field → List ℕ
+built_fields before [] = []
+built_fields before (f ∷ fields) = before ∷ built_field f ++ built_fields comma fields
+
+-- a timestamp with the space before it, or nothing
+abbrev pub built_timestamp : Option ℤ → List ℕ
+built_timestamp None = []
+built_timestamp (Some t) = space ∷ signed_decimal t
+
+-- the line of a point, without its newline
+unfoldable pub line_of : Point → List ℕ
+line_of p = spelling a_measurement p.measurement ++ flat_map built_tag p.tags ++ built_fields space p.fields ++ built_timestamp p.timestamp
+
+-- what the builder writes for a point: its line and a newline
+abbrev pub built : Point → List ℕ
+built p = line_of p ++ newline ∷ []
+
+-- what is written for a point whose names are all admitted, and nothing for another
+abbrev pub built_if_admitted : Point → List ℕ
+built_if_admitted p = if is_admitted_point p then built p else []
+
+-- what the builder writes for points
+abbrev pub built_all : List Point → List ℕ
+built_all points = flat_map built points

@@ -1,0 +1,81 @@
+-- What the answer for a trimmed text means: the table of answers, row by row.
+use Rattle.std.specs.Prelude.{◌≡◌, ◌↔◌, ℕ, List, [], ◌∷◌, ◌++◌, drop, Option, Some, None, Result, Ok, Err}
+use Rattle.lp_format.specs.format.Dialects.{Dialect}
+use Rattle.lp_format.specs.format.Bytes.{comma, space}
+use Rattle.lp_format.specs.format.Readings.{Side, Fault, measurement_value_invalid, field_set_missing, ends_with_backslash}
+use Rattle.lp_format.specs.format.Readings.{tag_set_malformed, take_while1, timestamp_value_invalid, cannot_parse_entire_line}
+use Rattle.lp_format.specs.format.Readings.{Text, miss, fatal, reads}
+use Rattle.lp_format.specs.format.Names.{a_measurement, name}
+use Rattle.lp_format.specs.format.Values.{Value}
+use Rattle.lp_format.specs.format.Points.{Pair}
+use Rattle.lp_format.specs.format.Lines.{Line, tag, field, without_comma, spaces, timestamp, answer}
+use Rattle.lp_format.specs.laws.Meanings.{LongestList, WholeList, NextHasFault}
+
+-- the text begins with this byte
+abbrev pub BeginsWith : ℕ → List ℕ → Type 0
+BeginsWith b [] = ⊥
+BeginsWith b (c ∷ rest) = c ≡ b
+
+-- what follows all spaces at the start of a text
+abbrev pub after_spaces : List ℕ → List ℕ
+after_spaces text = drop (spaces text) text
+
+-- a measurement and its tags are read, and this is the rest; where no comma follows the measurement, there is no tag set
+pub data ReadsSeries (text : List ℕ) : Text → Option (List (Pair Text Text)) → List ℕ → Type 0 where
+  -- no comma follows the measurement
+  alone : (m : Text) (rest : List ℕ) → name a_measurement text ≡ reads m rest → ¬ BeginsWith comma rest → ReadsSeries text m None rest
+  -- a comma follows it, and then at least one tag
+  tagged : (m : Text) (tags : List (Pair Text Text)) (after rest : List ℕ)
+      → name a_measurement text ≡ reads m (comma ∷ after) → WholeList tag after tags rest → ReadsSeries text m (Some tags) rest
+
+-- a series is read, a space follows it, and after all spaces these fields are read
+pub record ReadsFields (dialect : Dialect) (text : List ℕ) (line : Line) (rest : List ℕ) : Type 0 where
+  pub after_series : List ℕ
+  pub series_is : text ≡ line.series ++ after_series
+  pub series_reads : ReadsSeries text line.measurement line.tags after_series
+  pub gap : BeginsWith space after_series
+  pub after_fields : List ℕ
+  pub fields_read : WholeList field (after_spaces after_series) line.fields after_fields
+  pub rest_is : rest ≡ without_comma dialect line.fields after_fields
+
+-- what a text is answered with, by the rows of the table; each row says too that none before it holds
+pub data IsAnswer (dialect : Dialect) (text : List ℕ) : Result Line Fault → Type 0 where
+  -- the measurement is fatal
+  fatal_measurement : (e : Fault) → name a_measurement text ≡ fatal e → IsAnswer dialect text (Err ends_with_backslash)
+  -- the measurement misses
+  no_measurement : name a_measurement text ≡ miss → IsAnswer dialect text (Err measurement_value_invalid)
+  -- a comma follows the measurement, and a tag is fatal
+  fatal_tag : (m : Text) (after : List ℕ) (tags : List (Pair Text Text)) (rest : List ℕ) (e : Fault)
+      → name a_measurement text ≡ reads m (comma ∷ after) → LongestList tag after tags rest → NextHasFault tag tags rest e
+      → IsAnswer dialect text (Err ends_with_backslash)
+  -- a comma follows the measurement, and the first tag misses
+  no_tag : (m : Text) (after : List ℕ) → name a_measurement text ≡ reads m (comma ∷ after) → tag after ≡ miss
+      → IsAnswer dialect text (Err tag_set_malformed)
+  -- no space follows the measurement and the tags
+  no_space : (m : Text) (tags : Option (List (Pair Text Text))) (rest : List ℕ) → ReadsSeries text m tags rest → ¬ BeginsWith space rest
+      → IsAnswer dialect text (Err take_while1)
+  -- after all spaces, a field is fatal
+  fatal_field : (m : Text) (tags : Option (List (Pair Text Text))) (after : List ℕ) (fields : List (Pair Text (Value Text)))
+      (rest : List ℕ) (e : Fault)
+      → ReadsSeries text m tags after → BeginsWith space after → LongestList field (after_spaces after) fields rest
+      → NextHasFault field fields rest e → IsAnswer dialect text (Err e)
+  -- the first field misses
+  no_field : (m : Text) (tags : Option (List (Pair Text Text))) (after : List ℕ)
+      → ReadsSeries text m tags after → BeginsWith space after → field (after_spaces after) ≡ miss
+      → IsAnswer dialect text (Err field_set_missing)
+  -- the timestamp is fatal
+  fatal_timestamp : (line : Line) (rest : List ℕ) (side : Side) (number : List ℕ)
+      → ReadsFields dialect text line rest → timestamp rest ≡ Err (timestamp_value_invalid side number)
+      → IsAnswer dialect text (Err (timestamp_value_invalid side number))
+  -- something is left
+  left : (line : Line) (rest : List ℕ) (b : ℕ) (more : List ℕ)
+      → ReadsFields dialect text line rest → timestamp rest ≡ Ok (record { value = line.timestamp; rest = b ∷ more })
+      → IsAnswer dialect text (Err (cannot_parse_entire_line (b ∷ more)))
+  -- nothing is left
+  all_read : (line : Line) (rest : List ℕ)
+      → ReadsFields dialect text line rest → timestamp rest ≡ Ok (record { value = line.timestamp; rest = [] })
+      → IsAnswer dialect text (Ok line)
+
+-- A text has the answer that the rows of the table give it, and no other.
+abbrev pub AnswerIsByRows : Type 0
+AnswerIsByRows = (dialect : Dialect) (text : List ℕ) (a : Result Line Fault) → (answer dialect text ≡ a) ↔ IsAnswer dialect text a

@@ -1,0 +1,46 @@
+-- Which names the lines of a text have, and where their fields end.
+use Rattle.std.specs.Prelude.{◌≡◌, ◌≢◌, ◌⊎◌, ℕ, ◌<◌, true, false, List, [], ◌∷◌, ◌++◌, length, drop, map, slice_index, Ok}
+use Rattle.lp_format.specs.format.Dialects.{Strict}
+use Rattle.lp_format.specs.format.Bytes.{space, hash, is_one_of}
+use Rattle.lp_format.specs.format.Readings.{reads}
+use Rattle.lp_format.specs.format.Names.{NameKind, a_measurement, a_tag_key, a_tag_value, a_field_key, ends_in_backslash, name}
+use Rattle.lp_format.specs.format.Points.{Point, never_in}
+use Rattle.lp_format.specs.format.Lines.{Line, tag_set, field_set, spaces}
+
+-- the names of one kind in a point
+abbrev pub names_of : NameKind → Point → List (List ℕ)
+names_of a_measurement p = p.measurement ∷ []
+names_of a_tag_key p = map (λ t. t.key) p.tags
+names_of a_tag_value p = map (λ t. t.value) p.tags
+names_of a_field_key p = map (λ f. f.key) p.fields
+
+-- a measurement does not begin with `#`
+abbrev pub BeginsNoComment : NameKind → List ℕ → Type 0
+BeginsNoComment a_measurement n = slice_index n 0 ≢ hash
+BeginsNoComment other n = Unit {0}
+
+-- a name as a line can have it
+pub record IsParsedName (kind : NameKind) (n : List ℕ) : Type 0 where
+  -- it is not empty
+  pub some : 0 < length n
+  -- it does not end in a backslash
+  pub ends : ends_in_backslash n ≡ false
+  -- a measurement does not begin with `#`
+  pub begins : BeginsNoComment kind n
+  -- a tab or a newline comes directly after a backslash, and so does a NUL in a measurement
+  pub after_backslash : (front back : List ℕ) (b : ℕ) → n ≡ front ++ b ∷ back → is_one_of (never_in kind) b ≡ true
+      → ends_in_backslash front ≡ true
+
+-- nothing, or a text that begins with a space
+abbrev pub IsNothingOrSpaced : List ℕ → Type 0
+IsNothingOrSpaced text = (text ≡ []) ⊎ ((rest : List ℕ) × (text ≡ space ∷ rest))
+
+-- nothing follows the fields that were read of a text in the strict dialect, or a space does
+pub record EndsItsFields (text : List ℕ) (line : Line) : Type 0 where
+  pub measurement_rest : List ℕ
+  pub tags_rest : List ℕ
+  pub fields_rest : List ℕ
+  pub measurement : name a_measurement text ≡ reads line.measurement measurement_rest
+  pub tags : tag_set measurement_rest ≡ Ok (record { value = line.tags; rest = tags_rest })
+  pub fields : field_set Strict (drop (spaces tags_rest) tags_rest) ≡ reads line.fields fields_rest
+  pub ends : IsNothingOrSpaced fields_rest

@@ -1,0 +1,18 @@
+use Rattle.std.proofs.Common.{◌≡◌, ℕ, ◌<◌, List, take, map, false}
+use Rattle.std.specs.BTreeMap.{get_by}
+use Rattle.std.specs.Cmp.Lexicographic.{slice_cmp}
+use Rattle.std.specs.List.{list_any}
+use Rattle.std.specs.Option.{is_some}
+use Rattle.std.specs.Ordering.{nat_cmp}
+use Rattle.std.specs.Str.{bytes_eq}
+use Rattle.lp_lines.specs.code.Bases.{by_key, entry_bytes, is_repeated_at, keys_of}
+use Rattle.lp_lines.specs.code.Parsed.{tag_of}
+use Rattle.lp_lines.proofs.base.tag_map.Given as goal
+
+abbrev pub invariant-loop-key : goal.invariant-loop-key
+invariant-loop-key l = record {
+  entries : map entry_bytes l.map.entries ≡ by_key (map tag_of (take l.key-index l.tags));
+  has : (q : List ℕ) → is_some (get_by (λ k. slice_cmp nat_cmp q k.now) l.map) ≡ list_any (bytes_eq q)
+      (take l.key-index (keys_of (map tag_of l.tags)));
+  passed : (k : ℕ) → k < l.key-index → is_repeated_at (keys_of (map tag_of l.tags)) k ≡ false;
+}

@@ -1,0 +1,4 @@
+pub mod line
+pub mod laws
+pub mod series
+pub mod fields

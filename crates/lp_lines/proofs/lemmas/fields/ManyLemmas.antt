@@ -1,0 +1,244 @@
+-- How many that are joined by commas are read one after another.
+use Rattle.std.proofs.Common.{◌≡◌, ℕ, zero, suc, ◌+◌, ◌<◌, ◌≤◌, List, [], ◌∷◌, ◌++◌, length, length-append, Bool, true, false, not, ◌&&◌}
+use Rattle.std.proofs.Common.{refl, sym, ap, ◌∙◌, arith, inl, inr}
+use Rattle.std.specs.Prelude.{◌⊎◌}
+use Rattle.std.specs.List.{list_all}
+use Rattle.std.proofs.lemmas.Bool.{and_left, and_right, lt-leb}
+use Rattle.std.proofs.lemmas.List.{append_assoc, append-nil}
+use Rattle.std.proofs.lemmas.List.Folds.{list_all-append}
+use Rattle.lp_format.specs.format.Bytes.{comma, is_one_of}
+use Rattle.lp_format.specs.format.Readings.{Fault, Reading, miss, fatal, reads}
+use Rattle.lp_format.specs.format.Lines.{after_comma, byte, separated_list, many, prepend}
+use Rattle.lp_format.specs.code.Light.{carries_no_text, many_count, read_count, NeedsMemory, HasBackslash, CopiesIn}
+use Rattle.lp_format.specs.code.Light.{SetNeedsMemory}
+use Rattle.lp_values.specs.code.Outcomes.{FailsOn, IsFault}
+use Rattle.lp_values.specs.declared.error.Error.{Error}
+use Rattle.lp_values.specs.declared.error.Error.TheVariants as error
+use Rattle.lp_values.proofs.lemmas.fields.ReadingLemmas.{EndsIn, EndsIn-end, EndsIn-self, bind_reads, byte_ends, PairRead}
+use Rattle.lp_values.proofs.lemmas.fields.ReadingLemmas.{backslash_at_end, after_comma_read}
+
+-- those that are read after others
+prepend-prepend : {A : Type 0} (xs ys : List A) (r : Reading (List A)) → prepend xs (prepend ys r) ≡ prepend (xs ++ ys) r
+prepend-prepend xs ys miss = refl
+prepend-prepend xs ys (fatal e) = refl
+prepend-prepend xs ys (reads more rest) = ap (λ zs. reads zs rest) (sym (append_assoc xs ys more))
+
+many_miss : {A : Type 0} (one : List ℕ → Reading A) (n : ℕ) (rest : List ℕ) → one rest ≡ miss → many one n rest ≡ reads [] rest
+many_miss one zero rest e = refl
+many_miss one (suc n) rest e = rw e refl
+
+-- a fault is carried on
+pub carried_on : (e : Error) (P Q : Fault → Type 0) → ((f : Fault) → P f → Q f) → IsFault e P → IsFault e Q
+carried_on (error.DuplicateTag key) P Q on h = elim h [ ]
+carried_on error.MeasurementValueInvalid P Q on h = on _ h
+carried_on error.FieldSetMissing P Q on h = on _ h
+carried_on (error.IntegerValueInvalid source value) P Q on h = on _ h
+carried_on (error.UIntegerValueInvalid source value) P Q on h = on _ h
+carried_on (error.TimestampValueInvalid source value) P Q on h = on _ h
+carried_on error.EndsWithBackslash P Q on h = on _ h
+carried_on (error.CannotParseEntireLine trailing_content) P Q on h = on _ h
+carried_on error.TagSetMalformed P Q on h = on _ h
+carried_on (error.GenericParsingError kind) P Q on h = on _ h
+carried_on error.OutOfMemory P Q on h = tt
+
+-- an error of one reading is that of another
+pub fails_too : {A B : Type 0} (e : Error) (r : Reading A) (whole : Reading B)
+    → ((f : Fault) → r ≡ fatal f → whole ≡ fatal f) → FailsOn e r → FailsOn e whole
+fails_too e r whole on h = carried_on e (λ f. r ≡ fatal f) (λ f. whole ≡ fatal f) on h
+
+-- a set of which one part is not light is not
+not_all_after : {A : Type 0} (p : A → Bool) (xs ys : List A) → list_all p xs ≡ false → list_all p (xs ++ ys) ≡ false
+not_all_after p xs ys h = list_all-append p xs ys ∙ and_left (list_all p xs) (list_all p ys) h
+
+not_all_last : {A : Type 0} (p : A → Bool) (xs : List A) (y : A) → p y ≡ false → list_all p (xs ++ y ∷ []) ≡ false
+not_all_last p xs y h = list_all-append p xs (y ∷ []) ∙ and_right (list_all p xs) (p y && true) (and_left (p y) true h)
+
+-- what is read of a text whose front was read: `done` was read, `rest` is left, and the whole is done and as many as
+-- are at the start of the rest
+pub record SoFar {A : Type 0} (one : List ℕ → Reading A) (text : List ℕ) (done : List A) (rest : List ℕ) : Type 0 where
+  pub fuel : ℕ
+  pub enough : length rest ≤ fuel
+  pub is : separated_list one text ≡ prepend done (many (after_comma one) fuel rest)
+  pub counted : read_count one text ≡ length done + many_count (after_comma one) fuel rest
+  pub ends : EndsIn text rest
+
+-- some were read, and a comma after them: the next one may come after it
+pub record AtNext {A : Type 0} (one : List ℕ → Reading A) (text : List ℕ) (done : List A) (rest place : List ℕ) : Type 0 where
+  pub so_far : SoFar one text done rest
+  pub mark : byte comma rest ≡ reads comma place
+  pub some : 0 < length done
+
+-- where the next one may be: at the start of all, or after those that were read and a comma
+abbrev pub Reached : {A : Type 0} → (List ℕ → Reading A) → List ℕ → List A → List ℕ → List ℕ → Type 0
+Reached one text done rest place = ((done ≡ []) × (place ≡ text)) ⊎ AtNext one text done rest place
+
+onto_miss : {A : Type 0} (xs : List A) (r : Reading (List A)) → prepend xs r ≡ miss → r ≡ miss
+onto_miss xs miss e = refl
+onto_miss xs (fatal f) e = absurd (cc)
+onto_miss xs (reads ys end) e = absurd (cc)
+
+-- many never misses
+many_reads : {A : Type 0} (one : List ℕ → Reading A) (n : ℕ) (rest : List ℕ) → many one n rest ≡ miss → ⊥
+many_reads one zero rest e = cc
+many_reads {A} one (suc n) rest e = go (one rest) refl (λ after. many_reads one n after)
+  where
+    go : (r : Reading A) → one rest ≡ r → ((after : List ℕ) → many one n after ≡ miss → ⊥) → ⊥
+    go miss f never = let m = rw f at e in cc
+    go (fatal g) f never = let m = rw f at e in cc
+    go (reads x after) f never = never after (onto_miss (x ∷ []) (many one n after) (rw f at e))
+
+module _ {A : Type 0} (is_single : A → Bool) (one : List ℕ → Reading A)
+    (read : (text : List ℕ) (x : A) (rest : List ℕ) → one text ≡ reads x rest → PairRead is_single text x rest) where
+  -- a copy before those that are read after it
+  copies_onto : (text : List ℕ) (xs : List A) (r : Reading (List A)) → HasBackslash text
+      → list_all is_single xs ≡ false → (r ≡ miss → ⊥) → CopiesIn is_single text (prepend xs r)
+  copies_onto text xs miss some copied never = never refl
+  copies_onto text xs (fatal e) some copied never = rw some refl
+  copies_onto text xs (reads more rest) some copied never = (some, not_all_after is_single xs more copied)
+
+  pub so_far_start : (x : A) (text rest : List ℕ) → one text ≡ reads x rest → SoFar one text (x ∷ []) rest
+  so_far_start x text rest e =
+      record { fuel = length rest; enough = omega arith; is = rw e refl; counted = rw e (omega arith); ends = (read text x rest e).ends }
+
+  pub so_far_end : (text : List ℕ) (done : List A) (rest : List ℕ) → SoFar one text done rest
+      → after_comma one rest ≡ miss → separated_list one text ≡ reads done rest
+  so_far_end text done rest so_far e =
+      so_far.is ∙ ap (prepend done) (many_miss (after_comma one) so_far.fuel rest e) ∙ ap (λ zs. reads zs rest) (append-nil done)
+
+  pub so_far_more : (text : List ℕ) (done : List A) (rest after : List ℕ) (y : A) → SoFar one text done rest
+      → after_comma one rest ≡ reads y after
+      → length after < length rest → SoFar one text (done ++ y ∷ []) after
+  so_far_more text done rest after y so_far e less = more so_far.fuel so_far.enough so_far.is so_far.counted
+    where
+      more : (n : ℕ) → length rest ≤ n → separated_list one text ≡ prepend done (many (after_comma one) n rest)
+          → read_count one text ≡ length done + many_count (after_comma one) n rest
+          → SoFar one text (done ++ y ∷ []) after
+      more zero room is counted = absurd (omega arith)
+      more (suc n) room is counted =
+          record {
+            fuel = n;
+            enough = omega arith;
+            is = is ∙ rw e (prepend-prepend done (y ∷ []) (many (after_comma one) n after));
+            counted = (let is = rw e at counted in omega (arith, is, length-append done (y ∷ [])));
+            ends = EndsIn-end text rest after so_far.ends (after_comma_read is_single one read rest y after e).ends;
+          }
+
+  -- what is fatal after a comma is fatal for all
+  pub so_far_fatal : (text : List ℕ) (done : List A) (rest : List ℕ) (e : Fault) → SoFar one text done rest
+      → after_comma one rest ≡ fatal e → separated_list one text ≡ fatal e
+  so_far_fatal text done rest e so_far found = fails so_far.fuel rest so_far.enough found so_far.is
+    where
+      fails : (n : ℕ) (rest : List ℕ) → length rest ≤ n → after_comma one rest ≡ fatal e
+          → separated_list one text ≡ prepend done (many (after_comma one) n rest) → separated_list one text ≡ fatal e
+      fails zero [] room found is = cc
+      fails zero (b ∷ rest) room found is = absurd (omega arith)
+      fails (suc n) rest room found is = is ∙ rw found refl
+
+  -- the first needs memory
+  pub first_needs : (room : ℕ) (text : List ℕ) → NeedsMemory is_single (one text) → SetNeedsMemory room is_single one text
+  first_needs room text needs = inr (go (one text) refl needs)
+    where
+      go : (r : Reading A) → one text ≡ r → NeedsMemory is_single r → CopiesIn is_single text (separated_list one text)
+      go miss e h = absurd h
+      go (fatal f) e h = rw e (and_right (not (is_one_of text 92)) (carries_no_text f) h)
+      go (reads x rest) e h =
+          rw e
+          (copies_onto text (x ∷ []) (many (after_comma one) (length rest) rest) ((read text x rest e).copied h)
+          (and_left (is_single x) true h)
+          (many_reads (after_comma one) (length rest) rest))
+
+  -- one after a comma needs memory
+  pub next_needs : (room : ℕ) (text : List ℕ) (done : List A) (rest : List ℕ) → SoFar one text done rest
+      → NeedsMemory is_single (after_comma one rest) → SetNeedsMemory room is_single one text
+  next_needs room text done rest so_far needs = inr (go (after_comma one rest) refl needs so_far.fuel so_far.enough so_far.is)
+    where
+      go : (r : Reading A) → after_comma one rest ≡ r → NeedsMemory is_single r → (n : ℕ) → length rest ≤ n
+          → separated_list one text ≡ prepend done (many (after_comma one) n rest)
+          → CopiesIn is_single text (separated_list one text)
+      go miss e h n room is = absurd h
+      go (fatal f) e h n room is = rw (so_far_fatal text done rest f so_far e) (and_right (not (is_one_of text 92)) (carries_no_text f) h)
+      go (reads x after) e h zero room is =
+          let front = (after_comma_read is_single one read rest x after e).copied h in
+          absurd (none rest room front)
+        where
+          none : (rest : List ℕ) → length rest ≤ 0 → HasBackslash rest → ⊥
+          none [] l h = cc
+          none (b ∷ rest) l h = absurd (omega arith)
+      go (reads x after) e h (suc n) room is =
+          let some = backslash_at_end text rest so_far.ends ((after_comma_read is_single one read rest x after e).copied h) in
+          let whole : separated_list one text ≡ prepend (done ++ x ∷ []) (many (after_comma one) n after) = is
+          ∙ rw e (prepend-prepend done (x ∷ []) (many (after_comma one) n after)) in
+          rw whole (copies_onto text (done ++ x ∷ []) (many (after_comma one) n after) some
+          (not_all_last is_single done x h) (many_reads (after_comma one) n after))
+
+  -- what is read after a comma is read where the next one may be
+  next_is : (rest place : List ℕ) → byte comma rest ≡ reads comma place → after_comma one rest ≡ one place
+  next_is rest place mark = rw mark refl
+
+  -- one more is read where it may be
+  pub reached_more : {text : List ℕ} {done : List A} {rest place : List ℕ} (after : List ℕ) (y : A)
+      → Reached one text done rest place → one place ≡ reads y after
+      → length after < length place → SoFar one text (done ++ y ∷ []) after
+  reached_more {text} {done} {rest} {place} after y (inl first) e less = rw first.0 (so_far_start y text after (rw first.1 at e))
+  reached_more {text} {done} {rest} {place} after y (inr more) e less =
+      let ends = byte_ends 44 rest 44 place more.mark in
+      so_far_more text done rest after y more.so_far (next_is rest place more.mark ∙ e)
+      (omega (arith, ap length ends.is, length-append ends.front place))
+
+  -- what is fatal where the next one may be is fatal for all
+  pub reached_fatal : {text : List ℕ} {done : List A} {rest place : List ℕ} (e : Fault)
+      → Reached one text done rest place → one place ≡ fatal e → separated_list one text ≡ fatal e
+  reached_fatal {text} {done} {rest} {place} e (inl first) found = rw (rw first.1 at found) refl
+  reached_fatal {text} {done} {rest} {place} e (inr more) found =
+      so_far_fatal text done rest e more.so_far (next_is rest place more.mark ∙ found)
+
+  -- what is read where the next one may be needs memory
+  pub reached_needs : {text : List ℕ} {done : List A} {rest place : List ℕ} (room : ℕ)
+      → Reached one text done rest place → NeedsMemory is_single (one place) → SetNeedsMemory room is_single one text
+  reached_needs {text} {done} {rest} {place} room (inl first) needs = first_needs room text (rw first.1 at needs)
+  reached_needs {text} {done} {rest} {place} room (inr more) needs = next_needs room text done rest more.so_far
+      (rw (next_is rest place more.mark) needs)
+
+  -- nothing is read where the next one may be: these are all
+  pub reached_all : {text : List ℕ} {done : List A} {rest place : List ℕ} → Reached one text done rest place
+      → one place ≡ miss → 0 < length done → separated_list one text ≡ reads done rest
+  reached_all {text} {done} {rest} {place} (inl first) e some = absurd (let none = ap length first.0 in omega arith)
+  reached_all {text} {done} {rest} {place} (inr more) e some = so_far_end text done rest more.so_far (next_is rest place more.mark ∙ e)
+
+  -- where no comma comes after them, these are all
+  pub last_read : {text : List ℕ} {done : List A} {rest : List ℕ} → SoFar one text done rest
+      → byte comma rest ≡ miss → separated_list one text ≡ reads done rest
+  last_read {text} {done} {rest} so_far none = so_far_end text done rest so_far (rw none refl)
+
+  -- there is one more than there is room for
+  pub more_than_room : {text : List ℕ} {done : List A} {rest : List ℕ} (room : ℕ) → SoFar one text done rest
+      → room < length done → SetNeedsMemory room is_single one text
+  more_than_room {text} {done} {rest} room so_far over =
+      inl (lt-leb (read_count one text) room (let counted = so_far.counted in omega arith))
+
+  -- what is after as many as are at the start ends the text
+  onto_reads : (xs : List A) (r : Reading (List A)) (ys : List A) (rest : List ℕ) → prepend xs r ≡ reads ys rest
+      → (more : List A) × (r ≡ reads more rest)
+  onto_reads xs miss ys rest e = absurd (cc)
+  onto_reads xs (fatal f) ys rest e = absurd (cc)
+  onto_reads xs (reads more end) ys rest e = let same : end ≡ rest = cc in (more, ap (λ (x : List ℕ). reads more x) same)
+
+  many_ends : (n : ℕ) (text : List ℕ) (xs : List A) (rest : List ℕ) → many (after_comma one) n text ≡ reads xs rest → EndsIn text rest
+  many_ends zero text xs rest e = let same : text ≡ rest = cc in rw same (EndsIn-self rest)
+  many_ends (suc n) text xs rest e = go (after_comma one text) refl (λ after more f. many_ends n after more rest f)
+    where
+      go : (r : Reading A) → after_comma one text ≡ r
+          → ((after : List ℕ) (more : List A) → many (after_comma one) n after ≡ reads more rest
+          → EndsIn after rest) → EndsIn text rest
+      go miss f more = let m = rw f at e in let same : text ≡ rest = cc in rw same (EndsIn-self rest)
+      go (fatal g) f more = absurd (let m = rw f at e in cc)
+      go (reads x after) f more =
+          let m = onto_reads (x ∷ []) (many (after_comma one) n after) xs rest (rw f at e) in
+          EndsIn-end text after rest (after_comma_read is_single one read text x after f).ends (more after m.0 m.1)
+
+  -- so does what is after those that are joined by commas
+  pub joined_ends : (text : List ℕ) (xs : List A) (rest : List ℕ) → separated_list one text ≡ reads xs rest → EndsIn text rest
+  joined_ends text xs rest e =
+      let first = bind_reads (one text) _ xs rest e in
+      let m = onto_reads (first.first ∷ []) (many (after_comma one) (length first.mid) first.mid) xs rest first.next in
+      EndsIn-end text first.mid rest (read text first.first first.mid first.was).ends (many_ends (length first.mid) first.mid m.0 rest m.1)

@@ -1,0 +1,2 @@
+pub mod BasesTellSeries
+pub mod SortedTags

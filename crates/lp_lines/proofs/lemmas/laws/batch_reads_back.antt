@@ -1,0 +1,5 @@
+pub mod LinePieces
+pub mod LineReadsBack
+pub mod PartsReadBack
+pub mod Reaches
+pub mod ValueReadsBack

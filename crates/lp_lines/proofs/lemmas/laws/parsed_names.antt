@@ -1,0 +1,3 @@
+pub mod ParsedNames
+pub mod KeptNames
+pub mod Spellings

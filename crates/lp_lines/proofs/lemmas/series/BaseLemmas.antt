@@ -1,0 +1,200 @@
+-- Bases: keys that rise, the first repeated key, and tags by their keys.
+use Rattle.std.proofs.Common.{◌≡◌, ℕ, suc, zero, ◌+◌, ◌<◌, ◌≤◌, Bool, true, false, not, cond, ◌&&◌, ◌||◌, List, [], ◌∷◌, length, take, drop}
+use Rattle.std.proofs.Common.{get_or, map, Some, Option, Result, Ok, Err, refl, ap, sym, ◌∙◌, arith, zero-add}
+use Rattle.std.specs.Borrow.{Bor}
+use Rattle.std.specs.declared.cmp.Ordering.{Ordering}
+use Rattle.std.specs.declared.cmp.Ordering.TheVariants.{Less, Equal, Greater}
+use Rattle.std.specs.BTreeMap.{BTreeMap, UpdatesBy, get_by, insert_entry}
+use Rattle.std.specs.Cmp.Lexicographic.{slice_cmp, nat_list_eq_equiv}
+use Rattle.std.specs.List.{list_all, list_any, range_with_len}
+use Rattle.std.specs.Option.{is_some}
+use Rattle.std.specs.Result.{IsErrAnd}
+use Rattle.std.specs.declared.borrow.CowStr.{CowStr}
+use Rattle.lp_values.specs.declared.error.Error.{Error}
+use Rattle.std.specs.Ordering.{is_lt, is_ge, match_ordering, nat_cmp}
+use Rattle.std.specs.Str.{bytes_eq}
+use Rattle.std.proofs.Common.{length-drop}
+use Rattle.std.proofs.lemmas.List.{map_more, length-map}
+use Rattle.std.proofs.lemmas.List.Folds.{list_any_more}
+use Rattle.std.proofs.lemmas.List.FromFn.{length-range_with_len, get_or-range_with_len}
+use Rattle.std.proofs.lemmas.List.Sums.{fold_push, position_or_len_is}
+use Rattle.std.proofs.lemmas.Map.Text.{btree_map_updates_str}
+use Rattle.lp_values.specs.declared.escaped.EscapedStr.{EscapedStr}
+use Rattle.lp_lines.specs.code.Bases.{Base, FailsForBase, GivesBase, base_by_key, base_of, base_text, in_order, is_borrowed}
+use Rattle.lp_lines.specs.code.Bases.{borrowed, owned, duplicate_key, by_key, entry_bytes, first_repeated, is_repeated_at}
+use Rattle.lp_lines.specs.code.Bases.{is_ambiguous_tag, keys_of, is_strictly_sorted}
+use Rattle.lp_format.specs.code.Light.{is_single_tag}
+use Rattle.lp_lines.specs.code.Parsed.{tag_of}
+use Rattle.lp_format.specs.format.Points.{Pair}
+use Rattle.lp_format.specs.format.Readings.{Text}
+use Rattle.lp_values.specs.code.Texts.{text_of}
+
+-- keys that rise from a place on
+rise_from : (keys : List (List ℕ)) (i : ℕ) → suc i < length keys
+    → is_strictly_sorted (drop i keys) ≡ (is_lt (slice_cmp nat_cmp (get_or keys i []) (get_or keys (suc i) [])) &&
+    is_strictly_sorted (drop (suc i) keys))
+rise_from [] i h = absurd (omega arith)
+rise_from (k ∷ []) i h = absurd (omega arith)
+rise_from (k ∷ l ∷ keys) zero h = refl
+rise_from (k ∷ l ∷ keys) (suc i) h = rise_from (l ∷ keys) i (omega arith)
+
+-- a key alone rises
+short_rises : (keys : List (List ℕ)) → length keys ≤ 1 → is_strictly_sorted keys ≡ true
+short_rises [] h = refl
+short_rises (k ∷ []) h = refl
+short_rises (k ∷ l ∷ keys) h = absurd (omega arith)
+
+-- a test that fails is not passed
+lt_from_ge : (o : Ordering) (b : Bool) → is_ge o ≡ b → is_lt o ≡ not b
+lt_from_ge Less b h = rw (sym h) refl
+lt_from_ge Equal b h = rw (sym h) refl
+lt_from_ge Greater b h = rw (sym h) refl
+
+-- the key of a tag
+pub key_at : (tags : List (EscapedStr × EscapedStr)) (i : ℕ) (d : EscapedStr × EscapedStr) → i < length tags
+    → get_or (keys_of (map tag_of tags)) i [] ≡ text_of (get_or tags i d).0
+key_at (t ∷ tags) zero d h = refl
+key_at (t ∷ tags) (suc i) d h = key_at tags i d (omega arith)
+key_at [] i d h = absurd (omega arith)
+
+pub key_is : (tags : List (EscapedStr × EscapedStr)) (i : ℕ) (t : EscapedStr × EscapedStr) → i < length tags → t ≡ get_or tags i t
+    → get_or (keys_of (map tag_of tags)) i [] ≡ text_of t.0
+key_is tags i t within is = key_at tags i t within ∙ ap (λ (t : EscapedStr × EscapedStr). text_of t.0) (sym is)
+
+-- how many keys
+pub length_keys : (tags : List (EscapedStr × EscapedStr)) → length (keys_of (map tag_of tags)) ≡ length tags
+length_keys tags = length-map (map tag_of tags) _ ∙ length-map tags tag_of
+
+-- two keys, one after the other, that are compared
+pub rise_at : (tags : List (EscapedStr × EscapedStr)) (i at : ℕ) (d e : EscapedStr × EscapedStr) (b : Bool) → suc i ≡ at → at < length tags
+    → b ≡ is_ge (slice_cmp nat_cmp (text_of (get_or tags i d).0) (text_of (get_or tags at e).0))
+    → is_strictly_sorted (drop i (keys_of (map tag_of tags))) ≡ (not b && is_strictly_sorted (drop at (keys_of (map tag_of tags))))
+rise_at tags i at d e b next within test =
+    let keys = keys_of (map tag_of tags) in
+    let lt = lt_from_ge _ b (sym test) in
+    let here = rise_from keys i (rw (length_keys tags) (omega arith)) in
+    rw (here, next, key_at tags i d (omega arith), key_at tags at e within, lt) refl
+
+-- at the end
+pub rise_end : (tags : List (EscapedStr × EscapedStr)) (i : ℕ) → length tags ≤ suc i
+    → is_strictly_sorted (drop i (keys_of (map tag_of tags))) ≡ true
+rise_end tags i h =
+    let keys = keys_of (map tag_of tags) in short_rises (drop i keys) (omega (arith, length-drop i keys, length_keys tags))
+
+-- what fixes the first repeated key
+pub first_repeated_is : (keys : List (List ℕ)) (n : ℕ) → n ≤ length keys
+    → ((k : ℕ) → k < n → is_repeated_at keys k ≡ false)
+    → (n < length keys → is_repeated_at keys n ≡ true)
+    → first_repeated keys ≡ n
+unfolding first_repeated
+first_repeated_is keys n fits none found =
+    let len : length (range_with_len 0 (length keys)) ≡ length keys = length-range_with_len 0 (length keys) in
+    position_or_len_is (is_repeated_at keys) (range_with_len 0 (length keys)) n 0 (omega arith)
+    (λ k h. rw (get_or-range_with_len 0 (length keys) k 0 (omega arith), zero-add k) (none k h))
+    (λ h. rw (get_or-range_with_len 0 (length keys) n 0 (omega arith), zero-add n) (found (omega arith)))
+
+-- the bytes of what goes in at an order
+bytes_at : (o : Ordering) (a b c : List (Bor (List ℕ) × Bor (List ℕ)))
+    → map entry_bytes (match_ordering o a b c) ≡ match_ordering o (map entry_bytes a) (map entry_bytes b) (map entry_bytes c)
+bytes_at Less a b c = refl
+bytes_at Equal a b c = refl
+bytes_at Greater a b c = refl
+
+-- an entry goes in by the bytes of its key
+pub insert_bytes : (es : List (Bor (List ℕ) × Bor (List ℕ))) (k v : Bor (List ℕ))
+    → map entry_bytes (insert_entry (λ x y. slice_cmp nat_cmp x.now y.now) es k v) ≡ insert_entry
+    (slice_cmp nat_cmp) (map entry_bytes es) k.now v.now
+insert_bytes [] k v = refl
+insert_bytes (e ∷ es) k v = rw (bytes_at (slice_cmp nat_cmp k.now e.0.now) _ _ _, insert_bytes es k v) refl
+
+-- the map has a key exactly where it was among the keys so far: one key more
+some_or : (b : Bool) (o : Option (Bor (List ℕ))) (v : Bor (List ℕ)) (a : Bool) → is_some o ≡ a → is_some (cond b (Some v) o) ≡ (a || b)
+some_or true o v true h = refl
+some_or true o v false h = refl
+some_or false o v true h = h
+some_or false o v false h = h
+
+pub has_more : (m n : BTreeMap (Bor (List ℕ)) (Bor (List ℕ))) (k v : Bor (List ℕ)) (keys : List (List ℕ)) (i : ℕ)
+    → i < length keys → k.now ≡ get_or keys i []
+    → UpdatesBy (λ x y. slice_cmp nat_cmp x.now y.now) (λ x. slice_cmp nat_cmp k.now x.now) m n (Some v)
+    → ((q : List ℕ) → is_some (get_by (λ x. slice_cmp nat_cmp q x.now) m) ≡ list_any (bytes_eq q) (take i keys))
+    → (q : List ℕ) → is_some (get_by (λ x. slice_cmp nat_cmp q x.now) n) ≡ list_any (bytes_eq q) (take (i + 1) keys)
+has_more m n k v keys i within is updates has q =
+    rw (
+      btree_map_updates_str k.now m n (Some v) updates q,
+      list_any_more (bytes_eq q) keys i [] within,
+      ← is,
+      nat_list_eq_equiv.symm q k.now,
+    )
+    (some_or (bytes_eq k.now q) _ v _ (has q))
+
+-- no tags
+pub by_key_nil : [] ≡ by_key []
+unfolding by_key
+by_key_nil = refl
+
+-- one tag more
+pub by_key_more : (tags : List (EscapedStr × EscapedStr)) (i : ℕ) (t : EscapedStr × EscapedStr) → i < length tags → t ≡ get_or tags i t
+    → by_key (map tag_of (take (i + 1) tags)) ≡ insert_entry (slice_cmp nat_cmp) (by_key (map tag_of (take i tags)))
+    (text_of t.0) (text_of t.1)
+unfolding by_key
+by_key_more tags i t within is =
+    rw (map_more tag_of tags i t within, ← is)
+    (fold_push (λ (entries : List (List ℕ × List ℕ)) (t : Pair Text Text). insert_entry (slice_cmp nat_cmp) entries
+    t.key.bytes t.value.bytes) [] (map tag_of (take i tags)) (tag_of t))
+
+-- a loop's step: the entry of one tag more goes in
+pub entries_more : (old new : List (Bor (List ℕ) × Bor (List ℕ))) (k v : Bor (List ℕ))
+    (tags : List (EscapedStr × EscapedStr)) (i : ℕ) (t : EscapedStr × EscapedStr)
+    → i < length tags → t ≡ get_or tags i t → k.now ≡ text_of t.0 → v.now ≡ text_of t.1
+    → new ≡ insert_entry (λ x y. slice_cmp nat_cmp x.now y.now) old k v
+    → map entry_bytes old ≡ by_key (map tag_of (take i tags)) → map entry_bytes new ≡ by_key (map tag_of (take (i + 1) tags))
+entries_more old new k v tags i t within is key value goes_in so_far =
+    rw (goes_in, insert_bytes old k v, so_far, key, value) (sym (by_key_more tags i t within is))
+
+-- the test of tags, as the code has it
+pub all_single : (tags : List (EscapedStr × EscapedStr))
+    → list_all is_single_tag (map tag_of tags) ≡ list_all (λ t. is_single_tag (tag_of t)) tags
+all_single [] = refl
+all_single (t ∷ tags) = ap (λ (b : Bool). is_single_tag (tag_of t) && b) (all_single tags)
+
+-- the test of ambiguous tags, as the code has it
+pub any_ambiguous : (tags : List (EscapedStr × EscapedStr))
+    → list_any is_ambiguous_tag (map tag_of tags) ≡ list_any (λ t. is_ambiguous_tag (tag_of t)) tags
+any_ambiguous [] = refl
+any_ambiguous (t ∷ tags) = ap (λ (b : Bool). is_ambiguous_tag (tag_of t) || b) (any_ambiguous tags)
+
+-- the rows: keys that do not rise
+pub base_falls : (raw : List ℕ) (m : Text) (tags : List (Pair Text Text))
+    → is_strictly_sorted (keys_of tags) ≡ false → base_of raw m tags ≡ base_by_key m.bytes tags
+unfolding base_of
+base_falls raw m tags falls = rw falls refl
+
+-- keys that rise, and no copy
+pub base_part : (raw : List ℕ) (m : Text) (tags : List (Pair Text Text)) → is_strictly_sorted (keys_of tags) ≡ true
+    → (m.is_single && list_all is_single_tag tags) ≡ true
+    → base_of raw m tags ≡ borrowed raw
+unfolding base_of
+base_part raw m tags rise single = rw (rise, single) refl
+
+-- keys that rise, and a copy
+pub base_owned : (raw : List ℕ) (m : Text) (tags : List (Pair Text Text)) → is_strictly_sorted (keys_of tags) ≡ true
+    → (m.is_single && list_all is_single_tag tags) ≡ false
+    → base_of raw m tags ≡ owned (base_text m.bytes (in_order tags))
+unfolding base_of
+base_owned raw m tags rise copied = rw (rise, copied) refl
+
+-- a base by the order of the keys is no part of the input
+no_borrowed : (b : Bool) (text key : List ℕ) → is_borrowed (cond b (owned text) (duplicate_key key)) ≡ false
+no_borrowed true text key = refl
+no_borrowed false text key = refl
+
+pub by_key_is_no_part : (m : List ℕ) (tags : List (Pair Text Text)) → is_borrowed (base_by_key m tags) ≡ false
+unfolding base_by_key
+by_key_is_no_part m tags = no_borrowed _ _ _
+
+-- an error that is passed on stays what it was
+pub base_fails : {A : Type 0} (r : Result (CowStr A) Error) (e : Error) (base : Base) → IsErrAnd r (λ d. d ≡ e)
+    → FailsForBase e base → GivesBase r base
+base_fails (Err d) e base same fails = rw same fails
+base_fails (Ok x) e base same fails = absurd same

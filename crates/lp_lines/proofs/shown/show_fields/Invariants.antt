@@ -1,0 +1,12 @@
+use Rattle.std.proofs.Common.{◌∷◌, [], take, map}
+use Rattle.std.specs.Fmt.{HasWritten, IsPlainFormatter}
+use Rattle.std.specs.List.{join_by}
+use Rattle.lp_format.specs.format.Bytes.{comma}
+use Rattle.lp_lines.specs.code.Parsed.{field_of}
+use Rattle.lp_format.specs.code.Shown.{shown_field}
+use Rattle.lp_lines.proofs.shown.show_fields.Given as goal
+
+abbrev pub invariant-loop-place : goal.invariant-loop-place
+invariant-loop-place g l =
+    IsPlainFormatter l.initial.f
+    → HasWritten g.W.Write.write_str_gives l.initial.f (join_by shown_field (comma ∷ []) (map field_of (take l.place l.fields))) l.f

@@ -1,0 +1,5 @@
+pub mod Parsed
+pub mod Lookups
+pub mod ParseSteps
+pub mod ReadInto
+pub mod Bases

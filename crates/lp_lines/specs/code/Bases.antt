@@ -1,0 +1,125 @@
+-- The base of a series, a text by which series can be grouped, and whether it is safe to do so.
+use Rattle.std.specs.Prelude.{◌≡◌, ℕ, ◌<◌, ◌==◌, ◌&&◌, ◌||◌, Bool, true, false, not, List, [], ◌∷◌, ◌++◌, length, take, map}
+use Rattle.std.specs.Prelude.{slice_index_or, if◌then◌else◌, Result, Ok, Err, String, string_bytes}
+use Rattle.std.specs.BTreeMap.{BTreeMap, insert_entry}
+use Rattle.std.specs.Borrow.{Bor}
+use Rattle.std.specs.Cmp.Lexicographic.{slice_cmp}
+use Rattle.std.specs.List.{flat_map, fold, list_all, list_any, position_or_len, range_with_len}
+use Rattle.std.specs.Ordering.{is_lt, nat_cmp}
+use Rattle.std.specs.Str.{bytes_eq}
+use Rattle.std.specs.declared.borrow.CowStr.{CowStr}
+use Rattle.std.specs.declared.borrow.CowStr.TheVariants.{Borrowed, Owned}
+use Rattle.lp_values.specs.declared.error.Error.{Error}
+use Rattle.lp_values.specs.declared.error.Error.TheVariants.{DuplicateTag, OutOfMemory}
+use Rattle.lp_format.specs.format.Bytes.{comma, equals, is_one_of}
+use Rattle.lp_format.specs.format.Names.{a_measurement, a_tag_key, a_tag_value, escapable}
+use Rattle.lp_format.specs.format.Readings.{Text}
+use Rattle.lp_format.specs.format.Points.{Pair}
+use Rattle.lp_format.specs.code.Light.{is_single_tag}
+
+-- a base is a part of the input or a text of its own, and there is none where this key is repeated
+pub data Base : Type 0 where
+  borrowed owned duplicate_key : List ℕ → Base
+
+-- whether each text is greater than the one before it, by bytes
+abbrev pub is_strictly_sorted : List (List ℕ) → Bool
+is_strictly_sorted [] = true
+is_strictly_sorted (k ∷ []) = true
+is_strictly_sorted (k ∷ l ∷ keys) = is_lt (slice_cmp nat_cmp k l) && is_strictly_sorted (l ∷ keys)
+
+-- the keys, in order
+abbrev pub keys_of : List (Pair Text Text) → List (List ℕ)
+keys_of tags = map (λ t. t.key.bytes) tags
+
+-- whether the text at this place is at an earlier place too
+abbrev pub is_repeated_at : List (List ℕ) → ℕ → Bool
+is_repeated_at keys place = list_any (bytes_eq (slice_index_or keys place [])) (take place keys)
+
+-- the first place whose text is at an earlier place too, and the length where there is none
+unfoldable pub first_repeated : List (List ℕ) → ℕ
+first_repeated keys = position_or_len (is_repeated_at keys) (range_with_len 0 (length keys))
+
+-- the tags as a finite map has them: in the order of their keys
+unfoldable pub by_key : List (Pair Text Text) → List (List ℕ × List ℕ)
+by_key tags = fold (λ entries t. insert_entry (slice_cmp nat_cmp) entries t.key.bytes t.value.bytes) [] tags
+
+-- the tags in their own order
+abbrev pub in_order : List (Pair Text Text) → List (List ℕ × List ℕ)
+in_order tags = map (λ t. (t.key.bytes, t.value.bytes)) tags
+
+-- a tag with the comma before it, unescaped
+abbrev pub based_tag : List ℕ × List ℕ → List ℕ
+based_tag t = comma ∷ t.0 ++ equals ∷ t.1
+
+-- a measurement and tags, unescaped
+abbrev pub base_text : List ℕ → List (List ℕ × List ℕ) → List ℕ
+base_text measurement tags = measurement ++ flat_map based_tag tags
+
+-- the base where the keys do not rise: by the order of the keys, unless one is repeated
+unfoldable pub base_by_key : List ℕ → List (Pair Text Text) → Base
+base_by_key measurement tags =
+    if first_repeated (keys_of tags) == length tags then owned (base_text measurement (by_key tags))
+    else duplicate_key (slice_index_or (keys_of tags) (first_repeated (keys_of tags)) [])
+
+-- the base of a series with this raw text, measurement and tags
+unfoldable pub base_of : List ℕ → Text → List (Pair Text Text) → Base
+base_of raw measurement tags =
+    if is_strictly_sorted (keys_of tags) then
+    if measurement.is_single && list_all is_single_tag tags then borrowed raw
+    else owned (base_text measurement.bytes (in_order tags))
+    else base_by_key measurement.bytes tags
+
+-- whether a text is one of these bytes alone
+abbrev pub is_byte_alone : List ℕ → List ℕ → Bool
+is_byte_alone bytes (b ∷ []) = is_one_of bytes b
+is_byte_alone bytes text = false
+
+-- whether a name is ambiguous in a base: it holds the byte that divides it from the next name, or it is one byte alone that a
+-- backslash may escape in it, which is spelled with the backslash in some bases
+abbrev pub is_ambiguous_name : List ℕ → ℕ → List ℕ → Bool
+is_ambiguous_name known divider text = is_one_of text divider || is_byte_alone known text
+
+-- whether the key or the value of a tag is
+abbrev pub is_ambiguous_tag : Pair Text Text → Bool
+is_ambiguous_tag t =
+    is_ambiguous_name (escapable a_tag_key) equals t.key.bytes || is_ambiguous_name (escapable a_tag_value) comma t.value.bytes
+
+-- whether the base of a series is safe to group by: none of its names is ambiguous
+abbrev pub is_base_safe : Text → List (Pair Text Text) → Bool
+is_base_safe measurement tags =
+    not (is_ambiguous_name (escapable a_measurement) comma measurement.bytes || list_any is_ambiguous_tag tags)
+
+-- the code fails so for this base: it is a repeated key; `OutOfMemory` may be in the place of each
+abbrev pub FailsForBase : Error → Base → Type 0
+FailsForBase (DuplicateTag key) base = base ≡ duplicate_key (string_bytes key)
+FailsForBase OutOfMemory base = Unit {0}
+FailsForBase e base = ⊥
+
+-- what the code answered is this base, and borrowed exactly where that is a part of the input
+abbrev pub GivesBase : {A : Type 0} → Result (CowStr A) Error → Base → Type 0
+GivesBase (Ok (Borrowed text)) base = base ≡ borrowed text.now
+GivesBase (Ok (Owned text)) base = base ≡ owned (string_bytes text)
+GivesBase (Err e) base = FailsForBase e base
+
+-- whether a base is a part of the input
+abbrev pub is_borrowed : Base → Bool
+is_borrowed (borrowed text) = true
+is_borrowed base = false
+
+-- the code made a text of its own
+abbrev pub GivesOwned : {A : Type 0} → Result (String A) Error → Base → Type 0
+GivesOwned (Ok text) base = base ≡ owned (string_bytes text)
+GivesOwned (Err e) base = FailsForBase e base
+
+-- the bytes of an entry
+abbrev pub entry_bytes : Bor (List ℕ) × Bor (List ℕ) → List ℕ × List ℕ
+entry_bytes e = (e.0.now, e.1.now)
+
+-- the code made a map of the tags, unless a key is repeated
+abbrev pub GivesMap : Result (BTreeMap (Bor (List ℕ)) (Bor (List ℕ))) Error → List (Pair Text Text) → Type 0
+GivesMap (Ok entries) tags = (first_repeated (keys_of tags) ≡ length tags) × (map entry_bytes entries.entries ≡ by_key tags)
+GivesMap (Err (DuplicateTag key)) tags =
+    (first_repeated (keys_of tags) < length tags)
+    × (string_bytes key ≡ slice_index_or (keys_of tags) (first_repeated (keys_of tags)) [])
+GivesMap (Err OutOfMemory) tags = Unit {0}
+GivesMap (Err e) tags = ⊥

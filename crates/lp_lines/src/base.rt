@@ -1,0 +1,266 @@
+//! The base of a series: a text by which series can be grouped, and a test of whether this one can.
+
+ghost use Rattle.std.specs.Prelude.{◌≡◌, ◌&&◌, ◌-◌, ◌^◌, ◌++◌, IfOk, OnOk, length, map, min, not, true, string_bytes};
+ghost use Rattle.std.specs.List.{list_all, list_any};
+ghost use Rattle.std.specs.Option.{option_map};
+ghost use Rattle.lp_lines.specs.code.Bases.{GivesBase, GivesMap, GivesOwned, base_by_key, base_of, base_text, based_tag};
+ghost use Rattle.lp_lines.specs.code.Bases.{entry_bytes, in_order, is_ambiguous_name, is_ambiguous_tag, is_base_safe, is_borrowed};
+ghost use Rattle.lp_lines.specs.code.Bases.{is_byte_alone, is_strictly_sorted, keys_of};
+ghost use Rattle.lp_format.specs.code.Light.{is_single_tag};
+ghost use Rattle.lp_format.specs.format.Bytes.{is_one_of};
+ghost use Rattle.lp_format.specs.format.Lines.{some_tags};
+ghost use Rattle.lp_values.specs.code.Outcomes.{IsNotOutOfMemory};
+ghost use Rattle.lp_lines.specs.code.Parsed.{tag_of, tags_of};
+ghost use Rattle.lp_values.specs.code.Texts.{is_single_slice, read_of, text_of};
+ghost use Rattle.lp_scan.specs.code.Tokens.{known_of};
+
+use crate::parsed::tags_in;
+use crate::{Series, TagSet};
+use lp_scan::sets::TokenKind;
+use lp_values::{Error, EscapedStr, Result};
+use std::alloc::{AllocError, Global};
+use std::borrow::CowStr;
+use std::collections::BTreeMap;
+
+impl<'a> Series<'a> {
+    /// A text by which series can be grouped: the measurement, and the tags in the order of their keys, by bytes.
+    ///
+    /// It tells this series from others if [`is_base_safe`](Self::is_base_safe), and else it may not: `m,a=1\,b\=2` and
+    /// `m,a=1,b=2` are two series with one base, and `m,\,=v` and `m,,=v` one series with two.
+    ///
+    /// Where each key is greater than the one before it and no name is a copy, it is `raw_input`,
+    /// borrowed; that takes no memory and is never refused. Else it is a text of its own, unescaped.
+    /// It is made of the fields as they are: after a change of `measurement` or `tag_set`,
+    /// `raw_input` is still that of the line.
+    ///
+    /// # Errors
+    ///
+    /// `DuplicateTag` where the keys do not rise so and one is repeated: with the first key, in the
+    /// order of the tags, that is at an earlier place too. `OutOfMemory` where a request for
+    /// memory was refused. The series is dropped in both cases.
+    pub fn generate_base(self, alloc: Global) -> Result<CowStr<'a>>
+        ensures value { GivesBase result (base_of self.entry.raw_input.now (read_of self.entry.measurement)
+            (some_tags (option_map tags_of self.entry.tag_set))) }
+        ensures memory { is_borrowed (base_of self.entry.raw_input.now (read_of self.entry.measurement)
+            (some_tags (option_map tags_of self.entry.tag_set))) ≡ true → IsNotOutOfMemory result }
+    {
+        base(alloc, self.raw_input, &self.measurement, tags_in(&self))
+    }
+
+    /// Whether the base of this series is safe to group by.
+    ///
+    /// It is if the measurement and the tag values hold no comma and the tag keys no `=`, which divide the names in a base, and
+    /// no name is one byte alone that a backslash may escape in it, such as the tag key `,`: some bases have the backslash
+    /// then, and some do not. Two series that were read, that repeat no key, and whose bases are both safe, have the same base
+    /// exactly if they have the same measurement and the same tags, in any order; `laws::bases_tell_series` says so.
+    ///
+    /// It takes no memory, and reads each name once.
+    ///
+    /// ```text
+    /// m,a=1,b=2      true
+    /// m,a=1\,b\=2    false: the value holds a comma
+    /// m,\,=v         false: the key is a comma alone
+    /// m,,=v          false: it is the same series
+    /// ```
+    pub fn is_base_safe(&self) -> bool
+        ensures { result ≡ is_base_safe (read_of self.now.measurement) (some_tags (option_map tags_of self.now.tag_set)) }
+    {
+        !is_ambiguous(&self.measurement, tags_in(self))
+    }
+}
+
+// Whether the byte is among these.
+fn has_byte(bytes: &[u8], wanted: u8) -> bool
+    ensures { result ≡ is_one_of bytes.now wanted }
+{
+    bytes.iter().any(|byte| *byte == wanted)
+}
+
+// Whether a name is one byte that a backslash may escape in it.
+fn is_known_alone(kind: TokenKind, name: &[u8]) -> bool
+    ensures { result ≡ is_byte_alone (known_of kind) name.now }
+{
+    match name {
+        [byte] => kind.is_known(*byte),
+        _ => false,
+    }
+}
+
+// Whether a name is ambiguous in a base, where this byte divides it from the next name.
+fn is_ambiguous_name(kind: TokenKind, divider: u8, name: &EscapedStr<'_>) -> bool
+    ensures { result ≡ is_ambiguous_name (known_of kind) divider (text_of name.now) }
+{
+    let bytes = name.as_str().as_bytes();
+    has_byte(bytes, divider) || is_known_alone(kind, bytes)
+}
+
+// Whether a name of the tag is ambiguous in a base.
+fn is_ambiguous_tag<'a>(key: &EscapedStr<'a>, value: &EscapedStr<'a>) -> bool
+    ensures { result ≡ is_ambiguous_tag (tag_of (key.now, value.now)) }
+{
+    is_ambiguous_name(TokenKind::TagKey, b'=', key)
+        || is_ambiguous_name(TokenKind::TagValue, b',', value)
+}
+
+// Whether a name of some tag is ambiguous in a base.
+fn is_some_ambiguous<'a>(tags: &[(EscapedStr<'a>, EscapedStr<'a>)]) -> bool
+    ensures { result ≡ list_any (λ t. is_ambiguous_tag (tag_of t)) tags.now }
+{
+    tags.iter().any(|(key, value)| is_ambiguous_tag(key, value))
+}
+
+// Whether a name of the measurement or of the tags is ambiguous in their base.
+#[tactic(auto, using(crate::proofs::lemmas::series::BaseLemmas::any_ambiguous))]
+fn is_ambiguous<'a>(measurement: &EscapedStr<'a>, tags: &[(EscapedStr<'a>, EscapedStr<'a>)]) -> bool
+    ensures { not result ≡ is_base_safe (read_of measurement.now) (map tag_of tags.now) }
+{
+    is_ambiguous_name(TokenKind::Measurement, b',', measurement) || is_some_ambiguous(tags)
+}
+
+// The base of a series with this raw text, measurement and tags.
+fn base<'a>(
+    alloc: Global,
+    raw_input: &'a str,
+    measurement: &EscapedStr<'a>,
+    tags: &[(EscapedStr<'a>, EscapedStr<'a>)],
+) -> Result<CowStr<'a>>
+    ensures value { GivesBase result (base_of raw_input.now (read_of measurement.now) (map tag_of tags.now)) }
+    ensures memory { is_borrowed (base_of raw_input.now (read_of measurement.now) (map tag_of tags.now)) ≡ true → IsNotOutOfMemory result }
+{
+    if !keys_rise(tags) {
+        let base = base_by_key(alloc, measurement.as_str(), tags)?;
+        return Ok(CowStr::Owned(base));
+    }
+    if is_all_single(measurement, tags) {
+        return Ok(CowStr::Borrowed(raw_input));
+    }
+    let base = base_in_order(alloc, measurement.as_str(), tags)?;
+    Ok(CowStr::Owned(base))
+}
+
+// Whether each key is greater than the one before it.
+fn keys_rise<'a>(tags: &[(EscapedStr<'a>, EscapedStr<'a>)]) -> bool
+    ensures { result ≡ is_strictly_sorted (keys_of (map tag_of tags.now)) }
+{
+    for at in 1..tags.len() {
+        if tags[at - 1].0 >= tags[at].0 {
+            return false;
+        }
+    }
+    true
+}
+
+// Whether the text is a part of the input.
+fn is_single<'a>(text: &EscapedStr<'a>) -> bool
+    ensures { result ≡ is_single_slice text.now }
+{
+    matches!(text, EscapedStr::SingleSlice(_))
+}
+
+// Whether all keys and values are parts of the input.
+fn are_single<'a>(tags: &[(EscapedStr<'a>, EscapedStr<'a>)]) -> bool
+    ensures { result ≡ list_all (λ t. is_single_tag (tag_of t)) tags.now }
+{
+    tags.iter()
+        .all(|(key, value)| is_single(key) && is_single(value))
+}
+
+// Whether the measurement and all keys and values are parts of the input.
+#[tactic(auto, using(crate::proofs::lemmas::series::BaseLemmas::all_single))]
+fn is_all_single<'a>(
+    measurement: &EscapedStr<'a>,
+    tags: &[(EscapedStr<'a>, EscapedStr<'a>)],
+) -> bool
+    ensures { result ≡ (is_single_slice measurement.now && list_all is_single_tag (map tag_of tags.now)) }
+{
+    is_single(measurement) && are_single(tags)
+}
+
+// Appends a tag, unescaped.
+fn push_tag(base: &mut String, key: &str, value: &str) -> std::result::Result<(), AllocError>
+    ensures { OnOk result (string_bytes base.new ≡ string_bytes base.old ++ based_tag (key.now, value.now)) }
+{
+    base.push_str(",")?;
+    base.push_str(key)?;
+    base.push_str("=")?;
+    base.push_str(value)
+}
+
+// The length of a base, and the greatest number where no `usize` holds it.
+fn base_len<'a>(measurement: &str, tags: &[(EscapedStr<'a>, EscapedStr<'a>)]) -> usize
+    ensures { result ≡ min (length (base_text measurement.now (in_order (map tag_of tags.now)))) (2 ^ 64 - 1) }
+{
+    let mut len = measurement.len();
+    for (key, value) in tags {
+        len = len.saturating_add(2);
+        len = len.saturating_add(key.as_str().len());
+        len = len.saturating_add(value.as_str().len());
+    }
+    len
+}
+
+// The base with the tags in their own order.
+fn base_in_order<'a>(
+    alloc: Global,
+    measurement: &str,
+    tags: &[(EscapedStr<'a>, EscapedStr<'a>)],
+) -> std::result::Result<String, AllocError>
+    ensures { IfOk result (λ base. string_bytes base ≡ base_text measurement.now (in_order (map tag_of tags.now))) }
+{
+    let mut base = String::with_capacity(alloc, base_len(measurement, tags))?;
+    base.push_str(measurement)?;
+    for (key, value) in tags {
+        push_tag(&mut base, key.as_str(), value.as_str())?;
+    }
+    Ok(base)
+}
+
+// The tags as a map, or the first repeated key.
+fn tag_map<'t, 'a>(
+    alloc: Global,
+    tags: &'t [(EscapedStr<'a>, EscapedStr<'a>)],
+) -> Result<BTreeMap<&'t str, &'t str>>
+    ensures { GivesMap result (map tag_of tags.now) }
+{
+    let mut map = BTreeMap::new(alloc);
+    for (key, value) in tags {
+        let name = key.as_str();
+        if map.contains_key(name) {
+            let tag_key = String::from_str(alloc, name)?;
+            return Err(Error::DuplicateTag { tag_key });
+        }
+        map.insert(name, value.as_str())?;
+    }
+    Ok(map)
+}
+
+// The measurement and the tags of a map, unescaped; `len` is how long that is.
+fn base_of_map(
+    alloc: Global,
+    len: usize,
+    measurement: &str,
+    tags: &BTreeMap<&str, &str>,
+) -> std::result::Result<String, AllocError>
+    ensures { IfOk result (λ base. string_bytes base ≡ base_text measurement.now (map entry_bytes tags.now.entries)) }
+{
+    let mut base = String::with_capacity(alloc, len)?;
+    base.push_str(measurement)?;
+    for (key, value) in tags {
+        push_tag(&mut base, *key, *value)?;
+    }
+    Ok(base)
+}
+
+// The base with the tags in the order of their keys.
+#[tactic(auto, unfolding(crate::specs::code::Bases::base_by_key))]
+fn base_by_key<'a>(
+    alloc: Global,
+    measurement: &str,
+    tags: &[(EscapedStr<'a>, EscapedStr<'a>)],
+) -> Result<String>
+    ensures { GivesOwned result (base_by_key measurement.now (map tag_of tags.now)) }
+{
+    let map = tag_map(alloc, tags)?;
+    let len = base_len(measurement, tags);
+    Ok(base_of_map(alloc, len, measurement, &map)?)
+}

@@ -1,0 +1,15 @@
+//! Lines: what each says, one after another, as [`parse_lines`] gives them.
+//!
+//! The pieces of a text and the parts of a line come together here. A parsed line, its text and the base of its series
+//! stand in one crate, since what is written of a type belongs to the crate of that type.
+#![tactic(auto)]
+
+mod base;
+mod fields;
+mod line;
+pub mod parsed;
+mod shown;
+mod tags;
+
+pub use line::{ParseLines, parse_lines, parse_lines_in};
+pub use parsed::{FieldSet, ParsedLine, Series, TagSet};

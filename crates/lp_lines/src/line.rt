@@ -1,0 +1,312 @@
+//! Lines.
+
+ghost use Rattle.std.specs.Prelude.{◌≡◌, ◌<◌, ◌≤◌, ◌++◌, ◌^◌, ℕ, List, [], length, max, slice_index, true, Err, None, Some, IfSome};
+ghost use Rattle.std.specs.Prelude.{MatchOption};
+ghost use Rattle.std.specs.Option.{option_map};
+ghost use Rattle.lp_format.specs.format.Dialects.{Crate};
+ghost use Rattle.lp_split.specs.code.Rules.{rules_of};
+ghost use Rattle.lp_format.specs.format.Lines.{answer, front_before};
+ghost use Rattle.lp_format.specs.format.Bytes.{space};
+ghost use Rattle.lp_values.specs.code.Outcomes.{IsNotOutOfMemory};
+ghost use Rattle.lp_format.specs.code.Light.{inline_fields, inline_tags, is_light_in};
+ghost use Rattle.lp_lines.specs.code.Lookups.{room_of};
+ghost use Rattle.lp_lines.specs.code.Parsed.{FillsLine};
+ghost use Rattle.lp_format.specs.format.Trimming.{trimmed};
+ghost use Rattle.lp_lines.specs.code.ReadInto.{IsEmptyLine, KeepsTagRoom};
+
+use crate::{ParsedLine, Series, TagSet, fields, tags};
+use lp_split::Dialect;
+use lp_split::split::{SplitLines, dialect_of, split_lines_in};
+use lp_values::names::{self, NameKind};
+use lp_values::trim::{strip_byte, trim_start_spaces, trimmed};
+use lp_values::{Error, ErrorKind, EscapedStr, Result, values};
+use smallvec::SmallVec;
+use std::alloc::Global;
+use std::marker::Model;
+use std::mem;
+
+// What comes before `rest`, which ends `line` and begins with a space.
+#[inline(always)]
+fn front_before<'a>(line: &'a str, rest: &str) -> &'a str
+    requires ends { (front : List ℕ) × (line.now ≡ front ++ rest.now) }
+    requires space { slice_index rest.now 0 ≡ space }
+    ensures { result.now ≡ front_before line.now rest.now }
+{
+    &line[..line.len() - rest.len()]
+}
+
+// Fills the line `parsed`, which has empty sets, with what the trimmed text `line` says. At a fault it is filled in part.
+// A tag set that has grown is kept at `spare`, where that is given and the line has no tags.
+#[tactic(auto, unfolding(lp_format::specs::format::Lines::answer))]
+#[inline(never)]
+fn fill<'a>(
+    alloc: Global,
+    dialect: Dialect,
+    line: &'a str,
+    parsed: &mut ParsedLine<'a>,
+    spare: Option<&mut Option<TagSet<'a>>>,
+) -> Result<()>
+    requires no_tags { MatchOption parsed.old.series.tag_set ⊥ (λ tags. tags.items ≡ []) }
+    requires no_fields { parsed.old.field_set.items ≡ [] }
+    ensures value { FillsLine parsed.new result (answer (rules_of dialect) line.now) }
+    ensures light { is_light_in (room_of parsed.old.series.tag_set) parsed.old.field_set.capacity (rules_of dialect)
+        line.now ≡ true → IsNotOutOfMemory result }
+    ensures tag_room { KeepsTagRoom parsed.old parsed.new }
+    ensures field_room { parsed.old.field_set.capacity ≤ parsed.new.field_set.capacity }
+{
+    let Some((measurement, rest)) = names::name(alloc, NameKind::Measurement, line)? else {
+        return Err(Error::MeasurementValueInvalid);
+    };
+    parsed.series.measurement = measurement;
+    let rest = tags::tag_set(alloc, rest, &mut parsed.series.tag_set, spare)?;
+    let Some(_after_space) = strip_byte(b' ', rest) else {
+        return Err(Error::GenericParsingError {
+            kind: ErrorKind::TakeWhile1,
+        });
+    };
+    parsed.series.raw_input = front_before(line, rest);
+    let Some(rest) = fields::field_set(
+        alloc,
+        dialect,
+        trim_start_spaces(rest),
+        &mut parsed.field_set,
+    )?
+    else {
+        return Err(Error::FieldSetMissing);
+    };
+    let (timestamp, rest) = values::timestamp(alloc, rest)?;
+    if !rest.is_empty() {
+        let trailing_content = String::from_str(alloc, rest)?;
+        return Err(Error::CannotParseEntireLine { trailing_content });
+    }
+    parsed.timestamp = timestamp;
+    Ok(())
+}
+
+// Makes the tag set of a line ready to be filled: it is there, empty, and keeps its room. Where there is none, it is
+// the one at `spare`, or a new one.
+#[inline(always)]
+fn clear_tags<'a>(alloc: Global, set: &mut Option<TagSet<'a>>, spare: &mut Option<TagSet<'a>>)
+    ensures empty { MatchOption set.new ⊥ (λ tags. tags.items ≡ []) }
+    ensures room { max inline_tags (room_of set.old) ≤ room_of set.new }
+{
+    if set.is_none() && spare.is_some() {
+        *set = spare.take();
+    }
+    match set {
+        Some(tags) => {
+            let _at_least_inline = tags.capacity();
+            tags.clear();
+        }
+        None => *set = Some(SmallVec::new(alloc)),
+    }
+}
+
+// Makes the sets of a line ready to be filled: it has both, they are empty, and they keep their room.
+#[inline(always)]
+fn clear_sets<'a>(alloc: Global, parsed: &mut ParsedLine<'a>, spare: &mut Option<TagSet<'a>>)
+    ensures no_tags { MatchOption parsed.new.series.tag_set ⊥ (λ tags. tags.items ≡ []) }
+    ensures no_fields { parsed.new.field_set.items ≡ [] }
+    ensures tag_room { max inline_tags (room_of parsed.old.series.tag_set) ≤ room_of parsed.new.series.tag_set }
+    ensures field_room { parsed.new.field_set.capacity ≡ max inline_fields parsed.old.field_set.capacity }
+{
+    let _at_least_inline = parsed.field_set.capacity();
+    parsed.field_set.clear();
+    clear_tags(alloc, &mut parsed.series.tag_set, spare);
+}
+
+// Empties a line that is at fault; its sets keep their room.
+#[cold]
+#[inline(never)]
+fn empty(parsed: &mut ParsedLine<'_>)
+    ensures empty { IsEmptyLine parsed.new }
+    ensures tag_room { option_map (λ tags. tags.capacity) parsed.new.series.tag_set ≡ option_map
+        (λ tags. tags.capacity) parsed.old.series.tag_set }
+    ensures field_room { parsed.new.field_set.capacity ≡ parsed.old.field_set.capacity }
+{
+    parsed.series.raw_input = "";
+    parsed.series.measurement = EscapedStr::SingleSlice("");
+    if let Some(tags) = &mut parsed.series.tag_set {
+        tags.clear();
+    }
+    parsed.field_set.clear();
+    parsed.timestamp = None;
+}
+
+// Makes the item of a line that is at fault. What was read of the line is dropped here, and nowhere else.
+#[cold]
+#[inline(never)]
+fn refuse(item: &mut Result<ParsedLine<'_>>, fault: Error)
+    ensures { item.new ≡ Err fault }
+{
+    *item = Err(fault);
+}
+
+/// The lines of a text, one after another: what [`parse_lines`] gives.
+///
+/// Each item is the answer for one piece that holds more than blanks and comments: what its line
+/// says, or its one fault. Where a line has a tag set, that holds at least one tag. Whatever an item
+/// is, the next ones are those of the pieces after it. There are at most `input.len()` items, and it
+/// stays ended.
+#[derive(Drop)]
+pub struct ParseLines<'a> {
+    lines: SplitLines<'a>,
+    // A tag set that has grown, of a line that has none now: the next line without one gets it.
+    spare: Option<TagSet<'a>>,
+    alloc: Global,
+}
+
+impl<'a> Model for ParseLines<'a> {
+    ghost use Rattle.lp_format.specs.format.Pieces.{Left};
+
+    ghost Value = { Left };
+
+    ghost view = { λ s. s.lines };
+}
+
+impl<'a> ParseLines<'a> {
+    ghost use Rattle.std.specs.Prelude.{IfNone};
+    ghost use Rattle.lp_lines.specs.code.ParseSteps.{GivesItem, GivesLine, most_items};
+    ghost use Rattle.lp_lines.specs.code.ReadInto.{GivesInRoom, LeavesEmpty, item_in};
+
+    // The next piece that holds more than blanks and comments, without those before it.
+    #[inline(always)]
+    fn next_line(&mut self) -> Option<&'a str>
+        ensures gives { GivesLine self.old result self.new }
+        ensures fewer { IfSome result (λ line. most_items self.new.text < most_items self.old.text) }
+        ensures fits { IfSome result (λ line. length line.now < 2 ^ 63) }
+    {
+        while let Some(piece) = self.lines.next() {
+            let line = trimmed(piece);
+            if !line.is_empty() {
+                return Some(line);
+            }
+        }
+        None
+    }
+
+    /// The text that is left: what comes after the piece of the last item, or `None` once there is none.
+    ///
+    /// Where an item ends in the text is told by it: `input.len() - rest.len()` bytes from the start, after its newline; or
+    /// with the input, where nothing is left. So the number of the last line of an item is that of the newlines up to
+    /// there, and one more where nothing is left.
+    ///
+    /// ```text
+    /// "m a=1i\n# c\nm b=x"  after the line m a=1i     Some("# c\nm b=x"): one newline before it, so it ends line 1
+    ///                       after the fault of m b=x  None: two newlines in all, so it ends line 3
+    /// ```
+    pub fn remainder(&self) -> Option<&'a str>
+        ensures { option_map (λ rest. rest.now) result ≡ self.now.text }
+    {
+        self.lines.remainder()
+    }
+
+    /// Reads the next item into a line that is used again.
+    ///
+    /// After `Some(Ok(()))` the line is what `next` would have given. After `Some(Err(..))`, the fault that `next` would
+    /// have given, it is empty. With `None`, which says that no item is left, it stays as it was.
+    ///
+    /// The sets of the line keep their room. So a line asks for no memory where its tags and fields fit them, or the
+    /// room that new sets have, and it needs none for copies and for the text of a fault.
+    #[inline(always)]
+    pub fn next_into(&mut self, line: &mut ParsedLine<'a>) -> Option<Result<()>>
+        ensures gives { GivesItem self.old (option_map (item_in line.new) result) self.new }
+        ensures fewer { IfSome result (λ answer. most_items self.new.text < most_items self.old.text) }
+        ensures fault { LeavesEmpty line.new result }
+        ensures ended { IfNone result (line.new ≡ line.old) }
+        ensures tag_room { KeepsTagRoom line.old line.new }
+        ensures field_room { line.old.field_set.capacity ≤ line.new.field_set.capacity }
+        ensures memory { GivesInRoom (max inline_tags (room_of line.old.series.tag_set))
+            (max inline_fields line.old.field_set.capacity) self.old result self.new }
+    {
+        let text = self.next_line()?;
+        clear_sets(self.alloc, line, &mut self.spare);
+        match fill(
+            self.alloc,
+            dialect_of(&self.lines),
+            text,
+            line,
+            Some(&mut self.spare),
+        ) {
+            Ok(()) => Some(Ok(())),
+            Err(fault) => {
+                empty(line);
+                Some(Err(fault))
+            }
+        }
+    }
+}
+
+/// Reads the pieces of a text, one item for each that holds more than blanks and comments.
+///
+/// A piece is a line, together with the lines after it that it takes in: up to the quote that closes a string, and after a
+/// backslash at its end. A piece that cannot be read is one `Err`, and the next pieces are answered as if it had not been
+/// there. So `m a="x`, a newline and `n b=1i` are one `Err(FieldSetMissing)`, since the quote is never closed.
+///
+/// A refused request for memory is `Err(Error::OutOfMemory)` in its line's place. A line of
+/// at most 8 tags and 4 fields asks for none where each name and string of it is a part of the
+/// input, or where it holds no backslash and its fault carries no text.
+pub fn parse_lines(alloc: Global, input: &str) -> ParseLines<'_>
+    ensures { result ≡ record { dialect = Crate; text = Some input.now } }
+{
+    parse_lines_in(alloc, Dialect::Crate, input)
+}
+
+/// Reads all lines of a text by the rules of a dialect.
+///
+/// [`parse_lines`] does so by those of the crate; what it says of faults and of memory holds here too. In the strict
+/// dialect a comment ends at its own newline, and a comma after the first field stays in the rest of the line unless a
+/// second field follows it.
+///
+/// ```text
+/// parse_lines_in(alloc, Dialect::Crate, "m a=1i,")   gives  Ok, with the field a=1i
+/// parse_lines_in(alloc, Dialect::Strict, "m a=1i,")  gives  CannotParseEntireLine, with the rest ","
+/// ```
+#[inline]
+pub fn parse_lines_in(alloc: Global, dialect: Dialect, input: &str) -> ParseLines<'_>
+    ensures { result ≡ record { dialect = rules_of dialect; text = Some input.now } }
+{
+    ParseLines {
+        lines: split_lines_in(dialect, input),
+        spare: None,
+        alloc,
+    }
+}
+
+impl<'a> Iterator for ParseLines<'a> {
+    type Item = Result<ParsedLine<'a>>;
+
+    ghost use Rattle.std.specs.Iterator.{at_most};
+    ghost use Rattle.lp_lines.specs.code.ParseSteps.{GivesItem, most_items};
+
+    ghost next_gives = { GivesItem };
+
+    ghost remaining = { λ left. at_most (most_items left.text) };
+
+    // The item is made with an empty line in it, and filled in place: a line is large, and each move of it is a copy. It is
+    // made before its text is found: locals are zeroed where a function starts, and only there does the compiler see that
+    // all of this one is written, and leave out the zeros.
+    #[inline(always)]
+    fn next(&mut self) -> Option<Result<ParsedLine<'a>>> {
+        let mut item = Ok(ParsedLine {
+            series: Series {
+                raw_input: "",
+                measurement: EscapedStr::SingleSlice(""),
+                tag_set: Some(SmallVec::new(self.alloc)),
+            },
+            field_set: SmallVec::new(self.alloc),
+            timestamp: None,
+        });
+        let Some(line) = self.next_line() else {
+            // It holds no memory, and to drop it would visit each place of its sets.
+            mem::forget(item);
+            return None;
+        };
+        if let Ok(parsed) = &mut item {
+            if let Err(fault) = fill(self.alloc, dialect_of(&self.lines), line, parsed, None) {
+                refuse(&mut item, fault);
+            }
+        }
+        Some(item)
+    }
+}

@@ -1,0 +1,129 @@
+-- Masks of loads: what is left of one without its lowest bits, and what its bits tell.
+use Rattle.std.proofs.Common.{◌≡◌, ℕ, zero, suc, ◌+◌, ◌-◌, ◌*◌, ◌/◌, ◌^◌, ◌<◌, ◌≤◌, Bool, true, cond, not, List, [], ◌∷◌, map}
+use Rattle.std.proofs.Common.{length, take, drop, sym, ap, ◌∙◌, arith, ◌%◌, ◌++◌, get_or, refl, inl, inr, take-append-drop}
+use native.Mathlib.Nat.{pow-suc, mul_comm, zero-div, div-one, div-div-eq-div-mul, add-mul-mod_self_right}
+use Rattle.std.proofs.lemmas.Simd.{ones-mask_l, length-chunk, first_set_mask_l, run_in_chunk_le, run_in_chunk_fails, run_in_chunk_stops}
+use Rattle.std.proofs.lemmas.Simd.{map-map, mask_l-mod, get_or-chunk}
+use Rattle.std.proofs.lemmas.List.{drop-drop, drop-take, drop-map, drop_all, length-map, length-take, get_or_past}
+use Rattle.std.specs.List.{count_by, prefix_len}
+use Rattle.std.specs.Prelude.{count_ones}
+use lib.Lanes.{chunk, mask_l, top}
+use Rattle.lp_scan.specs.code.Lanes.{first_set, mask_of, IsRunIn}
+use Rattle.std.proofs.lemmas.Bool.{cases_lt, agree_below, agree_below_at}
+
+-- half of a mask is the mask without its lowest bit
+pub half : (b : Bool) (n : ℕ) → (cond b 1 0 + 2 * n) / 2 ≡ n
+half b n = grind arith
+
+-- a mask without its lowest bits is the mask of the lanes after them
+pub mask_l-drop : (ms : List Bool) (k : ℕ) → mask_l ms / 2 ^ k ≡ mask_l (drop k ms)
+mask_l-drop [] zero = zero-div (2 ^ 0)
+mask_l-drop [] (suc k) = zero-div (2 ^ suc k)
+mask_l-drop (m ∷ ms) zero = div-one (mask_l (m ∷ ms))
+mask_l-drop (m ∷ ms) (suc k) =
+    ap (λ n. mask_l (m ∷ ms) / n) (pow-suc 2 k ∙ mul_comm (2 ^ k) 2)
+    ∙ sym (div-div-eq-div-mul (mask_l (m ∷ ms)) 2 (2 ^ k))
+    ∙ ap (λ n. n / 2 ^ k) (half m (mask_l ms))
+    ∙ mask_l-drop ms k
+
+module _ (test : ℕ → Bool) (bytes : List ℕ) (at n : ℕ) where
+  -- shifted, the mask of a load is that of the bytes after
+  pub shifted : (k : ℕ) → k ≤ n → mask_of test bytes at n / 2 ^ k ≡ mask_of test bytes (at + k) (n - k)
+  shifted k within =
+      mask_l-drop (map test (chunk at n bytes)) k
+      ∙ ap mask_l (drop-map test k (chunk at n bytes)
+      ∙ ap (map test) (
+      ap (λ m. drop k (take m (drop at bytes))) (omega arith)
+      ∙ drop-take k (n - k) (drop at bytes)
+      ∙ ap (take (n - k)) (drop-drop k at bytes)))
+
+  -- its lowest bit is the first byte that passes the test
+  pub lowest : at + n ≤ length bytes → n ≤ 64
+      → first_set (mask_of test bytes at n) n ≡ prefix_len (λ b. not (test b)) (chunk at n bytes)
+  lowest room few = first_set_mask_l test (chunk at n bytes) n (length-chunk at n bytes room) few
+
+  -- its bits count the bytes that pass the test
+  pub ones : count_ones (mask_of test bytes at n) ≡ count_by test (chunk at n bytes)
+  ones = ones-mask_l test (chunk at n bytes)
+
+-- where two tests agree on each byte of a list, they give one list of answers
+map_agree : (f g : ℕ → Bool) (v : List ℕ) → ((k : ℕ) → f (get_or v k 0) ≡ g (get_or v k 0)) → map f v ≡ map g v
+map_agree f g [] same = refl
+map_agree f g (x ∷ v) same =
+    let first : f x ≡ g x = same 0 in
+    let rest = map_agree f g v (λ k. same (suc k)) in
+    rw (first, rest) refl
+
+module _ (test : ℕ → Bool) (bytes : List ℕ) (at n : ℕ) (room : at + n ≤ length bytes) (few : n ≤ 64) where
+  -- a byte of a load
+  in_load : ((k : ℕ) → get_or bytes k 0 < 256) → (k : ℕ) → get_or (chunk at n bytes) k 0 < 256
+  in_load fits k =
+      elim (cases_lt k n) [
+        | inl inside ↦ rw (get_or-chunk at n bytes k 0 inside) (fits (at + k))
+        | inr outside ↦ rw (get_or_past (chunk at n bytes) k 0 (omega (arith, length-chunk at n bytes room))) (omega arith)
+      ]
+
+  -- where a lane is set just where its byte passes the test, at each of the 256 bytes, the bits of the lanes are the mask
+  pub mask_is : (z : List ℕ) (f : ℕ → ℕ) → z ≡ map f (chunk at n bytes) → ((k : ℕ) → get_or bytes k 0 < 256)
+      → agree_below (λ x. top 7 (f x)) test 256 ≡ true → mask_l (map (top 7) z) % 2 ^ 64 ≡ mask_of test bytes at n
+  mask_is z f lanes fits all =
+      let v = chunk at n bytes in
+      let set : ℕ → Bool = λ x. top 7 (f x) in
+      let tops = ap (map (top 7)) lanes ∙ map-map (top 7) f v in
+      let same = map_agree set test v (λ k. agree_below_at set test 256 (get_or v k 0) all (in_load fits k)) in
+      ap (λ l. mask_l l % 2 ^ 64) (tops ∙ same)
+      ∙ mask_l-mod (map test v) 64 (omega (arith, length-map v test, length-chunk at n bytes room))
+
+  -- the same, where each byte is compared with bytes that are not known
+  pub mask_by_lanes : (f : ℕ → ℕ) → ((x : ℕ) → top 7 (f x) ≡ test x) → (z : List ℕ) → z ≡ map f (chunk at n bytes)
+      → mask_l (map (top 7) z) % 2 ^ 64 ≡ mask_of test bytes at n
+  mask_by_lanes f same z lanes =
+      let v = chunk at n bytes in
+      ap (λ (l : List Bool). mask_l l % 2 ^ 64)
+      (ap (map (top 7)) lanes ∙ map-map (top 7) f v ∙ ap (λ (g : ℕ → Bool). map g v) (λ j x. same x j))
+      ∙ mask_l-mod (map test v) 64 (omega (arith, length-map v test, length-chunk at n bytes room))
+
+  -- the lowest bit of a mask tells how far the bytes go that fail the test
+  pub run_is : (r : ℕ) → r ≡ first_set (mask_of test bytes at n) n → IsRunIn (λ b. not (test b)) bytes at n r
+  run_is r found =
+      let counted = found ∙ lowest test bytes at n room few in (
+        run_in_chunk_le test bytes at n r 0 room counted,
+        λ k from to. ap not (run_in_chunk_fails test bytes at n r 0 room counted k from to),
+        λ short. ap not (run_in_chunk_stops test bytes at n r 0 room counted short),
+      )
+
+-- no bit of a mask comes after its load
+after : (test : ℕ → Bool) (bytes : List ℕ) (at n k : ℕ) → at + n ≤ length bytes → n ≤ k → mask_of test bytes at n / 2 ^ k ≡ 0
+after test bytes at n k room past =
+    mask_l-drop (map test (chunk at n bytes)) k
+    ∙ ap mask_l (drop_all k (map test (chunk at n bytes)) (omega (arith, length-map (chunk at n bytes) test, length-chunk at n bytes room)))
+
+-- the lowest bit of a mask from a place on tells how far the bytes go from there that fail the test
+pub next_is : (test : ℕ → Bool) (bytes : List ℕ) (at n k r : ℕ) → at + n ≤ length bytes → n ≤ 64
+    → r ≡ first_set (mask_of test bytes at n / 2 ^ k) (n - k) → IsRunIn (λ b. not (test b)) bytes (at + k) (n - k) r
+next_is test bytes at n k r room few found =
+    elim (cases_lt n k) [
+      | inl past ↦
+          let none : r ≡ 0 = found ∙ ap (λ m. first_set m (n - k)) (after test bytes at n k room (omega arith)) ∙ omega arith in
+          (omega arith, λ j from to. absurd (omega arith), λ short. absurd (omega arith))
+      | inr inside ↦
+          run_is test bytes (at + k) (n - k) (omega arith) (omega arith) r
+          (found ∙ ap (λ m. first_set m (n - k)) (shifted test bytes at n k inside))
+    ]
+
+-- a mask of two lists of lanes is the first's mask with the second's above it
+mask_l-append : (xs ys : List Bool) → mask_l (xs ++ ys) ≡ mask_l xs + mask_l ys * 2 ^ length xs
+mask_l-append [] ys = omega arith
+mask_l-append (x ∷ xs) ys =
+    let rest = mask_l-append xs ys in
+    rw (pow-suc 2 (length xs)) (omega (arith, rest))
+
+-- the lowest bits of a mask are the mask of its first lanes
+pub mask_mod : (ms : List Bool) (k : ℕ) → k ≤ length ms → mask_l ms % 2 ^ k ≡ mask_l (take k ms)
+mask_mod ms k within =
+    let long : length (take k ms) ≡ k = length-take k ms ∙ omega arith in
+    let whole : mask_l ms ≡ mask_l (take k ms) + mask_l (drop k ms) * 2 ^ k =
+    ap mask_l (sym (take-append-drop k ms)) ∙ mask_l-append (take k ms) (drop k ms)
+    ∙ ap (λ (n : ℕ). mask_l (take k ms) + mask_l (drop k ms) * 2 ^ n) long in
+    ap (λ (n : ℕ). n % 2 ^ k) whole ∙ add-mul-mod_self_right (mask_l (take k ms)) (mask_l (drop k ms)) (2 ^ k)
+    ∙ mask_l-mod (take k ms) k (omega (arith, long))

@@ -1,0 +1,4 @@
+pub mod MaskBits
+pub mod EscapedMasks
+pub mod BareMasks
+pub mod MaskPlaces

@@ -1,0 +1,186 @@
+-- Which bytes of a load are escaped, by the borrow of one subtraction.
+use Rattle.std.proofs.Common.{◌≡◌, ℕ, zero, suc, ◌+◌, ◌-◌, ◌*◌, ◌%◌, ◌^◌, ◌<◌, ◌≤◌, Bool, true, false, cond, not, ◌&&◌, ◌||◌, List, [], ◌∷◌}
+use Rattle.std.proofs.Common.{map, length, take, get_or, slice_index, bit_or, bit_xor, refl, sym, ap, ap₂, ◌∙◌, subst, arith}
+use native.Mathlib.Nat.{pow-suc}
+use Rattle.std.specs.Prelude.{◌==◌}
+use Rattle.std.specs.List.{range_with_len}
+use Rattle.std.proofs.lemmas.List.{length-map}
+use Rattle.std.proofs.lemmas.List.FromFn.{length-range_with_len}
+use Rattle.std.proofs.lemmas.Simd.{map-map, mask_l-lt, length-zip2, pick_l-range_with_len}
+use lib.Lanes.{zip2, mask_l}
+use Rattle.lp_format.specs.format.Escapes.{is_escaped_after}
+use Rattle.lp_scan.specs.code.Lanes.{mask_of}
+use Rattle.lp_scan.specs.code.Scan.{mask_at, TellsEscaped}
+use Rattle.lp_format.proofs.lemmas.tokens.EscapeLemmas.{is_escaped_more}
+use Rattle.lp_scan.proofs.lemmas.scan.MaskBits.{differs, mask_or, mask_xor}
+
+-- In what follows `ms` are the backslashes from a place on, `odd` says whether that place is an odd one, `after` whether a
+-- backslash comes before it, and `e` whether it is escaped.
+
+-- the places that are escaped
+abbrev pub escapes : Bool → List Bool → List Bool
+escapes e [] = []
+escapes e (m ∷ ms) = e ∷ escapes (not e && m) ms
+
+-- the places after a backslash
+abbrev afters : Bool → List Bool → List Bool
+afters after [] = []
+afters after (m ∷ ms) = after ∷ afters m ms
+
+-- the odd ones of so many places
+abbrev odds : Bool → ℕ → List Bool
+odds odd zero = []
+odds odd (suc n) = odd ∷ odds (not odd) n
+
+-- what the backslashes are taken from: the places after a backslash, and the odd ones
+abbrev minuend : Bool → Bool → List Bool → List Bool
+minuend odd after ms = zip2 (λ a b. a || b) (afters after ms) (odds odd (length ms))
+
+-- what is left
+abbrev difference : Bool → Bool → List Bool → List Bool
+difference odd e [] = []
+difference odd e (m ∷ ms) = differs (differs e odd) m ∷ difference (not odd) (not e && m) ms
+
+-- what is borrowed from a place: at an odd one where it is escaped, at an even one where it is bare after a backslash
+abbrev borrow : Bool → Bool → Bool → Bool
+borrow true after e = e
+borrow false after e = after && not e
+
+-- what is borrowed after the last place
+abbrev borrowed : Bool → Bool → Bool → List Bool → ℕ
+borrowed odd after e [] = cond (borrow odd after e) 1 0
+borrowed odd after e (m ∷ ms) = borrowed (not odd) m (not e && m) ms
+
+-- one place of the subtraction, where only a place after a backslash is escaped
+one_place : (odd after e m : Bool) → (e && not after) ≡ false
+    → cond (after || odd) 1 0 + 2 * cond (borrow (not odd) m (not e && m)) 1 0 ≡ cond (differs (differs e odd) m) 1
+    0 + cond m 1 0 + cond (borrow odd after e) 1 0
+one_place odd after e m h = grind arith
+
+after_it : (e m : Bool) → ((not e && m) && not m) ≡ false
+after_it e m = grind arith
+
+-- the subtraction: what is left, and the backslashes
+subtracted : (odd after e : Bool) (ms : List Bool) → (e && not after) ≡ false
+    → mask_l (minuend odd after ms) + 2 ^ length ms * borrowed odd after e ms ≡ mask_l (difference odd e ms) +
+    mask_l ms + cond (borrow odd after e) 1 0
+subtracted odd after e [] h = omega arith
+subtracted odd after e (m ∷ ms) h =
+    let rest = subtracted (not odd) m (not e && m) ms (after_it e m) in
+    let here = one_place odd after e m h in
+    rw (pow-suc 2 (length ms)) (omega (arith, rest, here))
+
+-- the last of the lanes that come after a first one
+abbrev last_of : Bool → List Bool → Bool
+last_of after [] = after
+last_of after (m ∷ ms) = last_of m ms
+
+-- the mask of the backslashes, one place further
+shifted : (after : Bool) (ms : List Bool)
+    → mask_l (afters after ms) + 2 ^ length ms * cond (last_of after ms) 1 0 ≡ cond after 1 0 + 2 * mask_l ms
+shifted after [] = omega arith
+shifted after (m ∷ ms) = rw (pow-suc 2 (length ms)) (omega (arith, shifted m ms))
+
+-- from what is left to the escaped places
+undone : (e odd m : Bool) → differs (differs (differs (differs e odd) m) odd) m ≡ e
+undone e odd m = grind arith
+
+all_undone : (odd e : Bool) (ms : List Bool) → zip2 differs (zip2 differs (difference odd e ms) (odds odd (length ms))) ms ≡ escapes e ms
+all_undone odd e [] = refl
+all_undone odd e (m ∷ ms) = ap₂ (λ (b : Bool) (bs : List Bool). b ∷ bs) (undone e odd m) (all_undone (not odd) (not e && m) ms)
+
+-- each list has a lane for each byte
+long_afters : (after : Bool) (ms : List Bool) → length (afters after ms) ≡ length ms
+long_afters after [] = refl
+long_afters after (m ∷ ms) = ap suc (long_afters m ms)
+
+long_odds : (odd : Bool) (n : ℕ) → length (odds odd n) ≡ n
+long_odds odd zero = refl
+long_odds odd (suc n) = ap suc (long_odds (not odd) n)
+
+long_difference : (odd e : Bool) (ms : List Bool) → length (difference odd e ms) ≡ length ms
+long_difference odd e [] = refl
+long_difference odd e (m ∷ ms) = ap suc (long_difference (not odd) (not e && m) ms)
+
+-- the mask of the odd ones of 64 places
+abbrev pub odd_places : ℕ
+odd_places = 0xAAAA_AAAA_AAAA_AAAA
+
+module _ (ms : List Bool) (long : length ms ≡ 64) where
+  -- a mask of as many lanes fits
+  fits : (ls : List Bool) → length ls ≡ length ms → mask_l ls < 2 ^ 64
+  fits ls same = subst (λ (n : ℕ). mask_l ls < 2 ^ n) (same ∙ long) (mask_l-lt ls)
+
+  odds_are : mask_l (odds false (length ms)) ≡ odd_places
+  odds_are = ap (λ (n : ℕ). mask_l (odds false n)) long
+
+  afters_are : mask_l ms * 2 % 2 ^ 64 ≡ mask_l (afters false ms)
+  afters_are =
+      let whole : mask_l (afters false ms) + 2 ^ 64 * cond (last_of false ms) 1 0 ≡ 0 + 2 * mask_l ms =
+      subst (λ (n : ℕ). mask_l (afters false ms) + 2 ^ n * cond (last_of false ms) 1 0 ≡ 0 + 2 * mask_l ms) long (shifted false ms) in
+      let below = fits (afters false ms) (long_afters false ms) in
+      omega arith
+
+  minuend_is : bit_or (mask_l ms * 2 % 2 ^ 64) odd_places ≡ mask_l (minuend false false ms)
+  minuend_is =
+      ap₂ bit_or afters_are (sym odds_are)
+      ∙ mask_or (afters false ms) (odds false (length ms)) (long_afters false ms ∙ sym (long_odds false (length ms)))
+
+  long_minuend : length (minuend false false ms) ≡ length ms
+  long_minuend = length-zip2 (λ a b. a || b) (afters false ms) (odds false (length ms))
+      (long_afters false ms ∙ sym (long_odds false (length ms))) ∙ long_afters false ms
+
+  left_is : (bit_or (mask_l ms * 2 % 2 ^ 64) odd_places + (2 ^ 64 - mask_l ms)) % 2 ^ 64 ≡ mask_l (difference false false ms)
+  left_is =
+      let whole : mask_l (minuend false false ms) + 2 ^ 64 * borrowed false false false ms ≡ mask_l
+      (difference false false ms) + mask_l ms + 0 =
+      subst (λ (n : ℕ). mask_l (minuend false false ms) + 2 ^ n * borrowed false false false ms ≡ mask_l
+      (difference false false ms) + mask_l ms + 0)
+      long (subtracted false false false ms refl) in
+      let from = fits (minuend false false ms) long_minuend in
+      let rest = fits (difference false false ms) (long_difference false false ms) in
+      let less = fits ms refl in
+      ap (λ (n : ℕ). (n + (2 ^ 64 - mask_l ms)) % 2 ^ 64) minuend_is ∙ omega arith
+
+  -- what the subtraction tells, where the first place is bare
+  pub escapes_are : bit_xor
+      (bit_xor ((bit_or (mask_l ms * 2 % 2 ^ 64) odd_places + (2 ^ 64 - mask_l ms)) % 2 ^ 64) odd_places)
+      (mask_l ms) ≡ mask_l (escapes false ms)
+  escapes_are =
+      let odd = odds false (length ms) in
+      let diff = difference false false ms in
+      let same : length diff ≡ length odd = long_difference false false ms ∙ sym (long_odds false (length ms)) in
+      ap₂ (λ (a b : ℕ). bit_xor (bit_xor a b) (mask_l ms)) left_is (sym odds_are)
+      ∙ ap (λ (n : ℕ). bit_xor n (mask_l ms)) (mask_xor diff odd same)
+      ∙ mask_xor (zip2 differs diff odd) ms (length-zip2 differs diff odd same ∙ long_difference false false ms)
+      ∙ ap mask_l (all_undone false false ms)
+
+-- the places of a text from one on
+module _ (text : List ℕ) where
+  -- which of them are escaped
+  escaped_places : (n at : ℕ) (e : Bool) → at + n ≤ length text → is_escaped_after (take at text) ≡ e
+      → escapes e (map (λ k. slice_index text k == 92) (range_with_len at n)) ≡ map
+      (λ k. is_escaped_after (take k text)) (range_with_len at n)
+  escaped_places zero at e room is = refl
+  escaped_places (suc n) at e room is =
+      let next : is_escaped_after (take (at + 1) text) ≡ (not e && slice_index text at == 92) =
+      is_escaped_more text at (omega arith) ∙ ap (λ (f : Bool). not f && slice_index text at == 92) is in
+      ap₂ (λ (b : Bool) (bs : List Bool). b ∷ bs) (sym is)
+      (escaped_places n (at + 1) (not e && slice_index text at == 92) (omega arith) next)
+
+  -- a mask of bytes is one of their places
+  pub of_places : (test : ℕ → Bool) (at n : ℕ) → at + n ≤ length text
+      → mask_of test text at n ≡ mask_at (λ k. test (slice_index text k)) at n
+  of_places test at n room =
+      ap (λ (v : List ℕ). mask_l (map test v)) (sym (pick_l-range_with_len 0 text at n room))
+      ∙ ap mask_l (map-map test (λ k. get_or text k 0) (range_with_len at n))
+
+-- what the subtraction tells of a load that begins at a bare place
+pub tells_escaped : (m r : ℕ)
+    → r ≡ bit_xor (bit_xor ((bit_or (m * 2 % 2 ^ 64) odd_places + (2 ^ 64 - m)) % 2 ^ 64) odd_places) m → TellsEscaped m r
+tells_escaped m r made text at room bare is =
+    let ms = map (λ k. slice_index text k == 92) (range_with_len at 64) in
+    let places : m ≡ mask_l ms = is ∙ of_places text (λ b. b == 92) at 64 room in
+    let long : length ms ≡ 64 = length-map (range_with_len at 64) (λ k. slice_index text k == 92) ∙ length-range_with_len at 64 in
+    made ∙ ap (λ (n : ℕ). bit_xor (bit_xor ((bit_or (n * 2 % 2 ^ 64) odd_places + (2 ^ 64 - n)) % 2 ^ 64) odd_places) n) places
+    ∙ escapes_are ms long ∙ ap mask_l (escaped_places text 64 at false room bare)

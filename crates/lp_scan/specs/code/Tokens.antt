@@ -1,0 +1,31 @@
+-- The kinds of token, in the words of the definitions.
+use Rattle.std.specs.Prelude.{ℕ, ◌==◌, ◌||◌, Bool, not, List}
+use Rattle.lp_scan.specs.declared.sets.TokenKind.{TokenKind}
+use Rattle.lp_scan.specs.declared.sets.TokenKind.TheVariants.{Measurement, TagKey, TagValue, FieldKey, String}
+use Rattle.lp_format.specs.format.Bytes.{quote, backslash}
+use Rattle.lp_format.specs.format.Names.{a_measurement, a_tag_key, a_tag_value, a_field_key, is_stop, escapable}
+use Rattle.lp_format.specs.format.Values.{quotable}
+
+-- whether a byte ends a token of this kind where it is bare
+abbrev pub stops_of : TokenKind → ℕ → Bool
+stops_of Measurement = λ b. is_stop a_measurement b
+stops_of TagKey = λ b. is_stop a_tag_key b
+stops_of TagValue = λ b. is_stop a_tag_value b
+stops_of FieldKey = λ b. is_stop a_field_key b
+stops_of String = λ b. b == quote
+
+-- the bytes that a backslash escapes in it
+abbrev pub known_of : TokenKind → List ℕ
+known_of Measurement = escapable a_measurement
+known_of TagKey = escapable a_tag_key
+known_of TagValue = escapable a_tag_value
+known_of FieldKey = escapable a_field_key
+known_of String = quotable
+
+-- whether a byte passes the test or is a backslash
+abbrev pub is_end : (ℕ → Bool) → ℕ → Bool
+is_end stops b = stops b || b == backslash
+
+-- whether a byte neither passes the test nor is a backslash
+abbrev pub is_plain : (ℕ → Bool) → ℕ → Bool
+is_plain stops b = not (is_end stops b)

@@ -1,0 +1,9 @@
+//! Masks of the bytes of a load: which of them end a name or a string, which are backslashes, which are escaped.
+//!
+//! The splitter and the readers of names and strings both search by these masks, and neither uses the other: so what they
+//! share is a crate below both.
+#![tactic(auto)]
+
+pub mod lanes;
+pub mod scan;
+pub mod sets;

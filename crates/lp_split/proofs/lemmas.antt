@@ -1,0 +1,4 @@
+pub mod split
+pub mod stream
+pub mod laws
+pub mod scan

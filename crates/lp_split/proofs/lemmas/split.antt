@@ -1,0 +1,11 @@
+pub mod SplitJumps
+pub mod SplitMasks
+pub mod SplitCounts
+pub mod SplitStretches
+pub mod QuietCuts
+pub mod SplitWalk
+pub mod WideSearch
+pub mod SeenMarks
+pub mod AheadMasks
+pub mod PlainWalks
+pub mod QuotesAhead

@@ -1,0 +1,110 @@
+-- What a walk knows, a byte further.
+use Rattle.std.proofs.Common.{◌≡◌, ◌≢◌, ℕ, ◌+◌, ◌<◌, ◌≤◌, Bool, true, cond, eqb, List, [], ◌∷◌, ◌++◌, ◌∙◌, ap, arith, add-zero, take}
+use Rattle.std.proofs.Common.{length, slice_index, inl, inr}
+use Rattle.std.specs.List.{count_by}
+use Rattle.std.proofs.lemmas.List.{take_more}
+use Rattle.std.proofs.lemmas.List.Sums.{sum_by-append}
+use Rattle.std.proofs.lemmas.Bool.{ne_eqb, cases_Bool}
+pub use Rattle.lp_split.specs.declared.split.resumed.Part.{Part}
+pub use Rattle.lp_split.specs.declared.split.resumed.Part.TheVariants.{Head, Plain, Quoted}
+use Rattle.lp_split.specs.code.Searches.{IsCountOf}
+pub use Rattle.lp_split.specs.code.Tracks.{EndsIn as IsIn}
+use Rattle.lp_format.specs.format.Escapes.{is_escaped_after, bare, IsBareAfter}
+use Rattle.lp_format.specs.format.Piece.{HasMoreEquals}
+use Rattle.lp_format.proofs.lemmas.split.SplitBare.{bare-push_escaped, bare-push_bare}
+use Rattle.lp_format.proofs.lemmas.split.SplitShape.{IsHead-escaped, IsHead-bare, EndsPlain-escaped, EndsPlain-bare}
+use Rattle.lp_format.proofs.lemmas.split.SplitShape.{EndsPlain-start, EndsQuoted-escaped, EndsQuoted-bare, EndsQuoted-start}
+use Rattle.lp_format.proofs.lemmas.split.SplitShape.{EndsQuoted-close}
+
+-- one byte more that is counted
+pub count_by-push : (p : ℕ → Bool) (xs : List ℕ) (b : ℕ) → count_by p (xs ++ b ∷ []) ≡ count_by p xs + cond (p b) 1 0
+count_by-push p xs b = omega (arith, sum_by-append (λ x. cond (p x) 1 0) xs (b ∷ []))
+
+IsCountOf-push : (counted : List ℕ) (e c b : ℕ) → IsCountOf counted e c
+    → IsCountOf (counted ++ b ∷ []) (e + cond (eqb b 61) 1 0) (c + cond (eqb b 44) 1 0)
+IsCountOf-push counted e c b h =
+    record {
+      equals_is = rw (count_by-push (λ x. eqb x 61) counted b) (ap (λ n. n + cond (eqb b 61) 1 0) h.equals_is);
+      commas_is = rw (count_by-push (λ x. eqb x 44) counted b) (ap (λ n. n + cond (eqb b 44) 1 0) h.commas_is);
+    }
+
+IsCountOf-other : (counted : List ℕ) (e c b : ℕ) → IsCountOf counted e c → b ≢ 61 → b ≢ 44 → IsCountOf (counted ++ b ∷ []) e c
+IsCountOf-other counted e c b h n m =
+    record {
+      equals_is = h.equals_is ∙ omega
+          (arith, count_by-push (λ x. eqb x 61) counted b, ap (λ (t : Bool). cond {A = ℕ} t 1 0) (ne_eqb b 61 n));
+      commas_is = h.commas_is ∙ omega
+          (arith, count_by-push (λ x. eqb x 44) counted b, ap (λ (t : Bool). cond {A = ℕ} t 1 0) (ne_eqb b 44 m));
+    }
+
+-- the counts of joined bytes
+pub IsCountOf-append : (xs ys : List ℕ) (e c x y : ℕ) → IsCountOf xs e c → IsCountOf ys x y → IsCountOf (xs ++ ys) (e + x) (c + y)
+IsCountOf-append xs ys e c x y h k =
+    record {
+      equals_is = omega (arith, h.equals_is, k.equals_is, sum_by-append (λ b. cond (eqb b 61) 1 0) xs ys);
+      commas_is = omega (arith, h.commas_is, k.commas_is, sum_by-append (λ b. cond (eqb b 44) 1 0) xs ys);
+    }
+
+-- more counted `=` than `,` are more of them
+pub HasMoreEquals-from : (counted : List ℕ) (e c : ℕ) → IsCountOf counted e c → c < e → HasMoreEquals counted
+HasMoreEquals-from counted e c h l = omega (arith, h.equals_is, h.commas_is)
+
+not_more : (counted : List ℕ) (e c : ℕ) → IsCountOf counted e c → e ≤ c → ¬ HasMoreEquals counted
+not_more counted e c h l m = omega (arith, h.equals_is, h.commas_is)
+
+-- a byte that is escaped, and a backslash that is not
+pub IsIn-escaped : (part : Part) (e c : ℕ) (piece : List ℕ) (b : ℕ) → is_escaped_after piece ≡ true
+    → IsIn part e c piece → IsIn part e c (piece ++ b ∷ [])
+IsIn-escaped Head e c piece b f h = (IsHead-escaped piece b h.0 f, h.1)
+IsIn-escaped Plain e c piece b f h = (h.0, EndsPlain-escaped b h.1 f, h.2)
+IsIn-escaped Quoted e c piece b f h = (h.0, EndsQuoted-escaped b h.1 f, h.2)
+
+pub IsIn-backslash : (part : Part) (e c : ℕ) (piece : List ℕ) → IsBareAfter piece → IsIn part e c piece → IsIn part e c (piece ++ 92 ∷ [])
+IsIn-backslash Head e c piece f h = (IsHead-bare piece 92 h.0 f (omega arith) (omega arith), h.1)
+IsIn-backslash Plain e c piece f h = (
+  h.0 ++ 92 ∷ [],
+  EndsPlain-bare 92 h.1 f (omega arith) (λ q. absurd (omega arith)),
+  IsCountOf-other h.0 e c 92 h.2 (omega arith) (omega arith),
+)
+IsIn-backslash Quoted e c piece f h = (h.0, EndsQuoted-bare 92 h.1 f (omega arith), h.2)
+
+pub Head-space : (e c : ℕ) (piece : List ℕ) → IsBareAfter piece → IsIn Head e c piece → IsIn Plain e c (piece ++ 32 ∷ [])
+Head-space e c piece f h = (32 ∷ [], EndsPlain-start piece h.0 f, IsCountOf-other [] e c 32 h.1 (omega arith) (omega arith))
+
+pub Head-other : (e c : ℕ) (piece : List ℕ) (b : ℕ) → IsBareAfter piece → b ≢ 32 → b ≢ 10 → IsIn Head e c piece
+    → IsIn Head e c (piece ++ b ∷ [])
+Head-other e c piece b f n m h = (IsHead-bare piece b h.0 f n m, h.1)
+
+pub Plain-equals : (e c : ℕ) (piece : List ℕ) → IsBareAfter piece → IsIn Plain e c piece → IsIn Plain (e + 1) c (piece ++ 61 ∷ [])
+Plain-equals e c piece f h =
+    (h.0 ++ 61 ∷ [], EndsPlain-bare 61 h.1 f (omega arith) (λ q. absurd (omega arith)), rw add-zero at (IsCountOf-push h.0 e c 61 h.2))
+
+pub Plain-comma : (e c : ℕ) (piece : List ℕ) → IsBareAfter piece → IsIn Plain e c piece → IsIn Plain e (c + 1) (piece ++ 44 ∷ [])
+Plain-comma e c piece f h =
+    (h.0 ++ 44 ∷ [], EndsPlain-bare 44 h.1 f (omega arith) (λ q. absurd (omega arith)), rw add-zero at (IsCountOf-push h.0 e c 44 h.2))
+
+pub Plain-opens : (e c : ℕ) (piece : List ℕ) → IsBareAfter piece → c < e → IsIn Plain e c piece → IsIn Quoted e c (piece ++ 34 ∷ [])
+Plain-opens e c piece f l h = (h.0, EndsQuoted-start h.1 f (HasMoreEquals-from h.0 e c h.2 l), h.2)
+
+pub Plain-other : (e c : ℕ) (piece : List ℕ) (b : ℕ) → IsBareAfter piece → b ≢ 61 → b ≢ 44 → b ≢ 10
+    → (b ≡ 34 → e ≤ c) → IsIn Plain e c piece → IsIn Plain e c (piece ++ b ∷ [])
+Plain-other e c piece b f n m l q h =
+    (h.0 ++ b ∷ [], EndsPlain-bare b h.1 f l (λ i. not_more h.0 e c h.2 (q i)), IsCountOf-other h.0 e c b h.2 n m)
+
+pub Quoted-closes : (e c : ℕ) (piece : List ℕ) → IsBareAfter piece → IsIn Quoted e c piece → IsIn Plain e c (piece ++ 34 ∷ [])
+Quoted-closes e c piece f h = (h.0, EndsQuoted-close h.1 f, h.2)
+
+pub Quoted-other : (e c : ℕ) (piece : List ℕ) (b : ℕ) → IsBareAfter piece → b ≢ 34 → IsIn Quoted e c piece
+    → IsIn Quoted e c (piece ++ b ∷ [])
+Quoted-other e c piece b f n h = (h.0, EndsQuoted-bare b h.1 f n, h.2)
+
+-- the bare bytes that pass a test, one byte further
+pub count_bare_more : (p : ℕ → Bool) (text : List ℕ) (i : ℕ) → i < length text
+    → count_by p (bare (take (i + 1) text)) ≡ count_by p (bare (take i text)) + cond
+    (is_escaped_after (take i text)) 0 (cond (p (slice_index text i)) 1 0)
+count_bare_more p text i h =
+    elim (cases_Bool (is_escaped_after (take i text))) [
+      | inl e ↦ rw (take_more text i 0 h, bare-push_escaped (take i text) (slice_index text i) e, e) (omega arith)
+      | inr e ↦ rw (take_more text i 0 h, bare-push_bare (take i text) (slice_index text i) e, e)
+          (count_by-push p (bare (take i text)) (slice_index text i))
+    ]

@@ -1,0 +1,126 @@
+-- What a stream holds whose pieces have a greatest length.
+use Rattle.std.proofs.Common.{◌≡◌, ◌⊎◌, inl, inr, ℕ, ◌+◌, ◌<◌, List, [], ◌∷◌, ◌++◌, length, take, drop, refl, sym, ap, ◌∙◌, subst, ◌==◌}
+use Rattle.std.proofs.Common.{ap₂, append_assoc, cond, length-append, arith, Ok, Err}
+use Rattle.std.proofs.lemmas.List.Sums.{sum_by-append}
+use Rattle.lp_format.specs.format.Dialects.{Dialect, Crate, Strict}
+use Rattle.lp_split.specs.declared.split.resumed.Part.{Part}
+use Rattle.lp_split.specs.declared.split.resumed.Part.TheVariants.{Head, Plain, Quoted}
+use Rattle.lp_split.specs.declared.split.tracked.Track.{Track}
+use Rattle.lp_split.specs.declared.split.tracked.Track.TheVariants.{Comment, Blanks, Line}
+use Rattle.lp_format.specs.format.Bytes.{newlines_in}
+use Rattle.lp_format.specs.format.Piece.{IsClosed, IsOpen}
+use Rattle.lp_split.specs.declared.stream.bounded.Skipped.{Skipped}
+use Rattle.lp_split.specs.declared.stream.bounded.Skipped.TheVariants.{Nothing, Within, Ended}
+use Rattle.lp_format.specs.format.Pieces.{IsCutPiece, IsLastPiece}
+use Rattle.lp_split.specs.code.Streams.{Held, TakesPiece}
+use Rattle.lp_split.specs.code.Tracks.{EndsIn, IsTrackOf, TracksOn}
+use Rattle.lp_split.specs.code.Bounded.{CutsTo, HoldsBy, IsTooLong}
+use Rattle.lp_format.proofs.lemmas.split.SplitPieces.{no_cut_within, split_at}
+use Rattle.lp_split.proofs.lemmas.stream.KnownTexts.{no_comment}
+use Rattle.lp_split.proofs.lemmas.stream.TrackedPieces.{blanks_begin_none}
+
+-- a piece that is too long is so with more bytes
+longer_is_too_long : (limit : ℕ) (text part : List ℕ) → IsTooLong limit text → IsTooLong limit (text ++ part)
+longer_is_too_long limit text part h = (omega (arith, length-append text part, h.0), h.1)
+
+-- the newlines of a text and those of a part after it
+more_newlines : (text part : List ℕ) (n more : ℕ) → n ≡ newlines_in text → more ≡ newlines_in part
+    → n + more ≡ newlines_in (text ++ part)
+more_newlines text part n more h g =
+    ap₂ (λ (a b : ℕ). a + b) h g ∙ sym (sum_by-append (λ (b : ℕ). cond (b == 10) 1 0) text part)
+
+-- a part that goes on in a piece that is too long
+pub skips_more : (limit : ℕ) (held : Held) (skipped : Skipped) (from to : Track) (n more : ℕ) (part : List ℕ) → skipped ≡ Within from n
+    → TracksOn part from (Err to) → more ≡ newlines_in part → (text : List ℕ) → HoldsBy limit held skipped text
+    → HoldsBy limit held (Within to (n + more)) (text ++ part)
+skips_more limit held skipped from to n more part is tracks counted text h =
+    let k = subst (λ (s : Skipped). HoldsBy limit held s text) is h in
+    (k.0, longer_is_too_long limit text part k.1, tracks held.dialect text k.2, more_newlines text part n more k.3 counted)
+
+-- a part that ends one
+pub skips_to_end : (limit : ℕ) (old new : Held) (skipped : Skipped) (from : Track) (n more : ℕ) (part : List ℕ) (i : ℕ)
+    → skipped ≡ Within from n → TracksOn part from (Ok i) → new.dialect ≡ old.dialect → new.bytes ≡ old.bytes ++ drop (i + 1) part
+    → more ≡ newlines_in (take i part) → (text : List ℕ) → HoldsBy limit old skipped text
+    → HoldsBy limit new (Ended (n + more)) (text ++ part)
+skips_to_end limit old new skipped from n more part i is tracks dialect bytes counted text h =
+    let k = subst (λ (s : Skipped). HoldsBy limit old s text) is h in
+    let after : new.bytes ≡ drop (i + 1) part = bytes ∙ ap (λ (t : List ℕ). t ++ drop (i + 1) part) k.0 in
+    let split = sym (split_at part i tracks.0 tracks.1) in (
+      text ++ take i part,
+      longer_is_too_long limit text (take i part) k.1,
+      (
+        sym (append_assoc text (take i part) (10 ∷ new.bytes)
+            ∙ (ap (λ (t : List ℕ). text ++ (take i part ++ 10 ∷ t)) after ∙ ap (λ (t : List ℕ). text ++ t) split)),
+        subst (λ (d : Dialect). IsCutPiece d (text ++ take i part)) (sym dialect) (tracks.2 old.dialect text k.2),
+      ),
+      more_newlines text (take i part) n more k.3 counted,
+    )
+
+-- what is held was let go, since it is too long
+pub goes_within : (limit : ℕ) (held after : Held) (bytes : List ℕ) (d : Dialect) (track : Track) (n : ℕ) → bytes ≡ held.bytes
+    → d ≡ held.dialect → IsTooLong limit bytes → IsTrackOf d bytes track → n ≡ newlines_in held.bytes
+    → after ≡ record { dialect = held.dialect; bytes = [] } → HoldsBy limit after (Within track n) held.bytes
+goes_within limit held after bytes d track n same dialect long tracked counted empty = (
+  ap (λ (h : Held). h.bytes) empty,
+  subst (λ (t : List ℕ). IsTooLong limit t) same long,
+  subst (λ (e : Dialect). IsTrackOf e held.bytes track) (dialect ∙ sym (ap (λ (h : Held). h.dialect) empty))
+      (subst (λ (t : List ℕ). IsTrackOf d t track) same tracked),
+  counted,
+)
+
+-- the place after bytes of a piece that no newline has ended
+place_is_last : (part : Part) (e c : ℕ) (bytes : List ℕ) → EndsIn part e c bytes → IsClosed bytes ⊎ IsOpen bytes
+place_is_last Head e c bytes h = inl (inl h.0)
+place_is_last Plain e c bytes h = inl (inr (h.0, h.1))
+place_is_last Quoted e c bytes h = inr (h.0, h.1)
+
+-- bytes that have a track are one piece
+pub tracked_is_last : (dialect : Dialect) (bytes : List ℕ) (track : Track) → IsTrackOf dialect bytes track → IsLastPiece dialect bytes
+tracked_is_last dialect bytes Comment h = subst (λ (d : Dialect). IsLastPiece d bytes) (sym h.0) (inl h.1)
+tracked_is_last dialect bytes (Blanks place) h =
+    subst (λ (d : Dialect). IsLastPiece d bytes) (sym h.0)
+    (inr (blanks_begin_none bytes h.1, place_is_last place.part place.equals place.commas bytes h.2.ends_in))
+tracked_is_last Crate bytes (Line place) h = place_is_last place.part place.equals place.commas bytes h.1.ends_in
+tracked_is_last Strict bytes (Line place) h =
+    inr (no_comment bytes h.0, place_is_last place.part place.equals place.commas bytes h.1.ends_in)
+
+-- what is one piece has no newline that ends it
+pub no_end_within : (dialect : Dialect) (bytes : List ℕ) (track : Track) (i : ℕ) → IsTrackOf dialect [] track
+    → TracksOn bytes track (Ok i) → IsLastPiece dialect bytes → ⊥
+no_end_within dialect bytes track i begins tracks is_last =
+    no_cut_within dialect (take i bytes) (drop (i + 1) bytes) (tracks.2 dialect [] begins)
+    (subst (λ (t : List ℕ). IsLastPiece dialect t) (split_at bytes i tracks.0 tracks.1) is_last)
+
+-- fewer bytes are kept once a piece is taken
+pub taking_keeps_fewer : (held after : Held) (piece : List ℕ) → TakesPiece held piece after → length after.bytes < length held.bytes
+taking_keeps_fewer held after piece takes =
+    omega (arith, ap (λ (t : List ℕ). length t) takes.bytes, length-append piece (10 ∷ after.bytes))
+
+-- a piece is taken where no bytes were skipped
+pub takes_within : (limit : ℕ) (held after : Held) (skipped : Skipped) (piece text : List ℕ) → skipped ≡ Nothing
+    → TakesPiece held piece after → HoldsBy limit held skipped text
+    → CutsTo held.dialect text piece after.bytes × HoldsBy limit after skipped after.bytes
+takes_within limit held after skipped piece text is takes h =
+    let same = subst (λ (s : Skipped). HoldsBy limit held s text) is h in
+    ((same ∙ takes.bytes, takes.is_cut), subst (λ (s : Skipped). HoldsBy limit after s after.bytes) (sym is) refl)
+
+-- what is held, which is more than a piece may have, is the text where no bytes were skipped
+pub held_is_too_long : (limit : ℕ) (held : Held) (skipped : Skipped) (n : ℕ) → skipped ≡ Nothing → IsTooLong limit held.bytes
+    → n ≡ newlines_in held.bytes → (text : List ℕ) → HoldsBy limit held skipped text → IsTooLong limit text × (n ≡ newlines_in text)
+held_is_too_long limit held skipped n is long counted text h =
+    let same = subst (λ (s : Skipped). HoldsBy limit held s text) is h in
+    subst (λ (t : List ℕ). IsTooLong limit t × (n ≡ newlines_in t)) (sym same) (long, counted)
+
+-- so many newlines of the bytes that were skipped were counted
+abbrev pub HasCounted : Skipped → ℕ → Type 0
+HasCounted skipped n = ((track : Track) × (skipped ≡ Within track n)) ⊎ (skipped ≡ Ended n)
+
+-- a text that is one piece is too long where bytes were skipped, and has the newlines that were counted
+pub skipped_is_too_long : (limit : ℕ) (held : Held) (skipped : Skipped) (n : ℕ) → HasCounted skipped n → (text : List ℕ)
+    → HoldsBy limit held skipped text → IsLastPiece held.dialect text → IsTooLong limit text × (n ≡ newlines_in text)
+skipped_is_too_long limit held skipped n (inl is) text h is_last =
+    let k = subst (λ (s : Skipped). HoldsBy limit held s text) is.1 h in
+    (k.1, k.3)
+skipped_is_too_long limit held skipped n (inr is) text h is_last =
+    let k = subst (λ (s : Skipped). HoldsBy limit held s text) is h in
+    absurd (no_cut_within held.dialect k.0 held.bytes k.2.1 (subst (λ (t : List ℕ). IsLastPiece held.dialect t) k.2.0 is_last))

@@ -1,0 +1,24 @@
+use Rattle.std.proofs.Common.{◌==◌, ◌∙◌, ℕ, ◌+◌, ap, ap₂, sym, arith}
+use Rattle.std.specs.List.{count_by}
+use Rattle.std.proofs.lemmas.List.{take_rest}
+use Rattle.lp_split.proofs.lemmas.split.SplitCounts.{count_load, count_whole, load_at_most}
+use Rattle.lp_split.proofs.split.count_of.Goals as goal
+
+pub loop-at-preserved : goal.loop-at-preserved
+loop-at-preserved c =
+    let text = c.args.text.now in
+    let l = c.loop-at in
+    let p = λ (b : ℕ). b == c.args.byte in
+    let more = count_load p text l.at c.places_of.result (omega arith) c.places_of.ensures in
+    let few = load_at_most p text l.at c.places_of.result (omega arith) c.places_of.ensures in (
+      omega (arith, few, c.ones_below-count.ensures),
+      omega arith,
+      ap₂ (λ (a b : ℕ). a + b) l.invariant.2 c.ones_below-count.ensures ∙ sym more,
+    )
+
+pub returns-clause-value : goal.returns-clause-value
+returns-clause-value c =
+    let text = c.args.text.now in
+    let p = λ (b : ℕ). b == c.args.byte in
+    ap₂ (λ (a b : ℕ). a + b) c.loop-at.invariant.2 (c.count_few.ensures.value ∙ ap (count_by p) (take_rest text c.loop-at.at))
+    ∙ count_whole p text c.loop-at.at

@@ -1,0 +1,11 @@
+use Rattle.std.proofs.Common.{◌-◌, length}
+use Rattle.lp_format.specs.format.Escapes.{IsPassed}
+use Rattle.lp_split.specs.code.Stops.{is_stop}
+use Rattle.lp_split.proofs.split.far_len.Given as goal
+
+-- what was walked over holds no bare byte that ends a stretch
+abbrev pub invariant-loop-quiet : goal.invariant-loop-quiet
+invariant-loop-quiet l = IsPassed (is_stop l.stops) l.text l.at
+
+abbrev pub decreases-loop-quiet : goal.decreases-loop-quiet
+decreases-loop-quiet l = length l.initial.text - l.at

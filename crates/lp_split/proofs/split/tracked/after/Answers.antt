@@ -1,0 +1,41 @@
+use Rattle.std.proofs.Common.{◌≡◌, ◌⊎◌, subst, sym, inl, inr, arith, Some, None}
+use Rattle.lp_split.specs.declared.split.tracked.Track.{Track}
+use Rattle.lp_split.specs.declared.split.tracked.Track.TheVariants.{Comment, Blanks, Line}
+use Rattle.lp_split.specs.code.Tracks.{Leads}
+use Rattle.lp_split.proofs.lemmas.stream.TrackedPieces.{blanks_end, blanks_go_on, comment_begins, comment_goes_on, line_ends}
+use Rattle.lp_split.proofs.split.tracked.after.Goals.{then-byte-eq32, else-byte-eq32}
+use Rattle.lp_split.proofs.split.tracked.after.Goals as goal
+
+pub returns-in_err-after_byte-in-Line-clause-leads :
+    goal.returns-in_err-after_byte-in-Line-clause-leads
+returns-in_err-after_byte-in-Line-clause-leads c =
+    rw c.from_residual-in_err-after_byte-in-Line.ensures
+    (subst (λ (t : Track). Leads t c.args.byte None) (sym c.in-Line.is)
+    (line_ends c.in-Line.place c.args.byte c.in_err-after_byte-in-Line.ensures.steps))
+
+pub returns-in-Comment-2-clause-leads : goal.returns-in-Comment-2-clause-leads
+returns-in-Comment-2-clause-leads c =
+    subst (λ (t : Track). Leads t c.args.byte (Some Comment)) (sym c.in-Comment-2.is) (comment_goes_on c.args.byte c.if-byte-eq10.false)
+
+pub returns-in-Blanks-clause-leads : goal.returns-in-Blanks-clause-leads
+returns-in-Blanks-clause-leads c =
+    rw c.if-byte-eq35.true
+    (subst (λ (t : Track). Leads t 35 (Some Comment)) (sym c.in-Blanks.is) (comment_begins c.in-Blanks.field-0))
+
+pub returns-in_ok-after_byte-in-Blanks-2-clause-leads :
+    goal.returns-in_ok-after_byte-in-Blanks-2-clause-leads
+returns-in_ok-after_byte-in-Blanks-2-clause-leads c =
+    let next = c.in_ok-after_byte-in-Blanks-2 in
+    let blank : (c.args.byte ≡ 32) ⊎ (c.args.byte ≡ 9) = elim c.if-byte-eq32.branch [
+      | then-byte-eq32 w ↦ inl w.if-byte-eq32.true
+      | else-byte-eq32 w ↦ inr (omega arith)
+    ] in
+    subst (λ (t : Track). Leads t c.args.byte (Some (Blanks next.field-0))) (sym c.in-Blanks-2.is)
+    (blanks_go_on c.in-Blanks-2.place next.field-0 c.args.byte blank next.ensures.steps)
+
+pub returns-in_ok-after_byte-in-Blanks-3-clause-leads :
+    goal.returns-in_ok-after_byte-in-Blanks-3-clause-leads
+returns-in_ok-after_byte-in-Blanks-3-clause-leads c =
+    let next = c.in_ok-after_byte-in-Blanks-3 in
+    subst (λ (t : Track). Leads t c.args.byte (Some (Line next.field-0))) (sym c.in-Blanks-3.is)
+    (blanks_end c.in-Blanks-3.place next.field-0 c.args.byte c.if-byte-eq35.false (omega arith) (omega arith) next.ensures.steps)

@@ -1,0 +1,57 @@
+-- What the bytes of a piece that are not kept say of the byte after them.
+use Rattle.std.specs.Prelude.{◌≡◌, ◌⊎◌, ℕ, ◌<◌, max, List, [], ◌∷◌, ◌++◌, length, take, slice_index, Option, Some, None, Result, Ok, Err}
+use Rattle.std.specs.List.{All}
+use Rattle.lp_format.specs.format.Dialects.{Dialect, Strict}
+use Rattle.lp_split.specs.declared.split.resumed.Part.{Part}
+use Rattle.lp_split.specs.declared.split.resumed.Part.TheVariants.{Head, Plain, Quoted}
+use Rattle.lp_split.specs.declared.split.tracked.Place.{Place}
+use Rattle.lp_split.specs.declared.split.tracked.Track.{Track}
+use Rattle.lp_split.specs.declared.split.tracked.Track.TheVariants.{Comment, Blanks, Line}
+use Rattle.lp_format.specs.format.Bytes.{newline, space, tab}
+use Rattle.lp_format.specs.format.Escapes.{is_escaped_after, IsBareAfter}
+use Rattle.lp_format.specs.format.Piece.{EndsPlain, EndsQuoted, IsClosed, IsHead}
+use Rattle.lp_format.specs.format.Pieces.{IsComment, IsCutPiece}
+use Rattle.lp_split.specs.code.Searches.{IsCountOf, NeverComment}
+
+-- the bytes of a piece end in this part of it, with these counts
+abbrev pub EndsIn : Part → ℕ → ℕ → List ℕ → Type 0
+EndsIn Head equal_signs commas bytes = IsHead bytes × IsCountOf [] equal_signs commas
+EndsIn Plain equal_signs commas bytes = (counted : List ℕ) × EndsPlain bytes counted × IsCountOf counted equal_signs commas
+EndsIn Quoted equal_signs commas bytes = (counted : List ℕ) × EndsQuoted bytes counted × IsCountOf counted equal_signs commas
+
+-- the place after these bytes of a piece
+pub record IsPlace (bytes : List ℕ) (place : Place) : Type 0 where
+  pub escaped_is : is_escaped_after bytes ≡ place.is_escaped
+  pub ends_in : EndsIn place.part place.equals place.commas bytes
+
+-- one byte more ends the piece, or leads to another place
+abbrev pub Steps : Place → ℕ → Option Place → Type 0
+Steps place b None = (b ≡ newline) × ((bytes : List ℕ) → IsPlace bytes place → IsClosed bytes × IsBareAfter bytes)
+Steps place b (Some next) = (bytes : List ℕ) → IsPlace bytes place → IsPlace (bytes ++ b ∷ []) next
+
+-- the track of these bytes by the rules of a dialect: they begin a comment, or are blanks, which may yet begin one, or
+-- never do
+abbrev pub IsTrackOf : Dialect → List ℕ → Track → Type 0
+IsTrackOf dialect bytes Comment = (dialect ≡ Strict) × IsComment bytes
+IsTrackOf dialect bytes (Blanks place) = (dialect ≡ Strict) × All (λ b. (b ≡ space) ⊎ (b ≡ tab)) bytes × IsPlace bytes place
+IsTrackOf dialect bytes (Line place) = NeverComment dialect bytes × IsPlace bytes place
+
+-- one byte more ends the piece of a track, or leads to another track
+abbrev pub Leads : Track → ℕ → Option Track → Type 0
+Leads track b None = (b ≡ newline) × ((dialect : Dialect) (bytes : List ℕ) → IsTrackOf dialect bytes track → IsCutPiece dialect bytes)
+Leads track b (Some next) =
+    (dialect : Dialect) (bytes : List ℕ) → IsTrackOf dialect bytes track → IsTrackOf dialect (bytes ++ b ∷ []) next
+
+-- the greater one of its counts
+abbrev pub most_counted : Track → ℕ
+most_counted Comment = 0
+most_counted (Blanks place) = max place.equals place.commas
+most_counted (Line place) = max place.equals place.commas
+
+-- the bytes after those of the track end the piece at a newline, or have another track together with them
+abbrev pub TracksOn : List ℕ → Track → Result ℕ Track → Type 0
+TracksOn text from (Ok i) =
+    (i < length text) × (slice_index text i ≡ newline)
+    × ((dialect : Dialect) (bytes : List ℕ) → IsTrackOf dialect bytes from → IsCutPiece dialect (bytes ++ take i text))
+TracksOn text from (Err track) =
+    (dialect : Dialect) (bytes : List ℕ) → IsTrackOf dialect bytes from → IsTrackOf dialect (bytes ++ text) track

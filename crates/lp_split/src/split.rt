@@ -1,0 +1,690 @@
+//! The pieces of a text.
+
+ghost use Rattle.std.specs.Prelude.{◌≡◌, ◌≢◌, ◌+◌, ◌-◌, ◌/◌, ◌^◌, ◌<◌, ◌≤◌, ◌==◌, ◌||◌, length, take, drop, option_map, slice_index};
+ghost use Rattle.std.specs.Prelude.{IfSome, MatchOption, true, false};
+ghost use Rattle.std.specs.Iterator.{at_most};
+ghost use Rattle.std.specs.List.{All, count_by, range_with_len};
+ghost use Rattle.lp_format.specs.format.Bytes.{backslash, newline, space, quote};
+ghost use Rattle.memchr.specs.Find.{IsFirstByte, is_byte3};
+ghost use Rattle.lp_scan.specs.code.Lanes.{mask_of};
+ghost use Rattle.lp_format.specs.format.Escapes.{first_bare, is_bare_at, IsBareAfter, IsPassed};
+ghost use Rattle.lp_split.specs.code.Ahead.{IsAhead, AreSeen, IsWalked};
+ghost use Rattle.lp_scan.specs.code.Scan.{mask_at};
+ghost use Rattle.lp_split.specs.code.Stops.{is_stop, is_mark};
+ghost use Rattle.lp_format.specs.format.Pieces.{begins_comment, IsFirstCut, GivesPiece, most_pieces};
+ghost use Rattle.lp_format.specs.format.Dialects.{Crate};
+ghost use Rattle.lp_split.specs.code.Rules.{rules_of};
+
+use lp_scan::lanes::first_set;
+use lp_scan::scan::{WIDE, bare, escapes_next, ones_below, places_of};
+use memchr::{memchr, memchr2, memchr3};
+use std::marker::Model;
+use std::simd::prelude::*;
+
+mod resumed;
+mod tracked;
+
+pub(crate) use resumed::{Search, search_on};
+pub(crate) use tracked::{Track, track_on};
+
+// How many bytes are looked at by wide loads, where they show nothing, before `memchr` searches on.
+const NEAR: usize = 320;
+
+/// A dialect of line protocol: which rules hold.
+///
+/// The calls that name no dialect read that of the Rust crate.
+#[derive(Clone, Copy, Debug, PartialEq, Eq)]
+pub enum Dialect {
+    /// The rules of the Rust crate `influxdb-line-protocol`.
+    Crate,
+    /// The same but for two: a comment ends at its own newline, whatever it holds, and the comma after the first
+    /// field is taken only together with a second field.
+    Strict,
+}
+
+// The bytes that end a stretch, of which both may be the same.
+#[derive(Clone, Copy)]
+struct Stops {
+    first: u8,
+    second: u8,
+}
+
+// What ends a head.
+const HEAD: Stops = Stops {
+    first: b' ',
+    second: b'\n',
+};
+
+// What ends a plain stretch.
+const PLAIN: Stops = Stops {
+    first: b'\n',
+    second: b'"',
+};
+
+// What ends a quoted stretch.
+const QUOTED: Stops = Stops {
+    first: b'"',
+    second: b'"',
+};
+
+// The mask of those of the 64 bytes from `at` on that end a stretch.
+#[inline(always)]
+fn stops_in(stops: Stops, text: &[u8], at: usize) -> u64
+    requires { at + WIDE ≤ length text.now }
+    ensures { result ≡ mask_of (is_stop stops) text.now at WIDE }
+{
+    let v = u8x64::from_slice(&text[at..]);
+    (v.simd_eq(u8x64::splat(stops.first)) | v.simd_eq(u8x64::splat(stops.second))).to_bitmask()
+}
+
+// How many of the 64 bytes from `at` on come before the first bare one that ends a stretch; where
+// there is none 64, or 65 if the last one is a bare backslash. The backslashes among them are given.
+#[inline(always)]
+fn stop_in(stops: Stops, text: &[u8], at: usize, backslashes: u64) -> usize
+    requires room { at + WIDE < length text.now }
+    requires passed { IsPassed (is_stop stops) text.now at }
+    requires given { backslashes ≡ mask_of (λ b. b == backslash) text.now at WIDE }
+    ensures within { result ≤ WIDE + 1 }
+    ensures passed { IsPassed (is_stop stops) text.now (at + result) }
+    ensures stops { result < WIDE → is_stop stops (slice_index text.now (at + result)) ≡ true }
+{
+    let run = first_set(bare(stops_in(stops, text, at), backslashes), WIDE);
+    if run < WIDE {
+        return run;
+    }
+    WIDE + escapes_next(backslashes)
+}
+
+// The place of the first byte that ends a stretch or is a backslash: `memchr3` looks for these three
+// in a head or a plain stretch, `memchr2` for the backslash and the quote in a quoted one.
+#[inline(always)]
+fn next_mark(stops: Stops, text: &[u8]) -> Option<usize>
+    ensures { IsFirstByte (is_mark stops) text.now result }
+{
+    if stops.first == stops.second {
+        return memchr2(b'\\', stops.first, text);
+    }
+    memchr3(b'\\', stops.first, stops.second, text)
+}
+
+// How many bytes come before the first bare one that ends a stretch, or all of them, where there
+// is none before `from`. Wide loads go on as long as they show something near.
+#[inline(never)]
+fn far_len(stops: Stops, text: &[u8], from: usize) -> usize
+    requires escapes { is_stop stops backslash ≡ false }
+    requires passed { IsPassed (is_stop stops) text.now from }
+    ensures within { result ≤ length text.now }
+    ensures value { result ≡ first_bare (is_stop stops) text.now }
+{
+    let (mut at, mut quiet) = (from, 0);
+    loop {
+        if quiet < NEAR && text.len() - at > WIDE {
+            let backslashes = places_of(b'\\', text, at);
+            let run = stop_in(stops, text, at, backslashes);
+            at += run;
+            if run < WIDE {
+                return at;
+            }
+            quiet = if backslashes == 0 { quiet + WIDE } else { 0 };
+            continue;
+        }
+        let Some(found) = next_mark(stops, &text[at..]) else {
+            return text.len();
+        };
+        at += found;
+        if text[at] != b'\\' {
+            return at;
+        }
+        // The byte after a backslash is escaped.
+        at = (at + 2).min(text.len());
+        quiet = 0;
+    }
+}
+
+// How many bytes come before the first bare one that ends a stretch, or all of them: the near ones
+// are searched by wide loads, the far ones by `memchr`.
+#[inline(always)]
+fn stretch_len(stops: Stops, text: &[u8]) -> usize
+    requires { is_stop stops backslash ≡ false }
+    ensures within { result ≤ length text.now }
+    ensures value { result ≡ first_bare (is_stop stops) text.now }
+{
+    let mut at = 0;
+    while at < NEAR && text.len() - at > WIDE {
+        let run = stop_in(stops, text, at, places_of(b'\\', text, at));
+        at += run;
+        if run < WIDE {
+            return at;
+        }
+    }
+    far_len(stops, text, at)
+}
+
+/// How many bytes come before the first bare space or newline, or all of them.
+fn head_len(text: &[u8]) -> usize
+    ensures within { result ≤ length text.now }
+    ensures value { result ≡ first_bare (λ b. b == space || b == newline) text.now }
+{
+    stretch_len(HEAD, text)
+}
+
+// What a load showed of the bytes after a place: the masks of the bare newlines and quotes, of the bare `=` and of the bare
+// `,` among them, and how many bytes are passed with them.
+#[derive(Clone, Copy)]
+struct Ahead {
+    passed: usize,
+    stops: u64,
+    equals: u64,
+    commas: u64,
+}
+
+const NOTHING: Ahead = Ahead {
+    passed: 0,
+    stops: 0,
+    equals: 0,
+    commas: 0,
+};
+
+// What it showed of the bytes after one of them.
+#[inline(always)]
+fn seen_past(ahead: Ahead, run: usize) -> Ahead
+    requires inside { run < ahead.passed }
+    requires few { run < WIDE }
+    ensures { result ≡ record {
+      passed = ahead.passed - (run + 1);
+      stops = ahead.stops / 2 ^ run / 2;
+      equals = ahead.equals / 2 ^ run / 2;
+      commas = ahead.commas / 2 ^ run / 2;
+    } }
+{
+    Ahead {
+        passed: ahead.passed - (run + 1),
+        stops: (ahead.stops >> run) >> 1,
+        equals: (ahead.equals >> run) >> 1,
+        commas: (ahead.commas >> run) >> 1,
+    }
+}
+
+// What the load of the 64 bytes from `at` on shows, of which the backslashes and the bare newlines and quotes are given.
+#[inline(always)]
+fn load_ahead(text: &[u8], at: usize, backslashes: u64, stops: u64) -> Ahead
+    requires room { at + WIDE < length text.now }
+    requires starts_bare { IsBareAfter (take at text.now) }
+    requires given { backslashes ≡ mask_of (λ b. b == backslash) text.now at WIDE }
+    requires stops { stops ≡ mask_at (is_bare_at (λ b. b == newline || b == quote) text.now) at WIDE }
+    ensures { (seen : IsAhead (drop at text.now) result) × (seen.count ≡ WIDE) }
+{
+    Ahead {
+        passed: WIDE + escapes_next(backslashes),
+        stops,
+        equals: bare(places_of(b'=', text, at), backslashes),
+        commas: bare(places_of(b',', text, at), backslashes),
+    }
+}
+
+/// How many bytes come before the first bare quote, or all of them, from what was seen ahead; and what is seen after it.
+#[inline(always)]
+fn quoted_run(text: &[u8], ahead: Ahead) -> (usize, Ahead)
+    requires { IsAhead text.now ahead }
+    ensures within { result.0 ≤ length text.now }
+    ensures value { result.0 ≡ first_bare (λ b. b == quote) text.now }
+    ensures later { IsAhead (drop (result.0 + 1) text.now) result.1 }
+{
+    if ahead.stops != 0 {
+        let at = ahead.stops.trailing_zeros() as usize;
+        if text[at] == b'"' {
+            return (at, seen_past(ahead, at));
+        }
+    }
+    (stretch_len(QUOTED, text), NOTHING)
+}
+
+// A place of a plain stretch: how many bare `=` and `,` come before it if no newline ends the stretch there, whether
+// the stretch ends there, and what was seen after it.
+#[derive(Clone, Copy)]
+struct Walk {
+    at: usize,
+    equals: usize,
+    commas: usize,
+    ended: bool,
+    later: Ahead,
+}
+
+// How many of the first `n` of the 64 bytes from `at` on are this one and bare. The backslashes among them are given.
+#[inline(always)]
+fn bare_among(byte: u8, text: &[u8], at: usize, backslashes: u64, n: usize) -> usize
+    requires room { at + WIDE ≤ length text.now }
+    requires few { n ≤ WIDE }
+    requires starts_bare { IsBareAfter (take at text.now) }
+    requires given { backslashes ≡ mask_of (λ b. b == backslash) text.now at WIDE }
+    ensures few { result ≤ n }
+    ensures value { result ≡ count_by (is_bare_at (λ b. b == byte) text.now) (range_with_len at n) }
+{
+    ones_below(bare(places_of(byte, text, at), backslashes), n)
+}
+
+// One load further along a plain stretch: to the first bare newline or quote in it, or past it and what it escapes.
+#[inline(always)]
+fn plain_in(text: &[u8], from: Walk) -> Walk
+    requires room { from.at + WIDE < length text.now }
+    requires goes_on { from.ended ≡ false }
+    requires walked { IsWalked text.now from }
+    ensures walked { IsWalked text.now result }
+    ensures further { result.ended ≡ false → from.at < result.at }
+{
+    let backslashes = places_of(b'\\', text, from.at);
+    let stops = bare(stops_in(PLAIN, text, from.at), backslashes);
+    let run = first_set(stops, WIDE);
+    if run < WIDE && text[from.at + run] == b'\n' {
+        return Walk {
+            at: from.at + run,
+            ended: true,
+            later: NOTHING,
+            ..from
+        };
+    }
+    let equals = from.equals + bare_among(b'=', text, from.at, backslashes, run);
+    let commas = from.commas + bare_among(b',', text, from.at, backslashes, run);
+    if run < WIDE {
+        return Walk {
+            at: from.at + run,
+            equals,
+            commas,
+            ended: true,
+            later: seen_past(load_ahead(text, from.at, backslashes, stops), run),
+        };
+    }
+    Walk {
+        at: from.at + WIDE + escapes_next(backslashes),
+        equals,
+        commas,
+        ended: false,
+        later: NOTHING,
+    }
+}
+
+// How many bytes are this one, byte by byte.
+#[inline(always)]
+fn count_few(byte: u8, text: &[u8]) -> usize
+    ensures few { result ≤ length text.now }
+    ensures value { result ≡ count_by (λ b. b == byte) text.now }
+{
+    let mut count = 0;
+    for at in 0..text.len() {
+        count += usize::from(text[at] == byte);
+    }
+    count
+}
+
+/// How many bytes are this one.
+pub(crate) fn count_of(byte: u8, text: &[u8]) -> usize
+    ensures few { result ≤ length text.now }
+    ensures value { result ≡ count_by (λ b. b == byte) text.now }
+{
+    let (mut count, mut at) = (0, 0);
+    while text.len() - at >= WIDE {
+        count += ones_below(places_of(byte, text, at), WIDE);
+        at += WIDE;
+    }
+    count + count_few(byte, &text[at..])
+}
+
+// A search further along a plain stretch: to its end, or past the next backslash and what it escapes.
+#[inline(always)]
+fn plain_leap(text: &[u8], from: Walk) -> Walk
+    requires goes_on { from.ended ≡ false }
+    requires walked { IsWalked text.now from }
+    ensures walked { IsWalked text.now result }
+    ensures further { result.ended ≡ false → from.at < result.at }
+{
+    let rest = &text[from.at..];
+    let Some(run) = memchr3(b'\\', b'\n', b'"', rest) else {
+        return Walk {
+            at: text.len(),
+            ended: true,
+            later: NOTHING,
+            ..from
+        };
+    };
+    let walk = Walk {
+        at: from.at + run,
+        equals: from.equals + count_of(b'=', &rest[..run]),
+        commas: from.commas + count_of(b',', &rest[..run]),
+        ended: true,
+        later: NOTHING,
+    };
+    if text[walk.at] != b'\\' {
+        return walk;
+    }
+    // The byte after a backslash is escaped.
+    Walk {
+        at: (walk.at + 2).min(text.len()),
+        ended: false,
+        ..walk
+    }
+}
+
+// Where a plain stretch ends, from a place of it. Wide loads go on as long as they show something near.
+#[inline(never)]
+fn far_plain(text: &[u8], from: Walk) -> Walk
+    requires walked { IsWalked text.now from }
+    ensures walked { IsWalked text.now result }
+    ensures value { result.at ≡ first_bare (λ b. b == newline || b == quote) text.now }
+{
+    let (mut walk, mut quiet) = (from, 0);
+    while !walk.ended {
+        if quiet < NEAR && text.len() - walk.at > WIDE {
+            let backslashes = places_of(b'\\', text, walk.at);
+            quiet = if backslashes == 0 { quiet + WIDE } else { 0 };
+            walk = plain_in(text, walk);
+            continue;
+        }
+        walk = plain_leap(text, walk);
+        quiet = 0;
+    }
+    walk
+}
+
+// Where a plain stretch ends, if that was seen ahead.
+#[inline(always)]
+fn plain_ahead(text: &[u8], ahead: Ahead) -> Walk
+    requires seen { IsAhead text.now ahead }
+    requires some { 0 < ahead.stops }
+    ensures walked { IsWalked text.now result }
+    ensures value { result.at ≡ first_bare (λ b. b == newline || b == quote) text.now }
+{
+    let run = ahead.stops.trailing_zeros() as usize;
+    Walk {
+        at: run,
+        equals: ones_below(ahead.equals, run),
+        commas: ones_below(ahead.commas, run),
+        ended: true,
+        later: seen_past(ahead, run),
+    }
+}
+
+/// Where the plain stretch at the start of the text ends: at the first bare newline or quote, or with the text.
+#[inline(always)]
+fn plain_run(text: &[u8], ahead: Ahead) -> Walk
+    requires { IsAhead text.now ahead }
+    ensures walked { IsWalked text.now result }
+    ensures value { result.at ≡ first_bare (λ b. b == newline || b == quote) text.now }
+{
+    if ahead.stops != 0 {
+        return plain_ahead(text, ahead);
+    }
+    let mut walk = Walk {
+        at: ahead.passed,
+        equals: ones_below(ahead.equals, WIDE),
+        commas: ones_below(ahead.commas, WIDE),
+        ended: false,
+        later: NOTHING,
+    };
+    while walk.at < NEAR && text.len() - walk.at > WIDE {
+        walk = plain_in(text, walk);
+        if walk.ended {
+            return walk;
+        }
+    }
+    // Field by field, so that a walk that ends near stays in registers.
+    let far = far_plain(
+        text,
+        Walk {
+            at: walk.at,
+            equals: walk.equals,
+            commas: walk.commas,
+            ended: walk.ended,
+            later: walk.later,
+        },
+    );
+    Walk {
+        at: far.at,
+        equals: far.equals,
+        commas: far.commas,
+        ended: far.ended,
+        later: far.later,
+    }
+}
+
+/// The place of the newline that ends the first piece, or `None` where the text is one piece, with no regard to
+/// comments. It goes from stretch to stretch: no stretch is searched twice, and each byte is counted at most once.
+#[inline(never)]
+fn cut_by_stretches(text: &[u8]) -> Option<usize>
+    ensures { IsFirstCut Crate text.now result }
+{
+    let head = head_len(text);
+    if *text.get(head)? == b'\n' {
+        return Some(head);
+    }
+    let mut at = head + 1;
+    let (mut equals, mut commas, mut ahead) = (0, 0, NOTHING);
+    loop {
+        // A plain stretch begins at `at`.
+        let plain = plain_run(&text[at..], ahead);
+        let end = at + plain.at;
+        if *text.get(end)? == b'\n' {
+            return Some(end);
+        }
+        equals += plain.equals;
+        commas += plain.commas;
+        at = end + 1;
+        ahead = plain.later;
+        if commas < equals {
+            let (run, later) = quoted_run(&text[at..], ahead);
+            at += run;
+            text.get(at)?;
+            at += 1;
+            ahead = later;
+        }
+    }
+}
+
+// A newline, quote or backslash, and the mask of those that were seen after it.
+#[derive(Clone, Copy)]
+pub(crate) struct Mark {
+    pub(crate) at: usize,
+    pub(crate) later: u64,
+}
+
+// The mask of those of the 64 bytes from `at` on that are a newline, a quote or a backslash.
+#[inline(always)]
+fn marks_in(text: &[u8], at: usize) -> u64
+    requires { at + WIDE ≤ length text.now }
+    ensures { result ≡ mask_of (is_byte3 backslash newline quote) text.now at WIDE }
+{
+    let v = u8x64::from_slice(&text[at..]);
+    let newlines = v.simd_eq(u8x64::splat(b'\n'));
+    let others = v.simd_eq(u8x64::splat(b'"')) | v.simd_eq(u8x64::splat(b'\\'));
+    (newlines | others).to_bitmask()
+}
+
+// The first newline, quote or backslash, where these are the ones that were seen at the start of the text.
+#[inline(always)]
+fn first_mark(text: &[u8], seen: u64) -> Option<Mark>
+    requires { AreSeen text.now seen }
+    ensures first { IsFirstByte (is_byte3 backslash newline quote) text.now (option_map (λ m. m.at) result) }
+    ensures later { IfSome result (λ m. AreSeen (drop (m.at + 1) text.now) m.later) }
+{
+    if seen != 0 {
+        let at = seen.trailing_zeros();
+        return Some(Mark {
+            at: at as usize,
+            later: (seen >> at) >> 1,
+        });
+    }
+    let mut at = 0;
+    while text.len() - at >= WIDE {
+        let marks = marks_in(text, at);
+        if marks != 0 {
+            let run = marks.trailing_zeros();
+            return Some(Mark {
+                at: at + run as usize,
+                later: (marks >> run) >> 1,
+            });
+        }
+        at += WIDE;
+    }
+    let last = memchr3(b'\\', b'\n', b'"', &text[at..])?;
+    Some(Mark {
+        at: at + last,
+        later: 0,
+    })
+}
+
+/// Whether a text is spaces and tabs and then `#`.
+fn is_comment(text: &[u8]) -> bool
+    ensures { result ≡ begins_comment text.now }
+{
+    for byte in text {
+        match *byte {
+            b' ' | b'\t' => {}
+            b'#' => return true,
+            _ => return false,
+        }
+    }
+    false
+}
+
+/// The place of the first newline.
+fn first_newline(text: &[u8]) -> Option<usize>
+    ensures { MatchOption result (All (λ b. b ≢ newline) text.now)
+        (λ i. (i < length text.now) × (slice_index text.now i ≡ newline) × All (λ b. b ≢ newline) (take i text.now)) }
+{
+    memchr(b'\n', text)
+}
+
+/// The place of the newline that ends the first piece, or `None` where the text is one piece.
+#[inline(always)]
+fn late_cut(dialect: Dialect, text: &[u8]) -> Option<usize>
+    ensures { IsFirstCut (rules_of dialect) text.now result }
+{
+    match dialect {
+        Dialect::Crate => cut_by_stretches(text),
+        Dialect::Strict if is_comment(text) => first_newline(text),
+        Dialect::Strict => cut_by_stretches(text),
+    }
+}
+
+/// The same, with what was seen at the start of the text, and then of what comes after that newline.
+#[inline(always)]
+pub(crate) fn first_cut(dialect: Dialect, text: &[u8], seen: u64) -> Option<Mark>
+    requires { AreSeen text.now seen }
+    ensures cut { IsFirstCut (rules_of dialect) text.now (option_map (λ m. m.at) result) }
+    ensures later { IfSome result (λ m. AreSeen (drop (m.at + 1) text.now) m.later) }
+{
+    let found = first_mark(text, seen)?;
+    // Nothing before it is escaped or quoted, and it is the first newline: it ends a comment too.
+    if text[found.at] == b'\n' {
+        return Some(found);
+    }
+    let at = late_cut(dialect, text)?;
+    Some(Mark { at, later: 0 })
+}
+
+/// The pieces of a text, in order: what [`split_lines`] gives.
+///
+/// It gives one piece more than the newlines that it cuts at, at most `input.len() + 1`, and stays
+/// ended. It takes no memory.
+#[derive(Drop)]
+pub struct SplitLines<'a> {
+    dialect: Dialect,
+    rest: Option<&'a str>,
+    // The newlines, quotes and backslashes that were seen at the start of the rest.
+    seen: u64,
+}
+
+impl<'a> Model for SplitLines<'a> {
+    ghost use Rattle.std.specs.Prelude.{option_map, IfSome};
+    ghost use Rattle.lp_format.specs.format.Pieces.{Left};
+    ghost use Rattle.lp_split.specs.code.Ahead.{AreSeen};
+    ghost use Rattle.lp_split.specs.code.Rules.{rules_of};
+
+    ghost Value = { Left };
+
+    ghost view = { λ s. record { dialect = rules_of s.dialect; text = option_map (λ x. x.now) s.rest } };
+
+    ghost invariant = { λ s. IfSome s.rest (λ text. AreSeen text.now s.seen) };
+}
+
+/// Splits a text into its pieces, at each newline that ends a line.
+///
+/// A newline after a backslash, or between the quotes of a string value, ends no line. Joined by
+/// newlines, the pieces are the text. Each piece borrows from the input; no memory is taken.
+///
+/// ```text
+/// split_lines("m s=\"a\nb\"\nn c=1i")  gives  "m s=\"a\nb\""  and  "n c=1i"
+/// ```
+pub fn split_lines(input: &str) -> SplitLines<'_>
+    ensures { result ≡ record { dialect = Crate; text = Some input.now } }
+{
+    split_lines_in(Dialect::Crate, input)
+}
+
+/// Splits a text into its pieces by the rules of a dialect.
+///
+/// [`split_lines`] does so by those of the crate. In the strict dialect a piece that begins with any spaces and tabs
+/// and then `#` ends at the first newline, even after a backslash or an open quote. No memory is taken.
+///
+/// ```text
+/// split_lines_in(Dialect::Crate, "# a=\"\nm b=1i")   gives  "# a=\"\nm b=1i"
+/// split_lines_in(Dialect::Strict, "# a=\"\nm b=1i")  gives  "# a=\""  and  "m b=1i"
+/// ```
+pub fn split_lines_in(dialect: Dialect, input: &str) -> SplitLines<'_>
+    ensures { result ≡ record { dialect = rules_of dialect; text = Some input.now } }
+{
+    SplitLines {
+        dialect,
+        rest: Some(input),
+        seen: 0,
+    }
+}
+
+impl<'a> SplitLines<'a> {
+    /// The text that is left: what comes after the newline of the last cut, or `None` once the last piece was given.
+    ///
+    /// Where a piece ends in the text, and so where it begins and in which line, is told by what is left before and
+    /// after it.
+    ///
+    /// ```text
+    /// "a\nb"   after split_lines  Some("a\nb")
+    ///          after "a"          Some("b")
+    ///          after "b"          None
+    /// "a\n"    after "a"          Some(""), the piece that comes next
+    /// ```
+    pub fn remainder(&self) -> Option<&'a str>
+        ensures { option_map (λ rest. rest.now) result ≡ self.now.text }
+    {
+        self.rest
+    }
+}
+
+// The dialect whose rules hold.
+pub fn dialect_of(lines: &SplitLines<'_>) -> Dialect
+    ensures { rules_of result ≡ lines.now.dialect }
+{
+    lines.dialect
+}
+
+impl<'a> Iterator for SplitLines<'a> {
+    type Item = &'a str;
+
+    ghost next_gives = { GivesPiece };
+
+    ghost remaining = { λ left. at_most (most_pieces left.text) };
+
+    #[inline(always)]
+    fn next(&mut self) -> Option<&'a str> {
+        let text = self.rest?;
+        match first_cut(self.dialect, text.as_bytes(), self.seen) {
+            Some(cut) => {
+                self.rest = Some(&text[cut.at + 1..]);
+                self.seen = cut.later;
+                Some(&text[..cut.at])
+            }
+            None => {
+                self.rest = None;
+                Some(text)
+            }
+        }
+    }
+}

@@ -1,0 +1,218 @@
+//! Lines that come in parts.
+
+ghost use Rattle.std.specs.Prelude.{◌≡◌, ◌++◌, ◌-◌, ◌≤◌, [], drop, length, vec_len, IsUtf8, MatchResult, OnOk, OnErr, Some};
+ghost use Rattle.std.specs.Borrow.{sem};
+ghost use Rattle.lp_format.specs.format.Dialects.{Crate};
+ghost use Rattle.lp_split.specs.code.Rules.{rules_of};
+ghost use Rattle.lp_split.specs.code.Streams.{FindsCut};
+ghost use Rattle.lp_format.specs.format.Pieces.{IsLastPiece};
+
+use crate::split::{Dialect, Mark, Search, first_cut, search_on};
+use simdutf8::basic;
+use std::alloc::{AllocError, Global};
+use std::marker::Model;
+use std::str::{self, Utf8Error};
+
+mod bounded;
+
+pub use bounded::{BoundedLineStream, PieceTooLong};
+
+// Drops the bytes before `start` if they are as many as those after it, and tells where those after it begin. So each byte
+// is moved once at most, and what was given takes no more room than what is held.
+fn compact(buffer: &mut Vec<u8>, start: usize) -> usize
+    requires { start ≤ vec_len buffer.old }
+    ensures few { result ≤ vec_len buffer.old - start }
+    ensures within { result ≤ vec_len buffer.new }
+    ensures others { drop result buffer.new.items ≡ drop start buffer.old.items }
+{
+    let len = buffer.len();
+    if start < len - start {
+        return start;
+    }
+    buffer.as_mut_slice().copy_within(start..len, 0);
+    buffer.truncate(len - start);
+    0
+}
+
+// The bytes as text. The test goes by wide loads, and where it fails once more byte by byte, for the place of the error.
+fn read_text(bytes: &[u8]) -> Result<&str, Utf8Error>
+    ensures { MatchResult result (λ text. (text.now ≡ bytes.now) × IsUtf8 bytes.now) (λ _. ¬ (IsUtf8 bytes.now)) }
+{
+    match basic::from_utf8(bytes) {
+        Ok(text) => Ok(text),
+        Err(_) => str::from_utf8(bytes),
+    }
+}
+
+/// The pieces of a text that comes in parts: what [`split_lines`](crate::split_lines) gives for all of it.
+///
+/// A part is given by [`push`](Self::push) and may be cut anywhere, also inside a character or an escape. Each piece is
+/// there as soon as the newline that ends it has come, and the last one once no more parts come.
+///
+/// Memory is asked for only where the buffer grows.
+///
+/// ```text
+/// stream.push(b"m s=\"a")         next_text gives None
+/// stream.push(b"\nb\"\nn c=1i")   next_text gives Some(Ok("m s=\"a\nb\"")), and then None
+///                                 finish_text gives Ok("n c=1i")
+/// ```
+#[derive(Drop)]
+pub struct LineStream {
+    dialect: Dialect,
+    buffer: Vec<u8>,
+    // Where the bytes begin that are held.
+    start: usize,
+    // What a search for a cut knows of them.
+    known: Search,
+}
+
+impl Model for LineStream {
+    ghost use Rattle.std.specs.Prelude.{drop};
+    ghost use Rattle.lp_split.specs.code.Rules.{rules_of};
+    ghost use Rattle.lp_split.specs.code.Streams.{Held, IsHeldAt};
+
+    ghost Value = { Held };
+
+    ghost view = { λ s. record { dialect = rules_of s.dialect; bytes = drop s.start s.buffer.items } };
+
+    ghost invariant = { λ s. IsHeldAt (rules_of s.dialect) s.buffer.items s.start s.known };
+}
+
+impl LineStream {
+    ghost use Rattle.lp_split.specs.code.Lending.{EndsAsCut, EndsAsCutText, EndsAsTaken, EndsAsLast, EndsAsLastText};
+
+    /// A stream that holds nothing, by the rules of the crate. No memory is taken.
+    pub fn new(alloc: Global) -> LineStream
+        ensures { result ≡ record { dialect = Crate; bytes = [] } }
+    {
+        LineStream::new_in(alloc, Dialect::Crate)
+    }
+
+    /// A stream that holds nothing, by the rules of a dialect. No memory is taken.
+    pub fn new_in(alloc: Global, dialect: Dialect) -> LineStream
+        ensures { result ≡ record { dialect = rules_of dialect; bytes = [] } }
+    {
+        let buffer = Vec::new(alloc);
+        prove!(buffer.capacity() == 0);
+        LineStream {
+            dialect,
+            buffer,
+            start: 0,
+            known: Search::Begins(0),
+        }
+    }
+
+    /// Takes the next part of the text.
+    ///
+    /// Where memory was refused, nothing is lost, and the same part can be given again.
+    pub fn push(&mut self, part: &[u8]) -> Result<(), AllocError>
+        ensures dialect { self.new.dialect ≡ self.old.dialect }
+        ensures ok { OnOk result (self.new.bytes ≡ self.old.bytes ++ part.now) }
+        ensures err { OnErr result (self.new.bytes ≡ self.old.bytes) }
+    {
+        self.start = compact(&mut self.buffer, self.start);
+        prove!(self.start <= self.buffer.len() - self.start);
+        self.buffer.extend_from_slice(part)
+    }
+
+    // The cut that ends the first piece, or `None` until its newline has come. Most are found with no look at where a search
+    // stopped, which is large.
+    #[inline(always)]
+    fn cut(&mut self) -> Option<Mark>
+        ensures stays { self.new ≡ self.old }
+        ensures found { FindsCut self.old result }
+    {
+        if let Search::Begins(seen) = self.known {
+            if let Some(cut) = first_cut(self.dialect, &self.buffer[self.start..], seen) {
+                return Some(cut);
+            }
+        }
+        self.cut_on()
+    }
+
+    // The same, by a search that goes on where it stopped.
+    #[cold]
+    #[inline(never)]
+    fn cut_on(&mut self) -> Option<Mark>
+        ensures stays { self.new ≡ self.old }
+        ensures found { FindsCut self.old result }
+    {
+        match search_on(self.dialect, &self.buffer[self.start..], self.known) {
+            Ok(cut) => Some(cut),
+            Err(known) => {
+                self.known = known;
+                None
+            }
+        }
+    }
+
+    // Takes the piece before the first cut.
+    fn take(&mut self, cut: Mark) -> &[u8]
+        requires { FindsCut self.old (Some cut) }
+        ensures len { length result.now ≡ cut.at }
+        ensures* after { sem 𝓛 (EndsAsTaken self.entry result) }
+    {
+        let from = self.start;
+        self.start = from + cut.at + 1;
+        self.known = Search::Begins(cut.later);
+        &self.buffer[from..from + cut.at]
+    }
+
+    /// The first piece that a newline ends, or `None` until that newline has come.
+    #[inline(always)]
+    pub fn next(&mut self) -> Option<&[u8]>
+        ensures* after { sem 𝓛 (EndsAsCut self.entry result) }
+    {
+        let cut = self.cut()?;
+        Some(self.take(cut))
+    }
+
+    /// The same as text, or an error where the piece is not UTF-8. It is taken all the same, and the next ones are given.
+    pub fn next_text(&mut self) -> Option<Result<&str, Utf8Error>>
+        ensures* after { sem 𝓛 (EndsAsCutText self.entry result) }
+    {
+        let piece = self.next()?;
+        Some(read_text(piece))
+    }
+
+    /// The last piece: all that is held, once [`next`](Self::next) has given `None` and no more parts come. Then nothing
+    /// is held, and the parts of another text can be given.
+    pub fn finish(&mut self) -> &[u8]
+        requires { IsLastPiece self.old.dialect self.old.bytes }
+        ensures* after { sem 𝓛 (EndsAsLast self.entry result) }
+    {
+        self.take_all()
+    }
+
+    // Takes all that is held.
+    fn take_all(&mut self) -> &[u8]
+        ensures* after { sem 𝓛 (EndsAsLast self.entry result) }
+    {
+        let from = self.start;
+        self.start = self.buffer.len();
+        self.known = Search::Begins(0);
+        &self.buffer[from..]
+    }
+
+    // What is held.
+    fn held(&self) -> &[u8]
+        ensures { result.now ≡ self.now.bytes }
+    {
+        &self.buffer[self.start..]
+    }
+
+    // The dialect whose rules hold.
+    fn dialect(&self) -> Dialect
+        ensures { rules_of result ≡ self.now.dialect }
+    {
+        self.dialect
+    }
+
+    /// The same as text, or an error where it is not UTF-8. It is taken all the same.
+    pub fn finish_text(&mut self) -> Result<&str, Utf8Error>
+        requires { IsLastPiece self.old.dialect self.old.bytes }
+        ensures* after { sem 𝓛 (EndsAsLastText self.entry result) }
+    {
+        read_text(self.finish())
+    }
+}

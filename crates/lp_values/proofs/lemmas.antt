@@ -1,0 +1,4 @@
+pub mod tokens
+pub mod digits
+pub mod fields
+pub mod shown

@@ -1,0 +1,5 @@
+pub mod WalkLemmas
+pub mod WalkMasks
+pub mod EscapeMasks
+pub mod CopyLemmas
+pub mod TokenLemmas

@@ -1,0 +1,285 @@
+-- A walk over a token, from escape to escape.
+use Rattle.std.proofs.Common.{◌≡◌, ◌≢◌, ℕ, zero, suc, ◌+◌, ◌-◌, ◌<◌, ◌≤◌, Bool, List, [], ◌∷◌, ◌++◌, length, take, slice_index, true, false}
+use Rattle.std.proofs.Common.{cond, eqb, not, ◌&&◌, refl, sym, ap, ap₂, ◌∙◌, subst, arith, inl, inr, add-one, add-zero, append_assoc}
+use Rattle.std.specs.Prelude.{◌==◌}
+use Rattle.std.proofs.lemmas.Bool.{false≢true, cases_Bool, or_parts, not-true, not-false, or_cases, eqb-true, eqb-false, cases_lt, cases_eq}
+use Rattle.std.proofs.lemmas.Bool.{and_right}
+use Rattle.std.proofs.lemmas.List.{take_more, length-append}
+use Rattle.std.proofs.lemmas.List.Folds.{list_any_more}
+use Rattle.std.proofs.lemmas.List.Sums.{sum_by-cons}
+use Rattle.std.specs.List.{count_by, range_with_len}
+use mir.Val.{bool_byte}
+use Rattle.lp_format.specs.format.Bytes.{is_one_of}
+use Rattle.lp_format.specs.format.Escapes.{is_escaped_after, is_bare_at, first_bare, without_escapes, EscapeScan}
+use Rattle.lp_scan.specs.code.Tokens.{is_plain}
+use Rattle.lp_scan.specs.code.Lanes.{AllPassBetween, IsRunAt}
+use Rattle.lp_values.specs.code.RawTokens.{is_escape_at}
+use Rattle.lp_format.proofs.lemmas.tokens.EscapeLemmas.{first_bare_is, is_escaped_more}
+use Rattle.lp_format.proofs.lemmas.names.NameLemmas.{without_escapes_plain_byte}
+use Rattle.lp_format.proofs.lemmas.split.SplitBare.{is_escaped-nil, is_escaped-append, is_escaped-after_other, flag_after}
+
+-- whether a text ends in an escape, by a walk from its first byte
+escaped_is_flag : (text : List ℕ) → is_escaped_after text ≡ flag_after false text
+escaped_is_flag text = is_escaped-append [] text ∙ ap (λ f. flag_after f text) is_escaped-nil
+
+-- what comes after a backslash and a byte is escaped just where it is without them
+escaped_after_pair : (c : ℕ) (rest : List ℕ) → is_escaped_after (92 ∷ c ∷ rest) ≡ is_escaped_after rest
+escaped_after_pair c rest = escaped_is_flag (92 ∷ c ∷ rest) ∙ ap (λ f. flag_after f rest) (none (eqb c 92)) ∙ sym (escaped_is_flag rest)
+  where
+    none : (t : Bool) → cond t false false ≡ false
+    none t = grind arith
+
+-- a text that is cut where the next byte is bare has the logical texts of its parts, joined
+pub without_escapes_append : (known front back : List ℕ) → is_escaped_after front ≡ false
+    → without_escapes known (front ++ back) ≡ without_escapes known front ++ without_escapes known back
+unfolding without_escapes
+without_escapes_append known [] back bare = refl
+without_escapes_append known (b ∷ []) back bare =
+    elim (cases_Bool (b == 92)) [
+      | inl e ↦ absurd (let here = eqb-true b 92 e in let one = escaped_is_flag (b ∷ []) in let set = rw here at one in cc)
+      | inr e ↦ without_escapes_plain_byte known b back (eqb-false b 92 e)
+    ]
+without_escapes_append known (b ∷ c ∷ rest) back bare =
+    elim (cases_Bool (b == 92)) [
+      | inl e ↦
+          let here : b ≡ 92 = eqb-true b 92 e in
+          let inner : is_escaped_after rest ≡ false = sym (escaped_after_pair c rest) ∙ rw (← here) bare in
+          let more = without_escapes_append known rest back inner in
+          elim (cases_Bool (is_one_of known c)) [ inl k ↦ rw (e, k, more) refl | inr k ↦ rw (e, k, more) refl ]
+      | inr e ↦
+          let inner : is_escaped_after (c ∷ rest) ≡ false = sym (is_escaped-after_other [] (c ∷ rest) b e) ∙ bare in
+          rw (e, without_escapes_append known (c ∷ rest) back inner) refl
+    ]
+
+module _ (known text : List ℕ) where
+  -- at how many of so many places from one on a known escape begins
+  abbrev pub escapes_from : ℕ → ℕ → ℕ
+  escapes_from at n = count_by (is_escape_at known text) (range_with_len at n)
+
+  escapes_first : (at n : ℕ) → escapes_from at (suc n) ≡ cond (is_escape_at known text at) 1 0 + escapes_from (at + 1) n
+  escapes_first at n = sum_by-cons (λ k. cond (is_escape_at known text k) 1 0) at (range_with_len (at + 1) n)
+
+  pub escapes_more : (n at : ℕ) → escapes_from at (suc n) ≡ escapes_from at n + cond (is_escape_at known text (at + n)) 1 0
+  escapes_more zero at =
+      let place : at + 0 ≡ at = omega arith in
+      omega (arith, escapes_first at 0, ap (λ (k : ℕ). cond {A = ℕ} (is_escape_at known text k) 1 0) place)
+  escapes_more (suc n) at =
+      let place : at + 1 + n ≡ at + suc n = omega arith in
+      omega (
+        arith,
+        escapes_first at (suc n),
+        escapes_first at n,
+        escapes_more n (at + 1),
+        ap (λ (k : ℕ). cond {A = ℕ} (is_escape_at known text k) 1 0) place,
+      )
+
+-- a bare byte that is no bare stop is no stop
+bare_fails : (t e : Bool) → e ≡ false → (t && not e) ≡ false → t ≡ false
+bare_fails t e bare h = grind arith
+
+module _ (known : List ℕ) (stops : ℕ → Bool) (text : List ℕ) where
+  pub walk_start : EscapeScan known stops text 0 0
+  unfolding without_escapes
+  walk_start = record { within = omega arith; bare = is_escaped-nil; passed = λ k h. absurd (omega arith); counted = refl }
+
+  -- the two tests of a plain byte
+  plain_parts : (b : ℕ) → is_plain stops b ≡ true → (stops b ≡ false) × ((b == 92) ≡ false)
+  plain_parts b h = or_parts (stops b) (b == 92) (not-true _ h)
+
+  -- a plain byte further
+  walk_byte : (at found : ℕ) → EscapeScan known stops text at found → at < length text
+      → is_plain stops (slice_index text at) ≡ true → EscapeScan known stops text (at + 1) found
+  unfolding without_escapes
+  walk_byte at found w within plain =
+      let parts = plain_parts (slice_index text at) plain in
+      let more = take_more text at 0 within in
+      let separated_list = without_escapes_append known (take at text) (slice_index text at ∷ []) w.bare in
+      record {
+        within = omega arith;
+        bare = rw (is_escaped_more text at within, w.bare, parts.1) refl;
+        passed = λ k h. elim (cases_Bool (k == at)) [
+          | inl e ↦ rw (eqb-true k at e, parts.0) refl
+          | inr before ↦ w.passed k (omega (arith, eqb-false k at before))
+        ];
+        counted = rw (
+          more,
+          separated_list,
+          length-append (without_escapes known (take at text)) (slice_index text at ∷ []),
+        ) (omega (arith, w.counted));
+      }
+
+  -- some plain bytes further
+  pub walk_bytes : (n at found : ℕ) → EscapeScan known stops text at found → at + n ≤ length text
+      → AllPassBetween (is_plain stops) text at (at + n) → EscapeScan known stops text (at + n) found
+  walk_bytes zero at found w fits pass = rw add-zero w
+  walk_bytes (suc n) at found w fits pass =
+      let one = walk_byte at found w (omega arith) (pass at (omega arith) (omega arith)) in
+      let rest = walk_bytes n (at + 1) found one (omega arith) (λ k from to. pass k (omega arith) (omega arith)) in
+      let e : at + suc n ≡ at + 1 + n = omega arith in
+      rw e rest
+
+  -- up to the end of the plain bytes
+  pub walk_run : (at end found : ℕ) → EscapeScan known stops text at found → IsRunAt (is_plain stops) text at end
+      → EscapeScan known stops text end found
+  walk_run at end found w run =
+      let e : at + (end - at) ≡ end = omega (arith, run.ordered) in
+      rw e at (walk_bytes (end - at) at found w (omega (arith, run.within, run.ordered)) (rw (← e) at run.passes))
+
+  -- over a backslash and the byte that it escapes, where it is no stop
+  pub walk_escape : (at found : ℕ) (t : Bool) → EscapeScan known stops text at found → at + 1 < length text
+      → slice_index text at ≡ 92 → stops 92 ≡ false
+      → is_one_of known (slice_index text (at + 1)) ≡ t → EscapeScan known stops text (at + 2) (found + cond t 1 0)
+  unfolding without_escapes
+  walk_escape at found t w within here kept is =
+      let first = take_more text at 0 (omega arith) in
+      let second = take_more text (at + 1) 0 within in
+      let two : at + 1 + 1 ≡ at + 2 = omega arith in
+      let escaped : is_escaped_after (take (at + 1) text) ≡ true = rw (is_escaped_more text at (omega arith), w.bare, here) refl in
+      let front : take (at + 2) text ≡ take at text ++ (92 ∷ slice_index text (at + 1) ∷ []) = rw (← two)
+      (rw (second, first, here) (simp append_assoc)) in
+      let separated_list = without_escapes_append known (take at text) (92 ∷ slice_index text (at + 1) ∷ []) w.bare in
+      record {
+        within = omega arith;
+        bare = rw (← two) (rw (is_escaped_more text (at + 1) within, escaped) refl);
+        passed = λ k h. elim (cases_lt k at) [
+          | inl before ↦ w.passed k before
+          | inr after ↦ elim (cases_eq k at) [
+            | inl e ↦ rw (e, here, kept) refl
+            | inr other ↦
+                let last : k ≡ at + 1 = omega arith in
+                rw (last, escaped) (and_right _ false refl)
+          ]
+        ];
+        counted = elim (cases_Bool t) [
+          | inl k ↦ rw (front, separated_list, is, k, length-append (without_escapes known (take at text)) _) (omega (arith, w.counted))
+          | inr k ↦ rw (front, separated_list, is, k, length-append (without_escapes known (take at text)) _) (omega (arith, w.counted))
+        ];
+      }
+
+  -- over a byte that is neither a backslash nor a stop
+  to_by_byte : (n at found : ℕ) → EscapeScan known stops text at found → at < length text
+      → (slice_index text at == 92) ≡ false → is_bare_at stops text at ≡ false
+      → (EscapeScan known stops text (at + 1) found → EscapeScan known stops text (at + 1 + n) (found + escapes_from known text (at + 1) n))
+      → EscapeScan known stops text (at + suc n) (found + escapes_from known text at (suc n))
+  to_by_byte n at found w within other not_stop rest =
+      let stays : stops (slice_index text at) ≡ false = bare_fails (stops (slice_index text at))
+      (is_escaped_after (take at text)) w.bare not_stop in
+      let one = walk_byte at found w within (rw (stays, other) refl) in
+      let none : cond {A = ℕ} (is_escape_at known text at) 1
+      0 ≡ 0 = ap (λ (t : Bool). cond {A = ℕ}
+      ((t && not (is_escaped_after (take at text))) && is_one_of known (slice_index text (at + 1))) 1 0) other in
+      let place : at + 1 + n ≡ at + suc n = omega arith in
+      let count : found + escapes_from known text (at + 1) n ≡ found + escapes_from known text at (suc n) = omega
+      (arith, escapes_first known text at n, none) in
+      subst (λ (k : ℕ). EscapeScan known stops text k (found + escapes_from known text at (suc n))) place
+      (subst (λ (k : ℕ). EscapeScan known stops text (at + 1 + n) k) count (rest one))
+
+  -- over a backslash and the byte that it escapes
+  to_by_escape : (n at found : ℕ) → stops 92 ≡ false → EscapeScan known stops text at found → at + 1 < length text
+      → (slice_index text at == 92) ≡ true
+      → ((more : ℕ) → EscapeScan known stops text (at + 2) more
+      → EscapeScan known stops text (at + 2 + n) (more + escapes_from known text (at + 2) n))
+      → EscapeScan known stops text (at + suc (suc n)) (found + escapes_from known text at (suc (suc n)))
+  to_by_escape n at found kept w within is rest =
+      let t = is_one_of known (slice_index text (at + 1)) in
+      let here : slice_index text at ≡ 92 = eqb-true (slice_index text at) 92 is in
+      let two = walk_escape at found t w within here kept refl in
+      let first : cond {A = ℕ} (is_escape_at known text at) 1 0 ≡ cond t 1 0 = ap₂
+      (λ (a e : Bool). cond {A = ℕ} ((a && not e) && t) 1 0) is w.bare in
+      let flag : is_escaped_after (take (at + 1) text) ≡ true = rw (is_escaped_more text at (omega arith), w.bare, here) refl in
+      let second : cond {A = ℕ} (is_escape_at known text (at + 1)) 1 0 ≡ 0 =
+      ap (λ (e : Bool). cond {A = ℕ}
+      (((slice_index text (at + 1) == 92) && not e) && is_one_of known (slice_index text (at + 1 + 1))) 1 0) flag
+      ∙ ap (λ (a : Bool). cond {A = ℕ} (a && is_one_of known (slice_index text (at + 1 + 1))) 1 0)
+      (and_right (slice_index text (at + 1) == 92) false refl) in
+      let next : at + 1 + 1 ≡ at + 2 = omega arith in
+      let after : escapes_from known text (at + 1 + 1) n ≡ escapes_from known text (at + 2)
+      n = ap (λ (k : ℕ). escapes_from known text k n) next in
+      let place : at + 2 + n ≡ at + suc (suc n) = omega arith in
+      let count : found + cond t 1 0 + escapes_from known text (at + 2) n ≡ found + escapes_from known text at (suc (suc n)) =
+      omega (arith, escapes_first known text at (suc n), escapes_first known text (at + 1) n, first, second, after) in
+      subst (λ (k : ℕ). EscapeScan known stops text k (found + escapes_from known text at (suc (suc n)))) place
+      (subst (λ (k : ℕ). EscapeScan known stops text (at + 2 + n) k) count (rest (found + cond t 1 0) two))
+
+  -- up to a bare place, with no bare stop on the way
+  pub walk_to : (n at found : ℕ) → stops 92 ≡ false → EscapeScan known stops text at found → at + n ≤ length text
+      → is_escaped_after (take (at + n) text) ≡ false
+      → ((k : ℕ) → at ≤ k → k < at + n → is_bare_at stops text k ≡ false)
+      → EscapeScan known stops text (at + n) (found + escapes_from known text at n)
+  walk_to zero at found kept w room bare none = rw (add-zero at, add-zero found) w
+  walk_to (suc zero) at found kept w room bare none =
+      elim (cases_Bool (slice_index text at == 92)) [
+        | inl is ↦ absurd (false≢true (sym bare ∙ rw (is_escaped_more text at (omega arith), w.bare, is) refl))
+        | inr other ↦ to_by_byte zero at found w (omega arith) other (none at (omega arith) (omega arith))
+            (λ one. rw (add-zero (at + 1), add-zero found) one)
+      ]
+  walk_to (suc (suc n)) at found kept w room bare none =
+      let one_on : at + 1 + suc n ≡ at + suc (suc n) = omega arith in
+      let two_on : at + 2 + n ≡ at + suc (suc n) = omega arith in
+      elim (cases_Bool (slice_index text at == 92)) [
+        | inl is ↦
+            to_by_escape n at found kept w (omega arith) is
+            (λ more walked. walk_to n (at + 2) more kept walked (omega arith)
+            (ap (λ (k : ℕ). is_escaped_after (take k text)) two_on ∙ bare) (λ k from to. none k (omega arith) (omega arith)))
+        | inr other ↦
+            to_by_byte (suc n) at found w (omega arith) other (none at (omega arith) (omega arith))
+            (λ walked. walk_to (suc n) (at + 1) found kept walked (omega arith)
+            (ap (λ (k : ℕ). is_escaped_after (take k text)) one_on ∙ bare) (λ k from to. none k (omega arith) (omega arith)))
+      ]
+
+  -- the same, where the answer is added as a number
+  pub walk_counted : (at found n : ℕ) (t : Bool) → EscapeScan known stops text at found → at + 1 < length text
+      → slice_index text at ≡ 92 → stops 92 ≡ false
+      → is_one_of known (slice_index text (at + 1)) ≡ t → n ≡ bool_byte t → EscapeScan known stops text (at + 2) (found + n)
+  walk_counted at found n true w within here kept is counted = rw counted (walk_escape at found true w within here kept is)
+  walk_counted at found n false w within here kept is counted = rw counted (walk_escape at found false w within here kept is)
+
+  -- the token ends where a stop or the end of the text is reached
+  pub walk_ends : (end found : ℕ) → EscapeScan known stops text end found → (end < length text → stops (slice_index text end) ≡ true)
+      → (first_bare stops text ≡ end) × (length (without_escapes known (take end text)) + found ≡ end)
+  walk_ends end found w stop = (
+    first_bare_is stops text end w.within w.passed (λ h. rw (stop h, w.bare) refl),
+    w.counted,
+  )
+
+  -- or after a backslash that is the last byte
+  pub walk_ends_after : (at found : ℕ) → EscapeScan known stops text at found → at + 1 ≡ length text
+      → slice_index text at ≡ 92 → stops 92 ≡ false
+      → (first_bare stops text ≡ at + 1) × (length (without_escapes known (take (at + 1) text)) + found ≡ at + 1)
+  unfolding without_escapes
+  walk_ends_after at found w last here kept =
+      let first = take_more text at 0 (omega arith) in
+      let separated_list = without_escapes_append known (take at text) (slice_index text at ∷ []) w.bare in (
+        first_bare_is stops text (at + 1) (omega arith)
+            (λ k h. elim (cases_eq k at) [ inl e ↦ rw (e, here, kept) refl | inr other ↦ w.passed k (omega arith) ])
+            (λ h. absurd (omega arith)),
+        rw (first, separated_list, length-append (without_escapes known (take at text)) (slice_index text at ∷ []))
+            (omega (arith, w.counted)),
+      )
+
+  -- a byte that is not plain and no backslash is a stop
+  pub is_stop_then : (b : ℕ) → is_plain stops b ≡ false → b ≢ 92 → stops b ≡ true
+  is_stop_then b not_plain other =
+      elim (or_cases (stops b) (b == 92) (not-false _ not_plain)) [
+        | inl stop ↦ stop
+        | inr here ↦ absurd (other (eqb-true b 92 here))
+      ]
+
+  -- plain bytes hold no backslash
+  plain_front : (n : ℕ) → n ≤ length text → AllPassBetween (is_plain stops) text 0 n → is_one_of (take n text) 92 ≡ false
+  plain_front zero fits pass = refl
+  plain_front (suc n) fits pass =
+      let before = plain_front n (omega arith) (λ k from to. pass k from (omega arith)) in
+      let last = (plain_parts (slice_index text n) (pass n (omega arith) (omega arith))).1 in
+      let more = list_any_more (λ b. b == 92) text n 0 (omega arith) in
+      rw (← add-one n) (rw (more, before) last)
+
+  pub run_is_plain : (end : ℕ) → IsRunAt (is_plain stops) text 0 end → is_one_of (take end text) 92 ≡ false
+  run_is_plain end run = plain_front end run.within run.passes
+
+  -- a token without a backslash
+  pub run_ends : (end : ℕ) → IsRunAt (is_plain stops) text 0 end → (end < length text → slice_index text end ≢ 92)
+      → (first_bare stops text ≡ end) × (length (without_escapes known (take end text)) ≡ end)
+  run_ends end run other =
+      let ends = walk_ends end 0 (walk_run 0 end 0 walk_start run) (λ h. is_stop_then (slice_index text end) (run.stops h) (other h)) in
+      (ends.0, omega (arith, ends.1))

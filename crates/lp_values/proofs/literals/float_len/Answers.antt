@@ -1,0 +1,24 @@
+use Rattle.std.proofs.Common.{◌≡◌, ◌≤◌, ◌+◌, length, arith, rules}
+use Rattle.std.proofs.lemmas.Grind.{common_steps}
+use Rattle.std.proofs.lemmas.Str.{IsCharBoundary-start}
+use Rattle.lp_format.specs.format.Values.{float_len}
+use Rattle.lp_format.proofs.lemmas.literals.FloatLemmas.{float_boundary, integer_len_fits}
+use Rattle.lp_values.proofs.literals.float_len.Goals as goal
+
+pub returns-then-whole-eq0-clause-boundary : goal.returns-then-whole-eq0-clause-boundary
+returns-then-whole-eq0-clause-boundary c = IsCharBoundary-start c.args.text.now c.utf8.text
+
+pub slice_bounds-after-count : goal.slice_bounds-after-count
+slice_bounds-after-count c = omega (arith, integer_len_fits c.args.text.now)
+
+pub slice_bounds-after-start : goal.slice_bounds-after-start
+slice_bounds-after-start c =
+    let fits : c.args.whole ≤ length c.as_bytes.result.now = omega (arith, integer_len_fits c.args.text.now) in
+    search rules
+
+pub returns-clause-boundary : goal.returns-clause-boundary
+returns-clause-boundary c =
+    let text = c.args.text.now in
+    let len : c.args.whole + c.fraction_len-fraction.result + c.exponent_len.result ≡ float_len text = grind (arith, common_steps) in
+    let fits : float_len text ≤ length text = omega (arith, len, integer_len_fits text) in
+    rw len (float_boundary text c.utf8.text fits)

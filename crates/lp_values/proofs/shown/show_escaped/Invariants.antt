@@ -1,0 +1,14 @@
+use Rattle.std.proofs.Common.{◌≡◌, ◌-◌, ◌≤◌, List, ℕ, ◌++◌, take, drop}
+use Rattle.std.specs.Fmt.{HasWritten, IsPlainFormatter}
+use Rattle.std.specs.Str.{IsCharBoundary}
+use Rattle.lp_format.specs.format.Escapes.{escaped}
+use Rattle.lp_scan.specs.code.Tokens.{known_of}
+use Rattle.lp_format.specs.code.Shown.{shown_escapes}
+use Rattle.lp_values.proofs.shown.show_escaped.Given as goal
+
+-- what is written, and the run that is not yet written, are the bytes so far with their backslashes
+abbrev pub invariant-loop-at : goal.invariant-loop-at
+invariant-loop-at g l =
+    (l.start ≤ l.at) × IsCharBoundary l.fn.text l.start × (done : List ℕ)
+    × (done ++ take (l.at - l.start) (drop l.start l.fn.text) ≡ escaped (shown_escapes (known_of l.kind)) (take l.at l.fn.text))
+    × (IsPlainFormatter l.initial.f → HasWritten g.W.Write.write_str_gives l.initial.f done l.f)

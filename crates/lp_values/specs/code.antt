@@ -1,0 +1,5 @@
+pub mod RawTokens
+pub mod Texts
+pub mod Outcomes
+pub mod Faults
+pub mod ReadValues

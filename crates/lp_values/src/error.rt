@@ -1,0 +1,129 @@
+//! What can be wrong with a line.
+
+ghost use Rattle.std.specs.Prelude.{◌≡◌};
+
+use std::alloc::{AllocError, AllocFailed};
+use std::fmt;
+
+/// A result whose error is an [`Error`].
+pub type Result<T> = std::result::Result<T, Error>;
+
+/// On which side of its type's range a number lies.
+#[derive(Clone, Copy, Debug, PartialEq, Eq)]
+pub enum OutOfRange {
+    /// The number is greater than the type's greatest value.
+    Above,
+    /// The number is less than the type's least value.
+    Below,
+}
+
+/// What was missing where a line could not be read at all.
+#[derive(Clone, Copy, Debug, PartialEq, Eq)]
+pub enum ErrorKind {
+    /// At least one space.
+    TakeWhile1,
+}
+
+/// The fault of a line or of a series, or `OutOfMemory`.
+#[derive(Debug, Drop)]
+pub enum Error {
+    /// A series has no base: `tag_key` is the first key, in the order of the line, that is at
+    /// an earlier place too.
+    DuplicateTag { tag_key: String },
+    /// The line does not begin with a measurement.
+    MeasurementValueInvalid,
+    /// The line has no field.
+    FieldSetMissing,
+    /// An integer is out of the range of `i64`; `value` are its digits as they were spelled.
+    IntegerValueInvalid { source: OutOfRange, value: String },
+    /// An unsigned integer is out of the range of `u64`; `value` are its digits as they were spelled.
+    UIntegerValueInvalid { source: OutOfRange, value: String },
+    /// A timestamp is out of the range of `i64`; `value` is the number as it was spelled.
+    TimestampValueInvalid { source: OutOfRange, value: String },
+    /// A name ends in a backslash.
+    EndsWithBackslash,
+    /// Something is left after the last part that could be read.
+    CannotParseEntireLine { trailing_content: String },
+    /// A comma comes after the measurement, and no tag after it.
+    TagSetMalformed,
+    /// No space comes after the measurement.
+    GenericParsingError { kind: ErrorKind },
+    /// A request for memory was refused.
+    OutOfMemory,
+}
+
+impl fmt::Display for Error {
+    ghost use Rattle.std.specs.Prelude.{Some};
+    ghost use Rattle.lp_values.specs.code.Faults.{error_text};
+
+    ghost output = { λ e. Some (error_text e) };
+
+    fn fmt<W: fmt::Write>(&self, f: &mut fmt::Formatter<W>) -> fmt::Result {
+        match self {
+            Error::DuplicateTag { tag_key } => write!(
+                f,
+                "Must not contain duplicate tags, but \"{tag_key}\" was repeated"
+            ),
+            Error::MeasurementValueInvalid => write!(f, "Invalid measurement was provided"),
+            Error::FieldSetMissing => write!(f, "No fields were provided"),
+            Error::IntegerValueInvalid { source: _, value } => {
+                write!(f, "Unable to parse integer value '{value}'")
+            }
+            Error::UIntegerValueInvalid { source: _, value } => {
+                write!(f, "Unable to parse unsigned integer value '{value}'")
+            }
+            Error::TimestampValueInvalid { source: _, value } => {
+                write!(f, "Unable to parse timestamp value '{value}'")
+            }
+            Error::EndsWithBackslash => write!(
+                f,
+                "Measurements, tag keys and values, and field keys may not end with a backslash"
+            ),
+            Error::CannotParseEntireLine { trailing_content } => write!(
+                f,
+                "Could not parse entire line. Found trailing content: '{trailing_content}'"
+            ),
+            Error::TagSetMalformed => write!(f, "Tag Set Malformed"),
+            Error::GenericParsingError {
+                kind: ErrorKind::TakeWhile1,
+            } => write!(f, "A generic parsing error occurred: TakeWhile1"),
+            Error::OutOfMemory => write!(f, "out of memory"),
+        }
+    }
+}
+
+impl std::error::Error for Error {}
+
+impl From<AllocError> for Error {
+    ghost use Rattle.std.specs.Prelude.{◌≡◌};
+    ghost use Rattle.lp_values.specs.declared.error.Error.TheVariants.{OutOfMemory};
+
+    ghost from_gives = { λ _ e. e ≡ OutOfMemory };
+
+    fn from(_error: AllocError) -> Error {
+        Error::OutOfMemory
+    }
+}
+
+impl<T: Drop> From<AllocFailed<T>> for Error {
+    ghost use Rattle.std.specs.Prelude.{◌≡◌};
+    ghost use Rattle.lp_values.specs.declared.error.Error.TheVariants.{OutOfMemory};
+
+    ghost from_gives = { λ _ e. e ≡ OutOfMemory };
+
+    fn from(_error: AllocFailed<T>) -> Error {
+        Error::OutOfMemory
+    }
+}
+
+/// Lets go of what was read, where memory for more of it was refused.
+///
+/// Few lines need it, and it is called apart, so that no drop is where a field is read: its looks at single bytes of
+/// a value would have the compiler carry each value in small pieces.
+#[cold]
+#[inline(never)]
+pub fn refused<T: Drop>(_read: T) -> Error
+    ensures { result ≡ Error.OutOfMemory }
+{
+    Error::OutOfMemory
+}

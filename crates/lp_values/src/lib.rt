@@ -1,0 +1,20 @@
+//! The parts of a line: names, values, timestamps, and what can be wrong with them.
+//!
+//! Each reader here takes the front of a text and gives what is left of it. The readers know nothing of pieces or of lines,
+//! so they are a crate beside the splitter, below what reads a whole line.
+#![tactic(auto)]
+
+mod digits;
+pub mod error;
+mod escaped;
+mod literals;
+pub mod names;
+pub mod shown;
+mod tokens;
+pub mod trim;
+pub mod values;
+
+pub use error::{Error, ErrorKind, OutOfRange, Result};
+pub use escaped::{EscapedStr, Measurement};
+pub use literals::FloatText;
+pub use values::FieldValue;

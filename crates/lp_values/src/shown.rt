@@ -1,0 +1,57 @@
+//! Display of values, and the texts of tokens with their backslashes.
+
+ghost use Rattle.std.specs.Prelude.{◌≡◌, Some};
+ghost use Rattle.std.specs.Fmt.{DisplaysOnOk};
+ghost use Rattle.lp_format.specs.format.Bytes.{is_one_of};
+ghost use Rattle.lp_format.specs.format.Escapes.{escaped};
+ghost use Rattle.lp_scan.specs.code.Tokens.{known_of};
+ghost use Rattle.lp_format.specs.code.Shown.{shown_escapes};
+
+use crate::FieldValue;
+use lp_scan::sets::TokenKind;
+use std::fmt;
+
+// Whether a byte of a token is shown with a backslash: one that a backslash escapes, but for the backslash.
+fn gets_backslash(kind: TokenKind, byte: u8) -> bool
+    ensures { result ≡ is_one_of (shown_escapes (known_of kind)) byte }
+{
+    byte != b'\\' && kind.is_known(byte)
+}
+
+/// Writes `text` with its backslashes. What is between two of them is written as one run.
+pub fn show_escaped<W: fmt::Write>(
+    kind: TokenKind,
+    text: &str,
+    f: &mut fmt::Formatter<W>,
+) -> fmt::Result
+    ensures { DisplaysOnOk W.write_str_gives f.old result (Some (escaped (shown_escapes (known_of kind)) text.now)) f.new }
+{
+    let bytes = text.as_bytes();
+    let mut start = 0;
+    for at in 0..bytes.len() {
+        if gets_backslash(kind, bytes[at]) {
+            f.write_str(&text[start..at])?;
+            f.write_str("\\")?;
+            start = at;
+        }
+    }
+    f.write_str(&text[start..])
+}
+
+impl<'a> fmt::Display for FieldValue<'a> {
+    ghost use Rattle.std.specs.Prelude.{Some};
+    ghost use Rattle.lp_values.specs.code.ReadValues.{value_of};
+    ghost use Rattle.lp_format.specs.code.Shown.{shown_value};
+
+    ghost output = { λ v. Some (shown_value (value_of v)) };
+
+    fn fmt<W: fmt::Write>(&self, f: &mut fmt::Formatter<W>) -> fmt::Result {
+        match self {
+            FieldValue::I64(number) => write!(f, "{number}i"),
+            FieldValue::U64(number) => write!(f, "{number}u"),
+            FieldValue::F64(literal) => f.write_str(literal.as_str()),
+            FieldValue::String(text) => show_escaped(TokenKind::String, text.as_str(), f),
+            FieldValue::Boolean(value) => write!(f, "{value}"),
+        }
+    }
+}
