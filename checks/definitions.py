@@ -13,7 +13,10 @@ from pathlib import Path
 
 TOP = Path(__file__).resolve().parent.parent
 LIST = TOP / "docs" / "DEFINITIONS.md"
-LIBRARIES = ["influxdb_line_protocol", "lp_rebuild", "lp_relay", "lp_c"]
+LIBRARIES = [
+    "lp_format", "lp_scan", "lp_split", "lp_values", "lp_lines", "lp_build", "influxdb_line_protocol",
+    "lp_rebuild", "lp_relay_core", "lp_relay", "lp_c",
+]
 
 HEAD = """\
 # Definitions
@@ -31,14 +34,14 @@ PARTS = {
     "format": ("The format", "They speak of texts alone, and of no type of the code."),
     "code": ("What the code holds, finds and returns", "They tie the code's types and searches to the format."),
     "laws": ("The laws", "What the definitions say of one another, and the words of these statements."),
-    "program": ("The program", "The definitions of `lp_rebuild`."),
-    "relay": ("The relay", "The definitions of the program `lp_relay`."),
+    "program": ("Rebuilt texts", "The definitions of `lp_rebuild`."),
+    "relay": ("The relay", "The definitions of `lp_relay_core` and `lp_relay`."),
     "callers": ("Callers in C", "The definitions of `lp_c`."),
 }
 
 
 # The parts of the crates above the library.
-ROOMS = {"lp_rebuild": "program", "lp_relay": "relay", "lp_c": "callers"}
+ROOMS = {"lp_rebuild": "program", "lp_relay_core": "relay", "lp_relay": "relay", "lp_c": "callers"}
 
 
 @dataclass
