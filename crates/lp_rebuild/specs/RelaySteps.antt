@@ -1,5 +1,5 @@
 -- What each step of a relay takes of the stream, and what it writes or holds of it.
-use Rattle.std.specs.Prelude.{◌≡◌, ◌⊎◌, ℕ, ◌+◌, ◌++◌, List, [], ◌∷◌, length, string_bytes, Option, Result, Ok, Err, if◌then◌else◌}
+use Rattle.std.specs.Prelude.{◌≡◌, ◌⊎◌, ◌<◌, ℕ, ◌+◌, ◌++◌, List, [], ◌∷◌, length, string_bytes, Option, Result, Ok, Err, if◌then◌else◌}
 use Rattle.std.specs.Borrow.{Bor}
 use Rattle.std.specs.Io.KnownBytes.{Appends}
 use Rattle.influxdb_line_protocol.specs.format.Dialects.{Dialect}
@@ -62,6 +62,14 @@ made so_far = record {
   refused = so_far.refused;
   place = so_far.place;
 }
+
+-- nothing that was made is held: all of it was written
+abbrev pub HoldsNone : Progress → Type 0
+HoldsNone so_far = (so_far.batch.items ≡ []) × (string_bytes so_far.faults ≡ [])
+
+-- of the lines and of the fault lines that were made, fewer bytes are held than this
+abbrev pub HoldsLess : ℕ → Progress → Type 0
+HoldsLess room so_far = (length so_far.batch.items < room) × (length (string_bytes so_far.faults) < room)
 
 -- what the fault lines after a piece with so many newlines name
 abbrev pub place_after : Place → ℕ → Place

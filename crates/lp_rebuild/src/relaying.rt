@@ -1,11 +1,11 @@
 //! From a reader to two writers, line by line as they come.
-ghost use Rattle.std.specs.Prelude.{◌≡◌, ◌+◌, ◌≤◌, ◌<◌, ◌++◌, List, [], ℕ, length, string_bytes, true, OnOk, OnErr};
+ghost use Rattle.std.specs.Prelude.{◌≡◌, ◌+◌, ◌≤◌, ◌++◌, List, [], ℕ, length, true, OnOk, OnErr};
 ghost use Rattle.influxdb_line_protocol.specs.code.Bounded.{Holds, KeepsRules};
 ghost use Rattle.influxdb_line_protocol.specs.code.Rules.{rules_of};
 ghost use Rattle.influxdb_line_protocol.specs.format.Pieces.{IsLastPiece};
 ghost use Rattle.lp_rebuild.specs.Relaying.{items_of_piece, limit_of};
-ghost use Rattle.lp_rebuild.specs.RelaySteps.{CountsWriteFault, RelaysAllPieces, RelaysItems, RelaysPart, RelaysSome};
-ghost use Rattle.lp_rebuild.specs.RelaySteps.{faults_next, made};
+ghost use Rattle.lp_rebuild.specs.RelaySteps.{CountsWriteFault, HoldsLess, HoldsNone, RelaysAllPieces, RelaysItems};
+ghost use Rattle.lp_rebuild.specs.RelaySteps.{RelaysPart, RelaysSome, faults_next, made};
 ghost use Rattle.lp_rebuild.specs.NumberedRelays.{RelaysNumbered};
 ghost use Rattle.lp_rebuild.specs.Relays.{Relays, RelaysIn, RelaysWithin};
 ghost use Rattle.lp_rebuild.specs.Running.{reader_told, writer_told};
@@ -31,8 +31,7 @@ fn pour<W: Sink, E: Sink>(so_far: &mut Progress, out: &mut W, err: &mut E) -> Re
     ensures place { so_far.new.place ≡ so_far.old.place }
     ensures ok { OnOk result (RelaysItems (made so_far.old) (made so_far.new)
         (W.bytes out.old) (W.bytes out.new) (E.bytes err.old) (E.bytes err.new) [] []) }
-    ensures none { OnOk result
-        ((so_far.new.batch.items ≡ []) × (string_bytes so_far.new.faults ≡ [])) }
+    ensures none { OnOk result (HoldsNone so_far.new) }
     ensures part { OnErr result (RelaysPart (made so_far.old)
         (W.bytes out.old) (W.bytes out.new) (E.bytes err.old) (E.bytes err.new) [] []) }
     ensures counts { CountsWriteFault result
@@ -58,8 +57,7 @@ fn pour_full<W: Sink, E: Sink>(
     ensures place { so_far.new.place ≡ so_far.old.place }
     ensures ok { OnOk result (RelaysItems (made so_far.old) (made so_far.new)
         (W.bytes out.old) (W.bytes out.new) (E.bytes err.old) (E.bytes err.new) [] []) }
-    ensures held { OnOk result
-        ((length so_far.new.batch.items < BLOCK) × (length (string_bytes so_far.new.faults) < BLOCK)) }
+    ensures held { OnOk result (HoldsLess BLOCK so_far.new) }
     ensures part { OnErr result (RelaysPart (made so_far.old)
         (W.bytes out.old) (W.bytes out.new) (E.bytes err.old) (E.bytes err.new) [] []) }
     ensures counts { CountsWriteFault result
@@ -80,8 +78,7 @@ fn pour_and_flush<W: Sink, E: Sink>(
     ensures place { so_far.new.place ≡ so_far.old.place }
     ensures ok { OnOk result (RelaysItems (made so_far.old) (made so_far.new)
         (W.bytes out.old) (W.bytes out.new) (E.bytes err.old) (E.bytes err.new) [] []) }
-    ensures none { OnOk result
-        ((so_far.new.batch.items ≡ []) × (string_bytes so_far.new.faults ≡ [])) }
+    ensures none { OnOk result (HoldsNone so_far.new) }
     ensures part { OnErr result (RelaysPart (made so_far.old)
         (W.bytes out.old) (W.bytes out.new) (E.bytes err.old) (E.bytes err.new) [] []) }
     ensures counts { CountsWriteFault result
@@ -110,11 +107,13 @@ fn relay_pieces<W: Sink, E: Sink>(
     requires dialect { stream.old.held.dialect ≡ rules_of dialect }
     requires holds { (text : List ℕ) × Holds stream.old text }
     requires fits { so_far.old.carried + so_far.old.refused ≤ usize.MAX }
+    requires few { HoldsLess BLOCK so_far.old }
     ensures rules { OnOk result (KeepsRules stream.old stream.new) }
     ensures ok { OnOk result ((text : List ℕ) → Holds stream.old text
         → RelaysAllPieces (rules_of dialect) (limit_of stream.old.limit) text stream.new
         (made so_far.old) (made so_far.new)
         (W.bytes out.old) (W.bytes out.new) (E.bytes err.old) (E.bytes err.new)) }
+    ensures held { OnOk result (HoldsLess BLOCK so_far.new) }
     ensures fits { OnOk result (so_far.new.carried + so_far.new.refused ≤ usize.MAX) }
     ensures part { OnErr result ((text : List ℕ) → Holds stream.old text
         → RelaysSome (rules_of dialect) (limit_of stream.old.limit) text (made so_far.old)
@@ -142,15 +141,16 @@ fn relay_part<W: Sink, E: Sink>(
     err: &mut E,
 ) -> Result<(), RunFault>
     requires dialect { stream.old.held.dialect ≡ rules_of dialect }
-    requires holds { (text : List ℕ) × Holds stream.old text }
+    requires holds { (text : List ℕ) × Holds stream.old text × IsLastPiece (rules_of dialect) text }
     requires fits { so_far.old.carried + so_far.old.refused ≤ usize.MAX }
+    requires empty { HoldsNone so_far.old }
+    requires block { length part.now ≤ BLOCK }
     ensures rules { OnOk result (KeepsRules stream.old stream.new) }
     ensures ok { OnOk result ((text : List ℕ) → Holds stream.old text
         → RelaysAllPieces (rules_of dialect) (limit_of stream.old.limit) (text ++ part.now) stream.new
         (made so_far.old) (made so_far.new)
         (W.bytes out.old) (W.bytes out.new) (E.bytes err.old) (E.bytes err.new)) }
-    ensures none { OnOk result
-        ((so_far.new.batch.items ≡ []) × (string_bytes so_far.new.faults ≡ [])) }
+    ensures none { OnOk result (HoldsNone so_far.new) }
     ensures fits { OnOk result (so_far.new.carried + so_far.new.refused ≤ usize.MAX) }
     ensures part { OnErr result ((text : List ℕ) → Holds stream.old text
         → RelaysSome (rules_of dialect) (limit_of stream.old.limit) (text ++ part.now) (made so_far.old)
@@ -178,13 +178,13 @@ fn finish<W: Sink, E: Sink>(
     requires dialect { stream.old.held.dialect ≡ rules_of dialect }
     requires holds { (text : List ℕ) × Holds stream.old text × IsLastPiece (rules_of dialect) text }
     requires fits { so_far.old.carried + so_far.old.refused ≤ usize.MAX }
+    requires empty { HoldsNone so_far.old }
     ensures ok { OnOk result ((text : List ℕ) → Holds stream.old text → IsLastPiece (rules_of dialect) text
         → RelaysItems (made so_far.old) (made so_far.new)
         (W.bytes out.old) (W.bytes out.new) (E.bytes err.old) (E.bytes err.new)
         (items_of_piece (rules_of dialect) (limit_of stream.old.limit) text)
         (faults_next (made so_far.old) (items_of_piece (rules_of dialect) (limit_of stream.old.limit) text))) }
-    ensures none { OnOk result
-        ((so_far.new.batch.items ≡ []) × (string_bytes so_far.new.faults ≡ [])) }
+    ensures none { OnOk result (HoldsNone so_far.new) }
     ensures part { OnErr result ((text : List ℕ) → Holds stream.old text → IsLastPiece (rules_of dialect) text
         → RelaysPart (made so_far.old)
         (W.bytes out.old) (W.bytes out.new) (E.bytes err.old) (E.bytes err.new)

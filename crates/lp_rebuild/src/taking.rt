@@ -5,10 +5,11 @@ ghost use Rattle.influxdb_line_protocol.specs.format.Bytes.{newlines_in};
 ghost use Rattle.influxdb_line_protocol.specs.format.Pieces.{IsLastPiece};
 ghost use Rattle.influxdb_line_protocol.specs.format.Items.{answers_of_piece};
 ghost use Rattle.lp_rebuild.specs.Relaying.{answered, items_of_bytes};
-ghost use Rattle.lp_rebuild.specs.RelaySteps.{TakesItems, first_place, items_given, made, made_of_none};
+ghost use Rattle.lp_rebuild.specs.RelaySteps.{HoldsLess, TakesItems, first_place, items_given, made, made_of_none};
 ghost use Rattle.lp_rebuild.specs.RelaySteps.{newlines_given, place_after};
 
 use crate::batch::{Place, Progress, refuse, take};
+use crate::program::BLOCK;
 use influxdb_line_protocol::{
     Dialect, EscapedStr, FieldSet, ParsedLine, PieceTooLong, Series, TagSet, laws, parse_lines_in,
 };
@@ -225,6 +226,7 @@ pub(crate) fn take_piece(
     piece: Result<&[u8], PieceTooLong>,
 ) -> Result<(), AllocError>
     requires fits { so_far.old.carried + so_far.old.refused ≤ usize.MAX }
+    requires few { HoldsLess BLOCK so_far.old }
     requires piece { IfOk piece (λ bytes. IsLastPiece (rules_of dialect) bytes.now) }
     ensures taken { OnOk result
         (TakesItems (made so_far.old) (items_given (rules_of dialect) piece.entry) (made so_far.new)) }

@@ -15,6 +15,8 @@ loop-init g c =
     record {
       dialect = c.new_in-stream.ensures.dialect;
       fits = omega (arith, ap (λ m. m.carried) made, ap (λ m. m.refused) made);
+      empty = (ap (λ m. m.batch) made, ap (λ m. m.faults) made);
+      block = omega (arith);
       so_far = so_far_none c.pieces_join.ensures.some (rules_of c.args.dialect) (limit_of c.args.limit) (first_place c.args.numbering)
           _ _ _ _ _ (ap limit_of c.new_in-stream.ensures.limit) c.new_in-stream.ensures.holds made;
       reader_unfailed = refl;
@@ -88,6 +90,8 @@ loop-preserved g c =
     record {
       dialect = relayed.rules.0 ∙ h.dialect;
       fits = omega (arith, relayed.fits);
+      empty = relayed.none;
+      block = omega (arith, h.block, read.few);
       so_far = so_far_more (rules_of c.args.dialect) (limit_of c.args.limit) (first_place c.args.numbering) _ _ _ _ _ _ _ _ _ _ _ _ _ _
           h.so_far
           (subst (λ bs. Consumes (g.R.Source.bytes c.loop.reader) (g.R.Source.bytes c.read_block.new.reader) (take c.in_ok-n.n bs))

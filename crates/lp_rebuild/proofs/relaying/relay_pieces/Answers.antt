@@ -14,6 +14,7 @@ loop-piece-init g c =
     record {
       rules = (refl, refl);
       fits = omega (arith, c.requires.fits);
+      held = c.requires.few;
       relays = λ text holds. pieces_none (rules_of c.args.dialect) (limit_of c.args.stream.now.limit) text c.args.stream.now _ _ _ holds;
       out_unfailed = refl;
       err_unfailed = refl;
@@ -33,6 +34,7 @@ loop-piece-preserved g c =
     record {
       rules = (gives.0.0 ∙ h.rules.0, gives.0.1 ∙ h.rules.1);
       fits = omega (arith, fits, poured.ok.carried, poured.ok.refused);
+      held = poured.held;
       relays = λ text holds.
           let p = h.relays text holds in
           pieces_more (rules_of c.args.dialect) c.args.stream.now.limit text c.loop-piece.stream c.next.follows.lender-at-none

@@ -2,13 +2,14 @@ use Rattle.influxdb_line_protocol.specs.code.Rules.{rules_of}
 use Rattle.std.proofs.Common.{◌≡◌, ◌+◌, ◌<◌, ◌^◌, List, ℕ}
 use Rattle.influxdb_line_protocol.specs.code.Bounded.{Holds, KeepsRules, most_given}
 use Rattle.lp_rebuild.specs.Relaying.{limit_of}
-use Rattle.lp_rebuild.specs.RelaySteps.{RelaysPieces, made}
+use Rattle.lp_rebuild.specs.RelaySteps.{HoldsLess, RelaysPieces, made}
 use Rattle.lp_rebuild.proofs.relaying.relay_pieces.Given as goal
 
 abbrev pub invariant-loop-piece : goal.invariant-loop-piece
 invariant-loop-piece g l = record {
   rules : KeepsRules l.initial.stream l.stream;
   fits : l.so_far.carried + l.so_far.refused < 2 ^ 64;
+  held : HoldsLess 65536 l.so_far;
   relays : (text : List ℕ) → Holds l.initial.stream text
       → RelaysPieces (rules_of l.fn.dialect) (limit_of l.initial.stream.limit) text l.stream (made l.initial.so_far) (made l.so_far)
       (g.W.Sink.bytes l.initial.out) (g.W.Sink.bytes l.out) (g.E.Sink.bytes l.initial.err) (g.E.Sink.bytes l.err);
