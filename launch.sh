@@ -5,10 +5,18 @@
 top=$(cd "$(dirname "$(readlink -f "${BASH_SOURCE[0]}")")" && pwd)
 PATH=$PATH:/opt/rattle/bin
 
-# What a program is built from.
+# The libraries of this repository that a crate uses, each after those that it uses, as `crates.txt` has them.
+libraries() {
+    sed -n "s/^$1: //p" "$top/crates.txt"
+}
+
+# What a program is built from: `sources CRATE LIBRARY..`.
 sources() {
-    find "$top/crates.txt" "$top"/crates/{influxdb_line_protocol,lp_rebuild,"$1"}/{src,specs,proofs} \
-        -type f -print0 2>/dev/null | sort -z | xargs -0 cat | cksum
+    local name folders=()
+    for name in "$@"; do
+        folders+=("$top/crates/$name"/{src,specs,proofs})
+    done
+    find "$top/crates.txt" "${folders[@]}" -type f -print0 2>/dev/null | sort -z | xargs -0 cat | cksum
 }
 
 # Keeps what comes in `log`. On a terminal the last line that says how far a proof is stays in sight, after `$1`.
@@ -31,15 +39,26 @@ build() {
     [ ! -t 2 ] || printf '\r\033[K%s: done\n' "$what" >&2
 }
 
+# Proves and builds a program and its libraries: `build_all NAME CRATE LIBRARY..`.
+build_all() {
+    local name=$1 crate=$2 library
+    shift 2
+    for library in "$@"; do
+        build "$name" "$library" lib || return 1
+    done
+    build "$name" "$crate" run
+}
+
 launch() {
-    local name=$1 crate=$2 wanted log
+    local name=$1 crate=$2 wanted log libraries
     local program=$top/crates/$crate/out/$crate stamp=$top/crates/$crate/out/launcher.stamp
     shift 2
-    wanted=$(sources "$crate")
+    read -ra libraries < <(libraries "$crate")
+    wanted=$(sources "$crate" "${libraries[@]}")
     if [ ! -x "$program" ] || [ "$(cat "$stamp" 2>/dev/null)" != "$wanted" ]; then
         log=$(mktemp)
         [ ! -t 2 ] || echo "$name: proving and building the program, which takes some minutes" >&2
-        if ! { build "$name" influxdb_line_protocol lib && build "$name" lp_rebuild lib && build "$name" "$crate" run; }; then
+        if ! build_all "$name" "$crate" "${libraries[@]}"; then
             [ ! -t 2 ] || echo >&2
             cat "$log" >&2
             rm -f "$log"

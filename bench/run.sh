@@ -34,7 +34,7 @@ else
     set -- "${files[@]}"
 fi
 
-for crate in influxdb_line_protocol lp_rebuild lp_bench lp_bench_streams lp_c; do
+for crate in influxdb_line_protocol lp_rebuild lp_relay_core lp_bench lp_bench_streams lp_c; do
     (cd "$top/crates/$crate" && rt lib > "$built/rt.log" 2>&1) || { tail -n 20 "$built/rt.log" >&2; exit 1; }
 done
 heap=$(dirname "$(dirname "$(readlink -f "$(command -v rt)")")")/c/liblibc_c.a
