@@ -4,7 +4,8 @@
 ghost use Rattle.influxdb_line_protocol.specs.format.Pieces.{IsLastPiece};
 
 use influxdb_line_protocol::LineStream;
-use lp_rebuild::{DeviceFault, Kept, Source, relay};
+use lp_rebuild::{DeviceFault, Kept, Source};
+use lp_relay_core::relay;
 use std::alloc::Global;
 
 // Takes the pieces that a stream can give, and counts them.

@@ -1,11 +1,4 @@
-pub mod Cuts
-pub mod CutSteps
 pub mod Devices
-pub mod LineFaults
-pub mod NumberedRelays
 pub mod Rebuilding
 pub mod RebuildSteps
-pub mod Relaying
-pub mod RelaySteps
-pub mod Relays
 pub mod Running

@@ -1,13 +1,17 @@
 -- What each step of a rebuild adds.
-use Rattle.std.specs.Prelude.{◌≡◌, ℕ, ◌+◌, ◌++◌, string_bytes, List, [], Result, if◌then◌else◌}
+use Rattle.std.specs.Prelude.{◌≡◌, ℕ, ◌+◌, ◌++◌, string_bytes, List, [], ◌∷◌, codes, decimal, Result, if◌then◌else◌}
 use Rattle.lp_rebuild.specs.declared.batch.Place.{Place}
 use Rattle.lp_rebuild.specs.declared.batch.Place.TheVariants.{ByNumber, OnLine}
 use Rattle.lp_rebuild.specs.declared.batch.Progress.{Progress}
+use Rattle.influxdb_line_protocol.specs.format.Bytes.{newline}
 use Rattle.influxdb_line_protocol.specs.format.Points.{built_all}
 use Rattle.influxdb_line_protocol.specs.format.Readings.{Fault}
 use Rattle.influxdb_line_protocol.specs.format.Lines.{Line}
 use Rattle.lp_rebuild.specs.Rebuilding.{carried_point, fault_line, is_carried_answer, refusal_text}
-use Rattle.lp_rebuild.specs.LineFaults.{fault_line_on}
+
+-- a line that names the line of the input on which the piece of an item begins, and says what is wrong with the item
+abbrev pub fault_line_on : ℕ → List ℕ → List ℕ
+fault_line_on line text = codes "line " ++ decimal line ++ codes ": " ++ text ++ newline ∷ []
 
 -- the fault line of an item at a place, which has this number
 abbrev pub fault_line_at : Place → ℕ → List ℕ → List ℕ

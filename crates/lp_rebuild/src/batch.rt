@@ -29,23 +29,23 @@ pub struct Rebuilt {
     pub refused: usize,
 }
 
-// What the fault line of the next item names.
+/// What the fault line of the next item names.
 #[derive(Clone, Copy)]
-pub(crate) enum Place {
-    // The number of the item.
+pub enum Place {
+    /// The number of the item.
     ByNumber,
-    // The line of the input on which the piece of the item begins.
+    /// The line of the input on which the piece of the item begins.
     OnLine(usize),
 }
 
-// What was rebuilt so far, and what the fault line of the next item names.
+/// What was rebuilt so far, and what the fault line of the next item names.
 #[derive(Drop)]
-pub(crate) struct Progress {
-    pub(crate) batch: Vec<u8>,
-    pub(crate) faults: String,
-    pub(crate) carried: usize,
-    pub(crate) refused: usize,
-    pub(crate) place: Place,
+pub struct Progress {
+    pub batch: Vec<u8>,
+    pub faults: String,
+    pub carried: usize,
+    pub refused: usize,
+    pub place: Place,
 }
 
 // What is wrong with a line that has a name that is not admitted.
@@ -63,8 +63,8 @@ fn carry(batch: Vec<u8>, line: &ParsedLine<'_>) -> Result<(Vec<u8>, bool), Alloc
     }
 }
 
-// Writes a fault line for the next item.
-pub(crate) fn refuse<D: Display + Drop>(so_far: &mut Progress, text: D) -> Result<(), AllocError>
+/// Writes a fault line for the next item.
+pub fn refuse<D: Display + Drop>(so_far: &mut Progress, text: D) -> Result<(), AllocError>
     requires { so_far.old.carried + so_far.old.refused < usize.MAX }
     ensures refused { OnOk result (IfSome (D.output text) (λ bs. Refuses so_far.old bs so_far.new)) }
     ensures place { so_far.new.place ≡ so_far.old.place }
@@ -116,9 +116,9 @@ fn take_fault(so_far: &mut Progress, error: &Error) -> Result<(), AllocError>
     }
 }
 
-// Takes the next item of a text: an answer, and the line that was read where it is no fault.
+/// Takes the next item of a text: an answer, and the line that was read where it is no fault.
 #[inline(always)]
-pub(crate) fn take(
+pub fn take(
     alloc: Global,
     so_far: &mut Progress,
     answer: &influxdb_line_protocol::Result<()>,

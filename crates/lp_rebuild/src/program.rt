@@ -39,8 +39,8 @@ impl fmt::Display for RunFault {
     }
 }
 
-// The room that each read is given.
-pub(crate) const BLOCK: usize = 65_536;
+/// The room that each read is given.
+pub const BLOCK: usize = 65_536;
 
 // Makes room for a block after the first `filled` bytes of `input`, which stay as they are.
 fn make_room(input: &mut Vec<u8>, filled: usize) -> Result<(), AllocError>
@@ -70,8 +70,8 @@ fn read_at<R: Source>(reader: &mut R, buf: &mut [u8], at: usize) -> Result<usize
     reader.read(&mut buf[at..])
 }
 
-// One read after the first `filled` bytes of `input`, which stay as they are.
-pub(crate) fn read_block<R: Source>(
+/// One read after the first `filled` bytes of `input`, which stay as they are.
+pub fn read_block<R: Source>(
     reader: &mut R,
     input: &mut Vec<u8>,
     filled: usize,
@@ -124,8 +124,8 @@ pub fn read_all<R: Source>(alloc: Global, reader: &mut R) -> Result<Vec<u8>, Run
     Err(RunFault::OutOfMemory)
 }
 
-// Writes all of `bytes`.
-pub(crate) fn write_bytes<W: Sink>(sink: &mut W, bytes: &[u8]) -> Result<(), DeviceFault>
+/// Writes all of `bytes`.
+pub fn write_bytes<W: Sink>(sink: &mut W, bytes: &[u8]) -> Result<(), DeviceFault>
     ensures ok { OnOk result (Appends (W.bytes sink.old) (W.bytes sink.new) bytes.now) }
     ensures part { OnErr result (AppendsFront (W.bytes sink.old) (W.bytes sink.new) bytes.now) }
     ensures counts { CountsFailure result (W.failures sink.old) (W.failures sink.new) }

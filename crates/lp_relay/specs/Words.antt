@@ -8,8 +8,8 @@ use Rattle.std.specs.Str.Parse.{digits_value}
 use Rattle.influxdb_line_protocol.specs.types.Dialect.{Dialect}
 use Rattle.influxdb_line_protocol.specs.types.Dialect.TheVariants.{Crate, Strict}
 use Rattle.lp_rebuild.specs.declared.program.RunFault.{RunFault}
-use Rattle.lp_rebuild.specs.declared.taking.Numbering.TheVariants.{Items, Lines}
-use Rattle.lp_rebuild.specs.declared.relaying.Relayed.{Relayed}
+use Rattle.lp_relay_core.specs.declared.taking.Numbering.TheVariants.{Items, Lines}
+use Rattle.lp_relay_core.specs.declared.relaying.Relayed.{Relayed}
 use Rattle.lp_relay.specs.declared.words.Given.{Given}
 use Rattle.lp_relay.specs.declared.words.Settings.{Settings}
 use Rattle.lp_relay.specs.declared.words.Task.{Task}

@@ -1,14 +1,15 @@
 //! What the words ask for, done.
 ghost use Rattle.std.specs.Prelude.{IfOk, IfSome};
 ghost use Rattle.influxdb_line_protocol.specs.code.Rules.{rules_of};
-ghost use Rattle.lp_rebuild.specs.Cuts.{ArePartEnds};
-ghost use Rattle.lp_rebuild.specs.Relaying.{limit_of};
-ghost use Rattle.lp_rebuild.specs.NumberedRelays.{RelaysNumbered};
+ghost use Rattle.lp_relay_core.specs.Cuts.{ArePartEnds};
+ghost use Rattle.lp_relay_core.specs.Relaying.{limit_of};
+ghost use Rattle.lp_relay_core.specs.NumberedRelays.{RelaysNumbered};
 ghost use Rattle.lp_rebuild.specs.Running.{CountsReadFault, reader_told, writer_told};
 
 use crate::words::Settings;
 use influxdb_line_protocol::Dialect;
-use lp_rebuild::{Relayed, RunFault, Sink, Source, part_ends, read_all, relay_numbered};
+use lp_rebuild::{RunFault, Sink, Source, read_all};
+use lp_relay_core::{Relayed, part_ends, relay_numbered};
 use std::alloc::Global;
 
 /// Relays the lines that `reader` gives, as [`relay_numbered`] does, by these settings.

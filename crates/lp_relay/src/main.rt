@@ -9,7 +9,8 @@ mod words;
 
 use asked::{part_ends_of, relay_as_asked};
 use influxdb_line_protocol::Dialect;
-use lp_rebuild::{Reading, Relayed, RunFault, Writing};
+use lp_rebuild::{Reading, RunFault, Writing};
+use lp_relay_core::Relayed;
 use meter::{Counted, Meter, MeteredSink, MeteredSource};
 use noted::Noted;
 use std::cell::Cell;

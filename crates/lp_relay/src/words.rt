@@ -4,7 +4,8 @@ ghost use Rattle.lp_relay.specs.Words.{asked_cut, asked_settings, asked_task, cu
 ghost use Rattle.lp_relay.specs.Words.{given_settings, nothing_given, relay_status};
 
 use influxdb_line_protocol::Dialect;
-use lp_rebuild::{Numbering, Relayed, RunFault};
+use lp_rebuild::RunFault;
+use lp_relay_core::{Numbering, Relayed};
 
 /// How the program is called: the lines that it prints where its words ask for nothing, without the last newline.
 pub const USAGE: &str = "usage: lp_relay [--strict] [--lines] [--max-line BYTES] [--progress]

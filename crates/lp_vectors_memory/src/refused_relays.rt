@@ -1,7 +1,8 @@
 //! Relays at which requests for memory are refused. Each answers with `OutOfMemory` and nothing else, and has then written a
 //! beginning of what it would have written. The answers come from the format's rules.
 
-use lp_rebuild::{DeviceFault, RunFault, Source, relay};
+use lp_rebuild::{DeviceFault, RunFault, Source};
+use lp_relay_core::relay;
 use lp_vectors::drops::Basin;
 use lp_vectors::exhausted_memory::ExhaustedMemory;
 use lp_vectors::fault::Fault;

@@ -2,9 +2,8 @@
 
 use crate::rows::{self, Row, assert_same, repeated};
 use influxdb_line_protocol::Dialect;
-use lp_rebuild::{
-    DeviceFault, Kept, Numbering, Source, part_ends, read_all, rebuild_in, relay_numbered, run_in,
-};
+use lp_rebuild::{DeviceFault, Kept, Source, read_all, rebuild_in, run_in};
+use lp_relay_core::{Numbering, part_ends, relay_numbered};
 use lp_vectors::fault::Fault;
 use std::alloc::{AllocError, Global};
 use std::process::Abort;

@@ -1,7 +1,8 @@
 //! Relays of random texts in parts, at which each read, each write and each flush is failed in turn.
 
 use influxdb_line_protocol::{Dialect, split_lines_in};
-use lp_rebuild::{Rebuilt, RunFault, rebuild_in, relay_in};
+use lp_rebuild::{Rebuilt, RunFault, rebuild_in};
+use lp_relay_core::relay_in;
 use lp_vectors::cuts::{CutSource, Parts};
 use lp_vectors::drops::Basin;
 use lp_vectors::fault::Fault;

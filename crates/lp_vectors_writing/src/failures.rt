@@ -1,6 +1,7 @@
 //! Runs of the program over devices that fail, at each call in turn. The answers come from the format's rules.
 
-use lp_rebuild::{Kept, Reading, RunFault, Writing, relay, run};
+use lp_rebuild::{Kept, Reading, RunFault, Writing, run};
+use lp_relay_core::relay;
 use lp_vectors::drops::{Basin, Trickle};
 use lp_vectors::fault::Fault;
 use std::alloc::Global;

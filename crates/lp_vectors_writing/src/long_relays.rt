@@ -1,7 +1,8 @@
 //! Relays with a greatest length of a line. The answers come from the format's rules.
 
 use influxdb_line_protocol::Dialect;
-use lp_rebuild::{Kept, relay_within};
+use lp_rebuild::Kept;
+use lp_relay_core::relay_within;
 use lp_vectors::drops::Trickle;
 use lp_vectors::fault::Fault;
 

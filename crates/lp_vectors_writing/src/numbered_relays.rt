@@ -1,7 +1,8 @@
 //! Relays whose fault lines name lines of the input. The answers come from the format's rules.
 
 use influxdb_line_protocol::Dialect;
-use lp_rebuild::{Kept, Numbering, Relayed, RunFault, relay_numbered, relay_within};
+use lp_rebuild::{Kept, RunFault};
+use lp_relay_core::{Numbering, Relayed, relay_numbered, relay_within};
 use lp_vectors::drops::Trickle;
 use lp_vectors::fault::Fault;
 use std::alloc::Global;

@@ -1,7 +1,8 @@
 //! Where texts are cut into parts, and what the parts give. The ends were worked out by hand from the format's rules.
 
 use influxdb_line_protocol::Dialect;
-use lp_rebuild::{part_ends, rebuild_in};
+use lp_rebuild::rebuild_in;
+use lp_relay_core::part_ends;
 use lp_vectors::fault::Fault;
 use std::alloc::Global;
 use std::process::Abort;

@@ -2,7 +2,8 @@
 //! format's rules.
 
 use influxdb_line_protocol::Dialect;
-use lp_rebuild::{DeviceFault, Failures, Kept, RunFault, Source, rebuild, relay, relay_in};
+use lp_rebuild::{DeviceFault, Failures, Kept, RunFault, Source, rebuild};
+use lp_relay_core::{relay, relay_in};
 use lp_vectors::drops::{Basin, Trickle};
 use lp_vectors::fault::Fault;
 use std::alloc::Global;

@@ -1,7 +1,8 @@
 //! Short texts and random texts that are relayed in parts: both outputs gain what a rebuild of the whole text gives.
 
 use influxdb_line_protocol::Dialect;
-use lp_rebuild::{Kept, Rebuilt, rebuild_in, relay_in};
+use lp_rebuild::{Kept, Rebuilt, rebuild_in};
+use lp_relay_core::relay_in;
 use lp_vectors::cuts::CutSource;
 use lp_vectors::fault::Fault;
 use lp_vectors::random::Random;

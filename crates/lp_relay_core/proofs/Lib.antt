@@ -1,0 +1,13 @@
+pub mod CutLemmas
+pub mod PartLemmas
+pub mod PartEndLemmas
+pub mod WalkLemmas
+pub mod PassLemmas
+pub mod ItemLemmas
+pub mod FaultLines
+pub mod RelayLemmas
+pub mod RelayPieces
+pub mod RelaysSoFar
+pub mod RelaysOfText
+pub mod RelayEnds
+pub mod NumberedEnds

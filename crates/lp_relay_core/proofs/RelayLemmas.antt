@@ -1,0 +1,258 @@
+-- The steps of a relay, one after another.
+use Rattle.std.proofs.Common.{◌≡◌, ℕ, List, [], ◌∷◌, ◌++◌, map, string_bytes, codes}
+use Rattle.std.proofs.Common.{Option, Some, None, Result, Ok, Err, refl, sym, ap, subst, ◌∙◌, arith, append-nil}
+use Rattle.std.proofs.Common.{OnErr}
+use Rattle.std.specs.Str.{IsUtf8}
+use Rattle.std.specs.List.{All}
+use Rattle.std.specs.Io.KnownBytes.{Appends}
+use Rattle.std.proofs.KnownBytes.{Appends-nil}
+use Rattle.influxdb_line_protocol.specs.format.Dialects.{Dialect}
+use Rattle.influxdb_line_protocol.specs.types.Error.{Error}
+use Rattle.influxdb_line_protocol.specs.types.ParsedLine.{ParsedLine}
+use Rattle.influxdb_line_protocol.specs.format.Readings.{Fault}
+use Rattle.influxdb_line_protocol.specs.format.Points.{built_all}
+use Rattle.influxdb_line_protocol.specs.format.Lines.{Line, answer}
+use Rattle.influxdb_line_protocol.specs.format.Trimming.{trimmed}
+use Rattle.influxdb_line_protocol.specs.format.Items.{answers_of_piece}
+use Rattle.influxdb_line_protocol.specs.format.Pieces.{IsLastPiece, Left, Pieces.last, PiecesLeft}
+use Rattle.influxdb_line_protocol.specs.code.Parsed.{Answers}
+use Rattle.influxdb_line_protocol.specs.code.ParseSteps.{GivesItem, HadBlankPieces, IsBlankPiece}
+use Rattle.influxdb_line_protocol.specs.laws.Laws.{PiecesExist, PiecesAreUnique}
+use Rattle.lp_rebuild.specs.declared.batch.Progress.{Progress}
+use Rattle.lp_rebuild.specs.Rebuilding.{carried_point, is_carried_answer}
+use Rattle.lp_rebuild.specs.RebuildSteps.{Refuses, Takes}
+use Rattle.lp_rebuild.specs.Running.{AppendsFront}
+use Rattle.lp_relay_core.specs.Relaying.{Item, answered, not_utf8, too_long, items_of_bytes, items_batch}
+use Rattle.lp_relay_core.specs.RelaySteps.{Made, made, Passes, RelaysItems, RelaysPart, TakesItems, faults_next}
+use Rattle.lp_rebuild.proofs.RebuildLemmas.{add_where, add_elsewhere, blank_answers, piece_answers}
+use Rattle.lp_relay_core.proofs.PassLemmas.{passes_none, passes_more, passes_front}
+use Rattle.lp_relay_core.proofs.ItemLemmas.{batch_append, carried_append, refused_append}
+use Rattle.lp_relay_core.proofs.ItemLemmas.{items_of_text, item_of_no_text}
+
+-- nothing was taken
+takes_nothing : (old : Made) → TakesItems old [] old
+takes_nothing old =
+    record {
+      batch = sym (append-nil old.batch);
+      faults = sym (append-nil old.faults);
+      carried = omega arith;
+      refused = omega arith;
+    }
+
+-- an answer is one item
+takes_answer : (old : Progress) (answer : Result Line Fault) (new : Progress) → Takes old answer new
+    → TakesItems (made old) (answered answer ∷ []) (made new)
+takes_answer old answer new t =
+    record {
+      batch = t.batch ∙ ap (λ l. old.batch.items ++ built_all l) (sym (append-nil (carried_point answer)));
+      faults = t.faults ∙ ap (λ l. string_bytes old.faults ++ l) (sym (append-nil _));
+      carried = omega (arith, t.carried ∙ add_where (is_carried_answer answer) old.carried old.carried refl);
+      refused = omega (arith, t.refused ∙ add_elsewhere (is_carried_answer answer) old.refused old.refused refl);
+    }
+
+-- a piece that is not UTF-8 is one item
+takes_no_text : (old new : Progress) → Refuses old (codes "the line is not UTF-8") new
+    → TakesItems (made old) (not_utf8 ∷ []) (made new)
+takes_no_text old new r =
+    record {
+      batch = r.batch ∙ sym (append-nil old.batch.items);
+      faults = r.faults ∙ ap (λ l. string_bytes old.faults ++ l) (sym (append-nil _));
+      carried = omega (arith, r.carried);
+      refused = r.refused;
+    }
+
+-- so is one that is too long
+pub takes_too_long : (old new : Progress) → Refuses old (codes "the line is too long") new
+    → TakesItems (made old) (too_long ∷ []) (made new)
+takes_too_long old new r =
+    record {
+      batch = r.batch ∙ sym (append-nil old.batch.items);
+      faults = r.faults ∙ ap (λ l. string_bytes old.faults ++ l) (sym (append-nil _));
+      carried = omega (arith, r.carried);
+      refused = r.refused;
+    }
+
+-- two lists that end alike, of which one has one element
+one_only : {X : Type 0} (xs : List X) (x y : X) (ys : List X) → xs ++ x ∷ ys ≡ y ∷ [] → x ≡ y
+one_only [] x y ys e = cc
+one_only (z ∷ []) x y ys e = absurd (cc)
+one_only (z ∷ (w ∷ zs)) x y ys e = absurd (cc)
+
+-- some pieces are left, whatever they are
+some_left : PiecesExist → (dialect : Dialect) (text : Option (List ℕ))
+    → (others : List (List ℕ)) × PiecesLeft (record { dialect = dialect; text = text }) others
+some_left exist dialect None = ([], refl)
+some_left exist dialect (Some text) = exist dialect text
+
+-- the item that is given for a text of one piece is its answer
+pub piece_item : PiecesExist → PiecesAreUnique → (dialect : Dialect) (piece : List ℕ) → IsLastPiece dialect piece
+    → (after : Left) (item : Result ParsedLine Error) → GivesItem (record { dialect = dialect; text = Some piece }) (Some item) after
+    → (answer : Result Line Fault) × Answers item answer × (answers_of_piece dialect piece ≡ answer ∷ [])
+piece_item exist unique dialect piece h after item gives =
+    let left = some_left exist after.dialect after.text in
+    let g = gives.1 left.0 left.1 in
+    let same : g.piece ≡ piece =
+    one_only g.skipped g.piece piece left.0 (unique dialect piece (g.skipped ++ g.piece ∷ left.0) (piece ∷ []) g.left (last piece h)) in (
+      answer dialect (trimmed g.piece),
+      g.item_is.answers,
+      ap (answers_of_piece dialect) (sym same) ∙ piece_answers dialect g.piece g.some,
+    )
+
+-- a text of one piece that has no item has no answer
+pub piece_blank : PiecesAreUnique → (dialect : Dialect) (piece : List ℕ) → IsLastPiece dialect piece
+    → HadBlankPieces (record { dialect = dialect; text = Some piece }) → answers_of_piece dialect piece ≡ []
+piece_blank unique dialect piece h blank =
+    sym (append-nil (answers_of_piece dialect piece))
+    ∙ blank_answers dialect (piece ∷ [])
+    (subst (All IsBlankPiece) (unique dialect piece blank.skipped (piece ∷ []) blank.left (last piece h)) blank.blank)
+
+-- the items of a text that was answered were taken
+pub takes_text : (dialect : Dialect) (piece : List ℕ) (item : Result ParsedLine Error) (old new : Progress)
+    → ((answer : Result Line Fault) × Answers item answer × (answers_of_piece dialect piece ≡ answer ∷ []))
+    → ((answer : Result Line Fault) → Answers item answer → Takes old answer new)
+    → TakesItems (made old) (map answered (answers_of_piece dialect piece)) (made new)
+takes_text dialect piece item old new is takes =
+    subst (λ (l : List (Result Line Fault)). TakesItems (made old) (map answered l) (made new)) (sym is.2)
+    (takes_answer old is.0 new (takes is.0 is.1))
+
+-- a blank text has none
+pub takes_blank : (dialect : Dialect) (piece : List ℕ) (old : Progress) → answers_of_piece dialect piece ≡ []
+    → TakesItems (made old) (map answered (answers_of_piece dialect piece)) (made old)
+takes_blank dialect piece old is =
+    subst (λ (l : List (Result Line Fault)). TakesItems (made old) (map answered l) (made old)) (sym is) (takes_nothing (made old))
+
+-- the items of a piece are those of its text
+pub takes_bytes : (dialect : Dialect) (text piece : List ℕ) (old new : Made) → text ≡ piece → IsUtf8 piece
+    → TakesItems old (map answered (answers_of_piece dialect text)) new → TakesItems old (items_of_bytes dialect piece) new
+takes_bytes dialect text piece old new same u t =
+    subst (λ l. TakesItems old l new)
+    (ap (λ (p : List ℕ). map answered (answers_of_piece dialect p)) same ∙ sym (items_of_text dialect piece u)) t
+
+-- a piece that is not UTF-8 was refused
+pub takes_bad_bytes : (dialect : Dialect) (piece : List ℕ) (old new : Progress) → (¬ IsUtf8 piece)
+    → Refuses old (codes "the line is not UTF-8") new → TakesItems (made old) (items_of_bytes dialect piece) (made new)
+takes_bad_bytes dialect piece old new bad r =
+    subst (λ l. TakesItems (made old) l (made new)) (sym (item_of_no_text dialect piece bad)) (takes_no_text old new r)
+
+-- what was taken is held
+pub relays_taken : (old new : Made) (a e : Option (List ℕ)) (xs : List Item) → TakesItems old xs new
+    → RelaysItems old new a a e e xs (faults_next old xs)
+relays_taken old new a e xs t =
+    record {
+      batch = ([], Appends-nil a, t.batch);
+      faults = ([], Appends-nil e, t.faults);
+      carried = t.carried;
+      refused = t.refused;
+    }
+
+-- one step, and then another
+pub relays_more : (old mid new : Made) (a b c e f g : Option (List ℕ)) (xs ys : List Item) (fs gs : List ℕ)
+    → RelaysItems old mid a b e f xs fs → RelaysItems mid new b c f g ys gs → RelaysItems old new a c e g (xs ++ ys) (fs ++ gs)
+relays_more old mid new a b c e f g xs ys fs gs p q =
+    record {
+      batch = subst (λ l. Passes a c old.batch l new.batch) (sym (batch_append xs ys))
+          (passes_more a b c old.batch _ mid.batch _ new.batch p.batch q.batch);
+      faults = passes_more e f g old.faults fs mid.faults gs new.faults p.faults q.faults;
+      carried = omega (arith, p.carried, q.carried, carried_append xs ys);
+      refused = omega (arith, p.refused, q.refused, refused_append xs ys);
+    }
+
+-- the same, where the other wrote a beginning
+pub part_more : (old mid : Made) (a b c e f g : Option (List ℕ)) (xs ys : List Item) (fs gs : List ℕ)
+    → RelaysItems old mid a b e f xs fs → RelaysPart mid b c f g ys gs → RelaysPart old a c e g (xs ++ ys) (fs ++ gs)
+part_more old mid a b c e f g xs ys fs gs p q =
+    record {
+      batch_left = q.batch_left;
+      faults_left = q.faults_left;
+      batch = subst (λ l. Passes a c old.batch l q.batch_left) (sym (batch_append xs ys))
+          (passes_more a b c old.batch _ mid.batch _ q.batch_left p.batch q.batch);
+      faults = passes_more e f g old.faults fs mid.faults gs q.faults_left p.faults q.faults;
+    }
+
+-- the same items and the same fault lines
+pub relays_same : (old new : Made) (a c e g : Option (List ℕ)) (xs ys : List Item) (fs gs : List ℕ) → xs ≡ ys → fs ≡ gs
+    → RelaysItems old new a c e g xs fs → RelaysItems old new a c e g ys gs
+relays_same old new a c e g xs ys fs gs items lines p =
+    subst (λ l. RelaysItems old new a c e g l gs) items (subst (λ l. RelaysItems old new a c e g xs l) lines p)
+
+-- the same, where a beginning was written
+pub part_same : (old : Made) (a c e g : Option (List ℕ)) (xs ys : List Item) (fs gs : List ℕ) → xs ≡ ys → fs ≡ gs
+    → RelaysPart old a c e g xs fs → RelaysPart old a c e g ys gs
+part_same old a c e g xs ys fs gs items lines p =
+    subst (λ l. RelaysPart old a c e g l gs) items (subst (λ l. RelaysPart old a c e g xs l) lines p)
+
+-- one step, and then what is held was written
+pub relays_then : (old mid new : Made) (a b c e f g : Option (List ℕ)) (xs : List Item) (fs : List ℕ)
+    → RelaysItems old mid a b e f xs fs → RelaysItems mid new b c f g [] [] → RelaysItems old new a c e g xs fs
+relays_then old mid new a b c e f g xs fs p q =
+    relays_same old new a c e g (xs ++ []) xs (fs ++ []) fs (append-nil xs) (append-nil fs)
+    (relays_more old mid new a b c e f g xs [] fs [] p q)
+
+-- the same, where a beginning of it was written
+pub part_then : (old mid : Made) (a b c e f g : Option (List ℕ)) (xs : List Item) (fs : List ℕ)
+    → RelaysItems old mid a b e f xs fs → RelaysPart mid b c f g [] [] → RelaysPart old a c e g xs fs
+part_then old mid a b c e f g xs fs p q =
+    part_same old a c e g (xs ++ []) xs (fs ++ []) fs (append-nil xs) (append-nil fs) (part_more old mid a b c e f g xs [] fs [] p q)
+
+-- what is held is a beginning too
+pub part_so_far : (old new : Made) (a b e f : Option (List ℕ)) (xs : List Item) (fs : List ℕ) → RelaysItems old new a b e f xs fs
+    → RelaysPart old a b e f xs fs
+part_so_far old new a b e f xs fs p =
+    record { batch_left = new.batch; faults_left = new.faults; batch = p.batch; faults = p.faults }
+
+-- a front of the batch was written
+pub part_of_batch : (old : Progress) (a b e : Option (List ℕ)) (bytes : List ℕ) → bytes ≡ old.batch.items
+    → AppendsFront a b bytes → RelaysPart (made old) a b e e [] []
+part_of_batch old a b e bytes is part =
+    let p = passes_front a b old.batch.items (subst (AppendsFront a b) is part) in
+    record {
+      batch_left = p.0;
+      faults_left = string_bytes old.faults;
+      batch = p.1;
+      faults = passes_none e (string_bytes old.faults);
+    }
+
+-- all of the batch was written, and a front of the faults
+pub part_of_faults : (old : Progress) (a b e f : Option (List ℕ)) (bytes faults : List ℕ) → bytes ≡ old.batch.items
+    → faults ≡ string_bytes old.faults → Appends a b bytes → AppendsFront e f faults → RelaysPart (made old) a b e f [] []
+part_of_faults old a b e f bytes faults is faults_are whole part =
+    let p = passes_front e f (string_bytes old.faults) (subst (AppendsFront e f) faults_are part) in
+    record {
+      batch_left = [];
+      faults_left = p.0;
+      batch = (bytes, whole, append-nil bytes ∙ is ∙ sym (append-nil old.batch.items));
+      faults = p.1;
+    }
+
+-- nothing was written, whatever is made then
+pub part_of_none : (old : Made) (a e : Option (List ℕ)) (xs : List Item) (fs : List ℕ) → RelaysPart old a a e e xs fs
+part_of_none old a e xs fs =
+    record {
+      batch_left = old.batch ++ items_batch xs;
+      faults_left = old.faults ++ fs;
+      batch = ([], Appends-nil a, refl);
+      faults = ([], Appends-nil e, refl);
+    }
+
+-- items were taken, and then what is held was written
+pub relays_poured : (old now next poured : Made) (a b c e f g : Option (List ℕ)) (xs ys : List Item) (fs : List ℕ)
+    → RelaysItems old now a b e f xs fs → TakesItems now ys next → RelaysItems next poured b c f g [] []
+    → RelaysItems old poured a c e g (xs ++ ys) (fs ++ faults_next now ys)
+relays_poured old now next poured a b c e f g xs ys fs p t q =
+    relays_then old next poured a b c e f g _ _ (relays_more old now next a b b e f f xs ys fs _ p (relays_taken now next b f ys t)) q
+
+-- the same, where a beginning of it was written
+pub part_poured : (old now next : Made) (a b c e f g : Option (List ℕ)) (xs ys : List Item) (fs : List ℕ)
+    → RelaysItems old now a b e f xs fs → TakesItems now ys next → RelaysPart next b c f g [] []
+    → RelaysPart old a c e g (xs ++ ys) (fs ++ faults_next now ys)
+part_poured old now next a b c e f g xs ys fs p t q =
+    part_then old next a b c e f g _ _ (relays_more old now next a b b e f f xs ys fs _ p (relays_taken now next b f ys t)) q
+
+-- nothing was made so far
+pub relays_none : (old : Made) (a e : Option (List ℕ)) → RelaysItems old old a a e e [] []
+relays_none old a e = relays_taken old old a e [] (takes_nothing old)
+
+-- a fact at a fault
+pub on_err : {T E P : Type 0} (r : Result T E) → P → OnErr r P
+on_err (Ok x) h = tt
+on_err (Err e) h = h

@@ -1,0 +1,168 @@
+-- What is relayed of a text that is UTF-8 is what a rebuild of it gives.
+use Rattle.std.proofs.Common.{◌≡◌, ℕ, ◌+◌, ◌≤◌, nat_lt, false, List, [], ◌∷◌, ◌++◌, length, map, Option, Some, None, Result}
+use Rattle.std.proofs.Common.{refl, sym, ap, subst, ◌∙◌, arith}
+use Rattle.std.specs.List.{All, flat_map}
+use Rattle.std.proofs.lemmas.Bool.Decides.{nat_tests}
+use Rattle.std.proofs.lemmas.List.Elements.{All-tail}
+use Rattle.std.specs.Str.{IsUtf8}
+use Rattle.std.specs.Io.KnownBytes.{Appends}
+use Rattle.std.proofs.lemmas.List.{map-append}
+use Rattle.influxdb_line_protocol.specs.format.Dialects.{Dialect}
+use Rattle.influxdb_line_protocol.specs.format.Readings.{Fault}
+use Rattle.influxdb_line_protocol.specs.format.Points.{built_all}
+use Rattle.influxdb_line_protocol.specs.format.Lines.{Line}
+use Rattle.influxdb_line_protocol.specs.format.Pieces.{Pieces, Pieces.cut, Pieces.last}
+use Rattle.influxdb_line_protocol.specs.format.Items.{answers_of, answers_of_piece}
+use Rattle.influxdb_line_protocol.specs.laws.Laws.{PiecesAreUnique}
+use Rattle.influxdb_line_protocol.specs.laws.StreamLaws.{Utf8ByPieces}
+use Rattle.lp_rebuild.specs.declared.batch.Rebuilt.{Rebuilt}
+use Rattle.lp_relay_core.specs.declared.relaying.Relayed.{Relayed}
+use Rattle.lp_rebuild.specs.Rebuilding.{RebuildsIn, carried_of, carried_point, fault_of, faults_from, refused_of}
+use Rattle.lp_rebuild.specs.Running.{AppendsFront}
+use Rattle.lp_relay_core.specs.Relaying.{Item, answered, HasByteItems, is_too_long, items_of, item_point, items_batch, item_faults}
+use Rattle.lp_relay_core.specs.Relaying.{carried_items, refused_items}
+use Rattle.lp_relay_core.specs.Relays.{IfRebuilt, RelaysAll, RelaysFronts, RelaysRebuilt, RelaysRebuiltFronts}
+use Rattle.lp_relay_core.specs.NumberedRelays.{RelaysAllLines, RelaysBatch, RelaysFrontLines}
+use Rattle.lp_rebuild.proofs.RebuildLemmas.{carried_cons, refused_cons}
+use Rattle.lp_relay_core.proofs.ItemLemmas.{carried_first, refused_first, items_of_fitting, items_of_text}
+
+-- an answer as an item
+abbrev as_items : List (Result Line Fault) → List Item
+as_items answers = map answered answers
+
+-- the points of answers are those of them as items
+points_of_answers : (answers : List (Result Line Fault)) → flat_map item_point (as_items answers) ≡ flat_map carried_point answers
+points_of_answers [] = refl
+points_of_answers (a ∷ answers) = ap (λ l. carried_point a ++ l) (points_of_answers answers)
+
+-- their faults
+faults_of_answers : (number : ℕ) (answers : List (Result Line Fault)) → item_faults number (as_items answers) ≡ faults_from number answers
+faults_of_answers number [] = refl
+faults_of_answers number (a ∷ answers) = ap (λ l. fault_of number a ++ l) (faults_of_answers (number + 1) answers)
+
+-- how many of them are carried
+carried_of_answers : (answers : List (Result Line Fault)) → carried_items (as_items answers) ≡ carried_of answers
+carried_of_answers [] = refl
+carried_of_answers (a ∷ answers) =
+    omega (arith, carried_first (answered a) (as_items answers), carried_cons a answers, carried_of_answers answers)
+
+-- how many are not
+refused_of_answers : (answers : List (Result Line Fault)) → refused_items (as_items answers) ≡ refused_of answers
+refused_of_answers [] = refl
+refused_of_answers (a ∷ answers) =
+    omega (arith, refused_first (answered a) (as_items answers), refused_cons a answers, refused_of_answers answers)
+
+-- none of these pieces is too long
+abbrev NoneTooLong : Option ℕ → List (List ℕ) → Type 0
+NoneTooLong limit [] = Unit {0}
+NoneTooLong limit (piece ∷ pieces) = (is_too_long limit piece ≡ false) × NoneTooLong limit pieces
+
+-- where there is no limit
+no_limit : (pieces : List (List ℕ)) → NoneTooLong None pieces
+no_limit [] = tt
+no_limit (piece ∷ pieces) = (refl, no_limit pieces)
+
+-- where none has more bytes than that
+short_pieces : (limit : ℕ) (pieces : List (List ℕ)) → All (λ piece. length piece ≤ limit) pieces → NoneTooLong (Some limit) pieces
+short_pieces limit [] h = tt
+short_pieces limit (piece ∷ pieces) h =
+    let short = h 0 piece (omega arith) in
+    let fits : nat_lt limit (length piece) ≡ false = grind (arith, nat_tests) in
+    (fits, short_pieces limit pieces (All-tail (λ piece. length piece ≤ limit) piece pieces h))
+
+-- the items of a piece that is UTF-8 and not too long, and of others
+items_of_texts : (dialect : Dialect) (limit : Option ℕ) (piece : List ℕ) (pieces : List (List ℕ)) → is_too_long limit piece ≡ false
+    → IsUtf8 piece → items_of dialect limit pieces ≡ as_items (answers_of dialect pieces)
+    → items_of dialect limit (piece ∷ pieces) ≡ as_items (answers_of dialect (piece ∷ pieces))
+items_of_texts dialect limit piece pieces fits u others =
+    ap (λ l. l ++ items_of dialect limit pieces) (items_of_fitting dialect limit piece fits ∙ items_of_text dialect piece u)
+    ∙ ap (λ l. as_items (answers_of_piece dialect piece) ++ l) others
+    ∙ sym (map-append answered (answers_of_piece dialect piece) (answers_of dialect pieces))
+
+-- the items of a text that is UTF-8, and has no piece that is too long, are its answers
+items_are_answers : Utf8ByPieces → (dialect : Dialect) (limit : Option ℕ) (text : List ℕ) (pieces : List (List ℕ))
+    → Pieces dialect text pieces → IsUtf8 text → NoneTooLong limit pieces
+    → items_of dialect limit pieces ≡ as_items (answers_of dialect pieces)
+items_are_answers law dialect limit text pieces (last piece h) u fit = items_of_texts dialect limit piece [] fit.0 u refl
+items_are_answers law dialect limit text pieces (cut piece rest others c k) u fit =
+    let both = (law piece rest).0 u in
+    items_of_texts dialect limit piece others fit.0 both.0 (items_are_answers law dialect limit rest others k both.1 fit.1)
+
+-- so they are those of a rebuild
+items_of_rebuilt : Utf8ByPieces → PiecesAreUnique → (dialect : Dialect) (limit : Option ℕ) (text : List ℕ) (items : List Item)
+    → (has : HasByteItems dialect limit text items) → NoneTooLong limit has.pieces → IsUtf8 text → (r : Rebuilt)
+    → (h : RebuildsIn dialect text r) → items ≡ as_items h.answers
+items_of_rebuilt law unique dialect limit text items has fit u r h =
+    has.items_are ∙ items_are_answers law dialect limit text has.pieces has.are u fit
+    ∙ ap (λ ps. as_items (answers_of dialect ps)) (unique dialect text has.pieces h.has.pieces has.are h.has.are)
+    ∙ ap as_items (sym h.has.answered)
+
+-- what holds where no piece is too long holds of a text that is rebuilt
+if_rebuilt : PiecesAreUnique → (dialect : Dialect) (limit : Option ℕ) (text : List ℕ) (pieces : List (List ℕ)) (P : Rebuilt → Type 0)
+    → Pieces dialect text pieces
+    → (NoneTooLong limit pieces → IsUtf8 text → (r : Rebuilt) → RebuildsIn dialect text r → P r) → IfRebuilt dialect limit text P
+if_rebuilt unique dialect None text pieces P are f = f (no_limit pieces)
+if_rebuilt unique dialect (Some limit) text pieces P are f =
+    λ u short. f (subst (NoneTooLong (Some limit)) (unique dialect text short.0 pieces short.1 are) (short_pieces limit short.0 short.2)) u
+
+-- what was written of all items is what the rebuild gives
+pub all_rebuilt : Utf8ByPieces → PiecesAreUnique → (dialect : Dialect) (limit : Option ℕ) (text : List ℕ) (counts : Relayed)
+    (out out_after err err_after : Option (List ℕ)) → RelaysAll dialect limit text counts out out_after err err_after
+    → IfRebuilt dialect limit text (λ r. RelaysRebuilt r counts out out_after err err_after)
+all_rebuilt law unique dialect limit text counts out out_after err err_after all =
+    if_rebuilt unique dialect limit text all.has.pieces (λ r. RelaysRebuilt r counts out out_after err err_after) all.has.are
+    (λ fit u r h.
+    let same = items_of_rebuilt law unique dialect limit text all.items all.has fit u r h in
+    record {
+      batch = subst (Appends out out_after)
+          (ap items_batch same ∙ ap built_all (points_of_answers h.answers) ∙ sym h.batch) all.batch;
+      faults = subst (Appends err err_after)
+          (ap (item_faults 1) same ∙ faults_of_answers 1 h.answers ∙ sym h.faults) all.faults;
+      carried = all.carried ∙ ap carried_items same ∙ carried_of_answers h.answers ∙ sym h.carried;
+      refused = all.refused ∙ ap refused_items same ∙ refused_of_answers h.answers ∙ sym h.refused;
+    })
+
+-- and a beginning is a beginning of that
+pub fronts_rebuilt : Utf8ByPieces → PiecesAreUnique → (dialect : Dialect) (limit : Option ℕ) (text : List ℕ)
+    (out out_after err err_after : Option (List ℕ)) → RelaysFronts dialect limit text out out_after err err_after
+    → IfRebuilt dialect limit text (λ r. RelaysRebuiltFronts r out out_after err err_after)
+fronts_rebuilt law unique dialect limit text out out_after err err_after some =
+    if_rebuilt unique dialect limit text some.has.pieces (λ r. RelaysRebuiltFronts r out out_after err err_after) some.has.are
+    (λ fit u r h.
+    let same = items_of_rebuilt law unique dialect limit text some.items some.has fit u r h in (
+      subst (AppendsFront out out_after)
+          (ap items_batch same ∙ ap built_all (points_of_answers h.answers) ∙ sym h.batch) some.batch,
+      subst (AppendsFront err err_after)
+          (ap (item_faults 1) same ∙ faults_of_answers 1 h.answers ∙ sym h.faults) some.faults,
+    ))
+
+-- the items of pieces are those of the bytes
+abbrev pieces_have : (dialect : Dialect) (limit : Option ℕ) (bytes : List ℕ) (pieces : List (List ℕ)) → Pieces dialect bytes pieces
+    → HasByteItems dialect limit bytes (items_of dialect limit pieces)
+pieces_have dialect limit bytes pieces are = record { pieces = pieces; are = are; items_are = refl }
+
+-- where fault lines name lines, the batch and the counts are what the rebuild gives
+pub lines_rebuilt : Utf8ByPieces → PiecesAreUnique → (dialect : Dialect) (limit : Option ℕ) (text : List ℕ) (counts : Relayed)
+    (out out_after err err_after : Option (List ℕ)) → RelaysAllLines dialect limit text counts out out_after err err_after
+    → IfRebuilt dialect limit text (λ r. RelaysBatch r counts out out_after)
+lines_rebuilt law unique dialect limit text counts out out_after err err_after all =
+    if_rebuilt unique dialect limit text all.pieces (λ r. RelaysBatch r counts out out_after) all.are
+    (λ fit u r h.
+    let same = items_of_rebuilt law unique dialect limit text _ (pieces_have dialect limit text all.pieces all.are) fit u r h in
+    record {
+      batch = subst (Appends out out_after)
+          (ap items_batch same ∙ ap built_all (points_of_answers h.answers) ∙ sym h.batch) all.batch;
+      carried = all.carried ∙ ap carried_items same ∙ carried_of_answers h.answers ∙ sym h.carried;
+      refused = all.refused ∙ ap refused_items same ∙ refused_of_answers h.answers ∙ sym h.refused;
+    })
+
+-- and a beginning of the batch is a beginning of that
+pub front_lines_rebuilt : Utf8ByPieces → PiecesAreUnique → (dialect : Dialect) (limit : Option ℕ) (text : List ℕ)
+    (out out_after err err_after : Option (List ℕ)) → RelaysFrontLines dialect limit text out out_after err err_after
+    → IfRebuilt dialect limit text (λ r. AppendsFront out out_after r.batch.items)
+front_lines_rebuilt law unique dialect limit text out out_after err err_after some =
+    if_rebuilt unique dialect limit text some.pieces (λ r. AppendsFront out out_after r.batch.items) some.are
+    (λ fit u r h.
+    let same = items_of_rebuilt law unique dialect limit text _ (pieces_have dialect limit text some.pieces some.are) fit u r h in
+    subst (AppendsFront out out_after)
+    (ap items_batch same ∙ ap built_all (points_of_answers h.answers) ∙ sym h.batch) some.batch)

@@ -1,0 +1,71 @@
+use Rattle.influxdb_line_protocol.specs.code.Rules.{rules_of}
+use Rattle.std.proofs.Common.{◌∙◌, refl, subst, arith}
+use Rattle.influxdb_line_protocol.specs.code.Bounded.{GivesWithin}
+use Rattle.influxdb_line_protocol.specs.format.Pieces.{IsLastPiece}
+use Rattle.lp_relay_core.specs.Relaying.{limit_of}
+use Rattle.lp_relay_core.specs.RelaySteps.{made}
+use Rattle.lp_rebuild.proofs.Parts.{at_no_fault}
+use Rattle.lp_relay_core.proofs.RelayLemmas.{on_err}
+use Rattle.lp_relay_core.proofs.RelayPieces.{given_piece, pieces_all, pieces_more, pieces_none, pieces_part, pieces_so_far}
+use Rattle.lp_relay_core.proofs.relaying.relay_pieces.Goals as goal
+
+pub loop-piece-init : goal.loop-piece-init
+loop-piece-init g c =
+    record {
+      rules = (refl, refl);
+      fits = omega (arith, c.requires.fits);
+      held = c.requires.few;
+      relays = λ text holds. pieces_none (rules_of c.args.dialect) (limit_of c.args.stream.now.limit) text c.args.stream.now _ _ _ holds;
+      out_unfailed = refl;
+      err_unfailed = refl;
+    }
+
+pub returns-then-is_err-clause-part : goal.returns-then-is_err-clause-part
+returns-then-is_err-clause-part g c text holds =
+    pieces_so_far (rules_of c.args.dialect) (limit_of c.args.stream.now.limit) text c.loop-piece.stream _ _ _ _ _ _
+    (c.loop-piece.invariant.relays text holds)
+
+pub loop-piece-preserved : goal.loop-piece-preserved
+loop-piece-preserved g c =
+    let h = c.loop-piece.invariant in
+    let gives = subst (λ r. GivesWithin c.loop-piece.stream r c.next.follows.lender-at-none) c.in-Some.is c.next.follows.holds-at-none in
+    let poured = c.in_ok-pour_full.ensures in
+    let fits = at_no_fault c.take_piece.result c.if-is_err.ensures.value c.take_piece.ensures.fits in
+    record {
+      rules = (gives.0.0 ∙ h.rules.0, gives.0.1 ∙ h.rules.1);
+      fits = omega (arith, fits, poured.ok.carried, poured.ok.refused);
+      held = poured.held;
+      relays = λ text holds.
+          let p = h.relays text holds in
+          pieces_more (rules_of c.args.dialect) c.args.stream.now.limit text c.loop-piece.stream c.next.follows.lender-at-none
+          (made c.args.so_far.now) (made c.loop-piece.so_far) (made c.take_piece.new.so_far) (made c.pour_full.new.so_far)
+          _ _ _ _ _ _ c.in-Some.piece p
+          (given_piece (rules_of c.args.dialect) c.args.stream.now.limit c.loop-piece.stream c.next.follows.lender-at-none p.rest
+          c.in-Some.piece (h.rules.0 ∙ c.requires.dialect) h.rules.1 (gives.3 p.rest p.holds))
+          (at_no_fault c.take_piece.result c.if-is_err.ensures.value c.take_piece.ensures.taken)
+          (poured.place ∙ at_no_fault c.take_piece.result c.if-is_err.ensures.value c.take_piece.ensures.place) poured.ok;
+      out_unfailed = poured.counts.0 ∙ h.out_unfailed;
+      err_unfailed = poured.counts.1 ∙ h.err_unfailed;
+    }
+
+pub returns-in_err-pour_full-clause-part : goal.returns-in_err-pour_full-clause-part
+returns-in_err-pour_full-clause-part g c =
+    let h = c.loop-piece.invariant in
+    let gives = subst (λ r. GivesWithin c.loop-piece.stream r c.next.follows.lender-at-none) c.in-Some.is c.next.follows.holds-at-none in
+    on_err c.from_residual.result
+    (λ text holds.
+    let p = h.relays text holds in
+    pieces_part (rules_of c.args.dialect) c.args.stream.now.limit text c.loop-piece.stream c.next.follows.lender-at-none
+    (made c.args.so_far.now) (made c.loop-piece.so_far) (made c.take_piece.new.so_far) _ _ _ _ _ _ c.in-Some.piece p
+    (given_piece (rules_of c.args.dialect) c.args.stream.now.limit c.loop-piece.stream c.next.follows.lender-at-none p.rest
+    c.in-Some.piece (h.rules.0 ∙ c.requires.dialect) h.rules.1 (gives.3 p.rest p.holds))
+    (at_no_fault c.take_piece.result c.if-is_err.ensures.value c.take_piece.ensures.taken) c.in_err-pour_full.ensures.part)
+
+pub returns-clause-ok : goal.returns-clause-ok
+returns-clause-ok g c text holds =
+    let h = c.loop-piece.invariant in
+    let gives = subst (λ r. GivesWithin c.loop-piece.stream r c.next.follows.lender-at-none) c.in_default.is c.next.follows.holds-at-none in
+    let p = h.relays text holds in
+    let all = gives.3 p.rest p.holds in
+    pieces_all (rules_of c.args.dialect) (limit_of c.args.stream.now.limit) text c.loop-piece.stream c.next.follows.lender-at-none
+    _ _ _ _ _ _ p all.0 (subst (λ d. IsLastPiece d p.rest) (h.rules.0 ∙ c.requires.dialect) all.1)

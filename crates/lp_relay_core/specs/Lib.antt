@@ -1,0 +1,7 @@
+pub mod Cuts
+pub mod CutSteps
+pub mod LineFaults
+pub mod NumberedRelays
+pub mod Relaying
+pub mod RelaySteps
+pub mod Relays

@@ -1,0 +1,164 @@
+-- What each step of a relay takes of the stream, and what it writes or holds of it.
+use Rattle.std.specs.Prelude.{◌≡◌, ◌⊎◌, ◌<◌, ℕ, ◌+◌, ◌++◌, List, [], ◌∷◌, length, string_bytes, Option, Result, Ok, Err, if◌then◌else◌}
+use Rattle.std.specs.Borrow.{Bor}
+use Rattle.std.specs.Io.KnownBytes.{Appends}
+use Rattle.influxdb_line_protocol.specs.format.Dialects.{Dialect}
+use Rattle.influxdb_line_protocol.specs.format.Bytes.{newlines_in}
+use Rattle.influxdb_line_protocol.specs.format.Pieces.{IsLastPiece}
+use Rattle.influxdb_line_protocol.specs.types.PieceTooLong.{PieceTooLong}
+use Rattle.influxdb_line_protocol.specs.code.Bounded.{HeldWithin, Holds}
+use Rattle.influxdb_line_protocol.specs.laws.StreamLaws.{Run}
+use Rattle.lp_rebuild.specs.declared.batch.Place.{Place}
+use Rattle.lp_rebuild.specs.declared.batch.Place.TheVariants.{ByNumber, OnLine}
+use Rattle.lp_rebuild.specs.declared.batch.Progress.{Progress}
+use Rattle.lp_relay_core.specs.declared.taking.Numbering.{Numbering}
+use Rattle.lp_relay_core.specs.declared.taking.Numbering.TheVariants.{Items, Lines}
+use Rattle.lp_rebuild.specs.declared.program.RunFault.{RunFault}
+use Rattle.lp_rebuild.specs.declared.program.RunFault.TheVariants.{Read, NotUtf8, OutOfMemory, Write}
+use Rattle.lp_rebuild.specs.RebuildSteps.{fault_line_at}
+use Rattle.lp_relay_core.specs.LineFaults.{item_text}
+use Rattle.lp_relay_core.specs.Relaying.{Item, too_long, is_carried_item, items_of_bytes, items_of_piece, items_of, items_batch, carried_items}
+use Rattle.lp_relay_core.specs.Relaying.{refused_items}
+
+-- the items of what a call gave: those of a piece, or that of one that is too long
+abbrev pub items_given : Dialect → Result (Bor (List ℕ)) PieceTooLong → List Item
+items_given dialect (Ok piece) = items_of_bytes dialect piece.now
+items_given dialect (Err _) = too_long ∷ []
+
+-- the newlines of what a call gave
+abbrev pub newlines_given : Result (Bor (List ℕ)) PieceTooLong → ℕ
+newlines_given (Ok piece) = newlines_in piece.now
+newlines_given (Err fault) = fault.newlines
+
+-- these pieces were taken of a text, one after another, after whatever came before, and the rest is left
+abbrev pub TakesPieces : Dialect → (text : List ℕ) → List (List ℕ) → (rest : List ℕ) → Type 0
+TakesPieces dialect text pieces rest =
+    (given : List ℕ) (first : List (List ℕ)) → Run dialect given first text → Run dialect given (first ++ pieces) rest
+
+-- what was made so far and is not written yet, how many items that was made of, together with what was written, and what the
+-- fault line of the next item names
+pub record Made : Type 0 where
+  pub batch : List ℕ
+  pub faults : List ℕ
+  pub carried : ℕ
+  pub refused : ℕ
+  pub place : Place
+
+-- what the fault line of the first item names
+abbrev pub first_place : Numbering → Place
+first_place Items = ByNumber
+first_place Lines = OnLine 1
+
+-- before the first item
+abbrev pub made_of_none : Place → Made
+made_of_none place = record { batch = []; faults = []; carried = 0; refused = 0; place = place }
+
+-- what a relay has made so far
+abbrev pub made : Progress → Made
+made so_far = record {
+  batch = so_far.batch.items;
+  faults = string_bytes so_far.faults;
+  carried = so_far.carried;
+  refused = so_far.refused;
+  place = so_far.place;
+}
+
+-- nothing that was made is held: all of it was written
+abbrev pub HoldsNone : Progress → Type 0
+HoldsNone so_far = (so_far.batch.items ≡ []) × (string_bytes so_far.faults ≡ [])
+
+-- of the lines and of the fault lines that were made, fewer bytes are held than this
+abbrev pub HoldsLess : ℕ → Progress → Type 0
+HoldsLess room so_far = (length so_far.batch.items < room) × (length (string_bytes so_far.faults) < room)
+
+-- what the fault lines after a piece with so many newlines name
+abbrev pub place_after : Place → ℕ → Place
+place_after ByNumber newlines = ByNumber
+place_after (OnLine line) newlines = OnLine (line + newlines + 1)
+
+-- what they name after these pieces
+abbrev pub place_past : Place → List (List ℕ) → Place
+place_past place [] = place
+place_past place (piece ∷ pieces) = place_past (place_after place (newlines_in piece)) pieces
+
+-- the fault lines of items of one piece that are not carried, at this place, where the first item has this number
+abbrev pub faults_at : Place → ℕ → List Item → List ℕ
+faults_at place number [] = []
+faults_at place number (item ∷ items) =
+    (if is_carried_item item then [] else fault_line_at place number (item_text item)) ++ faults_at place (number + 1) items
+
+-- the fault lines of the items of pieces that are not carried, where the first piece is at this place, and the first item has
+-- this number
+abbrev pub faults_from : Dialect → Option ℕ → Place → ℕ → List (List ℕ) → List ℕ
+faults_from dialect limit place number [] = []
+faults_from dialect limit place number (piece ∷ pieces) =
+    faults_at place number (items_of_piece dialect limit piece)
+    ++ faults_from dialect limit (place_after place (newlines_in piece)) (number + length (items_of_piece dialect limit piece)) pieces
+
+-- the fault lines of the items of the next piece, after what was made
+abbrev pub faults_next : Made → List Item → List ℕ
+faults_next old items = faults_at old.place (old.carried + old.refused + 1) items
+
+-- the fault lines of the next pieces
+abbrev pub faults_past : Dialect → Option ℕ → Made → List (List ℕ) → List ℕ
+faults_past dialect limit old pieces = faults_from dialect limit old.place (old.carried + old.refused + 1) pieces
+
+-- these items of one piece were taken
+pub record TakesItems (old : Made) (items : List Item) (new : Made) : Type 0 where
+  pub batch : new.batch ≡ old.batch ++ items_batch items
+  pub faults : new.faults ≡ old.faults ++ faults_next old items
+  pub carried : new.carried ≡ old.carried + carried_items items
+  pub refused : new.refused ≡ old.refused + refused_items items
+
+-- a writer gained all that was held and that was made, but for what is left
+abbrev pub Passes : Option (List ℕ) → Option (List ℕ) → (held added left : List ℕ) → Type 0
+Passes old new held added left = (written : List ℕ) × Appends old new written × (written ++ left ≡ held ++ added)
+
+-- the lines of these items were written, or are held, and so were these fault lines of theirs
+pub record RelaysItems (old new : Made) (out out_after err err_after : Option (List ℕ)) (items : List Item) (fault_lines : List ℕ)
+    : Type 0 where
+  pub batch : Passes out out_after old.batch (items_batch items) new.batch
+  pub faults : Passes err err_after old.faults fault_lines new.faults
+  pub carried : new.carried ≡ old.carried + carried_items items
+  pub refused : new.refused ≡ old.refused + refused_items items
+
+-- a beginning of the lines of these items was written, and one of these fault lines
+pub record RelaysPart (old : Made) (out out_after err err_after : Option (List ℕ)) (items : List Item) (fault_lines : List ℕ)
+    : Type 0 where
+  pub batch_left : List ℕ
+  pub faults_left : List ℕ
+  pub batch : Passes out out_after old.batch (items_batch items) batch_left
+  pub faults : Passes err err_after old.faults fault_lines faults_left
+
+-- pieces of a text were taken, their lines were written, or are held, and the stream holds the rest
+pub record RelaysPieces (dialect : Dialect) (limit : Option ℕ) (text : List ℕ) (after : HeldWithin) (old new : Made)
+    (out out_after err err_after : Option (List ℕ)) : Type 0 where
+  pub pieces : List (List ℕ)
+  pub rest : List ℕ
+  pub holds : Holds after rest
+  pub taken : TakesPieces dialect text pieces rest
+  pub place : new.place ≡ place_past old.place pieces
+  pub relays : RelaysItems old new out out_after err err_after (items_of dialect limit pieces) (faults_past dialect limit old pieces)
+
+-- so were all that a newline ends
+abbrev pub RelaysAllPieces : Dialect → Option ℕ → (text : List ℕ) → (after : HeldWithin) → (old new : Made)
+    → (out out_after err err_after : Option (List ℕ)) → Type 0
+RelaysAllPieces dialect limit text after old new out out_after err err_after =
+    (relays : RelaysPieces dialect limit text after old new out out_after err err_after) × IsLastPiece dialect relays.rest
+
+-- pieces of a text were taken, and a beginning of their lines was written
+pub record RelaysSome (dialect : Dialect) (limit : Option ℕ) (text : List ℕ) (old : Made)
+    (out out_after err err_after : Option (List ℕ)) : Type 0 where
+  pub pieces : List (List ℕ)
+  pub rest : List ℕ
+  pub taken : TakesPieces dialect text pieces rest
+  pub part : RelaysPart old out out_after err err_after (items_of dialect limit pieces) (faults_past dialect limit old pieces)
+
+-- `Write` adds one failure to the count of one writer, and nothing else changes a count; no other fault but `OutOfMemory` comes
+abbrev pub CountsWriteFault : {T : Type 0} → Result T RunFault → (out out_after err err_after : ℕ) → Type 0
+CountsWriteFault (Ok x) out out_after err err_after = (out_after ≡ out) × (err_after ≡ err)
+CountsWriteFault (Err Write) out out_after err err_after =
+    ((out_after ≡ out + 1) × (err_after ≡ err)) ⊎ ((out_after ≡ out) × (err_after ≡ err + 1))
+CountsWriteFault (Err OutOfMemory) out out_after err err_after = (out_after ≡ out) × (err_after ≡ err)
+CountsWriteFault (Err Read) out out_after err err_after = ⊥
+CountsWriteFault (Err NotUtf8) out out_after err err_after = ⊥

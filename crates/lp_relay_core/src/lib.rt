@@ -1,0 +1,16 @@
+//! Relays lines from a reader to two writers as they come, and tells where a text can be cut, so that its parts can be relayed
+//! or rebuilt apart.
+//!
+//! [`relay`] holds a line of its input and a block, and [`relay_within`] passes over lines that are too long. The faults of
+//! [`relay_numbered`] can name lines of the input. [`part_ends`] gives the ends of the parts of a text.
+//!
+//! It takes each item as `lp_rebuild` does. It is a crate of its own, since the program `lp_rebuild` needs none of it.
+#![tactic(auto)]
+
+mod cuts;
+mod relaying;
+mod taking;
+
+pub use cuts::part_ends;
+pub use relaying::{Relayed, relay, relay_in, relay_numbered, relay_within};
+pub use taking::Numbering;

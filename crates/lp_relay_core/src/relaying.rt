@@ -1,0 +1,342 @@
+//! From a reader to two writers, line by line as they come.
+ghost use Rattle.std.specs.Prelude.{◌≡◌, ◌+◌, ◌≤◌, ◌++◌, List, [], ℕ, length, true, OnOk, OnErr};
+ghost use Rattle.influxdb_line_protocol.specs.code.Bounded.{Holds, KeepsRules};
+ghost use Rattle.influxdb_line_protocol.specs.code.Rules.{rules_of};
+ghost use Rattle.influxdb_line_protocol.specs.format.Pieces.{IsLastPiece};
+ghost use Rattle.lp_relay_core.specs.Relaying.{items_of_piece, limit_of};
+ghost use Rattle.lp_relay_core.specs.RelaySteps.{CountsWriteFault, HoldsLess, HoldsNone, RelaysAllPieces, RelaysItems};
+ghost use Rattle.lp_relay_core.specs.RelaySteps.{RelaysPart, RelaysSome, faults_next, made};
+ghost use Rattle.lp_relay_core.specs.NumberedRelays.{RelaysNumbered};
+ghost use Rattle.lp_relay_core.specs.Relays.{Relays, RelaysIn, RelaysWithin};
+ghost use Rattle.lp_rebuild.specs.Running.{reader_told, writer_told};
+
+use crate::taking::{Numbering, nothing_made, take_piece};
+use influxdb_line_protocol::{BoundedLineStream, Dialect, laws};
+use lp_rebuild::batch::Progress;
+use lp_rebuild::program::{BLOCK, read_block, write_bytes};
+use lp_rebuild::{RunFault, Sink, Source};
+use std::alloc::Global;
+
+/// How many items a relay wrote again, and how many it refused.
+#[derive(Clone, Copy, Debug, PartialEq, Eq)]
+pub struct Relayed {
+    /// How many items were written again.
+    pub carried: usize,
+    /// How many items have a fault line.
+    pub refused: usize,
+}
+
+// Writes all that is held.
+fn pour<W: Sink, E: Sink>(so_far: &mut Progress, out: &mut W, err: &mut E) -> Result<(), RunFault>
+    ensures place { so_far.new.place ≡ so_far.old.place }
+    ensures ok { OnOk result (RelaysItems (made so_far.old) (made so_far.new)
+        (W.bytes out.old) (W.bytes out.new) (E.bytes err.old) (E.bytes err.new) [] []) }
+    ensures none { OnOk result (HoldsNone so_far.new) }
+    ensures part { OnErr result (RelaysPart (made so_far.old)
+        (W.bytes out.old) (W.bytes out.new) (E.bytes err.old) (E.bytes err.new) [] []) }
+    ensures counts { CountsWriteFault result
+        (W.failures out.old) (W.failures out.new) (E.failures err.old) (E.failures err.new) }
+{
+    if write_bytes(out, so_far.batch.as_slice()).is_err() {
+        return Err(RunFault::Write);
+    }
+    so_far.batch.clear();
+    if write_bytes(err, so_far.faults.as_bytes()).is_err() {
+        return Err(RunFault::Write);
+    }
+    so_far.faults.clear();
+    Ok(())
+}
+
+// Writes all that is held, where it fills a block.
+fn pour_full<W: Sink, E: Sink>(
+    so_far: &mut Progress,
+    out: &mut W,
+    err: &mut E,
+) -> Result<(), RunFault>
+    ensures place { so_far.new.place ≡ so_far.old.place }
+    ensures ok { OnOk result (RelaysItems (made so_far.old) (made so_far.new)
+        (W.bytes out.old) (W.bytes out.new) (E.bytes err.old) (E.bytes err.new) [] []) }
+    ensures held { OnOk result (HoldsLess BLOCK so_far.new) }
+    ensures part { OnErr result (RelaysPart (made so_far.old)
+        (W.bytes out.old) (W.bytes out.new) (E.bytes err.old) (E.bytes err.new) [] []) }
+    ensures counts { CountsWriteFault result
+        (W.failures out.old) (W.failures out.new) (E.failures err.old) (E.failures err.new) }
+{
+    if so_far.batch.len() < BLOCK && so_far.faults.len() < BLOCK {
+        return Ok(());
+    }
+    pour(so_far, out, err)
+}
+
+// Writes all that is held, and flushes.
+fn pour_and_flush<W: Sink, E: Sink>(
+    so_far: &mut Progress,
+    out: &mut W,
+    err: &mut E,
+) -> Result<(), RunFault>
+    ensures place { so_far.new.place ≡ so_far.old.place }
+    ensures ok { OnOk result (RelaysItems (made so_far.old) (made so_far.new)
+        (W.bytes out.old) (W.bytes out.new) (E.bytes err.old) (E.bytes err.new) [] []) }
+    ensures none { OnOk result (HoldsNone so_far.new) }
+    ensures part { OnErr result (RelaysPart (made so_far.old)
+        (W.bytes out.old) (W.bytes out.new) (E.bytes err.old) (E.bytes err.new) [] []) }
+    ensures counts { CountsWriteFault result
+        (W.failures out.old) (W.failures out.new) (E.failures err.old) (E.failures err.new) }
+    ensures flushed { OnOk result ((W.is_flushed out.new ≡ true) × (E.is_flushed err.new ≡ true)) }
+{
+    pour(so_far, out, err)?;
+    if out.flush().is_err() {
+        return Err(RunFault::Write);
+    }
+    if err.flush().is_err() {
+        return Err(RunFault::Write);
+    }
+    Ok(())
+}
+
+// Takes each piece that the stream can give.
+fn relay_pieces<W: Sink, E: Sink>(
+    alloc: Global,
+    dialect: Dialect,
+    stream: &mut BoundedLineStream,
+    so_far: &mut Progress,
+    out: &mut W,
+    err: &mut E,
+) -> Result<(), RunFault>
+    requires dialect { stream.old.held.dialect ≡ rules_of dialect }
+    requires holds { (text : List ℕ) × Holds stream.old text }
+    requires fits { so_far.old.carried + so_far.old.refused ≤ usize.MAX }
+    requires few { HoldsLess BLOCK so_far.old }
+    ensures rules { OnOk result (KeepsRules stream.old stream.new) }
+    ensures ok { OnOk result ((text : List ℕ) → Holds stream.old text
+        → RelaysAllPieces (rules_of dialect) (limit_of stream.old.limit) text stream.new
+        (made so_far.old) (made so_far.new)
+        (W.bytes out.old) (W.bytes out.new) (E.bytes err.old) (E.bytes err.new)) }
+    ensures held { OnOk result (HoldsLess BLOCK so_far.new) }
+    ensures fits { OnOk result (so_far.new.carried + so_far.new.refused ≤ usize.MAX) }
+    ensures part { OnErr result ((text : List ℕ) → Holds stream.old text
+        → RelaysSome (rules_of dialect) (limit_of stream.old.limit) text (made so_far.old)
+        (W.bytes out.old) (W.bytes out.new) (E.bytes err.old) (E.bytes err.new)) }
+    ensures counts { CountsWriteFault result
+        (W.failures out.old) (W.failures out.new) (E.failures err.old) (E.failures err.new) }
+{
+    while let Some(piece) = stream.next() {
+        if take_piece(alloc, dialect, so_far, piece).is_err() {
+            return Err(RunFault::OutOfMemory);
+        }
+        pour_full(so_far, out, err)?;
+    }
+    Ok(())
+}
+
+// Takes a part of the text, and each piece that is there then. All that these make is written and flushed.
+fn relay_part<W: Sink, E: Sink>(
+    alloc: Global,
+    dialect: Dialect,
+    stream: &mut BoundedLineStream,
+    so_far: &mut Progress,
+    part: &[u8],
+    out: &mut W,
+    err: &mut E,
+) -> Result<(), RunFault>
+    requires dialect { stream.old.held.dialect ≡ rules_of dialect }
+    requires holds { (text : List ℕ) × Holds stream.old text × IsLastPiece (rules_of dialect) text }
+    requires fits { so_far.old.carried + so_far.old.refused ≤ usize.MAX }
+    requires empty { HoldsNone so_far.old }
+    requires block { length part.now ≤ BLOCK }
+    ensures rules { OnOk result (KeepsRules stream.old stream.new) }
+    ensures ok { OnOk result ((text : List ℕ) → Holds stream.old text
+        → RelaysAllPieces (rules_of dialect) (limit_of stream.old.limit) (text ++ part.now) stream.new
+        (made so_far.old) (made so_far.new)
+        (W.bytes out.old) (W.bytes out.new) (E.bytes err.old) (E.bytes err.new)) }
+    ensures none { OnOk result (HoldsNone so_far.new) }
+    ensures fits { OnOk result (so_far.new.carried + so_far.new.refused ≤ usize.MAX) }
+    ensures part { OnErr result ((text : List ℕ) → Holds stream.old text
+        → RelaysSome (rules_of dialect) (limit_of stream.old.limit) (text ++ part.now) (made so_far.old)
+        (W.bytes out.old) (W.bytes out.new) (E.bytes err.old) (E.bytes err.new)) }
+    ensures counts { CountsWriteFault result
+        (W.failures out.old) (W.failures out.new) (E.failures err.old) (E.failures err.new) }
+    ensures flushed { OnOk result ((W.is_flushed out.new ≡ true) × (E.is_flushed err.new ≡ true)) }
+{
+    if stream.push(part).is_err() {
+        return Err(RunFault::OutOfMemory);
+    }
+    relay_pieces(alloc, dialect, stream, so_far, out, err)?;
+    pour_and_flush(so_far, out, err)
+}
+
+// Takes the last piece, writes all that is held, and flushes.
+fn finish<W: Sink, E: Sink>(
+    alloc: Global,
+    dialect: Dialect,
+    stream: &mut BoundedLineStream,
+    so_far: &mut Progress,
+    out: &mut W,
+    err: &mut E,
+) -> Result<(), RunFault>
+    requires dialect { stream.old.held.dialect ≡ rules_of dialect }
+    requires holds { (text : List ℕ) × Holds stream.old text × IsLastPiece (rules_of dialect) text }
+    requires fits { so_far.old.carried + so_far.old.refused ≤ usize.MAX }
+    requires empty { HoldsNone so_far.old }
+    ensures ok { OnOk result ((text : List ℕ) → Holds stream.old text → IsLastPiece (rules_of dialect) text
+        → RelaysItems (made so_far.old) (made so_far.new)
+        (W.bytes out.old) (W.bytes out.new) (E.bytes err.old) (E.bytes err.new)
+        (items_of_piece (rules_of dialect) (limit_of stream.old.limit) text)
+        (faults_next (made so_far.old) (items_of_piece (rules_of dialect) (limit_of stream.old.limit) text))) }
+    ensures none { OnOk result (HoldsNone so_far.new) }
+    ensures part { OnErr result ((text : List ℕ) → Holds stream.old text → IsLastPiece (rules_of dialect) text
+        → RelaysPart (made so_far.old)
+        (W.bytes out.old) (W.bytes out.new) (E.bytes err.old) (E.bytes err.new)
+        (items_of_piece (rules_of dialect) (limit_of stream.old.limit) text)
+        (faults_next (made so_far.old) (items_of_piece (rules_of dialect) (limit_of stream.old.limit) text))) }
+    ensures counts { CountsWriteFault result
+        (W.failures out.old) (W.failures out.new) (E.failures err.old) (E.failures err.new) }
+    ensures flushed { OnOk result ((W.is_flushed out.new ≡ true) × (E.is_flushed err.new ≡ true)) }
+{
+    if take_piece(alloc, dialect, so_far, stream.finish()).is_err() {
+        return Err(RunFault::OutOfMemory);
+    }
+    pour_and_flush(so_far, out, err)
+}
+
+/// Relays the lines that `reader` gives, as they come: each that [`rebuild`](lp_rebuild::rebuild) would write again goes to
+/// `out`, and the fault of every other item, with its number, to `err`.
+///
+/// What each read completes is written and flushed before the next read is asked for, and the rest at the end. What is held of
+/// the input is the line that has not ended yet and one block, and of the output less than a block and what one line makes,
+/// since it is written too where it fills a block. So `out` and `err` gain what [`run`](lp_rebuild::run) writes, but not in its
+/// order.
+///
+/// Input that is not UTF-8 does not end it: each piece that is not is one item, whose fault line is `item N: the line is
+/// not UTF-8`, and the pieces before and after it are read as ever.
+///
+/// # Errors
+///
+/// After each of them, `out` has a beginning of the batch and `err` one of the fault lines.
+///
+/// * `Read` where `reader` failed, and only there.
+/// * `OutOfMemory` where memory was refused, or where no `usize` holds the number of the next item.
+/// * `Write` where `out` or `err` failed, and only there.
+pub fn relay<R: Source, W: Sink, E: Sink>(
+    alloc: Global,
+    reader: &mut R,
+    out: &mut W,
+    err: &mut E,
+) -> Result<Relayed, RunFault>
+    ensures { Relays result
+        (reader_told R.bytes R.failures reader.old) (reader_told R.bytes R.failures reader.new)
+        (writer_told W.bytes W.failures W.is_flushed out.old) (writer_told W.bytes W.failures W.is_flushed out.new)
+        (writer_told E.bytes E.failures E.is_flushed err.old) (writer_told E.bytes E.failures E.is_flushed err.new) }
+{
+    relay_in(alloc, Dialect::Crate, reader, out, err)
+}
+
+/// Relays the lines that `reader` gives, as they come, by the rules of a dialect.
+///
+/// [`relay`] does so by those of the crate; what it says of the order, of memory, of UTF-8 and of its faults holds here
+/// too.
+///
+/// # Errors
+///
+/// Those of [`relay`].
+pub fn relay_in<R: Source, W: Sink, E: Sink>(
+    alloc: Global,
+    dialect: Dialect,
+    reader: &mut R,
+    out: &mut W,
+    err: &mut E,
+) -> Result<Relayed, RunFault>
+    ensures { RelaysIn (rules_of dialect) result
+        (reader_told R.bytes R.failures reader.old) (reader_told R.bytes R.failures reader.new)
+        (writer_told W.bytes W.failures W.is_flushed out.old) (writer_told W.bytes W.failures W.is_flushed out.new)
+        (writer_told E.bytes E.failures E.is_flushed err.old) (writer_told E.bytes E.failures E.is_flushed err.new) }
+{
+    relay_within(alloc, dialect, usize::MAX, reader, out, err)
+}
+
+/// Relays the lines that `reader` gives, as they come, by the rules of a dialect, where a line has at most `limit` bytes.
+/// Newlines within its strings are among them, and the one that ends it is not.
+///
+/// A longer one is one item, whose fault line is `item N: the line is too long`, also where it is a comment, blank or not
+/// UTF-8. Its bytes are passed over up to its end, and the lines before and after it are read as ever. A limit of
+/// `usize::MAX` is none.
+///
+/// Of the input, `limit` bytes and two blocks are held at most: of the line that has not ended yet no more than `limit`
+/// bytes, the block that comes after them, and that block as it was read. The buffer of the first two grows by doubling,
+/// and has lines too that were taken already, so it may have room for four times as many. All else is as for
+/// [`relay_in`].
+///
+/// # Errors
+///
+/// Those of [`relay`]. `OutOfMemory` also comes where no `usize` may hold how many newlines, equal signs or commas a line has
+/// that is too long.
+pub fn relay_within<R: Source, W: Sink, E: Sink>(
+    alloc: Global,
+    dialect: Dialect,
+    limit: usize,
+    reader: &mut R,
+    out: &mut W,
+    err: &mut E,
+) -> Result<Relayed, RunFault>
+    ensures { RelaysWithin (rules_of dialect) (limit_of limit) result
+        (reader_told R.bytes R.failures reader.old) (reader_told R.bytes R.failures reader.new)
+        (writer_told W.bytes W.failures W.is_flushed out.old) (writer_told W.bytes W.failures W.is_flushed out.new)
+        (writer_told E.bytes E.failures E.is_flushed err.old) (writer_told E.bytes E.failures E.is_flushed err.new) }
+{
+    relay_numbered(alloc, dialect, limit, Numbering::Items, reader, out, err)
+}
+
+/// Relays the lines that `reader` gives, as they come, by the rules of a dialect, where a line has at most `limit` bytes and
+/// the fault lines name what `numbering` says.
+///
+/// By [`Numbering::Items`] it does what [`relay_within`] does. By [`Numbering::Lines`] each fault line is `line N: TEXT` where
+/// that has `item M: TEXT`, and N is the line of the input on which the piece of the item begins: 1, and one more for each
+/// newline before its first byte. So a fault can be found, though a comment, a blank line or a string of many lines came
+/// before it. All else is as for [`relay_within`].
+///
+/// # Errors
+///
+/// Those of [`relay_within`]. By [`Numbering::Lines`] `OutOfMemory` also comes where no `usize` holds the line on which the
+/// next piece would begin.
+pub fn relay_numbered<R: Source, W: Sink, E: Sink>(
+    alloc: Global,
+    dialect: Dialect,
+    limit: usize,
+    numbering: Numbering,
+    reader: &mut R,
+    out: &mut W,
+    err: &mut E,
+) -> Result<Relayed, RunFault>
+    ensures { RelaysNumbered (rules_of dialect) (limit_of limit) numbering result
+        (reader_told R.bytes R.failures reader.old) (reader_told R.bytes R.failures reader.new)
+        (writer_told W.bytes W.failures W.is_flushed out.old) (writer_told W.bytes W.failures W.is_flushed out.new)
+        (writer_told E.bytes E.failures E.is_flushed err.old) (writer_told E.bytes E.failures E.is_flushed err.new) }
+{
+    laws::pieces_join();
+    laws::runs_give_pieces();
+    laws::utf8_by_pieces();
+    let mut stream = BoundedLineStream::new_in(alloc, dialect, limit);
+    let mut so_far = nothing_made(alloc, numbering);
+    let mut block = Vec::new(alloc);
+    for _ in 0..u64::MAX {
+        let n = read_block(reader, &mut block, 0)?;
+        if n == 0 {
+            finish(alloc, dialect, &mut stream, &mut so_far, out, err)?;
+            return Ok(Relayed {
+                carried: so_far.carried,
+                refused: so_far.refused,
+            });
+        }
+        relay_part(
+            alloc,
+            dialect,
+            &mut stream,
+            &mut so_far,
+            &block[..n],
+            out,
+            err,
+        )?;
+    }
+    Err(RunFault::OutOfMemory)
+}

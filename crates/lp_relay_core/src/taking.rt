@@ -1,0 +1,243 @@
+//! What a relay takes of a piece of its input.
+ghost use Rattle.std.specs.Prelude.{◌≡◌, ◌+◌, ◌<◌, ◌≤◌, length, map, IfOk, IsUtf8, MatchResult, OnOk};
+ghost use Rattle.influxdb_line_protocol.specs.code.Rules.{rules_of};
+ghost use Rattle.influxdb_line_protocol.specs.format.Bytes.{newlines_in};
+ghost use Rattle.influxdb_line_protocol.specs.format.Pieces.{IsLastPiece};
+ghost use Rattle.influxdb_line_protocol.specs.format.Items.{answers_of_piece};
+ghost use Rattle.lp_relay_core.specs.Relaying.{answered, items_of_bytes};
+ghost use Rattle.lp_relay_core.specs.RelaySteps.{HoldsLess, TakesItems, first_place, items_given, made, made_of_none};
+ghost use Rattle.lp_relay_core.specs.RelaySteps.{newlines_given, place_after};
+
+use influxdb_line_protocol::{
+    Dialect, EscapedStr, FieldSet, ParsedLine, PieceTooLong, Series, TagSet, laws, parse_lines_in,
+};
+use lp_rebuild::batch::{Place, Progress, refuse, take};
+use lp_rebuild::program::BLOCK;
+use simdutf8::basic::{self, Utf8Error};
+use std::alloc::{AllocError, Global};
+use std::{mem, str};
+
+/// What the fault lines of a relay name.
+#[derive(Clone, Copy, Debug, PartialEq, Eq)]
+pub enum Numbering {
+    /// The number of the item, as in `item 5: ..`. Items are counted from 1.
+    Items,
+    /// The line of the input on which the piece of the item begins, as in `line 17: ..`. Lines are counted from 1, one after
+    /// each newline, also after those within strings and within pieces that are too long or not UTF-8.
+    Lines,
+}
+
+// What is wrong with a piece that is no text.
+const NOT_UTF8: &str = "the line is not UTF-8";
+
+// What is wrong with a piece that is too long.
+const TOO_LONG: &str = "the line is too long";
+
+// Before the first item. It takes no memory.
+pub(crate) fn nothing_made(alloc: Global, numbering: Numbering) -> Progress
+    ensures { made result ≡ made_of_none (first_place numbering) }
+{
+    Progress {
+        batch: Vec::new(alloc),
+        faults: String::new(alloc),
+        carried: 0,
+        refused: 0,
+        place: match numbering {
+            Numbering::Items => Place::ByNumber,
+            Numbering::Lines => Place::OnLine(1),
+        },
+    }
+}
+
+// Frees the memory of a tag set that has grown.
+#[inline(never)]
+fn free_tags<'a>(alloc: Global, tags: &mut TagSet<'a>) {
+    *tags = TagSet::new(alloc);
+}
+
+// Frees the memory of a field set that has grown.
+#[inline(never)]
+fn free_fields<'a>(alloc: Global, fields: &mut FieldSet<'a>) {
+    *fields = FieldSet::new(alloc);
+}
+
+// Frees the memory that a line holds: to drop a line would visit each place of its sets, also those that hold nothing.
+#[inline(always)]
+fn free<'a>(alloc: Global, parsed: &mut ParsedLine<'a>) {
+    parsed.series.measurement = EscapedStr::SingleSlice("");
+    if let Some(tags) = &mut parsed.series.tag_set {
+        tags.clear();
+        if tags.spilled() {
+            free_tags(alloc, tags);
+        }
+    }
+    parsed.field_set.clear();
+    if parsed.field_set.spilled() {
+        free_fields(alloc, &mut parsed.field_set);
+    }
+}
+
+// Takes the text of a piece by way of a line: it is written again or refused, unless it is blank.
+#[inline(always)]
+fn take_by_line<'a>(
+    alloc: Global,
+    dialect: Dialect,
+    so_far: &mut Progress,
+    text: &'a str,
+    line: &mut ParsedLine<'a>,
+) -> Result<(), AllocError>
+    requires room { so_far.old.carried + so_far.old.refused < usize.MAX }
+    requires piece { IsLastPiece (rules_of dialect) text.now }
+    ensures taken { OnOk result
+        (TakesItems (made so_far.old) (map answered (answers_of_piece (rules_of dialect) text.now)) (made so_far.new)) }
+    ensures counted { OnOk result
+        (so_far.new.carried + so_far.new.refused ≤ so_far.old.carried + so_far.old.refused + 1) }
+{
+    laws::items_are_answers();
+    laws::pieces_join();
+    let mut lines = parse_lines_in(alloc, dialect, text);
+    match lines.next_into(line) {
+        Some(answer) => {
+            let answer = answer;
+            take(alloc, so_far, &answer, line)
+        }
+        None => Ok(()),
+    }
+}
+
+// Takes the text of a piece: its line is written again or refused, unless it is blank.
+fn take_text(
+    alloc: Global,
+    dialect: Dialect,
+    so_far: &mut Progress,
+    text: &str,
+) -> Result<(), AllocError>
+    requires room { so_far.old.carried + so_far.old.refused < usize.MAX }
+    requires piece { IsLastPiece (rules_of dialect) text.now }
+    ensures taken { OnOk result
+        (TakesItems (made so_far.old) (map answered (answers_of_piece (rules_of dialect) text.now)) (made so_far.new)) }
+    ensures counted { OnOk result
+        (so_far.new.carried + so_far.new.refused ≤ so_far.old.carried + so_far.old.refused + 1) }
+{
+    let mut line = ParsedLine {
+        series: Series {
+            raw_input: "",
+            measurement: EscapedStr::SingleSlice(""),
+            tag_set: Some(TagSet::new(alloc)),
+        },
+        field_set: FieldSet::new(alloc),
+        timestamp: None,
+    };
+    let taken = take_by_line(alloc, dialect, so_far, text, &mut line);
+    free(alloc, &mut line);
+    // It holds no memory.
+    mem::forget(line);
+    taken
+}
+
+// From this length on `simdutf8` tests bytes. It is several times as fast as std where they are not ASCII; where they are, it
+// takes longer below this length.
+const LONG: usize = 128;
+
+// The text of bytes, where they are UTF-8.
+fn text_of(bytes: &[u8]) -> Result<&str, Utf8Error>
+    ensures cases { MatchResult result (λ text. (text.now ≡ bytes.now) × IsUtf8 bytes.now) (λ _. ¬ (IsUtf8 bytes.now)) }
+{
+    if bytes.len() < LONG {
+        return str::from_utf8(bytes).map_err(|_| Utf8Error);
+    }
+    basic::from_utf8(bytes)
+}
+
+// Takes the bytes of a piece: their text, or where they are not UTF-8 a fault.
+fn take_bytes(
+    alloc: Global,
+    dialect: Dialect,
+    so_far: &mut Progress,
+    piece: &[u8],
+) -> Result<(), AllocError>
+    requires room { so_far.old.carried + so_far.old.refused < usize.MAX }
+    requires piece { IsLastPiece (rules_of dialect) piece.now }
+    ensures taken { OnOk result
+        (TakesItems (made so_far.old) (items_of_bytes (rules_of dialect) piece.now) (made so_far.new)) }
+    ensures counted { OnOk result
+        (so_far.new.carried + so_far.new.refused ≤ so_far.old.carried + so_far.old.refused + 1) }
+{
+    match text_of(piece) {
+        Ok(text) => take_text(alloc, dialect, so_far, text),
+        Err(_) => refuse(so_far, NOT_UTF8),
+    }
+}
+
+// Takes what the stream gave: bytes, or where they are too long a fault.
+fn take_given(
+    alloc: Global,
+    dialect: Dialect,
+    so_far: &mut Progress,
+    piece: Result<&[u8], PieceTooLong>,
+) -> Result<(), AllocError>
+    requires room { so_far.old.carried + so_far.old.refused < usize.MAX }
+    requires piece { IfOk piece (λ bytes. IsLastPiece (rules_of dialect) bytes.now) }
+    ensures taken { OnOk result
+        (TakesItems (made so_far.old) (items_given (rules_of dialect) piece.entry) (made so_far.new)) }
+    ensures counted { OnOk result
+        (so_far.new.carried + so_far.new.refused ≤ so_far.old.carried + so_far.old.refused + 1) }
+{
+    match piece {
+        Ok(bytes) => take_bytes(alloc, dialect, so_far, bytes),
+        Err(_) => refuse(so_far, TOO_LONG),
+    }
+}
+
+// How many newlines there are.
+fn newlines_in(bytes: &[u8]) -> usize
+    ensures few { result ≤ length bytes.now }
+    ensures value { result ≡ newlines_in bytes.now }
+{
+    let mut count = 0;
+    for at in 0..bytes.len() {
+        if bytes[at] == b'\n' {
+            count += 1;
+        }
+    }
+    count
+}
+
+// The place of the next piece. Newlines are counted where it is a line, and it is refused where that would not fit.
+fn place_after(place: Place, piece: Result<&[u8], PieceTooLong>) -> Result<Place, AllocError>
+    ensures { IfOk result (λ next. next ≡ place_after place (newlines_given piece.entry)) }
+{
+    let Place::OnLine(line) = place else {
+        return Ok(place);
+    };
+    let newlines = match piece {
+        Ok(bytes) => newlines_in(bytes),
+        Err(fault) => fault.newlines,
+    };
+    let end = line.checked_add(newlines).ok_or(AllocError)?;
+    Ok(Place::OnLine(end.checked_add(1).ok_or(AllocError)?))
+}
+
+// Takes a piece. It is refused where its number, or the line after it, would not fit.
+pub(crate) fn take_piece(
+    alloc: Global,
+    dialect: Dialect,
+    so_far: &mut Progress,
+    piece: Result<&[u8], PieceTooLong>,
+) -> Result<(), AllocError>
+    requires fits { so_far.old.carried + so_far.old.refused ≤ usize.MAX }
+    requires few { HoldsLess BLOCK so_far.old }
+    requires piece { IfOk piece (λ bytes. IsLastPiece (rules_of dialect) bytes.now) }
+    ensures taken { OnOk result
+        (TakesItems (made so_far.old) (items_given (rules_of dialect) piece.entry) (made so_far.new)) }
+    ensures place { OnOk result (so_far.new.place ≡ place_after so_far.old.place (newlines_given piece.entry)) }
+    ensures fits { OnOk result (so_far.new.carried + so_far.new.refused ≤ usize.MAX) }
+{
+    if so_far.carried + so_far.refused == usize::MAX {
+        return Err(AllocError);
+    }
+    let next = place_after(so_far.place, piece)?;
+    take_given(alloc, dialect, so_far, piece)?;
+    so_far.place = next;
+    Ok(())
+}
