@@ -1,2 +1,3 @@
-pub mod laws
 pub mod builder
+pub mod points
+pub mod series

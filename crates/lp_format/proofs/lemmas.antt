@@ -1,7 +1,11 @@
+pub mod line
+pub mod lists
+pub mod literals
+pub mod meanings
+pub mod names
+pub mod pieces
+pub mod read_back
 pub mod split
 pub mod tokens
-pub mod names
 pub mod values
-pub mod literals
-pub mod line
-pub mod laws
+pub mod worked_lines

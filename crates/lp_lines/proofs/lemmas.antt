@@ -1,4 +1,6 @@
-pub mod line
-pub mod laws
-pub mod series
 pub mod fields
+pub mod line
+pub mod meanings
+pub mod names
+pub mod read_back
+pub mod series

@@ -1,4 +1,2 @@
 pub mod split
 pub mod stream
-pub mod laws
-pub mod scan

@@ -1,7 +1,7 @@
 pub mod BuilderLemmas
 pub mod MarkLemmas
-pub mod WrittenAgainLemmas
-pub mod ReadStrings
-pub mod ReadHeads
-pub mod SpelledHeads
 pub mod ReadFields
+pub mod ReadHeads
+pub mod ReadStrings
+pub mod SpelledHeads
+pub mod WrittenAgainLemmas

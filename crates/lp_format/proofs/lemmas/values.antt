@@ -1,3 +1,3 @@
-pub mod ValueLemmas
-pub mod ValueForms
 pub mod StringLemmas
+pub mod ValueForms
+pub mod ValueLemmas

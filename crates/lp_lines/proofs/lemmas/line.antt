@@ -1,5 +1,5 @@
-pub mod ParseStepsLemmas
 pub mod ColumnsFit
-pub mod SomeTags
 pub mod GivenLines
 pub mod LightLemmas
+pub mod ParseStepsLemmas
+pub mod SomeTags

@@ -1,2 +1,4 @@
 pub mod BaseLemmas
 pub mod BaseOrder
+pub mod BasesTellSeries
+pub mod SortedTags

@@ -1,2 +1,1 @@
-pub mod MaskLemmas
 pub mod LaneLemmas

@@ -1,4 +1,5 @@
-pub mod MaskBits
-pub mod EscapedMasks
 pub mod BareMasks
+pub mod EscapedMasks
+pub mod MaskBits
+pub mod MaskLemmas
 pub mod MaskPlaces

@@ -1,6 +1,2 @@
-pub mod ResumedSearches
-pub mod KnownTexts
-pub mod LongerTexts
-pub mod PieceTracks
-pub mod TrackedPieces
 pub mod BoundedStreams
+pub mod LongerTexts

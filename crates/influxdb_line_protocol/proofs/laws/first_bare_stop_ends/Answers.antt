@@ -1,7 +1,7 @@
 use Rattle.std.specs.Prelude.{◌==◌}
 use Rattle.lp_format.specs.format.Bytes.{quote}
 use Rattle.lp_format.specs.format.Names.{is_stop}
-use Rattle.lp_split.proofs.lemmas.laws.meanings.StopMeaning.{before_stop}
+use Rattle.lp_split.proofs.lemmas.split.StopMeaning.{before_stop}
 use Rattle.influxdb_line_protocol.proofs.laws.first_bare_stop_ends.Goals as goal
 
 pub returns-clause-name : goal.returns-clause-name

@@ -1,4 +1,4 @@
-use Rattle.lp_format.proofs.lemmas.laws.meanings.TrimMeaning.{trimmed_is_after, trimmed_is_longest}
+use Rattle.lp_format.proofs.lemmas.meanings.TrimMeaning.{trimmed_is_after, trimmed_is_longest}
 use Rattle.influxdb_line_protocol.proofs.laws.longest_blank_front_is_trimmed.Goals as goal
 
 pub returns-clause-blanks : goal.returns-clause-blanks

@@ -1,4 +1,4 @@
-use Rattle.lp_lines.proofs.lemmas.laws.parsed_names.ParsedNames.{names_are_parsed, strict_fields_end}
+use Rattle.lp_lines.proofs.lemmas.names.ParsedNames.{names_are_parsed, strict_fields_end}
 use Rattle.influxdb_line_protocol.proofs.lemmas.laws.parsed_names.NamesInLines.{parsed_names_are_in_lines}
 use Rattle.influxdb_line_protocol.proofs.laws.parsed_names.Goals as goal
 

@@ -1,7 +1,7 @@
 use Rattle.std.proofs.Common.{refl}
 use Rattle.lp_format.proofs.lemmas.split.SplitPieces.{pieces_exist, same_pieces, join_from_cut, cut_from_join}
-use Rattle.lp_format.proofs.lemmas.laws.pieces_join.Batches.{pieces_are_text, answers_join}
-use Rattle.lp_format.proofs.lemmas.laws.pieces_join.CommentsAlone.{comment_text_is_ignored}
+use Rattle.lp_format.proofs.lemmas.pieces.Batches.{pieces_are_text, answers_join}
+use Rattle.lp_format.proofs.lemmas.pieces.CommentsAlone.{comment_text_is_ignored}
 use Rattle.influxdb_line_protocol.proofs.laws.pieces_join.Goals as goal
 
 pub returns-clause-some : goal.returns-clause-some

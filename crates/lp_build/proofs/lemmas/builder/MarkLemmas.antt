@@ -15,7 +15,7 @@ use Rattle.lp_format.specs.format.Bytes.{is_one_of}
 use Rattle.lp_build.specs.code.Marks.{ComeBefore, listed}
 use Rattle.lp_scan.specs.code.Lanes.{first_set, mask_of}
 use Rattle.lp_scan.proofs.lemmas.lanes.LaneLemmas.{lanes_of, lanes_or}
-use Rattle.lp_scan.proofs.lemmas.lanes.MaskLemmas.{shifted, ones, lowest, mask_by_lanes}
+use Rattle.lp_scan.proofs.lemmas.scan.MaskLemmas.{shifted, ones, lowest, mask_by_lanes}
 
 -- a lane that is equal to another
 abbrev equal_lane : ℕ → ℕ → ℕ

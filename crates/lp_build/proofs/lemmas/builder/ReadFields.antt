@@ -23,7 +23,7 @@ use Rattle.lp_format.specs.format.Trimming.{trimmed}
 use Rattle.lp_build.specs.code.WrittenAgain.{HasReadValue, IsHeadOf, is_admitted_head, IsPlainKey, text_after}
 use Rattle.lp_build.proofs.lemmas.builder.BuilderLemmas.{length_escaped}
 use Rattle.lp_build.proofs.lemmas.builder.WrittenAgainLemmas.{fields_admitted}
-use Rattle.lp_build.proofs.lemmas.laws.lines_are_points.LinesArePoints.{FieldFits, line_fields_fit, lines_are_points}
+use Rattle.lp_build.proofs.lemmas.points.LinesArePoints.{FieldFits, line_fields_fit, lines_are_points}
 use Rattle.lp_build.proofs.lemmas.builder.ReadHeads.{delimiters, line_names, read_admitted}
 
 -- the values of fields that fit

@@ -21,11 +21,11 @@ use Rattle.lp_format.specs.laws.NamesOfLines.{BeginsNoComment, IsParsedName}
 use Rattle.lp_lines.specs.code.Parsed.{IsReadLine, line_read, parsed_point}
 use Rattle.lp_format.specs.format.Trimming.{trimmed}
 use Rattle.lp_build.specs.code.WrittenAgain.{IsHeadOf}
-use Rattle.lp_format.proofs.lemmas.laws.batch_reads_back.NameReadsBack.{may_hold}
-use Rattle.lp_lines.proofs.lemmas.laws.parsed_names.KeptNames.{is_kept, name_kept}
-use Rattle.lp_lines.proofs.lemmas.laws.parsed_names.ParsedNames.{ParsedPoint, line_parsed, trimmed_begins}
-use Rattle.lp_build.proofs.lemmas.laws.bases_tell_series.ParsedSeries.{read_series_are_parsed}
-use Rattle.lp_lines.proofs.lemmas.laws.bases_tell_series.BasesTellSeries.{tag_parts, tags_separated, value_part}
+use Rattle.lp_format.proofs.lemmas.read_back.NameReadsBack.{may_hold}
+use Rattle.lp_lines.proofs.lemmas.names.KeptNames.{is_kept, name_kept}
+use Rattle.lp_lines.proofs.lemmas.names.ParsedNames.{ParsedPoint, line_parsed, trimmed_begins}
+use Rattle.lp_build.proofs.lemmas.series.ParsedSeries.{read_series_are_parsed}
+use Rattle.lp_lines.proofs.lemmas.series.BasesTellSeries.{tag_parts, tags_separated, value_part}
 use Rattle.lp_build.proofs.lemmas.builder.BuilderLemmas.{escaped_uncounted, uncounted}
 use Rattle.lp_format.proofs.lemmas.names.NameLemmas.{without_escapes_plain_byte}
 use Rattle.lp_values.proofs.lemmas.fields.ReadingLemmas.{name_parts}

@@ -9,7 +9,7 @@ use Rattle.lp_format.specs.format.Names.{is_one_escape, read_text}
 use Rattle.lp_format.specs.format.Values.{body_len, quotable}
 use Rattle.lp_build.specs.code.WrittenAgain.{IsReadString}
 use Rattle.lp_format.proofs.lemmas.names.NameLemmas.{HasNoBackslash, no_backslash, without_escapes_same}
-use Rattle.lp_split.proofs.lemmas.scan.ScanLemmas.{bare_len, first_bare_len}
+use Rattle.lp_split.proofs.lemmas.split.ScanLemmas.{bare_len, first_bare_len}
 
 -- whether a byte is a quote
 abbrev is_quote : ℕ → Bool

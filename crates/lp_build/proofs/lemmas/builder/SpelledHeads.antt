@@ -15,13 +15,13 @@ use Rattle.lp_lines.specs.code.Parsed.{IsReadLine, line_read, parsed_point}
 use Rattle.lp_format.specs.format.Points.{Pair, built_tag, spelling}
 use Rattle.lp_format.specs.format.Readings.{Text}
 use Rattle.lp_format.specs.format.Trimming.{trimmed}
-use Rattle.lp_lines.proofs.lemmas.laws.bases_tell_series.BasesTellSeries.{tag_parts, tags_separated, value_part}
+use Rattle.lp_lines.proofs.lemmas.series.BasesTellSeries.{tag_parts, tags_separated, value_part}
 use Rattle.lp_format.proofs.lemmas.names.NameLemmas.{without_escapes_known, without_escapes_plain_byte}
-use Rattle.lp_format.proofs.lemmas.laws.batch_reads_back.NameReadsBack.{escaped_found, escaped_plain}
-use Rattle.lp_build.proofs.lemmas.laws.bases_tell_series.ParsedSeries.{read_series_are_parsed}
+use Rattle.lp_format.proofs.lemmas.read_back.NameReadsBack.{escaped_found, escaped_plain}
+use Rattle.lp_build.proofs.lemmas.series.ParsedSeries.{read_series_are_parsed}
 use Rattle.lp_build.proofs.lemmas.builder.ReadHeads.{tag_written}
 use Rattle.lp_values.proofs.lemmas.fields.ReadingLemmas.{name_parts}
-use Rattle.lp_format.proofs.lemmas.laws.meanings.LogicalMeaning.{without_escapes_other}
+use Rattle.lp_format.proofs.lemmas.meanings.LogicalMeaning.{without_escapes_other}
 
 -- what is written is no shorter than this text, and where it is as long, it is this text
 pub record IsLeast (text written : List ℕ) : Type 0 where

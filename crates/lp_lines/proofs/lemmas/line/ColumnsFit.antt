@@ -17,11 +17,11 @@ use Rattle.lp_lines.specs.code.Lookups.{some_items}
 use Rattle.lp_format.specs.laws.Meanings.{SeparatedBy, SeparatedAfterComma}
 use Rattle.lp_lines.specs.code.Parsed.{Answers, field_of, line_read, tag_of, tags_of}
 use Rattle.lp_lines.specs.code.ParseSteps.{CanCountColumns}
-use Rattle.lp_lines.proofs.lemmas.laws.bases_tell_series.BasesTellSeries.{set_separated}
-use Rattle.lp_format.proofs.lemmas.laws.meanings.JoinedMeaning.{the_most_is_read}
-use Rattle.lp_lines.proofs.lemmas.laws.parsed_names.ParsedNames.{answer_parts}
+use Rattle.lp_lines.proofs.lemmas.series.BasesTellSeries.{set_separated}
+use Rattle.lp_format.proofs.lemmas.meanings.JoinedMeaning.{the_most_is_read}
+use Rattle.lp_lines.proofs.lemmas.names.ParsedNames.{answer_parts}
 use Rattle.lp_values.proofs.lemmas.fields.ReadingLemmas.{bind_reads, name_ends}
-use Rattle.lp_format.proofs.lemmas.laws.meanings.ShorterRests.{tag_no_longer, field_no_longer}
+use Rattle.lp_format.proofs.lemmas.meanings.ShorterRests.{tag_no_longer, field_no_longer}
 
 module _ {A : Type 0} (one : List ℕ → Reading A)
     (no_longer : (text : List ℕ) (x : A) (rest : List ℕ) → one text ≡ reads x rest → length rest ≤ length text) where

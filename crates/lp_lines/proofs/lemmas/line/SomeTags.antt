@@ -15,8 +15,8 @@ use Rattle.lp_lines.specs.code.Parsed.{Answers, line_read, tag_of, tags_of}
 use Rattle.lp_lines.specs.code.ParseSteps.{HasNoEmptyTagSet}
 use Rattle.lp_format.specs.format.Lines.{Line, tag, after_comma, prepend, many, separated_list, tag_set, answer}
 use Rattle.lp_values.proofs.lemmas.fields.ReadingLemmas.{bind_reads}
-use Rattle.lp_format.proofs.lemmas.laws.parsed_names.Inversions.{prepend_parts}
-use Rattle.lp_lines.proofs.lemmas.laws.parsed_names.ParsedNames.{ok_same, answer_parts}
+use Rattle.lp_format.proofs.lemmas.names.Inversions.{prepend_parts}
+use Rattle.lp_lines.proofs.lemmas.names.ParsedNames.{ok_same, answer_parts}
 
 -- what commas join is at least one
 pub joined_some : {A : Type 0} (one : List ℕ → Reading A) (line rest : List ℕ) (xs : List A)

@@ -4,7 +4,7 @@ use Rattle.std.proofs.lemmas.Simd.{length-chunk}
 use lib.Lanes.{chunk}
 use Rattle.lp_scan.specs.code.Tokens.{is_end}
 use Rattle.lp_scan.proofs.lemmas.lanes.LaneLemmas.{lanes_of}
-use Rattle.lp_scan.proofs.lemmas.lanes.MaskLemmas.{mask_is}
+use Rattle.lp_scan.proofs.lemmas.scan.MaskLemmas.{mask_is}
 use Rattle.lp_scan.proofs.lanes.backslashes.Goals as goal
 
 pub returns : goal.returns

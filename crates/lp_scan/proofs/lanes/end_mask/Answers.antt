@@ -5,7 +5,7 @@ use lib.Lanes.{chunk}
 use Rattle.lp_scan.specs.code.Tokens.{is_end, stops_of}
 use Rattle.lp_scan.specs.declared.sets.TokenKind.TheVariants.{Measurement, TagKey, TagValue, String}
 use Rattle.lp_scan.proofs.lemmas.lanes.LaneLemmas.{lanes_looked, lanes_of, lanes_or}
-use Rattle.lp_scan.proofs.lemmas.lanes.MaskLemmas.{mask_is}
+use Rattle.lp_scan.proofs.lemmas.scan.MaskLemmas.{mask_is}
 use Rattle.lp_scan.proofs.lanes.end_mask.Goals as goal
 
 pub returns-in-Measurement : goal.returns-in-Measurement

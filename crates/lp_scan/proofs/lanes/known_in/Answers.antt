@@ -6,7 +6,7 @@ use Rattle.lp_format.specs.format.Bytes.{is_one_of}
 use Rattle.lp_scan.specs.code.Tokens.{known_of}
 use Rattle.lp_scan.specs.declared.sets.TokenKind.TheVariants.{Measurement, TagKey, String}
 use Rattle.lp_scan.proofs.lemmas.lanes.LaneLemmas.{lanes_of, lanes_or}
-use Rattle.lp_scan.proofs.lemmas.lanes.MaskLemmas.{mask_is}
+use Rattle.lp_scan.proofs.lemmas.scan.MaskLemmas.{mask_is}
 use Rattle.lp_scan.proofs.lanes.known_in.Goals as goal
 
 pub returns-in-Measurement : goal.returns-in-Measurement

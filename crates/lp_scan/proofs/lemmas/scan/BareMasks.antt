@@ -18,7 +18,7 @@ use Rattle.lp_scan.specs.code.Scan.{mask_at, TellsEscaped, TellsBare}
 use Rattle.lp_format.proofs.lemmas.tokens.EscapeLemmas.{is_escaped_more}
 use Rattle.lp_scan.proofs.lemmas.scan.EscapedMasks.{of_places}
 use Rattle.lp_scan.proofs.lemmas.scan.MaskBits.{and_of_maps, not_of_map}
-use Rattle.lp_scan.proofs.lemmas.lanes.MaskLemmas.{mask_mod}
+use Rattle.lp_scan.proofs.lemmas.scan.MaskLemmas.{mask_mod}
 
 -- the marks that are not escaped are the bare ones
 pub tells_bare : (marks m e r : ℕ) → TellsEscaped m e → r ≡ bit_and marks (bit_not w64 e) → TellsBare marks m r

@@ -9,7 +9,7 @@ use Rattle.std.proofs.Math.Nat.{mod-eq_of_lt, pow-le-pow_right}
 use lib.Bits.{and_step, or_step, xor_step, differ, and_mask}
 use lib.Pow.{pow_pos}
 use lib.Lanes.{zip2, mask_l}
-use Rattle.lp_scan.proofs.lemmas.lanes.MaskLemmas.{half}
+use Rattle.lp_scan.proofs.lemmas.scan.MaskLemmas.{half}
 
 -- one of two, and not both
 abbrev pub differs : Bool → Bool → Bool

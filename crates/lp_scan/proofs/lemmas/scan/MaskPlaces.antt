@@ -10,7 +10,7 @@ use Rattle.std.specs.List.{range_with_len}
 use Rattle.std.proofs.lemmas.List.{drop-map}
 use Rattle.std.proofs.lemmas.List.FromFn.{length-map-range_with_len}
 use Rattle.lp_scan.specs.code.Scan.{mask_at}
-use Rattle.lp_scan.proofs.lemmas.lanes.MaskLemmas.{mask_l-drop}
+use Rattle.lp_scan.proofs.lemmas.scan.MaskLemmas.{mask_l-drop}
 
 -- numbers from a place on, without the first ones
 drop_range : (k at n m : ℕ) → k + m ≡ n → drop k (range_with_len at n) ≡ range_with_len (at + k) m

@@ -12,7 +12,7 @@ use Rattle.lp_split.specs.declared.split.Ahead.{Ahead}
 use Rattle.lp_split.specs.code.Ahead.{IsAhead}
 use Rattle.lp_scan.specs.code.Scan.{mask_at}
 use Rattle.lp_format.specs.format.Escapes.{is_bare_at, is_escaped_after, IsBareAfter}
-use Rattle.lp_scan.proofs.lemmas.lanes.MaskLemmas.{mask_l-drop}
+use Rattle.lp_scan.proofs.lemmas.scan.MaskLemmas.{mask_l-drop}
 use Rattle.lp_scan.proofs.lemmas.scan.BareMasks.{at_most_one, next_bare, one_escaped}
 use Rattle.lp_scan.proofs.lemmas.scan.MaskPlaces.{mask_after, mask_fits}
 use Rattle.lp_format.proofs.lemmas.split.SplitBare.{is_escaped-nil}

@@ -11,7 +11,7 @@ use lib.Lanes.{chunk, mask_l}
 use Rattle.memchr.specs.Find.{IsFirstByte, is_byte3}
 use Rattle.lp_scan.specs.code.Lanes.{AllPassBetween, IsRunIn, first_set, mask_of}
 use Rattle.lp_split.specs.code.Ahead.{AreSeen}
-use Rattle.lp_scan.proofs.lemmas.lanes.MaskLemmas.{run_is, shifted}
+use Rattle.lp_scan.proofs.lemmas.scan.MaskLemmas.{run_is, shifted}
 use Rattle.lp_scan.proofs.lemmas.scan.MaskPlaces.{tz_below}
 
 module _ (test : ℕ → Bool) (text : List ℕ) (at n m r : ℕ) (room : at + n ≤ length text) (few : n ≤ 64)

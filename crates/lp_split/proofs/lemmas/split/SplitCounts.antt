@@ -12,7 +12,7 @@ use Rattle.std.proofs.lemmas.Simd.{length-chunk, mask_l-mod}
 use lib.Lanes.{chunk}
 use Rattle.lp_scan.specs.code.Lanes.{mask_of}
 use Rattle.lp_format.specs.format.Escapes.{bare, is_bare_at, is_escaped_after, IsBareAfter}
-use Rattle.lp_scan.proofs.lemmas.lanes.MaskLemmas.{ones}
+use Rattle.lp_scan.proofs.lemmas.scan.MaskLemmas.{ones}
 use Rattle.lp_scan.proofs.lemmas.scan.BareMasks.{one_escaped}
 use Rattle.lp_split.proofs.lemmas.split.SplitWalk.{count_bare_more, count_by-push}
 

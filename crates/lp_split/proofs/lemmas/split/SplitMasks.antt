@@ -7,7 +7,7 @@ use Rattle.lp_split.specs.declared.split.Stops.{Stops}
 use Rattle.lp_scan.specs.code.Lanes.{mask_of}
 use Rattle.lp_split.specs.code.Stops.{is_stop}
 use Rattle.lp_scan.proofs.lemmas.lanes.LaneLemmas.{lane, lanes_of, lanes_or}
-use Rattle.lp_scan.proofs.lemmas.lanes.MaskLemmas.{mask_by_lanes}
+use Rattle.lp_scan.proofs.lemmas.scan.MaskLemmas.{mask_by_lanes}
 
 -- the top bit of two lanes that were compared
 either_lane : (e f : Bool) → top 7 (bit_or (cond e 255 0) (cond f 255 0)) ≡ e || f

@@ -21,7 +21,7 @@ use Rattle.lp_format.proofs.lemmas.split.SplitBare.{is_escaped-nil, is_escaped-a
 use Rattle.lp_format.proofs.lemmas.split.SplitShape.{last_place, IsHead-bare, EndsPlain-start, EndsPlain-bare}
 use Rattle.lp_format.proofs.lemmas.split.SplitShape.{EndsPlain-append, EndsQuoted-close}
 use Rattle.lp_split.proofs.lemmas.split.SplitWalk.{IsCountOf-append, Head-space, Plain-other, HasMoreEquals-from}
-use Rattle.lp_split.proofs.lemmas.laws.meanings.StopMeaning.{before_stop}
+use Rattle.lp_split.proofs.lemmas.split.StopMeaning.{before_stop}
 
 -- what comes before the first bare byte that passes, and that byte
 pub record IsStretch (passes : ℕ → Bool) (text : List ℕ) (n : ℕ) : Type 0 where

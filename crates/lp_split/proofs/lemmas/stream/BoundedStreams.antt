@@ -16,8 +16,8 @@ use Rattle.lp_split.specs.code.Streams.{Held, TakesPiece}
 use Rattle.lp_split.specs.code.Tracks.{EndsIn, IsTrackOf, TracksOn}
 use Rattle.lp_split.specs.code.Bounded.{CutsTo, HoldsBy, IsTooLong}
 use Rattle.lp_format.proofs.lemmas.split.SplitPieces.{no_cut_within, split_at}
-use Rattle.lp_split.proofs.lemmas.stream.KnownTexts.{no_comment}
-use Rattle.lp_split.proofs.lemmas.stream.TrackedPieces.{blanks_begin_none}
+use Rattle.lp_split.proofs.lemmas.split.KnownTexts.{no_comment}
+use Rattle.lp_split.proofs.lemmas.split.TrackedPieces.{blanks_begin_none}
 
 -- a piece that is too long is so with more bytes
 longer_is_too_long : (limit : ℕ) (text part : List ℕ) → IsTooLong limit text → IsTooLong limit (text ++ part)

@@ -4,7 +4,7 @@ use Rattle.std.proofs.lemmas.Simd.{length-chunk}
 use Rattle.memchr.specs.Find.{is_byte3}
 use lib.Lanes.{chunk}
 use Rattle.lp_scan.proofs.lemmas.lanes.LaneLemmas.{lanes_of, lanes_or}
-use Rattle.lp_scan.proofs.lemmas.lanes.MaskLemmas.{mask_is}
+use Rattle.lp_scan.proofs.lemmas.scan.MaskLemmas.{mask_is}
 use Rattle.lp_split.proofs.split.marks_in.Goals as goal
 
 pub returns : goal.returns

@@ -1,7 +1,7 @@
 use Rattle.std.proofs.Common.{◌≡◌, ◌+◌, ◌-◌, ◌/◌, ◌^◌, length, false, ap, ◌∙◌, arith}
 use Rattle.lp_scan.specs.code.Tokens.{is_end}
 use Rattle.lp_scan.specs.code.Lanes.{first_set}
-use Rattle.lp_scan.proofs.lemmas.lanes.MaskLemmas.{next_is}
+use Rattle.lp_scan.proofs.lemmas.scan.MaskLemmas.{next_is}
 use Rattle.lp_values.proofs.tokens.backslash_tail.Goals as goal
 
 pub returns : goal.returns

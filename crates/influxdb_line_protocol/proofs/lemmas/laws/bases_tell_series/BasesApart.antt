@@ -19,9 +19,9 @@ use Rattle.lp_format.specs.format.Points.{Pair}
 use Rattle.lp_format.specs.format.Readings.{Text}
 use Rattle.lp_format.proofs.lemmas.names.NameLemmas.{without_escapes_same, no_backslash}
 use Rattle.lp_values.proofs.lemmas.fields.ReadingLemmas.{name_parts}
-use Rattle.lp_split.proofs.lemmas.scan.ScanLemmas.{bare_len, first_bare_len}
-use Rattle.lp_lines.proofs.lemmas.laws.bases_tell_series.SortedTags.{by_key_permutes}
-use Rattle.lp_lines.proofs.lemmas.laws.bases_tell_series.BasesTellSeries.{base_is, tag_parts, tags_separated, value_part}
+use Rattle.lp_split.proofs.lemmas.split.ScanLemmas.{bare_len, first_bare_len}
+use Rattle.lp_lines.proofs.lemmas.series.SortedTags.{by_key_permutes}
+use Rattle.lp_lines.proofs.lemmas.series.BasesTellSeries.{base_is, tag_parts, tags_separated, value_part}
 
 -- nothing, or a text that begins with this byte
 abbrev Begins : ℕ → List ℕ → Type 0

@@ -17,8 +17,8 @@ use Rattle.lp_format.specs.format.Names.{read_text, spelled, spelled_len}
 use Rattle.lp_format.specs.format.Points.{Pair}
 use Rattle.lp_format.specs.format.Readings.{Text}
 use Rattle.lp_values.proofs.lemmas.fields.ReadingLemmas.{name_parts}
-use Rattle.lp_lines.proofs.lemmas.laws.bases_tell_series.BasesTellSeries.{same_series_have_one_base, tag_parts}
-use Rattle.lp_lines.proofs.lemmas.laws.bases_tell_series.BasesTellSeries.{tags_separated, value_part}
+use Rattle.lp_lines.proofs.lemmas.series.BasesTellSeries.{same_series_have_one_base, tag_parts}
+use Rattle.lp_lines.proofs.lemmas.series.BasesTellSeries.{tags_separated, value_part}
 use Rattle.influxdb_line_protocol.proofs.lemmas.laws.bases_tell_series.BasesApart.{one_base_is_one_series}
 
 -- one known escape is read as its byte alone

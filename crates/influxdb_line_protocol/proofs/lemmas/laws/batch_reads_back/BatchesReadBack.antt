@@ -5,11 +5,11 @@ use Rattle.lp_format.specs.format.Points.{Point, line_of, built_all}
 use Rattle.lp_format.specs.format.Pieces.{Pieces, Pieces.cut}
 use Rattle.lp_format.specs.format.Items.{answers_of_piece}
 use Rattle.lp_format.specs.laws.Laws.{IsAdmittedPoint, BatchesReadBack}
-use Rattle.lp_lines.proofs.lemmas.laws.batch_reads_back.LinePieces.{IsAdmitted, admitted_point, line_begins}
-use Rattle.lp_lines.proofs.lemmas.laws.batch_reads_back.LinePieces.{line_is_cut_piece}
-use Rattle.lp_format.proofs.lemmas.laws.batch_reads_back.ReadLines.{read_line, read_line_is}
-use Rattle.lp_lines.proofs.lemmas.laws.batch_reads_back.LineReadsBack.{line_reads_back}
-use Rattle.lp_lines.proofs.lemmas.laws.parsed_names.Spellings.{line_trimmed, line_some}
+use Rattle.lp_lines.proofs.lemmas.read_back.LinePieces.{IsAdmitted, admitted_point, line_begins}
+use Rattle.lp_lines.proofs.lemmas.read_back.LinePieces.{line_is_cut_piece}
+use Rattle.lp_format.proofs.lemmas.read_back.ReadLines.{read_line, read_line_is}
+use Rattle.lp_lines.proofs.lemmas.read_back.LineReadsBack.{line_reads_back}
+use Rattle.lp_lines.proofs.lemmas.names.Spellings.{line_trimmed, line_some}
 
 -- the line of an admitted point has one answer
 line_answers : (dialect : Dialect) (p : Point) → IsAdmitted p → answers_of_piece dialect (line_of p) ≡ Ok (read_line p) ∷ []

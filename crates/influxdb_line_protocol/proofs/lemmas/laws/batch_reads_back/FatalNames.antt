@@ -18,11 +18,11 @@ use Rattle.lp_format.specs.format.Lines.{Line, answer}
 use Rattle.lp_format.specs.format.Items.{answers_of_piece, answers_of}
 use Rattle.lp_format.specs.laws.NamesOfLines.{IsParsedName}
 use Rattle.lp_format.proofs.lemmas.split.SplitPieces.{no_cut_within}
-use Rattle.lp_format.proofs.lemmas.laws.batch_reads_back.NameReadsBack.{may_hold, escaped_plain}
-use Rattle.lp_lines.proofs.lemmas.laws.batch_reads_back.Reaches.{reaches_start}
-use Rattle.lp_lines.proofs.lemmas.laws.parsed_names.Spellings.{SpelledAs, never_unescapable, never_stops, spelling_as, Stops}
-use Rattle.lp_lines.proofs.lemmas.laws.parsed_names.Spellings.{spelled_fatal, spelled_begins, reaches_head, BeginsLine}
-use Rattle.lp_lines.proofs.lemmas.laws.parsed_names.Spellings.{line_no_comment, line_trimmed, line_some}
+use Rattle.lp_format.proofs.lemmas.read_back.NameReadsBack.{may_hold, escaped_plain}
+use Rattle.lp_lines.proofs.lemmas.read_back.Reaches.{reaches_start}
+use Rattle.lp_lines.proofs.lemmas.names.Spellings.{SpelledAs, never_unescapable, never_stops, spelling_as, Stops}
+use Rattle.lp_lines.proofs.lemmas.names.Spellings.{spelled_fatal, spelled_begins, reaches_head, BeginsLine}
+use Rattle.lp_lines.proofs.lemmas.names.Spellings.{line_no_comment, line_trimmed, line_some}
 
 -- nothing, or this byte at the start
 abbrev pub StopsWith : ℕ → List ℕ → Type 0

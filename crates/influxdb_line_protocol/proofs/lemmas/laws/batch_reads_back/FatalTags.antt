@@ -10,11 +10,11 @@ use Rattle.lp_format.specs.format.Names.{a_tag_key, a_tag_value}
 use Rattle.lp_format.specs.format.Points.{Tag, is_admitted_name, is_admitted_tag, spelling, built_tag}
 use Rattle.lp_format.specs.format.Lines.{tag, after_comma, many, separated_list}
 use Rattle.lp_format.specs.laws.NamesOfLines.{IsParsedName}
-use Rattle.lp_format.proofs.lemmas.laws.batch_reads_back.ReadLines.{read_tag}
-use Rattle.lp_lines.proofs.lemmas.laws.batch_reads_back.PartsReadBack.{tag_text, tag_reads_back}
-use Rattle.lp_lines.proofs.lemmas.laws.batch_reads_back.Reaches.{Reaches}
-use Rattle.lp_lines.proofs.lemmas.laws.batch_reads_back.LinePieces.{AdmittedTag}
-use Rattle.lp_lines.proofs.lemmas.laws.parsed_names.Spellings.{name_reads_back, reaches_name, reaches_head, reaches_other}
+use Rattle.lp_format.proofs.lemmas.read_back.ReadLines.{read_tag}
+use Rattle.lp_lines.proofs.lemmas.read_back.PartsReadBack.{tag_text, tag_reads_back}
+use Rattle.lp_lines.proofs.lemmas.read_back.Reaches.{Reaches}
+use Rattle.lp_lines.proofs.lemmas.read_back.LinePieces.{AdmittedTag}
+use Rattle.lp_lines.proofs.lemmas.names.Spellings.{name_reads_back, reaches_name, reaches_head, reaches_other}
 use Rattle.influxdb_line_protocol.proofs.lemmas.laws.batch_reads_back.FatalNames.{StopsWith, FatalName, fatal_name, fatal_here, around}
 
 -- what is fatal for all that are joined by commas, the first of which this is or which come after others

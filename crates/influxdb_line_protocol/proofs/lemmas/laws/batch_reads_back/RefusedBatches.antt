@@ -19,18 +19,18 @@ use Rattle.lp_format.specs.laws.NamesOfLines.{IsParsedName}
 use Rattle.lp_format.specs.laws.Laws.{IsAdmittedPoint, OtherBatchesDoNotReadBack}
 use Rattle.lp_format.proofs.lemmas.split.SplitPieces.{pieces_exist, same_pieces}
 use Rattle.lp_format.proofs.lemmas.split.SplitBare.{is_escaped-push_other}
-use Rattle.lp_format.proofs.lemmas.laws.batch_reads_back.NameReadsBack.{admitted_parts}
-use Rattle.lp_format.proofs.lemmas.laws.batch_reads_back.ReadLines.{read_field}
-use Rattle.lp_lines.proofs.lemmas.laws.batch_reads_back.PartsReadBack.{tag_set_reads_back, field_reads_back}
-use Rattle.lp_lines.proofs.lemmas.laws.batch_reads_back.Reaches.{Reaches, reaches_start}
-use Rattle.lp_lines.proofs.lemmas.laws.batch_reads_back.LinePieces.{reaches_tags, reaches_field, AdmittedTag, AdmittedField}
-use Rattle.lp_lines.proofs.lemmas.laws.batch_reads_back.LinePieces.{admitted_tags, line_parts}
-use Rattle.lp_lines.proofs.lemmas.laws.batch_reads_back.LineReadsBack.{measurement_reads_back}
+use Rattle.lp_format.proofs.lemmas.read_back.NameReadsBack.{admitted_parts}
+use Rattle.lp_format.proofs.lemmas.read_back.ReadLines.{read_field}
+use Rattle.lp_lines.proofs.lemmas.read_back.PartsReadBack.{tag_set_reads_back, field_reads_back}
+use Rattle.lp_lines.proofs.lemmas.read_back.Reaches.{Reaches, reaches_start}
+use Rattle.lp_lines.proofs.lemmas.read_back.LinePieces.{reaches_tags, reaches_field, AdmittedTag, AdmittedField}
+use Rattle.lp_lines.proofs.lemmas.read_back.LinePieces.{admitted_tags, line_parts}
+use Rattle.lp_lines.proofs.lemmas.read_back.LineReadsBack.{measurement_reads_back}
 use Rattle.influxdb_line_protocol.proofs.lemmas.laws.batch_reads_back.BatchesReadBack.{admitted_batches_read_back}
-use Rattle.lp_lines.proofs.lemmas.laws.parsed_names.ParsedNames.{ParsedPoint, answers_parsed}
-use Rattle.lp_lines.proofs.lemmas.laws.parsed_names.Spellings.{admitted_spelled, name_reads_back, measurement_begins}
-use Rattle.lp_lines.proofs.lemmas.laws.parsed_names.Spellings.{spelled_spaces, reaches_name, reaches_other}
-use Rattle.lp_lines.proofs.lemmas.laws.parsed_names.Spellings.{reaches_gap, reaches_field_key, BeginsLine}
+use Rattle.lp_lines.proofs.lemmas.names.ParsedNames.{ParsedPoint, answers_parsed}
+use Rattle.lp_lines.proofs.lemmas.names.Spellings.{admitted_spelled, name_reads_back, measurement_begins}
+use Rattle.lp_lines.proofs.lemmas.names.Spellings.{spelled_spaces, reaches_name, reaches_other}
+use Rattle.lp_lines.proofs.lemmas.names.Spellings.{reaches_gap, reaches_field_key, BeginsLine}
 use Rattle.influxdb_line_protocol.proofs.lemmas.laws.batch_reads_back.FatalNames.{StopsWith, Fails, first_fails, FatalName, fatal_name}
 use Rattle.influxdb_line_protocol.proofs.lemmas.laws.batch_reads_back.FatalNames.{fatal_here, around, measurement_fails}
 use Rattle.influxdb_line_protocol.proofs.lemmas.laws.batch_reads_back.FatalTags.{ManyFail, first_of_many, later_of_many, second_fails}

@@ -16,10 +16,10 @@ use Rattle.lp_format.specs.laws.UnreadableNames.{IsUnreadable.alone, HasReadable
 use Rattle.lp_format.specs.laws.Laws.{ItemsHaveReadableNames, OtherPointsEndWithBackslash}
 use Rattle.lp_format.proofs.lemmas.split.SplitPieces.{pieces_exist}
 use Rattle.influxdb_line_protocol.proofs.lemmas.laws.batch_reads_back.BatchesReadBack.{admitted_batches_read_back}
-use Rattle.lp_lines.proofs.lemmas.laws.parsed_names.ParsedNames.{ParsedPoint, names_are_parsed, nothing_in_nil}
+use Rattle.lp_lines.proofs.lemmas.names.ParsedNames.{ParsedPoint, names_are_parsed, nothing_in_nil}
 use Rattle.influxdb_line_protocol.proofs.lemmas.laws.batch_reads_back.FatalNames.{first_fails}
 use Rattle.influxdb_line_protocol.proofs.lemmas.laws.batch_reads_back.RefusedBatches.{point_fails, same_answers}
-use Rattle.lp_format.proofs.lemmas.laws.Elements.{first_element, first_or_later, later_element}
+use Rattle.lp_format.proofs.lemmas.lists.Elements.{first_element, first_or_later, later_element}
 
 -- a name as a line can have it is not unreadable
 parsed_is_readable : {kind : NameKind} {n : List ℕ} → IsParsedName kind n → ¬ IsUnreadable kind n

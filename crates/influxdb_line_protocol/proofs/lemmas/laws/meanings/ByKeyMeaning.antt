@@ -7,8 +7,8 @@ use Rattle.std.proofs.lemmas.Bool.{and_from}
 use Rattle.std.proofs.lemmas.List.Sorted.{IsPermutation-sym, IsPermutation-trans}
 use Rattle.lp_lines.specs.code.Bases.{by_key, in_order, is_strictly_sorted}
 use Rattle.lp_lines.specs.laws.BaseLaws.{entry_keys, TagsByKeyAreSorted}
-use Rattle.lp_lines.proofs.lemmas.laws.bases_tell_series.SortedTags.{Rise, by_key_permutes, by_key_rises, passes_rise}
-use Rattle.lp_lines.proofs.lemmas.laws.bases_tell_series.SortedTags.{same_moved}
+use Rattle.lp_lines.proofs.lemmas.series.SortedTags.{Rise, by_key_permutes, by_key_rises, passes_rise}
+use Rattle.lp_lines.proofs.lemmas.series.SortedTags.{same_moved}
 
 -- keys that rise pass the test
 rise_passes : (es : List (List ℕ × List ℕ)) → Rise es → is_strictly_sorted (entry_keys es) ≡ true

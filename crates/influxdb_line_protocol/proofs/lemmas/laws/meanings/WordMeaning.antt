@@ -9,8 +9,8 @@ use Rattle.std.proofs.lemmas.List.{length-take-le, take-append-drop, take_at}
 use Rattle.std.proofs.lemmas.Slice.Eq.{starts_is}
 use Rattle.lp_format.specs.format.Values.{longer_front}
 use Rattle.lp_format.specs.laws.Meanings.{WordFrontIsWord, WordFrontIsLongest}
-use Rattle.lp_lines.proofs.lemmas.laws.parsed_names.ParsedNames.{nothing_in_nil}
-use Rattle.lp_format.proofs.lemmas.laws.Elements.{first_element, first_or_later, later_element}
+use Rattle.lp_lines.proofs.lemmas.names.ParsedNames.{nothing_in_nil}
+use Rattle.lp_format.proofs.lemmas.lists.Elements.{first_element, first_or_later, later_element}
 
 -- what is known of the longer of a front and a word
 record Step (text : List ℕ) (n : ℕ) (word : List ℕ) (m : ℕ) : Type 0 where

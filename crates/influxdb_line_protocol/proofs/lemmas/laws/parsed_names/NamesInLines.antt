@@ -19,15 +19,15 @@ use Rattle.lp_format.specs.format.Items.{HasAnswers, answers_of_piece}
 use Rattle.lp_format.specs.laws.NamesOfLines.{IsParsedName}
 use Rattle.lp_format.specs.laws.Laws.{ParsedNamesAreInLines}
 use Rattle.lp_format.proofs.lemmas.split.SplitBare.{is_escaped-push_other}
-use Rattle.lp_lines.proofs.lemmas.laws.batch_reads_back.Reaches.{Reaches, reaches_start}
-use Rattle.lp_lines.proofs.lemmas.laws.batch_reads_back.LinePieces.{reaches_simple}
-use Rattle.lp_lines.proofs.lemmas.laws.batch_reads_back.LineReadsBack.{answer_from_parts}
-use Rattle.lp_lines.proofs.lemmas.laws.parsed_names.KeptNames.{name_kept}
+use Rattle.lp_lines.proofs.lemmas.read_back.Reaches.{Reaches, reaches_start}
+use Rattle.lp_lines.proofs.lemmas.read_back.LinePieces.{reaches_simple}
+use Rattle.lp_lines.proofs.lemmas.read_back.LineReadsBack.{answer_from_parts}
+use Rattle.lp_lines.proofs.lemmas.names.KeptNames.{name_kept}
 use Rattle.influxdb_line_protocol.proofs.lemmas.laws.parsed_names.Utf8Spellings.{utf8_push, spelling_utf8}
-use Rattle.lp_lines.proofs.lemmas.laws.parsed_names.Spellings.{SpelledAs, SpelledAs.done, SpelledAs.plain, spelled_as}
-use Rattle.lp_lines.proofs.lemmas.laws.parsed_names.Spellings.{spelled_logical, spelled_reads, spelled_begins, spelled_spaces}
-use Rattle.lp_lines.proofs.lemmas.laws.parsed_names.Spellings.{BeginsLine, line_no_comment, line_trimmed, line_some}
-use Rattle.lp_lines.proofs.lemmas.laws.parsed_names.Spellings.{reaches_head, reaches_other, reaches_gap, reaches_field_key}
+use Rattle.lp_lines.proofs.lemmas.names.Spellings.{SpelledAs, SpelledAs.done, SpelledAs.plain, spelled_as}
+use Rattle.lp_lines.proofs.lemmas.names.Spellings.{spelled_logical, spelled_reads, spelled_begins, spelled_spaces}
+use Rattle.lp_lines.proofs.lemmas.names.Spellings.{BeginsLine, line_no_comment, line_trimmed, line_some}
+use Rattle.lp_lines.proofs.lemmas.names.Spellings.{reaches_head, reaches_other, reaches_gap, reaches_field_key}
 
 -- a name that is not empty and does not end in a backslash, with a spelling
 record Spelled (kind : NameKind) (n s : List ℕ) : Type 0 where

@@ -10,8 +10,8 @@ use Rattle.std.proofs.lemmas.Str.{IsCharBoundary-after_ascii}
 use Rattle.lp_format.specs.format.Bytes.{is_one_of}
 use Rattle.lp_format.specs.format.Names.{NameKind, a_measurement, a_tag_key, a_tag_value, a_field_key, is_escapable}
 use Rattle.lp_format.specs.format.Points.{never_in}
-use Rattle.lp_lines.proofs.lemmas.laws.parsed_names.Spellings.{SpelledAs, SpelledAs.done, SpelledAs.escape, SpelledAs.plain}
-use Rattle.lp_lines.proofs.lemmas.laws.parsed_names.Spellings.{SpelledAs.pair}
+use Rattle.lp_lines.proofs.lemmas.names.Spellings.{SpelledAs, SpelledAs.done, SpelledAs.escape, SpelledAs.plain}
+use Rattle.lp_lines.proofs.lemmas.names.Spellings.{SpelledAs.pair}
 
 -- what comes before an ASCII byte of a text that is UTF-8 is UTF-8, and so is what follows it
 utf8_around : (front rest : List ℕ) (b : ℕ) → IsUtf8 (front ++ b ∷ rest) → b < 128 → IsUtf8 front × IsUtf8 rest

@@ -5,7 +5,7 @@ use Rattle.std.proofs.lemmas.Simd.{length-chunk}
 use lib.Lanes.{chunk}
 use Rattle.lp_format.specs.format.Bytes.{is_one_of}
 use Rattle.lp_build.specs.code.Marks.{listed}
-use Rattle.lp_scan.proofs.lemmas.lanes.MaskLemmas.{ones}
+use Rattle.lp_scan.proofs.lemmas.scan.MaskLemmas.{ones}
 use Rattle.lp_build.proofs.lemmas.builder.MarkLemmas.{count_after, count_last}
 use Rattle.lp_build.proofs.builder.marks.count.Goals as goal
 

@@ -1,6 +1,6 @@
 use Rattle.std.proofs.Common.{◌≡◌, arith, take, ℕ, subst}
 use Rattle.lp_format.specs.format.Escapes.{IsBareAfter}
-use Rattle.lp_split.proofs.lemmas.stream.ResumedSearches.{bare_after_other, last_bare}
+use Rattle.lp_split.proofs.lemmas.split.ResumedSearches.{bare_after_other, last_bare}
 use Rattle.lp_split.proofs.split.resumed.bare_len.Goals.{then-loop-at-test+else-text-at-eq92, else-loop-at-test}
 use Rattle.lp_split.proofs.split.resumed.bare_len.Goals as goal
 

@@ -2,7 +2,7 @@ use Rattle.std.proofs.Common.{arith}
 use Rattle.std.proofs.lemmas.List.{take_rest}
 use Rattle.std.proofs.lemmas.Grind.{common_steps}
 use Rattle.lp_split.proofs.lemmas.split.SeenMarks.{none_are_seen}
-use Rattle.lp_split.proofs.lemmas.stream.ResumedSearches.{stopped_at_end, stretch_cut, stretch_last}
+use Rattle.lp_split.proofs.lemmas.split.ResumedSearches.{stopped_at_end, stretch_cut, stretch_last}
 use Rattle.lp_split.proofs.split.resumed.cut_from.Goals as goal
 
 pub returns-then-len-rest : goal.returns-then-len-rest

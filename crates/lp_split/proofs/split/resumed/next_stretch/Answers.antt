@@ -6,7 +6,7 @@ use Rattle.lp_split.specs.declared.split.resumed.Part.TheVariants.{Head, Plain, 
 use Rattle.lp_split.specs.code.Searches.{BeginsAt, ends}
 use Rattle.lp_split.proofs.lemmas.split.AheadMasks.{nothing_ahead}
 use Rattle.lp_split.proofs.lemmas.split.SplitStretches.{quote_opens_nothing}
-use Rattle.lp_split.proofs.lemmas.stream.ResumedSearches.{head_goes_on, quote_after, quoted_goes_on, stopped_at_start}
+use Rattle.lp_split.proofs.lemmas.split.ResumedSearches.{head_goes_on, quote_after, quoted_goes_on, stopped_at_start}
 use Rattle.lp_split.proofs.split.resumed.next_stretch.Goals as goal
 
 pub plain_run-plain-requires : goal.plain_run-plain-requires

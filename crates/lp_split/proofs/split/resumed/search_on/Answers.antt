@@ -4,8 +4,8 @@ use Rattle.std.proofs.lemmas.List.{take_rest}
 use Rattle.lp_split.specs.declared.split.resumed.Part.TheVariants.{Head}
 use Rattle.lp_split.specs.declared.split.resumed.Search.TheVariants.{Quiet, Within}
 use Rattle.lp_split.specs.code.Searches.{IsKnown}
-use Rattle.lp_split.proofs.lemmas.stream.KnownTexts.{all_quiet, by_dialect, never_comment, still_last}
-use Rattle.lp_split.proofs.lemmas.stream.ResumedSearches.{stopped_at_start}
+use Rattle.lp_split.proofs.lemmas.split.KnownTexts.{all_quiet, by_dialect, never_comment, still_last}
+use Rattle.lp_split.proofs.lemmas.split.ResumedSearches.{stopped_at_start}
 use Rattle.lp_split.proofs.split.resumed.search_on.Goals as goal
 
 pub cut_from-requires-in-None-late_cut : goal.cut_from-requires-in-None-late_cut

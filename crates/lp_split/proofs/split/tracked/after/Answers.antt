@@ -2,7 +2,7 @@ use Rattle.std.proofs.Common.{◌≡◌, ◌⊎◌, subst, sym, inl, inr, arith,
 use Rattle.lp_split.specs.declared.split.tracked.Track.{Track}
 use Rattle.lp_split.specs.declared.split.tracked.Track.TheVariants.{Comment, Blanks, Line}
 use Rattle.lp_split.specs.code.Tracks.{Leads}
-use Rattle.lp_split.proofs.lemmas.stream.TrackedPieces.{blanks_end, blanks_go_on, comment_begins, comment_goes_on, line_ends}
+use Rattle.lp_split.proofs.lemmas.split.TrackedPieces.{blanks_end, blanks_go_on, comment_begins, comment_goes_on, line_ends}
 use Rattle.lp_split.proofs.split.tracked.after.Goals.{then-byte-eq32, else-byte-eq32}
 use Rattle.lp_split.proofs.split.tracked.after.Goals as goal
 

@@ -1,7 +1,7 @@
 use Rattle.std.proofs.Common.{refl}
 use Rattle.lp_split.specs.declared.split.resumed.Part.TheVariants.{Plain, Quoted}
 use Rattle.lp_split.proofs.lemmas.split.SplitWalk.{Quoted-closes, Quoted-other}
-use Rattle.lp_split.proofs.lemmas.stream.PieceTracks.{bare_step}
+use Rattle.lp_split.proofs.lemmas.split.PieceTracks.{bare_step}
 use Rattle.lp_split.proofs.split.tracked.after_quoted.Goals as goal
 
 pub returns-then-byte-eq34-clause-steps : goal.returns-then-byte-eq34-clause-steps

@@ -3,7 +3,7 @@ use Rattle.std.proofs.lemmas.List.Elements.{All-nil}
 use Rattle.lp_split.specs.declared.split.Dialect.{Dialect}
 use Rattle.lp_split.specs.code.Rules.{rules_of}
 use Rattle.lp_split.specs.code.Searches.{NeverComment}
-use Rattle.lp_split.proofs.lemmas.stream.TrackedPieces.{first_place}
+use Rattle.lp_split.proofs.lemmas.split.TrackedPieces.{first_place}
 use Rattle.lp_split.proofs.split.tracked.Track.new.Goals as goal
 
 pub returns-in-Crate-clause-track : goal.returns-in-Crate-clause-track

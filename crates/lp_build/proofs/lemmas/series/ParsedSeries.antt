@@ -1,0 +1,173 @@
+-- The series of each line that is read is a parsed one.
+use Rattle.std.proofs.Common.{◌≡◌, ℕ, zero, suc, ◌≤◌, Bool, List, [], ◌∷◌, ◌++◌, length, drop, refl, sym, ap, ◌∙◌, subst, inl, inr}
+use Rattle.std.proofs.Common.{arith, append_assoc, Option, Some, None, Ok}
+use Rattle.std.specs.Prelude.{◌==◌}
+use Rattle.std.proofs.lemmas.Bool.{cases_Bool}
+use Rattle.std.proofs.lemmas.List.{append_cancel_left, take-append-drop}
+use Rattle.lp_lines.specs.laws.BaseLaws.{IsParsedSeries, ReadSeriesAreParsed}
+use Rattle.lp_format.specs.format.Lines.{after_comma, many, some_tags, tag, tag_set}
+use Rattle.lp_format.specs.laws.Meanings.{IsAtStop, SeparatedAfterComma}
+use Rattle.lp_format.specs.format.Names.{NameKind, a_measurement, a_tag_key, a_tag_value, ends_in_backslash, escapable}
+use Rattle.lp_format.specs.format.Names.{is_stop, logical, name, read_text, spelled, spelled_len}
+use Rattle.lp_format.specs.format.Points.{Pair}
+use Rattle.lp_format.specs.format.Readings.{Reading, Text, reads}
+use Rattle.lp_lines.proofs.lemmas.series.BasesTellSeries.{set_separated}
+use Rattle.lp_lines.proofs.lemmas.read_back.LineReadsBack.{front_is}
+use Rattle.lp_lines.proofs.lemmas.names.ParsedNames.{answer_parts}
+use Rattle.lp_values.proofs.lemmas.fields.ReadingLemmas.{name_parts, pair_parts, reads_parts}
+use Rattle.lp_format.proofs.lemmas.meanings.ShorterRests.{tag_no_longer}
+use Rattle.lp_split.proofs.lemmas.split.StopMeaning.{before_stop}
+
+-- a front of the text was read, and it reads the same wherever the text after it is cut
+record ReadsCut {A : Type 0} (one : List ℕ → Reading A) (text : List ℕ) (x : A) (rest : List ℕ) : Type 0 where
+  front : List ℕ
+  is : text ≡ front ++ rest
+  again : (kept lost : List ℕ) → rest ≡ kept ++ lost → one (front ++ kept) ≡ reads x kept
+
+-- a stop stays one where the text after it is cut
+stop_cut : (passes : ℕ → Bool) (front kept lost : List ℕ) → IsAtStop passes front (kept ++ lost) → IsAtStop passes front kept
+stop_cut passes front [] lost at = tt
+stop_cut passes front (b ∷ kept) lost at = at
+
+-- so a name is spelled as it was
+spelled_cut : (kind : NameKind) (front kept lost : List ℕ) → spelled kind (front ++ (kept ++ lost)) ≡ front
+    → spelled kind (front ++ kept) ≡ front
+spelled_cut kind front kept lost h =
+    let before = (before_stop (is_stop kind) front (kept ++ lost)).0 h in
+    (before_stop (is_stop kind) front kept).1
+    (record { none = before.none; at_stop = stop_cut (is_stop kind) front kept lost before.at_stop })
+
+-- two texts that spell one name read to it
+name_same : (kind : NameKind) (text other : List ℕ) (t : Text) (rest : List ℕ) → name kind text ≡ reads t rest
+    → spelled kind other ≡ spelled kind text
+    → name kind other ≡ reads t (drop (spelled_len kind other) other)
+unfolding name
+name_same kind text other t rest e same =
+    elim (cases_Bool (length (spelled kind text) == 0)) [
+      | inl empty ↦ absurd (let m = rw empty at e in cc)
+      | inr some ↦ elim (cases_Bool (ends_in_backslash (logical kind (spelled kind text)))) [
+        | inl bad ↦ absurd (let m = rw (some, bad) at e in cc)
+        | inr good ↦
+            let parts = reads_parts (read_text (escapable kind) (spelled kind text)) t
+            (drop (spelled_len kind text) text) rest (rw (some, good) at e) in
+            rw (same, some, good) (ap (λ (x : Text). reads x (drop (spelled_len kind other) other)) parts.0)
+      ]
+    ]
+
+-- a name before a text that is cut
+name_kept : (kind : NameKind) (text : List ℕ) (t : Text) (rest : List ℕ) → name kind text ≡ reads t rest → text ≡ spelled kind text ++ rest
+    → (kept lost : List ℕ) → rest ≡ kept ++ lost → name kind (spelled kind text ++ kept) ≡ reads t kept
+name_kept kind text t rest e is kept lost at =
+    let front = spelled kind text in
+    let whole : front ++ (kept ++ lost) ≡ text = sym (is ∙ ap (λ (r : List ℕ). front ++ r) at) in
+    let same = spelled_cut kind front kept lost (ap (spelled kind) whole) in
+    let n = spelled_len kind (front ++ kept) in
+    let after = ap (λ (r : List ℕ). r ++ drop n (front ++ kept)) (sym same) ∙ take-append-drop n (front ++ kept) in
+    name_same kind text (front ++ kept) t rest e same
+    ∙ ap (λ (r : List ℕ). reads t r) (append_cancel_left front (drop n (front ++ kept)) kept after)
+
+-- a name reads the same wherever the text after it is cut
+name_cut : (kind : NameKind) (text : List ℕ) (t : Text) (rest : List ℕ) → name kind text ≡ reads t rest → ReadsCut (name kind) text t rest
+name_cut kind text t rest e =
+    let after = (name_parts kind text t rest e).1 in
+    let is : text ≡ spelled kind text ++ rest =
+    sym (take-append-drop (spelled_len kind text) text) ∙ ap (λ (r : List ℕ). spelled kind text ++ r) (sym after) in
+    record { front = spelled kind text; is = is; again = λ kept lost at. name_kept kind text t rest e is kept lost at }
+
+-- a tag by its names
+tag_by : (line after rest : List ℕ) (k v : Text) → name a_tag_key line ≡ reads k (61 ∷ after) → name a_tag_value after ≡ reads v rest
+    → tag line ≡ reads (record { key = k; value = v }) rest
+unfolding tag
+tag_by line after rest k v e f = rw (e, f) refl
+
+-- a tag reads the same wherever the text after it is cut
+tag_cut : (text : List ℕ) (x : Pair Text Text) (rest : List ℕ) → tag text ≡ reads x rest → ReadsCut tag text x rest
+unfolding tag
+tag_cut text x rest e =
+    let p = pair_parts a_tag_key (name a_tag_value) text x rest e in
+    let key = name_cut a_tag_key text x.key (61 ∷ p.mid) p.key in
+    let value = name_cut a_tag_value p.mid x.value rest p.value in
+    let left : 61 ∷ p.mid ≡ (61 ∷ value.front) ++ rest = ap (λ (r : List ℕ). 61 ∷ r) value.is in
+    record {
+      front = key.front ++ 61 ∷ value.front;
+      is = key.is ∙ ap (λ (r : List ℕ). key.front ++ r) left ∙ sym (append_assoc key.front (61 ∷ value.front) rest);
+      again = λ kept lost at.
+          let cut : 61 ∷ p.mid ≡ (61 ∷ value.front ++ kept) ++ lost =
+          left ∙ ap (λ (r : List ℕ). (61 ∷ value.front) ++ r) at ∙ sym (append_assoc (61 ∷ value.front) kept lost) in
+          ap tag (append_assoc key.front (61 ∷ value.front) kept)
+          ∙ tag_by (key.front ++ (61 ∷ value.front ++ kept)) (value.front ++ kept) kept x.key x.value
+          (key.again (61 ∷ value.front ++ kept) lost cut) (value.again kept lost at);
+    }
+
+-- a front of the text with these tags, each after a comma, and nothing after them
+record SeparatedCut (tags : List (Pair Text Text)) (text rest : List ℕ) : Type 0 where
+  front : List ℕ
+  is : text ≡ front ++ rest
+  separated : SeparatedAfterComma tag tags front []
+
+-- tags are in such a front
+separated_cut : (tags : List (Pair Text Text)) (text rest : List ℕ) → SeparatedAfterComma tag tags text rest → SeparatedCut tags text rest
+separated_cut [] text rest h = record { front = []; is = h; separated = refl }
+separated_cut (t ∷ tags) text rest h =
+    let first = tag_cut h.0 t h.1 h.3 in
+    let more = separated_cut tags h.1 rest h.4 in
+    let split : h.0 ≡ (first.front ++ more.front) ++ rest =
+    first.is ∙ ap (λ (r : List ℕ). first.front ++ r) more.is ∙ sym (append_assoc first.front more.front rest) in
+    record {
+      front = 44 ∷ first.front ++ more.front;
+      is = h.2 ∙ ap (λ (r : List ℕ). 44 ∷ r) split;
+      separated = (first.front ++ more.front, more.front, refl, first.again more.front rest more.is, more.separated);
+    }
+
+-- no fewer bytes are there than tags
+separated_room : (tags : List (Pair Text Text)) (text rest : List ℕ) → SeparatedAfterComma tag tags text rest → length tags ≤ length text
+separated_room [] text rest h = omega arith
+separated_room (t ∷ tags) text rest h =
+    let less = (tag_no_longer h.0).holds t h.1 h.3 in
+    let more = separated_room tags h.1 rest h.4 in
+    omega (arith, ap length h.2)
+
+-- tags up to the end of the text are read
+many_read : (n : ℕ) (tags : List (Pair Text Text)) (text : List ℕ) → SeparatedAfterComma tag tags text [] → length tags ≤ n
+    → many (after_comma tag) n text ≡ reads tags []
+many_read zero [] text h room = ap (λ (r : List ℕ). reads [] r) h
+many_read zero (t ∷ tags) text h room = absurd (omega arith)
+many_read (suc n) [] text h room = rw h refl
+many_read (suc n) (t ∷ tags) text h room = rw (h.2, h.3, many_read n tags h.1 h.4 (omega arith)) refl
+
+-- these tags, and no set where there are none
+abbrev set_of : List (Pair Text Text) → Option (List (Pair Text Text))
+set_of [] = None
+set_of (t ∷ tags) = Some (t ∷ tags)
+
+-- they are its tags
+set_tags : (tags : List (Pair Text Text)) → some_tags (set_of tags) ≡ tags
+set_tags [] = refl
+set_tags (t ∷ tags) = refl
+
+-- they are read as a set
+set_read : (tags : List (Pair Text Text)) (text : List ℕ) → SeparatedAfterComma tag tags text []
+    → tag_set text ≡ Ok (record { value = set_of tags; rest = [] })
+set_read [] text h = rw h refl
+set_read (t ∷ tags) text h = rw (h.2, h.3, many_read (length h.1) tags h.1 h.4 (separated_room tags h.1 [] h.4)) refl
+
+pub read_series_are_parsed : ReadSeriesAreParsed
+read_series_are_parsed dialect line l e =
+    let parts = answer_parts dialect line l e in
+    let tags = some_tags l.tags in
+    let m = name_cut a_measurement line l.measurement parts.measurement_rest parts.measurement in
+    let set = separated_cut tags parts.measurement_rest parts.tags_rest
+    (set_separated parts.measurement_rest parts.tags_rest l.tags parts.tags) in
+    let whole : line ≡ (m.front ++ set.front) ++ parts.tags_rest =
+    m.is ∙ ap (λ (r : List ℕ). m.front ++ r) set.is ∙ sym (append_assoc m.front set.front parts.tags_rest) in
+    let series : l.series ≡ m.front ++ set.front = parts.series ∙ front_is line (m.front ++ set.front) parts.tags_rest whole in
+    let parsed : IsParsedSeries (m.front ++ set.front) l.measurement tags = record {
+      after = set.front;
+      set = set_of tags;
+      measurement_is = m.again set.front parts.tags_rest set.is;
+      set_is = set_read tags set.front set.separated;
+      tags_are = set_tags tags;
+    } in (
+      subst (λ (s : List ℕ). IsParsedSeries s l.measurement tags) (sym series) parsed,
+      (parts.tags_rest, whole ∙ ap (λ (s : List ℕ). s ++ parts.tags_rest) (sym series)),
+    )

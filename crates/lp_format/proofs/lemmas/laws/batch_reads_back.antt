@@ -1,4 +1,0 @@
-pub mod NameReadsBack
-pub mod IntegerReadsBack
-pub mod ReadLines
-pub mod FloatReadsBack

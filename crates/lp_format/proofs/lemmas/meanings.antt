@@ -1,0 +1,5 @@
+pub mod CountMeaning
+pub mod JoinedMeaning
+pub mod LogicalMeaning
+pub mod ShorterRests
+pub mod TrimMeaning

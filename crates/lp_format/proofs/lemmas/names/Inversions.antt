@@ -1,0 +1,40 @@
+-- What a list that is read was read from, and what holds of all of it.
+use Rattle.std.proofs.Common.{◌≡◌, ℕ, ◌≤◌, List, [], ◌∷◌, ◌++◌, length, ap}
+use Rattle.std.specs.List.{AllByRecursion}
+use Rattle.lp_format.specs.format.Readings.{Reading, miss, fatal, reads}
+use Rattle.lp_format.specs.format.Lines.{prepend, separated_list}
+use Rattle.lp_format.specs.laws.Meanings.{SeparatedBy, SeparatedAfterComma}
+use Rattle.lp_format.proofs.lemmas.meanings.JoinedMeaning.{the_most_is_read}
+
+-- what was added to
+pub record Onto {A : Type 0} (xs : List A) (r : Reading (List A)) (zs : List A) (rest : List ℕ) : Type 0 where
+  pub more : List A
+  pub are : r ≡ reads more rest
+  pub all : xs ++ more ≡ zs
+
+-- each list that was added to is such
+pub prepend_parts : {A : Type 0} (xs : List A) (r : Reading (List A)) (zs : List A) (rest : List ℕ)
+    → prepend xs r ≡ reads zs rest → Onto xs r zs rest
+prepend_parts xs miss zs rest h = absurd (cc)
+prepend_parts xs (fatal e) zs rest h = absurd (cc)
+prepend_parts xs (reads more after) zs rest h =
+    let same : after ≡ rest = cc in
+    let all : xs ++ more ≡ zs = cc in
+    record { more = more; are = ap (reads more) same; all = all }
+
+module _ {A : Type 0} (P : A → Type 0) (one : List ℕ → Reading A)
+    (each : (line : List ℕ) (x : A) (rest : List ℕ) → one line ≡ reads x rest → P x) where
+  -- what holds of each that is read holds of all that come after commas
+  pub after_all : (xs : List A) (line rest : List ℕ) → SeparatedAfterComma one xs line rest → AllByRecursion P xs
+  after_all [] line rest h = tt
+  after_all (x ∷ xs) line rest h = (each h.0 x h.1 h.3, after_all xs h.1 rest h.4)
+
+  -- and of all that are joined by commas
+  joined_all : (xs : List A) (line rest : List ℕ) → SeparatedBy one xs line rest → AllByRecursion P xs
+  joined_all [] line rest h = tt
+  joined_all (x ∷ xs) line rest h = (each line x h.0 h.1, after_all xs h.0 rest h.2)
+
+  -- so of all that are read there
+  pub joined_of : ((line : List ℕ) (x : A) (rest : List ℕ) → one line ≡ reads x rest → length rest ≤ length line)
+      → (line rest : List ℕ) (xs : List A) → separated_list one line ≡ reads xs rest → AllByRecursion P xs
+  joined_of no_longer line rest xs h = joined_all xs line rest ((the_most_is_read one no_longer line xs rest).0 h).longest.separated

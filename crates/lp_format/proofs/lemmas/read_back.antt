@@ -1,0 +1,4 @@
+pub mod FloatReadsBack
+pub mod IntegerReadsBack
+pub mod NameReadsBack
+pub mod ReadLines

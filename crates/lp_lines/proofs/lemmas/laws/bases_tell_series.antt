@@ -1,2 +1,0 @@
-pub mod BasesTellSeries
-pub mod SortedTags

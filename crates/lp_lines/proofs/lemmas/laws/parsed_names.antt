@@ -1,3 +1,0 @@
-pub mod ParsedNames
-pub mod KeptNames
-pub mod Spellings

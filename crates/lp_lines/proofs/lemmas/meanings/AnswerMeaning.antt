@@ -1,0 +1,272 @@
+-- Each text is answered by one row of the table.
+use Rattle.std.proofs.Common.{◌≡◌, ◌⊎◌, ℕ, ◌==◌, List, [], ◌∷◌, ◌++◌, length, take, drop, refl, sym, ap, ◌∙◌, subst, inl, inr, Option, Some}
+use Rattle.std.proofs.Common.{None, Ok, Err, Result}
+use Rattle.std.specs.Prelude.{ℤ, ◌||◌}
+use Rattle.std.specs.Str.Parse.{signed_digits_value}
+use Rattle.std.proofs.lemmas.Bool.{cases_Bool, eqb-true, eq-eqb, both_ways}
+use Rattle.lp_format.specs.format.Dialects.{Dialect}
+use Rattle.lp_format.specs.format.Bytes.{comma, equals, space}
+use Rattle.lp_format.specs.format.Readings.{Side, Fault, measurement_value_invalid, field_set_missing, ends_with_backslash}
+use Rattle.lp_format.specs.format.Readings.{tag_set_malformed, take_while1, timestamp_value_invalid, cannot_parse_entire_line}
+use Rattle.lp_format.specs.format.Readings.{Text, Read, Reading, miss, fatal, reads, ◌>>=◌}
+use Rattle.lp_format.specs.format.Names.{NameKind, a_measurement, a_tag_key, a_tag_value, ends_in_backslash, logical, name}
+use Rattle.lp_format.specs.format.Names.{spelled}
+use Rattle.lp_format.specs.format.Values.{Value, integer_len, fits_i64, side_of}
+use Rattle.lp_format.specs.format.Points.{Pair}
+use Rattle.lp_format.specs.format.Lines.{Line, byte, tag, field, separated_list, tag_set, without_comma, spaces, timestamp}
+use Rattle.lp_format.specs.format.Lines.{answer}
+use Rattle.lp_format.specs.laws.Meanings.{WholeList, NextHasFault}
+use Rattle.lp_format.specs.laws.MeaningsOfAnswers.{BeginsWith, after_spaces, ReadsSeries, ReadsSeries.alone}
+use Rattle.lp_format.specs.laws.MeaningsOfAnswers.{ReadsSeries.tagged, ReadsFields, IsAnswer, IsAnswer.fatal_measurement}
+use Rattle.lp_format.specs.laws.MeaningsOfAnswers.{IsAnswer.no_measurement, IsAnswer.fatal_tag, IsAnswer.no_tag}
+use Rattle.lp_format.specs.laws.MeaningsOfAnswers.{IsAnswer.no_space, IsAnswer.fatal_field, IsAnswer.no_field}
+use Rattle.lp_format.specs.laws.MeaningsOfAnswers.{IsAnswer.fatal_timestamp, IsAnswer.left, IsAnswer.all_read, AnswerIsByRows}
+use Rattle.lp_format.proofs.lemmas.meanings.JoinedMeaning.{the_most_is_read, the_next_has_the_fault, the_first_misses}
+use Rattle.lp_lines.proofs.lemmas.line.LightLemmas.{tag_set_ends}
+use Rattle.lp_lines.proofs.lemmas.read_back.LineReadsBack.{front_is}
+use Rattle.lp_values.proofs.lemmas.fields.ReadingLemmas.{EndsIn, EndsIn-end, name_ends}
+use Rattle.lp_format.proofs.lemmas.meanings.ShorterRests.{tag_no_longer, field_no_longer}
+
+-- the one fault that a name can have is that it ends in a backslash
+record FailsByBackslash {A : Type 0} (r : Reading A) : Type 0 where
+  holds : (e : Fault) → r ≡ fatal e → e ≡ ends_with_backslash
+
+-- of a name
+name_fault : (kind : NameKind) (text : List ℕ) → FailsByBackslash (name kind text)
+unfolding name
+name_fault kind text = record {
+  holds = λ e h. elim (cases_Bool (length (spelled kind text) == 0)) [
+    | inl none ↦ absurd (let m = rw none at h in cc)
+    | inr some ↦ elim (cases_Bool (ends_in_backslash (logical kind (spelled kind text)))) [
+      | inl ends ↦ let m = rw (some, ends) at h in cc
+      | inr other ↦ absurd (let m = rw (some, other) at h in cc)
+    ]
+  ];
+}
+
+-- of two parts
+fault_of_two : {A B : Type 0} (r : Reading A) (f : Read A → Reading B) → FailsByBackslash r → ((x : Read A) → FailsByBackslash (f x))
+    → FailsByBackslash (r >>= f)
+fault_of_two miss f h k = record { holds = λ e m. absurd (cc) }
+fault_of_two (fatal d) f h k = record { holds = λ e m. let same : d ≡ e = cc in sym same ∙ h.holds d refl }
+fault_of_two (reads x rest) f h k = k (record { value = x; rest = rest })
+
+-- a byte has none
+byte_fault : (b : ℕ) (text : List ℕ) → FailsByBackslash (byte b text)
+byte_fault b [] = record { holds = λ e m. absurd (cc) }
+byte_fault b (c ∷ rest) = record {
+  holds = λ e m. elim (cases_Bool (c == b)) [
+    | inl same ↦ absurd (let h = rw same at m in cc)
+    | inr other ↦ absurd (let h = rw other at m in cc)
+  ];
+}
+
+-- nor what is read
+reads_fault : {A : Type 0} (x : A) (rest : List ℕ) → FailsByBackslash (reads x rest)
+reads_fault x rest = record { holds = λ e m. absurd (cc) }
+
+-- of a tag
+tag_fault : (text : List ℕ) → FailsByBackslash (tag text)
+unfolding tag
+tag_fault text =
+    fault_of_two (name a_tag_key text) _ (name_fault a_tag_key text) (λ key.
+    fault_of_two (byte equals key.rest) _ (byte_fault equals key.rest) (λ after.
+    fault_of_two (name a_tag_value after.rest) _ (name_fault a_tag_value after.rest) (λ x.
+    reads_fault (record { key = key.value; value = x.value }) x.rest)))
+
+-- so of the next tag
+next_tag_fault : (tags : List (Pair Text Text)) (rest : List ℕ) (e : Fault) → NextHasFault tag tags rest e → e ≡ ends_with_backslash
+next_tag_fault [] rest e h = (tag_fault rest).holds e h
+next_tag_fault (t ∷ tags) rest e h = (tag_fault h.0).holds e h.2
+
+-- the fault of a timestamp is that it is out of range
+stamp_fault : (text : List ℕ) (e : Fault) → timestamp text ≡ Err e → (side : Side) × (number : List ℕ)
+    × (e ≡ timestamp_value_invalid side number)
+stamp_fault text e h =
+    let after = drop (spaces text) text in
+    let number = take (integer_len after) after in
+    elim (cases_Bool (spaces text == 0 || integer_len after == 0)) [
+      | inl none ↦ absurd (let m = rw none at h in cc)
+      | inr some ↦ elim (cases_Bool (fits_i64 (signed_digits_value 10 number))) [
+        | inl fits ↦ absurd (let m = rw (some, fits) at h in cc)
+        | inr beyond ↦ (side_of number, number, let m = rw (some, beyond) at h in cc)
+      ]
+    ]
+
+-- the tags in full are what commas join
+tags_read : (text : List ℕ) (tags : List (Pair Text Text)) (rest : List ℕ) → WholeList tag text tags rest
+    → separated_list tag text ≡ reads tags rest
+tags_read text tags rest h = (the_most_is_read tag (λ t. (tag_no_longer t).holds) text tags rest).1 h
+
+-- and so are the fields
+pub fields_read : (text : List ℕ) (fields : List (Pair Text (Value Text))) (rest : List ℕ) → WholeList field text fields rest
+    → separated_list field text ≡ reads fields rest
+fields_read text fields rest h = (the_most_is_read field (λ t. (field_no_longer t).holds) text fields rest).1 h
+
+-- a text that does not begin with this byte
+no_byte : (b : ℕ) (text : List ℕ) → ¬ BeginsWith b text → byte b text ≡ miss
+no_byte b [] h = refl
+no_byte b (c ∷ rest) h = elim (cases_Bool (c == b)) [ inl e ↦ absurd (h (eqb-true c b e)) | inr other ↦ rw other refl ]
+
+-- what a series is read from
+pub record Series (text : List ℕ) (m : Text) (tags : Option (List (Pair Text Text))) (rest : List ℕ) : Type 0 where
+  pub after : List ℕ
+  pub named : name a_measurement text ≡ reads m after
+  pub set : tag_set after ≡ Ok (record { value = tags; rest = rest })
+
+-- each series that is read is such
+pub series_parts : {text : List ℕ} {m : Text} {tags : Option (List (Pair Text Text))} {rest : List ℕ} → ReadsSeries text m tags rest
+    → Series text m tags rest
+series_parts (alone m rest named none) = record { after = rest; named = named; set = rw (no_byte comma rest none) refl }
+series_parts (tagged m tags after rest named h) = record { after = 44 ∷ after; named = named; set = rw (tags_read after tags rest h) refl }
+
+-- a space at the start of a text
+space_here : (text : List ℕ) → BeginsWith space text → (after : List ℕ) × (byte space text ≡ reads space after)
+space_here [] h = absurd h
+space_here (c ∷ rest) h = let e = eq-eqb c 32 h in (rest, rw e refl)
+
+-- a text begins with this byte, or does not
+begins : (b : ℕ) (text : List ℕ) → ((rest : List ℕ) × (text ≡ b ∷ rest)) ⊎ ¬ BeginsWith b text
+begins b [] = inr (λ s. s)
+begins b (c ∷ rest) = elim (cases_Bool (c == b)) [
+  | inl here ↦ inl (rest, ap (λ (x : ℕ). x ∷ rest) (eqb-true c b here))
+  | inr other ↦ inr (λ s. both_ways (c == b) other (eq-eqb c b s))
+]
+
+module _ (dialect : Dialect) (text : List ℕ) where
+  -- each row gives its answer, by what the parts read
+  row_answers : {a : Result Line Fault} → IsAnswer dialect text a → answer dialect text ≡ a
+  unfolding answer
+  row_answers (fatal_measurement e h) = rw h (ap Err ((name_fault a_measurement text).holds e h))
+  row_answers (no_measurement h) = rw h refl
+  row_answers (fatal_tag m after tags rest e named most next) =
+      let fault = (the_next_has_the_fault tag (λ t. (tag_no_longer t).holds) after e).1 (tags, rest, most, next) in
+      rw (named, fault) (ap Err (next_tag_fault tags rest e next))
+  row_answers (no_tag m after named h) = rw (named, h) refl
+  row_answers (no_space m tags rest series gap) = let s = series_parts series in rw (s.named, s.set, no_byte space rest gap) refl
+  row_answers (fatal_field m tags after fields rest e series gap most next) =
+      let s = series_parts series in
+      let g = space_here after gap in
+      let fault = (the_next_has_the_fault field (λ t. (field_no_longer t).holds) (after_spaces after) e).1 (fields, rest, most, next) in
+      rw (s.named, s.set, g.1, fault) refl
+  row_answers (no_field m tags after series gap h) =
+      let s = series_parts series in
+      let g = space_here after gap in
+      rw (s.named, s.set, g.1, h) refl
+  row_answers (fatal_timestamp line rest side number r stamp) =
+      let s = series_parts r.series_reads in
+      let g = space_here r.after_series r.gap in
+      let fields = fields_read (after_spaces r.after_series) line.fields r.after_fields r.fields_read in
+      rw (s.named, s.set, g.1, fields, ap timestamp (sym r.rest_is) ∙ stamp) refl
+  row_answers (left line rest b more r stamp) =
+      let s = series_parts r.series_reads in
+      let g = space_here r.after_series r.gap in
+      let fields = fields_read (after_spaces r.after_series) line.fields r.after_fields r.fields_read in
+      rw (s.named, s.set, g.1, fields, ap timestamp (sym r.rest_is) ∙ stamp) refl
+  row_answers (all_read line rest r stamp) =
+      let s = series_parts r.series_reads in
+      let g = space_here r.after_series r.gap in
+      let fields = fields_read (after_spaces r.after_series) line.fields r.after_fields r.fields_read in
+      rw (
+        s.named,
+        s.set,
+        g.1,
+        fields,
+        ap timestamp (sym r.rest_is) ∙ stamp,
+        front_is text line.series r.after_series r.series_is,
+      ) refl
+
+  -- some row holds
+  abbrev SomeRow : Type 0
+  SomeRow = (a : Result Line Fault) × IsAnswer dialect text a
+
+  -- once all fields are read
+  by_stamp : (line : Option ℤ → Line) (rest : List ℕ) → ((t : Option ℤ) → ReadsFields dialect text (line t) rest)
+      → ((t : Option ℤ) → (line t).timestamp ≡ t)
+      → (r : Result (Read (Option ℤ)) Fault) → timestamp rest ≡ r → SomeRow
+  by_stamp line rest h same (Err e) stamp =
+      let f = stamp_fault rest e stamp in
+      (Err (timestamp_value_invalid f.0 f.1), fatal_timestamp (line None) rest f.0 f.1 (h None) (stamp ∙ ap Err f.2))
+  by_stamp line rest h same (Ok r) stamp = whole r.value r.rest stamp
+    where
+      whole : (t : Option ℤ) (last : List ℕ) → timestamp rest ≡ Ok (record { value = t; rest = last }) → SomeRow
+      whole t [] e =
+          (Ok (line t), all_read (line t) rest (h t) (e ∙ ap (λ (u : Option ℤ). Ok (record { value = u; rest = [] })) (sym (same t))))
+      whole t (b ∷ more) e = (
+        Err (cannot_parse_entire_line (b ∷ more)),
+        left (line t) rest b more (h t)
+            (e ∙ ap (λ (u : Option ℤ). Ok (record { value = u; rest = b ∷ more })) (sym (same t))),
+      )
+
+  -- once a series is read and a space follows it
+  by_fields : (series : List ℕ) (m : Text) (tags : Option (List (Pair Text Text))) (after : List ℕ) → text ≡ series ++ after
+      → ReadsSeries text m tags after → BeginsWith space after
+      → (r : Reading (List (Pair Text (Value Text)))) → separated_list field (after_spaces after) ≡ r → SomeRow
+  by_fields series m tags after is h gap miss e = (
+    Err field_set_missing,
+    no_field m tags after h gap
+        ((the_first_misses field (λ t. (field_no_longer t).holds) (after_spaces after)).0 e),
+  )
+  by_fields series m tags after is h gap (fatal d) e =
+      let f = (the_next_has_the_fault field (λ t. (field_no_longer t).holds) (after_spaces after) d).0 e in
+      (Err d, fatal_field m tags after f.0 f.1 d h gap f.2 f.3)
+  by_fields series m tags after is h gap (reads fields last) e =
+      let separated = (the_most_is_read field (λ t. (field_no_longer t).holds) (after_spaces after) fields last).0 e in
+      let rest = without_comma dialect fields last in
+      by_stamp (λ t. record { series = series; measurement = m; tags = tags; fields = fields; timestamp = t }) rest
+      (λ t. record {
+        after_series = after;
+        series_is = is;
+        series_reads = h;
+        gap = gap;
+        after_fields = last;
+        fields_read = separated;
+        rest_is =
+            refl;
+      })
+      (λ t. refl) (timestamp rest) refl
+
+  -- once a series is read
+  by_series : (m : Text) (tags : Option (List (Pair Text Text))) (after : List ℕ) → ReadsSeries text m tags after → SomeRow
+  by_series m tags after h = elim (begins 32 after) [
+    | inl here ↦
+        let parts = series_parts h in
+        let ends : EndsIn text after = EndsIn-end text parts.after after (name_ends a_measurement text m parts.after parts.named)
+        (tag_set_ends parts.after (record { value = tags; rest = after }) parts.set) in
+        by_fields ends.front m tags after ends.is h (subst (BeginsWith space) (sym here.1) refl)
+        (separated_list field (after_spaces after)) refl
+    | inr none ↦ (Err take_while1, no_space m tags after h none)
+  ]
+
+  -- once a measurement and a comma are read
+  by_tags : (m : Text) (after : List ℕ) → name a_measurement text ≡ reads m (comma ∷ after) → (r : Reading (List (Pair Text Text)))
+      → separated_list tag after ≡ r → SomeRow
+  by_tags m after named miss e =
+      (Err tag_set_malformed, no_tag m after named ((the_first_misses tag (λ t. (tag_no_longer t).holds) after).0 e))
+  by_tags m after named (fatal d) e =
+      let f = (the_next_has_the_fault tag (λ t. (tag_no_longer t).holds) after d).0 e in
+      (Err ends_with_backslash, fatal_tag m after f.0 f.1 d named f.2 f.3)
+  by_tags m after named (reads tags rest) e =
+      by_series m (Some tags) rest
+      (tagged m tags after rest named ((the_most_is_read tag (λ t. (tag_no_longer t).holds) after tags rest).0 e))
+
+  -- once a measurement is read
+  by_comma : (m : Text) (suffix : List ℕ) → name a_measurement text ≡ reads m suffix → SomeRow
+  by_comma m suffix named = elim (begins 44 suffix) [
+    | inl here ↦ by_tags m here.0 (named ∙ ap (reads m) here.1) (separated_list tag here.0) refl
+    | inr none ↦ by_series m None suffix (alone m suffix named none)
+  ]
+
+  -- by what the measurement is read as
+  by_name : (r : Reading Text) → name a_measurement text ≡ r → SomeRow
+  by_name miss e = (Err measurement_value_invalid, no_measurement e)
+  by_name (fatal d) e = (Err ends_with_backslash, fatal_measurement d e)
+  by_name (reads m suffix) e = by_comma m suffix e
+
+-- the rows give the answer of each text
+pub answer_is_by_rows : AnswerIsByRows
+answer_is_by_rows dialect text a =
+    let some = by_name dialect text (name a_measurement text) refl in (
+      (λ e. subst (IsAnswer dialect text) (sym (row_answers dialect text some.1) ∙ e) some.1),
+      row_answers dialect text,
+    )

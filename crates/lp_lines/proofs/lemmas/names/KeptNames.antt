@@ -1,0 +1,215 @@
+-- The bytes of a name that is read: the text of a spelling is a parsed name.
+use Rattle.std.proofs.Common.{◌≡◌, ◌≢◌, ℕ, zero, suc, ◌-◌, ◌<◌, List, [], ◌∷◌, ◌++◌, length, take, slice_index, Bool, true, false, not}
+use Rattle.std.proofs.Common.{◌&&◌, ◌||◌, refl, sym, ap, ◌∙◌, subst, arith, inl, inr}
+use Rattle.std.specs.Prelude.{◌==◌}
+use Rattle.std.proofs.lemmas.Bool.{cases_Bool, false≢true, and_parts, and_from, or_left, or_right, or_cases, not_from_true, not_from_false}
+use Rattle.std.proofs.lemmas.Bool.{eq-eqb, eqb-true}
+use Rattle.std.proofs.lemmas.Grind.{common_steps}
+use Rattle.lp_format.specs.format.Bytes.{is_one_of}
+use Rattle.lp_format.specs.format.Escapes.{without_escapes}
+use Rattle.lp_format.specs.format.Readings.{Text, reads}
+use Rattle.lp_format.specs.format.Names.{NameKind, a_measurement, a_tag_key, a_tag_value, a_field_key, ends_in_backslash}
+use Rattle.lp_format.specs.format.Names.{escapable, is_escapable, is_stop, logical, name, read_text, spelled, spelled_len}
+use Rattle.lp_format.specs.format.Points.{never_in}
+use Rattle.lp_format.specs.laws.NamesOfLines.{IsParsedName, BeginsNoComment}
+use Rattle.lp_format.proofs.lemmas.names.NameLemmas.{name_misses, name_fatal, name_reads, logical_ends}
+use Rattle.lp_format.proofs.lemmas.read_back.NameReadsBack.{may_hold}
+use Rattle.lp_split.proofs.lemmas.split.ScanLemmas.{bare_len, first_bare_len}
+
+-- whether each byte that may only come after a backslash does, from whether a backslash comes before the text
+abbrev pub is_kept : NameKind → Bool → List ℕ → Bool
+is_kept kind after [] = true
+is_kept kind after (b ∷ n) = (may_hold kind b || after) && is_kept kind (b == 92) n
+
+-- whether each stop byte of a text is escaped, from whether the place before it is
+abbrev is_closed : NameKind → Bool → List ℕ → Bool
+is_closed kind escaped [] = true
+is_closed kind escaped (b ∷ text) = (not (is_stop kind b) || escaped) && is_closed kind (not escaped && b == 92) text
+
+-- a byte that ends no name may be in one
+unstopped_may : (kind : NameKind) (b : ℕ) → is_stop kind b ≡ false → may_hold kind b ≡ true
+unstopped_may a_measurement b h = grind (arith, common_steps)
+unstopped_may a_tag_key b h = grind (arith, common_steps)
+unstopped_may a_tag_value b h = grind (arith, common_steps)
+unstopped_may a_field_key b h = grind (arith, common_steps)
+
+-- a byte that a backslash escapes may be in a name
+pub escapable_may : (kind : NameKind) (b : ℕ) → is_escapable kind b ≡ true → may_hold kind b ≡ true
+escapable_may a_measurement b h = grind (arith, common_steps)
+escapable_may a_tag_key b h = grind (arith, common_steps)
+escapable_may a_tag_value b h = grind (arith, common_steps)
+escapable_may a_field_key b h = grind (arith, common_steps)
+
+-- a byte that is no bare stop
+no_bare_stop : (s e : Bool) → (s && not e) ≡ false → (not s || e) ≡ true
+no_bare_stop true true h = refl
+no_bare_stop true false h = absurd (false≢true (sym h))
+no_bare_stop false e h = refl
+
+-- the same of a byte at a place that is not escaped
+no_stop : (s : Bool) → (not s || false) ≡ true → s ≡ false
+no_stop true h = absurd (false≢true h)
+no_stop false h = refl
+
+-- what comes before the first bare stop holds none
+before_stop_closed : (kind : NameKind) (escaped : Bool) (text : List ℕ)
+    → is_closed kind escaped (take (bare_len (is_stop kind) escaped text) text) ≡ true
+before_stop_closed kind escaped [] = refl
+before_stop_closed kind escaped (b ∷ text) =
+    elim (cases_Bool (is_stop kind b && not escaped)) [
+      | inl stop ↦ rw stop refl
+      | inr on ↦ rw on (and_from (not (is_stop kind b) || escaped) _ (no_bare_stop (is_stop kind b) escaped on)
+          (before_stop_closed kind (not escaped && b == 92) text))
+    ]
+
+-- the bytes of the logical text of a spelling are kept
+logical_kept : (kind : NameKind) (after : Bool) (text : List ℕ) → is_closed kind false text ≡ true
+    → is_kept kind after (logical kind text) ≡ true
+unfolding without_escapes
+logical_kept kind after [] h = refl
+logical_kept kind after (b ∷ []) h =
+    let may = unstopped_may kind b (no_stop (is_stop kind b) (and_parts (not (is_stop kind b) || false) true h).0) in
+    and_from (may_hold kind b || after) true (or_left (may_hold kind b) after may) refl
+logical_kept kind after (b ∷ c ∷ rest) h =
+    let parts = and_parts (not (is_stop kind b) || false) (is_closed kind (b == 92) (c ∷ rest)) h in
+    let may : may_hold kind b ≡ true = unstopped_may kind b (no_stop (is_stop kind b) parts.0) in
+    let first : (may_hold kind b || after) ≡ true = or_left (may_hold kind b) after may in
+    elim (cases_Bool (b == 92)) [
+      | inl e ↦
+          let more : is_closed kind true (c ∷ rest) ≡ true = rw e at parts.1 in
+          let closed : is_closed kind false rest ≡ true = (and_parts (not (is_stop kind c) || true) (is_closed kind false rest) more).1 in
+          elim (cases_Bool (is_escapable kind c)) [
+            | inl known ↦ rw (e, known)
+                (and_from (may_hold kind c || after) _
+                (or_left (may_hold kind c) after (escapable_may kind c known)) (logical_kept kind (c == 92) rest closed))
+            | inr unknown ↦ rw (e, unknown)
+                (and_from (may_hold kind b || after) _ first
+                (and_from (may_hold kind c || (b == 92)) _ (or_right (may_hold kind c) (b == 92) e)
+                (logical_kept kind (c == 92) rest closed)))
+          ]
+      | inr e ↦
+          let more : is_closed kind false (c ∷ rest) ≡ true = rw e at parts.1 in
+          rw e (and_from (may_hold kind b || after) _ first (logical_kept kind (b == 92) (c ∷ rest) more))
+    ]
+
+-- whether a text ends in a backslash, or, where it is empty, what is said of the place before it
+abbrev ends_after : Bool → List ℕ → Bool
+ends_after after [] = after
+ends_after after (b ∷ text) = ends_after (b == 92) text
+
+-- the same, from the last byte
+ends_after_is : (b : ℕ) (text : List ℕ) → ends_after (b == 92) text ≡ ends_in_backslash (b ∷ text)
+ends_after_is b [] = refl
+ends_after_is b (c ∷ text) =
+    let e : length (b ∷ c ∷ text) - 1 ≡ suc (length (c ∷ text) - 1) = omega arith in
+    rw e (ends_after_is c text)
+
+-- with nothing before it
+ends_from_start : (text : List ℕ) → ends_after false text ≡ ends_in_backslash text
+ends_from_start [] = refl
+ends_from_start (b ∷ text) = ends_after_is b text
+
+-- a byte of a text whose bytes are kept
+kept_place : (kind : NameKind) (suffix : Bool) (front back : List ℕ) (b : ℕ)
+    → is_kept kind suffix (front ++ b ∷ back) ≡ true → is_one_of (never_in kind) b ≡ true
+    → ends_after suffix front ≡ true
+kept_place kind suffix [] back b h never =
+    elim (or_cases (may_hold kind b) suffix (and_parts (may_hold kind b || suffix) _ h).0) [
+      | inl may ↦ absurd (false≢true (sym (not_from_true _ never) ∙ may))
+      | inr after ↦ after
+    ]
+kept_place kind suffix (x ∷ front) back b h never = kept_place kind (x == 92) front back b
+    (and_parts (may_hold kind x || suffix) _ h).1 never
+
+-- and from all such bytes
+kept_from : (kind : NameKind) (after : Bool) (n : List ℕ)
+    → ((front back : List ℕ) (b : ℕ) → n ≡ front ++ b ∷ back → is_one_of (never_in kind) b ≡ true → ends_after after front ≡ true)
+    → is_kept kind after n ≡ true
+kept_from kind after [] h = refl
+kept_from kind after (b ∷ n) h =
+    let first : (may_hold kind b || after) ≡ true = elim (cases_Bool (is_one_of (never_in kind) b)) [
+      | inl never ↦ or_right (may_hold kind b) after (h [] n b refl never)
+      | inr other ↦ or_left (may_hold kind b) after (not_from_false _ other)
+    ] in
+    and_from (may_hold kind b || after) _ first
+    (kept_from kind (b == 92) n (λ front back c e never. h (b ∷ front) back c (ap (λ (xs : List ℕ). b ∷ xs) e) never))
+
+-- a parsed name, by the test of its bytes
+pub name_kept : (kind : NameKind) (n : List ℕ) → IsParsedName kind n → is_kept kind false n ≡ true
+name_kept kind n h = kept_from kind false n (λ front back b e never. ends_from_start front ∙ h.after_backslash front back b e never)
+
+-- a spelling begins as the text does
+front_begins : (n : ℕ) (text : List ℕ) → slice_index text 0 ≢ 35 → slice_index (take n text) 0 ≢ 35
+front_begins zero text h = omega arith
+front_begins (suc n) [] h = omega arith
+front_begins (suc n) (b ∷ text) h = h
+
+-- no escape makes a `#`
+hash_unescapable : (b : ℕ) → is_escapable a_measurement b ≡ true → b ≢ 35
+hash_unescapable b h = λ e. let other : is_escapable a_measurement b ≡ false = ap (is_escapable a_measurement) e in
+    false≢true (sym other ∙ h)
+
+-- a measurement begins with `#` only where its spelling does
+logical_begins : (text : List ℕ) → slice_index text 0 ≢ 35 → slice_index (logical a_measurement text) 0 ≢ 35
+unfolding without_escapes
+logical_begins [] h = omega arith
+logical_begins (b ∷ []) h = h
+logical_begins (b ∷ c ∷ rest) h =
+    elim (cases_Bool (b == 92)) [
+      | inl e ↦ elim (cases_Bool (is_escapable a_measurement c))
+          [ inl known ↦ rw (e, known) (hash_unescapable c known) | inr unknown ↦ rw (e, unknown) h ]
+      | inr e ↦ rw e h
+    ]
+
+-- where the text does not begin with `#`, neither does its measurement
+name_begins : (kind : NameKind) (text : List ℕ) → BeginsNoComment kind text → BeginsNoComment kind (logical kind (spelled kind text))
+name_begins a_measurement text h = logical_begins (spelled a_measurement text) (front_begins (spelled_len a_measurement text) text h)
+name_begins a_tag_key text h = tt
+name_begins a_tag_value text h = tt
+name_begins a_field_key text h = tt
+
+-- the logical text of a text that is not empty is not empty
+logical_some : (kind : NameKind) (text : List ℕ) → length text ≢ 0 → 0 < length (logical kind text)
+unfolding without_escapes
+logical_some kind [] h = absurd (h refl)
+logical_some kind (b ∷ []) h = omega arith
+logical_some kind (b ∷ c ∷ rest) h =
+    elim (cases_Bool (b == 92)) [
+      | inl e ↦ elim (cases_Bool (is_escapable kind c))
+          [ inl known ↦ rw (e, known) (omega arith) | inr unknown ↦ rw (e, unknown) (omega arith) ]
+      | inr e ↦ rw e (omega arith)
+    ]
+
+-- the logical text of a spelling is a parsed name, unless it is empty or ends in a backslash
+spelled_is_parsed : (kind : NameKind) (text : List ℕ) → length (spelled kind text) ≢ 0
+    → ends_in_backslash (spelled kind text) ≡ false → BeginsNoComment kind text
+    → IsParsedName kind (logical kind (spelled kind text))
+spelled_is_parsed kind text some ends begins =
+    let closed : is_closed kind false (spelled kind text) ≡ true =
+    subst (λ n. is_closed kind false (take n text) ≡ true) (sym (first_bare_len (is_stop kind) text))
+    (before_stop_closed kind false text) in
+    let kept = logical_kept kind false (spelled kind text) closed in
+    record {
+      some = logical_some kind (spelled kind text) some;
+      ends = logical_ends kind (spelled kind text) ∙ ends;
+      begins = name_begins kind text begins;
+      after_backslash = λ front back b e never.
+          sym (ends_from_start front) ∙ kept_place kind false front back b (subst (λ n. is_kept kind false n ≡ true) e kept) never;
+    }
+
+-- each name that is read is a parsed name
+pub name_parsed : (kind : NameKind) (text rest : List ℕ) (x : Text) → name kind text ≡ reads x rest
+    → BeginsNoComment kind text → IsParsedName kind x.bytes
+name_parsed kind text rest x h begins =
+    elim (cases_Bool (length (spelled kind text) == 0)) [
+      | inl none ↦ let e = name_misses kind text (eqb-true _ 0 none) in absurd (cc)
+      | inr some ↦
+          let ne : length (spelled kind text) ≢ 0 = λ e. false≢true (sym some ∙ eq-eqb _ 0 e) in
+          elim (cases_Bool (ends_in_backslash (spelled kind text))) [
+            | inl ends ↦ let e = name_fatal kind text (omega arith) ends in absurd (cc)
+            | inr ends ↦
+                let e = name_reads kind text (omega arith) ends in
+                let same : read_text (escapable kind) (spelled kind text) ≡ x = cc in
+                subst (λ (y : Text). IsParsedName kind y.bytes) same (spelled_is_parsed kind text ne ends begins)
+          ]
+    ]

@@ -1,0 +1,239 @@
+-- Which names lines can have, and that they can have each of them.
+use Rattle.std.proofs.Common.{◌≡◌, ◌≢◌, ℕ, List, [], ◌∷◌, length, drop, map, slice_index, Bool, true, false, ◌||◌, refl, sym, ap, subst}
+use Rattle.std.proofs.Common.{arith, inl, inr, Option, None, Ok, Result}
+use Rattle.std.specs.Prelude.{◌==◌, ℤ}
+use Rattle.std.specs.List.{AllByRecursion, Contains}
+use Rattle.std.proofs.lemmas.Bool.{cases_Bool, or_parts, eqb-false, eqb-true}
+use Rattle.std.proofs.lemmas.List.Elements.{Contains-append_cases}
+use Rattle.lp_format.specs.format.Dialects.{Dialect, Strict}
+use Rattle.lp_format.specs.format.Readings.{Fault, Text}
+use Rattle.lp_format.specs.format.Readings.{reads}
+use Rattle.lp_format.specs.format.Names.{NameKind, a_measurement, a_tag_key, a_tag_value, a_field_key, name}
+use Rattle.lp_format.specs.format.Values.{Value, value}
+use Rattle.lp_format.specs.format.Points.{Pair, Point, Tag}
+use Rattle.lp_format.specs.format.Trimming.{trimmed}
+use Rattle.lp_format.specs.format.Lines.{Line, point_of, logical_tag, logical_field, some_tags, tag, field}
+use Rattle.lp_format.specs.format.Lines.{separated_list, tag_set, field_set, without_comma, spaces, timestamp}
+use Rattle.lp_format.specs.format.Lines.{front_before, answer}
+use Rattle.lp_format.specs.format.Items.{HasAnswers, answers_of_piece, answers_of}
+use Rattle.lp_format.specs.laws.NamesOfLines.{names_of, IsParsedName, IsNothingOrSpaced}
+use Rattle.lp_format.specs.laws.Laws.{NamesAreParsed, StrictFieldsEnd}
+use Rattle.lp_format.proofs.lemmas.line.TrimLemmas.{is_blank, left_of, trimmed_is}
+use Rattle.lp_lines.proofs.lemmas.names.KeptNames.{name_parsed}
+use Rattle.lp_format.proofs.lemmas.names.Inversions.{after_all, joined_of}
+use Rattle.lp_format.specs.laws.MeaningsOfAnswers.{after_spaces, IsAnswer, IsAnswer.all_read}
+use Rattle.lp_lines.proofs.lemmas.meanings.AnswerMeaning.{answer_is_by_rows, fields_read, series_parts}
+use Rattle.lp_format.proofs.lemmas.meanings.ShorterRests.{field_no_longer}
+use Rattle.lp_lines.proofs.lemmas.series.BasesTellSeries.{set_separated}
+use Rattle.lp_lines.proofs.lemmas.read_back.LineReadsBack.{front_is}
+use Rattle.lp_values.proofs.lemmas.fields.ReadingLemmas.{bind_reads, pair_parts}
+use Rattle.lp_format.proofs.lemmas.lists.Elements.{first_or_later}
+
+-- the names of a tag, and that of a field
+abbrev ParsedTag : Pair Text Text → Type 0
+ParsedTag t = IsParsedName a_tag_key t.key.bytes × IsParsedName a_tag_value t.value.bytes
+
+-- the key of a field is a parsed name
+abbrev ParsedField : Pair Text (Value Text) → Type 0
+ParsedField f = IsParsedName a_field_key f.key.bytes
+
+-- the names of each tag that is read
+tag_parsed : (line : List ℕ) (t : Pair Text Text) (rest : List ℕ) → tag line ≡ reads t rest → ParsedTag t
+unfolding tag
+tag_parsed line t rest h =
+    let p = pair_parts a_tag_key (name a_tag_value) line t rest h in
+    (name_parsed a_tag_key line (61 ∷ p.mid) t.key p.key tt, name_parsed a_tag_value p.mid rest t.value p.value tt)
+
+-- the key of each field that is read
+field_parsed : (line : List ℕ) (f : Pair Text (Value Text)) (rest : List ℕ) → field line ≡ reads f rest → ParsedField f
+unfolding field
+field_parsed line f rest h =
+    let p = pair_parts a_field_key value line f rest h in name_parsed a_field_key line (61 ∷ p.mid) f.key p.key tt
+
+-- two parts that are read are the same where their results are
+pub ok_same : {A : Type 0} (x y : A) → (let f : Result A Fault = Ok x in f) ≡ Ok y → x ≡ y
+ok_same x y h = cc
+
+-- the tags of a set
+tag_set_parsed : (line rest : List ℕ) (ts : Option (List (Pair Text Text)))
+    → tag_set line ≡ Ok (record { value = ts; rest = rest }) → AllByRecursion ParsedTag (some_tags ts)
+tag_set_parsed line rest ts h = after_all ParsedTag tag tag_parsed (some_tags ts) line rest (set_separated line rest ts h)
+
+-- the fields
+field_set_parsed : (dialect : Dialect) (line rest : List ℕ) (fs : List (Pair Text (Value Text)))
+    → field_set dialect line ≡ reads fs rest → AllByRecursion ParsedField fs
+field_set_parsed dialect line rest fs h =
+    let parts = bind_reads (separated_list field line) (λ xs. reads xs.value (without_comma dialect xs.value xs.rest)) fs rest h in
+    let same : parts.first ≡ fs = cc (parts.next) in
+    subst (AllByRecursion ParsedField) same
+    (joined_of ParsedField field field_parsed (λ t. (field_no_longer t).holds) line parts.mid parts.first parts.was)
+
+-- what the parts of an answer were read from
+pub record Parts (dialect : Dialect) (line : List ℕ) (l : Line) : Type 0 where
+  pub measurement_rest : List ℕ
+  pub tags_rest : List ℕ
+  pub fields_rest : List ℕ
+  pub series : l.series ≡ front_before line tags_rest
+  pub measurement : name a_measurement line ≡ reads l.measurement measurement_rest
+  pub tags : tag_set measurement_rest ≡ Ok (record { value = l.tags; rest = tags_rest })
+  pub fields : field_set dialect (drop (spaces tags_rest) tags_rest) ≡ reads l.fields fields_rest
+  pub stamp : timestamp fields_rest ≡ Ok (record { value = l.timestamp; rest = [] })
+
+-- the parts of each line that is answered
+pub answer_parts : (dialect : Dialect) (line : List ℕ) (l : Line) → answer dialect line ≡ Ok l → Parts dialect line l
+answer_parts dialect line l h = by_row ((answer_is_by_rows dialect line (Ok l)).0 h)
+  where
+    by_row : IsAnswer dialect line (Ok l) → Parts dialect line l
+    by_row (all_read _ rest r stamp) =
+        let s = series_parts r.series_reads in
+        let fields = fields_read (after_spaces r.after_series) l.fields r.after_fields r.fields_read in
+        record {
+          measurement_rest = s.after;
+          tags_rest = r.after_series;
+          fields_rest = rest;
+          series = sym (front_is line l.series r.after_series r.series_is);
+          measurement = s.named;
+          tags = s.set;
+          fields = rw fields (ap (reads l.fields) (sym r.rest_is));
+          stamp = stamp;
+        }
+
+-- a text that is a timestamp to its end begins with a space
+stamp_begins : (text : List ℕ) (t : Option ℤ) → timestamp text ≡ Ok (record { value = t; rest = [] }) → IsNothingOrSpaced text
+stamp_begins [] t h = inl refl
+stamp_begins (b ∷ text) t h =
+    elim (cases_Bool (b == 32)) [
+      | inl e ↦ inr (text, ap (λ (x : ℕ). x ∷ text) (eqb-true b 32 e))
+      | inr other ↦
+          let none = rw other at h in
+          let left : b ∷ text ≡ [] = ap (λ r. r.rest)
+          (ok_same (record { value = None; rest = b ∷ text }) (record { value = t; rest = [] }) none) in
+          absurd (cc)
+    ]
+
+-- nothing follows the fields of a line in the strict dialect, or a space does
+pub strict_fields_end : StrictFieldsEnd
+strict_fields_end text line h =
+    let parts = answer_parts Strict text line h in
+    record {
+      measurement_rest = parts.measurement_rest;
+      tags_rest = parts.tags_rest;
+      fields_rest = parts.fields_rest;
+      measurement = parts.measurement;
+      tags = parts.tags;
+      fields = parts.fields;
+      ends = stamp_begins parts.fields_rest line.timestamp parts.stamp;
+    }
+
+-- what is left of a text does not begin with `#`
+left_begins : (in_comment : Bool) (text : List ℕ) → slice_index (left_of in_comment text) 0 ≢ 35
+left_begins in_comment [] = omega arith
+left_begins in_comment (b ∷ rest) =
+    elim (cases_Bool (b == 10)) [
+      | inl cut ↦ rw cut (left_begins false rest)
+      | inr on ↦
+          elim (cases_Bool (in_comment || b == 35)) [
+            | inl skipped ↦ rw (on, skipped) (left_begins true rest)
+            | inr seen ↦
+                elim (cases_Bool (is_blank b)) [
+                  | inl blank ↦ rw (on, seen, blank) (left_begins false rest)
+                  | inr kept ↦ rw (on, seen, kept) (eqb-false b 35 (or_parts in_comment (b == 35) seen).1)
+                ]
+          ]
+    ]
+
+-- nor does a trimmed text
+pub trimmed_begins : (text : List ℕ) → slice_index (trimmed text) 0 ≢ 35
+trimmed_begins text = rw (trimmed_is text) (left_begins false text)
+
+-- an element of a list that is made from others is made from one of them
+pub nothing_in_nil : {X : Type 0} (x : X) → Contains [] x → ⊥
+nothing_in_nil x h = omega (arith, h.1)
+
+-- what holds of all holds of each
+all_of : {X : Type 0} (P : X → Type 0) (xs : List X) (x : X) → AllByRecursion P xs → Contains xs x → P x
+all_of P [] x all h = absurd (nothing_in_nil x h)
+all_of P (y ∷ xs) x all h = elim (first_or_later y x xs h) [ inl same ↦ subst P same all.0 | inr later ↦ all_of P xs x all.1 later ]
+
+-- what each made element has from what it is made of
+all_made : {X Y : Type 0} (P : X → Type 0) (Q : Y → Type 0) (make : X → Y) → ((x : X) → P x → Q (make x)) → (xs : List X)
+    → AllByRecursion P xs → AllByRecursion Q (map make xs)
+all_made P Q make part [] all = tt
+all_made P Q make part (x ∷ xs) all = (part x all.0, all_made P Q make part xs all.1)
+
+-- both names of a tag are parsed names
+abbrev HasParsedNames : Tag → Type 0
+HasParsedNames t = IsParsedName a_tag_key t.key × IsParsedName a_tag_value t.value
+
+-- a point whose names are all parsed names
+pub record ParsedPoint (p : Point) : Type 0 where
+  pub measurement : IsParsedName a_measurement p.measurement
+  pub tags : AllByRecursion (λ t. IsParsedName a_tag_key t.key × IsParsedName a_tag_value t.value) p.tags
+  pub fields : AllByRecursion (λ f. IsParsedName a_field_key f.key) p.fields
+
+-- the point of each line that is answered
+pub line_parsed : (dialect : Dialect) (text : List ℕ) (line : Line) → slice_index text 0 ≢ 35
+    → answer dialect text ≡ Ok line → ParsedPoint (point_of line)
+line_parsed dialect text line begins h =
+    let parts = answer_parts dialect text line h in
+    record {
+      measurement = name_parsed a_measurement text parts.measurement_rest line.measurement parts.measurement begins;
+      tags =
+          all_made ParsedTag HasParsedNames logical_tag (λ t h. h) (some_tags line.tags)
+          (tag_set_parsed parts.measurement_rest parts.tags_rest line.tags parts.tags);
+      fields =
+          all_made ParsedField (λ f. IsParsedName a_field_key f.key) logical_field (λ f h. h) line.fields
+          (field_set_parsed dialect (drop (spaces parts.tags_rest) parts.tags_rest) parts.fields_rest line.fields parts.fields);
+    }
+
+-- the names of such a point
+point_names : (kind : NameKind) (p : Point) → ParsedPoint p → AllByRecursion (IsParsedName kind) (names_of kind p)
+point_names a_measurement p h = (h.measurement, tt)
+point_names a_tag_key p h = all_made HasParsedNames (IsParsedName a_tag_key) (λ t. t.key) (λ t both. both.0) p.tags h.tags
+point_names a_tag_value p h = all_made HasParsedNames (IsParsedName a_tag_value) (λ t. t.value) (λ t both. both.1) p.tags h.tags
+point_names a_field_key p h =
+    all_made (λ f. IsParsedName a_field_key f.key) (IsParsedName a_field_key) (λ f. f.key) (λ f h. h) p.fields h.fields
+
+-- the piece that an answer is given for
+pub record Answered (dialect : Dialect) (line : Line) : Type 0 where
+  pub text : List ℕ
+  pub begins : slice_index text 0 ≢ 35
+  pub answered : answer dialect text ≡ Ok line
+
+-- a line that is answered for a piece
+piece_answered : (dialect : Dialect) (piece : List ℕ) (line : Line)
+    → Contains (answers_of_piece dialect piece) (Ok line) → Answered dialect line
+unfolding answers_of_piece
+piece_answered dialect piece line h =
+    elim (cases_Bool (length (trimmed piece) == 0)) [
+      | inl none ↦ absurd (nothing_in_nil (Ok line) (rw none at h))
+      | inr some ↦
+          elim (first_or_later (answer dialect (trimmed piece)) (Ok line) [] (rw some at h)) [
+            | inl same ↦ record { text = trimmed piece; begins = trimmed_begins piece; answered = same }
+            | inr never ↦ absurd (nothing_in_nil (Ok line) never)
+          ]
+    ]
+
+-- a line that is answered for pieces
+answered_in : (dialect : Dialect) (pieces : List (List ℕ)) (line : Line)
+    → Contains (answers_of dialect pieces) (Ok line) → Answered dialect line
+answered_in dialect [] line h = absurd (nothing_in_nil (Ok line) h)
+answered_in dialect (piece ∷ pieces) line h =
+    elim (Contains-append_cases (answers_of_piece dialect piece) (answers_of dialect pieces) (Ok line) h) [
+      | inl first ↦ piece_answered dialect piece line first
+      | inr later ↦ answered_in dialect pieces line later
+    ]
+
+-- the point of each line that is answered for a text
+pub answers_parsed : (dialect : Dialect) (text : List ℕ) (answers : List (Result Line Fault)) (line : Line)
+    → HasAnswers dialect text answers → Contains answers (Ok line)
+    → ParsedPoint (point_of line)
+answers_parsed dialect text answers line has here =
+    let piece = answered_in dialect has.pieces line (subst (λ xs. Contains xs (Ok line)) has.answered here) in
+    line_parsed dialect piece.text line piece.begins piece.answered
+
+-- and its names
+pub names_are_parsed : NamesAreParsed
+names_are_parsed dialect text answers line kind n has here named =
+    all_of (IsParsedName kind) (names_of kind (point_of line)) n
+    (point_names kind (point_of line) (answers_parsed dialect text answers line has here)) named

@@ -1,0 +1,294 @@
+-- Names by any of their spellings.
+use Rattle.std.proofs.Common.{◌≡◌, ◌≢◌, ℕ, ◌<◌, List, [], ◌∷◌, ◌++◌, length, drop, slice_index, Bool, true, false, ◌||◌, refl, sym, ap, ◌∙◌}
+use Rattle.std.proofs.Common.{subst, arith, inl, inr, append_assoc, append-nil}
+use Rattle.std.specs.Prelude.{◌==◌}
+use Rattle.std.specs.List.{list_all}
+use Rattle.std.proofs.lemmas.Bool.{cases_Bool, false≢true, and_parts, and_right, eqb-true, ne_eqb}
+use Rattle.std.proofs.lemmas.Grind.{common_steps}
+use Rattle.std.proofs.lemmas.List.{take_at, drop_at}
+use Rattle.lp_split.specs.declared.split.resumed.Part.{Part}
+use Rattle.lp_split.specs.declared.split.resumed.Part.TheVariants.{Head, Plain}
+use Rattle.lp_split.proofs.lemmas.split.SplitWalk.{Head-other, Head-space, Plain-other}
+use Rattle.lp_format.specs.format.Bytes.{is_one_of}
+use Rattle.lp_format.specs.format.Escapes.{escaped, without_escapes}
+use Rattle.lp_format.specs.format.Readings.{fatal, reads, ends_with_backslash}
+use Rattle.lp_format.specs.format.Names.{NameKind, a_measurement, a_tag_key, a_tag_value, a_field_key, ends_in_backslash}
+use Rattle.lp_format.specs.format.Names.{escapable, is_escapable, is_stop, logical, name, read_text, spelled, spelled_len}
+use Rattle.lp_format.specs.format.Points.{is_admitted_name, never_in, spelling}
+use Rattle.lp_format.specs.format.Pieces.{begins_comment}
+use Rattle.lp_format.specs.format.Trimming.{trimmed}
+use Rattle.lp_format.specs.format.Lines.{spaces}
+use Rattle.lp_format.proofs.lemmas.names.NameLemmas.{escapable_backslash, without_escapes_plain_byte, without_escapes_known}
+use Rattle.lp_format.proofs.lemmas.names.NameLemmas.{logical_ends, name_fatal, name_reads}
+use Rattle.lp_format.proofs.lemmas.read_back.NameReadsBack.{may_hold, stop_escapable}
+use Rattle.lp_format.proofs.lemmas.read_back.NameReadsBack.{backslash_no_stop, escaped_found, escaped_plain}
+use Rattle.lp_format.proofs.lemmas.read_back.NameReadsBack.{admitted_parts, begins_otherwise, read_name}
+use Rattle.lp_split.proofs.lemmas.split.ScanLemmas.{bare_len, first_bare_len}
+use Rattle.lp_format.proofs.lemmas.line.TrimLemmas.{is_blank, trimmed_is}
+use Rattle.lp_lines.proofs.lemmas.read_back.Reaches.{Reaches, ChangesNothing, reaches_pair, reaches_byte}
+use Rattle.lp_lines.proofs.lemmas.read_back.Reaches.{no_backslash, no_newline, no_space}
+use Rattle.lp_format.proofs.lemmas.split.SplitBare.{is_escaped-push_other}
+use Rattle.lp_lines.proofs.lemmas.names.KeptNames.{is_kept}
+
+-- a spelling of a name: each byte is escaped where it can be, but a backslash alone may come before a byte that no
+-- escape keeps
+pub data SpelledAs (kind : NameKind) : List ℕ → List ℕ → Type 0 where
+  done : SpelledAs kind [] []
+  escape : (b : ℕ) (n s : List ℕ) → is_escapable kind b ≡ true → SpelledAs kind n s → SpelledAs kind (b ∷ n) (92 ∷ b ∷ s)
+  plain : (b : ℕ) (n s : List ℕ) → is_escapable kind b ≡ false → may_hold kind b ≡ true → SpelledAs kind n s
+      → SpelledAs kind (b ∷ n) (b ∷ s)
+  pair : (c : ℕ) (n s : List ℕ) → is_one_of (never_in kind) c ≡ true → SpelledAs kind n s → SpelledAs kind (92 ∷ c ∷ n) (92 ∷ c ∷ s)
+
+-- a byte that no escape keeps is no known escape
+pub never_unescapable : (kind : NameKind) (c : ℕ) → is_one_of (never_in kind) c ≡ true → is_escapable kind c ≡ false
+never_unescapable a_measurement c h = grind (arith, common_steps)
+never_unescapable a_tag_key c h = grind (arith, common_steps)
+never_unescapable a_tag_value c h = grind (arith, common_steps)
+never_unescapable a_field_key c h = grind (arith, common_steps)
+
+-- and it ends a name where it is bare
+pub never_stops : (kind : NameKind) (c : ℕ) → is_one_of (never_in kind) c ≡ true → is_stop kind c ≡ true
+never_stops a_measurement c h = grind (arith, common_steps)
+never_stops a_tag_key c h = grind (arith, common_steps)
+never_stops a_tag_value c h = grind (arith, common_steps)
+never_stops a_field_key c h = grind (arith, common_steps)
+
+-- nor is it a backslash
+never_backslash : (kind : NameKind) (c : ℕ) → is_one_of (never_in kind) c ≡ true → (c == 92) ≡ false
+never_backslash kind c h = ne_eqb c 92
+    (λ e. false≢true (sym (never_unescapable kind c h) ∙ ap (is_escapable kind) e ∙ escapable_backslash kind))
+
+-- the test of a byte with nothing before it
+may_alone : (m : Bool) → (m || false) ≡ true → m ≡ true
+may_alone true h = refl
+may_alone false h = absurd (false≢true h)
+
+-- a name with a byte at the start that may be bare
+spelled_more : (kind : NameKind) (b : ℕ) (n : List ℕ) → may_hold kind b ≡ true → (s : List ℕ) × SpelledAs kind n s
+    → (s : List ℕ) × SpelledAs kind (b ∷ n) s
+spelled_more kind b n may more =
+    elim (cases_Bool (is_escapable kind b)) [
+      | inl known ↦ (92 ∷ b ∷ more.0, escape b n more.0 known more.1)
+      | inr other ↦ (b ∷ more.0, plain b n more.0 other may more.1)
+    ]
+
+-- each parsed name has a spelling
+pub spelled_as : (kind : NameKind) (n : List ℕ) → is_kept kind false n ≡ true → (s : List ℕ) × SpelledAs kind n s
+spelled_as kind [] h = ([], done)
+spelled_as kind (b ∷ []) h = spelled_more kind b []
+    (may_alone (may_hold kind b) (and_parts (may_hold kind b || false) true h).0) ([], done)
+spelled_as kind (b ∷ c ∷ n) h =
+    let parts = and_parts (may_hold kind b || false) (is_kept kind (b == 92) (c ∷ n)) h in
+    let may = may_alone (may_hold kind b) parts.0 in
+    elim (cases_Bool (b == 92)) [
+      | inl e ↦
+          let after = and_parts (may_hold kind c || (b == 92)) (is_kept kind (c == 92) n) parts.1 in
+          elim (cases_Bool (is_one_of (never_in kind) c)) [
+            | inl never ↦
+                let more = spelled_as kind n (rw (never_backslash kind c never) at after.1) in (
+                  92 ∷ c ∷ more.0,
+                  subst (λ x. SpelledAs kind (x ∷ c ∷ n) (92 ∷ c ∷ more.0)) (sym (eqb-true b 92 e))
+                      (pair c n more.0 never more.1),
+                )
+            | inr other ↦ spelled_more kind b (c ∷ n) may (spelled_as kind (c ∷ n) (rw other (after.1)))
+          ]
+      | inr e ↦ spelled_more kind b (c ∷ n) may (spelled_as kind (c ∷ n) (rw e at parts.1))
+    ]
+
+-- the builder's spelling is one where each byte may be bare
+pub spelling_as : (kind : NameKind) (n : List ℕ) → list_all (may_hold kind) n ≡ true → SpelledAs kind n (spelling kind n)
+unfolding escaped
+spelling_as kind [] all = done
+spelling_as kind (b ∷ n) all =
+    let parts = and_parts (may_hold kind b) (list_all (may_hold kind) n) all in
+    elim (cases_Bool (is_escapable kind b)) [
+      | inl known ↦ rw (escaped_found (escapable kind) n b known) (escape b n (spelling kind n) known (spelling_as kind n parts.1))
+      | inr other ↦ rw (escaped_plain (escapable kind) n b other) (plain b n (spelling kind n) other parts.0 (spelling_as kind n parts.1))
+    ]
+
+-- so is that of an admitted name
+pub admitted_spelled : (kind : NameKind) (n : List ℕ) → is_admitted_name kind n ≡ true → SpelledAs kind n (spelling kind n)
+admitted_spelled kind n ok = spelling_as kind n (admitted_parts kind n ok).may
+
+-- nothing follows a name, or a byte that ends it
+abbrev pub Stops : NameKind → List ℕ → Type 0
+Stops kind [] = Unit {0}
+Stops kind (c ∷ rest) = is_stop kind c ≡ true
+
+-- no byte of it belongs to the name
+stops_here : (kind : NameKind) (rest : List ℕ) → Stops kind rest → bare_len (is_stop kind) false rest ≡ 0
+stops_here kind [] ends = refl
+stops_here kind (c ∷ rest) ends = rw ends refl
+
+-- a spelling ends before it
+spelled_to : {kind : NameKind} {n s : List ℕ} → SpelledAs kind n s → (rest : List ℕ) → Stops kind rest
+    → bare_len (is_stop kind) false (s ++ rest) ≡ length s
+spelled_to {kind = kind} done rest ends = stops_here kind rest ends
+spelled_to {kind = kind} (escape b n s known more) rest
+    ends = rw (backslash_no_stop kind, and_right (is_stop kind b) false refl, spelled_to more rest ends) refl
+spelled_to {kind = kind} (plain b n s other may more) rest
+    ends = rw (stop_escapable kind b may other, ne_eqb b 92 (no_backslash kind b other), spelled_to more rest ends) refl
+spelled_to {kind = kind} (pair c n s never more) rest
+    ends = rw (backslash_no_stop kind, and_right (is_stop kind c) false refl, spelled_to more rest ends) refl
+
+-- the logical text of a spelling is its name
+pub spelled_logical : {kind : NameKind} {n s : List ℕ} → SpelledAs kind n s → logical kind s ≡ n
+unfolding without_escapes
+spelled_logical {kind = kind} done = refl
+spelled_logical {kind = kind} (escape b n s known more) = without_escapes_known (escapable kind) b s known
+    ∙ ap (λ (xs : List ℕ). b ∷ xs) (spelled_logical more)
+spelled_logical {kind = kind} (plain b n s other may more) =
+    without_escapes_plain_byte (escapable kind) b s (no_backslash kind b other)
+    ∙ ap (λ (xs : List ℕ). b ∷ xs) (spelled_logical more)
+spelled_logical {kind = kind} (pair c n s never more) = rw (never_unescapable kind c never)
+    (ap (λ (xs : List ℕ). 92 ∷ c ∷ xs) (spelled_logical more))
+
+-- and is not empty where the name is not
+spelled_some : {kind : NameKind} {n s : List ℕ} → SpelledAs kind n s → 0 < length n → 0 < length s
+spelled_some done h = h
+spelled_some (escape b n s known more) h = omega arith
+spelled_some (plain b n s other may more) h = omega arith
+spelled_some (pair c n s never more) h = omega arith
+
+-- what is at the start of the stop
+record Front (kind : NameKind) (s rest : List ℕ) : Type 0 where
+  front : spelled kind (s ++ rest) ≡ s
+  after : drop (spelled_len kind (s ++ rest)) (s ++ rest) ≡ rest
+
+-- a spelling is what is at the start of its stop
+spelled_front : {kind : NameKind} {n s : List ℕ} → SpelledAs kind n s → (rest : List ℕ) → Stops kind rest → Front kind s rest
+spelled_front {kind = kind} {s = s} h rest ends =
+    let len : spelled_len kind (s ++ rest) ≡ length s = first_bare_len (is_stop kind) (s ++ rest) ∙ spelled_to h rest ends in
+    record { front = rw len (take_at s rest (length s) refl); after = rw len (drop_at s rest (length s) refl) }
+
+-- so a name is read where it does not end in a backslash
+pub spelled_reads : {kind : NameKind} {n s : List ℕ} → SpelledAs kind n s → 0 < length n
+    → ends_in_backslash n ≡ false → (rest : List ℕ) → Stops kind rest
+    → name kind (s ++ rest) ≡ reads (read_text (escapable kind) s) rest
+spelled_reads {kind = kind} {n = n} {s = s} h some last rest ends =
+    let parts = spelled_front h rest ends in
+    let same : ends_in_backslash s ≡ false = sym (logical_ends kind s) ∙ ap ends_in_backslash (spelled_logical h) ∙ last in
+    let read = name_reads kind (s ++ rest) (rw (parts.front) (spelled_some h some)) (rw (parts.front) same) in
+    rw (parts.front, parts.after) at read
+
+-- a name that is admitted reads back, before each byte that ends it
+pub name_reads_back : (kind : NameKind) (n rest : List ℕ) (stop : ℕ) → is_admitted_name kind n ≡ true → is_stop kind stop ≡ true
+    → name kind (spelling kind n ++ stop ∷ rest) ≡ reads (read_name kind n) (stop ∷ rest)
+name_reads_back kind n rest stop ok ends =
+    let parts = admitted_parts kind n ok in
+    spelled_reads (admitted_spelled kind n ok) parts.some parts.ends (stop ∷ rest) ends
+
+-- and where it does, that is fatal
+pub spelled_fatal : {kind : NameKind} {n s : List ℕ} → SpelledAs kind n s → 0 < length n
+    → ends_in_backslash n ≡ true → (rest : List ℕ) → Stops kind rest
+    → name kind (s ++ rest) ≡ fatal ends_with_backslash
+spelled_fatal {kind = kind} {n = n} {s = s} h some last rest ends =
+    let parts = spelled_front h rest ends in
+    let same : ends_in_backslash s ≡ true = sym (logical_ends kind s) ∙ ap ends_in_backslash (spelled_logical h) ∙ last in
+    name_fatal kind (s ++ rest) (rw (parts.front) (spelled_some h some)) (rw (parts.front) same)
+
+-- a spelling after a piece
+pub reaches_spelled : (part : Part) (e c : ℕ) {kind : NameKind} {n s : List ℕ}
+    → ((b : ℕ) → may_hold kind b ≡ true → is_escapable kind b ≡ false → ChangesNothing part e c b)
+    → SpelledAs kind n s → (piece : List ℕ) → Reaches part e c piece → Reaches part e c (piece ++ s)
+reaches_spelled part e c same done piece r = subst (Reaches part e c) (sym (append-nil piece)) r
+reaches_spelled part e c same (escape b n s known more) piece r =
+    subst (Reaches part e c) (append_assoc piece (92 ∷ b ∷ []) s)
+    (reaches_spelled part e c same more (piece ++ 92 ∷ b ∷ []) (reaches_pair part e c piece b r))
+reaches_spelled part e c same (plain b n s other may more) piece r =
+    subst (Reaches part e c) (append_assoc piece (b ∷ []) s)
+    (reaches_spelled part e c same more (piece ++ b ∷ []) (reaches_byte part e c piece b (same b may other) r))
+reaches_spelled part e c same (pair b n s never more) piece r =
+    subst (Reaches part e c) (append_assoc piece (92 ∷ b ∷ []) s)
+    (reaches_spelled part e c same more (piece ++ 92 ∷ b ∷ []) (reaches_pair part e c piece b r))
+
+-- a text that begins with no blank, no newline and no `#`
+abbrev pub BeginsLine : List ℕ → Type 0
+BeginsLine [] = ⊥
+BeginsLine (b ∷ text) = is_one_of (35 ∷ 32 ∷ 9 ∷ 10 ∷ []) b ≡ false
+
+-- the first byte of a measurement that may are there
+begins_plain : (b : ℕ) → is_escapable a_measurement b ≡ false → may_hold a_measurement b ≡ true → b ≢ 35
+    → is_one_of (35 ∷ 32 ∷ 9 ∷ 10 ∷ []) b ≡ false
+begins_plain b other may no_hash = grind (arith, common_steps)
+
+-- a measurement that begins with no `#` begins a line so
+pub spelled_begins : {n s : List ℕ} → SpelledAs a_measurement n s → 0 < length n → slice_index n 0 ≢ 35
+    → (rest : List ℕ) → BeginsLine (s ++ rest)
+spelled_begins done some no_hash rest = absurd (omega (arith, some))
+spelled_begins (escape b n s known more) some no_hash rest = refl
+spelled_begins (plain b n s other may more) some no_hash rest = begins_plain b other may no_hash
+spelled_begins (pair c n s never more) some no_hash rest = refl
+
+-- so does an admitted one
+pub measurement_begins : (m rest : List ℕ) → is_admitted_name a_measurement m ≡ true → BeginsLine (spelling a_measurement m ++ rest)
+measurement_begins m rest ok =
+    spelled_begins (admitted_spelled a_measurement m ok) (admitted_parts a_measurement m ok).some (begins_otherwise m ok) rest
+
+-- no space is at the start of a spelling
+pub spelled_spaces : {kind : NameKind} {n s : List ℕ} → SpelledAs kind n s → 0 < length n → (rest : List ℕ) → spaces (s ++ rest) ≡ 0
+spelled_spaces done some rest = absurd (omega (arith, some))
+spelled_spaces (escape b n s known more) some rest = refl
+spelled_spaces {kind = kind} (plain b n s other may more) some rest = rw (ne_eqb b 32 (no_space kind b other)) refl
+spelled_spaces (pair c n s never more) some rest = refl
+
+-- a text that begins so is no comment, and nothing is trimmed off it
+pub line_no_comment : (text : List ℕ) → BeginsLine text → begins_comment text ≡ false
+line_no_comment [] h = absurd h
+line_no_comment (b ∷ text) h =
+    let no_hash : (b == 35) ≡ false = grind (arith, common_steps) in
+    let no_space : (b == 32) ≡ false = grind (arith, common_steps) in
+    let no_tab : (b == 9) ≡ false = grind (arith, common_steps) in
+    rw (no_hash, no_space, no_tab) refl
+
+-- nothing is trimmed off it
+pub line_trimmed : (text : List ℕ) → BeginsLine text → trimmed text ≡ text
+line_trimmed [] h = absurd h
+line_trimmed (b ∷ text) h =
+    let no_hash : (b == 35) ≡ false = grind (arith, common_steps) in
+    let no_blank : is_blank b ≡ false = grind (arith, common_steps) in
+    let no_newline : (b == 10) ≡ false = grind (arith, common_steps) in
+    trimmed_is (b ∷ text) ∙ rw (no_newline, no_hash, no_blank) refl
+
+-- and it is not empty
+pub line_some : (text : List ℕ) → BeginsLine text → (length text == 0) ≡ false
+line_some [] h = absurd h
+line_some (b ∷ text) h = ne_eqb (length (b ∷ text)) 0 (λ e. absurd (omega arith))
+
+-- a spelling in a head
+pub reaches_head : {kind : NameKind} {n s : List ℕ} → SpelledAs kind n s → (piece : List ℕ) → Reaches Head 0 0 piece
+    → Reaches Head 0 0 (piece ++ s)
+reaches_head {kind = kind} h piece r =
+    reaches_spelled Head 0 0 (λ b may other.
+    (no_backslash kind b other, λ q f i. Head-other 0 0 q b f (no_space kind b other) (no_newline kind b may) i)) h piece r
+
+-- a name in the head
+pub reaches_name : (kind : NameKind) (n piece : List ℕ) → is_admitted_name kind n ≡ true → Reaches Head 0 0 piece
+    → Reaches Head 0 0 (piece ++ spelling kind n)
+reaches_name kind n piece ok r = reaches_head (admitted_spelled kind n ok) piece r
+
+-- a byte that means nothing there
+pub reaches_other : (b : ℕ) → b ≢ 92 → b ≢ 32 → b ≢ 10 → (piece : List ℕ) → Reaches Head 0 0 piece → Reaches Head 0 0 (piece ++ b ∷ [])
+reaches_other b no_backslash no_space no_newline piece r = reaches_byte Head 0 0 piece b
+    (no_backslash, λ q f h. Head-other 0 0 q b f no_space no_newline h) r
+
+-- the space after it
+pub reaches_gap : (piece : List ℕ) → Reaches Head 0 0 piece → Reaches Plain 0 0 (piece ++ 32 ∷ [])
+reaches_gap piece r = (is_escaped-push_other piece 32 (omega arith), Head-space 0 0 piece r.0 r.1)
+
+-- a spelling of a field key where no quote can open
+pub reaches_field_key : (m : ℕ) {n s : List ℕ} → SpelledAs a_field_key n s → (piece : List ℕ)
+    → Reaches Plain m m piece → Reaches Plain m m (piece ++ s)
+reaches_field_key m h piece r =
+    reaches_spelled Plain m m
+    (λ b may other. (
+      no_backslash a_field_key b other,
+      λ q f i. Plain-other m m q b f (no_equals b other) (no_comma b other) (no_newline a_field_key b may)
+          (λ _. omega arith) i,
+    )) h piece r
+  where
+    no_equals : (b : ℕ) → is_escapable a_field_key b ≡ false → b ≢ 61
+    no_equals b other = λ e. let h : is_escapable a_field_key b ≡ true = ap (is_escapable a_field_key) e in cc
+
+    no_comma : (b : ℕ) → is_escapable a_field_key b ≡ false → b ≢ 44
+    no_comma b other = λ e. let h : is_escapable a_field_key b ≡ true = ap (is_escapable a_field_key) e in cc

@@ -1,0 +1,312 @@
+-- The line of an admitted point is a piece that a newline ends.
+use Rattle.std.proofs.Common.{◌≡◌, ◌≢◌, ℕ, suc, ◌+◌, ◌^◌, ◌<◌, ◌≤◌, List, [], ◌∷◌, ◌++◌, length, Bool, true, false, ◌&&◌, refl, sym, ap}
+use Rattle.std.proofs.Common.{◌∙◌, subst, arith, inl, inr, append_assoc, append-nil, Option, Some, None}
+use Rattle.std.specs.Prelude.{◌==◌, ℤ, pos, negsuc, not, codes, decimal, IfSome}
+use Rattle.std.specs.List.{AllByRecursion, list_all, flat_map}
+use Rattle.std.specs.Fmt.{signed_decimal}
+use Rattle.std.specs.Str.Parse.{AllDigits, IsNumeral}
+use Rattle.std.proofs.lemmas.Bool.{cases_Bool, and_parts, and_from, or_cases, eqb-true, false≢true}
+use Rattle.std.proofs.lemmas.Grind.{common_steps}
+use Rattle.std.proofs.lemmas.Fmt.{decimal_is_IsNumeral}
+use Rattle.std.proofs.lemmas.Str.Parse.{digit_from_value}
+use Rattle.std.proofs.lemmas.List.Folds.{list_all-append}
+use Rattle.lp_split.specs.declared.split.resumed.Part.{Part}
+use Rattle.lp_split.specs.declared.split.resumed.Part.TheVariants.{Head, Plain, Quoted}
+use Rattle.lp_split.proofs.lemmas.split.SplitWalk.{Head-space, Head-other, Plain-equals}
+use Rattle.lp_split.proofs.lemmas.split.SplitWalk.{Plain-comma, Plain-opens, Plain-other, Quoted-closes, Quoted-other}
+use Rattle.lp_format.specs.format.Dialects.{Dialect, Crate, Strict}
+use Rattle.lp_format.specs.format.Bytes.{is_one_of}
+use Rattle.lp_format.specs.format.Escapes.{escaped}
+use Rattle.lp_format.specs.format.Names.{a_measurement, a_tag_key, a_tag_value, a_field_key}
+use Rattle.lp_format.specs.format.Values.{Value, integer, unsigned, float, string, boolean, quotable, fits_i64, IsSigned}
+use Rattle.lp_format.specs.format.Values.{IsMarked, IsFloat}
+use Rattle.lp_format.specs.format.Points.{Point, IsPoint, Tag, Field, IsValue, is_admitted_tag, is_admitted_field}
+use Rattle.lp_format.specs.format.Points.{is_admitted_point, line_of, built_tag, built_field, built_fields, built_timestamp}
+use Rattle.lp_format.specs.format.Points.{built_value, spelling, is_admitted_name}
+use Rattle.lp_format.specs.format.Pieces.{IsCutPiece, begins_comment}
+use Rattle.lp_format.proofs.lemmas.split.SplitBare.{is_escaped-push_other}
+use Rattle.lp_format.proofs.lemmas.values.ValueLemmas.{fits_from_test}
+use Rattle.lp_lines.proofs.lemmas.read_back.Reaches.{Reaches, reaches_start, ChangesNothing, reaches_byte}
+use Rattle.lp_lines.proofs.lemmas.read_back.Reaches.{reaches_pair}
+use Rattle.lp_lines.proofs.lemmas.names.Spellings.{admitted_spelled, measurement_begins, reaches_name}
+use Rattle.lp_lines.proofs.lemmas.names.Spellings.{reaches_field_key, BeginsLine, line_no_comment}
+
+-- a byte that means nothing in a plain stretch
+abbrev is_simple : ℕ → Bool
+is_simple b = not (is_one_of (92 ∷ 61 ∷ 44 ∷ 10 ∷ 34 ∷ []) b)
+
+-- such a byte changes nothing
+simple_same : (e c b : ℕ) → is_simple b ≡ true → ChangesNothing Plain e c b
+simple_same e c b simple =
+    let differs : (k : ℕ) → is_simple k ≡ false → b ≢ k = λ k no i. cc (simple, no, ap is_simple i) in (
+      differs 92 refl,
+      λ q f h. Plain-other e c q b f (differs 61 refl) (differs 44 refl) (differs 10 refl) (λ i. absurd (differs 34 refl i)) h,
+    )
+
+abbrev pub IsSimple : List ℕ → Type 0
+IsSimple text = list_all is_simple text ≡ true
+
+-- and a text of two such texts
+IsSimple-append : (xs ys : List ℕ) → IsSimple xs → IsSimple ys → IsSimple (xs ++ ys)
+IsSimple-append xs ys h k = list_all-append is_simple xs ys ∙ and_from _ _ h k
+
+-- nor does a text of such bytes
+pub reaches_simple : (e c : ℕ) (text piece : List ℕ) → IsSimple text → Reaches Plain e c piece → Reaches Plain e c (piece ++ text)
+reaches_simple e c [] piece all r = subst (Reaches Plain e c) (sym (append-nil piece)) r
+reaches_simple e c (b ∷ text) piece all r =
+    let parts = and_parts (is_simple b) (list_all is_simple text) all in
+    subst (Reaches Plain e c) (append_assoc piece (b ∷ []) text)
+    (reaches_simple e c text (piece ++ b ∷ []) parts.1 (reaches_byte Plain e c piece b (simple_same e c b parts.0) r))
+
+-- numbers are simple
+simple_digit : (b : ℕ) → 48 ≤ b → b ≤ 57 → is_simple b ≡ true
+simple_digit b least most = grind (arith, common_steps)
+
+-- so are digits
+simple_digits : (ds : List ℕ) → AllDigits 10 ds → IsSimple ds
+simple_digits [] all = refl
+simple_digits (d ∷ ds) all =
+    let range = digit_from_value d all.0 in
+    and_from (is_simple d) (list_all is_simple ds) (simple_digit d range.0 range.1) (simple_digits ds all.1)
+
+-- the decimal text of a number
+simple_decimal : (n : ℕ) → n < 2 ^ 64 → IsSimple (decimal n)
+simple_decimal n fits = simple_digits (decimal n) (decimal_is_IsNumeral n fits).0.1
+
+-- and that of a signed one
+simple_signed : (z : ℤ) → fits_i64 z ≡ true → IsSimple (signed_decimal z)
+simple_signed (pos n) fits = let small : n < 2 ^ 63 = (fits_from_test (pos n) fits).sfits in simple_decimal n (omega arith)
+simple_signed (negsuc n) fits =
+    let small : n < 2 ^ 63 = (fits_from_test (negsuc n) fits).sfits in
+    and_from (is_simple 45) (list_all is_simple (decimal (suc n))) refl (simple_decimal (suc n) (omega arith))
+
+-- a byte of a simple text
+simple_one : (text : List ℕ) (b : ℕ) → IsSimple text → is_one_of text b ≡ true → is_simple b ≡ true
+simple_one [] b all h = absurd (false≢true h)
+simple_one (c ∷ text) b all h =
+    let parts = and_parts (is_simple c) (list_all is_simple text) all in
+    elim (or_cases (c == b) (is_one_of text b) h) [
+      | inl same ↦ ap is_simple (sym (eqb-true c b same)) ∙ parts.0
+      | inr more ↦ simple_one text b parts.1 more
+    ]
+
+-- a sign or none, and digits
+simple_sign : (signs : List ℕ) (ds : List ℕ) → IsSimple signs → IsSigned signs ds → IsSimple ds
+simple_sign signs [] of never = absurd never
+simple_sign signs (b ∷ ds) of (inl signed) =
+    and_from (is_simple b) (list_all is_simple ds) (simple_one signs b of signed.0) (simple_digits ds signed.1.1)
+simple_sign signs (b ∷ ds) of (inr numeral) = simple_digits (b ∷ ds) numeral.1
+
+-- a mark and a part, or nothing
+simple_mark : (marks : List ℕ) (Part : List ℕ → Type 0) (text : List ℕ) → IsSimple marks
+    → ((x : List ℕ) → Part x → IsSimple x) → IsMarked marks Part text → IsSimple text
+simple_mark marks Part [] of part marked = refl
+simple_mark marks Part (b ∷ x) of part marked =
+    and_from (is_simple b) (list_all is_simple x) (simple_one marks b of marked.0) (part x marked.1)
+
+-- and floats
+simple_float : (t : List ℕ) → IsFloat t → IsSimple t
+simple_float t parts =
+    subst IsSimple (sym parts.3)
+    (IsSimple-append parts.0 (parts.1 ++ parts.2) (simple_sign (codes "-") parts.0 refl parts.4)
+    (IsSimple-append parts.1 parts.2
+    (simple_mark (codes ".") (IsNumeral 10) parts.1 refl (λ x numeral. simple_digits x numeral.1) parts.5)
+    (simple_mark (codes "eE") (IsSigned (codes "+-")) parts.2 refl
+    (λ x signed. simple_sign (codes "+-") x refl signed) parts.6)))
+
+-- a byte of a string, with a backslash or without
+reaches_quotable : (e c : ℕ) (s piece : List ℕ) → Reaches Quoted e c piece → Reaches Quoted e c (piece ++ escaped quotable s)
+unfolding escaped
+reaches_quotable e c [] piece r = subst (Reaches Quoted e c) (sym (append-nil piece)) r
+reaches_quotable e c (b ∷ s) piece r =
+    elim (cases_Bool (is_one_of quotable b)) [
+      | inl found ↦ rw found (subst (Reaches Quoted e c) (append_assoc piece (92 ∷ b ∷ []) (escaped quotable s))
+          (reaches_quotable e c s (piece ++ 92 ∷ b ∷ []) (reaches_pair Quoted e c piece b r)))
+      | inr plain ↦ rw plain (subst (Reaches Quoted e c) (append_assoc piece (b ∷ []) (escaped quotable s))
+          (reaches_quotable e c s (piece ++ b ∷ []) (reaches_byte Quoted e c piece b (same plain) r)))
+    ]
+  where
+    same : is_one_of quotable b ≡ false → ChangesNothing Quoted e c b
+    same plain = (
+      λ i. cc (plain, ap (is_one_of quotable) i),
+      λ q f h. Quoted-other e c q b f (λ i. cc (plain, ap (is_one_of quotable) i)) h,
+    )
+
+-- a string opens after an `=`, and closes
+reaches_string : (m : ℕ) (s piece : List ℕ) → Reaches Plain (m + 1) m piece → Reaches Plain (m + 1) m (piece ++ built_value (string s))
+reaches_string m s piece r =
+    let opened : Reaches Quoted (m + 1) m
+    (piece ++ 34 ∷ []) = (is_escaped-push_other piece 34 (omega arith), Plain-opens (m + 1) m piece r.0 (omega arith) r.1) in
+    let body : Reaches Quoted (m + 1) m ((piece ++ 34 ∷ []) ++ escaped quotable s) =
+    reaches_quotable (m + 1) m s (piece ++ 34 ∷ []) opened in
+    let text = (piece ++ 34 ∷ []) ++ escaped quotable s in
+    let closed : Reaches Plain (m + 1) m
+    (text ++ 34 ∷ []) = (is_escaped-push_other text 34 (omega arith), Quoted-closes (m + 1) m text body.0 body.1) in
+    subst (Reaches Plain (m + 1) m)
+    (append_assoc (piece ++ 34 ∷ []) (escaped quotable s) (34 ∷ [])
+    ∙ append_assoc piece (34 ∷ []) (escaped quotable s ++ 34 ∷ [])) closed
+
+-- a value, after its `=`
+reaches_value : (m : ℕ) (v : Value (List ℕ)) (piece : List ℕ) → IsValue v → Reaches Plain (m + 1) m piece
+    → Reaches Plain (m + 1) m (piece ++ built_value v)
+reaches_value m (integer z) piece fits r =
+    reaches_simple (m + 1) m (built_value (integer z)) piece (IsSimple-append (signed_decimal z) (105 ∷ []) (simple_signed z fits) refl) r
+reaches_value m (unsigned n) piece fits r =
+    reaches_simple (m + 1) m (built_value (unsigned n)) piece (IsSimple-append (decimal n) (117 ∷ []) (simple_decimal n fits) refl) r
+reaches_value m (float t) piece ok r = reaches_simple (m + 1) m t piece (simple_float t ok) r
+reaches_value m (string s) piece ok r = reaches_string m s piece r
+reaches_value m (boolean true) piece ok r = reaches_simple (m + 1) m (codes "true") piece refl r
+reaches_value m (boolean false) piece ok r = reaches_simple (m + 1) m (codes "false") piece refl r
+
+abbrev pub AdmittedTag : Tag → Type 0
+AdmittedTag t = (is_admitted_name a_tag_key t.key ≡ true) × (is_admitted_name a_tag_value t.value ≡ true)
+
+abbrev pub AdmittedField : Field → Type 0
+AdmittedField f = (is_admitted_name a_field_key f.key ≡ true) × IsValue f.value
+
+-- a field where as many `=` as `,` were counted
+pub reaches_field : (m : ℕ) (f : Field) (piece : List ℕ) → AdmittedField f → Reaches Plain m m piece
+    → Reaches Plain (m + 1) m (piece ++ built_field f)
+reaches_field m f piece ok r =
+    let key = reaches_field_key m (admitted_spelled a_field_key f.key ok.0) piece r in
+    let text = piece ++ spelling a_field_key f.key in
+    let sign : Reaches Plain (m + 1) m
+    (text ++ 61 ∷ []) = (is_escaped-push_other text 61 (omega arith), Plain-equals m m text key.0 key.1) in
+    subst (Reaches Plain (m + 1) m)
+    (append_assoc text (61 ∷ []) (built_value f.value)
+    ∙ append_assoc piece (spelling a_field_key f.key) (61 ∷ built_value f.value))
+    (reaches_value m f.value (text ++ 61 ∷ []) ok.1 sign)
+
+-- the fields after the first
+abbrev pub AfterFields : List ℕ → Type 0
+AfterFields piece = (m : ℕ) × Reaches Plain (m + 1) m piece
+
+-- as many fields after commas as there are
+pub reaches_fields : (fs : List Field) (piece : List ℕ) → AllByRecursion AdmittedField fs → AfterFields piece
+    → AfterFields (piece ++ built_fields 44 fs)
+reaches_fields [] piece all r = subst AfterFields (sym (append-nil piece)) r
+reaches_fields (f ∷ fs) piece all r =
+    let m = r.0 in
+    let after_comma : Reaches Plain (m + 1) (m + 1)
+    (piece ++ 44 ∷ []) = (is_escaped-push_other piece 44 (omega arith), Plain-comma (m + 1) m piece r.1.0 r.1.1) in
+    let field = reaches_field (m + 1) f (piece ++ 44 ∷ []) all.0 after_comma in
+    subst AfterFields
+    (append_assoc (piece ++ 44 ∷ []) (built_field f) (built_fields 44 fs)
+    ∙ append_assoc piece (44 ∷ []) (built_field f ++ built_fields 44 fs))
+    (reaches_fields fs ((piece ++ 44 ∷ []) ++ built_field f) all.1 (m + 1, field))
+
+-- the timestamp
+reaches_timestamp : (t : Option ℤ) (piece : List ℕ) → IfSome t (λ z. fits_i64 z ≡ true) → AfterFields piece
+    → AfterFields (piece ++ built_timestamp t)
+reaches_timestamp None piece ok r = subst AfterFields (sym (append-nil piece)) r
+reaches_timestamp (Some z) piece ok r = (
+  r.0,
+  reaches_simple (r.0 + 1) r.0 (32 ∷ signed_decimal z) piece
+      (and_from (is_simple 32) (list_all is_simple (signed_decimal z)) refl (simple_signed z ok)) r.1,
+)
+
+-- the tags
+pub reaches_tags : (ts : List Tag) (piece : List ℕ) → AllByRecursion AdmittedTag ts → Reaches Head 0 0 piece
+    → Reaches Head 0 0 (piece ++ flat_map built_tag ts)
+reaches_tags [] piece all r = subst (Reaches Head 0 0) (sym (append-nil piece)) r
+reaches_tags (t ∷ ts) piece all r =
+    let comma : Reaches Head 0 0 (piece ++ 44 ∷ []) = reaches_byte Head 0 0 piece 44
+    (other 44 (omega arith) (omega arith) (omega arith)) r in
+    let key = reaches_name a_tag_key t.key (piece ++ 44 ∷ []) all.0.0 comma in
+    let text = (piece ++ 44 ∷ []) ++ spelling a_tag_key t.key in
+    let sign : Reaches Head 0 0 (text ++ 61 ∷ []) = reaches_byte Head 0 0 text 61
+    (other 61 (omega arith) (omega arith) (omega arith)) key in
+    let value = reaches_name a_tag_value t.value (text ++ 61 ∷ []) all.0.1 sign in
+    subst (Reaches Head 0 0) (append_assoc piece (built_tag t) (flat_map built_tag ts))
+    (reaches_tags ts (piece ++ built_tag t) all.1
+    (subst (Reaches Head 0 0)
+    (append_assoc text (61 ∷ []) (spelling a_tag_value t.value)
+    ∙ append_assoc (piece ++ 44 ∷ []) (spelling a_tag_key t.key) (61 ∷ spelling a_tag_value t.value)
+    ∙ append_assoc piece (44 ∷ []) (spelling a_tag_key t.key ++ 61 ∷ spelling a_tag_value t.value))
+    value))
+  where
+    other : (b : ℕ) → b ≢ 92 → b ≢ 32 → b ≢ 10 → ChangesNothing Head 0 0 b
+    other b no_backslash no_space no_newline = (no_backslash, λ q f h. Head-other 0 0 q b f no_space no_newline h)
+
+-- the line
+pub reaches_line : (n : List ℕ) (ts : List Tag) (f : Field) (fs : List Field) (t : Option ℤ)
+    → is_admitted_name a_measurement n ≡ true → AllByRecursion AdmittedTag ts → AdmittedField f
+    → AllByRecursion AdmittedField fs → IfSome t (λ z. fits_i64 z ≡ true)
+    → AfterFields (spelling a_measurement n ++ (flat_map built_tag ts ++ (built_fields 32 (f ∷ fs) ++ built_timestamp t)))
+reaches_line n ts f fs t named tagged first more stamped =
+    let front = spelling a_measurement n ++ flat_map built_tag ts in
+    let head : Reaches Head 0 0 front = reaches_tags ts (spelling a_measurement n) tagged
+    (reaches_name a_measurement n [] named reaches_start) in
+    let gap : Reaches Plain 0 0 (front ++ 32 ∷ []) = (is_escaped-push_other front 32 (omega arith), Head-space 0 0 front head.0 head.1) in
+    let field = reaches_field 0 f (front ++ 32 ∷ []) first gap in
+    let fields = reaches_fields fs ((front ++ 32 ∷ []) ++ built_field f) more (0, field) in
+    let whole = reaches_timestamp t (((front ++ 32 ∷ []) ++ built_field f) ++ built_fields 44 fs) stamped fields in
+    subst AfterFields (simp append_assoc) whole
+
+-- what a newline may end, in both dialects
+is_cut_piece : (dialect : Dialect) (text : List ℕ) → begins_comment text ≡ false → AfterFields text → IsCutPiece dialect text
+is_cut_piece Crate text none r = (inr (r.1.1.0, r.1.1.1), r.1.0)
+is_cut_piece Strict text none r = inr (none, inr (r.1.1.0, r.1.1.1), r.1.0)
+
+-- what a point is whose line reads back: its names are admitted and it has a field
+pub record IsAdmitted (p : Point) : Type 0 where
+  pub measurement : is_admitted_name a_measurement p.measurement ≡ true
+  pub tags : AllByRecursion AdmittedTag p.tags
+  pub fields : AllByRecursion AdmittedField p.fields
+  pub some_field : 0 < length p.fields
+  pub timestamp : IfSome p.timestamp (λ t. fits_i64 t ≡ true)
+
+-- the same of all tags, and of all fields
+pub admitted_tags : (ts : List Tag) → list_all is_admitted_tag ts ≡ true → AllByRecursion AdmittedTag ts
+admitted_tags [] all = tt
+admitted_tags (t ∷ ts) all =
+    let parts = and_parts (is_admitted_tag t) (list_all is_admitted_tag ts) all in
+    (and_parts _ _ parts.0, admitted_tags ts parts.1)
+
+-- with values in range
+admitted_fields : (fs : List Field) → list_all is_admitted_field fs ≡ true
+    → AllByRecursion (λ f. IsValue f.value) fs → AllByRecursion AdmittedField fs
+admitted_fields [] all values = tt
+admitted_fields (f ∷ fs) all values =
+    let parts = and_parts (is_admitted_field f) (list_all is_admitted_field fs) all in
+    ((parts.0, values.0), admitted_fields fs parts.1 values.1)
+
+-- the two tests of a point
+pub admitted_point : (p : Point) → IsPoint p → is_admitted_point p ≡ true → IsAdmitted p
+unfolding is_admitted_point
+admitted_point p h ok =
+    let names = and_parts (is_admitted_name a_measurement p.measurement && list_all is_admitted_tag p.tags)
+    (list_all is_admitted_field p.fields) ok in
+    let front = and_parts (is_admitted_name a_measurement p.measurement) (list_all is_admitted_tag p.tags) names.0 in
+    record {
+      measurement = front.0;
+      tags = admitted_tags p.tags front.1;
+      fields = admitted_fields p.fields names.1 h.values;
+      some_field = h.some_field;
+      timestamp = h.timestamp;
+    }
+
+-- the line of a point, part by part
+pub line_parts : (p : Point)
+    → line_of p ≡ spelling a_measurement p.measurement ++
+    (flat_map built_tag p.tags ++ (built_fields 32 p.fields ++ built_timestamp p.timestamp))
+unfolding line_of
+line_parts p = simp append_assoc
+
+-- the line of an admitted point is a piece that a newline ends
+pub line_is_cut_piece : (dialect : Dialect) (p : Point) → IsAdmitted p → IsCutPiece dialect (line_of p)
+line_is_cut_piece dialect p ok = subst (IsCutPiece dialect) (sym (line_parts p))
+    (whole p.measurement p.tags p.fields p.timestamp ok.measurement ok.tags ok.fields ok.some_field ok.timestamp)
+  where
+    whole : (n : List ℕ) (ts : List Tag) (fs : List Field) (t : Option ℤ)
+        → is_admitted_name a_measurement n ≡ true → AllByRecursion AdmittedTag ts → AllByRecursion AdmittedField fs
+        → 0 < length fs → IfSome t (λ z. fits_i64 z ≡ true)
+        → IsCutPiece dialect (spelling a_measurement n ++ (flat_map built_tag ts ++ (built_fields 32 fs ++ built_timestamp t)))
+    whole n ts [] t named tagged fielded some stamped = absurd (omega arith)
+    whole n ts (f ∷ fs) t named tagged fielded some stamped =
+        is_cut_piece dialect _ (line_no_comment _ (measurement_begins n _ named))
+        (reaches_line n ts f fs t named tagged fielded.0 fielded.1 stamped)
+
+-- the line of an admitted point begins with no blank, no newline and no `#`
+pub line_begins : (p : Point) → IsAdmitted p → BeginsLine (line_of p)
+line_begins p ok = subst BeginsLine (sym (line_parts p)) (measurement_begins p.measurement _ ok.measurement)

@@ -1,0 +1,200 @@
+-- Bases tell parsed series from one another.
+use Rattle.std.proofs.Common.{◌≡◌, ℕ, zero, suc, ◌+◌, ◌<◌, true, false, not, List, [], ◌∷◌, ◌++◌, ◌&&◌, length, drop, refl, sym, ap, ◌∙◌}
+use Rattle.std.proofs.Common.{subst, inl, inr, arith, append_assoc, add-one, Option, Some, None, Result, Ok}
+use Rattle.std.specs.List.{flat_map, list_all, list_any}
+use Rattle.std.specs.Option.{is_some}
+use Rattle.std.proofs.lemmas.Bool.{and_parts, cases_Bool, eq-eqb, false≢true, not-true, or_cases, or_parts}
+use Rattle.std.proofs.lemmas.List.{take-append-drop}
+use Rattle.lp_lines.specs.laws.BaseLaws.{IsClearSeries, IsParsedSeries, ClearSeriesHaveBases, SameSeriesHaveOneBase}
+use Rattle.lp_lines.specs.laws.BaseLaws.{base_bytes, is_tag_one_escape, spelled_tags}
+use Rattle.lp_lines.specs.code.Bases.{owned, base_by_key, base_of, base_text, based_tag, by_key, first_repeated, in_order}
+use Rattle.lp_lines.specs.code.Bases.{keys_of, is_strictly_sorted}
+use Rattle.lp_format.specs.code.Light.{is_single_tag}
+use Rattle.lp_format.specs.format.Bytes.{is_one_of}
+use Rattle.lp_format.specs.format.Escapes.{without_escapes}
+use Rattle.lp_format.specs.format.Lines.{byte, separated_list, some_tags, tag, tag_set}
+use Rattle.lp_format.specs.laws.Meanings.{SeparatedBy, SeparatedAfterComma}
+use Rattle.lp_format.specs.format.Names.{a_measurement, a_tag_key, a_tag_value, escapable, is_one_escape, is_shared, name}
+use Rattle.lp_format.specs.format.Names.{read_text, spelled, spelled_len}
+use Rattle.lp_format.specs.format.Points.{Pair}
+use Rattle.lp_format.specs.format.Readings.{Fault, Read, Reading, Text, fatal, miss, reads}
+use Rattle.lp_lines.proofs.lemmas.series.BaseLemmas.{base_falls, base_owned, base_part}
+use Rattle.lp_format.proofs.lemmas.meanings.JoinedMeaning.{the_most_is_read}
+use Rattle.lp_format.proofs.lemmas.names.NameLemmas.{without_escapes_same, no_backslash}
+use Rattle.lp_values.proofs.lemmas.fields.ReadingLemmas.{byte_parts, name_parts, pair_parts}
+use Rattle.lp_format.proofs.lemmas.meanings.ShorterRests.{tag_no_longer}
+use Rattle.lp_lines.proofs.lemmas.series.SortedTags.{by_key_in_order, by_key_same}
+
+-- a part of the text that is no escape alone is its own logical text
+single_same : (known text : List ℕ) → is_one_escape known text ≡ false → is_shared known text ≡ true → without_escapes known text ≡ text
+single_same known text apart shared = elim (or_cases (is_one_escape known text) (not (is_one_of text 92)) shared) [
+  | inl alone ↦ absurd (false≢true (sym apart ∙ alone))
+  | inr plain ↦ without_escapes_same known text (no_backslash text (not-true (is_one_of text 92) plain))
+]
+
+-- what is after a byte
+drop_past : (n : ℕ) (text : List ℕ) (b : ℕ) (rest : List ℕ) → drop n text ≡ b ∷ rest → drop (n + 1) text ≡ rest
+drop_past zero [] b rest e = absurd (cc)
+drop_past zero (c ∷ text) b rest e = cc
+drop_past (suc n) [] b rest e = absurd (cc)
+drop_past (suc n) (c ∷ text) b rest e = rw (add-one (suc n)) (rw (add-one n) at (drop_past n text b rest e))
+
+-- the value of a tag and what follows it
+abbrev pub value_part : List ℕ → List ℕ
+value_part text = drop (spelled_len a_tag_key text + 1) text
+
+-- how a tag is read
+pub record TagParts (text : List ℕ) (x : Pair Text Text) (rest : List ℕ) : Type 0 where
+  pub key_is : x.key ≡ read_text (escapable a_tag_key) (spelled a_tag_key text)
+  pub value_is : x.value ≡ read_text (escapable a_tag_value) (spelled a_tag_value (value_part text))
+  pub rest_is : rest ≡ drop (spelled_len a_tag_value (value_part text)) (value_part text)
+  pub text_is : text ≡ spelled a_tag_key text ++ 61 ∷ value_part text
+
+pub tag_parts : (text : List ℕ) (x : Pair Text Text) (rest : List ℕ) → tag text ≡ reads x rest → TagParts text x rest
+unfolding tag
+tag_parts text x rest e =
+    let p = pair_parts a_tag_key (name a_tag_value) text x rest e in
+    let key = name_parts a_tag_key text x.key (61 ∷ p.mid) p.key in
+    let value = name_parts a_tag_value p.mid x.value rest p.value in
+    let there : drop (spelled_len a_tag_key text) text ≡ 61 ∷ p.mid = sym key.1 in
+    let past : value_part text ≡ p.mid = drop_past (spelled_len a_tag_key text) text 61 p.mid there in
+    record {
+      key_is = key.0;
+      value_is = rw past value.0;
+      rest_is = rw past value.1;
+      text_is = rw past (sym (take-append-drop (spelled_len a_tag_key text) text) ∙ ap (λ (r : List ℕ). spelled a_tag_key text ++ r) there);
+    }
+
+-- a tag with what is after it
+one_tag : (text suffix key v value after flat shown read : List ℕ) → text ≡ 44 ∷ suffix → suffix ≡ key ++ 61 ∷ v → v ≡ value ++ after
+    → after ≡ flat → shown ≡ key → read ≡ value → text ≡ (44 ∷ shown ++ 61 ∷ read) ++ flat
+one_tag text suffix key v value after flat shown read a b c d e f =
+    let assoc = append_assoc key (61 ∷ value) flat in rw (a, b, c, d, e, f) (ap (λ (r : List ℕ). 44 ∷ r) (sym assoc))
+
+-- tags that are parts of the text, none of their names an escape alone, are spelled as they are
+spells : (tags : List (Pair Text Text)) (text : List ℕ) → SeparatedAfterComma tag tags text []
+    → list_any is_tag_one_escape (spelled_tags (length tags) text) ≡ false → list_all is_single_tag tags ≡ true
+    → text ≡ flat_map based_tag (in_order tags)
+spells [] text h apart single = h
+spells (t ∷ tags) text h apart single =
+    let after = h.0 in
+    let p = tag_parts after t h.1 h.3 in
+    let v = value_part after in
+    let escapes = or_parts (is_tag_one_escape (spelled a_tag_key after, spelled a_tag_value v))
+    (list_any is_tag_one_escape (spelled_tags (length tags) (drop (spelled_len a_tag_value v) v))) (rw (h.2) at apart) in
+    let alone = or_parts (is_one_escape (escapable a_tag_key) (spelled a_tag_key after))
+    (is_one_escape (escapable a_tag_value) (spelled a_tag_value v)) escapes.0 in
+    let singles = and_parts (is_single_tag t) (list_all is_single_tag tags) single in
+    let both = and_parts t.key.is_single t.value.is_single singles.0 in
+    let key : t.key.bytes ≡ spelled a_tag_key after =
+    ap (λ (x : Text). x.bytes) p.key_is
+    ∙ single_same (escapable a_tag_key) (spelled a_tag_key after) alone.0
+    (ap (λ (x : Text). x.is_single) (sym p.key_is) ∙ both.0) in
+    let value : t.value.bytes ≡ spelled a_tag_value v =
+    ap (λ (x : Text). x.bytes) p.value_is
+    ∙ single_same (escapable a_tag_value) (spelled a_tag_value v) alone.1
+    (ap (λ (x : Text). x.is_single) (sym p.value_is) ∙ both.1) in
+    let more = spells tags h.1 h.4
+    (ap (λ (r : List ℕ). list_any is_tag_one_escape (spelled_tags (length tags) r)) p.rest_is ∙ escapes.1) singles.1 in
+    let split : v ≡ spelled a_tag_value v ++ h.1 = sym (take-append-drop (spelled_len a_tag_value v) v)
+    ∙ ap (λ (r : List ℕ). spelled a_tag_value v ++ r) (sym p.rest_is) in
+    one_tag text after (spelled a_tag_key after) v (spelled a_tag_value v) h.1 (flat_map based_tag (in_order tags))
+    t.key.bytes t.value.bytes
+    h.2 p.text_is split more key value
+
+-- the parts of what is answered
+ok_parts : (x y : Option (List (Pair Text Text))) (r s : List ℕ)
+    → (let a : Result (Read (Option (List (Pair Text Text)))) Fault = Ok (record { value = x; rest = r }) in a) ≡ Ok
+    (record { value = y; rest = s })
+    → (x ≡ y) × (r ≡ s)
+ok_parts x y r s e =
+    let same : (let a : Read (Option (List (Pair Text Text))) = record { value = x; rest = r } in
+    a) ≡ record { value = y; rest = s } = cc in
+    (ap (λ (a : Read (Option (List (Pair Text Text)))). a.value) same, ap (λ (a : Read (Option (List (Pair Text Text)))). a.rest) same)
+
+-- joined tags come after commas, with the comma before them
+separated_after : (tags : List (Pair Text Text)) (text mark rest : List ℕ) → text ≡ 44 ∷ mark → 0 < length tags
+    → SeparatedBy tag tags mark rest → SeparatedAfterComma tag tags text rest
+separated_after [] text mark rest e some h = absurd (omega arith)
+separated_after (t ∷ tags) text mark rest e some h = (mark, h.0, e, h.1, h.2)
+
+-- the tags of a set are there, each after a comma, before what it leaves
+pub set_separated : (text left : List ℕ) (set : Option (List (Pair Text Text)))
+    → tag_set text ≡ Ok (record { value = set; rest = left }) → SeparatedAfterComma tag (some_tags set) text left
+set_separated text left set e = go (byte 44 text) refl
+  where
+    none : text ≡ left → None ≡ set → SeparatedAfterComma tag (some_tags set) text left
+    none is same = rw (← same) is
+
+    after : (c : ℕ) (mark : List ℕ) (r : Reading (List (Pair Text Text))) → byte 44 text ≡ reads c mark
+        → separated_list tag mark ≡ r → SeparatedAfterComma tag (some_tags set) text left
+    after c mark miss m j = absurd (let h = rw (m, j) at e in cc)
+    after c mark (fatal f) m j = absurd (let h = rw (m, j) at e in cc)
+    after c mark (reads xs rest) m j =
+        let same = ok_parts (Some xs) set rest left (rw (m, j) at e) in
+        let full = (the_most_is_read tag (λ t. (tag_no_longer t).holds) mark xs rest).0 j in
+        let separated = separated_after xs text mark rest (byte_parts 44 text c mark m).1 full.some full.longest.separated in
+        rw (← same.0) (subst (λ (r : List ℕ). SeparatedAfterComma tag xs text r) same.1 separated)
+
+    go : (r : Reading ℕ) → byte 44 text ≡ r → SeparatedAfterComma tag (some_tags set) text left
+    go miss m = let same = ok_parts None set text left (rw m at e) in none same.1 same.0
+    go (fatal f) m = let same = ok_parts None set text left (rw m at e) in none same.1 same.0
+    go (reads c mark) m = after c mark (separated_list tag mark) m refl
+
+-- the tags of a parsed series come after its measurement
+pub tags_separated : {raw : List ℕ} {m : Text} {tags : List (Pair Text Text)} (h : IsParsedSeries raw m tags)
+    → SeparatedAfterComma tag tags h.after []
+tags_separated h = rw (← h.tags_are) (set_separated h.after [] h.set h.set_is)
+
+-- a clear series whose names are parts of its raw text is spelled as they are
+raw_is : (raw : List ℕ) (m : Text) (tags : List (Pair Text Text)) → IsClearSeries raw m tags
+    → (m.is_single && list_all is_single_tag tags) ≡ true
+    → raw ≡ base_text m.bytes (in_order tags)
+raw_is raw m tags h single =
+    let p = name_parts a_measurement raw m h.parsed.after h.parsed.measurement_is in
+    let singles = and_parts m.is_single (list_all is_single_tag tags) single in
+    let apart = or_parts (is_one_escape (escapable a_measurement) (spelled a_measurement raw))
+    (list_any is_tag_one_escape (spelled_tags (length tags) (drop (spelled_len a_measurement raw) raw))) h.no_escape_alone in
+    let first : m.bytes ≡ spelled a_measurement raw =
+    ap (λ (x : Text). x.bytes) p.0
+    ∙ single_same (escapable a_measurement) (spelled a_measurement raw) apart.0
+    (ap (λ (x : Text). x.is_single) (sym p.0) ∙ singles.0) in
+    let more : h.parsed.after ≡ flat_map based_tag (in_order tags) =
+    spells tags h.parsed.after (tags_separated h.parsed)
+    (ap (λ (r : List ℕ). list_any is_tag_one_escape (spelled_tags (length tags) r)) p.1 ∙ apart.1) singles.1 in
+    let split : raw ≡ spelled a_measurement raw ++ h.parsed.after =
+    sym (take-append-drop (spelled_len a_measurement raw) raw) ∙ ap (λ (r : List ℕ). spelled a_measurement raw ++ r) (sym p.1) in
+    split ∙ ap (λ (r : List ℕ). spelled a_measurement raw ++ r) more
+    ∙ ap (λ (r : List ℕ). r ++ flat_map based_tag (in_order tags)) (sym first)
+
+-- a base by the order of the keys, where none is repeated
+by_key_is : (m : List ℕ) (tags : List (Pair Text Text)) → first_repeated (keys_of tags) ≡ length tags
+    → base_by_key m tags ≡ owned (base_text m (by_key tags))
+unfolding base_by_key
+by_key_is m tags once = rw (eq-eqb (first_repeated (keys_of tags)) (length tags) once) refl
+
+-- the base of a clear series is its measurement and its tags by their keys
+pub base_is : (raw : List ℕ) (m : Text) (tags : List (Pair Text Text)) → IsClearSeries raw m tags
+    → base_bytes (base_of raw m tags) ≡ Some (base_text m.bytes (by_key tags))
+base_is raw m tags h = elim (cases_Bool (is_strictly_sorted (keys_of tags))) [
+  | inr falls ↦ ap base_bytes (base_falls raw m tags falls ∙ by_key_is m.bytes tags h.repeats_none)
+  | inl rise ↦
+      let sorted = by_key_in_order tags h.repeats_none rise in
+      elim (cases_Bool (m.is_single && list_all is_single_tag tags)) [
+        | inl single ↦ ap base_bytes (base_part raw m tags rise single)
+            ∙ ap (λ (x : List ℕ). Some x) (raw_is raw m tags h single ∙ ap (λ (es : List (List ℕ × List ℕ)). base_text m.bytes es) sorted)
+        | inr copied ↦ ap base_bytes (base_owned raw m tags rise copied)
+            ∙ ap (λ (es : List (List ℕ × List ℕ)). Some (base_text m.bytes es)) sorted
+      ]
+]
+
+pub clear_series_have_bases : ClearSeriesHaveBases
+clear_series_have_bases raw m tags h = ap is_some (base_is raw m tags h)
+
+pub same_series_have_one_base : SameSeriesHaveOneBase
+same_series_have_one_base raw text m other tags others h k same =
+    base_is raw m tags h
+    ∙ ap (λ (x : List ℕ). Some (base_text x (by_key tags))) same.measurement_is
+    ∙ ap (λ (es : List (List ℕ × List ℕ)). Some (base_text other.bytes es))
+    (by_key_same tags others h.repeats_none k.repeats_none same.tags_are)
+    ∙ sym (base_is text other others k)

@@ -1,0 +1,221 @@
+-- Tags by their keys: one list for each set of tags without a repeated key.
+use Rattle.std.proofs.Common.{◌≡◌, ℕ, ◌<◌, true, false, List, [], ◌∷◌, ◌++◌, length, get_or, take, refl, sym, ap, ◌∙◌, subst, inl, inr}
+use Rattle.std.proofs.Common.{arith, append_assoc, length-append, zero-add}
+use Rattle.std.specs.declared.cmp.Ordering.{Ordering}
+use Rattle.std.specs.declared.cmp.Ordering.TheVariants.{Less, Equal, Greater}
+use Rattle.std.specs.BTreeMap.{insert_entry}
+use Rattle.std.specs.Cmp.Lexicographic.{slice_cmp}
+use Rattle.std.specs.List.{Contains, fold, list_any, range_with_len}
+use Rattle.std.specs.List.Sorted.{IsPermutation}
+use Rattle.std.specs.Ordering.{is_lt, match_ordering, nat_cmp, ordering_reverse}
+use Rattle.std.specs.Str.{bytes_eq}
+use Rattle.std.proofs.lemmas.Bool.{and_parts}
+use Rattle.std.proofs.lemmas.List.{length-map}
+use Rattle.std.proofs.lemmas.Cmp.{nat_list_cmp_total, tied_itself}
+use Rattle.std.proofs.lemmas.List.FromFn.{get_or-range_with_len}
+use Rattle.std.proofs.lemmas.List.Sums.{fails_before_first}
+use Rattle.std.proofs.lemmas.List.Sorted.{Contains-permutation, IsPermutation-sym, IsPermutation-trans}
+use Rattle.lp_lines.specs.code.Bases.{by_key, first_repeated, in_order, is_repeated_at, keys_of, is_strictly_sorted}
+use Rattle.lp_lines.specs.laws.BaseLaws.{entry_keys}
+use Rattle.lp_format.specs.format.Points.{Pair}
+use Rattle.lp_format.specs.format.Readings.{Text}
+use Rattle.lp_lines.proofs.lemmas.series.BaseOrder.{AreNew, by_key_moves}
+use Rattle.lp_format.proofs.lemmas.lists.Elements.{first_element, first_or_later, later_element}
+
+-- a key is less than all of these
+abbrev pub IsBelow : List ℕ → List (List ℕ × List ℕ) → Type 0
+IsBelow k [] = Unit {0}
+IsBelow k (e ∷ es) = (slice_cmp nat_cmp k e.0 ≡ Less) × IsBelow k es
+
+-- the keys rise
+abbrev pub Rise : List (List ℕ × List ℕ) → Type 0
+Rise [] = Unit {0}
+Rise (e ∷ es) = IsBelow e.0 es × Rise es
+
+-- a lower key is below the same
+pub below_all : (k l : List ℕ) (es : List (List ℕ × List ℕ)) → slice_cmp nat_cmp k l ≡ Less → IsBelow l es → IsBelow k es
+below_all k l [] less below = tt
+below_all k l (e ∷ es) less below = (nat_list_cmp_total.trans k l e.0 less below.0, below_all k l es less below.1)
+
+-- a key that is less than the new key and all of these, is less than all with the new one
+below_placed : (k : List ℕ) (o : Ordering) (a b c : List (List ℕ × List ℕ)) → IsBelow k a → IsBelow k b
+    → IsBelow k c → IsBelow k (match_ordering o a b c)
+below_placed k Less a b c x y z = x
+below_placed k Equal a b c x y z = y
+below_placed k Greater a b c x y z = z
+
+below_insert : (k l v : List ℕ) (es : List (List ℕ × List ℕ)) → slice_cmp nat_cmp k l ≡ Less → IsBelow k es
+    → IsBelow k (insert_entry (slice_cmp nat_cmp) es l v)
+below_insert k l v [] less below = (less, tt)
+below_insert k l v (e ∷ es) less below =
+    below_placed k (slice_cmp nat_cmp l e.0) _ _ _ (less, below) (below.0, below.1) (below.0, below_insert k l v es less below.1)
+
+-- the order turned
+turned : (o p : Ordering) → o ≡ ordering_reverse p → p ≡ Greater → o ≡ Less
+turned o p e g = rw g at e
+
+rise_placed : (k v : List ℕ) (e : List ℕ × List ℕ) (es : List (List ℕ × List ℕ)) (o : Ordering) → slice_cmp nat_cmp k e.0 ≡ o
+    → IsBelow e.0 es → Rise es → Rise (insert_entry (slice_cmp nat_cmp) es k v)
+    → Rise (match_ordering o ((k, v) ∷ e ∷ es) ((e.0, v) ∷ es) (e ∷ insert_entry (slice_cmp nat_cmp) es k v))
+rise_placed k v e es Less is below rise more = ((is, below_all k e.0 es is below), (below, rise))
+rise_placed k v e es Equal is below rise more = (below, rise)
+rise_placed k v e es Greater is below rise more =
+    (below_insert e.0 k v es (turned _ _ (nat_list_cmp_total.antisymm e.0 k) is) below, more)
+
+-- where an entry goes in, the keys still rise
+rise_insert : (k v : List ℕ) (es : List (List ℕ × List ℕ)) → Rise es → Rise (insert_entry (slice_cmp nat_cmp) es k v)
+rise_insert k v [] rise = (tt, tt)
+rise_insert k v (e ∷ es) rise = rise_placed k v e es (slice_cmp nat_cmp k e.0) refl rise.0 rise.1 (rise_insert k v es rise.1)
+
+rise_fold : (es : List (List ℕ × List ℕ)) (tags : List (Pair Text Text)) → Rise es
+    → Rise (fold (λ entries t. insert_entry (slice_cmp nat_cmp) entries t.key.bytes t.value.bytes) es tags)
+rise_fold es [] rise = rise
+rise_fold es (t ∷ tags) rise = rise_fold (insert_entry (slice_cmp nat_cmp) es t.key.bytes t.value.bytes) tags
+    (rise_insert t.key.bytes t.value.bytes es rise)
+
+-- tags by their keys rise
+pub by_key_rises : (tags : List (Pair Text Text)) → Rise (by_key tags)
+unfolding by_key
+by_key_rises tags = rise_fold [] tags tt
+
+-- what is less than all is less than each
+below_each : (k : List ℕ) (es : List (List ℕ × List ℕ)) (e : List ℕ × List ℕ) → IsBelow k es → Contains es e
+    → slice_cmp nat_cmp k e.0 ≡ Less
+below_each k [] e below h = let l = h.1 in absurd (omega arith)
+below_each k (x ∷ es) e below h = elim (first_or_later x e es h) [
+  | inl same ↦ ap (λ (y : List ℕ × List ℕ). slice_cmp nat_cmp k y.0) (sym same) ∙ below.0
+  | inr after ↦ below_each k es e below.1 after
+]
+
+-- no key is less than itself
+not_below_itself : (k : List ℕ) → slice_cmp nat_cmp k k ≡ Less → ⊥
+not_below_itself k h = let same = tied_itself nat_list_cmp_total k in cc
+
+-- each element of one is in the other
+abbrev IsWithin : List (List ℕ × List ℕ) → List (List ℕ × List ℕ) → Type 0
+IsWithin xs ys = (e : List ℕ × List ℕ) → Contains xs e → Contains ys e
+
+same_first : (x y : List ℕ × List ℕ) (xs ys : List (List ℕ × List ℕ)) → IsBelow x.0 xs → IsBelow y.0 ys
+    → IsWithin (x ∷ xs) (y ∷ ys) → IsWithin (y ∷ ys) (x ∷ xs) → x ≡ y
+same_first x y xs ys below under h k = elim (first_or_later y x ys (h x (first_element x xs))) [
+  | inl same ↦ sym same
+  | inr suffix ↦ elim (first_or_later x y xs (k y (first_element y ys))) [
+    | inl same ↦ same
+    | inr after ↦ absurd (not_below_itself x.0
+        (nat_list_cmp_total.trans x.0 y.0 x.0 (below_each x.0 xs y below after) (below_each y.0 ys x under suffix)))
+  ]
+]
+
+within_after : (x y : List ℕ × List ℕ) (xs ys : List (List ℕ × List ℕ)) → x ≡ y → IsBelow x.0 xs
+    → IsWithin (x ∷ xs) (y ∷ ys) → IsWithin xs ys
+within_after x y xs ys same below h e there = elim (first_or_later y e ys (h e (later_element x e xs there))) [
+  | inl is ↦ absurd (not_below_itself x.0
+      (ap (λ (z : List ℕ × List ℕ). slice_cmp nat_cmp x.0 z.0) (same ∙ is) ∙ below_each x.0 xs e below there))
+  | inr after ↦ after
+]
+
+-- where keys rise, the elements fix the list
+same_elements : (xs ys : List (List ℕ × List ℕ)) → Rise xs → Rise ys → IsWithin xs ys → IsWithin ys xs → xs ≡ ys
+same_elements [] [] rise up h k = refl
+same_elements [] (y ∷ ys) rise up h k = let l = (k y (first_element y ys)).1 in absurd (omega arith)
+same_elements (x ∷ xs) [] rise up h k = let l = (h x (first_element x xs)).1 in absurd (omega arith)
+same_elements (x ∷ xs) (y ∷ ys) rise up h k =
+    let same : x ≡ y = same_first x y xs ys rise.0 up.0 h k in
+    let more : xs ≡ ys = same_elements xs ys rise.1 up.1 (within_after x y xs ys same rise.0 h)
+    (within_after y x ys xs (sym same) up.0 k) in
+    cc
+
+-- so does any order of it
+pub same_moved : (xs ys : List (List ℕ × List ℕ)) → Rise xs → Rise ys → IsPermutation xs ys → xs ≡ ys
+same_moved xs ys rise up moves =
+    same_elements xs ys rise up (λ e h. Contains-permutation xs ys e moves h)
+    (λ e h. Contains-permutation ys xs e (IsPermutation-sym xs ys moves) h)
+
+-- what the test of less says
+less_from_test : (o : Ordering) → is_lt o ≡ true → o ≡ Less
+less_from_test Less h = refl
+less_from_test Equal h = cc
+less_from_test Greater h = cc
+
+-- keys that rise from one to the next rise
+pub passes_rise : (es : List (List ℕ × List ℕ)) → is_strictly_sorted (entry_keys es) ≡ true → Rise es
+passes_rise [] h = tt
+passes_rise (e ∷ []) h = (tt, tt)
+passes_rise (e ∷ f ∷ es) h =
+    let parts = and_parts (is_lt (slice_cmp nat_cmp e.0 f.0)) (is_strictly_sorted (entry_keys (f ∷ es))) h in
+    let more = passes_rise (f ∷ es) parts.1 in
+    ((less_from_test _ parts.0, below_all e.0 f.0 es (less_from_test _ parts.0) more.0), more)
+
+-- the keys of the tags as entries
+keys_in_order : (tags : List (Pair Text Text)) → entry_keys (in_order tags) ≡ keys_of tags
+keys_in_order [] = refl
+keys_in_order (t ∷ tags) = ap (λ (ks : List (List ℕ)). t.key.bytes ∷ ks) (keys_in_order tags)
+
+-- one tag more
+in_order_push : (front : List (Pair Text Text)) (t : Pair Text Text)
+    → in_order (front ++ t ∷ []) ≡ in_order front ++ (t.key.bytes, t.value.bytes) ∷ []
+in_order_push [] t = refl
+in_order_push (u ∷ front) t = ap (λ (es : List (List ℕ × List ℕ)). (u.key.bytes, u.value.bytes) ∷ es) (in_order_push front t)
+
+-- the key after these tags, and those before it
+key_after : (front : List (Pair Text Text)) (t : Pair Text Text) (tags : List (Pair Text Text))
+    → get_or (keys_of (front ++ t ∷ tags)) (length front) [] ≡ t.key.bytes
+key_after [] t tags = refl
+key_after (u ∷ front) t tags = key_after front t tags
+
+keys_before : (front tags : List (Pair Text Text)) → take (length front) (keys_of (front ++ tags)) ≡ keys_of front
+keys_before [] tags = refl
+keys_before (u ∷ front) tags = ap (λ (ks : List (List ℕ)). u.key.bytes ∷ ks) (keys_before front tags)
+
+-- a key among entries
+any_key : (q : List ℕ) (tags : List (Pair Text Text))
+    → list_any (λ e. bytes_eq q e.0) (in_order tags) ≡ list_any (bytes_eq q) (keys_of tags)
+any_key q [] = refl
+any_key q (t ∷ tags) = rw (any_key q tags) refl
+
+-- no key is at an earlier place
+abbrev NoneRepeated : List (Pair Text Text) → Type 0
+NoneRepeated tags = (k : ℕ) → k < length tags → is_repeated_at (keys_of tags) k ≡ false
+
+new_after : (front tags : List (Pair Text Text)) → NoneRepeated (front ++ tags) → AreNew (in_order front) tags
+new_after front [] none = tt
+new_after front (t ∷ tags) none =
+    let here : is_repeated_at (keys_of (front ++ t ∷ tags)) (length front) ≡ false = none (length front)
+    (omega (arith, length-append front (t ∷ tags))) in
+    let absent : list_any (bytes_eq t.key.bytes)
+    (keys_of front) ≡ false = rw (key_after front t tags, keys_before front (t ∷ tags)) at here in (
+      any_key t.key.bytes front ∙ absent,
+      subst (λ (es : List (List ℕ × List ℕ)). AreNew es tags) (in_order_push front t)
+          (new_after (front ++ t ∷ []) tags
+          (subst (λ (ts : List (Pair Text Text)). NoneRepeated ts) (sym (append_assoc front (t ∷ []) tags)) none)),
+    )
+
+none_repeated : (keys : List (List ℕ)) → first_repeated keys ≡ length keys → (k : ℕ) → k < length keys → is_repeated_at keys k ≡ false
+unfolding first_repeated
+none_repeated keys e k h =
+    let fails = fails_before_first (is_repeated_at keys) (range_with_len 0 (length keys)) k 0 (omega arith) in
+    rw (get_or-range_with_len 0 (length keys) k 0 h, zero-add k) at fails
+
+-- the tags by their keys are the tags in another order
+pub by_key_permutes : (tags : List (Pair Text Text)) → first_repeated (keys_of tags) ≡ length tags
+    → IsPermutation (in_order tags) (by_key tags)
+by_key_permutes tags once =
+    let len = length-map tags (λ (t : Pair Text Text). t.key.bytes) in
+    by_key_moves tags (new_after [] tags (λ k h. none_repeated (keys_of tags) (once ∙ sym len) k (omega arith)))
+
+-- where the keys rise, that is their own order
+pub by_key_in_order : (tags : List (Pair Text Text)) → first_repeated (keys_of tags) ≡ length tags
+    → is_strictly_sorted (keys_of tags) ≡ true → in_order tags ≡ by_key tags
+by_key_in_order tags once rise = same_moved (in_order tags) (by_key tags)
+    (passes_rise (in_order tags) (ap is_strictly_sorted (keys_in_order tags) ∙ rise))
+    (by_key_rises tags) (by_key_permutes tags once)
+
+-- the same tags in another order are the same by their keys
+pub by_key_same : (tags others : List (Pair Text Text)) → first_repeated (keys_of tags) ≡ length tags
+    → first_repeated (keys_of others) ≡ length others
+    → IsPermutation (in_order tags) (in_order others) → by_key tags ≡ by_key others
+by_key_same tags others once too moves =
+    same_moved (by_key tags) (by_key others) (by_key_rises tags) (by_key_rises others)
+    (IsPermutation-trans (by_key tags) (in_order tags) (by_key others)
+    (IsPermutation-sym (in_order tags) (by_key tags) (by_key_permutes tags once))
+    (IsPermutation-trans (in_order tags) (in_order others) (by_key others) moves (by_key_permutes others too)))

@@ -1,0 +1,117 @@
+-- The front before the first bare byte that passes a test.
+use Rattle.std.proofs.Common.{◌≡◌, ◌↔◌, ℕ, suc, ◌≤◌, List, [], ◌∷◌, ◌++◌, length, take, Bool, true, false, not, ◌&&◌, cond, refl, sym, ap}
+use Rattle.std.proofs.Common.{◌∙◌, subst, inl, inr, arith, length-take, append_assoc, append-nil}
+use Rattle.std.specs.List.{All, range_with_len}
+use Rattle.std.proofs.lemmas.Bool.{cases_Bool, and_parts, and_right, not-true}
+use Rattle.std.proofs.Math.Seq.{take-append_seam}
+use Rattle.std.proofs.lemmas.List.Sums.{prefix_len-le-length}
+use Rattle.std.proofs.lemmas.List.FromFn.{length-range_with_len}
+use Rattle.std.proofs.lemmas.List.Elements.{All-cons, All-nil}
+use Rattle.lp_format.specs.format.Escapes.{bare_after, first_bare, is_bare_at, is_escaped_after}
+use Rattle.lp_format.specs.laws.Meanings.{IsAtStop, IsBeforeStop}
+use Rattle.lp_format.proofs.lemmas.tokens.EscapeLemmas.{is_escaped_push}
+use Rattle.lp_split.proofs.lemmas.split.ScanLemmas.{bare_len, first_bare_len}
+use Rattle.lp_format.proofs.lemmas.split.SplitBare.{is_escaped-nil}
+
+module _ (passes : ℕ → Bool) where
+  -- none of the bytes passes
+  abbrev AllFail : List ℕ → Type 0
+  AllFail bytes = All (λ b. passes b ≡ false) bytes
+
+  -- a byte that is escaped or does not pass, and the others
+  first_fails : (e : Bool) (b : ℕ) (rest : List ℕ) → AllFail (cond e [] (b ∷ []) ++ rest) → (passes b && not e) ≡ false
+  first_fails true b rest h = and_right (passes b) false refl
+  first_fails false b rest h = rw (h 0 0 (omega arith)) refl
+
+  -- the others
+  others_fail : (e : Bool) (b : ℕ) (rest : List ℕ) → AllFail (cond e [] (b ∷ []) ++ rest) → AllFail rest
+  others_fail true b rest h = h
+  others_fail false b rest h = λ k d l. h (suc k) d (omega arith)
+
+  -- and back
+  all_fail : (e : Bool) (b : ℕ) (rest : List ℕ) → (passes b && not e) ≡ false → AllFail rest → AllFail (cond e [] (b ∷ []) ++ rest)
+  all_fail true b rest h k = k
+  all_fail false b rest h k = All-cons (λ (c : ℕ). passes c ≡ false) b rest (and_true (passes b) h) k
+    where
+      and_true : (t : Bool) → (t && true) ≡ false → t ≡ false
+      and_true true m = absurd (cc)
+      and_true false m = refl
+
+  -- one byte before the stop
+  len_more : (p : List ℕ) (b : ℕ) (rest : List ℕ) → (passes b && not (is_escaped_after p)) ≡ false
+      → bare_len passes (is_escaped_after p) (b ∷ rest) ≡ suc (bare_len passes (is_escaped_after (p ++ b ∷ [])) rest)
+  len_more p b rest h = rw h (ap (λ (e : Bool). suc (bare_len passes e rest)) (sym (is_escaped_push p b)))
+
+  -- the front before the stop is as long as the bytes before it
+  stop_len : (p front after : List ℕ) → AllFail (bare_after p front) → IsAtStop passes (p ++ front) after
+      → bare_len passes (is_escaped_after p) (front ++ after) ≡ length front
+  stop_len p [] [] none at = refl
+  stop_len p [] (b ∷ after) none at =
+      let bare_here : is_escaped_after p ≡ false = ap is_escaped_after (sym (append-nil p)) ∙ at.0 in
+      rw (bare_here, at.1) refl
+  stop_len p (b ∷ front) after none at =
+      let here = first_fails (is_escaped_after p) b (bare_after (p ++ b ∷ []) front) none in
+      let others = others_fail (is_escaped_after p) b (bare_after (p ++ b ∷ []) front) none in
+      let there = subst (λ (t : List ℕ). IsAtStop passes t after) (sym (append_assoc p (b ∷ []) front)) at in
+      len_more p b (front ++ after) here ∙ ap suc (stop_len (p ++ b ∷ []) front after others there)
+
+  -- and the other way round
+  record Before (p front after : List ℕ) : Type 0 where
+    none : AllFail (bare_after p front)
+    at_stop : IsAtStop passes (p ++ front) after
+
+  -- where the stop comes at once
+  stop_at : (p : List ℕ) (after : List ℕ) → bare_len passes (is_escaped_after p) after ≡ 0 → IsAtStop passes p after
+  stop_at p [] h = tt
+  stop_at p (b ∷ after) h =
+      elim (cases_Bool (passes b && not (is_escaped_after p))) [
+        | inl stop ↦
+            let parts = and_parts (passes b) (not (is_escaped_after p)) stop in
+            (not-true (is_escaped_after p) parts.1, parts.0)
+        | inr on ↦ let more = sym (len_more p b after on) ∙ h in absurd (omega arith)
+      ]
+
+  -- what the length of the front says of it
+  before_by : (p front after : List ℕ) → bare_len passes (is_escaped_after p) (front ++ after) ≡ length front → Before p front after
+  before_by p [] after h =
+      record {
+        none = All-nil (λ (c : ℕ). passes c ≡ false);
+        at_stop = subst (λ (t : List ℕ). IsAtStop passes t after) (sym (append-nil p)) (stop_at p after h);
+      }
+  before_by p (b ∷ front) after h =
+      elim (cases_Bool (passes b && not (is_escaped_after p))) [
+        | inl stop ↦ let none : 0 ≡ suc (length front) = rw stop at h in absurd (omega arith)
+        | inr on ↦
+            let more = sym (len_more p b (front ++ after) on) ∙ h in
+            let rest = before_by (p ++ b ∷ []) front after (omega arith) in
+            record {
+              none = all_fail (is_escaped_after p) b (bare_after (p ++ b ∷ []) front) on rest.none;
+              at_stop = subst (λ (t : List ℕ). IsAtStop passes t after) (append_assoc p (b ∷ []) front) rest.at_stop;
+            }
+      ]
+
+  -- the length of the front, by what it is
+  first_len : (text : List ℕ) → first_bare passes text ≡ bare_len passes (is_escaped_after []) text
+  first_len text = first_bare_len passes text ∙ ap (λ (e : Bool). bare_len passes e text) (sym is_escaped-nil)
+
+  -- the first stop is in the text or at its end
+  first_fits : (text : List ℕ) → first_bare passes text ≤ length text
+  unfolding first_bare
+  first_fits text =
+      let fits = prefix_len-le-length (λ i. not (is_bare_at passes text i)) (range_with_len 0 (length text)) in
+      omega (arith, fits, length-range_with_len 0 (length text))
+
+  -- the front before the first stop
+  pub before_stop : (front after : List ℕ) → (take (first_bare passes (front ++ after)) (front ++ after) ≡ front)
+      ↔ IsBeforeStop passes front after
+  before_stop front after = (
+    (λ h.
+        let fits = first_fits (front ++ after) in
+        let len : first_bare passes (front ++ after) ≡ length front = omega
+        (arith, ap length h, length-take (first_bare passes (front ++ after)) (front ++ after)) in
+        let b = before_by [] front after (sym (first_len (front ++ after)) ∙ len) in
+        record { none = b.none; at_stop = b.at_stop }),
+    (λ h.
+        ap (λ (n : ℕ). take n (front ++ after)) (first_len (front ++ after) ∙ stop_len [] front after h.none h.at_stop)
+        ∙ take-append_seam front after),
+  )
