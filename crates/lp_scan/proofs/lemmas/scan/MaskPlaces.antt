@@ -1,5 +1,5 @@
 -- Masks of the places of a text: without their lowest bits, and their lowest bit.
-use Rattle.std.proofs.Common.{◌≡◌, ℕ, ◌+◌, ◌-◌, ◌/◌, ◌^◌, ◌<◌, ◌≤◌, Bool, drop, ap, subst, ◌∙◌, map, inl, inr, arith, zero, suc, ap₂}
+use Rattle.std.proofs.Common.{◌≡◌, ℕ, ◌+◌, ◌/◌, ◌^◌, ◌<◌, ◌≤◌, Bool, drop, ap, subst, ◌∙◌, map, inl, inr, arith, zero, suc, ap₂}
 use Rattle.std.specs.Int.{w64, bit_at, trailing_zeros}
 use Rattle.std.proofs.Math.Nat.{pow-le-pow_right}
 use Rattle.std.proofs.lemmas.Bool.{cases_lt}
