@@ -4,17 +4,14 @@ use Rattle.std.proofs.Common.{length-drop, refl, sym, ap, ap₂, ◌∙◌, subs
 use Rattle.std.specs.Prelude.{◌==◌}
 use Rattle.std.specs.List.{range_with_len}
 use Rattle.std.proofs.Math.Seq.{take-add}
-use Rattle.std.proofs.lemmas.List.{drop-drop, drop-map, get_or-drop}
-use Rattle.std.proofs.lemmas.List.FromFn.{length-map-range_with_len}
-use Rattle.std.proofs.lemmas.Simd.{mask_l-lt}
+use Rattle.std.proofs.lemmas.List.{drop-drop, get_or-drop}
 use lib.Lanes.{mask_l}
 use Rattle.lp_split.specs.declared.split.Ahead.{Ahead}
 use Rattle.lp_split.specs.code.Ahead.{IsAhead}
 use Rattle.lp_scan.specs.code.Scan.{mask_at}
 use Rattle.lp_format.specs.format.Escapes.{is_bare_at, is_escaped_after, IsBareAfter}
-use Rattle.lp_scan.proofs.lemmas.scan.MaskLemmas.{mask_l-drop}
 use Rattle.lp_scan.proofs.lemmas.scan.BareMasks.{at_most_one, next_bare, one_escaped}
-use Rattle.lp_scan.proofs.lemmas.scan.MaskPlaces.{mask_after, mask_fits}
+use Rattle.lp_scan.proofs.lemmas.scan.MaskPlaces.{mask_after}
 use Rattle.lp_format.proofs.lemmas.split.SplitBare.{is_escaped-nil}
 use Rattle.lp_split.proofs.lemmas.split.SplitStretches.{bare_joined}
 

@@ -1,11 +1,9 @@
 -- The lowest bit of a mask is the first of the marks that it has, and the bits above it are those after that one.
 use Rattle.std.proofs.Common.{◌≡◌, ℕ, ◌+◌, ◌-◌, ◌/◌, ◌^◌, ◌<◌, ◌≤◌, Bool, true, cond, not, List, length, drop, slice_index, Some, sym, ap}
 use Rattle.std.proofs.Common.{subst, ◌∙◌, map, inl, inr, refl, length-drop, arith}
-use Rattle.std.specs.Int.{w64, bit_at, trailing_zeros}
-use Rattle.std.proofs.Math.Nat.{pow-le-pow_right}
+use Rattle.std.specs.Int.{w64, trailing_zeros}
 use Rattle.std.proofs.lemmas.Bool.{cases_lt, ne_eqb, not-true, not-false, false≢true}
 use Rattle.std.proofs.lemmas.List.{length-map}
-use Rattle.std.proofs.lemmas.Nat.Bits.{bit_at-trailing_zeros, bit_at_above}
 use Rattle.std.proofs.lemmas.Simd.{length-chunk, mask_l-lt}
 use lib.Lanes.{chunk, mask_l}
 use Rattle.memchr.specs.Find.{IsFirstByte, is_byte3}
