@@ -11,9 +11,7 @@ pub mod laws;
 
 pub use lp_build::builder;
 pub use lp_build::builder::{LineProtocolBuilder, is_admitted, write_line, write_parsed};
-pub use lp_lines::{
-    FieldSet, ParseLines, ParsedLine, Series, TagSet, parse_lines, parse_lines_in,
-};
+pub use lp_lines::{FieldSet, ParseLines, ParsedLine, Series, TagSet, parse_lines, parse_lines_in};
 pub use lp_split::{
     BoundedLineStream, Dialect, LineStream, PieceTooLong, SplitLines, split_lines, split_lines_in,
 };

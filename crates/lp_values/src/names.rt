@@ -9,9 +9,9 @@ ghost use Rattle.lp_values.specs.code.Texts.{read_of};
 
 use crate::error::Error;
 use crate::escaped::EscapedStr;
-use lp_scan::sets::TokenKind;
 pub use crate::tokens::escaped_str;
 use crate::tokens::{RawToken, take_token};
+use lp_scan::sets::TokenKind;
 use std::alloc::Global;
 
 #[derive(Clone, Copy)]

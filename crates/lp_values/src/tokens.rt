@@ -365,10 +365,7 @@ fn unescaped<'a>(
 
 /// The logical text of a token. Only a copy takes memory: one request, for just its length.
 #[inline(always)]
-pub fn escaped_str<'a>(
-    alloc: Global,
-    token: RawToken<'a>,
-) -> Result<EscapedStr<'a>, AllocError>
+pub fn escaped_str<'a>(alloc: Global, token: RawToken<'a>) -> Result<EscapedStr<'a>, AllocError>
     ensures text { IfOk result (λ text. read_of text ≡ read_text (known_of token.entry.kind) token.entry.text.now) }
     ensures no_memory { is_shared (known_of token.entry.kind) token.entry.text.now ≡ true → IsOk result }
 {

@@ -260,10 +260,7 @@ fn boolean(text: &str) -> Option<(FieldValue<'_>, &str)>
 /// Its first byte says whether it is a number, a text or a Boolean, and the byte after the integer that a number begins with
 /// says which number. One out of range is the line's fault.
 #[inline(always)]
-pub fn value<'a>(
-    alloc: Global,
-    text: &'a str,
-) -> Result<Option<(FieldValue<'a>, &'a str)>, Error>
+pub fn value<'a>(alloc: Global, text: &'a str) -> Result<Option<(FieldValue<'a>, &'a str)>, Error>
     ensures value { Gives value_of result (value text.now) }
     ensures less { IfOk result (λ o. IfSome o (λ p. length p.1.now < length text.now)) }
     ensures memory { result ≡ Err Error.OutOfMemory → NeedsMemory is_single_value (value text.now) }
