@@ -18,8 +18,8 @@ returns-then-branch-head c =
     let first : length (spelling a_measurement (parsed_point line).measurement) ≡ c.escaped_len-measurement_len.result =
     ap (λ (t : List ℕ). length (spelling a_measurement t)) (sym name) ∙ sym c.escaped_len-measurement_len.ensures in
     let tags : length (flat_map built_tag (parsed_point line).tags) ≡ c.in_ok-tags_len.field-0.len =
-    ap (λ (ts : List (Pair Text Text)). length (flat_map built_tag (map logical_tag ts))) c.tags.ensures.read
-    ∙ ap length (tags_text_is c.tags.result.now) ∙ sym c.in_ok-tags_len.ensures.len.1 in
+    ap (λ (ts : List (Pair Text Text)). length (flat_map built_tag (map logical_tag ts))) c.tags_in.ensures.read
+    ∙ ap length (tags_text_is c.tags_in.result.now) ∙ sym c.in_ok-tags_len.ensures.len.1 in
     let whole : length (spelling a_measurement (parsed_point line).measurement) + length
     (flat_map built_tag (parsed_point line).tags) ≡ length line.series.raw_input.now =
     omega (arith, first, tags, c.in_ok-checked_add.ensures.1, c.if-branch-head.true, ap length head) in

@@ -6,4 +6,4 @@ use Rattle.lp_build.proofs.builder.lines.Parts.of.Goals as goal
 pub returns : goal.returns
 returns c =
     let measurement : c.as_bytes.result.now ≡ text_of c.args.line.now.series.measurement = cc in
-    parts_text_is _ c.args.line.now measurement c.tags.ensures.read c.as_slice.ensures refl
+    parts_text_is _ c.args.line.now measurement c.tags_in.ensures.read c.as_slice.ensures refl
