@@ -127,7 +127,7 @@ def subject_of(crate, path):
             comment.append(line[3:])
             at += 1
             continue
-        elif line.startswith("infix"):
+        elif line.startswith(("infix", "pub use ")):
             at += 1
             continue
         elif DEFINITION.match(line):
