@@ -15,3 +15,5 @@ pub use Rattle.lp_lines.specs.declared.parsed.ParsedLine
 pub use Rattle.lp_lines.specs.declared.line.ParseLines
 pub use Rattle.lp_build.specs.declared.builder.buffer.NoRoom
 pub use Rattle.lp_build.specs.declared.builder.LineProtocolBuilder
+pub use Rattle.lp_build.specs.declared.builder.parsed.Written
+pub use Rattle.lp_build.specs.declared.builder.Refused
