@@ -1,13 +1,13 @@
 -- Bases that are safe to group by tell their series.
-use Rattle.std.proofs.Common.{◌≡◌, ℕ, ◌+◌, Bool, true, false, not, List, [], ◌∷◌, ◌||◌, length, drop, refl, sym, ap, ◌∙◌, inl, inr}
+use Rattle.std.proofs.Common.{◌≡◌, ℕ, Bool, true, false, not, List, [], ◌∷◌, ◌||◌, length, drop, refl, sym, ap, ◌∙◌, inl, inr}
 use Rattle.std.specs.Prelude.{◌==◌}
 use Rattle.std.specs.List.{list_any}
 use Rattle.std.proofs.lemmas.Bool.{cases_Bool, false≢true, not-true, or_from, or_parts}
 use Rattle.std.proofs.lemmas.List.Sorted.{list_any-IsPermutation}
 use Rattle.lp_lines.specs.laws.BaseLaws.{IsClearSeries, IsParsedSeries, SafeBasesTellSeries, SameSeriesAreSafeAlike}
 use Rattle.lp_lines.specs.laws.BaseLaws.{has_one_escape, is_delimited, is_tag_delimited, is_tag_one_escape, spelled_tags}
-use Rattle.lp_lines.specs.code.Bases.{first_repeated, in_order, is_ambiguous_name, is_ambiguous_tag, is_base_safe}
-use Rattle.lp_lines.specs.code.Bases.{is_byte_alone, keys_of}
+use Rattle.lp_lines.specs.code.Bases.{in_order, is_ambiguous_name, is_ambiguous_tag, is_base_safe}
+use Rattle.lp_lines.specs.code.Bases.{is_byte_alone}
 use Rattle.lp_format.specs.format.Bytes.{is_one_of}
 use Rattle.lp_format.specs.format.Escapes.{without_escapes}
 use Rattle.lp_format.specs.format.Lines.{tag}
