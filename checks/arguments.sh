@@ -134,6 +134,9 @@ if [ -n "$program" ]; then
     wanted 2 "" "$usage" --lines=1
     wanted 2 "" "$usage" --Lines
     wanted 2 "" "$usage" --lines --help
+    wanted 2 "" "$usage" --lines --strict --progress --max-line 7 --help
+    wanted 2 "" "$usage" --lines --strict --progress --max-line 7 7
+    wanted 0 "8${newline}8${newline}8$newline" "" --cut 3
     wanted 2 "" "$usage" --lines --cut 2
     wanted 2 "" "$usage" --cut 2 --strict
     wanted 2 "" "$usage" --cut 2 --lines
@@ -148,6 +151,10 @@ fi
 run --help
 if [ "$status" != 0 ] || [ -s "$work/err" ] || ! printf '%s' "$usage" | cmp -s - <(head -n 3 "$work/out"); then
     echo "arguments: --help does not begin with the usage, or its status is $status"
+    exit 1
+fi
+if [ "$(tail -n 1 "$work/out")" != "ran out, the output could not be written, or the arguments are wrong." ]; then
+    echo "arguments: --help does not print all of its text"
     exit 1
 fi
 lists=$((lists + 1))
@@ -165,27 +172,28 @@ stopped() {
     fi
     devices=$((devices + 1))
 }
-# Runs a program of this name where its input fails, and where its output or standard error is full or closed.
+# Runs a program of this name where its input fails, and where its output or standard error is full or closed. The pattern is what
+# comes after the message.
 fail_devices() {
-    local name=$1 command process
-    shift
+    local name=$1 reason=$2 command process
+    shift 2
     command="($*)"
     : >"$work/err"
     "$@" <"$work" >"$work/out" 2>"$work/err" && status=0 || status=$?
-    stopped "$name: cannot read the input*" "the input of $command is a folder"
+    stopped "$name: cannot read the input$reason" "the input of $command is a folder"
     "$@" <&- >"$work/out" 2>"$work/err" && status=0 || status=$?
-    stopped "$name: cannot read the input*" "the input of $command is closed"
+    stopped "$name: cannot read the input$reason" "the input of $command is closed"
     "$@" <"$work/long" >/dev/full 2>"$work/err" && status=0 || status=$?
-    stopped "$name: cannot write the output*" "the output of $command is full"
+    stopped "$name: cannot write the output$reason" "the output of $command is full"
     "$@" <"$work/long" >&- 2>"$work/err" && status=0 || status=$?
-    stopped "$name: cannot write the output*" "the output of $command is closed"
+    stopped "$name: cannot write the output$reason" "the output of $command is closed"
     "$@" <"$work/fifo" >"$work/unread" 2>"$work/err" &
     process=$!
     exec 3>"$work/fifo" 4<"$work/unread" 4<&-
     cat "$work/long" >&3 || true
     exec 3>&-
     wait "$process" && status=0 || status=$?
-    stopped "$name: cannot write the output*" "nothing reads the output of $command"
+    stopped "$name: cannot write the output$reason" "nothing reads the output of $command"
     : >"$work/err"
     "$@" <"$work" >"$work/out" 2>/dev/full && status=0 || status=$?
     stopped "" "the input of $command is a folder and standard error is full"
@@ -193,9 +201,9 @@ fail_devices() {
 mkfifo "$work/fifo" "$work/unread"
 yes 'm a=1i' | head -n 100000 >"$work/long"
 devices=0
-[ -z "$rebuild" ] || fail_devices lp_rebuild "$rebuild"
-fail_devices lp_relay "$relay"
-fail_devices lp_relay "$relay" --cut 2
+[ -z "$rebuild" ] || fail_devices lp_rebuild "" "$rebuild"
+fail_devices lp_relay ": ?*" "$relay"
+fail_devices lp_relay ": ?*" "$relay" --cut 2
 for program in ${rebuild:+"$rebuild"} "$relay"; do
     printf 'm a=1i\nx\n' | "$program" 2>/dev/full >"$work/out" && status=0 || status=$?
     stopped "" "standard error is full, and $program has a fault to write"

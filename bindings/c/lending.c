@@ -31,6 +31,10 @@ static struct seen read_all(const uint8_t *text, size_t len, bool strict) {
     while (answer != LP_END) {
         lp_room room = { bytes, bytes_len };
         answer = lp_lines_next(&lines, &room, &line, parts, parts_len);
+        /* An item takes its copies off the front of the room; where more is asked for, the room is as it was. */
+        bool is_item = answer == LP_LINE || answer == LP_FAULT, is_more = answer == LP_MORE_PARTS || answer == LP_MORE_ROOM;
+        size_t taken = is_item ? line.copied_len : 0;
+        if ((is_item || is_more) && (room.at != bytes + taken || room.len != bytes_len - taken)) { seen.others++; break; }
         if (answer == LP_LINE) seen.lines++;
         else if (answer == LP_FAULT) seen.faults++;
         else if (answer == LP_OUT_OF_MEMORY) seen.out_of_memory++;

@@ -1,6 +1,5 @@
 pub mod Blocks
 pub mod Crossing
-pub mod Freeing
 pub mod Handed
 pub mod Numbers
 pub mod Rebuilding

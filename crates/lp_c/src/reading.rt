@@ -4,9 +4,6 @@ ghost use Rattle.std.specs.Prelude.{◌≡◌, ◌≤◌, ◌+◌, ◌↔◌, []
 ghost use Rattle.influxdb_line_protocol.specs.code.Rules.{rules_of};
 ghost use Rattle.influxdb_line_protocol.specs.code.ParseSteps.{GivesItem};
 ghost use Rattle.influxdb_line_protocol.specs.code.ReadInto.{item_in};
-ghost use Rattle.influxdb_line_protocol.specs.code.Light.{inline_fields, inline_tags};
-ghost use Rattle.influxdb_line_protocol.specs.code.Lookups.{room_of, some_items};
-ghost use Rattle.lp_c.specs.Freeing.{HoldsNoMemory};
 ghost use Rattle.lp_c.specs.Numbers.{answer_number};
 ghost use Rattle.lp_c.specs.Blocks.{is_item};
 ghost use Rattle.lp_c.specs.Crossing.{AnswersItem, GivesView, ReadsItem, dialect_of, left_of};
@@ -17,8 +14,8 @@ use influxdb_line_protocol::{
     Dialect, Error, EscapedStr, FieldSet, ParseLines, ParsedLine, Series, TagSet, parse_lines_in,
     split_lines_in,
 };
+use lp_lines::freeing::{forget_line, free_line};
 use std::alloc::Global;
-use std::mem;
 
 /// The version of the library: 10,000 times its first number, 100 times its second, and its third.
 #[unsafe(no_mangle)]
@@ -150,68 +147,6 @@ pub(crate) fn read_next<'a>(
     answer.number()
 }
 
-// Frees the memory of a tag set that has grown.
-#[inline(never)]
-fn free_tags<'a>(alloc: Global, tags: &mut TagSet<'a>)
-    ensures items { tags.new.items ≡ [] }
-    ensures room { tags.new.capacity ≡ inline_tags }
-{
-    *tags = TagSet::new(alloc);
-}
-
-// Frees the memory of a field set that has grown.
-#[inline(never)]
-fn free_fields<'a>(alloc: Global, fields: &mut FieldSet<'a>)
-    ensures items { fields.new.items ≡ [] }
-    ensures room { fields.new.capacity ≡ inline_fields }
-{
-    *fields = FieldSet::new(alloc);
-}
-
-// Empties the tag set of a line, where there is one, and frees its memory where it has grown.
-#[inline(always)]
-fn empty_tags<'a>(alloc: Global, set: &mut Option<TagSet<'a>>)
-    ensures items { some_items set.new ≡ [] }
-    ensures room { room_of set.new ≤ inline_tags }
-{
-    if let Some(tags) = set {
-        tags.clear();
-        if tags.spilled() {
-            free_tags(alloc, tags);
-        }
-    }
-}
-
-// Empties the field set of a line, and frees its memory where it has grown.
-#[inline(always)]
-fn empty_fields<'a>(alloc: Global, fields: &mut FieldSet<'a>)
-    ensures items { fields.new.items ≡ [] }
-    ensures room { fields.new.capacity ≤ inline_fields }
-{
-    fields.clear();
-    if fields.spilled() {
-        free_fields(alloc, fields);
-    }
-}
-
-// Frees the memory that a line holds: to drop a line would visit each place of its sets, also those that hold nothing.
-#[inline(always)]
-fn free<'a>(alloc: Global, parsed: &mut ParsedLine<'a>)
-    ensures { HoldsNoMemory parsed.new }
-{
-    parsed.series.measurement = EscapedStr::SingleSlice("");
-    empty_tags(alloc, &mut parsed.series.tag_set);
-    empty_fields(alloc, &mut parsed.field_set);
-}
-
-// Lets a line go that holds no memory, and does not visit the places of its sets.
-#[inline(always)]
-fn forget(parsed: ParsedLine<'_>)
-    requires { HoldsNoMemory parsed }
-{
-    mem::forget(parsed);
-}
-
 /// Reads the next item into what the caller lends, and answers the number of an [`Answer`].
 ///
 /// `Line`, `Fault`, `OutOfMemory` and `End` pass the item. `MoreParts` and `MoreRoom` leave `lines` as it was, and `line`
@@ -231,8 +166,8 @@ pub extern "C" fn lp_lines_next<'a>(
     let mut items = items_of(alloc, lines);
     let mut parsed = new_line(alloc);
     let answer = read_next(&mut items, &mut parsed, lines, room, line, parts);
-    free(alloc, &mut parsed);
-    forget(parsed);
+    free_line(alloc, &mut parsed);
+    forget_line(parsed);
     answer
 }
 

@@ -3,3 +3,4 @@ pub mod Lookups
 pub mod ParseSteps
 pub mod ReadInto
 pub mod Bases
+pub mod Freeing

@@ -6,6 +6,7 @@
 
 mod base;
 mod fields;
+pub mod freeing;
 mod line;
 pub mod parsed;
 mod shown;

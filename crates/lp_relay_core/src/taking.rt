@@ -11,11 +11,12 @@ ghost use Rattle.lp_relay_core.specs.RelaySteps.{newlines_given, place_after};
 use influxdb_line_protocol::{
     Dialect, EscapedStr, FieldSet, ParsedLine, PieceTooLong, Series, TagSet, laws, parse_lines_in,
 };
+use lp_lines::freeing::{forget_line, free_line};
 use lp_rebuild::batch::{Place, Progress, refuse, take};
 use lp_rebuild::program::BLOCK;
 use simdutf8::basic::{self, Utf8Error};
 use std::alloc::{AllocError, Global};
-use std::{mem, str};
+use std::str;
 
 /// What the fault lines of a relay name.
 #[derive(Clone, Copy, Debug, PartialEq, Eq)]
@@ -46,34 +47,6 @@ pub(crate) fn nothing_made(alloc: Global, numbering: Numbering) -> Progress
             Numbering::Items => Place::ByNumber,
             Numbering::Lines => Place::OnLine(1),
         },
-    }
-}
-
-// Frees the memory of a tag set that has grown.
-#[inline(never)]
-fn free_tags<'a>(alloc: Global, tags: &mut TagSet<'a>) {
-    *tags = TagSet::new(alloc);
-}
-
-// Frees the memory of a field set that has grown.
-#[inline(never)]
-fn free_fields<'a>(alloc: Global, fields: &mut FieldSet<'a>) {
-    *fields = FieldSet::new(alloc);
-}
-
-// Frees the memory that a line holds: to drop a line would visit each place of its sets, also those that hold nothing.
-#[inline(always)]
-fn free<'a>(alloc: Global, parsed: &mut ParsedLine<'a>) {
-    parsed.series.measurement = EscapedStr::SingleSlice("");
-    if let Some(tags) = &mut parsed.series.tag_set {
-        tags.clear();
-        if tags.spilled() {
-            free_tags(alloc, tags);
-        }
-    }
-    parsed.field_set.clear();
-    if parsed.field_set.spilled() {
-        free_fields(alloc, &mut parsed.field_set);
     }
 }
 
@@ -129,9 +102,8 @@ fn take_text(
         timestamp: None,
     };
     let taken = take_by_line(alloc, dialect, so_far, text, &mut line);
-    free(alloc, &mut line);
-    // It holds no memory.
-    mem::forget(line);
+    free_line(alloc, &mut line);
+    forget_line(line);
     taken
 }
 

@@ -44,30 +44,36 @@ fn is_rebuilt_so(
     wanted: Wanted<'_>,
 ) -> Result<(), Fault> {
     let [lines, faults, _] = wanted;
-    let rebuilt = rebuild_in(alloc, Dialect::Strict, text)?;
-    assert_same(rt, rebuilt.batch.as_slice(), lines.as_bytes());
-    assert_same(rt, rebuilt.faults.as_slice(), faults.as_bytes());
-    let mut reader = text.as_bytes();
-    let mut out = Kept::new(alloc);
-    let mut err = Kept::new(alloc);
-    let answer = run_in(alloc, Dialect::Crate, &mut reader, &mut out, &mut err);
-    assert!(rt; answer.is_ok(), "of {} bytes", text.len());
-    assert_same(rt, out.as_slice(), lines.as_bytes());
-    assert_same(rt, err.as_slice(), faults.as_bytes());
+    for dialect in [Dialect::Crate, Dialect::Strict] {
+        let rebuilt = rebuild_in(alloc, dialect, text)?;
+        assert_same(rt, rebuilt.batch.as_slice(), lines.as_bytes());
+        assert_same(rt, rebuilt.faults.as_slice(), faults.as_bytes());
+        let mut reader = text.as_bytes();
+        let mut out = Kept::new(alloc);
+        let mut err = Kept::new(alloc);
+        let answer = run_in(alloc, dialect, &mut reader, &mut out, &mut err);
+        assert!(rt; answer.is_ok(), "of {} bytes", text.len());
+        assert_same(rt, out.as_slice(), lines.as_bytes());
+        assert_same(rt, err.as_slice(), faults.as_bytes());
+    }
     Ok(())
 }
 
 // The text, of which so many bytes come at each read, is relayed so. A line has at most 20,000,000 bytes.
 fn is_relayed_so(rt: &impl Abort, alloc: Global, text: &str, len: usize, wanted: Wanted<'_>) {
     let [lines, by_items, by_lines] = wanted;
-    for (numbering, faults) in [(Numbering::Items, by_items), (Numbering::Lines, by_lines)] {
+    for (dialect, numbering, faults) in [
+        (Dialect::Crate, Numbering::Items, by_items),
+        (Dialect::Crate, Numbering::Lines, by_lines),
+        (Dialect::Strict, Numbering::Items, by_items),
+    ] {
         let left = text.as_bytes();
         let mut reader = Lines { left, len };
         let mut out = Kept::new(alloc);
         let mut err = Kept::new(alloc);
         let answer = relay_numbered(
             alloc,
-            Dialect::Crate,
+            dialect,
             20_000_000,
             numbering,
             &mut reader,
@@ -216,4 +222,16 @@ fn is_cut_so(rt: &impl Abort, alloc: Global, dialect: Dialect) -> Result<(), Fau
 fn a_long_text_is_cut_into_many_parts(rt: HostRuntime) -> Result<(), Fault> {
     is_cut_so(&rt, rt.alloc(), Dialect::Crate)?;
     is_cut_so(&rt, rt.alloc(), Dialect::Strict)
+}
+
+// Of two lines the first one has 4 MB, so the first of two parts ends with it.
+#[test]
+fn a_long_line_is_a_part(rt: HostRuntime) -> Result<(), Fault> {
+    let long = repeated(rt.alloc(), "x", 4_000_000)?;
+    let text = format!(in rt.alloc(); "m s=\"{long}\"\nm a=1i\n")?;
+    for dialect in [Dialect::Crate, Dialect::Strict] {
+        let ends = part_ends(rt.alloc(), dialect, text.as_bytes(), 2)?;
+        assert_eq!(rt; ends.as_slice(), [4_000_007, 4_000_014].as_slice());
+    }
+    Ok(())
 }
