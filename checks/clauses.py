@@ -1,9 +1,12 @@
 #!/usr/bin/env python3
-"""The heads and clauses of the public functions of a crate, and what of them differs from an earlier commit.
+"""The heads and clauses of the public functions of crates, and what of them differs from an earlier commit.
 
-    checks/clauses.py CRATE                     prints each head with its clauses
-    checks/clauses.py CRATE COMMIT [WORD..]     prints what differs between that commit and the files; status 1 where anything
+    checks/clauses.py CRATES                    prints each head with its clauses
+    checks/clauses.py CRATES COMMIT [WORD..]    prints what differs between that commit and the files; status 1 where anything
                                                 that was there differs or is gone
+
+CRATES are names with commas between them. They are compared as if they were one crate, so a function that moved from one to another
+is found again.
 
 A WORD is OLD=NEW, a name and what it is now, or @FILE, a file of such words. The renames are made in the commit's texts
 before they are compared. A name without NEW (`OLD=`) is dropped, as that of a clause. Compared are functions and methods that
@@ -34,12 +37,13 @@ def git(*words):
     return done.stdout
 
 
-def texts(crate, commit):
-    """The files of the crate's code: as they are, or of a commit."""
-    folder = f"crates/{crate}/src"
+def texts(crates, commit):
+    """The files of the crates' code: as they are, or of a commit, which may lack some of the crates."""
+    folders = [f"crates/{crate}/src" for crate in crates.split(",")]
     if commit is None:
-        return [path.read_text(encoding="utf-8") for path in sorted((TOP / folder).rglob("*.rt"))]
-    names = git("ls-tree", "-r", "--name-only", commit, folder).split()
+        paths = [path for folder in folders for path in sorted((TOP / folder).rglob("*.rt"))]
+        return [path.read_text(encoding="utf-8") for path in paths]
+    names = git("ls-tree", "-r", "--name-only", commit, *folders).split()
     return [git("show", f"{commit}:{name}") for name in names if name.endswith(".rt")]
 
 
@@ -138,8 +142,8 @@ def differences(old, new):
 
 
 def main(words):
-    if not words or not (TOP / "crates" / words[0] / "src").is_dir():
-        raise Fault("the first word is a crate; see the head of this file")
+    if not words or not all((TOP / "crates" / crate / "src").is_dir() for crate in words[0].split(",")):
+        raise Fault("the first word names crates, with commas between them; see the head of this file")
     new = surface(texts(words[0], None))
     if len(words) == 1:
         for name, entries in new.items():
