@@ -212,8 +212,8 @@ done
 stopped "" "the output of --help is full"
 echo "arguments: the programs end where a device fails, in $devices ways"
 
-# Puts `first` into `fifo`, and once the relay runs for more than a second, `last`.
-feed() { { cat "$work/first"; sleep 2.5; cat "$work/last"; } >"$work/fifo" & }
+# Puts `first` into `fifo`, once the relay runs for more than a second `last`, and after a second pause `more`, if it is there.
+feed() { { cat "$work/first"; sleep 2.5; cat "$work/last"; [ ! -s "$work/more" ] || { sleep 2.5; cat "$work/more"; }; } >"$work/fifo" & }
 # Runs the relay so, with standard error on a terminal, and the output where this redirection says, or else there too. More words
 # are more options.
 show_progress() {
@@ -248,6 +248,11 @@ cmp "$work/first" "$work/out"
 cp "$work/first" "$work/last"
 show_progress ""
 shown 0 "both outputs are a terminal" "m a=1i\r\n${clear}14 bytes read, 1 lines written, faults: 0, 0.0 MB/s${clear}m a=1i\r\n"
+cp "$work/first" "$work/more"
+show_progress ">'$work/out'"
+shown 0 "there are two pauses" "${clear}14 bytes read, 1 lines written, faults: 0, 0.0 MB/s\
+${clear}21 bytes read, 2 lines written, faults: 0, 0.0 MB/s$clear"
+rm "$work/more"
 printf '# c\nm a=1i,\n' >"$work/first"
 printf 'm abcd=1i\n' >"$work/last"
 show_progress ">'$work/out'" --strict --lines --max-line 8
