@@ -8,6 +8,7 @@ use Rattle.influxdb_line_protocol.specs.format.Dialects.{Dialect}
 use Rattle.influxdb_line_protocol.specs.format.Pieces.{Pieces, Pieces.cut, Pieces.last}
 use Rattle.influxdb_line_protocol.specs.laws.Laws.{PiecesExist, PiecesAreUnique}
 use Rattle.lp_relay_core.specs.Cuts.{IsCutAt}
+use Rattle.lp_format.specs.format.Bytes.{newline}
 
 -- a list that ends with an element is not empty
 not_empty : {X : Type 0} (xs : List X) (x : X) → xs ++ x ∷ [] ≡ [] → ⊥
@@ -31,7 +32,7 @@ first_piece dialect text pieces (last piece h) = (piece, [], refl)
 first_piece dialect text pieces (cut piece rest others c h) = (piece, others, refl)
 
 -- no text with a newline is empty
-holds_newline : (u t : List ℕ) → u ++ 10 ∷ t ≡ [] → ⊥
+holds_newline : (u t : List ℕ) → u ++ newline ∷ t ≡ [] → ⊥
 holds_newline [] t e = absurd (cc)
 holds_newline (b ∷ u) t e = absurd (cc)
 
@@ -61,8 +62,8 @@ pieces_joined dialect u t us [] ts e (cut piece rest others c h) k =
 pieces_joined dialect u t us (f ∷ fs) ts e (cut piece rest others c h) k =
     let same : piece ≡ f = cc in
     let left : others ≡ fs ++ [] ∷ [] = cc in
-    subst (λ (l : List ℕ). Pieces dialect l ((f ∷ fs) ++ ts)) (sym (append_assoc piece (10 ∷ rest) t))
-    (subst (λ (x : List ℕ). Pieces dialect (piece ++ 10 ∷ (rest ++ t)) (x ∷ (fs ++ ts))) same
+    subst (λ (l : List ℕ). Pieces dialect l ((f ∷ fs) ++ ts)) (sym (append_assoc piece (newline ∷ rest) t))
+    (subst (λ (x : List ℕ). Pieces dialect (piece ++ newline ∷ (rest ++ t)) (x ∷ (fs ++ ts))) same
     (cut piece (rest ++ t) (fs ++ ts) c (pieces_joined dialect rest t others fs ts left h k)))
 
 -- between two cuts, the bytes end with a newline that ends a piece
@@ -89,11 +90,11 @@ front_has_none exist unique dialect text first more h front rest pieces (f ∷ (
 front_has_none exist unique dialect text first more h front rest pieces fs e some few ends (cut piece after others c k) =
     let p = exist dialect (after ++ rest) in
     let all : Pieces dialect text (piece ∷ p.0) =
-    subst (λ (l : List ℕ). Pieces dialect l (piece ∷ p.0)) (sym (append_assoc piece (10 ∷ after) rest) ∙ e)
+    subst (λ (l : List ℕ). Pieces dialect l (piece ∷ p.0)) (sym (append_assoc piece (newline ∷ after) rest) ∙ e)
     (cut piece (after ++ rest) p.0 c p.1) in
     let lists : first ∷ more ≡ piece ∷ p.0 = unique dialect text (first ∷ more) (piece ∷ p.0) h all in
     let same : first ≡ piece = cc in
-    absurd (omega (arith, ap (λ (l : List ℕ). length l) same, length-append piece (10 ∷ after)))
+    absurd (omega (arith, ap (λ (l : List ℕ). length l) same, length-append piece (newline ∷ after)))
 
 -- so it does not, where it is a part of that piece
 part_has_none : PiecesExist → PiecesAreUnique → (dialect : Dialect) (first rest : List ℕ) (more : List (List ℕ)) (n : ℕ)

@@ -17,13 +17,14 @@ use Rattle.lp_relay_core.proofs.ItemLemmas.{item_of_long, items_add_up, items_of
 use Rattle.lp_relay_core.proofs.FaultLines.{faults_from_append, faults_from_push, place_append}
 use Rattle.lp_relay_core.proofs.RelayLemmas.{part_of_none, part_poured, part_so_far, part_then, relays_none, relays_poured, relays_same}
 use Rattle.lp_relay_core.proofs.RelayLemmas.{part_same, relays_then}
+use Rattle.lp_format.specs.format.Bytes.{newline}
 
 -- the piece that a call gave, or that is too long, and the rest, which the stream then holds
 pub record Given (dialect : Dialect) (limit : ℕ) (text : List ℕ) (result : Result (Bor (List ℕ)) PieceTooLong) (after : HeldWithin)
     : Type 0 where
   pub piece : List ℕ
   pub rest : List ℕ
-  pub text_is : text ≡ piece ++ 10 ∷ rest
+  pub text_is : text ≡ piece ++ newline ∷ rest
   pub is_cut : IsCutPiece dialect piece
   pub holds : Holds after rest
   pub items : items_given dialect result ≡ items_of_piece dialect (limit_of limit) piece
@@ -66,7 +67,7 @@ takes_none dialect text given first r = subst (λ l. Run dialect given l text) (
 
 -- one piece more
 takes_one : (dialect : Dialect) (text mid rest : List ℕ) (pieces : List (List ℕ)) (piece : List ℕ) → TakesPieces dialect text pieces mid
-    → mid ≡ piece ++ 10 ∷ rest → IsCutPiece dialect piece → TakesPieces dialect text (pieces ++ piece ∷ []) rest
+    → mid ≡ piece ++ newline ∷ rest → IsCutPiece dialect piece → TakesPieces dialect text (pieces ++ piece ∷ []) rest
 takes_one dialect text mid rest pieces piece t is cut given first r =
     subst (λ l. Run dialect given l rest) (append_assoc first pieces (piece ∷ []))
     (taken given (first ++ pieces) piece rest (subst (Run dialect given (first ++ pieces)) is (t given first r)) cut)

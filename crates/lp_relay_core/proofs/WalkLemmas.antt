@@ -9,6 +9,7 @@ use Rattle.influxdb_line_protocol.specs.laws.Laws.{PiecesExist, PiecesAreUnique}
 use Rattle.lp_relay_core.specs.declared.cuts.Walk.{Walk}
 use Rattle.lp_relay_core.specs.CutSteps.{GoesOn, IsWalkOf, TakesLen}
 use Rattle.lp_relay_core.proofs.CutLemmas.{none_inside, nothing_is_piece, pieces_joined, take_between}
+use Rattle.lp_format.specs.format.Bytes.{newline}
 
 -- the stream was given more of the text
 pub walk_given : (dialect : Dialect) (text : List ℕ) (walk : Walk) (after : Held) (n : ℕ) → IsWalkOf dialect text walk
@@ -70,13 +71,13 @@ walk_on exist unique dialect text walk after len w taken =
     let long : length u ≡ walk.at = length-take-le walk.at text w.is_cut.within in
     let given : length (take walk.given text) ≡ walk.given = length-take-le walk.given text w.within in
     let at = walk.at + (len + 1) in
-    let front = u ++ (piece ++ 10 ∷ []) in
+    let front = u ++ (piece ++ newline ∷ []) in
     let front_len : length front ≡ at =
-    omega (arith, length-append u (piece ++ 10 ∷ []), length-append piece (10 ∷ []), long, taken.2) in
-    let held : u ++ (piece ++ 10 ∷ after.bytes) ≡ take walk.given text = ap (λ (l : List ℕ). u ++ l) (sym takes.bytes) ∙ w.holds in
+    omega (arith, length-append u (piece ++ newline ∷ []), length-append piece (newline ∷ []), long, taken.2) in
+    let held : u ++ (piece ++ newline ∷ after.bytes) ≡ take walk.given text = ap (λ (l : List ℕ). u ++ l) (sym takes.bytes) ∙ w.holds in
     let split : front ++ after.bytes ≡ take walk.given text =
-    append_assoc u (piece ++ 10 ∷ []) after.bytes
-    ∙ ap (λ (l : List ℕ). u ++ l) (append_assoc piece (10 ∷ []) after.bytes) ∙ held in
+    append_assoc u (piece ++ newline ∷ []) after.bytes
+    ∙ ap (λ (l : List ℕ). u ++ l) (append_assoc piece (newline ∷ []) after.bytes) ∙ held in
     let within : at ≤ walk.given =
     omega (arith, ap (λ (l : List ℕ). length l) split, length-append front after.bytes, front_len, given) in
     let here : take at text ≡ front =
@@ -89,7 +90,7 @@ walk_on exist unique dialect text walk after len w taken =
           pieces = w.is_cut.pieces ++ piece ∷ [];
           are = subst (λ (l : List ℕ). Pieces dialect l ((w.is_cut.pieces ++ piece ∷ []) ++ [] ∷ [])) (sym here)
               (subst (λ (l : List (List ℕ)). Pieces dialect front l) (sym (append_assoc w.is_cut.pieces (piece ∷ []) ([] ∷ [])))
-              (pieces_joined dialect u (piece ++ 10 ∷ []) (w.is_cut.pieces ++ [] ∷ []) w.is_cut.pieces (piece ∷ ([] ∷ [])) refl w.is_cut.are
+              (pieces_joined dialect u (piece ++ newline ∷ []) (w.is_cut.pieces ++ [] ∷ []) w.is_cut.pieces (piece ∷ ([] ∷ [])) refl w.is_cut.are
               (cut piece [] ([] ∷ []) is_cut (nothing_is_piece exist dialect))));
         };
         holds = ap (λ (l : List ℕ). l ++ after.bytes) here ∙ split;
@@ -100,7 +101,7 @@ walk_on exist unique dialect text walk after len w taken =
         λ other cut_there further.
             not_below other at
             (λ before.
-            none_inside exist unique dialect text walk.at piece (10 ∷ after.bytes) others.0 walk.given w.is_cut held w.within
+            none_inside exist unique dialect text walk.at piece (newline ∷ after.bytes) others.0 walk.given w.is_cut held w.within
             (cut piece after.bytes others.0 is_cut others.1) other cut_there further (omega (arith, before, taken.2))),
       ),
     )

@@ -12,6 +12,7 @@ use Rattle.influxdb_line_protocol.specs.laws.StreamLaws.{HaveAnswers, StreamsGiv
 use Rattle.influxdb_line_protocol.specs.laws.StreamLaws.{Run.taken}
 use Rattle.lp_format.proofs.lemmas.split.SplitPieces.{IsLastPiece-cut, same_pieces}
 use Rattle.influxdb_line_protocol.proofs.lemmas.stream.StreamRuns.{runs_give_pieces}
+use Rattle.lp_format.specs.format.Bytes.{newline}
 
 -- each piece that was given is one piece
 given_are_single : (dialect : Dialect) (given : List ℕ) (pieces : List (List ℕ)) (held : List ℕ) → Run dialect given pieces held
@@ -19,7 +20,7 @@ given_are_single : (dialect : Dialect) (given : List ℕ) (pieces : List (List �
 given_are_single dialect given pieces held begun = All-nil (IsLastPiece dialect)
 given_are_single dialect given pieces held (pushed g ps l part r) = given_are_single dialect g ps l r
 given_are_single dialect given pieces held (taken g ps piece l r c) =
-    All-push (IsLastPiece dialect) ps piece (given_are_single dialect g ps (piece ++ 10 ∷ l) r) (IsLastPiece-cut dialect piece c)
+    All-push (IsLastPiece dialect) ps piece (given_are_single dialect g ps (piece ++ newline ∷ l) r) (IsLastPiece-cut dialect piece c)
 
 -- the answers of a text that is one piece
 single_answers : (dialect : Dialect) (text : List ℕ) (answers : List (Result Line Fault)) → IsLastPiece dialect text

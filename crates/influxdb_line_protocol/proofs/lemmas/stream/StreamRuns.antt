@@ -8,6 +8,7 @@ use Rattle.std.proofs.lemmas.Str.{IsUtf8-append, IsUtf8-take, IsUtf8-drop, IsCha
 use Rattle.lp_format.specs.format.Pieces.{IsCutPiece, Pieces, Pieces.cut, Pieces.last}
 use Rattle.influxdb_line_protocol.specs.laws.StreamLaws.{FrontsKeepTheirCuts, TakenIsFirst, RunsGivePieces, RunsEnd, Utf8ByPieces}
 use Rattle.influxdb_line_protocol.specs.laws.StreamLaws.{Run.begun, Run.pushed, Run.taken}
+use Rattle.lp_format.specs.format.Bytes.{newline}
 
 -- whatever comes then, the piece that was taken is the first
 pub taken_is_first : TakenIsFirst
@@ -29,7 +30,7 @@ runs_give_pieces dialect given pieces held t others (pushed g ps l part r) h =
     rw append_assoc (runs_give_pieces dialect g ps l (part ++ t) others r (rw append_assoc at h))
 runs_give_pieces dialect given pieces held t others (taken g ps piece l r c) h =
     rw append_assoc
-    (runs_give_pieces dialect g ps (piece ++ 10 ∷ l) t (piece ∷ others) r (rw append_assoc (cut piece (l ++ t) others c h)))
+    (runs_give_pieces dialect g ps (piece ++ newline ∷ l) t (piece ∷ others) r (rw append_assoc (cut piece (l ++ t) others c h)))
 
 -- at the end, what is held is the last of them
 pub runs_end : RunsEnd
@@ -43,21 +44,21 @@ after_seam : (u t : List ℕ) (b : ℕ) → drop (length u + 1) (u ++ b ∷ t) �
 after_seam u t b = rw (length-append, append_assoc) at (drop-append_seam (u ++ b ∷ []) t)
 
 -- a newline alone is UTF-8
-newline_is_utf8 : IsUtf8 (10 ∷ [])
+newline_is_utf8 : IsUtf8 (newline ∷ [])
 unfolding lib.Utf8.encode
-newline_is_utf8 = (10 ∷ [], (refl, refl))
+newline_is_utf8 = (newline ∷ [], (refl, refl))
 
 -- two texts with a newline between them are UTF-8 exactly where both are
 pub utf8_by_pieces : Utf8ByPieces
 utf8_by_pieces u t = (
   λ h.
-      let bs = u ++ 10 ∷ t in
-      let within : length u < length bs = omega (arith, length-append u (10 ∷ t)) in
+      let bs = u ++ newline ∷ t in
+      let within : length u < length bs = omega (arith, length-append u (newline ∷ t)) in
       let at = get_or-append_seam u 10 t 0 in
       let after = IsUtf8-drop bs (length u + 1) h (IsCharBoundary-after_ascii bs (length u) h within (omega (arith, at))) in
       let rest = subst IsUtf8 (after_seam u t 10) after in
       let front = IsUtf8-take bs (length u) h
-      (IsCharBoundary-at_seam bs u (10 ∷ t) refl (IsUtf8-append (10 ∷ []) t newline_is_utf8 rest)) in
+      (IsCharBoundary-at_seam bs u (newline ∷ t) refl (IsUtf8-append (newline ∷ []) t newline_is_utf8 rest)) in
       (rw take_at at front, rest),
-  λ h. IsUtf8-append u (10 ∷ t) h.0 (IsUtf8-append (10 ∷ []) t newline_is_utf8 h.1),
+  λ h. IsUtf8-append u (newline ∷ t) h.0 (IsUtf8-append (newline ∷ []) t newline_is_utf8 h.1),
 )

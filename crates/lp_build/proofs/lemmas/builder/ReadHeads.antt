@@ -8,7 +8,7 @@ use Rattle.std.proofs.lemmas.Grind.{common_steps}
 use Rattle.std.proofs.lemmas.List.{take-append-drop}
 use Rattle.std.proofs.lemmas.List.Sums.{sum_by-append}
 use Rattle.lp_lines.specs.laws.BaseLaws.{IsParsedSeries}
-use Rattle.lp_format.specs.format.Bytes.{is_one_of}
+use Rattle.lp_format.specs.format.Bytes.{backslash, comma, equals, hash, is_one_of}
 use Rattle.lp_format.specs.format.Escapes.{escaped, without_escapes}
 use Rattle.lp_format.specs.format.Lines.{logical_tag, some_tags, tag}
 use Rattle.lp_format.specs.laws.Meanings.{SeparatedAfterComma}
@@ -39,7 +39,7 @@ both : (xs ys : List ℕ) → delimiters (xs ++ ys) ≡ delimiters xs + delimite
 both xs ys = sum_by-append (λ (b : ℕ). cond (is_one_of (escapable a_tag_key) b) 1 0) xs ys
 
 -- a backslash is one
-no_backslash : (b : ℕ) → is_one_of (escapable a_tag_key) b ≡ false → b ≢ 92
+no_backslash : (b : ℕ) → is_one_of (escapable a_tag_key) b ≡ false → b ≢ backslash
 no_backslash b none = λ e. let h : is_one_of (escapable a_tag_key) b ≡ true = ap (is_one_of (escapable a_tag_key)) e in cc
 
 -- a spelling without one is its own logical text
@@ -80,22 +80,22 @@ record Tags (tags : List (Pair Text Text)) (text : List ℕ) : Type 0 where
   written : delimiters text ≡ 2 * length tags → AreWritten (map logical_tag tags) text
 
 -- the text of a tag and what follows it
-tag_counts : (suffix key v value after : List ℕ) → suffix ≡ key ++ 61 ∷ v → v ≡ value ++ after
-    → delimiters (44 ∷ suffix) ≡ 2 + delimiters key + delimiters value + delimiters after
+tag_counts : (suffix key v value after : List ℕ) → suffix ≡ key ++ equals ∷ v → v ≡ value ++ after
+    → delimiters (comma ∷ suffix) ≡ 2 + delimiters key + delimiters value + delimiters after
 tag_counts suffix key v value after a b =
-    let first : delimiters suffix ≡ delimiters key + delimiters (61 ∷ v) = ap delimiters a ∙ both key (61 ∷ v) in
+    let first : delimiters suffix ≡ delimiters key + delimiters (equals ∷ v) = ap delimiters a ∙ both key (equals ∷ v) in
     let second : delimiters v ≡ delimiters value + delimiters after = ap delimiters b ∙ both value after in
-    let sign : delimiters (61 ∷ v) ≡ 1 + delimiters v = both (61 ∷ []) v in
-    let whole : delimiters (44 ∷ suffix) ≡ 1 + delimiters suffix = both (44 ∷ []) suffix in
+    let sign : delimiters (equals ∷ v) ≡ 1 + delimiters v = both (equals ∷ []) v in
+    let whole : delimiters (comma ∷ suffix) ≡ 1 + delimiters suffix = both (comma ∷ []) suffix in
     omega (arith, first, second, sign, whole)
 
 -- what is written of a tag whose names hold none, with what follows it
-pub tag_written : (text suffix key v value after flat shown read : List ℕ) → text ≡ 44 ∷ suffix
-    → suffix ≡ key ++ 61 ∷ v → v ≡ value ++ after
+pub tag_written : (text suffix key v value after flat shown read : List ℕ) → text ≡ comma ∷ suffix
+    → suffix ≡ key ++ equals ∷ v → v ≡ value ++ after
     → after ≡ flat → escaped (escapable a_tag_key) shown ≡ key → escaped (escapable a_tag_key) read ≡ value
     → text ≡ built_tag (record { key = shown; value = read }) ++ flat
 tag_written text suffix key v value after flat shown read a b c d e f =
-    let assoc = append_assoc key (61 ∷ value) flat in rw (a, b, c, d, e, f) (ap (λ (r : List ℕ). 44 ∷ r) (sym assoc))
+    let assoc = append_assoc key (equals ∷ value) flat in rw (a, b, c, d, e, f) (ap (λ (r : List ℕ). comma ∷ r) (sym assoc))
 
 -- a text with tags has two for each of them, and no more only where they are written so
 tags_are : (tags : List (Pair Text Text)) (text : List ℕ) → SeparatedAfterComma tag tags text [] → Tags tags text
@@ -159,8 +159,8 @@ kept_alone : (kind : NameKind) (n : List ℕ) → delimiters n ≡ 0 → is_kept
 kept_alone kind [] none kept = refl
 kept_alone kind (b ∷ n) none kept =
     let step = uncounted (is_one_of (escapable a_tag_key)) b (is_one_of (escapable a_tag_key) b) n refl none in
-    let parts = and_parts (may_hold kind b || false) (is_kept kind (b == 92) n) kept in
-    let other : (b == 92) ≡ false = ne_eqb b 92 (no_backslash b step.0) in
+    let parts = and_parts (may_hold kind b || false) (is_kept kind (b == backslash) n) kept in
+    let other : (b == backslash) ≡ false = ne_eqb b backslash (no_backslash b step.0) in
     and_from (may_hold kind b) (list_all (may_hold kind) n) (alone (may_hold kind b) parts.0)
     (kept_alone kind n step.1 (rw other at parts.1))
   where
@@ -179,13 +179,13 @@ begins : (kind : NameKind) (n : List ℕ) → BeginsNoComment kind n → list_al
     → is_admitted_name kind n ≡ true
 unfolding is_admitted_name
 begins a_measurement n no_hash may some ends =
-    rw (ne_eqb (length n) 0 (λ e. absurd (omega arith)), ends, may, ne_eqb (slice_index n 0) 35 no_hash) refl
+    rw (ne_eqb (length n) 0 (λ e. absurd (omega arith)), ends, may, ne_eqb (slice_index n 0) hash no_hash) refl
 begins a_tag_key n no_hash may some
-    ends = rw (ne_eqb (length n) 0 (λ e. absurd (omega arith)), ends, may, no_comment (slice_index n 0 == 35)) refl
+    ends = rw (ne_eqb (length n) 0 (λ e. absurd (omega arith)), ends, may, no_comment (slice_index n 0 == hash)) refl
 begins a_tag_value n no_hash may some
-    ends = rw (ne_eqb (length n) 0 (λ e. absurd (omega arith)), ends, may, no_comment (slice_index n 0 == 35)) refl
+    ends = rw (ne_eqb (length n) 0 (λ e. absurd (omega arith)), ends, may, no_comment (slice_index n 0 == hash)) refl
 begins a_field_key n no_hash may some
-    ends = rw (ne_eqb (length n) 0 (λ e. absurd (omega arith)), ends, may, no_comment (slice_index n 0 == 35)) refl
+    ends = rw (ne_eqb (length n) 0 (λ e. absurd (omega arith)), ends, may, no_comment (slice_index n 0 == hash)) refl
 
 -- a name that a line has, and that holds no such byte, is admitted
 pub read_admitted : (kind : NameKind) (n : List ℕ) → IsParsedName kind n → delimiters n ≡ 0 → is_admitted_name kind n ≡ true

@@ -6,7 +6,7 @@ use Rattle.std.proofs.lemmas.Bool.{cases_Bool, eqb-false, eqb-true}
 use Rattle.std.proofs.lemmas.List.{take-append-drop}
 use Rattle.lp_lines.specs.declared.parsed.ParsedLine.{ParsedLine}
 use Rattle.lp_lines.specs.laws.BaseLaws.{IsParsedSeries}
-use Rattle.lp_format.specs.format.Bytes.{is_one_of}
+use Rattle.lp_format.specs.format.Bytes.{backslash, comma, equals, is_one_of}
 use Rattle.lp_format.specs.format.Escapes.{escaped, without_escapes}
 use Rattle.lp_format.specs.format.Lines.{logical_tag, some_tags, tag}
 use Rattle.lp_format.specs.laws.Meanings.{SeparatedAfterComma}
@@ -38,34 +38,34 @@ longer : (text written : List ℕ) → 1 + length text ≤ length written → Is
 longer text written h = record { least = omega (arith, h); same = λ e. absurd (omega (arith, h)) }
 
 -- what is written for a spelling
-pub written_least : (known text : List ℕ) → is_one_of known 92 ≡ true → IsLeast text (escaped known (without_escapes known text))
+pub written_least : (known text : List ℕ) → is_one_of known backslash ≡ true → IsLeast text (escaped known (without_escapes known text))
 unfolding escaped without_escapes
 written_least known [] back = record { least = omega arith; same = λ e. refl }
 written_least known (b ∷ []) back =
     elim (cases_Bool (is_one_of known b)) [
-      | inl found ↦ rw (escaped_found known [] b found) (longer (b ∷ []) (92 ∷ b ∷ []) (omega arith))
+      | inl found ↦ rw (escaped_found known [] b found) (longer (b ∷ []) (backslash ∷ b ∷ []) (omega arith))
       | inr other ↦ rw (escaped_plain known [] b other) (record { least = omega arith; same = λ e. refl })
     ]
 written_least known (b ∷ c ∷ rest) back =
-    elim (cases_Bool (b == 92)) [
-      | inl e ↦ rw (eqb-true b 92 e) (escape c rest back (written_least known rest back))
+    elim (cases_Bool (b == backslash)) [
+      | inl e ↦ rw (eqb-true b backslash e) (escape c rest back (written_least known rest back))
       | inr unlike ↦
           let more = written_least known (c ∷ rest) back in
-          rw (without_escapes_plain_byte known b (c ∷ rest) (eqb-false b 92 unlike)) (plain b (c ∷ rest) more)
+          rw (without_escapes_plain_byte known b (c ∷ rest) (eqb-false b backslash unlike)) (plain b (c ∷ rest) more)
     ]
   where
-    escape : (c : ℕ) (rest : List ℕ) → is_one_of known 92 ≡ true → IsLeast rest (escaped known (without_escapes known rest))
-        → IsLeast (92 ∷ c ∷ rest) (escaped known (without_escapes known (92 ∷ c ∷ rest)))
+    escape : (c : ℕ) (rest : List ℕ) → is_one_of known backslash ≡ true → IsLeast rest (escaped known (without_escapes known rest))
+        → IsLeast (backslash ∷ c ∷ rest) (escaped known (without_escapes known (backslash ∷ c ∷ rest)))
     escape c rest back more =
         elim (cases_Bool (is_one_of known c)) [
           | inl found ↦
               let text = without_escapes known rest in
               rw (without_escapes_known known c rest found, escaped_found known text c found)
-              (least_more 92 (c ∷ rest) (c ∷ escaped known text) (least_more c rest (escaped known text) more))
+              (least_more backslash (c ∷ rest) (c ∷ escaped known text) (least_more c rest (escaped known text) more))
           | inr other ↦
               let text = without_escapes known rest in
-              rw (without_escapes_other known c rest other, escaped_found known (c ∷ text) 92 back, escaped_plain known text c other)
-              (longer (92 ∷ c ∷ rest) (92 ∷ 92 ∷ c ∷ escaped known text) (omega (arith, more.least)))
+              rw (without_escapes_other known c rest other, escaped_found known (c ∷ text) backslash back, escaped_plain known text c other)
+              (longer (backslash ∷ c ∷ rest) (backslash ∷ backslash ∷ c ∷ escaped known text) (omega (arith, more.least)))
         ]
 
     plain : (b : ℕ) (text : List ℕ) → IsLeast text (escaped known (without_escapes known text))
@@ -74,19 +74,19 @@ written_least known (b ∷ c ∷ rest) back =
         let logical = without_escapes known text in
         elim (cases_Bool (is_one_of known b)) [
           | inl found ↦ rw (escaped_found known logical b found)
-              (longer (b ∷ text) (92 ∷ b ∷ escaped known logical) (omega (arith, more.least)))
+              (longer (b ∷ text) (backslash ∷ b ∷ escaped known logical) (omega (arith, more.least)))
           | inr other ↦ rw (escaped_plain known logical b other) (least_more b text (escaped known logical) more)
         ]
 
 -- so it is with a name
-name_least : (known text name : List ℕ) → is_one_of known 92 ≡ true → name ≡ without_escapes known text → IsLeast text (escaped known name)
+name_least : (known text name : List ℕ) → is_one_of known backslash ≡ true → name ≡ without_escapes known text → IsLeast text (escaped known name)
 name_least known text name back is = rw is (written_least known text back)
 
 -- how long a tag and what follows it are
-tag_length : (text suffix key v value after : List ℕ) → text ≡ 44 ∷ suffix → suffix ≡ key ++ 61 ∷ v → v ≡ value ++ after
+tag_length : (text suffix key v value after : List ℕ) → text ≡ comma ∷ suffix → suffix ≡ key ++ equals ∷ v → v ≡ value ++ after
     → length text ≡ 2 + length key + length value + length after
 tag_length text suffix key v value after a b c =
-    omega (arith, ap length a, ap length b, length-append key (61 ∷ v), ap length c, length-append value after)
+    omega (arith, ap length a, ap length b, length-append key (equals ∷ v), ap length c, length-append value after)
 
 -- and what is written
 built_length : (t : Pair (List ℕ) (List ℕ)) (flat : List ℕ)
@@ -95,7 +95,7 @@ built_length : (t : Pair (List ℕ) (List ℕ)) (flat : List ℕ)
 built_length t flat =
     let key = escaped (escapable a_tag_key) t.key in
     let value = escaped (escapable a_tag_value) t.value in
-    omega (arith, length-append (built_tag t) flat, length-append key (61 ∷ value))
+    omega (arith, length-append (built_tag t) flat, length-append key (equals ∷ value))
 
 -- tags, and the text that they are in
 tags_least : (tags : List (Pair Text Text)) (text : List ℕ) → SeparatedAfterComma tag tags text []

@@ -17,6 +17,7 @@ use Rattle.lp_lines.proofs.lemmas.names.ParsedNames.{answer_parts}
 use Rattle.lp_values.proofs.lemmas.fields.ReadingLemmas.{name_parts, pair_parts, reads_parts}
 use Rattle.lp_format.proofs.lemmas.meanings.ShorterRests.{tag_no_longer}
 use Rattle.lp_split.proofs.lemmas.split.StopMeaning.{before_stop}
+use Rattle.lp_format.specs.format.Bytes.{comma, equals}
 
 -- a front of the text was read, and it reads the same wherever the text after it is cut
 record ReadsCut {A : Type 0} (one : List ℕ → Reading A) (text : List ℕ) (x : A) (rest : List ℕ) : Type 0 where
@@ -75,7 +76,7 @@ name_cut kind text t rest e =
     record { front = spelled kind text; is = is; again = λ kept lost at. name_kept kind text t rest e is kept lost at }
 
 -- a tag by its names
-tag_by : (line after rest : List ℕ) (k v : Text) → name a_tag_key line ≡ reads k (61 ∷ after) → name a_tag_value after ≡ reads v rest
+tag_by : (line after rest : List ℕ) (k v : Text) → name a_tag_key line ≡ reads k (equals ∷ after) → name a_tag_value after ≡ reads v rest
     → tag line ≡ reads (record { key = k; value = v }) rest
 unfolding tag
 tag_by line after rest k v e f = rw (e, f) refl
@@ -85,18 +86,18 @@ tag_cut : (text : List ℕ) (x : Pair Text Text) (rest : List ℕ) → tag text 
 unfolding tag
 tag_cut text x rest e =
     let p = pair_parts a_tag_key (name a_tag_value) text x rest e in
-    let key = name_cut a_tag_key text x.key (61 ∷ p.mid) p.key in
+    let key = name_cut a_tag_key text x.key (equals ∷ p.mid) p.key in
     let value = name_cut a_tag_value p.mid x.value rest p.value in
-    let left : 61 ∷ p.mid ≡ (61 ∷ value.front) ++ rest = ap (λ (r : List ℕ). 61 ∷ r) value.is in
+    let left : equals ∷ p.mid ≡ (equals ∷ value.front) ++ rest = ap (λ (r : List ℕ). equals ∷ r) value.is in
     record {
-      front = key.front ++ 61 ∷ value.front;
-      is = key.is ∙ ap (λ (r : List ℕ). key.front ++ r) left ∙ sym (append_assoc key.front (61 ∷ value.front) rest);
+      front = key.front ++ equals ∷ value.front;
+      is = key.is ∙ ap (λ (r : List ℕ). key.front ++ r) left ∙ sym (append_assoc key.front (equals ∷ value.front) rest);
       again = λ kept lost at.
-          let cut : 61 ∷ p.mid ≡ (61 ∷ value.front ++ kept) ++ lost =
-          left ∙ ap (λ (r : List ℕ). (61 ∷ value.front) ++ r) at ∙ sym (append_assoc (61 ∷ value.front) kept lost) in
-          ap tag (append_assoc key.front (61 ∷ value.front) kept)
-          ∙ tag_by (key.front ++ (61 ∷ value.front ++ kept)) (value.front ++ kept) kept x.key x.value
-          (key.again (61 ∷ value.front ++ kept) lost cut) (value.again kept lost at);
+          let cut : equals ∷ p.mid ≡ (equals ∷ value.front ++ kept) ++ lost =
+          left ∙ ap (λ (r : List ℕ). (equals ∷ value.front) ++ r) at ∙ sym (append_assoc (equals ∷ value.front) kept lost) in
+          ap tag (append_assoc key.front (equals ∷ value.front) kept)
+          ∙ tag_by (key.front ++ (equals ∷ value.front ++ kept)) (value.front ++ kept) kept x.key x.value
+          (key.again (equals ∷ value.front ++ kept) lost cut) (value.again kept lost at);
     }
 
 -- a front of the text with these tags, each after a comma, and nothing after them
@@ -114,8 +115,8 @@ separated_cut (t ∷ tags) text rest h =
     let split : h.0 ≡ (first.front ++ more.front) ++ rest =
     first.is ∙ ap (λ (r : List ℕ). first.front ++ r) more.is ∙ sym (append_assoc first.front more.front rest) in
     record {
-      front = 44 ∷ first.front ++ more.front;
-      is = h.2 ∙ ap (λ (r : List ℕ). 44 ∷ r) split;
+      front = comma ∷ first.front ++ more.front;
+      is = h.2 ∙ ap (λ (r : List ℕ). comma ∷ r) split;
       separated = (first.front ++ more.front, more.front, refl, first.again more.front rest more.is, more.separated);
     }
 

@@ -7,11 +7,11 @@ use Rattle.std.proofs.lemmas.Bool.{cases_Bool, eqb-true, ne_eqb, or_right}
 use Rattle.std.proofs.lemmas.Grind.{common_steps}
 use Rattle.std.proofs.lemmas.List.Splits.{join_with_byte-slice_split}
 use Rattle.std.proofs.lemmas.List.{drop_all, drop_more}
-use Rattle.lp_format.specs.format.Bytes.{is_one_of, newline, hash}
+use Rattle.lp_format.specs.format.Bytes.{hash, is_one_of, newline, space, tab}
 use Rattle.lp_format.specs.format.Trimming.{is_comment_or_empty, trimmed, without_blanks, without_front}
 
 abbrev pub is_blank : ℕ → Bool
-is_blank b = is_one_of (32 ∷ 9 ∷ []) b
+is_blank b = is_one_of (space ∷ tab ∷ []) b
 
 abbrev is_skipped : List ℕ → Bool
 is_skipped line = is_comment_or_empty (without_blanks line)
@@ -59,12 +59,12 @@ module _ (b : ℕ) (l : List ℕ) (ls : List (List ℕ)) where
       ]
 
   -- a comment takes its line
-  comment_first : b ≡ 35 → from_lines ((b ∷ l) ∷ ls) ≡ from_lines ls
+  comment_first : b ≡ hash → from_lines ((b ∷ l) ∷ ls) ≡ from_lines ls
   comment_first e =
       ap (λ (xs : List (List ℕ)). without_blanks (join_with_byte newline xs)) (front_yes is_skipped (b ∷ l) ls (rw e refl))
 
   -- anything else is kept
-  kept_first : is_blank b ≡ false → (b == 35) ≡ false → from_lines ((b ∷ l) ∷ ls) ≡ b ∷ join_with_byte newline (l ∷ ls)
+  kept_first : is_blank b ≡ false → (b == hash) ≡ false → from_lines ((b ∷ l) ∷ ls) ≡ b ∷ join_with_byte newline (l ∷ ls)
   kept_first no_blank no_hash =
       let keep : is_skipped (b ∷ l) ≡ false = ap is_comment_or_empty (front_no is_blank b l no_blank) ∙ no_hash in
       ap (λ (xs : List (List ℕ)). without_blanks (join_with_byte newline xs)) (front_no is_skipped (b ∷ l) ls keep)
@@ -80,12 +80,12 @@ has_lines : (text : List ℕ) → Lines text
 has_lines [] = record { first = []; others = []; are = refl }
 has_lines (b ∷ text) =
     let more = has_lines text in
-    elim (cases_Bool (b == 10)) [
+    elim (cases_Bool (b == newline)) [
       | inl cut ↦ record { first = []; others = lines_of text; are = rw cut refl }
       | inr on ↦ record { first = b ∷ more.first; others = more.others; are = rw (on, more.are) refl }
     ]
 
-first_more : (b : ℕ) (text : List ℕ) (h : (b == 10) ≡ false) → lines_of (b ∷ text) ≡ (b ∷ (has_lines text).first) ∷ (has_lines text).others
+first_more : (b : ℕ) (text : List ℕ) (h : (b == newline) ≡ false) → lines_of (b ∷ text) ≡ (b ∷ (has_lines text).first) ∷ (has_lines text).others
 first_more b text h = rw (h, (has_lines text).are) refl
 
 -- a text is trimmed from left to right, and in a comment from the next line on
@@ -93,7 +93,7 @@ record Left (text : List ℕ) : Type 0 where
   outside : from_lines (lines_of text) ≡ left_of false text
   inside : from_lines (drop 1 (lines_of text)) ≡ left_of true text
 
-newline_left : (b : ℕ) (text : List ℕ) → (b == 10) ≡ true → Left text → Left (b ∷ text)
+newline_left : (b : ℕ) (text : List ℕ) → (b == newline) ≡ true → Left text → Left (b ∷ text)
 newline_left b text cut more =
     record {
       outside = rw cut (ap (λ (ls : List (List ℕ)). without_blanks (join_with_byte newline ls))
@@ -101,7 +101,7 @@ newline_left b text cut more =
       inside = rw cut more.outside;
     }
 
-other_left : (b : ℕ) (text : List ℕ) → (b == 10) ≡ false → Left text → Left (b ∷ text)
+other_left : (b : ℕ) (text : List ℕ) → (b == newline) ≡ false → Left text → Left (b ∷ text)
 other_left b text on more =
     let l = (has_lines text).first in
     let ls = (has_lines text).others in
@@ -112,8 +112,8 @@ other_left b text on more =
     (l ∷ ls) ≡ text = ap (λ (ls : List (List ℕ)). join_with_byte newline ls) (sym are) ∙ join_with_byte-slice_split 10 text in
     record {
       outside = ap from_lines split ∙
-          elim (cases_Bool (b == 35)) [
-            | inl sharp ↦ comment_first b l ls (eqb-true b 35 sharp) ∙ after ∙ rw (on, sharp) refl
+          elim (cases_Bool (b == hash)) [
+            | inl sharp ↦ comment_first b l ls (eqb-true b hash sharp) ∙ after ∙ rw (on, sharp) refl
             | inr plain ↦
                 elim (cases_Bool (is_blank b)) [
                   | inl blank ↦ blank_first b l ls blank ∙ ap from_lines (sym are) ∙ more.outside ∙ rw (on, plain, blank) refl
@@ -126,7 +126,7 @@ other_left b text on more =
 left_is : (text : List ℕ) → Left text
 left_is [] = record { outside = refl; inside = refl }
 left_is (b ∷ text) =
-    elim (cases_Bool (b == 10)) [
+    elim (cases_Bool (b == newline)) [
       | inl cut ↦ newline_left b text cut (left_is text)
       | inr on ↦ other_left b text on (left_is text)
     ]
@@ -136,32 +136,32 @@ unfolding trimmed
 trimmed_is text = (left_is text).outside
 
 -- one byte more
-pub left_newline : (in_comment : Bool) (text : List ℕ) (i : ℕ) → i < length text → slice_index text i ≡ 10
+pub left_newline : (in_comment : Bool) (text : List ℕ) (i : ℕ) → i < length text → slice_index text i ≡ newline
     → left_of in_comment (drop i text) ≡ left_of false (drop (i + 1) text)
 left_newline in_comment text i lt e = rw (drop_more text i 0 lt, e) refl
 
-pub left_hash : (in_comment : Bool) (text : List ℕ) (i : ℕ) → i < length text → slice_index text i ≡ 35
+pub left_hash : (in_comment : Bool) (text : List ℕ) (i : ℕ) → i < length text → slice_index text i ≡ hash
     → left_of in_comment (drop i text) ≡ left_of true (drop (i + 1) text)
 left_hash in_comment text i lt e = rw (drop_more text i 0 lt, e, or_right in_comment true refl) refl
 
-pub left_inside : (text : List ℕ) (i : ℕ) → i < length text → slice_index text i ≢ 10
+pub left_inside : (text : List ℕ) (i : ℕ) → i < length text → slice_index text i ≢ newline
     → left_of true (drop i text) ≡ left_of true (drop (i + 1) text)
-left_inside text i lt other = rw (drop_more text i 0 lt, ne_eqb (slice_index text i) 10 other) refl
+left_inside text i lt other = rw (drop_more text i 0 lt, ne_eqb (slice_index text i) newline other) refl
 
 pub left_blank : (in_comment : Bool) (text : List ℕ) (i : ℕ) → i < length text
     → is_blank (slice_index text i) ≡ true → left_of in_comment (drop i text) ≡ left_of in_comment (drop (i + 1) text)
 left_blank true text i lt e = left_inside text i lt (λ n. grind (arith, common_steps))
 left_blank false text i lt e =
-    let no_newline : (slice_index text i == 10) ≡ false = grind (arith, common_steps) in
-    let no_hash : (slice_index text i == 35) ≡ false = grind (arith, common_steps) in
+    let no_newline : (slice_index text i == newline) ≡ false = grind (arith, common_steps) in
+    let no_hash : (slice_index text i == hash) ≡ false = grind (arith, common_steps) in
     rw (drop_more text i 0 lt, no_newline, no_hash, e) refl
 
-pub left_kept : (text : List ℕ) (i : ℕ) → i < length text → slice_index text i ≢ 10 → slice_index text i ≢ 35
-    → slice_index text i ≢ 32 → slice_index text i ≢ 9
+pub left_kept : (text : List ℕ) (i : ℕ) → i < length text → slice_index text i ≢ newline → slice_index text i ≢ hash
+    → slice_index text i ≢ space → slice_index text i ≢ tab
     → left_of false (drop i text) ≡ drop i text
 left_kept text i lt a b c d =
     let no_blank : is_blank (slice_index text i) ≡ false = grind (arith, common_steps) in
-    rw (drop_more text i 0 lt, ne_eqb (slice_index text i) 10 a, ne_eqb (slice_index text i) 35 b, no_blank) refl
+    rw (drop_more text i 0 lt, ne_eqb (slice_index text i) newline a, ne_eqb (slice_index text i) hash b, no_blank) refl
 
 -- nothing is left after the last byte
 pub left_end : (in_comment : Bool) (text : List ℕ) (i : ℕ) → length text ≤ i → left_of in_comment (drop i text) ≡ []

@@ -5,6 +5,7 @@ use Rattle.lp_format.specs.format.Names.{NameKind, a_tag_key, a_tag_value, a_fie
 use Rattle.lp_format.specs.format.Values.{value, integer_at, unsigned_at, float_at, string_at, boolean_at, body_len}
 use Rattle.lp_format.specs.format.Values.{true_words, false_words}
 use Rattle.lp_format.specs.format.Lines.{byte, key_value, tag, field}
+use Rattle.lp_format.specs.format.Bytes.{equals}
 
 -- what the reading leaves is no longer than the text
 pub record IsNoLonger {A : Type 0} (text : List ℕ) (r : Reading A) : Type 0 where
@@ -102,7 +103,7 @@ key_value_no_longer : {V : Type 0} (kind : NameKind) (part : List ℕ → Readin
     → (text : List ℕ) → IsNoLonger text (key_value kind part text)
 key_value_no_longer kind part part_no_longer text =
     and_then text (name kind text) _ (name_no_longer kind text) λ key.
-    and_then key.rest (byte 61 key.rest) _ (byte_no_longer 61 key.rest) λ after.
+    and_then key.rest (byte equals key.rest) _ (byte_no_longer equals key.rest) λ after.
     and_then after.rest (part after.rest) _ (part_no_longer after.rest) λ x.
     some_left x.rest _ x.rest (omega arith)
 

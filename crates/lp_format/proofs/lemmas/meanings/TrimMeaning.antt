@@ -6,7 +6,7 @@ use Rattle.std.specs.List.{All}
 use Rattle.std.proofs.lemmas.List.Elements.{All-cons, All-nil}
 use Rattle.std.proofs.lemmas.Bool.{cases_Bool, eqb-true, eqb-false, ne_eqb}
 use Rattle.std.proofs.lemmas.Grind.{common_steps}
-use Rattle.lp_format.specs.format.Bytes.{is_one_of}
+use Rattle.lp_format.specs.format.Bytes.{hash, is_one_of, newline, space, tab}
 use Rattle.lp_format.specs.format.Trimming.{trimmed}
 use Rattle.lp_format.specs.laws.Meanings.{IsBlankFront, IsLineEnd, empty, blank, comment}
 use Rattle.lp_format.proofs.lemmas.line.TrimLemmas.{left_of, is_blank, trimmed_is}
@@ -22,7 +22,7 @@ record InComment (text : List ℕ) : Type 0 where
   end : List ℕ
   front : List ℕ
   is : text ≡ end ++ (front ++ left_of true text)
-  plain : All (λ b. b ≢ 10) end
+  plain : All (λ b. b ≢ newline) end
   stops : IsLineEnd (front ++ left_of true text)
   fits : IsBlankFront front (left_of true text)
 
@@ -32,7 +32,7 @@ record Fronts (text : List ℕ) : Type 0 where
   inside : InComment text
 
 -- a blank and such a front
-front_blank : (b : ℕ) (text : List ℕ) → is_one_of (32 ∷ 9 ∷ 10 ∷ []) b ≡ true
+front_blank : (b : ℕ) (text : List ℕ) → is_one_of (space ∷ tab ∷ newline ∷ []) b ≡ true
     → left_of false (b ∷ text) ≡ left_of false text → Front text → Front (b ∷ text)
 front_blank b text h e f =
     record {
@@ -42,15 +42,15 @@ front_blank b text h e f =
     }
 
 -- a comment and such a front
-front_comment : (b : ℕ) (text : List ℕ) → b ≡ 35 → left_of false (b ∷ text) ≡ left_of true text → InComment text → Front (b ∷ text)
+front_comment : (b : ℕ) (text : List ℕ) → b ≡ hash → left_of false (b ∷ text) ≡ left_of true text → InComment text → Front (b ∷ text)
 front_comment b text h e f =
     record {
-      front = 35 ∷ f.end ++ f.front;
+      front = hash ∷ f.end ++ f.front;
       is =
-          ap (λ (c : ℕ). c ∷ text) h ∙ ap (λ (t : List ℕ). 35 ∷ t) f.is
-          ∙ sym (ap (λ (t : List ℕ). 35 ∷ t) (append_assoc f.end f.front (left_of true text)))
-          ∙ ap (λ (t : List ℕ). 35 ∷ ((f.end ++ f.front) ++ t)) (sym e);
-      fits = subst (IsBlankFront (35 ∷ f.end ++ f.front)) (sym e) (comment f.end f.front (left_of true text) f.plain f.stops f.fits);
+          ap (λ (c : ℕ). c ∷ text) h ∙ ap (λ (t : List ℕ). hash ∷ t) f.is
+          ∙ sym (ap (λ (t : List ℕ). hash ∷ t) (append_assoc f.end f.front (left_of true text)))
+          ∙ ap (λ (t : List ℕ). hash ∷ ((f.end ++ f.front) ++ t)) (sym e);
+      fits = subst (IsBlankFront (hash ∷ f.end ++ f.front)) (sym e) (comment f.end f.front (left_of true text) f.plain f.stops f.fits);
     }
 
 -- nothing at the start
@@ -58,56 +58,56 @@ front_none : (text : List ℕ) → left_of false text ≡ text → Front text
 front_none text e = record { front = []; is = sym e; fits = empty (left_of false text) }
 
 -- a comment ends before a newline
-comment_ends : (b : ℕ) (text : List ℕ) → b ≡ 10 → left_of true (b ∷ text) ≡ left_of false (b ∷ text)
+comment_ends : (b : ℕ) (text : List ℕ) → b ≡ newline → left_of true (b ∷ text) ≡ left_of false (b ∷ text)
     → Front (b ∷ text) → InComment (b ∷ text)
 comment_ends b text h e f =
     record {
       end = [];
       front = f.front;
       is = f.is ∙ ap (λ (t : List ℕ). f.front ++ t) (sym e);
-      plain = All-nil (λ (c : ℕ). c ≢ 10);
+      plain = All-nil (λ (c : ℕ). c ≢ newline);
       stops = subst IsLineEnd (f.is ∙ ap (λ (t : List ℕ). f.front ++ t) (sym e)) h;
       fits = subst (IsBlankFront f.front) (sym e) f.fits;
     }
 
 -- a comment goes on with any other byte
-comment_more : (b : ℕ) (text : List ℕ) → b ≢ 10 → left_of true (b ∷ text) ≡ left_of true text → InComment text → InComment (b ∷ text)
+comment_more : (b : ℕ) (text : List ℕ) → b ≢ newline → left_of true (b ∷ text) ≡ left_of true text → InComment text → InComment (b ∷ text)
 comment_more b text h e f =
     record {
       end = b ∷ f.end;
       front = f.front;
       is = ap (λ (t : List ℕ). b ∷ t) f.is ∙ ap (λ (t : List ℕ). b ∷ f.end ++ (f.front ++ t)) (sym e);
-      plain = All-cons (λ (c : ℕ). c ≢ 10) b f.end h f.plain;
+      plain = All-cons (λ (c : ℕ). c ≢ newline) b f.end h f.plain;
       stops = subst (λ (t : List ℕ). IsLineEnd (f.front ++ t)) (sym e) f.stops;
       fits = subst (IsBlankFront f.front) (sym e) f.fits;
     }
 
 -- the fronts after a newline
-fronts_newline : (b : ℕ) (text : List ℕ) → (b == 10) ≡ true → Fronts text → Fronts (b ∷ text)
+fronts_newline : (b : ℕ) (text : List ℕ) → (b == newline) ≡ true → Fronts text → Fronts (b ∷ text)
 fronts_newline b text h f =
-    let b_is : b ≡ 10 = eqb-true b 10 h in
-    let known : is_one_of (32 ∷ 9 ∷ 10 ∷ []) b ≡ true = rw b_is refl in
+    let b_is : b ≡ newline = eqb-true b newline h in
+    let known : is_one_of (space ∷ tab ∷ newline ∷ []) b ≡ true = rw b_is refl in
     let outside = front_blank b text known (rw h refl) f.outside in
     record { outside = outside; inside = comment_ends b text b_is (rw h refl) outside }
 
 -- a space or a tab is a blank
-blank_known : (b : ℕ) → is_blank b ≡ true → is_one_of (32 ∷ 9 ∷ 10 ∷ []) b ≡ true
+blank_known : (b : ℕ) → is_blank b ≡ true → is_one_of (space ∷ tab ∷ newline ∷ []) b ≡ true
 blank_known b h = grind (arith, common_steps)
 
 -- the fronts after another byte
-fronts_other : (b : ℕ) (text : List ℕ) → (b == 10) ≡ false → Fronts text → Fronts (b ∷ text)
+fronts_other : (b : ℕ) (text : List ℕ) → (b == newline) ≡ false → Fronts text → Fronts (b ∷ text)
 fronts_other b text h f =
     record {
       outside =
-          elim (cases_Bool (b == 35)) [
-            | inl sharp ↦ front_comment b text (eqb-true b 35 sharp) (rw (h, sharp) refl) f.inside
+          elim (cases_Bool (b == hash)) [
+            | inl sharp ↦ front_comment b text (eqb-true b hash sharp) (rw (h, sharp) refl) f.inside
             | inr plain ↦
                 elim (cases_Bool (is_blank b)) [
                   | inl m ↦ front_blank b text (blank_known b m) (rw (h, plain, m) refl) f.outside
                   | inr m ↦ front_none (b ∷ text) (rw (h, plain, m) refl)
                 ]
           ];
-      inside = comment_more b text (eqb-false b 10 h) (rw h refl) f.inside;
+      inside = comment_more b text (eqb-false b newline h) (rw h refl) f.inside;
     }
 
 -- each text has both
@@ -115,10 +115,10 @@ fronts_are : (text : List ℕ) → Fronts text
 fronts_are [] =
     record {
       outside = front_none [] refl;
-      inside = record { end = []; front = []; is = refl; plain = All-nil (λ (c : ℕ). c ≢ 10); stops = tt; fits = empty [] };
+      inside = record { end = []; front = []; is = refl; plain = All-nil (λ (c : ℕ). c ≢ newline); stops = tt; fits = empty [] };
     }
 fronts_are (b ∷ text) =
-    elim (cases_Bool (b == 10)) [
+    elim (cases_Bool (b == newline)) [
       | inl h ↦ fronts_newline b text h (fronts_are text)
       | inr h ↦ fronts_other b text h (fronts_are text)
     ]
@@ -130,10 +130,10 @@ trimmed_is_after piece =
     subst (λ (t : List ℕ). (front : List ℕ) × (piece ≡ front ++ t) × IsBlankFront front t) (sym (trimmed_is piece)) (f.front, f.is, f.fits)
 
 -- a comment's text is skipped
-skip_comment : (end rest : List ℕ) → All (λ b. b ≢ 10) end → left_of true (end ++ rest) ≡ left_of true rest
+skip_comment : (end rest : List ℕ) → All (λ b. b ≢ newline) end → left_of true (end ++ rest) ≡ left_of true rest
 skip_comment [] rest plain = refl
 skip_comment (b ∷ end) rest plain =
-    rw (ne_eqb b 10 (plain 0 0 (omega arith))) (skip_comment end rest (λ k d l. plain (suc k) d (omega arith)))
+    rw (ne_eqb b newline (plain 0 0 (omega arith))) (skip_comment end rest (λ k d l. plain (suc k) d (omega arith)))
 
 -- at the end of a line a comment ends
 at_line_end : (text : List ℕ) → IsLineEnd text → left_of true text ≡ left_of false text
@@ -141,17 +141,17 @@ at_line_end [] h = refl
 at_line_end (b ∷ text) h = rw h refl
 
 -- a blank is no `#`
-known_no_hash : (b : ℕ) → is_one_of (32 ∷ 9 ∷ 10 ∷ []) b ≡ true → (b == 35) ≡ false
+known_no_hash : (b : ℕ) → is_one_of (space ∷ tab ∷ newline ∷ []) b ≡ true → (b == hash) ≡ false
 known_no_hash b h = grind (arith, common_steps)
 
 -- a blank that is no newline is a space or a tab
-known_blank : (b : ℕ) → (b == 10) ≡ false → is_one_of (32 ∷ 9 ∷ 10 ∷ []) b ≡ true → is_blank b ≡ true
+known_blank : (b : ℕ) → (b == newline) ≡ false → is_one_of (space ∷ tab ∷ newline ∷ []) b ≡ true → is_blank b ≡ true
 known_blank b on h = grind (arith, common_steps)
 
 -- a blank is skipped
-blank_skipped : (b : ℕ) (text : List ℕ) → is_one_of (32 ∷ 9 ∷ 10 ∷ []) b ≡ true → left_of false (b ∷ text) ≡ left_of false text
+blank_skipped : (b : ℕ) (text : List ℕ) → is_one_of (space ∷ tab ∷ newline ∷ []) b ≡ true → left_of false (b ∷ text) ≡ left_of false text
 blank_skipped b text h =
-    elim (cases_Bool (b == 10)) [
+    elim (cases_Bool (b == newline)) [
       | inl cut ↦ rw cut refl
       | inr on ↦ rw (on, known_no_hash b h, known_blank b on h) refl
     ]
@@ -173,8 +173,8 @@ cond_no_longer false xs ys n h k = k
 left_no_longer : (c : Bool) (text : List ℕ) → length (left_of c text) ≤ length text
 left_no_longer c [] = omega arith
 left_no_longer c (b ∷ text) =
-    cond_no_longer (b == 10) _ _ (length text) (left_no_longer false text)
-    (cond_no_longer (c || b == 35) _ _ (length text) (left_no_longer true text)
+    cond_no_longer (b == newline) _ _ (length text) (left_no_longer false text)
+    (cond_no_longer (c || b == hash) _ _ (length text) (left_no_longer true text)
     (cond_no_longer (is_blank b) _ _ (length text) (left_no_longer false text) (omega arith)))
 
 -- no such front is longer

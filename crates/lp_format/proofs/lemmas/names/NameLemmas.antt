@@ -3,28 +3,28 @@ use Rattle.std.proofs.Common.{◌≡◌, ◌≢◌, ℕ, suc, zero, ◌-◌, ◌
 use Rattle.std.proofs.Common.{inl, inr}
 use Rattle.std.specs.Prelude.{◌==◌}
 use Rattle.std.proofs.lemmas.Bool.{cases_Bool, or_parts, eqb-false, eq-eqb, ne_eqb}
-use Rattle.lp_format.specs.format.Bytes.{is_one_of}
+use Rattle.lp_format.specs.format.Bytes.{backslash, is_one_of}
 use Rattle.lp_format.specs.format.Names.{NameKind, a_measurement, a_tag_key, a_tag_value, a_field_key, ends_in_backslash}
 use Rattle.lp_format.specs.format.Names.{escapable, is_escapable, read_text, logical, name, spelled, spelled_len}
 use Rattle.lp_format.specs.format.Escapes.{without_escapes}
 use Rattle.lp_format.specs.format.Readings.{miss, fatal, reads, ends_with_backslash}
 
 -- a byte that is no backslash stays
-pub without_escapes_plain_byte : (known : List ℕ) (b : ℕ) (rest : List ℕ) → b ≢ 92
+pub without_escapes_plain_byte : (known : List ℕ) (b : ℕ) (rest : List ℕ) → b ≢ backslash
     → without_escapes known (b ∷ rest) ≡ b ∷ without_escapes known rest
 unfolding without_escapes
 without_escapes_plain_byte known b [] h = refl
-without_escapes_plain_byte known b (c ∷ rest) h = rw (ne_eqb b 92 h) refl
+without_escapes_plain_byte known b (c ∷ rest) h = rw (ne_eqb b backslash h) refl
 
 -- a known escape gives its second byte
 pub without_escapes_known : (known : List ℕ) (c : ℕ) (rest : List ℕ) → is_one_of known c ≡ true
-    → without_escapes known (92 ∷ c ∷ rest) ≡ c ∷ without_escapes known rest
+    → without_escapes known (backslash ∷ c ∷ rest) ≡ c ∷ without_escapes known rest
 unfolding without_escapes
 without_escapes_known known c rest h = rw h refl
 
 -- a text that holds no backslash
 abbrev pub HasNoBackslash : List ℕ → Type 0
-HasNoBackslash text = (i : ℕ) → i < length text → get_or text i 0 ≢ 92
+HasNoBackslash text = (i : ℕ) → i < length text → get_or text i 0 ≢ backslash
 
 -- what holds no backslash is its own logical text
 pub without_escapes_same : (known : List ℕ) (text : List ℕ) → HasNoBackslash text → without_escapes known text ≡ text
@@ -35,7 +35,7 @@ without_escapes_same known (b ∷ text) none =
     ∙ ap (λ (xs : List ℕ). b ∷ xs) (without_escapes_same known text (λ i l. none (suc i) (omega arith)))
 
 -- a backslash may escape a backslash
-pub escapable_backslash : (kind : NameKind) → is_escapable kind 92 ≡ true
+pub escapable_backslash : (kind : NameKind) → is_escapable kind backslash ≡ true
 escapable_backslash a_measurement = refl
 escapable_backslash a_tag_key = refl
 escapable_backslash a_tag_value = refl
@@ -53,7 +53,7 @@ unfolding without_escapes
 logical_nonempty kind [] h = absurd (omega arith)
 logical_nonempty kind (b ∷ []) h = h
 logical_nonempty kind (b ∷ c ∷ rest) h =
-    elim (cases_Bool (b == 92)) [
+    elim (cases_Bool (b == backslash)) [
       | inl e ↦ elim (cases_Bool (is_escapable kind c)) [ inl k ↦ rw (e, k) (omega arith) | inr k ↦ rw (e, k) (omega arith) ]
       | inr e ↦ rw e (omega arith)
     ]
@@ -71,7 +71,7 @@ unfolding without_escapes
 logical_ends kind [] = refl
 logical_ends kind (b ∷ []) = refl
 logical_ends kind (b ∷ c ∷ rest) =
-    elim (cases_Bool (b == 92)) [
+    elim (cases_Bool (b == backslash)) [
       | inl e ↦
           elim (cases_Bool (is_escapable kind c)) [
             | inl k ↦ rw (e, k) (logical_ends_cons kind c rest (logical_ends kind rest) ∙ sym (ends_cons b (c ∷ rest) (omega arith)))
@@ -82,10 +82,10 @@ logical_ends kind (b ∷ c ∷ rest) =
     ]
 
 -- a text without a backslash, by its test
-pub no_backslash : (text : List ℕ) → is_one_of text 92 ≡ false → HasNoBackslash text
+pub no_backslash : (text : List ℕ) → is_one_of text backslash ≡ false → HasNoBackslash text
 no_backslash [] h i l = absurd (omega arith)
-no_backslash (b ∷ text) h zero l = eqb-false b 92 (or_parts (b == 92) (is_one_of text 92) h).0
-no_backslash (b ∷ text) h (suc i) l = no_backslash text (or_parts (b == 92) (is_one_of text 92) h).1 i (omega arith)
+no_backslash (b ∷ text) h zero l = eqb-false b backslash (or_parts (b == backslash) (is_one_of text backslash) h).0
+no_backslash (b ∷ text) h (suc i) l = no_backslash text (or_parts (b == backslash) (is_one_of text backslash) h).1 i (omega arith)
 
 -- the three outcomes of a name
 pub name_misses : (kind : NameKind) (text : List ℕ) → length (spelled kind text) ≡ 0 → name kind text ≡ miss

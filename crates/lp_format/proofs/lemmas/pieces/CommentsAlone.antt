@@ -14,27 +14,28 @@ use Rattle.lp_format.specs.format.Readings.{Fault}
 use Rattle.lp_format.specs.format.Trimming.{trimmed}
 use Rattle.lp_format.proofs.lemmas.split.SplitPieces.{begins_comment-append, comment_replaced, piece_is_comment, same_pieces}
 use Rattle.lp_format.proofs.lemmas.line.TrimLemmas.{is_blank, left_of, trimmed_is}
+use Rattle.lp_format.specs.format.Bytes.{hash, newline, space, tab}
 
 -- nothing is left of a line inside a comment
-inside_left : (text : List ℕ) → All (λ b. b ≢ 10) text → left_of true text ≡ []
+inside_left : (text : List ℕ) → All (λ b. b ≢ newline) text → left_of true text ≡ []
 inside_left [] h = refl
 inside_left (b ∷ text) h =
-    rw (ne_eqb b 10 (All-head (λ c. c ≢ 10) b text h)) (inside_left text (All-tail (λ c. c ≢ 10) b text h))
+    rw (ne_eqb b newline (All-head (λ c. c ≢ newline) b text h)) (inside_left text (All-tail (λ c. c ≢ newline) b text h))
 
 -- a space and a tab are blanks
-blank_is : (b : ℕ) → (b == 32 || b == 9) ≡ true → is_blank b ≡ true
+blank_is : (b : ℕ) → (b == space || b == tab) ≡ true → is_blank b ≡ true
 blank_is b e = grind (arith, common_steps)
 
 -- nothing is left of a comment
-comment_left : (text : List ℕ) → begins_comment text ≡ true → All (λ b. b ≢ 10) text → left_of false text ≡ []
+comment_left : (text : List ℕ) → begins_comment text ≡ true → All (λ b. b ≢ newline) text → left_of false text ≡ []
 comment_left [] e h = absurd (false≢true e)
 comment_left (b ∷ text) e h =
-    let on : (b == 10) ≡ false = ne_eqb b 10 (All-head (λ c. c ≢ 10) b text h) in
-    let rest = All-tail (λ c. c ≢ 10) b text h in
-    elim (cases_Bool (b == 35)) [
+    let on : (b == newline) ≡ false = ne_eqb b newline (All-head (λ c. c ≢ newline) b text h) in
+    let rest = All-tail (λ c. c ≢ newline) b text h in
+    elim (cases_Bool (b == hash)) [
       | inl sharp ↦ rw (on, sharp) (inside_left text rest)
       | inr plain ↦
-          let after = and_parts (b == 32 || b == 9) (begins_comment text) (rw plain at e) in
+          let after = and_parts (b == space || b == tab) (begins_comment text) (rw plain at e) in
           rw (on, plain, blank_is b after.0) (comment_left text after.1 rest)
     ]
 

@@ -7,7 +7,7 @@ use Rattle.std.specs.Str.Parse.{IsNumeral}
 use Rattle.std.proofs.lemmas.Bool.{ne_eqb, lt-ltb}
 use Rattle.std.proofs.lemmas.Grind.{common_steps}
 use Rattle.std.proofs.lemmas.List.{append_assoc, take_at, drop_at, length-append, drop-drop, get_or-append-add}
-use Rattle.lp_format.specs.format.Bytes.{is_one_of}
+use Rattle.lp_format.specs.format.Bytes.{comma, is_one_of, space}
 use Rattle.lp_format.specs.format.Readings.{Text, miss, reads}
 use Rattle.lp_format.specs.format.Values.{Value, IsFloat, IsMarked, IsSigned, value, float, integer_at, unsigned_at, float_at}
 use Rattle.lp_format.specs.format.Values.{digits_len, number_len, marked_len, integer_len, fraction_len, exponent_len}
@@ -32,31 +32,31 @@ marked_len_is marks part Part (b ∷ x) tail marked len apart =
 
 -- what no value can go on with: the end, a comma or a space
 abbrev pub Ends : List ℕ → Type 0
-Ends rest = is_one_of (0 ∷ 44 ∷ 32 ∷ []) (slice_index rest 0) ≡ true
+Ends rest = is_one_of (0 ∷ comma ∷ space ∷ []) (slice_index rest 0) ≡ true
 
 -- what an exponent, or what follows it, begins with
 exponent_head : (exponent rest : List ℕ) → IsMarked (codes "eE") (IsSigned (codes "+-")) exponent → Ends rest
-    → is_one_of (0 ∷ 44 ∷ 32 ∷ 101 ∷ 69 ∷ []) (slice_index (exponent ++ rest) 0) ≡ true
+    → is_one_of (0 ∷ comma ∷ space ∷ 101 ∷ 69 ∷ []) (slice_index (exponent ++ rest) 0) ≡ true
 exponent_head [] rest marked ends = grind (arith, common_steps)
 exponent_head (b ∷ x) rest marked ends = let mark : is_one_of (codes "eE") b ≡ true = marked.0 in grind (arith, common_steps)
 
 -- what a fraction, or what follows it, begins with
 fraction_head : (fraction after : List ℕ) → IsMarked (codes ".") (IsNumeral 10) fraction
-    → is_one_of (0 ∷ 44 ∷ 32 ∷ 101 ∷ 69 ∷ []) (slice_index after 0) ≡ true
-    → is_one_of (0 ∷ 44 ∷ 32 ∷ 101 ∷ 69 ∷ 46 ∷ []) (slice_index (fraction ++ after) 0) ≡ true
+    → is_one_of (0 ∷ comma ∷ space ∷ 101 ∷ 69 ∷ []) (slice_index after 0) ≡ true
+    → is_one_of (0 ∷ comma ∷ space ∷ 101 ∷ 69 ∷ 46 ∷ []) (slice_index (fraction ++ after) 0) ≡ true
 fraction_head [] after marked ends = grind (arith, common_steps)
 fraction_head (b ∷ x) after marked ends = let mark : is_one_of (codes ".") b ≡ true = marked.0 in grind (arith, common_steps)
 
 -- none of these bytes is a digit or a mark of an integer
-no_digit_after : (h : ℕ) → is_one_of (0 ∷ 44 ∷ 32 ∷ 101 ∷ 69 ∷ 46 ∷ []) h ≡ true → (is_ascii_digit h ≡ false) × (h ≢ 105) × (h ≢ 117)
+no_digit_after : (h : ℕ) → is_one_of (0 ∷ comma ∷ space ∷ 101 ∷ 69 ∷ 46 ∷ []) h ≡ true → (is_ascii_digit h ≡ false) × (h ≢ 105) × (h ≢ 117)
 no_digit_after h e = (grind (arith, common_steps), (λ i. grind (arith, common_steps)), (λ i. grind (arith, common_steps)))
 
 -- none of these is a digit or a point
-no_point_after : (h : ℕ) → is_one_of (0 ∷ 44 ∷ 32 ∷ 101 ∷ 69 ∷ []) h ≡ true → (is_ascii_digit h ≡ false) × (is_one_of (codes ".") h ≡ false)
+no_point_after : (h : ℕ) → is_one_of (0 ∷ comma ∷ space ∷ 101 ∷ 69 ∷ []) h ≡ true → (is_ascii_digit h ≡ false) × (is_one_of (codes ".") h ≡ false)
 no_point_after h e = (grind (arith, common_steps), grind (arith, common_steps))
 
 -- none of these is a digit or a mark of an exponent
-no_mark_after : (h : ℕ) → is_one_of (0 ∷ 44 ∷ 32 ∷ []) h ≡ true → (is_ascii_digit h ≡ false) × (is_one_of (codes "eE") h ≡ false)
+no_mark_after : (h : ℕ) → is_one_of (0 ∷ comma ∷ space ∷ []) h ≡ true → (is_ascii_digit h ≡ false) × (is_one_of (codes "eE") h ≡ false)
 no_mark_after h e = (grind (arith, common_steps), grind (arith, common_steps))
 
 -- the byte after a front
@@ -65,7 +65,7 @@ byte_after front after = rw add-zero at (get_or-append-add front after 0 0)
 
 -- the part before the point is no unsigned number
 whole_unmarked : (whole suffix : List ℕ) → IsSigned (codes "-") whole
-    → is_one_of (0 ∷ 44 ∷ 32 ∷ 101 ∷ 69 ∷ 46 ∷ []) (slice_index suffix 0) ≡ true
+    → is_one_of (0 ∷ comma ∷ space ∷ 101 ∷ 69 ∷ 46 ∷ []) (slice_index suffix 0) ≡ true
     → unsigned_at (whole ++ suffix) ≡ miss
 whole_unmarked [] suffix never head = absurd never
 whole_unmarked (b ∷ ds) suffix (inl signed) head =

@@ -12,7 +12,7 @@ use Rattle.std.proofs.lemmas.List.{take_at, drop_at}
 use Rattle.lp_format.specs.format.Lines.{spaces}
 use Rattle.lp_format.specs.format.Readings.{reads}
 use Rattle.lp_format.specs.format.Values.{IsSigned, digits_len, fits_i64, integer, integer_at, integer_len, number_len}
-use Rattle.lp_format.specs.format.Bytes.{is_one_of}
+use Rattle.lp_format.specs.format.Bytes.{is_one_of, space}
 use Rattle.lp_format.proofs.lemmas.values.ValueLemmas.{fits_from_test, integer_parsed}
 use Rattle.lp_format.proofs.lemmas.literals.FloatLemmas.{digit_passes, minus_no_digit}
 
@@ -60,7 +60,7 @@ no_space_first : (ds : List ℕ) → IsNumeral 10 ds → spaces ds ≡ 0
 no_space_first [] numeral = refl
 no_space_first (d ∷ ds) numeral =
     let range = digit_from_value d numeral.1.0 in
-    rw (ne_eqb d 32 (λ e. absurd (omega arith))) refl
+    rw (ne_eqb d space (λ e. absurd (omega arith))) refl
 
 -- each integer in range is written so
 pub integer_written : (z : ℤ) → fits_i64 z ≡ true → Written z

@@ -4,7 +4,7 @@ use Rattle.std.proofs.Common.{inr}
 use Rattle.std.specs.List.{list_all}
 use Rattle.std.proofs.lemmas.Bool.{cases_Bool, and_parts, eqb-false, not-true}
 use Rattle.std.proofs.lemmas.Grind.{common_steps}
-use Rattle.lp_format.specs.format.Bytes.{is_one_of}
+use Rattle.lp_format.specs.format.Bytes.{backslash, hash, is_one_of, space}
 use Rattle.lp_format.specs.format.Names.{NameKind, a_measurement, a_tag_key, a_tag_value, a_field_key, ends_in_backslash}
 use Rattle.lp_format.specs.format.Names.{escapable, is_escapable, is_stop, logical, read_text}
 use Rattle.lp_format.specs.format.Readings.{Text}
@@ -25,21 +25,21 @@ stop_escapable a_tag_value b may plain = grind (arith, common_steps)
 stop_escapable a_field_key b may plain = grind (arith, common_steps)
 
 -- a backslash ends no name
-pub backslash_no_stop : (kind : NameKind) → is_stop kind 92 ≡ false
+pub backslash_no_stop : (kind : NameKind) → is_stop kind backslash ≡ false
 backslash_no_stop a_measurement = refl
 backslash_no_stop a_tag_key = refl
 backslash_no_stop a_tag_value = refl
 backslash_no_stop a_field_key = refl
 
 -- a space in a name is escaped
-pub space_escapable : (kind : NameKind) → is_escapable kind 32 ≡ true
+pub space_escapable : (kind : NameKind) → is_escapable kind space ≡ true
 space_escapable a_measurement = refl
 space_escapable a_tag_key = refl
 space_escapable a_tag_value = refl
 space_escapable a_field_key = refl
 
 -- the text of a name or a string, a byte further
-pub escaped_found : (known text : List ℕ) (b : ℕ) → is_one_of known b ≡ true → escaped known (b ∷ text) ≡ 92 ∷ b ∷ escaped known text
+pub escaped_found : (known text : List ℕ) (b : ℕ) → is_one_of known b ≡ true → escaped known (b ∷ text) ≡ backslash ∷ b ∷ escaped known text
 unfolding escaped
 escaped_found known text b found = rw found refl
 
@@ -49,14 +49,14 @@ unfolding escaped
 escaped_plain known text b plain = rw plain refl
 
 -- the logical text of a text with escapes is the text
-pub without_escapes_escaped : (known n : List ℕ) → is_one_of known 92 ≡ true → without_escapes known (escaped known n) ≡ n
+pub without_escapes_escaped : (known n : List ℕ) → is_one_of known backslash ≡ true → without_escapes known (escaped known n) ≡ n
 unfolding escaped
 without_escapes_escaped known [] closed = without_escapes_same known [] (λ i l. absurd (omega arith))
 without_escapes_escaped known (b ∷ n) closed =
     elim (cases_Bool (is_one_of known b)) [
       | inl found ↦ rw (found, without_escapes_known known b (escaped known n) found, without_escapes_escaped known n closed) refl
       | inr plain ↦
-          let other : b ≢ 92 = λ e. cc (closed, plain, ap (is_one_of known) e) in
+          let other : b ≢ backslash = λ e. cc (closed, plain, ap (is_one_of known) e) in
           rw (plain, without_escapes_plain_byte known b (escaped known n) other, without_escapes_escaped known n closed) refl
     ]
 
@@ -81,7 +81,7 @@ admitted_parts kind n h =
     record { some = omega arith; ends = not-true _ second.1; may = third.1 }
 
 -- a measurement does not begin with `#`
-pub begins_otherwise : (n : List ℕ) → is_admitted_name a_measurement n ≡ true → slice_index n 0 ≢ 35
+pub begins_otherwise : (n : List ℕ) → is_admitted_name a_measurement n ≡ true → slice_index n 0 ≢ hash
 unfolding is_admitted_name
 begins_otherwise n ok = λ e. let h : false ≡ true = (and_parts _ false (rw e at ok)).1 in cc
 

@@ -6,6 +6,7 @@ use Rattle.std.proofs.lemmas.List.{reverse-append}
 use Rattle.std.proofs.lemmas.Bool.{ne_eqb}
 use Rattle.std.proofs.lemmas.Bool.Decides.{nat_tests}
 use Rattle.lp_format.specs.format.Escapes.{is_escaped_after, bare_after, bare}
+use Rattle.lp_format.specs.format.Bytes.{backslash}
 
 -- a byte more: only a backslash escapes, and only a bare one
 pub is_escaped-nil : is_escaped_after [] ≡ false
@@ -19,14 +20,14 @@ run-push : (b n : ℕ) (t : Bool) → eqb (cond t (1 + n) 0 % 2) 1 ≡ cond t (n
 run-push b n true = odd-suc n
 run-push b n false = refl
 
-pub is_escaped-push : (front : List ℕ) (b : ℕ) → is_escaped_after (front ++ b ∷ []) ≡ cond (eqb b 92) (not (is_escaped_after front)) false
+pub is_escaped-push : (front : List ℕ) (b : ℕ) → is_escaped_after (front ++ b ∷ []) ≡ cond (eqb b backslash) (not (is_escaped_after front)) false
 unfolding is_escaped_after
-is_escaped-push front b = rw reverse-append (run-push b (prefix_len (λ c. eqb c 92) (reverse front)) (eqb b 92))
+is_escaped-push front b = rw reverse-append (run-push b (prefix_len (λ c. eqb c backslash) (reverse front)) (eqb b backslash))
 
 -- the flag that a walk over a text keeps
 abbrev pub flag_after : Bool → List ℕ → Bool
 flag_after f [] = f
-flag_after f (b ∷ bs) = flag_after (cond (eqb b 92) (not f) false) bs
+flag_after f (b ∷ bs) = flag_after (cond (eqb b backslash) (not f) false) bs
 
 pub is_escaped-append : (front text : List ℕ) → is_escaped_after (front ++ text) ≡ flag_after (is_escaped_after front) text
 is_escaped-append front [] = ap is_escaped_after (append-nil front)
@@ -35,7 +36,7 @@ is_escaped-append front (b ∷ bs) =
     ∙ ap (λ f. flag_after f bs) (is_escaped-push front b)
 
 -- no run of backslashes reaches past another byte
-pub is_escaped-after_other : (front text : List ℕ) (b : ℕ) → eqb b 92 ≡ false → is_escaped_after (front ++ b ∷ text) ≡ is_escaped_after text
+pub is_escaped-after_other : (front text : List ℕ) (b : ℕ) → eqb b backslash ≡ false → is_escaped_after (front ++ b ∷ text) ≡ is_escaped_after text
 is_escaped-after_other front text b h =
     is_escaped-append front (b ∷ text) ∙ ap (λ t. flag_after (cond t (not (is_escaped_after front)) false) text) h
     ∙ ap (λ f. flag_after f text) (sym is_escaped-nil) ∙ sym (is_escaped-append [] text)
@@ -48,17 +49,17 @@ bare_after-push front (a ∷ text) b =
 
 -- `front` ends in an escaped place, or in a bare one
 pub is_escaped-push_escaped : (front : List ℕ) (b : ℕ) → is_escaped_after front ≡ true → is_escaped_after (front ++ b ∷ []) ≡ false
-is_escaped-push_escaped front b h = is_escaped-push front b ∙ ap (λ f. cond (eqb b 92) (not f) false) h ∙ none (eqb b 92)
+is_escaped-push_escaped front b h = is_escaped-push front b ∙ ap (λ f. cond (eqb b backslash) (not f) false) h ∙ none (eqb b backslash)
   where
     none : (t : Bool) → cond t false false ≡ false
     none true = refl
     none false = refl
 
-pub is_escaped-push_backslash : (front : List ℕ) → is_escaped_after front ≡ false → is_escaped_after (front ++ 92 ∷ []) ≡ true
-is_escaped-push_backslash front h = is_escaped-push front 92 ∙ ap not h
+pub is_escaped-push_backslash : (front : List ℕ) → is_escaped_after front ≡ false → is_escaped_after (front ++ backslash ∷ []) ≡ true
+is_escaped-push_backslash front h = is_escaped-push front backslash ∙ ap not h
 
-pub is_escaped-push_other : (front : List ℕ) (b : ℕ) → b ≢ 92 → is_escaped_after (front ++ b ∷ []) ≡ false
-is_escaped-push_other front b h = is_escaped-push front b ∙ ap (λ t. cond t (not (is_escaped_after front)) false) (ne_eqb b 92 h)
+pub is_escaped-push_other : (front : List ℕ) (b : ℕ) → b ≢ backslash → is_escaped_after (front ++ b ∷ []) ≡ false
+is_escaped-push_other front b h = is_escaped-push front b ∙ ap (λ t. cond t (not (is_escaped_after front)) false) (ne_eqb b backslash h)
 
 pub bare-push_escaped : (text : List ℕ) (b : ℕ) → is_escaped_after text ≡ true → bare (text ++ b ∷ []) ≡ bare text
 bare-push_escaped text b h = bare_after-push [] text b ∙ ap (λ f. bare text ++ cond f [] (b ∷ [])) h ∙ append-nil (bare text)

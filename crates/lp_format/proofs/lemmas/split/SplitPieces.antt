@@ -15,6 +15,7 @@ use Rattle.lp_format.proofs.lemmas.split.SplitShape.{IsHead-escaped, IsHead-bare
 use Rattle.lp_format.proofs.lemmas.split.SplitShape.{EndsPlain-start, EndsQuoted-escaped, EndsQuoted-bare, EndsQuoted-start}
 use Rattle.lp_format.proofs.lemmas.split.SplitShape.{EndsQuoted-close}
 use Rattle.lp_format.proofs.lemmas.split.SplitMachine.{cut_not_within}
+use Rattle.lp_format.specs.format.Bytes.{comma, equals, hash, quote, space, tab}
 
 -- a byte more is a cut, or lengthens the piece
 abbrev GoesOn : Dialect → List ℕ → ℕ → Type 0
@@ -26,7 +27,7 @@ head_goes_on front b h = elim (cases_Bool (is_escaped_after front)) [
   | inr e ↦ elim (cases_eq b 10) [
     | inl n ↦ inl (n, (inl h, e))
     | inr n ↦ elim (cases_eq b 32) [
-      | inl s ↦ inr (inl (inr (32 ∷ [], rw s (EndsPlain-start front h e))))
+      | inl s ↦ inr (inl (inr (space ∷ [], rw s (EndsPlain-start front h e))))
       | inr s ↦ inr (inl (inl (IsHead-bare front b h e s n)))
     ]
   ]
@@ -37,8 +38,8 @@ plain_goes_on front counted b h = elim (cases_Bool (is_escaped_after front)) [
   | inl e ↦ inr (inl (inr (counted, EndsPlain-escaped b h e)))
   | inr e ↦ elim (cases_eq b 10) [
     | inl n ↦ inl (n, (inr (counted, h), e))
-    | inr n ↦ elim (cases_lt (count_by (λ x. eqb x 44) counted) (count_by (λ x. eqb x 61) counted)) [
-      | inl m ↦ elim (cases_eq b 34) [
+    | inr n ↦ elim (cases_lt (count_by (λ x. eqb x comma) counted) (count_by (λ x. eqb x equals) counted)) [
+      | inl m ↦ elim (cases_eq b quote) [
         | inl q ↦ inr (inr (counted, rw q (EndsQuoted-start h e m)))
         | inr q ↦ inr (inl (inr (counted ++ b ∷ [], EndsPlain-bare b h e n (λ i. absurd (q i)))))
       ]
@@ -50,7 +51,7 @@ plain_goes_on front counted b h = elim (cases_Bool (is_escaped_after front)) [
 quoted_goes_on : (front counted : List ℕ) (b : ℕ) → EndsQuoted front counted → GoesOn Crate front b
 quoted_goes_on front counted b h = elim (cases_Bool (is_escaped_after front)) [
   | inl e ↦ inr (inr (counted, EndsQuoted-escaped b h e))
-  | inr e ↦ elim (cases_eq b 34) [
+  | inr e ↦ elim (cases_eq b quote) [
     | inl q ↦ inr (inl (inr (counted, rw q (EndsQuoted-close h e))))
     | inr q ↦ inr (inr (counted, EndsQuoted-bare b h e q))
   ]
@@ -64,7 +65,7 @@ crate_goes_on front b (inr h) = quoted_goes_on front h.0 b h.1
 -- a comment is told by its bytes up to the `#`
 pub begins_comment-append : (front more : List ℕ) → begins_comment front ≡ true → begins_comment (front ++ more) ≡ true
 begins_comment-append [] more e = absurd (false≢true e)
-begins_comment-append (b ∷ front) more e = go (eqb b 35) (eqb b 32 || eqb b 9) e (begins_comment-append front more)
+begins_comment-append (b ∷ front) more e = go (eqb b hash) (eqb b space || eqb b tab) e (begins_comment-append front more)
   where
     go : (h s : Bool) → (h || s && begins_comment front) ≡ true
         → (begins_comment front ≡ true → begins_comment (front ++ more) ≡ true)
@@ -79,7 +80,7 @@ becomes_comment : (front : List ℕ) (b : ℕ) → begins_comment front ≡ fals
 becomes_comment [] b e f =
     All-cons (λ c. c ≢ 10) b [] (λ i. false≢true (subst (λ c. begins_comment (c ∷ []) ≡ true) i f)) (All-nil (λ c. c ≢ 10))
 becomes_comment (x ∷ front) b e f =
-    let w = go (eqb x 35) (eqb x 32 || eqb x 9) (begins_comment front) (begins_comment (front ++ b ∷ [])) e f in
+    let w = go (eqb x hash) (eqb x space || eqb x tab) (begins_comment front) (begins_comment (front ++ b ∷ [])) e f in
     All-cons (λ c. c ≢ 10) x (front ++ b ∷ [])
     (λ i. false≢true (subst (λ c. begins_comment (c ∷ front ++ b ∷ []) ≡ true) i f)) (becomes_comment front b w.0 w.1)
   where
@@ -92,7 +93,7 @@ becomes_comment (x ∷ front) b e f =
 begins_comment-newline : (front more : List ℕ) → begins_comment front ≡ false → begins_comment (front ++ 10 ∷ more) ≡ false
 begins_comment-newline [] more e = refl
 begins_comment-newline (x ∷ front) more e =
-    go (eqb x 35) (eqb x 32 || eqb x 9) (begins_comment front) (begins_comment (front ++ 10 ∷ more)) e (begins_comment-newline front more)
+    go (eqb x hash) (eqb x space || eqb x tab) (begins_comment front) (begins_comment (front ++ 10 ∷ more)) e (begins_comment-newline front more)
   where
     go : (h s p q : Bool) → (h || s && p) ≡ false → (p ≡ false → q ≡ false) → (h || s && q) ≡ false
     go true s p q e k = e
@@ -127,8 +128,8 @@ IsLastPiece-extend dialect front (b ∷ more) h n = elim (goes_on dialect front 
 ]
 
 pub IsLastPiece-nil : (dialect : Dialect) → IsLastPiece dialect []
-IsLastPiece-nil Crate = inl (inl (All-nil (λ b. (b ≢ 32) × (b ≢ 10))))
-IsLastPiece-nil Strict = inr (refl, inl (inl (All-nil (λ b. (b ≢ 32) × (b ≢ 10)))))
+IsLastPiece-nil Crate = inl (inl (All-nil (λ b. (b ≢ space) × (b ≢ 10))))
+IsLastPiece-nil Strict = inr (refl, inl (inl (All-nil (λ b. (b ≢ space) × (b ≢ 10)))))
 
 pub IsLastPiece-cut : (dialect : Dialect) (piece : List ℕ) → IsCutPiece dialect piece → IsLastPiece dialect piece
 IsLastPiece-cut Crate piece h = inl h.0

@@ -8,12 +8,13 @@ use Rattle.lp_format.specs.format.Piece.{IsHead, HasMoreEquals, IsPlain, IsQuote
 use Rattle.lp_format.specs.format.Piece.{EndsQuoted, EndsQuoted.opened}
 use Rattle.lp_format.proofs.lemmas.split.SplitBare.{is_escaped-nil, is_escaped-push, is_escaped-after_other, bare-push_escaped}
 use Rattle.lp_format.proofs.lemmas.split.SplitBare.{bare-push_bare}
+use Rattle.lp_format.specs.format.Bytes.{backslash, newline, quote, space}
 
 -- of what comes before, only whether it escapes matters
 same_bare : (front other text : List ℕ) → is_escaped_after front ≡ is_escaped_after other → bare_after front text ≡ bare_after other text
 same_bare front other [] e = refl
 same_bare front other (b ∷ text) e =
-    let f = is_escaped-push front b ∙ ap (λ t. cond (eqb b 92) (not t) false) e ∙ sym (is_escaped-push other b) in
+    let f = is_escaped-push front b ∙ ap (λ t. cond (eqb b backslash) (not t) false) e ∙ sym (is_escaped-push other b) in
     ap (λ t. cond t [] (b ∷ []) ++ bare_after (front ++ b ∷ []) text) e
     ∙ ap (λ xs. cond (is_escaped_after other) [] (b ∷ []) ++ xs) (same_bare (front ++ b ∷ []) (other ++ b ∷ []) text f)
 
@@ -49,14 +50,14 @@ nil_has_no_place (y ∷ before) c after e = cc
 pub IsHead-escaped : (text : List ℕ) (b : ℕ) → IsHead text → is_escaped_after text ≡ true → IsHead (text ++ b ∷ [])
 IsHead-escaped text b h e = rw bare-push_escaped h
 
-pub IsHead-bare : (text : List ℕ) (b : ℕ) → IsHead text → is_escaped_after text ≡ false → b ≢ 32 → b ≢ 10 → IsHead (text ++ b ∷ [])
-IsHead-bare text b h e s n = rw bare-push_bare (All-push (λ c. (c ≢ 32) × (c ≢ 10)) (bare text) b h (s, n))
+pub IsHead-bare : (text : List ℕ) (b : ℕ) → IsHead text → is_escaped_after text ≡ false → b ≢ space → b ≢ newline → IsHead (text ++ b ∷ [])
+IsHead-bare text b h e s n = rw bare-push_bare (All-push (λ c. (c ≢ space) × (c ≢ newline)) (bare text) b h (s, n))
 
 pub IsQuoted-escaped : (text : List ℕ) (b : ℕ) → IsQuoted text → is_escaped_after text ≡ true → IsQuoted (text ++ b ∷ [])
 IsQuoted-escaped text b h e = rw bare-push_escaped h
 
-pub IsQuoted-bare : (text : List ℕ) (b : ℕ) → IsQuoted text → is_escaped_after text ≡ false → b ≢ 34 → IsQuoted (text ++ b ∷ [])
-IsQuoted-bare text b h e n = rw bare-push_bare (All-push (λ c. c ≢ 34) (bare text) b h n)
+pub IsQuoted-bare : (text : List ℕ) (b : ℕ) → IsQuoted text → is_escaped_after text ≡ false → b ≢ quote → IsQuoted (text ++ b ∷ [])
+IsQuoted-bare text b h e n = rw bare-push_bare (All-push (λ c. c ≢ quote) (bare text) b h n)
 
 pub IsPlain-escaped : (counted text : List ℕ) (b : ℕ) → IsPlain counted text → is_escaped_after text ≡ true
     → IsPlain counted (text ++ b ∷ [])
@@ -65,17 +66,17 @@ IsPlain-escaped counted text b h e =
     record { no_newline = rw same h.no_newline; no_opening = λ before after p. h.no_opening before after (sym same ∙ p) }
 
 -- a byte that is no newline and opens no string is a plain stretch
-IsPlain-one : (counted : List ℕ) (b : ℕ) → b ≢ 10 → (b ≡ 34 → ¬ HasMoreEquals counted) → IsPlain counted (b ∷ [])
+IsPlain-one : (counted : List ℕ) (b : ℕ) → b ≢ newline → (b ≡ quote → ¬ HasMoreEquals counted) → IsPlain counted (b ∷ [])
 IsPlain-one counted b n q =
     let one : bare (b ∷ []) ≡ b ∷ [] = bare-push_bare [] b is_escaped-nil in
     record {
-      no_newline = rw one (All-cons (λ c. c ≢ 10) b [] n (All-nil (λ c. c ≢ 10)));
+      no_newline = rw one (All-cons (λ c. c ≢ newline) b [] n (All-nil (λ c. c ≢ newline)));
       no_opening = λ before after p. go before after (sym one ∙ p);
     }
   where
-    go : (before after : List ℕ) → b ∷ [] ≡ before ++ 34 ∷ after → ¬ HasMoreEquals (counted ++ before)
+    go : (before after : List ℕ) → b ∷ [] ≡ before ++ quote ∷ after → ¬ HasMoreEquals (counted ++ before)
     go [] after p = rw append-nil (q (cc))
-    go (c ∷ before) after p = absurd (nil_has_no_place before 34 after (cc))
+    go (c ∷ before) after p = absurd (nil_has_no_place before quote after (cc))
 
 -- plain stretches that are joined are one
 IsPlain-append : (counted xs ys : List ℕ) → IsBareAfter xs → IsPlain counted xs → IsPlain (counted ++ bare xs) ys
@@ -83,8 +84,8 @@ IsPlain-append : (counted xs ys : List ℕ) → IsBareAfter xs → IsPlain count
 IsPlain-append counted xs ys e h k =
     let more = bare-append xs ys e in
     record {
-      no_newline = rw more (All-append (λ c. c ≢ 10) (bare xs) (bare ys) h.no_newline k.no_newline);
-      no_opening = λ before after p. elim (place_in_append (bare xs) (bare ys) 34 before after (sym more ∙ p)) [
+      no_newline = rw more (All-append (λ c. c ≢ newline) (bare xs) (bare ys) h.no_newline k.no_newline);
+      no_opening = λ before after p. elim (place_in_append (bare xs) (bare ys) quote before after (sym more ∙ p)) [
         | inl w ↦ h.no_opening before w.0 w.1
         | inr w ↦ λ m. k.no_opening w.0 after w.2 (rw append_assoc (rw w.1 at m))
       ];
@@ -92,27 +93,27 @@ IsPlain-append counted xs ys e h k =
 
 IsPlain-nil : (counted : List ℕ) → IsPlain counted []
 IsPlain-nil counted = record {
-  no_newline = All-nil (λ c. c ≢ 10);
-  no_opening = λ before after p. absurd (nil_has_no_place before 34 after p);
+  no_newline = All-nil (λ c. c ≢ newline);
+  no_opening = λ before after p. absurd (nil_has_no_place before quote after p);
 }
 
 pub EndsPlain-same : {text more counted seen : List ℕ} → text ≡ more → counted ≡ seen → EndsPlain text counted → EndsPlain more seen
 EndsPlain-same {text} {more} {counted} e f h = subst (λ s. EndsPlain more s) f (subst (λ t. EndsPlain t counted) e h)
 
 -- the place after the last stretch is bare in the piece where it is bare in the stretch
-pub last_place : (front text : List ℕ) (b : ℕ) → b ≢ 92 → is_escaped_after (front ++ b ∷ text) ≡ is_escaped_after text
-last_place front text b h = is_escaped-after_other front text b (ne_eqb b 92 h)
+pub last_place : (front text : List ℕ) (b : ℕ) → b ≢ backslash → is_escaped_after (front ++ b ∷ text) ≡ is_escaped_after text
+last_place front text b h = is_escaped-after_other front text b (ne_eqb b backslash h)
 
 pub EndsPlain-escaped : {text counted : List ℕ} (b : ℕ) → EndsPlain text counted → is_escaped_after text ≡ true
     → EndsPlain (text ++ b ∷ []) counted
 EndsPlain-escaped b (first head plain h i p) e =
-    let f : is_escaped_after (32 ∷ plain) ≡ true = last_place [] plain 32 (omega arith)
+    let f : is_escaped_after (space ∷ plain) ≡ true = last_place [] plain 32 (omega arith)
     ∙ sym (last_place head plain 32 (omega arith)) ∙ e in
-    EndsPlain-same (sym (append_assoc head (32 ∷ plain) (b ∷ []))) (bare-push_escaped (32 ∷ plain) b f)
-    (first head (plain ++ b ∷ []) h i (IsPlain-escaped [] (32 ∷ plain) b p f))
+    EndsPlain-same (sym (append_assoc head (space ∷ plain) (b ∷ []))) (bare-push_escaped (space ∷ plain) b f)
+    (first head (plain ++ b ∷ []) h i (IsPlain-escaped [] (space ∷ plain) b p f))
 EndsPlain-escaped b (later piece counted quoted plain h o q i p) e =
-    let f : is_escaped_after plain ≡ true = sym (last_place (piece ++ 34 ∷ quoted) plain 34 (omega arith)) ∙ e in
-    EndsPlain-same (sym (append_assoc (piece ++ 34 ∷ quoted) (34 ∷ plain) (b ∷ [])))
+    let f : is_escaped_after plain ≡ true = sym (last_place (piece ++ quote ∷ quoted) plain quote (omega arith)) ∙ e in
+    EndsPlain-same (sym (append_assoc (piece ++ quote ∷ quoted) (quote ∷ plain) (b ∷ [])))
     (ap (λ s. counted ++ s) (bare-push_escaped plain b f))
     (later piece counted quoted (plain ++ b ∷ []) h o q i (IsPlain-escaped counted plain b p f))
 
@@ -120,23 +121,23 @@ EndsPlain-escaped b (later piece counted quoted plain h o q i p) e =
 pub EndsPlain-append : {piece counted : List ℕ} (text : List ℕ) → EndsPlain piece counted → IsBareAfter piece
     → IsPlain counted text → EndsPlain (piece ++ text) (counted ++ bare text)
 EndsPlain-append text (first head plain h i p) e k =
-    let f : IsBareAfter (32 ∷ plain) = last_place [] plain 32 (omega arith) ∙ sym (last_place head plain 32 (omega arith)) ∙ e in
-    EndsPlain-same (sym (append_assoc head (32 ∷ plain) text)) (bare-append (32 ∷ plain) text f)
-    (first head (plain ++ text) h i (IsPlain-append [] (32 ∷ plain) text f p k))
+    let f : IsBareAfter (space ∷ plain) = last_place [] plain 32 (omega arith) ∙ sym (last_place head plain 32 (omega arith)) ∙ e in
+    EndsPlain-same (sym (append_assoc head (space ∷ plain) text)) (bare-append (space ∷ plain) text f)
+    (first head (plain ++ text) h i (IsPlain-append [] (space ∷ plain) text f p k))
 EndsPlain-append text (later piece counted quoted plain h o q i p) e k =
-    let f : IsBareAfter plain = sym (last_place (piece ++ 34 ∷ quoted) plain 34 (omega arith)) ∙ e in
-    EndsPlain-same (sym (append_assoc (piece ++ 34 ∷ quoted) (34 ∷ plain) text))
+    let f : IsBareAfter plain = sym (last_place (piece ++ quote ∷ quoted) plain quote (omega arith)) ∙ e in
+    EndsPlain-same (sym (append_assoc (piece ++ quote ∷ quoted) (quote ∷ plain) text))
     (ap (λ s. counted ++ s) (bare-append plain text f) ∙ sym (append_assoc counted (bare plain) (bare text)))
     (later piece counted quoted (plain ++ text) h o q i (IsPlain-append counted plain text f p k))
 
-pub EndsPlain-bare : {text counted : List ℕ} (b : ℕ) → EndsPlain text counted → IsBareAfter text → b ≢ 10
-    → (b ≡ 34 → ¬ HasMoreEquals counted) → EndsPlain (text ++ b ∷ []) (counted ++ b ∷ [])
+pub EndsPlain-bare : {text counted : List ℕ} (b : ℕ) → EndsPlain text counted → IsBareAfter text → b ≢ newline
+    → (b ≡ quote → ¬ HasMoreEquals counted) → EndsPlain (text ++ b ∷ []) (counted ++ b ∷ [])
 EndsPlain-bare {text} {counted} b h e n m =
     EndsPlain-same refl (ap (λ s. counted ++ s) (bare-push_bare [] b is_escaped-nil))
     (EndsPlain-append (b ∷ []) h e (IsPlain-one counted b n m))
 
 -- the first space
-pub EndsPlain-start : (head : List ℕ) → IsHead head → IsBareAfter head → EndsPlain (head ++ 32 ∷ []) (32 ∷ [])
+pub EndsPlain-start : (head : List ℕ) → IsHead head → IsBareAfter head → EndsPlain (head ++ space ∷ []) (space ∷ [])
 EndsPlain-start head h i =
     EndsPlain-same refl (bare-push_bare [] 32 is_escaped-nil)
     (first head [] h i (IsPlain-one [] 32 (omega arith) (λ e. absurd (omega arith))))
@@ -144,22 +145,22 @@ EndsPlain-start head h i =
 pub EndsQuoted-escaped : {text counted : List ℕ} (b : ℕ) → EndsQuoted text counted → is_escaped_after text ≡ true
     → EndsQuoted (text ++ b ∷ []) counted
 EndsQuoted-escaped b (opened piece counted quoted h o q) e =
-    let f : is_escaped_after quoted ≡ true = sym (last_place piece quoted 34 (omega arith)) ∙ e in
-    subst (λ t. EndsQuoted t counted) (sym (append_assoc piece (34 ∷ quoted) (b ∷ [])))
+    let f : is_escaped_after quoted ≡ true = sym (last_place piece quoted quote (omega arith)) ∙ e in
+    subst (λ t. EndsQuoted t counted) (sym (append_assoc piece (quote ∷ quoted) (b ∷ [])))
     (opened piece counted (quoted ++ b ∷ []) h o (IsQuoted-escaped quoted b q f))
 
-pub EndsQuoted-bare : {text counted : List ℕ} (b : ℕ) → EndsQuoted text counted → IsBareAfter text → b ≢ 34
+pub EndsQuoted-bare : {text counted : List ℕ} (b : ℕ) → EndsQuoted text counted → IsBareAfter text → b ≢ quote
     → EndsQuoted (text ++ b ∷ []) counted
 EndsQuoted-bare b (opened piece counted quoted h o q) e n =
-    let f : IsBareAfter quoted = sym (last_place piece quoted 34 (omega arith)) ∙ e in
-    subst (λ t. EndsQuoted t counted) (sym (append_assoc piece (34 ∷ quoted) (b ∷ [])))
+    let f : IsBareAfter quoted = sym (last_place piece quoted quote (omega arith)) ∙ e in
+    subst (λ t. EndsQuoted t counted) (sym (append_assoc piece (quote ∷ quoted) (b ∷ [])))
     (opened piece counted (quoted ++ b ∷ []) h o (IsQuoted-bare quoted b q f n))
 
 -- a quote that opens, and one that closes
 pub EndsQuoted-start : {text counted : List ℕ} → EndsPlain text counted → IsBareAfter text → HasMoreEquals counted
-    → EndsQuoted (text ++ 34 ∷ []) counted
-EndsQuoted-start {text} {counted} h i m = opened text counted [] h (i, m) (All-nil (λ c. c ≢ 34))
+    → EndsQuoted (text ++ quote ∷ []) counted
+EndsQuoted-start {text} {counted} h i m = opened text counted [] h (i, m) (All-nil (λ c. c ≢ quote))
 
-pub EndsQuoted-close : {text counted : List ℕ} → EndsQuoted text counted → IsBareAfter text → EndsPlain (text ++ 34 ∷ []) counted
+pub EndsQuoted-close : {text counted : List ℕ} → EndsQuoted text counted → IsBareAfter text → EndsPlain (text ++ quote ∷ []) counted
 EndsQuoted-close (opened piece counted quoted h o q) e = EndsPlain-same refl (append-nil counted)
     (later piece counted quoted [] h o q e (IsPlain-nil counted))

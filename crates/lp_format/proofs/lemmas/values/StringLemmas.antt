@@ -24,13 +24,13 @@ byte_missing b (c ∷ cs) none rest e =
     cc
 
 -- the outcomes of a string
-pub string_misses : (text : List ℕ) → ((after : List ℕ) → text ≢ 34 ∷ after) → string_at text ≡ miss
+pub string_misses : (text : List ℕ) → ((after : List ℕ) → text ≢ quote ∷ after) → string_at text ≡ miss
 unfolding string_at
 string_misses [] other = refl
-string_misses (b ∷ after) other = rw (ne_eqb b 34 (λ e. other after (ap (λ x. x ∷ after) e))) refl
+string_misses (b ∷ after) other = rw (ne_eqb b quote (λ e. other after (ap (λ x. x ∷ after) e))) refl
 
 -- a body that ends before the text does ends in a quote
-closing_quote : (after : List ℕ) → body_len after < length after → slice_index after (body_len after) ≡ 34
+closing_quote : (after : List ℕ) → body_len after < length after → slice_index after (body_len after) ≡ quote
 unfolding first_bare
 closing_quote after closes =
     let len : length (range_with_len 0 (length after)) ≡ length after = length-range_with_len 0 (length after) in
@@ -39,10 +39,10 @@ closing_quote after closes =
     let here : get_or (range_with_len 0 (length after)) (body_len after) 0 ≡ body_len after = get_or-range_with_len
     0 (length after) (body_len after) 0 closes ∙ zero-add (body_len after) in
     let found = rw here at bare in
-    eqb-true (slice_index after (body_len after)) 34 (and_parts _ _ found).0
+    eqb-true (slice_index after (body_len after)) quote (and_parts _ _ found).0
 
-pub string_open : (text after : List ℕ) → text ≡ 34 ∷ after
-    → ((rest : List ℕ) → drop (body_len after) after ≢ 34 ∷ rest) → string_at text ≡ miss
+pub string_open : (text after : List ℕ) → text ≡ quote ∷ after
+    → ((rest : List ℕ) → drop (body_len after) after ≢ quote ∷ rest) → string_at text ≡ miss
 unfolding string_at
 string_open text after e unclosed =
     let never : body_len after < length after
@@ -50,11 +50,11 @@ string_open text after e unclosed =
     let test : nat_lt (body_len after) (length after) ≡ false = false_from_ne_true _ (λ t. never (ltb-true _ _ t)) in
     rw (e, test) refl
 
-pub string_reads : (text after rest : List ℕ) → text ≡ 34 ∷ after → drop (body_len after) after ≡ 34 ∷ rest
+pub string_reads : (text after rest : List ℕ) → text ≡ quote ∷ after → drop (body_len after) after ≡ quote ∷ rest
     → string_at text ≡ reads (string (read_text quotable (take (body_len after) after))) rest
 unfolding string_at
 string_reads text after rest e closed =
-    let byte = byte_at_drop after rest (body_len after) 34 closed in
+    let byte = byte_at_drop after rest (body_len after) quote closed in
     let test : nat_lt (body_len after) (length after) ≡ true = lt-ltb _ _
     (omega (arith, length-drop (body_len after) after, ap length closed)) in
     rw (e, test, byte.1) refl

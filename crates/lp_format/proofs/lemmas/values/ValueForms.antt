@@ -10,6 +10,7 @@ use Rattle.lp_format.specs.format.Values.{digits_len, float_len, longer_front, t
 use Rattle.lp_format.proofs.lemmas.literals.FloatLemmas.{float_misses}
 use Rattle.lp_format.proofs.lemmas.values.ValueLemmas.{boolean_misses, digits_of_minus, digits_of_plain, integer_misses}
 use Rattle.lp_format.proofs.lemmas.values.ValueLemmas.{integer_unmarked, unsigned_decides, unsigned_misses, unsigned_unmarked}
+use Rattle.lp_format.specs.format.Bytes.{quote}
 
 -- where no integer is, no digits are
 no_digits : (text : List ℕ) → integer_len text ≡ 0 → digits_len text ≡ 0
@@ -78,10 +79,10 @@ no_boolean text below =
     (boolean_misses true true_words text (simp word_misses), boolean_misses false false_words text (simp word_misses))
 
 -- no string is where the first byte is no quote
-no_string : (text : List ℕ) → slice_index text 0 ≢ 34 → string_at text ≡ miss
+no_string : (text : List ℕ) → slice_index text 0 ≢ quote → string_at text ≡ miss
 unfolding string_at
 no_string [] other = refl
-no_string (b ∷ rest) other = rw (ne_eqb b 34 other) refl
+no_string (b ∷ rest) other = rw (ne_eqb b quote other) refl
 
 -- a digit or `-` at the start: a number
 pub number_form : (text : List ℕ) → (is_ascii_digit (slice_index text 0) || slice_index text 0 == 45) ≡ true
@@ -95,7 +96,7 @@ number_form text first =
     rw (no_text, no_word.0, no_word.1, same, same, same) refl
 
 -- a quote at the start: a text
-pub string_form : (text : List ℕ) → slice_index text 0 ≡ 34 → value text ≡ string_at text
+pub string_form : (text : List ℕ) → slice_index text 0 ≡ quote → value text ≡ string_at text
 unfolding value
 string_form text first =
     let number = no_number text (no_integer text (rw first refl)) in
@@ -104,7 +105,7 @@ string_form text first =
     rw (number, no_word.0, no_word.1, same, same) refl
 
 -- else a Boolean
-pub boolean_form : (text : List ℕ) → (is_ascii_digit (slice_index text 0) || slice_index text 0 == 45) ≡ false → slice_index text 0 ≢ 34
+pub boolean_form : (text : List ℕ) → (is_ascii_digit (slice_index text 0) || slice_index text 0 == 45) ≡ false → slice_index text 0 ≢ quote
     → value text ≡ (boolean_at true true_words text otherwise boolean_at false false_words text)
 unfolding value
 boolean_form text other no_quote = rw (no_number text (no_integer text other), no_string text no_quote) refl

@@ -6,7 +6,7 @@ use Rattle.std.specs.List.{list_all}
 use Rattle.std.proofs.lemmas.Bool.{and_left, and_right, lt-leb}
 use Rattle.std.proofs.lemmas.List.{append_assoc, append-nil}
 use Rattle.std.proofs.lemmas.List.Folds.{list_all-append}
-use Rattle.lp_format.specs.format.Bytes.{comma, is_one_of}
+use Rattle.lp_format.specs.format.Bytes.{backslash, comma, is_one_of}
 use Rattle.lp_format.specs.format.Readings.{Fault, Reading, miss, fatal, reads}
 use Rattle.lp_format.specs.format.Lines.{after_comma, byte, separated_list, many, prepend}
 use Rattle.lp_format.specs.code.Light.{carries_no_text, many_count, read_count, NeedsMemory, HasBackslash, CopiesIn}
@@ -140,7 +140,7 @@ module _ {A : Type 0} (is_single : A → Bool) (one : List ℕ → Reading A)
     where
       go : (r : Reading A) → one text ≡ r → NeedsMemory is_single r → CopiesIn is_single text (separated_list one text)
       go miss e h = absurd h
-      go (fatal f) e h = rw e (and_right (not (is_one_of text 92)) (carries_no_text f) h)
+      go (fatal f) e h = rw e (and_right (not (is_one_of text backslash)) (carries_no_text f) h)
       go (reads x rest) e h =
           rw e
           (copies_onto text (x ∷ []) (many (after_comma one) (length rest) rest) ((read text x rest e).copied h)
@@ -156,7 +156,7 @@ module _ {A : Type 0} (is_single : A → Bool) (one : List ℕ → Reading A)
           → separated_list one text ≡ prepend done (many (after_comma one) n rest)
           → CopiesIn is_single text (separated_list one text)
       go miss e h n room is = absurd h
-      go (fatal f) e h n room is = rw (so_far_fatal text done rest f so_far e) (and_right (not (is_one_of text 92)) (carries_no_text f) h)
+      go (fatal f) e h n room is = rw (so_far_fatal text done rest f so_far e) (and_right (not (is_one_of text backslash)) (carries_no_text f) h)
       go (reads x after) e h zero room is =
           let front = (after_comma_read is_single one read rest x after e).copied h in
           absurd (none rest room front)
@@ -181,7 +181,7 @@ module _ {A : Type 0} (is_single : A → Bool) (one : List ℕ → Reading A)
       → length after < length place → SoFar one text (done ++ y ∷ []) after
   reached_more {text} {done} {rest} {place} after y (inl first) e less = rw first.0 (so_far_start y text after (rw first.1 at e))
   reached_more {text} {done} {rest} {place} after y (inr more) e less =
-      let ends = byte_ends 44 rest 44 place more.mark in
+      let ends = byte_ends comma rest comma place more.mark in
       so_far_more text done rest after y more.so_far (next_is rest place more.mark ∙ e)
       (omega (arith, ap length ends.is, length-append ends.front place))
 

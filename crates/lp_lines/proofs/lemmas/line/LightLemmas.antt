@@ -6,7 +6,7 @@ use Rattle.std.specs.Result.{IsErr}
 use Rattle.std.specs.Str.Parse.{signed_digits_value}
 use Rattle.std.proofs.lemmas.Bool.{cases_Bool, and_left, and_parts, and_right, le-leb, leb-true}
 use Rattle.lp_format.specs.format.Dialects.{Dialect}
-use Rattle.lp_format.specs.format.Bytes.{is_one_of}
+use Rattle.lp_format.specs.format.Bytes.{backslash, comma, is_one_of}
 use Rattle.lp_format.specs.format.Readings.{Fault, Text, Read, Reading, miss, fatal, reads, field_set_missing, take_while1}
 use Rattle.lp_format.specs.format.Readings.{timestamp_value_invalid, or_fault}
 use Rattle.lp_format.specs.format.Names.{name, a_measurement}
@@ -33,11 +33,11 @@ complete_not_light line l [] some h = h
 complete_not_light line l (b ∷ rest) some h = rw some refl
 
 -- a fault with a text after a backslash is one too
-fault_copied : (line text : List ℕ) (plain : Bool) → EndsIn line text → (not (is_one_of text 92) && plain) ≡ false
-    → (not (is_one_of line 92) && plain) ≡ false
-fault_copied line text plain ends h = elim (cases_Bool (is_one_of text 92)) [
-  | inl some ↦ and_left (not (is_one_of line 92)) plain (ap not (backslash_at_end line text ends some))
-  | inr none ↦ and_right (not (is_one_of line 92)) plain (rw none at h)
+fault_copied : (line text : List ℕ) (plain : Bool) → EndsIn line text → (not (is_one_of text backslash) && plain) ≡ false
+    → (not (is_one_of line backslash) && plain) ≡ false
+fault_copied line text plain ends h = elim (cases_Bool (is_one_of text backslash)) [
+  | inl some ↦ and_left (not (is_one_of line backslash)) plain (ap not (backslash_at_end line text ends some))
+  | inr none ↦ and_right (not (is_one_of line backslash)) plain (rw none at h)
 ]
 
 -- these tags were read, and this is left
@@ -46,21 +46,21 @@ ok_read x r = Ok (record { value = x; rest = r })
 
 -- what comes after a tag set ends the text
 pub tag_set_ends : (text : List ℕ) (t : Read (Option (List (Pair Text Text)))) → tag_set text ≡ Ok t → EndsIn text t.rest
-tag_set_ends text t e = go (byte 44 text) refl
+tag_set_ends text t e = go (byte comma text) refl
   where
     value_rest : (x : Option (List (Pair Text Text))) (r : List ℕ) → ok_read x r ≡ Ok t → r ≡ t.rest
     value_rest x r e = let same : (let y : Read (Option (List (Pair Text Text))) = record { value = x; rest = r } in
         y ≡ t) = cc in ap (λ (y : Read (Option (List (Pair Text Text)))). y.rest) same
 
-    after : (c : ℕ) (mark : List ℕ) (r : Reading (List (Pair Text Text))) → byte 44 text ≡ reads c mark
+    after : (c : ℕ) (mark : List ℕ) (r : Reading (List (Pair Text Text))) → byte comma text ≡ reads c mark
         → separated_list tag mark ≡ r → EndsIn text t.rest
     after c mark miss m j = absurd (let h = rw (m, j) at e in cc)
     after c mark (fatal f) m j = absurd (let h = rw (m, j) at e in cc)
     after c mark (reads xs rest) m j =
         let same = value_rest (Some xs) rest (rw (m, j) at e) in
-        rw (← same) (EndsIn-end text mark rest (byte_ends 44 text c mark m) (joined_ends is_single_tag tag tag_read mark xs rest j))
+        rw (← same) (EndsIn-end text mark rest (byte_ends comma text c mark m) (joined_ends is_single_tag tag tag_read mark xs rest j))
 
-    go : (r : Reading ℕ) → byte 44 text ≡ r → EndsIn text t.rest
+    go : (r : Reading ℕ) → byte comma text ≡ r → EndsIn text t.rest
     go miss m = let same = value_rest None text (rw m at e) in rw (← same) (EndsIn-self text)
     go (fatal f) m = let same = value_rest None text (rw m at e) in rw (← same) (EndsIn-self text)
     go (reads c mark) m = after c mark (separated_list tag mark) m refl
@@ -111,7 +111,7 @@ module _ (dialect : Dialect) (line : List ℕ) where
       go : (r : Reading Text) → name a_measurement line ≡ r → NeedsMemory (λ t. t.is_single) r
           → is_light_answer line (answer dialect line) ≡ false
       go miss e h = absurd h
-      go (fatal f) e h = rw e (and_right (not (is_one_of line 92)) (carries_no_text f) h)
+      go (fatal f) e h = rw e (and_right (not (is_one_of line backslash)) (carries_no_text f) h)
       go (reads m rest) e h =
           let some = name_copied a_measurement line m rest e h in
           rw e
@@ -130,7 +130,7 @@ module _ (dialect : Dialect) (line : List ℕ) where
   tags_need p q m rest e (suffix, mark, inr copies) = heavy_answer p q (go (separated_list tag suffix) refl copies)
     where
       ends : EndsIn line suffix
-      ends = EndsIn-end line rest suffix (name_ends a_measurement line m rest e) (byte_ends 44 rest 44 suffix mark)
+      ends = EndsIn-end line rest suffix (name_ends a_measurement line m rest e) (byte_ends comma rest comma suffix mark)
 
       go : (r : Reading (List (Pair Text Text))) → separated_list tag suffix ≡ r → CopiesIn is_single_tag suffix r
           → is_light_answer line (answer dialect line) ≡ false
@@ -181,7 +181,7 @@ module _ (dialect : Dialect) (line : List ℕ) where
           → is_light_in p q dialect line ≡ false
       unfolding answer
       timestamp_needs p q fault is h = heavy_answer p q
-          (rw (e, t, s, f, is) (and_right (not (is_one_of line 92)) (carries_no_text fault) h))
+          (rw (e, t, s, f, is) (and_right (not (is_one_of line backslash)) (carries_no_text fault) h))
 
       -- a line of which something is left is not light
       pub trailing_needs : (p q : ℕ) (n : Read (Option ℤ)) → timestamp after ≡ Ok n → 0 < length n.rest
@@ -191,4 +191,4 @@ module _ (dialect : Dialect) (line : List ℕ) where
         where
           left : (l : Line) (rest : List ℕ) → 0 < length rest → is_light_answer line (complete l rest) ≡ false
           left l [] some = absurd (omega arith)
-          left l (b ∷ rest) some = and_right (not (is_one_of line 92)) false refl
+          left l (b ∷ rest) some = and_right (not (is_one_of line backslash)) false refl

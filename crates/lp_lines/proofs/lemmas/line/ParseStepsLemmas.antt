@@ -7,6 +7,7 @@ use Rattle.lp_format.specs.format.Dialects.{Dialect}
 use Rattle.lp_format.specs.format.Pieces.{Left, Pieces, Pieces.last, Pieces.cut, PiecesLeft, most_pieces}
 use Rattle.lp_format.specs.format.Trimming.{trimmed}
 use Rattle.lp_lines.specs.code.ParseSteps.{IsBlankPiece, most_items}
+use Rattle.lp_format.specs.format.Bytes.{newline}
 
 -- blank pieces were left before these
 pub record Skipped (before : Left) (others : List (List ℕ)) : Type 0 where
@@ -37,10 +38,10 @@ piece_fits dialect (last piece h) [] p ys e = let same : piece ≡ p = cc in let
 piece_fits dialect (last piece h) (x ∷ []) p ys e = absurd (cc)
 piece_fits dialect (last piece h) (x ∷ y ∷ xs) p ys e = absurd (cc)
 piece_fits dialect (cut piece text pieces c h) [] p ys e =
-    let same : piece ≡ p = cc in let n = ap length same in omega (arith, length-append piece (10 ∷ text))
+    let same : piece ≡ p = cc in let n = ap length same in omega (arith, length-append piece (newline ∷ text))
 piece_fits dialect (cut piece text pieces c h) (x ∷ xs) p ys e =
     let others : pieces ≡ xs ++ p ∷ ys = cc in
-    omega (arith, piece_fits dialect h xs p ys others, length-append piece (10 ∷ text))
+    omega (arith, piece_fits dialect h xs p ys others, length-append piece (newline ∷ text))
 
 -- after an item fewer items are left
 pub items_less : (before after : Left) (piece : List ℕ) → most_pieces after.text < most_pieces before.text → 0 < length (trimmed piece)

@@ -17,6 +17,7 @@ use Rattle.lp_format.specs.format.Lines.{Line, tag, after_comma, prepend, many, 
 use Rattle.lp_values.proofs.lemmas.fields.ReadingLemmas.{bind_reads}
 use Rattle.lp_format.proofs.lemmas.names.Inversions.{prepend_parts}
 use Rattle.lp_lines.proofs.lemmas.names.ParsedNames.{ok_same, answer_parts}
+use Rattle.lp_format.specs.format.Bytes.{comma}
 
 -- what commas join is at least one
 pub joined_some : {A : Type 0} (one : List ℕ → Reading A) (line rest : List ℕ) (xs : List A)
@@ -43,13 +44,13 @@ tag_set_some : (line rest : List ℕ) (ts : Option (List (Pair Text Text))) → 
     → HasSome ts
 tag_set_some [] rest ts h = no_tags rest [] ts h
 tag_set_some (c ∷ line) rest ts h =
-    elim (cases_Bool (c == 44)) [
+    elim (cases_Bool (c == comma)) [
       | inl sign ↦ with_tags (separated_list tag line) refl (rw sign at h)
       | inr other ↦ no_tags rest (c ∷ line) ts (rw other at h)
     ]
   where
     with_tags : (r : Reading (List (Pair Text Text))) → separated_list tag line ≡ r
-        → tag_set (44 ∷ line) ≡ Ok (record { value = ts; rest = rest })
+        → tag_set (comma ∷ line) ≡ Ok (record { value = ts; rest = rest })
         → HasSome ts
     with_tags miss e h = let wrong = rw e at h in absurd (cc)
     with_tags (fatal d) e h = let wrong = rw e at h in absurd (cc)

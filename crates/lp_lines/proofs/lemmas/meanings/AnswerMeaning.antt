@@ -118,12 +118,12 @@ pub record Series (text : List ℕ) (m : Text) (tags : Option (List (Pair Text T
 pub series_parts : {text : List ℕ} {m : Text} {tags : Option (List (Pair Text Text))} {rest : List ℕ} → ReadsSeries text m tags rest
     → Series text m tags rest
 series_parts (alone m rest named none) = record { after = rest; named = named; set = rw (no_byte comma rest none) refl }
-series_parts (tagged m tags after rest named h) = record { after = 44 ∷ after; named = named; set = rw (tags_read after tags rest h) refl }
+series_parts (tagged m tags after rest named h) = record { after = comma ∷ after; named = named; set = rw (tags_read after tags rest h) refl }
 
 -- a space at the start of a text
 space_here : (text : List ℕ) → BeginsWith space text → (after : List ℕ) × (byte space text ≡ reads space after)
 space_here [] h = absurd h
-space_here (c ∷ rest) h = let e = eq-eqb c 32 h in (rest, rw e refl)
+space_here (c ∷ rest) h = let e = eq-eqb c space h in (rest, rw e refl)
 
 -- a text begins with this byte, or does not
 begins : (b : ℕ) (text : List ℕ) → ((rest : List ℕ) × (text ≡ b ∷ rest)) ⊎ ¬ BeginsWith b text
@@ -252,7 +252,7 @@ module _ (dialect : Dialect) (text : List ℕ) where
 
   -- once a measurement is read
   by_comma : (m : Text) (suffix : List ℕ) → name a_measurement text ≡ reads m suffix → SomeRow
-  by_comma m suffix named = elim (begins 44 suffix) [
+  by_comma m suffix named = elim (begins comma suffix) [
     | inl here ↦ by_tags m here.0 (named ∙ ap (reads m) here.1) (separated_list tag here.0) refl
     | inr none ↦ by_series m None suffix (alone m suffix named none)
   ]

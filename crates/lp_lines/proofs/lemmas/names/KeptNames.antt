@@ -5,7 +5,7 @@ use Rattle.std.specs.Prelude.{◌==◌}
 use Rattle.std.proofs.lemmas.Bool.{cases_Bool, false≢true, and_parts, and_from, or_left, or_right, or_cases, not_from_true, not_from_false}
 use Rattle.std.proofs.lemmas.Bool.{eq-eqb, eqb-true}
 use Rattle.std.proofs.lemmas.Grind.{common_steps}
-use Rattle.lp_format.specs.format.Bytes.{is_one_of}
+use Rattle.lp_format.specs.format.Bytes.{backslash, hash, is_one_of}
 use Rattle.lp_format.specs.format.Escapes.{without_escapes}
 use Rattle.lp_format.specs.format.Readings.{Text, reads}
 use Rattle.lp_format.specs.format.Names.{NameKind, a_measurement, a_tag_key, a_tag_value, a_field_key, ends_in_backslash}
@@ -19,12 +19,12 @@ use Rattle.lp_split.proofs.lemmas.split.ScanLemmas.{bare_len, first_bare_len}
 -- whether each byte that may only come after a backslash does, from whether a backslash comes before the text
 abbrev pub is_kept : NameKind → Bool → List ℕ → Bool
 is_kept kind after [] = true
-is_kept kind after (b ∷ n) = (may_hold kind b || after) && is_kept kind (b == 92) n
+is_kept kind after (b ∷ n) = (may_hold kind b || after) && is_kept kind (b == backslash) n
 
 -- whether each stop byte of a text is escaped, from whether the place before it is
 abbrev is_closed : NameKind → Bool → List ℕ → Bool
 is_closed kind escaped [] = true
-is_closed kind escaped (b ∷ text) = (not (is_stop kind b) || escaped) && is_closed kind (not escaped && b == 92) text
+is_closed kind escaped (b ∷ text) = (not (is_stop kind b) || escaped) && is_closed kind (not escaped && b == backslash) text
 
 -- a byte that ends no name may be in one
 unstopped_may : (kind : NameKind) (b : ℕ) → is_stop kind b ≡ false → may_hold kind b ≡ true
@@ -59,7 +59,7 @@ before_stop_closed kind escaped (b ∷ text) =
     elim (cases_Bool (is_stop kind b && not escaped)) [
       | inl stop ↦ rw stop refl
       | inr on ↦ rw on (and_from (not (is_stop kind b) || escaped) _ (no_bare_stop (is_stop kind b) escaped on)
-          (before_stop_closed kind (not escaped && b == 92) text))
+          (before_stop_closed kind (not escaped && b == backslash) text))
     ]
 
 -- the bytes of the logical text of a spelling are kept
@@ -71,34 +71,34 @@ logical_kept kind after (b ∷ []) h =
     let may = unstopped_may kind b (no_stop (is_stop kind b) (and_parts (not (is_stop kind b) || false) true h).0) in
     and_from (may_hold kind b || after) true (or_left (may_hold kind b) after may) refl
 logical_kept kind after (b ∷ c ∷ rest) h =
-    let parts = and_parts (not (is_stop kind b) || false) (is_closed kind (b == 92) (c ∷ rest)) h in
+    let parts = and_parts (not (is_stop kind b) || false) (is_closed kind (b == backslash) (c ∷ rest)) h in
     let may : may_hold kind b ≡ true = unstopped_may kind b (no_stop (is_stop kind b) parts.0) in
     let first : (may_hold kind b || after) ≡ true = or_left (may_hold kind b) after may in
-    elim (cases_Bool (b == 92)) [
+    elim (cases_Bool (b == backslash)) [
       | inl e ↦
           let more : is_closed kind true (c ∷ rest) ≡ true = rw e at parts.1 in
           let closed : is_closed kind false rest ≡ true = (and_parts (not (is_stop kind c) || true) (is_closed kind false rest) more).1 in
           elim (cases_Bool (is_escapable kind c)) [
             | inl known ↦ rw (e, known)
                 (and_from (may_hold kind c || after) _
-                (or_left (may_hold kind c) after (escapable_may kind c known)) (logical_kept kind (c == 92) rest closed))
+                (or_left (may_hold kind c) after (escapable_may kind c known)) (logical_kept kind (c == backslash) rest closed))
             | inr unknown ↦ rw (e, unknown)
                 (and_from (may_hold kind b || after) _ first
-                (and_from (may_hold kind c || (b == 92)) _ (or_right (may_hold kind c) (b == 92) e)
-                (logical_kept kind (c == 92) rest closed)))
+                (and_from (may_hold kind c || (b == backslash)) _ (or_right (may_hold kind c) (b == backslash) e)
+                (logical_kept kind (c == backslash) rest closed)))
           ]
       | inr e ↦
           let more : is_closed kind false (c ∷ rest) ≡ true = rw e at parts.1 in
-          rw e (and_from (may_hold kind b || after) _ first (logical_kept kind (b == 92) (c ∷ rest) more))
+          rw e (and_from (may_hold kind b || after) _ first (logical_kept kind (b == backslash) (c ∷ rest) more))
     ]
 
 -- whether a text ends in a backslash, or, where it is empty, what is said of the place before it
 abbrev ends_after : Bool → List ℕ → Bool
 ends_after after [] = after
-ends_after after (b ∷ text) = ends_after (b == 92) text
+ends_after after (b ∷ text) = ends_after (b == backslash) text
 
 -- the same, from the last byte
-ends_after_is : (b : ℕ) (text : List ℕ) → ends_after (b == 92) text ≡ ends_in_backslash (b ∷ text)
+ends_after_is : (b : ℕ) (text : List ℕ) → ends_after (b == backslash) text ≡ ends_in_backslash (b ∷ text)
 ends_after_is b [] = refl
 ends_after_is b (c ∷ text) =
     let e : length (b ∷ c ∷ text) - 1 ≡ suc (length (c ∷ text) - 1) = omega arith in
@@ -118,7 +118,7 @@ kept_place kind suffix [] back b h never =
       | inl may ↦ absurd (false≢true (sym (not_from_true _ never) ∙ may))
       | inr after ↦ after
     ]
-kept_place kind suffix (x ∷ front) back b h never = kept_place kind (x == 92) front back b
+kept_place kind suffix (x ∷ front) back b h never = kept_place kind (x == backslash) front back b
     (and_parts (may_hold kind x || suffix) _ h).1 never
 
 -- and from all such bytes
@@ -132,30 +132,30 @@ kept_from kind after (b ∷ n) h =
       | inr other ↦ or_left (may_hold kind b) after (not_from_false _ other)
     ] in
     and_from (may_hold kind b || after) _ first
-    (kept_from kind (b == 92) n (λ front back c e never. h (b ∷ front) back c (ap (λ (xs : List ℕ). b ∷ xs) e) never))
+    (kept_from kind (b == backslash) n (λ front back c e never. h (b ∷ front) back c (ap (λ (xs : List ℕ). b ∷ xs) e) never))
 
 -- a parsed name, by the test of its bytes
 pub name_kept : (kind : NameKind) (n : List ℕ) → IsParsedName kind n → is_kept kind false n ≡ true
 name_kept kind n h = kept_from kind false n (λ front back b e never. ends_from_start front ∙ h.after_backslash front back b e never)
 
 -- a spelling begins as the text does
-front_begins : (n : ℕ) (text : List ℕ) → slice_index text 0 ≢ 35 → slice_index (take n text) 0 ≢ 35
+front_begins : (n : ℕ) (text : List ℕ) → slice_index text 0 ≢ hash → slice_index (take n text) 0 ≢ hash
 front_begins zero text h = omega arith
 front_begins (suc n) [] h = omega arith
 front_begins (suc n) (b ∷ text) h = h
 
 -- no escape makes a `#`
-hash_unescapable : (b : ℕ) → is_escapable a_measurement b ≡ true → b ≢ 35
+hash_unescapable : (b : ℕ) → is_escapable a_measurement b ≡ true → b ≢ hash
 hash_unescapable b h = λ e. let other : is_escapable a_measurement b ≡ false = ap (is_escapable a_measurement) e in
     false≢true (sym other ∙ h)
 
 -- a measurement begins with `#` only where its spelling does
-logical_begins : (text : List ℕ) → slice_index text 0 ≢ 35 → slice_index (logical a_measurement text) 0 ≢ 35
+logical_begins : (text : List ℕ) → slice_index text 0 ≢ hash → slice_index (logical a_measurement text) 0 ≢ hash
 unfolding without_escapes
 logical_begins [] h = omega arith
 logical_begins (b ∷ []) h = h
 logical_begins (b ∷ c ∷ rest) h =
-    elim (cases_Bool (b == 92)) [
+    elim (cases_Bool (b == backslash)) [
       | inl e ↦ elim (cases_Bool (is_escapable a_measurement c))
           [ inl known ↦ rw (e, known) (hash_unescapable c known) | inr unknown ↦ rw (e, unknown) h ]
       | inr e ↦ rw e h
@@ -174,7 +174,7 @@ unfolding without_escapes
 logical_some kind [] h = absurd (h refl)
 logical_some kind (b ∷ []) h = omega arith
 logical_some kind (b ∷ c ∷ rest) h =
-    elim (cases_Bool (b == 92)) [
+    elim (cases_Bool (b == backslash)) [
       | inl e ↦ elim (cases_Bool (is_escapable kind c))
           [ inl known ↦ rw (e, known) (omega arith) | inr unknown ↦ rw (e, unknown) (omega arith) ]
       | inr e ↦ rw e (omega arith)

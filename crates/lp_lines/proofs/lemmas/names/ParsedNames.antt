@@ -28,6 +28,7 @@ use Rattle.lp_lines.proofs.lemmas.series.BasesTellSeries.{set_separated}
 use Rattle.lp_lines.proofs.lemmas.read_back.LineReadsBack.{front_is}
 use Rattle.lp_values.proofs.lemmas.fields.ReadingLemmas.{bind_reads, pair_parts}
 use Rattle.lp_format.proofs.lemmas.lists.Elements.{first_or_later}
+use Rattle.lp_format.specs.format.Bytes.{equals, hash, newline, space}
 
 -- the names of a tag, and that of a field
 abbrev ParsedTag : Pair Text Text → Type 0
@@ -42,13 +43,13 @@ tag_parsed : (line : List ℕ) (t : Pair Text Text) (rest : List ℕ) → tag li
 unfolding tag
 tag_parsed line t rest h =
     let p = pair_parts a_tag_key (name a_tag_value) line t rest h in
-    (name_parsed a_tag_key line (61 ∷ p.mid) t.key p.key tt, name_parsed a_tag_value p.mid rest t.value p.value tt)
+    (name_parsed a_tag_key line (equals ∷ p.mid) t.key p.key tt, name_parsed a_tag_value p.mid rest t.value p.value tt)
 
 -- the key of each field that is read
 field_parsed : (line : List ℕ) (f : Pair Text (Value Text)) (rest : List ℕ) → field line ≡ reads f rest → ParsedField f
 unfolding field
 field_parsed line f rest h =
-    let p = pair_parts a_field_key value line f rest h in name_parsed a_field_key line (61 ∷ p.mid) f.key p.key tt
+    let p = pair_parts a_field_key value line f rest h in name_parsed a_field_key line (equals ∷ p.mid) f.key p.key tt
 
 -- two parts that are read are the same where their results are
 pub ok_same : {A : Type 0} (x y : A) → (let f : Result A Fault = Ok x in f) ≡ Ok y → x ≡ y
@@ -102,8 +103,8 @@ answer_parts dialect line l h = by_row ((answer_is_by_rows dialect line (Ok l)).
 stamp_begins : (text : List ℕ) (t : Option ℤ) → timestamp text ≡ Ok (record { value = t; rest = [] }) → IsNothingOrSpaced text
 stamp_begins [] t h = inl refl
 stamp_begins (b ∷ text) t h =
-    elim (cases_Bool (b == 32)) [
-      | inl e ↦ inr (text, ap (λ (x : ℕ). x ∷ text) (eqb-true b 32 e))
+    elim (cases_Bool (b == space)) [
+      | inl e ↦ inr (text, ap (λ (x : ℕ). x ∷ text) (eqb-true b space e))
       | inr other ↦
           let none = rw other at h in
           let left : b ∷ text ≡ [] = ap (λ r. r.rest)
@@ -126,24 +127,24 @@ strict_fields_end text line h =
     }
 
 -- what is left of a text does not begin with `#`
-left_begins : (in_comment : Bool) (text : List ℕ) → slice_index (left_of in_comment text) 0 ≢ 35
+left_begins : (in_comment : Bool) (text : List ℕ) → slice_index (left_of in_comment text) 0 ≢ hash
 left_begins in_comment [] = omega arith
 left_begins in_comment (b ∷ rest) =
-    elim (cases_Bool (b == 10)) [
+    elim (cases_Bool (b == newline)) [
       | inl cut ↦ rw cut (left_begins false rest)
       | inr on ↦
-          elim (cases_Bool (in_comment || b == 35)) [
+          elim (cases_Bool (in_comment || b == hash)) [
             | inl skipped ↦ rw (on, skipped) (left_begins true rest)
             | inr seen ↦
                 elim (cases_Bool (is_blank b)) [
                   | inl blank ↦ rw (on, seen, blank) (left_begins false rest)
-                  | inr kept ↦ rw (on, seen, kept) (eqb-false b 35 (or_parts in_comment (b == 35) seen).1)
+                  | inr kept ↦ rw (on, seen, kept) (eqb-false b hash (or_parts in_comment (b == hash) seen).1)
                 ]
           ]
     ]
 
 -- nor does a trimmed text
-pub trimmed_begins : (text : List ℕ) → slice_index (trimmed text) 0 ≢ 35
+pub trimmed_begins : (text : List ℕ) → slice_index (trimmed text) 0 ≢ hash
 trimmed_begins text = rw (trimmed_is text) (left_begins false text)
 
 -- an element of a list that is made from others is made from one of them
@@ -172,7 +173,7 @@ pub record ParsedPoint (p : Point) : Type 0 where
   pub fields : AllByRecursion (λ f. IsParsedName a_field_key f.key) p.fields
 
 -- the point of each line that is answered
-pub line_parsed : (dialect : Dialect) (text : List ℕ) (line : Line) → slice_index text 0 ≢ 35
+pub line_parsed : (dialect : Dialect) (text : List ℕ) (line : Line) → slice_index text 0 ≢ hash
     → answer dialect text ≡ Ok line → ParsedPoint (point_of line)
 line_parsed dialect text line begins h =
     let parts = answer_parts dialect text line h in
@@ -197,7 +198,7 @@ point_names a_field_key p h =
 -- the piece that an answer is given for
 pub record Answered (dialect : Dialect) (line : Line) : Type 0 where
   pub text : List ℕ
-  pub begins : slice_index text 0 ≢ 35
+  pub begins : slice_index text 0 ≢ hash
   pub answered : answer dialect text ≡ Ok line
 
 -- a line that is answered for a piece

@@ -9,7 +9,7 @@ use Rattle.std.proofs.lemmas.List.{take_at, drop_at}
 use Rattle.lp_split.specs.declared.split.resumed.Part.{Part}
 use Rattle.lp_split.specs.declared.split.resumed.Part.TheVariants.{Head, Plain}
 use Rattle.lp_split.proofs.lemmas.split.SplitWalk.{Head-other, Head-space, Plain-other}
-use Rattle.lp_format.specs.format.Bytes.{is_one_of}
+use Rattle.lp_format.specs.format.Bytes.{backslash, comma, equals, hash, is_one_of, newline, tab}
 use Rattle.lp_format.specs.format.Escapes.{escaped, without_escapes}
 use Rattle.lp_format.specs.format.Readings.{fatal, reads, ends_with_backslash}
 use Rattle.lp_format.specs.format.Names.{NameKind, a_measurement, a_tag_key, a_tag_value, a_field_key, ends_in_backslash}
@@ -34,10 +34,10 @@ use Rattle.lp_lines.proofs.lemmas.names.KeptNames.{is_kept}
 -- escape keeps
 pub data SpelledAs (kind : NameKind) : List ℕ → List ℕ → Type 0 where
   done : SpelledAs kind [] []
-  escape : (b : ℕ) (n s : List ℕ) → is_escapable kind b ≡ true → SpelledAs kind n s → SpelledAs kind (b ∷ n) (92 ∷ b ∷ s)
+  escape : (b : ℕ) (n s : List ℕ) → is_escapable kind b ≡ true → SpelledAs kind n s → SpelledAs kind (b ∷ n) (backslash ∷ b ∷ s)
   plain : (b : ℕ) (n s : List ℕ) → is_escapable kind b ≡ false → may_hold kind b ≡ true → SpelledAs kind n s
       → SpelledAs kind (b ∷ n) (b ∷ s)
-  pair : (c : ℕ) (n s : List ℕ) → is_one_of (never_in kind) c ≡ true → SpelledAs kind n s → SpelledAs kind (92 ∷ c ∷ n) (92 ∷ c ∷ s)
+  pair : (c : ℕ) (n s : List ℕ) → is_one_of (never_in kind) c ≡ true → SpelledAs kind n s → SpelledAs kind (backslash ∷ c ∷ n) (backslash ∷ c ∷ s)
 
 -- a byte that no escape keeps is no known escape
 pub never_unescapable : (kind : NameKind) (c : ℕ) → is_one_of (never_in kind) c ≡ true → is_escapable kind c ≡ false
@@ -54,8 +54,8 @@ never_stops a_tag_value c h = grind (arith, common_steps)
 never_stops a_field_key c h = grind (arith, common_steps)
 
 -- nor is it a backslash
-never_backslash : (kind : NameKind) (c : ℕ) → is_one_of (never_in kind) c ≡ true → (c == 92) ≡ false
-never_backslash kind c h = ne_eqb c 92
+never_backslash : (kind : NameKind) (c : ℕ) → is_one_of (never_in kind) c ≡ true → (c == backslash) ≡ false
+never_backslash kind c h = ne_eqb c backslash
     (λ e. false≢true (sym (never_unescapable kind c h) ∙ ap (is_escapable kind) e ∙ escapable_backslash kind))
 
 -- the test of a byte with nothing before it
@@ -68,7 +68,7 @@ spelled_more : (kind : NameKind) (b : ℕ) (n : List ℕ) → may_hold kind b �
     → (s : List ℕ) × SpelledAs kind (b ∷ n) s
 spelled_more kind b n may more =
     elim (cases_Bool (is_escapable kind b)) [
-      | inl known ↦ (92 ∷ b ∷ more.0, escape b n more.0 known more.1)
+      | inl known ↦ (backslash ∷ b ∷ more.0, escape b n more.0 known more.1)
       | inr other ↦ (b ∷ more.0, plain b n more.0 other may more.1)
     ]
 
@@ -78,16 +78,16 @@ spelled_as kind [] h = ([], done)
 spelled_as kind (b ∷ []) h = spelled_more kind b []
     (may_alone (may_hold kind b) (and_parts (may_hold kind b || false) true h).0) ([], done)
 spelled_as kind (b ∷ c ∷ n) h =
-    let parts = and_parts (may_hold kind b || false) (is_kept kind (b == 92) (c ∷ n)) h in
+    let parts = and_parts (may_hold kind b || false) (is_kept kind (b == backslash) (c ∷ n)) h in
     let may = may_alone (may_hold kind b) parts.0 in
-    elim (cases_Bool (b == 92)) [
+    elim (cases_Bool (b == backslash)) [
       | inl e ↦
-          let after = and_parts (may_hold kind c || (b == 92)) (is_kept kind (c == 92) n) parts.1 in
+          let after = and_parts (may_hold kind c || (b == backslash)) (is_kept kind (c == backslash) n) parts.1 in
           elim (cases_Bool (is_one_of (never_in kind) c)) [
             | inl never ↦
                 let more = spelled_as kind n (rw (never_backslash kind c never) at after.1) in (
-                  92 ∷ c ∷ more.0,
-                  subst (λ x. SpelledAs kind (x ∷ c ∷ n) (92 ∷ c ∷ more.0)) (sym (eqb-true b 92 e))
+                  backslash ∷ c ∷ more.0,
+                  subst (λ x. SpelledAs kind (x ∷ c ∷ n) (backslash ∷ c ∷ more.0)) (sym (eqb-true b backslash e))
                       (pair c n more.0 never more.1),
                 )
             | inr other ↦ spelled_more kind b (c ∷ n) may (spelled_as kind (c ∷ n) (rw other (after.1)))
@@ -127,7 +127,7 @@ spelled_to {kind = kind} done rest ends = stops_here kind rest ends
 spelled_to {kind = kind} (escape b n s known more) rest
     ends = rw (backslash_no_stop kind, and_right (is_stop kind b) false refl, spelled_to more rest ends) refl
 spelled_to {kind = kind} (plain b n s other may more) rest
-    ends = rw (stop_escapable kind b may other, ne_eqb b 92 (no_backslash kind b other), spelled_to more rest ends) refl
+    ends = rw (stop_escapable kind b may other, ne_eqb b backslash (no_backslash kind b other), spelled_to more rest ends) refl
 spelled_to {kind = kind} (pair c n s never more) rest
     ends = rw (backslash_no_stop kind, and_right (is_stop kind c) false refl, spelled_to more rest ends) refl
 
@@ -141,7 +141,7 @@ spelled_logical {kind = kind} (plain b n s other may more) =
     without_escapes_plain_byte (escapable kind) b s (no_backslash kind b other)
     ∙ ap (λ (xs : List ℕ). b ∷ xs) (spelled_logical more)
 spelled_logical {kind = kind} (pair c n s never more) = rw (never_unescapable kind c never)
-    (ap (λ (xs : List ℕ). 92 ∷ c ∷ xs) (spelled_logical more))
+    (ap (λ (xs : List ℕ). backslash ∷ c ∷ xs) (spelled_logical more))
 
 -- and is not empty where the name is not
 spelled_some : {kind : NameKind} {n s : List ℕ} → SpelledAs kind n s → 0 < length n → 0 < length s
@@ -193,27 +193,27 @@ pub reaches_spelled : (part : Part) (e c : ℕ) {kind : NameKind} {n s : List �
     → SpelledAs kind n s → (piece : List ℕ) → Reaches part e c piece → Reaches part e c (piece ++ s)
 reaches_spelled part e c same done piece r = subst (Reaches part e c) (sym (append-nil piece)) r
 reaches_spelled part e c same (escape b n s known more) piece r =
-    subst (Reaches part e c) (append_assoc piece (92 ∷ b ∷ []) s)
-    (reaches_spelled part e c same more (piece ++ 92 ∷ b ∷ []) (reaches_pair part e c piece b r))
+    subst (Reaches part e c) (append_assoc piece (backslash ∷ b ∷ []) s)
+    (reaches_spelled part e c same more (piece ++ backslash ∷ b ∷ []) (reaches_pair part e c piece b r))
 reaches_spelled part e c same (plain b n s other may more) piece r =
     subst (Reaches part e c) (append_assoc piece (b ∷ []) s)
     (reaches_spelled part e c same more (piece ++ b ∷ []) (reaches_byte part e c piece b (same b may other) r))
 reaches_spelled part e c same (pair b n s never more) piece r =
-    subst (Reaches part e c) (append_assoc piece (92 ∷ b ∷ []) s)
-    (reaches_spelled part e c same more (piece ++ 92 ∷ b ∷ []) (reaches_pair part e c piece b r))
+    subst (Reaches part e c) (append_assoc piece (backslash ∷ b ∷ []) s)
+    (reaches_spelled part e c same more (piece ++ backslash ∷ b ∷ []) (reaches_pair part e c piece b r))
 
 -- a text that begins with no blank, no newline and no `#`
 abbrev pub BeginsLine : List ℕ → Type 0
 BeginsLine [] = ⊥
-BeginsLine (b ∷ text) = is_one_of (35 ∷ 32 ∷ 9 ∷ 10 ∷ []) b ≡ false
+BeginsLine (b ∷ text) = is_one_of (hash ∷ 32 ∷ tab ∷ newline ∷ []) b ≡ false
 
 -- the first byte of a measurement that may are there
-begins_plain : (b : ℕ) → is_escapable a_measurement b ≡ false → may_hold a_measurement b ≡ true → b ≢ 35
-    → is_one_of (35 ∷ 32 ∷ 9 ∷ 10 ∷ []) b ≡ false
+begins_plain : (b : ℕ) → is_escapable a_measurement b ≡ false → may_hold a_measurement b ≡ true → b ≢ hash
+    → is_one_of (hash ∷ 32 ∷ tab ∷ newline ∷ []) b ≡ false
 begins_plain b other may no_hash = grind (arith, common_steps)
 
 -- a measurement that begins with no `#` begins a line so
-pub spelled_begins : {n s : List ℕ} → SpelledAs a_measurement n s → 0 < length n → slice_index n 0 ≢ 35
+pub spelled_begins : {n s : List ℕ} → SpelledAs a_measurement n s → 0 < length n → slice_index n 0 ≢ hash
     → (rest : List ℕ) → BeginsLine (s ++ rest)
 spelled_begins done some no_hash rest = absurd (omega (arith, some))
 spelled_begins (escape b n s known more) some no_hash rest = refl
@@ -236,18 +236,18 @@ spelled_spaces (pair c n s never more) some rest = refl
 pub line_no_comment : (text : List ℕ) → BeginsLine text → begins_comment text ≡ false
 line_no_comment [] h = absurd h
 line_no_comment (b ∷ text) h =
-    let no_hash : (b == 35) ≡ false = grind (arith, common_steps) in
+    let no_hash : (b == hash) ≡ false = grind (arith, common_steps) in
     let no_space : (b == 32) ≡ false = grind (arith, common_steps) in
-    let no_tab : (b == 9) ≡ false = grind (arith, common_steps) in
+    let no_tab : (b == tab) ≡ false = grind (arith, common_steps) in
     rw (no_hash, no_space, no_tab) refl
 
 -- nothing is trimmed off it
 pub line_trimmed : (text : List ℕ) → BeginsLine text → trimmed text ≡ text
 line_trimmed [] h = absurd h
 line_trimmed (b ∷ text) h =
-    let no_hash : (b == 35) ≡ false = grind (arith, common_steps) in
+    let no_hash : (b == hash) ≡ false = grind (arith, common_steps) in
     let no_blank : is_blank b ≡ false = grind (arith, common_steps) in
-    let no_newline : (b == 10) ≡ false = grind (arith, common_steps) in
+    let no_newline : (b == newline) ≡ false = grind (arith, common_steps) in
     trimmed_is (b ∷ text) ∙ rw (no_newline, no_hash, no_blank) refl
 
 -- and it is not empty
@@ -268,7 +268,7 @@ pub reaches_name : (kind : NameKind) (n piece : List ℕ) → is_admitted_name k
 reaches_name kind n piece ok r = reaches_head (admitted_spelled kind n ok) piece r
 
 -- a byte that means nothing there
-pub reaches_other : (b : ℕ) → b ≢ 92 → b ≢ 32 → b ≢ 10 → (piece : List ℕ) → Reaches Head 0 0 piece → Reaches Head 0 0 (piece ++ b ∷ [])
+pub reaches_other : (b : ℕ) → b ≢ backslash → b ≢ 32 → b ≢ newline → (piece : List ℕ) → Reaches Head 0 0 piece → Reaches Head 0 0 (piece ++ b ∷ [])
 reaches_other b no_backslash no_space no_newline piece r = reaches_byte Head 0 0 piece b
     (no_backslash, λ q f h. Head-other 0 0 q b f no_space no_newline h) r
 
@@ -287,8 +287,8 @@ reaches_field_key m h piece r =
           (λ _. omega arith) i,
     )) h piece r
   where
-    no_equals : (b : ℕ) → is_escapable a_field_key b ≡ false → b ≢ 61
+    no_equals : (b : ℕ) → is_escapable a_field_key b ≡ false → b ≢ equals
     no_equals b other = λ e. let h : is_escapable a_field_key b ≡ true = ap (is_escapable a_field_key) e in cc
 
-    no_comma : (b : ℕ) → is_escapable a_field_key b ≡ false → b ≢ 44
+    no_comma : (b : ℕ) → is_escapable a_field_key b ≡ false → b ≢ comma
     no_comma b other = λ e. let h : is_escapable a_field_key b ≡ true = ap (is_escapable a_field_key) e in cc

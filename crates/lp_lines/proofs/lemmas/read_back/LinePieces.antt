@@ -15,7 +15,7 @@ use Rattle.lp_split.specs.declared.split.resumed.Part.TheVariants.{Head, Plain, 
 use Rattle.lp_split.proofs.lemmas.split.SplitWalk.{Head-space, Head-other, Plain-equals}
 use Rattle.lp_split.proofs.lemmas.split.SplitWalk.{Plain-comma, Plain-opens, Plain-other, Quoted-closes, Quoted-other}
 use Rattle.lp_format.specs.format.Dialects.{Dialect, Crate, Strict}
-use Rattle.lp_format.specs.format.Bytes.{is_one_of}
+use Rattle.lp_format.specs.format.Bytes.{backslash, is_one_of, newline, quote}
 use Rattle.lp_format.specs.format.Escapes.{escaped}
 use Rattle.lp_format.specs.format.Names.{a_measurement, a_tag_key, a_tag_value, a_field_key}
 use Rattle.lp_format.specs.format.Values.{Value, integer, unsigned, float, string, boolean, quotable, fits_i64, IsSigned}
@@ -33,14 +33,14 @@ use Rattle.lp_lines.proofs.lemmas.names.Spellings.{reaches_field_key, BeginsLine
 
 -- a byte that means nothing in a plain stretch
 abbrev is_simple : ℕ → Bool
-is_simple b = not (is_one_of (92 ∷ 61 ∷ 44 ∷ 10 ∷ 34 ∷ []) b)
+is_simple b = not (is_one_of (backslash ∷ 61 ∷ 44 ∷ newline ∷ quote ∷ []) b)
 
 -- such a byte changes nothing
 simple_same : (e c b : ℕ) → is_simple b ≡ true → ChangesNothing Plain e c b
 simple_same e c b simple =
     let differs : (k : ℕ) → is_simple k ≡ false → b ≢ k = λ k no i. cc (simple, no, ap is_simple i) in (
-      differs 92 refl,
-      λ q f h. Plain-other e c q b f (differs 61 refl) (differs 44 refl) (differs 10 refl) (λ i. absurd (differs 34 refl i)) h,
+      differs backslash refl,
+      λ q f h. Plain-other e c q b f (differs 61 refl) (differs 44 refl) (differs 10 refl) (λ i. absurd (differs quote refl i)) h,
     )
 
 abbrev pub IsSimple : List ℕ → Type 0
@@ -120,8 +120,8 @@ unfolding escaped
 reaches_quotable e c [] piece r = subst (Reaches Quoted e c) (sym (append-nil piece)) r
 reaches_quotable e c (b ∷ s) piece r =
     elim (cases_Bool (is_one_of quotable b)) [
-      | inl found ↦ rw found (subst (Reaches Quoted e c) (append_assoc piece (92 ∷ b ∷ []) (escaped quotable s))
-          (reaches_quotable e c s (piece ++ 92 ∷ b ∷ []) (reaches_pair Quoted e c piece b r)))
+      | inl found ↦ rw found (subst (Reaches Quoted e c) (append_assoc piece (backslash ∷ b ∷ []) (escaped quotable s))
+          (reaches_quotable e c s (piece ++ backslash ∷ b ∷ []) (reaches_pair Quoted e c piece b r)))
       | inr plain ↦ rw plain (subst (Reaches Quoted e c) (append_assoc piece (b ∷ []) (escaped quotable s))
           (reaches_quotable e c s (piece ++ b ∷ []) (reaches_byte Quoted e c piece b (same plain) r)))
     ]
@@ -136,15 +136,15 @@ reaches_quotable e c (b ∷ s) piece r =
 reaches_string : (m : ℕ) (s piece : List ℕ) → Reaches Plain (m + 1) m piece → Reaches Plain (m + 1) m (piece ++ built_value (string s))
 reaches_string m s piece r =
     let opened : Reaches Quoted (m + 1) m
-    (piece ++ 34 ∷ []) = (is_escaped-push_other piece 34 (omega arith), Plain-opens (m + 1) m piece r.0 (omega arith) r.1) in
-    let body : Reaches Quoted (m + 1) m ((piece ++ 34 ∷ []) ++ escaped quotable s) =
-    reaches_quotable (m + 1) m s (piece ++ 34 ∷ []) opened in
-    let text = (piece ++ 34 ∷ []) ++ escaped quotable s in
+    (piece ++ quote ∷ []) = (is_escaped-push_other piece quote (omega arith), Plain-opens (m + 1) m piece r.0 (omega arith) r.1) in
+    let body : Reaches Quoted (m + 1) m ((piece ++ quote ∷ []) ++ escaped quotable s) =
+    reaches_quotable (m + 1) m s (piece ++ quote ∷ []) opened in
+    let text = (piece ++ quote ∷ []) ++ escaped quotable s in
     let closed : Reaches Plain (m + 1) m
-    (text ++ 34 ∷ []) = (is_escaped-push_other text 34 (omega arith), Quoted-closes (m + 1) m text body.0 body.1) in
+    (text ++ quote ∷ []) = (is_escaped-push_other text quote (omega arith), Quoted-closes (m + 1) m text body.0 body.1) in
     subst (Reaches Plain (m + 1) m)
-    (append_assoc (piece ++ 34 ∷ []) (escaped quotable s) (34 ∷ [])
-    ∙ append_assoc piece (34 ∷ []) (escaped quotable s ++ 34 ∷ [])) closed
+    (append_assoc (piece ++ quote ∷ []) (escaped quotable s) (quote ∷ [])
+    ∙ append_assoc piece (quote ∷ []) (escaped quotable s ++ quote ∷ [])) closed
 
 -- a value, after its `=`
 reaches_value : (m : ℕ) (v : Value (List ℕ)) (piece : List ℕ) → IsValue v → Reaches Plain (m + 1) m piece
@@ -225,7 +225,7 @@ reaches_tags (t ∷ ts) piece all r =
     ∙ append_assoc piece (44 ∷ []) (spelling a_tag_key t.key ++ 61 ∷ spelling a_tag_value t.value))
     value))
   where
-    other : (b : ℕ) → b ≢ 92 → b ≢ 32 → b ≢ 10 → ChangesNothing Head 0 0 b
+    other : (b : ℕ) → b ≢ backslash → b ≢ 32 → b ≢ newline → ChangesNothing Head 0 0 b
     other b no_backslash no_space no_newline = (no_backslash, λ q f h. Head-other 0 0 q b f no_space no_newline h)
 
 -- the line

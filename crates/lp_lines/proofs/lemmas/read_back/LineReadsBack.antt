@@ -18,6 +18,7 @@ use Rattle.lp_format.proofs.lemmas.read_back.ReadLines.{read_line, read_tags, re
 use Rattle.lp_lines.proofs.lemmas.read_back.LinePieces.{AdmittedTag, AdmittedField, IsAdmitted, line_parts}
 use Rattle.lp_lines.proofs.lemmas.read_back.PartsReadBack.{tag_text, tag_set_reads_back, field_set_reads_back}
 use Rattle.lp_lines.proofs.lemmas.read_back.PartsReadBack.{timestamp_reads_back}
+use Rattle.lp_format.specs.format.Bytes.{comma, equals, space}
 
 -- the front before a rest of the line
 pub front_is : (line front rest : List ℕ) → line ≡ front ++ rest → front_before line rest ≡ front
@@ -27,21 +28,21 @@ front_is line front rest e =
 
 -- the name before the tags or the fields
 pub measurement_reads_back : (m : List ℕ) (ts : List Tag) (rest : List ℕ) → is_admitted_name a_measurement m ≡ true
-    → name a_measurement (spelling a_measurement m ++ (flat_map built_tag ts ++ 32 ∷ rest)) ≡ reads
-    (read_name a_measurement m) (flat_map built_tag ts ++ 32 ∷ rest)
+    → name a_measurement (spelling a_measurement m ++ (flat_map built_tag ts ++ space ∷ rest)) ≡ reads
+    (read_name a_measurement m) (flat_map built_tag ts ++ space ∷ rest)
 measurement_reads_back m [] rest ok = name_reads_back a_measurement m rest 32 ok refl
 measurement_reads_back m (t ∷ ts) rest ok =
-    let after = tag_text t ++ (flat_map built_tag ts ++ 32 ∷ rest) in
-    let regrouped : flat_map built_tag (t ∷ ts) ++ 32 ∷ rest ≡ 44 ∷ after = append_assoc (built_tag t)
-    (flat_map built_tag ts) (32 ∷ rest) in
-    rw regrouped (name_reads_back a_measurement m after 44 ok refl)
+    let after = tag_text t ++ (flat_map built_tag ts ++ space ∷ rest) in
+    let regrouped : flat_map built_tag (t ∷ ts) ++ space ∷ rest ≡ comma ∷ after = append_assoc (built_tag t)
+    (flat_map built_tag ts) (space ∷ rest) in
+    rw regrouped (name_reads_back a_measurement m after comma ok refl)
 
 -- the parts of a line make its answer
 pub answer_from_parts : (dialect : Dialect) (line front after tagged end : List ℕ) (m : Text)
     (ts : Option (List (Pair Text Text))) (fs : List (Pair Text (Value Text))) (t : Option ℤ)
     → name a_measurement line ≡ reads m tagged
-    → tag_set tagged ≡ Ok (record { value = ts; rest = 32 ∷ after })
-    → front_before line (32 ∷ after) ≡ front
+    → tag_set tagged ≡ Ok (record { value = ts; rest = space ∷ after })
+    → front_before line (space ∷ after) ≡ front
     → spaces after ≡ 0
     → field_set dialect after ≡ reads fs end
     → timestamp end ≡ Ok (record { value = t; rest = [] })
@@ -63,18 +64,18 @@ line_reads_back dialect p ok =
         ≡ Ok (read_line (record { measurement = m; tags = ts; fields = fs; timestamp = t }))
     parts_read_back m ts [] t named tagged fielded some stamped = absurd (omega arith)
     parts_read_back m ts (f ∷ fs) t named tagged fielded some stamped =
-        let after = built_field f ++ (built_fields 44 fs ++ built_timestamp t) in
+        let after = built_field f ++ (built_fields comma fs ++ built_timestamp t) in
         let front = spelling a_measurement m ++ flat_map built_tag ts in
-        let line = spelling a_measurement m ++ (flat_map built_tag ts ++ 32 ∷ after) in
+        let line = spelling a_measurement m ++ (flat_map built_tag ts ++ space ∷ after) in
         let regrouped : spelling a_measurement m ++
         (flat_map built_tag ts ++ (built_fields 32 (f ∷ fs) ++ built_timestamp t)) ≡ line = simp append_assoc in
         ap (answer dialect) regrouped
-        ∙ answer_from_parts dialect line front after (flat_map built_tag ts ++ 32 ∷ after) (built_timestamp t)
+        ∙ answer_from_parts dialect line front after (flat_map built_tag ts ++ space ∷ after) (built_timestamp t)
         (read_name a_measurement m) (read_tags ts) (map read_field (f ∷ fs)) t
         (measurement_reads_back m ts after named)
         (tag_set_reads_back ts after tagged)
-        (front_is line front (32 ∷ after) (sym (append_assoc (spelling a_measurement m) (flat_map built_tag ts) (32 ∷ after))))
-        (ap spaces (append_assoc (spelling a_field_key f.key) (61 ∷ built_value f.value) (built_fields 44 fs ++ built_timestamp t))
+        (front_is line front (space ∷ after) (sym (append_assoc (spelling a_measurement m) (flat_map built_tag ts) (space ∷ after))))
+        (ap spaces (append_assoc (spelling a_field_key f.key) (equals ∷ built_value f.value) (built_fields comma fs ++ built_timestamp t))
         ∙ spelled_spaces (admitted_spelled a_field_key f.key fielded.0.0) (admitted_parts a_field_key f.key fielded.0.0).some _)
         (field_set_reads_back dialect f fs t fielded.0 fielded.1)
         (timestamp_reads_back t stamped)

@@ -6,7 +6,7 @@ use Rattle.std.specs.Fmt.{signed_decimal}
 use Rattle.std.specs.List.{AllByRecursion, flat_map}
 use Rattle.std.proofs.lemmas.Bool.{ne_eqb}
 use Rattle.std.proofs.lemmas.List.{append_assoc, append-nil, length-append, take_all, drop_all}
-use Rattle.lp_format.specs.format.Bytes.{comma}
+use Rattle.lp_format.specs.format.Bytes.{comma, equals, space}
 use Rattle.lp_format.specs.format.Dialects.{Dialect, Crate, Strict}
 use Rattle.lp_format.specs.format.Names.{a_tag_key, a_tag_value, a_field_key, is_stop}
 use Rattle.lp_format.specs.format.Readings.{Text, miss, reads}
@@ -23,7 +23,7 @@ use Rattle.lp_format.proofs.lemmas.read_back.IntegerReadsBack.{integer_written}
 
 -- a tag without the comma before it
 abbrev pub tag_text : Tag → List ℕ
-tag_text t = spelling a_tag_key t.key ++ 61 ∷ spelling a_tag_value t.value
+tag_text t = spelling a_tag_key t.key ++ equals ∷ spelling a_tag_value t.value
 
 -- a tag reads back before each byte that ends its value
 pub tag_reads_back : (t : Tag) (rest : List ℕ) (stop : ℕ) → AdmittedTag t → is_stop a_tag_value stop ≡ true
@@ -31,31 +31,31 @@ pub tag_reads_back : (t : Tag) (rest : List ℕ) (stop : ℕ) → AdmittedTag t 
 unfolding tag
 tag_reads_back t rest stop ok ends =
     rw (
-      append_assoc (spelling a_tag_key t.key) (61 ∷ spelling a_tag_value t.value) (stop ∷ rest),
-      name_reads_back a_tag_key t.key (spelling a_tag_value t.value ++ stop ∷ rest) 61 ok.0 refl,
+      append_assoc (spelling a_tag_key t.key) (equals ∷ spelling a_tag_value t.value) (stop ∷ rest),
+      name_reads_back a_tag_key t.key (spelling a_tag_value t.value ++ stop ∷ rest) equals ok.0 refl,
       name_reads_back a_tag_value t.value rest stop ok.1 ends,
     ) refl
 
 -- a tag before the others, or before the fields
 tag_before : (t : Tag) (ts : List Tag) (rest : List ℕ) → AdmittedTag t
-    → tag (tag_text t ++ (flat_map built_tag ts ++ 32 ∷ rest)) ≡ reads (read_tag t) (flat_map built_tag ts ++ 32 ∷ rest)
+    → tag (tag_text t ++ (flat_map built_tag ts ++ space ∷ rest)) ≡ reads (read_tag t) (flat_map built_tag ts ++ space ∷ rest)
 tag_before t [] rest ok = tag_reads_back t rest 32 ok refl
 tag_before t (u ∷ us) rest ok =
-    let after = flat_map built_tag us ++ 32 ∷ rest in
-    let regrouped : flat_map built_tag (u ∷ us) ++ 32 ∷ rest ≡ 44 ∷ (tag_text u ++ after) = append_assoc
-    (built_tag u) (flat_map built_tag us) (32 ∷ rest) in
-    rw regrouped (tag_reads_back t (tag_text u ++ after) 44 ok refl)
+    let after = flat_map built_tag us ++ space ∷ rest in
+    let regrouped : flat_map built_tag (u ∷ us) ++ space ∷ rest ≡ comma ∷ (tag_text u ++ after) = append_assoc
+    (built_tag u) (flat_map built_tag us) (space ∷ rest) in
+    rw regrouped (tag_reads_back t (tag_text u ++ after) comma ok refl)
 
 -- the tags after the first
 more_tags : (ts : List Tag) (rest : List ℕ) (n : ℕ) → AllByRecursion AdmittedTag ts → length ts ≤ n
-    → many (after_comma tag) n (flat_map built_tag ts ++ 32 ∷ rest) ≡ reads (map read_tag ts) (32 ∷ rest)
+    → many (after_comma tag) n (flat_map built_tag ts ++ space ∷ rest) ≡ reads (map read_tag ts) (space ∷ rest)
 more_tags [] rest zero all room = refl
 more_tags [] rest (suc n) all room = refl
 more_tags (t ∷ ts) rest zero all room = absurd (omega arith)
 more_tags (t ∷ ts) rest (suc n) all room =
-    let after = flat_map built_tag ts ++ 32 ∷ rest in
-    let regrouped : flat_map built_tag (t ∷ ts) ++ 32 ∷ rest ≡ 44 ∷ (tag_text t ++ after) = append_assoc
-    (built_tag t) (flat_map built_tag ts) (32 ∷ rest) in
+    let after = flat_map built_tag ts ++ space ∷ rest in
+    let regrouped : flat_map built_tag (t ∷ ts) ++ space ∷ rest ≡ comma ∷ (tag_text t ++ after) = append_assoc
+    (built_tag t) (flat_map built_tag ts) (space ∷ rest) in
     ap (many (after_comma tag) (suc n)) regrouped
     ∙ rw (tag_before t ts rest all.0, more_tags ts rest n all.1 (omega arith)) refl
 
@@ -66,13 +66,13 @@ tags_room (t ∷ ts) = omega (arith, tags_room ts, length-append (built_tag t) (
 
 -- the tags of a line read back before its fields
 pub tag_set_reads_back : (ts : List Tag) (rest : List ℕ) → AllByRecursion AdmittedTag ts
-    → tag_set (flat_map built_tag ts ++ 32 ∷ rest) ≡ Ok (record { value = read_tags ts; rest = 32 ∷ rest })
+    → tag_set (flat_map built_tag ts ++ space ∷ rest) ≡ Ok (record { value = read_tags ts; rest = space ∷ rest })
 tag_set_reads_back [] rest all = refl
 tag_set_reads_back (t ∷ ts) rest all =
-    let after = flat_map built_tag ts ++ 32 ∷ rest in
-    let regrouped : flat_map built_tag (t ∷ ts) ++ 32 ∷ rest ≡ 44 ∷ (tag_text t ++ after) = append_assoc
-    (built_tag t) (flat_map built_tag ts) (32 ∷ rest) in
-    let room : length ts ≤ length after = omega (arith, tags_room ts, length-append (flat_map built_tag ts) (32 ∷ rest)) in
+    let after = flat_map built_tag ts ++ space ∷ rest in
+    let regrouped : flat_map built_tag (t ∷ ts) ++ space ∷ rest ≡ comma ∷ (tag_text t ++ after) = append_assoc
+    (built_tag t) (flat_map built_tag ts) (space ∷ rest) in
+    let room : length ts ≤ length after = omega (arith, tags_room ts, length-append (flat_map built_tag ts) (space ∷ rest)) in
     ap tag_set regrouped ∙ rw (tag_before t ts rest all.0, more_tags ts rest (length after) all.1 room) refl
 
 -- a field, before the end, a comma or a space
@@ -80,8 +80,8 @@ pub field_reads_back : (f : Field) (rest : List ℕ) → AdmittedField f → End
 unfolding field
 field_reads_back f rest ok ends =
     rw (
-      append_assoc (spelling a_field_key f.key) (61 ∷ built_value f.value) rest,
-      name_reads_back a_field_key f.key (built_value f.value ++ rest) 61 ok.0 refl,
+      append_assoc (spelling a_field_key f.key) (equals ∷ built_value f.value) rest,
+      name_reads_back a_field_key f.key (built_value f.value ++ rest) equals ok.0 refl,
       value_reads_back f.value rest ok.1 ends,
     ) refl
 
@@ -99,8 +99,8 @@ more_fields [] rest (suc n) all room ends = rw ends.0 refl
 more_fields (f ∷ fs) rest zero all room ends = absurd (omega arith)
 more_fields (f ∷ fs) rest (suc n) all room ends =
     let after = built_fields comma fs ++ rest in
-    let regrouped : built_fields comma (f ∷ fs) ++ rest ≡ 44 ∷
-    (built_field f ++ after) = ap (λ (xs : List ℕ). 44 ∷ xs) (append_assoc (built_field f) (built_fields comma fs) rest) in
+    let regrouped : built_fields comma (f ∷ fs) ++ rest ≡ comma ∷
+    (built_field f ++ after) = ap (λ (xs : List ℕ). comma ∷ xs) (append_assoc (built_field f) (built_fields comma fs) rest) in
     ap (many (after_comma field) (suc n)) regrouped
     ∙ rw (field_reads_back f after all.0 (fields_end fs rest ends.1), more_fields fs rest n all.1 (omega arith) ends) refl
 

@@ -12,6 +12,7 @@ use Rattle.lp_format.proofs.lemmas.split.SplitBare.{is_escaped-push_other}
 use Rattle.lp_format.proofs.lemmas.names.NameLemmas.{escapable_backslash}
 use Rattle.lp_format.proofs.lemmas.read_back.NameReadsBack.{may_hold}
 use Rattle.lp_format.proofs.lemmas.read_back.NameReadsBack.{space_escapable}
+use Rattle.lp_format.specs.format.Bytes.{newline, space}
 
 -- what comes after these bytes is bare, and it is in this part, with these counts
 abbrev pub Reaches : Part → ℕ → ℕ → List ℕ → Type 0
@@ -19,7 +20,7 @@ Reaches part e c piece = IsBareAfter piece × IsIn part e c piece
 
 -- nothing was read yet
 pub reaches_start : Reaches Head 0 0 []
-reaches_start = (is_escaped-nil, (All-nil (λ b. (b ≢ 32) × (b ≢ 10)), record { equals_is = refl; commas_is = refl }))
+reaches_start = (is_escaped-nil, (All-nil (λ b. (b ≢ space) × (b ≢ newline)), record { equals_is = refl; commas_is = refl }))
 
 -- a byte with a backslash before it changes nothing
 pub reaches_pair : (part : Part) (e c : ℕ) (piece : List ℕ) (b : ℕ) → Reaches part e c piece → Reaches part e c (piece ++ 92 ∷ b ∷ [])
@@ -40,14 +41,14 @@ pub reaches_byte : (part : Part) (e c : ℕ) (piece : List ℕ) (b : ℕ) → Ch
 reaches_byte part e c piece b same r = (is_escaped-push_other piece b same.0, same.1 piece r.0 r.1)
 
 -- a name holds no newline, and its spaces and backslashes are escaped
-newline_never : (kind : NameKind) → may_hold kind 10 ≡ false
+newline_never : (kind : NameKind) → may_hold kind newline ≡ false
 newline_never a_measurement = refl
 newline_never a_tag_key = refl
 newline_never a_tag_value = refl
 newline_never a_field_key = refl
 
 -- so its bare bytes are none of these
-pub no_newline : (kind : NameKind) (b : ℕ) → may_hold kind b ≡ true → b ≢ 10
+pub no_newline : (kind : NameKind) (b : ℕ) → may_hold kind b ≡ true → b ≢ newline
 no_newline kind b may = λ e. cc (may, newline_never kind, ap (may_hold kind) e)
 
 -- nor is one a backslash
@@ -55,5 +56,5 @@ pub no_backslash : (kind : NameKind) (b : ℕ) → is_escapable kind b ≡ false
 no_backslash kind b plain = λ e. cc (plain, escapable_backslash kind, ap (is_escapable kind) e)
 
 -- or a space
-pub no_space : (kind : NameKind) (b : ℕ) → is_escapable kind b ≡ false → b ≢ 32
+pub no_space : (kind : NameKind) (b : ℕ) → is_escapable kind b ≡ false → b ≢ space
 no_space kind b plain = λ e. cc (plain, space_escapable kind, ap (is_escapable kind) e)

@@ -7,7 +7,7 @@ use Rattle.std.proofs.lemmas.Bool.{cases_Bool, and_right, ne_eqb, lt-ltb}
 use Rattle.std.proofs.lemmas.Fmt.{decimal_is_IsNumeral}
 use Rattle.std.proofs.lemmas.Grind.{common_steps}
 use Rattle.std.proofs.lemmas.List.{append_assoc, take_at, drop_at, get_or_at, length-append, drop-drop}
-use Rattle.lp_format.specs.format.Bytes.{is_one_of, quote}
+use Rattle.lp_format.specs.format.Bytes.{backslash, is_one_of, quote}
 use Rattle.lp_format.specs.format.Readings.{reads}
 use Rattle.lp_format.specs.format.Points.{IsValue, built_value}
 use Rattle.lp_format.specs.format.Escapes.{escaped}
@@ -21,28 +21,28 @@ use Rattle.lp_format.proofs.lemmas.read_back.FloatReadsBack.{Ends, float_reads_b
 use Rattle.lp_format.proofs.lemmas.read_back.IntegerReadsBack.{digits_before, unsigned_len, integer_reads_back}
 
 -- the body of a string ends at the quote after it
-body_ends : (s rest : List ℕ) → bare_len (λ b. b == quote) false (escaped quotable s ++ 34 ∷ rest) ≡ length (escaped quotable s)
+body_ends : (s rest : List ℕ) → bare_len (λ b. b == quote) false (escaped quotable s ++ quote ∷ rest) ≡ length (escaped quotable s)
 unfolding escaped
 body_ends [] rest = refl
 body_ends (b ∷ s) rest =
     elim (cases_Bool (is_one_of quotable b)) [
-      | inl found ↦ rw (found, and_right (b == 34) false refl, body_ends s rest) refl
+      | inl found ↦ rw (found, and_right (b == quote) false refl, body_ends s rest) refl
       | inr plain ↦
-          let no_quote : (b == 34) ≡ false = grind (arith, common_steps) in
-          let no_backslash : (b == 92) ≡ false = grind (arith, common_steps) in
+          let no_quote : (b == quote) ≡ false = grind (arith, common_steps) in
+          let no_backslash : (b == backslash) ≡ false = grind (arith, common_steps) in
           rw (plain, no_quote, no_backslash, body_ends s rest) refl
     ]
 
 -- a string reads back
-pub string_reads_back : (s rest : List ℕ) → string_at (34 ∷ (escaped quotable s ++ 34 ∷ rest)) ≡ reads (read_value (string s)) rest
+pub string_reads_back : (s rest : List ℕ) → string_at (quote ∷ (escaped quotable s ++ quote ∷ rest)) ≡ reads (read_value (string s)) rest
 unfolding string_at
 string_reads_back s rest =
-    let suffix = escaped quotable s ++ 34 ∷ rest in
+    let suffix = escaped quotable s ++ quote ∷ rest in
     let len : body_len suffix ≡ length (escaped quotable s) = first_bare_len (λ b. b == quote) suffix ∙ body_ends s rest in
     let closed : nat_lt (body_len suffix) (length suffix) ≡ true =
-    rw len (lt-ltb _ _ (omega (arith, length-append (escaped quotable s) (34 ∷ rest)))) in
-    let body : take (body_len suffix) suffix ≡ escaped quotable s = rw len (take_at (escaped quotable s) (34 ∷ rest) _ refl) in
-    let after : drop (body_len suffix) suffix ≡ 34 ∷ rest = rw len (drop_at (escaped quotable s) (34 ∷ rest) _ refl) in
+    rw len (lt-ltb _ _ (omega (arith, length-append (escaped quotable s) (quote ∷ rest)))) in
+    let body : take (body_len suffix) suffix ≡ escaped quotable s = rw len (take_at (escaped quotable s) (quote ∷ rest) _ refl) in
+    let after : drop (body_len suffix) suffix ≡ quote ∷ rest = rw len (drop_at (escaped quotable s) (quote ∷ rest) _ refl) in
     let last : drop (body_len suffix + 1) suffix ≡ rest = sym (drop-drop 1 (body_len suffix) suffix)
     ∙ ap (λ (xs : List ℕ). drop 1 xs) after in
     rw (closed, body, last) refl

@@ -10,7 +10,7 @@ use Rattle.lp_lines.specs.laws.BaseLaws.{base_bytes, is_tag_one_escape, spelled_
 use Rattle.lp_lines.specs.code.Bases.{owned, base_by_key, base_of, base_text, based_tag, by_key, first_repeated, in_order}
 use Rattle.lp_lines.specs.code.Bases.{keys_of, is_strictly_sorted}
 use Rattle.lp_format.specs.code.Light.{is_single_tag}
-use Rattle.lp_format.specs.format.Bytes.{is_one_of}
+use Rattle.lp_format.specs.format.Bytes.{backslash, comma, equals, is_one_of}
 use Rattle.lp_format.specs.format.Escapes.{without_escapes}
 use Rattle.lp_format.specs.format.Lines.{byte, separated_list, some_tags, tag, tag_set}
 use Rattle.lp_format.specs.laws.Meanings.{SeparatedBy, SeparatedAfterComma}
@@ -27,9 +27,9 @@ use Rattle.lp_lines.proofs.lemmas.series.SortedTags.{by_key_in_order, by_key_sam
 
 -- a part of the text that is no escape alone is its own logical text
 single_same : (known text : List ℕ) → is_one_escape known text ≡ false → is_shared known text ≡ true → without_escapes known text ≡ text
-single_same known text apart shared = elim (or_cases (is_one_escape known text) (not (is_one_of text 92)) shared) [
+single_same known text apart shared = elim (or_cases (is_one_escape known text) (not (is_one_of text backslash)) shared) [
   | inl alone ↦ absurd (false≢true (sym apart ∙ alone))
-  | inr plain ↦ without_escapes_same known text (no_backslash text (not-true (is_one_of text 92) plain))
+  | inr plain ↦ without_escapes_same known text (no_backslash text (not-true (is_one_of text backslash) plain))
 ]
 
 -- what is after a byte
@@ -48,16 +48,16 @@ pub record TagParts (text : List ℕ) (x : Pair Text Text) (rest : List ℕ) : T
   pub key_is : x.key ≡ read_text (escapable a_tag_key) (spelled a_tag_key text)
   pub value_is : x.value ≡ read_text (escapable a_tag_value) (spelled a_tag_value (value_part text))
   pub rest_is : rest ≡ drop (spelled_len a_tag_value (value_part text)) (value_part text)
-  pub text_is : text ≡ spelled a_tag_key text ++ 61 ∷ value_part text
+  pub text_is : text ≡ spelled a_tag_key text ++ equals ∷ value_part text
 
 pub tag_parts : (text : List ℕ) (x : Pair Text Text) (rest : List ℕ) → tag text ≡ reads x rest → TagParts text x rest
 unfolding tag
 tag_parts text x rest e =
     let p = pair_parts a_tag_key (name a_tag_value) text x rest e in
-    let key = name_parts a_tag_key text x.key (61 ∷ p.mid) p.key in
+    let key = name_parts a_tag_key text x.key (equals ∷ p.mid) p.key in
     let value = name_parts a_tag_value p.mid x.value rest p.value in
-    let there : drop (spelled_len a_tag_key text) text ≡ 61 ∷ p.mid = sym key.1 in
-    let past : value_part text ≡ p.mid = drop_past (spelled_len a_tag_key text) text 61 p.mid there in
+    let there : drop (spelled_len a_tag_key text) text ≡ equals ∷ p.mid = sym key.1 in
+    let past : value_part text ≡ p.mid = drop_past (spelled_len a_tag_key text) text equals p.mid there in
     record {
       key_is = key.0;
       value_is = rw past value.0;
@@ -66,10 +66,10 @@ tag_parts text x rest e =
     }
 
 -- a tag with what is after it
-one_tag : (text suffix key v value after flat shown read : List ℕ) → text ≡ 44 ∷ suffix → suffix ≡ key ++ 61 ∷ v → v ≡ value ++ after
-    → after ≡ flat → shown ≡ key → read ≡ value → text ≡ (44 ∷ shown ++ 61 ∷ read) ++ flat
+one_tag : (text suffix key v value after flat shown read : List ℕ) → text ≡ comma ∷ suffix → suffix ≡ key ++ equals ∷ v → v ≡ value ++ after
+    → after ≡ flat → shown ≡ key → read ≡ value → text ≡ (comma ∷ shown ++ equals ∷ read) ++ flat
 one_tag text suffix key v value after flat shown read a b c d e f =
-    let assoc = append_assoc key (61 ∷ value) flat in rw (a, b, c, d, e, f) (ap (λ (r : List ℕ). 44 ∷ r) (sym assoc))
+    let assoc = append_assoc key (equals ∷ value) flat in rw (a, b, c, d, e, f) (ap (λ (r : List ℕ). comma ∷ r) (sym assoc))
 
 -- tags that are parts of the text, none of their names an escape alone, are spelled as they are
 spells : (tags : List (Pair Text Text)) (text : List ℕ) → SeparatedAfterComma tag tags text []
@@ -113,7 +113,7 @@ ok_parts x y r s e =
     (ap (λ (a : Read (Option (List (Pair Text Text)))). a.value) same, ap (λ (a : Read (Option (List (Pair Text Text)))). a.rest) same)
 
 -- joined tags come after commas, with the comma before them
-separated_after : (tags : List (Pair Text Text)) (text mark rest : List ℕ) → text ≡ 44 ∷ mark → 0 < length tags
+separated_after : (tags : List (Pair Text Text)) (text mark rest : List ℕ) → text ≡ comma ∷ mark → 0 < length tags
     → SeparatedBy tag tags mark rest → SeparatedAfterComma tag tags text rest
 separated_after [] text mark rest e some h = absurd (omega arith)
 separated_after (t ∷ tags) text mark rest e some h = (mark, h.0, e, h.1, h.2)
@@ -121,22 +121,22 @@ separated_after (t ∷ tags) text mark rest e some h = (mark, h.0, e, h.1, h.2)
 -- the tags of a set are there, each after a comma, before what it leaves
 pub set_separated : (text left : List ℕ) (set : Option (List (Pair Text Text)))
     → tag_set text ≡ Ok (record { value = set; rest = left }) → SeparatedAfterComma tag (some_tags set) text left
-set_separated text left set e = go (byte 44 text) refl
+set_separated text left set e = go (byte comma text) refl
   where
     none : text ≡ left → None ≡ set → SeparatedAfterComma tag (some_tags set) text left
     none is same = rw (← same) is
 
-    after : (c : ℕ) (mark : List ℕ) (r : Reading (List (Pair Text Text))) → byte 44 text ≡ reads c mark
+    after : (c : ℕ) (mark : List ℕ) (r : Reading (List (Pair Text Text))) → byte comma text ≡ reads c mark
         → separated_list tag mark ≡ r → SeparatedAfterComma tag (some_tags set) text left
     after c mark miss m j = absurd (let h = rw (m, j) at e in cc)
     after c mark (fatal f) m j = absurd (let h = rw (m, j) at e in cc)
     after c mark (reads xs rest) m j =
         let same = ok_parts (Some xs) set rest left (rw (m, j) at e) in
         let full = (the_most_is_read tag (λ t. (tag_no_longer t).holds) mark xs rest).0 j in
-        let separated = separated_after xs text mark rest (byte_parts 44 text c mark m).1 full.some full.longest.separated in
+        let separated = separated_after xs text mark rest (byte_parts comma text c mark m).1 full.some full.longest.separated in
         rw (← same.0) (subst (λ (r : List ℕ). SeparatedAfterComma tag xs text r) same.1 separated)
 
-    go : (r : Reading ℕ) → byte 44 text ≡ r → SeparatedAfterComma tag (some_tags set) text left
+    go : (r : Reading ℕ) → byte comma text ≡ r → SeparatedAfterComma tag (some_tags set) text left
     go miss m = let same = ok_parts None set text left (rw m at e) in none same.1 same.0
     go (fatal f) m = let same = ok_parts None set text left (rw m at e) in none same.1 same.0
     go (reads c mark) m = after c mark (separated_list tag mark) m refl

@@ -7,16 +7,17 @@ use Rattle.lp_scan.specs.declared.sets.TokenKind.TheVariants.{Measurement, TagKe
 use Rattle.lp_scan.proofs.lemmas.lanes.LaneLemmas.{lanes_looked, lanes_of, lanes_or}
 use Rattle.lp_scan.proofs.lemmas.scan.MaskLemmas.{mask_is}
 use Rattle.lp_scan.proofs.lanes.end_mask.Goals as goal
+use Rattle.lp_format.specs.format.Bytes.{backslash, comma, quote}
 
 pub returns-in-Measurement : goal.returns-in-Measurement
 returns-in-Measurement c =
     let v = chunk c.args.at 16 c.args.bytes.now in
     let long = length-chunk c.args.at 16 c.args.bytes.now c.requires in
     let blanks = lanes_or _ _ v (lanes_of v 32 long) (lanes_of v 9 long) in
-    let stops = lanes_or _ _ v (lanes_or _ _ v blanks (lanes_of v 10 long)) (lanes_of v 92 long) in
+    let stops = lanes_or _ _ v (lanes_or _ _ v blanks (lanes_of v 10 long)) (lanes_of v backslash long) in
     rw c.in-Measurement.is
     (mask_is (is_end (stops_of Measurement)) c.args.bytes.now c.args.at 16 c.requires (omega arith) _ _
-    (lanes_or _ _ v stops (lanes_or _ _ v (lanes_of v 44 long) (lanes_of v 0 long))) (λ k. (c.type_inv.bytes k).fits) refl)
+    (lanes_or _ _ v stops (lanes_or _ _ v (lanes_of v comma long) (lanes_of v 0 long))) (λ k. (c.type_inv.bytes k).fits) refl)
 
 pub returns-in-TagKey : goal.returns-in-TagKey
 returns-in-TagKey c =
@@ -32,7 +33,7 @@ returns-in-TagValue c =
     let long = length-chunk c.args.at 16 c.args.bytes.now c.requires in
     rw c.in-TagValue.is
     (mask_is (is_end (stops_of TagValue)) c.args.bytes.now c.args.at 16 c.requires (omega arith) _ _
-    (lanes_or _ _ v (lanes_looked _ v c.by_low_half-in-TagValue.ensures) (lanes_of v 92 long))
+    (lanes_or _ _ v (lanes_looked _ v c.by_low_half-in-TagValue.ensures) (lanes_of v backslash long))
     (λ k. (c.type_inv.bytes k).fits) refl)
 
 pub returns-in-String : goal.returns-in-String
@@ -41,4 +42,4 @@ returns-in-String c =
     let long = length-chunk c.args.at 16 c.args.bytes.now c.requires in
     rw c.in-String.is
     (mask_is (is_end (stops_of String)) c.args.bytes.now c.args.at 16 c.requires (omega arith) _ _
-    (lanes_or _ _ v (lanes_of v 92 long) (lanes_of v 34 long)) (λ k. (c.type_inv.bytes k).fits) refl)
+    (lanes_or _ _ v (lanes_of v backslash long) (lanes_of v quote long)) (λ k. (c.type_inv.bytes k).fits) refl)

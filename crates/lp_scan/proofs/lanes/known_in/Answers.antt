@@ -2,7 +2,7 @@
 use Rattle.std.proofs.Common.{◌≡◌, refl, arith, inl, inr}
 use Rattle.std.proofs.lemmas.Simd.{length-chunk}
 use lib.Lanes.{chunk}
-use Rattle.lp_format.specs.format.Bytes.{is_one_of}
+use Rattle.lp_format.specs.format.Bytes.{backslash, comma, equals, is_one_of, quote}
 use Rattle.lp_scan.specs.code.Tokens.{known_of}
 use Rattle.lp_scan.specs.declared.sets.TokenKind.TheVariants.{Measurement, TagKey, String}
 use Rattle.lp_scan.proofs.lemmas.lanes.LaneLemmas.{lanes_of, lanes_or}
@@ -13,17 +13,17 @@ pub returns-in-Measurement : goal.returns-in-Measurement
 returns-in-Measurement c =
     let v = chunk c.args.at 64 c.args.bytes.now in
     let long = length-chunk c.args.at 64 c.args.bytes.now c.requires in
-    let name = lanes_or _ _ v (lanes_of v 44 long) (lanes_of v 32 long) in
+    let name = lanes_or _ _ v (lanes_of v comma long) (lanes_of v 32 long) in
     rw c.in-Measurement.is
     (mask_is (is_one_of (known_of Measurement)) c.args.bytes.now c.args.at 64 c.requires (omega arith) _ _
-    (lanes_or _ _ v name (lanes_of v 92 long)) (λ k. (c.type_inv.bytes k).fits) refl)
+    (lanes_or _ _ v name (lanes_of v backslash long)) (λ k. (c.type_inv.bytes k).fits) refl)
 
 pub returns-in-TagKey : goal.returns-in-TagKey
 returns-in-TagKey c =
     let v = chunk c.args.at 64 c.args.bytes.now in
     let long = length-chunk c.args.at 64 c.args.bytes.now c.requires in
-    let name = lanes_or _ _ v (lanes_of v 44 long) (lanes_of v 32 long) in
-    let lanes = lanes_or _ _ v name (lanes_or _ _ v (lanes_of v 61 long) (lanes_of v 92 long)) in
+    let name = lanes_or _ _ v (lanes_of v comma long) (lanes_of v 32 long) in
+    let lanes = lanes_or _ _ v name (lanes_or _ _ v (lanes_of v equals long) (lanes_of v backslash long)) in
     let same : known_of c.args.kind ≡ known_of TagKey = elim c.in-TagKey.is [
       | inl e ↦ rw e refl
       | inr (inl e) ↦ rw e refl
@@ -39,4 +39,4 @@ returns-in-String c =
     let long = length-chunk c.args.at 64 c.args.bytes.now c.requires in
     rw c.in-String.is
     (mask_is (is_one_of (known_of String)) c.args.bytes.now c.args.at 64 c.requires (omega arith) _ _
-    (lanes_or _ _ v (lanes_of v 34 long) (lanes_of v 92 long)) (λ k. (c.type_inv.bytes k).fits) refl)
+    (lanes_or _ _ v (lanes_of v quote long) (lanes_of v backslash long)) (λ k. (c.type_inv.bytes k).fits) refl)

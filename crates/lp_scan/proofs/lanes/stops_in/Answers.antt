@@ -7,6 +7,7 @@ use Rattle.lp_scan.specs.declared.sets.TokenKind.TheVariants.{Measurement, TagKe
 use Rattle.lp_scan.proofs.lemmas.lanes.LaneLemmas.{lanes_of, lanes_or}
 use Rattle.lp_scan.proofs.lemmas.scan.MaskLemmas.{mask_is}
 use Rattle.lp_scan.proofs.lanes.stops_in.Goals as goal
+use Rattle.lp_format.specs.format.Bytes.{comma, equals, quote}
 
 pub returns-in-Measurement : goal.returns-in-Measurement
 returns-in-Measurement c =
@@ -15,7 +16,7 @@ returns-in-Measurement c =
     let stops = lanes_or _ _ v (lanes_or _ _ v (lanes_of v 32 long) (lanes_of v 9 long)) (lanes_of v 10 long) in
     rw c.in-Measurement.is
     (mask_is (stops_of Measurement) c.args.bytes.now c.args.at 64 c.requires (omega arith) _ _
-    (lanes_or _ _ v stops (lanes_or _ _ v (lanes_of v 44 long) (lanes_of v 0 long))) (λ k. (c.type_inv.bytes k).fits) refl)
+    (lanes_or _ _ v stops (lanes_or _ _ v (lanes_of v comma long) (lanes_of v 0 long))) (λ k. (c.type_inv.bytes k).fits) refl)
 
 pub returns-in-TagKey : goal.returns-in-TagKey
 returns-in-TagKey c =
@@ -25,7 +26,7 @@ returns-in-TagKey c =
     let same : stops_of c.args.kind ≡ stops_of TagKey = elim c.in-TagKey.is [ inl e ↦ rw e refl | inr e ↦ rw e refl ] in
     rw same
     (mask_is (stops_of TagKey) c.args.bytes.now c.args.at 64 c.requires (omega arith) _ _
-    (lanes_or _ _ v stops (lanes_of v 61 long)) (λ k. (c.type_inv.bytes k).fits) refl)
+    (lanes_or _ _ v stops (lanes_of v equals long)) (λ k. (c.type_inv.bytes k).fits) refl)
 
 pub returns-in-TagValue : goal.returns-in-TagValue
 returns-in-TagValue c =
@@ -34,12 +35,12 @@ returns-in-TagValue c =
     let stops = lanes_or _ _ v (lanes_or _ _ v (lanes_of v 32 long) (lanes_of v 9 long)) (lanes_of v 10 long) in
     rw c.in-TagValue.is
     (mask_is (stops_of TagValue) c.args.bytes.now c.args.at 64 c.requires (omega arith) _ _
-    (lanes_or _ _ v stops (lanes_of v 44 long)) (λ k. (c.type_inv.bytes k).fits) refl)
+    (lanes_or _ _ v stops (lanes_of v comma long)) (λ k. (c.type_inv.bytes k).fits) refl)
 
 pub returns-in-String : goal.returns-in-String
 returns-in-String c =
     let v = chunk c.args.at 64 c.args.bytes.now in
     let long = length-chunk c.args.at 64 c.args.bytes.now c.requires in
     rw c.in-String.is
-    (mask_is (stops_of String) c.args.bytes.now c.args.at 64 c.requires (omega arith) _ _ (lanes_of v 34 long)
+    (mask_is (stops_of String) c.args.bytes.now c.args.at 64 c.requires (omega arith) _ _ (lanes_of v quote long)
     (λ k. (c.type_inv.bytes k).fits) refl)

@@ -19,6 +19,7 @@ use Rattle.lp_format.proofs.lemmas.tokens.EscapeLemmas.{is_escaped_more}
 use Rattle.lp_scan.proofs.lemmas.scan.EscapedMasks.{of_places}
 use Rattle.lp_scan.proofs.lemmas.scan.MaskBits.{and_of_maps, not_of_map}
 use Rattle.lp_scan.proofs.lemmas.scan.MaskLemmas.{mask_mod}
+use Rattle.lp_format.specs.format.Bytes.{backslash}
 
 -- the marks that are not escaped are the bare ones
 pub tells_bare : (marks m e r : ℕ) → TellsEscaped m e → r ≡ bit_and marks (bit_not w64 e) → TellsBare marks m r
@@ -88,8 +89,8 @@ pub mask_next : (p : ℕ → Bool) (at n : ℕ) → mask_at p (at + 1) n ≡ mas
 mask_next p at n = ap mask_l (range_next p n at)
 
 -- only a bare backslash escapes what comes after it
-pub escapes_next : (text : List ℕ) (k : ℕ) → k < length text → is_escaped_after (take (k + 1) text) ≡ is_bare_at (λ b. b == 92) text k
-escapes_next text k h = is_escaped_more text k h ∙ and_comm (not (is_escaped_after (take k text))) (slice_index text k == 92)
+pub escapes_next : (text : List ℕ) (k : ℕ) → k < length text → is_escaped_after (take (k + 1) text) ≡ is_bare_at (λ b. b == backslash) text k
+escapes_next text k h = is_escaped_more text k h ∙ and_comm (not (is_escaped_after (take k text))) (slice_index text k == backslash)
 
 -- an escaped byte is not bare
 pub escaped_is_not_bare : (passes : ℕ → Bool) (text : List ℕ) (k : ℕ) → is_escaped_after (take k text) ≡ true
@@ -98,30 +99,30 @@ escaped_is_not_bare passes text k h = and_right (passes (slice_index text k)) (n
 
 -- after a load that begins at a bare place: a bare backslash at its end escapes one byte, and then comes a bare place
 module _ (text : List ℕ) (at : ℕ) (room : at + 64 < length text) (last : ℕ)
-    (is : last ≡ cond (is_bare_at (λ b. b == 92) text (at + 63)) 1 0) where
-  flag : is_escaped_after (take (at + 64) text) ≡ is_bare_at (λ b. b == 92) text (at + 63)
+    (is : last ≡ cond (is_bare_at (λ b. b == backslash) text (at + 63)) 1 0) where
+  flag : is_escaped_after (take (at + 64) text) ≡ is_bare_at (λ b. b == backslash) text (at + 63)
   flag =
       let place : at + 64 ≡ at + 63 + 1 = omega arith in
       ap (λ (n : ℕ). is_escaped_after (take n text)) place ∙ escapes_next text (at + 63) (omega arith)
 
   pub at_most_one : last ≤ 1
-  at_most_one = elim (cases_Bool (is_bare_at (λ b. b == 92) text (at + 63))) [
+  at_most_one = elim (cases_Bool (is_bare_at (λ b. b == backslash) text (at + 63))) [
     | inl set ↦ omega (arith, is ∙ ap (λ (t : Bool). cond t 1 0) set)
     | inr clear ↦ omega (arith, is ∙ ap (λ (t : Bool). cond t 1 0) clear)
   ]
 
   pub one_escaped : 0 < last → is_escaped_after (take (at + 64) text) ≡ true
-  one_escaped some = elim (cases_Bool (is_bare_at (λ b. b == 92) text (at + 63))) [
+  one_escaped some = elim (cases_Bool (is_bare_at (λ b. b == backslash) text (at + 63))) [
     | inl set ↦ flag ∙ set
     | inr clear ↦ absurd (omega (arith, is ∙ ap (λ (t : Bool). cond t 1 0) clear))
   ]
 
   pub next_bare : IsBareAfter (take (at + (64 + last)) text)
-  next_bare = elim (cases_Bool (is_bare_at (λ b. b == 92) text (at + 63))) [
+  next_bare = elim (cases_Bool (is_bare_at (λ b. b == backslash) text (at + 63))) [
     | inl set ↦
         let place : at + (64 + last) ≡ at + 64 + 1 = omega (arith, is ∙ ap (λ (t : Bool). cond t 1 0) set) in
         ap (λ (n : ℕ). is_escaped_after (take n text)) place ∙ escapes_next text (at + 64) room
-        ∙ escaped_is_not_bare (λ b. b == 92) text (at + 64) (flag ∙ set)
+        ∙ escaped_is_not_bare (λ b. b == backslash) text (at + 64) (flag ∙ set)
     | inr clear ↦
         let place : at + (64 + last) ≡ at + 64 = omega (arith, is ∙ ap (λ (t : Bool). cond t 1 0) clear) in
         ap (λ (n : ℕ). is_escaped_after (take n text)) place ∙ flag ∙ clear
@@ -148,7 +149,7 @@ module _ (passes : ℕ → Bool) (text : List ℕ) (at : ℕ) (room : at + 64 < 
     )
 
     -- none is: the next load begins at a bare place too
-    pub to_next : (last : ℕ) → 64 ≤ r → last ≡ cond (is_bare_at (λ b. b == 92) text (at + 63)) 1 0 → IsPassed passes text (at + (64 + last))
+    pub to_next : (last : ℕ) → 64 ≤ r → last ≡ cond (is_bare_at (λ b. b == backslash) text (at + 63)) 1 0 → IsPassed passes text (at + (64 + last))
     to_next last far is = record {
       within = omega (arith, at_most_one text at room last is);
       is_bare = λ _. next_bare text at room last is;

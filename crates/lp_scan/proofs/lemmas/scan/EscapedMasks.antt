@@ -13,6 +13,7 @@ use Rattle.lp_scan.specs.code.Lanes.{mask_of}
 use Rattle.lp_scan.specs.code.Scan.{mask_at, TellsEscaped}
 use Rattle.lp_format.proofs.lemmas.tokens.EscapeLemmas.{is_escaped_more}
 use Rattle.lp_scan.proofs.lemmas.scan.MaskBits.{differs, mask_or, mask_xor}
+use Rattle.lp_format.specs.format.Bytes.{backslash}
 
 -- In what follows `ms` are the backslashes from a place on, `odd` says whether that place is an odd one, `after` whether a
 -- backslash comes before it, and `e` whether it is escaped.
@@ -159,14 +160,14 @@ module _ (ms : List Bool) (long : length ms ≡ 64) where
 module _ (text : List ℕ) where
   -- which of them are escaped
   escaped_places : (n at : ℕ) (e : Bool) → at + n ≤ length text → is_escaped_after (take at text) ≡ e
-      → escapes e (map (λ k. slice_index text k == 92) (range_with_len at n)) ≡ map
+      → escapes e (map (λ k. slice_index text k == backslash) (range_with_len at n)) ≡ map
       (λ k. is_escaped_after (take k text)) (range_with_len at n)
   escaped_places zero at e room is = refl
   escaped_places (suc n) at e room is =
-      let next : is_escaped_after (take (at + 1) text) ≡ (not e && slice_index text at == 92) =
-      is_escaped_more text at (omega arith) ∙ ap (λ (f : Bool). not f && slice_index text at == 92) is in
+      let next : is_escaped_after (take (at + 1) text) ≡ (not e && slice_index text at == backslash) =
+      is_escaped_more text at (omega arith) ∙ ap (λ (f : Bool). not f && slice_index text at == backslash) is in
       ap₂ (λ (b : Bool) (bs : List Bool). b ∷ bs) (sym is)
-      (escaped_places n (at + 1) (not e && slice_index text at == 92) (omega arith) next)
+      (escaped_places n (at + 1) (not e && slice_index text at == backslash) (omega arith) next)
 
   -- a mask of bytes is one of their places
   pub of_places : (test : ℕ → Bool) (at n : ℕ) → at + n ≤ length text
@@ -179,8 +180,8 @@ module _ (text : List ℕ) where
 pub tells_escaped : (m r : ℕ)
     → r ≡ bit_xor (bit_xor ((bit_or (m * 2 % 2 ^ 64) odd_places + (2 ^ 64 - m)) % 2 ^ 64) odd_places) m → TellsEscaped m r
 tells_escaped m r made text at room bare is =
-    let ms = map (λ k. slice_index text k == 92) (range_with_len at 64) in
-    let places : m ≡ mask_l ms = is ∙ of_places text (λ b. b == 92) at 64 room in
-    let long : length ms ≡ 64 = length-map (range_with_len at 64) (λ k. slice_index text k == 92) ∙ length-range_with_len at 64 in
+    let ms = map (λ k. slice_index text k == backslash) (range_with_len at 64) in
+    let places : m ≡ mask_l ms = is ∙ of_places text (λ b. b == backslash) at 64 room in
+    let long : length ms ≡ 64 = length-map (range_with_len at 64) (λ k. slice_index text k == backslash) ∙ length-range_with_len at 64 in
     made ∙ ap (λ (n : ℕ). bit_xor (bit_xor ((bit_or (n * 2 % 2 ^ 64) odd_places + (2 ^ 64 - n)) % 2 ^ 64) odd_places) n) places
     ∙ escapes_are ms long ∙ ap mask_l (escaped_places text 64 at false room bare)

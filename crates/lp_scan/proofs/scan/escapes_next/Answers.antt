@@ -3,7 +3,8 @@ use Rattle.std.specs.Prelude.{◌==◌}
 use Rattle.lp_format.specs.format.Escapes.{is_bare_at}
 use Rattle.lp_scan.proofs.lemmas.scan.BareMasks.{highest}
 use Rattle.lp_scan.proofs.scan.escapes_next.Goals as goal
+use Rattle.lp_format.specs.format.Bytes.{backslash}
 
 pub returns : goal.returns
 returns c text at room bare is =
-    ap (λ (m : ℕ). m / 2 ^ 63) (c.bare.ensures (λ b. b == 92) text at room bare is is) ∙ highest (is_bare_at (λ b. b == 92) text) at
+    ap (λ (m : ℕ). m / 2 ^ 63) (c.bare.ensures (λ b. b == backslash) text at room bare is is) ∙ highest (is_bare_at (λ b. b == backslash) text) at

@@ -14,6 +14,7 @@ use Rattle.lp_scan.proofs.lemmas.scan.BareMasks.{at_most_one, next_bare, one_esc
 use Rattle.lp_scan.proofs.lemmas.scan.MaskPlaces.{mask_after}
 use Rattle.lp_format.proofs.lemmas.split.SplitBare.{is_escaped-nil}
 use Rattle.lp_split.proofs.lemmas.split.SplitStretches.{bare_joined}
+use Rattle.lp_format.specs.format.Bytes.{backslash, comma, newline, quote}
 
 -- what was seen, as a record
 abbrev pub ahead_of : ℕ → ℕ → ℕ → ℕ → Ahead
@@ -21,7 +22,7 @@ ahead_of passed s e c = record { passed = passed; stops = s; equals = e; commas 
 
 -- a newline or a quote
 abbrev pub ends_plain : ℕ → Bool
-ends_plain b = b == 10 || b == 34
+ends_plain b = b == newline || b == quote
 
 -- of no bytes nothing is seen
 pub nothing_ahead : (text : List ℕ) → IsAhead text (ahead_of 0 0 0 0)
@@ -100,13 +101,13 @@ module _ (text : List ℕ) (a : Ahead) (are : IsAhead text a) (run : ℕ) (insid
             ∙ ap (λ (k : ℕ). is_escaped_after (take k text)) back_count ∙ are.escaped (omega arith);
         stops_are = one_mask ends_plain a.stops are.stops_are;
         equals_are = one_mask (λ b. b == 61) a.equals are.equals_are;
-        commas_are = one_mask (λ b. b == 44) a.commas are.commas_are;
+        commas_are = one_mask (λ b. b == comma) a.commas are.commas_are;
       }
 
 -- what a load shows
 pub load_ahead : (text : List ℕ) (at s e c last : ℕ) → at + 64 < length text → IsBareAfter (take at text)
     → s ≡ mask_at (is_bare_at ends_plain text) at 64 → e ≡ mask_at (is_bare_at (λ b. b == 61) text) at 64
-    → c ≡ mask_at (is_bare_at (λ b. b == 44) text) at 64 → last ≡ cond (is_bare_at (λ b. b == 92) text (at + 63)) 1 0
+    → c ≡ mask_at (is_bare_at (λ b. b == comma) text) at 64 → last ≡ cond (is_bare_at (λ b. b == backslash) text (at + 63)) 1 0
     → (seen : IsAhead (drop at text) (ahead_of (64 + last) s e c)) × (seen.count ≡ 64)
 load_ahead text at s e c last room is_bare s_is e_is c_is last_is =
     let long = length-drop at text in
@@ -121,7 +122,7 @@ load_ahead text at s e c last room is_bare s_is e_is c_is last_is =
         escaped = λ h. sym (escaped_place text at is_bare 64) ∙ one_escaped text at room last last_is (omega arith);
         stops_are = s_is ∙ mask_from text at is_bare ends_plain 64;
         equals_are = e_is ∙ mask_from text at is_bare (λ b. b == 61) 64;
-        commas_are = c_is ∙ mask_from text at is_bare (λ b. b == 44) 64;
+        commas_are = c_is ∙ mask_from text at is_bare (λ b. b == comma) 64;
       },
       refl,
     )

@@ -12,13 +12,14 @@ use Rattle.lp_split.specs.declared.split.resumed.Search.TheVariants.{Begins, Qui
 use Rattle.lp_format.specs.format.Pieces.{begins_comment, IsLastPiece}
 use Rattle.lp_split.specs.code.Searches.{NeverComment, SearchesOn}
 use Rattle.lp_format.proofs.lemmas.split.SplitPieces.{cut_of_other, front_begins_none, IsLastPiece-extend}
+use Rattle.lp_format.specs.format.Bytes.{hash, newline, space, tab}
 
 -- a text without a cut up to a place, and without a newline after it, is one piece
 pub still_last : (dialect : Dialect) (text after : List ℕ) (quiet : ℕ) → IsLastPiece dialect (take quiet text)
-    → after ≡ drop quiet text → All (λ b. b ≢ 10) after → IsLastPiece dialect text
+    → after ≡ drop quiet text → All (λ b. b ≢ newline) after → IsLastPiece dialect text
 still_last dialect text after quiet h e n =
     subst (IsLastPiece dialect) (take-append-drop quiet text)
-    (IsLastPiece-extend dialect (take quiet text) (drop quiet text) h (subst (All (λ b. b ≢ 10)) e n))
+    (IsLastPiece-extend dialect (take quiet text) (drop quiet text) h (subst (All (λ b. b ≢ newline)) e n))
 
 -- that is known of all of it
 pub all_quiet : (dialect : Dialect) (text : List ℕ) → IsLastPiece dialect text → SearchesOn dialect text (Err (Quiet (length text)))
@@ -26,11 +27,11 @@ all_quiet dialect text h =
     (h, (omega arith, subst (IsLastPiece dialect) (sym (take_all (length text) text (omega arith))) h))
 
 -- a text with a newline that begins no comment begins none whatever comes after it
-stays_other : (text rest : List ℕ) → begins_comment text ≡ false → ¬ All (λ b. b ≢ 10) text → begins_comment (text ++ rest) ≡ false
-stays_other [] rest e some = absurd (some (All-nil (λ b. b ≢ 10)))
+stays_other : (text rest : List ℕ) → begins_comment text ≡ false → ¬ All (λ b. b ≢ newline) text → begins_comment (text ++ rest) ≡ false
+stays_other [] rest e some = absurd (some (All-nil (λ b. b ≢ newline)))
 stays_other (x ∷ text) rest e some = elim (cases_eq x 10) [
   | inl n ↦ rw n refl
-  | inr n ↦ go (eqb x 35) (eqb x 32 || eqb x 9) e (λ f. stays_other text rest f (λ all. some (All-cons (λ b. b ≢ 10) x text n all)))
+  | inr n ↦ go (eqb x hash) (eqb x space || eqb x tab) e (λ f. stays_other text rest f (λ all. some (All-cons (λ b. b ≢ newline) x text n all)))
 ]
   where
     go : (h s : Bool) → (h || s && begins_comment text) ≡ false
@@ -41,14 +42,14 @@ stays_other (x ∷ text) rest e some = elim (cases_eq x 10) [
     go false false e k = refl
 
 -- so it is where the text is one piece
-pub never_comment : (dialect : Dialect) (text after : List ℕ) (n : ℕ) → after ≡ drop n text → ¬ All (λ b. b ≢ 10) after
+pub never_comment : (dialect : Dialect) (text after : List ℕ) (n : ℕ) → after ≡ drop n text → ¬ All (λ b. b ≢ newline) after
     → IsLastPiece dialect text → NeverComment dialect text
 never_comment Crate text after n e some h = tt
 never_comment Strict text after n e some (inl h) =
-    absurd (some (subst (All (λ b. b ≢ 10)) (sym e) (All-drop (λ b. b ≢ 10) n text h.1)))
+    absurd (some (subst (All (λ b. b ≢ newline)) (sym e) (All-drop (λ b. b ≢ newline) n text h.1)))
 never_comment Strict text after n e some (inr h) =
     λ rest. stays_other text rest h.0
-    (λ all. some (subst (All (λ b. b ≢ 10)) (sym e) (All-drop (λ b. b ≢ 10) n text all)))
+    (λ all. some (subst (All (λ b. b ≢ newline)) (sym e) (All-drop (λ b. b ≢ newline) n text all)))
 
 -- such a text begins no comment
 pub no_comment : (text : List ℕ) → NeverComment Strict text → begins_comment text ≡ false

@@ -7,18 +7,19 @@ use Rattle.lp_format.specs.format.Escapes.{is_escaped_after, IsBareAfter}
 use Rattle.lp_split.specs.code.Tracks.{EndsIn, Steps}
 use Rattle.lp_format.proofs.lemmas.tokens.EscapeLemmas.{is_escaped_push}
 use Rattle.lp_split.proofs.lemmas.split.SplitWalk.{IsIn-escaped}
+use Rattle.lp_format.specs.format.Bytes.{backslash}
 
 -- a bare byte escapes the next one where it is a backslash
-escapes_next : (bytes : List ℕ) (b : ℕ) → IsBareAfter bytes → is_escaped_after (bytes ++ b ∷ []) ≡ (b == 92)
-escapes_next bytes b h = is_escaped_push bytes b ∙ ap (λ (t : Bool). not t && b == 92) h
+escapes_next : (bytes : List ℕ) (b : ℕ) → IsBareAfter bytes → is_escaped_after (bytes ++ b ∷ []) ≡ (b == backslash)
+escapes_next bytes b h = is_escaped_push bytes b ∙ ap (λ (t : Bool). not t && b == backslash) h
 
 -- an escaped byte escapes nothing
 then_bare : (bytes : List ℕ) (b : ℕ) → is_escaped_after bytes ≡ true → IsBareAfter (bytes ++ b ∷ [])
-then_bare bytes b h = is_escaped_push bytes b ∙ ap (λ (t : Bool). not t && b == 92) h
+then_bare bytes b h = is_escaped_push bytes b ∙ ap (λ (t : Bool). not t && b == backslash) h
 
 -- a bare byte leads to another place, where it leads to this part and these counts
 pub bare_step : (place : Place) (part next to : Part) (b e c : ℕ) (flag : Bool) → place.part ≡ part → place.is_escaped ≡ false
-    → to ≡ next → flag ≡ (b == 92)
+    → to ≡ next → flag ≡ (b == backslash)
     → ((bytes : List ℕ) → IsBareAfter bytes → EndsIn part place.equals place.commas bytes → EndsIn next e c (bytes ++ b ∷ []))
     → Steps place b (Some (record { part = to; is_escaped = flag; equals = e; commas = c }))
 bare_step place part next to b e c flag is_part is_bare is_next flag_is step = λ bytes h.

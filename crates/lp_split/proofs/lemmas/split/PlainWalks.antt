@@ -27,6 +27,7 @@ use Rattle.lp_split.proofs.lemmas.split.SplitCounts.{few_bare}
 use Rattle.lp_split.proofs.lemmas.split.SplitJumps.{LooksFor, looks_for_two, passed_search, passed_to_stop, found_after}
 use Rattle.lp_split.proofs.lemmas.split.SplitJumps.{search_ends, search_goes_on, search_stops}
 use Rattle.lp_split.proofs.lemmas.split.SplitWalk.{count_bare_more}
+use Rattle.lp_format.specs.format.Bytes.{backslash, comma, quote}
 
 -- a walk as a record
 abbrev pub walk_at : ℕ → ℕ → ℕ → Bool → Ahead → Walk
@@ -39,7 +40,7 @@ none = ahead_of 0 0 0 0
 -- after a newline or a quote nothing is escaped
 pub bare_past : (text : List ℕ) (at : ℕ) → at < length text → ends_plain (slice_index text at) ≡ true → IsBareAfter (take (at + 1) text)
 bare_past text at h stops =
-    let other : slice_index text at == 92 ≡ false = grind (arith, nat_tests) in
+    let other : slice_index text at == backslash ≡ false = grind (arith, nat_tests) in
     is_escaped_more text at h ∙ ap (λ (t : Bool). not (is_escaped_after (take at text)) && t) other
     ∙ and_right (not (is_escaped_after (take at text))) false refl
 
@@ -115,9 +116,9 @@ module _ (text : List ℕ) (a : Ahead) (are : IsAhead text a) where
     walk_ahead = record {
       passed = stop_passed;
       equals_are = λ _ _. low_counts (λ b. b == 61) a.equals are.equals_are;
-      commas_are = λ _ _. low_counts (λ b. b == 44) a.commas are.commas_are;
+      commas_are = λ _ _. low_counts (λ b. b == comma) a.commas are.commas_are;
       few_equals = low_few (λ b. b == 61) a.equals are.equals_are;
-      few_commas = low_few (λ b. b == 44) a.commas are.commas_are;
+      few_commas = low_few (λ b. b == comma) a.commas are.commas_are;
       ends = λ _. passed_to_stop ends_plain text run stop_within stop_ends stop_passed;
       seen = stop_later;
     }
@@ -158,9 +159,9 @@ module _ (text : List ℕ) (a : Ahead) (are : IsAhead text a) where
     walk_starts = record {
       passed = record { within = are.fits; is_bare = are.is_bare; passed = none_seen };
       equals_are = λ _ _. all_counts (λ b. b == 61) a.equals are.equals_are;
-      commas_are = λ _ _. all_counts (λ b. b == 44) a.commas are.commas_are;
+      commas_are = λ _ _. all_counts (λ b. b == comma) a.commas are.commas_are;
       few_equals = omega (arith, all_counts (λ b. b == 61) a.equals are.equals_are, few_bare (λ b. b == 61) text a.passed are.fits);
-      few_commas = omega (arith, all_counts (λ b. b == 44) a.commas are.commas_are, few_bare (λ b. b == 44) text a.passed are.fits);
+      few_commas = omega (arith, all_counts (λ b. b == comma) a.commas are.commas_are, few_bare (λ b. b == comma) text a.passed are.fits);
       ends = λ e. absurd (cc e);
       seen = nothing_ahead _;
     }
@@ -170,7 +171,7 @@ module _ (text : List ℕ) (w : Walk) (room : w.at + 64 < length text) (going : 
     (walked : IsWalked text w) (run x y : ℕ)
     (found : run ≡ first_set (mask_at (is_bare_at ends_plain text) w.at 64) 64) (few_x : x ≤ run) (few_y : y ≤ run)
     (x_is : x ≡ count_by (is_bare_at (λ b. b == 61) text) (range_with_len w.at run))
-    (y_is : y ≡ count_by (is_bare_at (λ b. b == 44) text) (range_with_len w.at run)) where
+    (y_is : y ≡ count_by (is_bare_at (λ b. b == comma) text) (range_with_len w.at run)) where
   -- what was counted, and what the load adds
   both : (p : ℕ → Bool) (n m next : ℕ) → n ≡ count_by p (bare (take w.at text))
       → m ≡ count_by (is_bare_at p text) (range_with_len w.at run)
@@ -188,8 +189,8 @@ module _ (text : List ℕ) (w : Walk) (room : w.at + 64 < length text) (going : 
         passed = stop.0;
         equals_are = λ _ _. both (λ b. b == 61) w.equals x (w.at + run) (walked.equals_are (omega arith) (λ e. absurd (cc))) x_is
             (count_along (λ b. b == 61) text run w.at (omega arith));
-        commas_are = λ _ _. both (λ b. b == 44) w.commas y (w.at + run) (walked.commas_are (omega arith) (λ e. absurd (cc))) y_is
-            (count_along (λ b. b == 44) text run w.at (omega arith));
+        commas_are = λ _ _. both (λ b. b == comma) w.commas y (w.at + run) (walked.commas_are (omega arith) (λ e. absurd (cc))) y_is
+            (count_along (λ b. b == comma) text run w.at (omega arith));
         few_equals = omega (arith, walked.few_equals);
         few_commas = omega (arith, walked.few_commas);
         ends = λ _. passed_to_stop ends_plain text (w.at + run) (omega arith) stop.1 stop.0;
@@ -197,7 +198,7 @@ module _ (text : List ℕ) (w : Walk) (room : w.at + 64 < length text) (going : 
       }
 
   -- past the load and what it escapes
-  pub walk_past : (last : ℕ) → run ≡ 64 → last ≡ cond (is_bare_at (λ b. b == 92) text (w.at + 63)) 1 0
+  pub walk_past : (last : ℕ) → run ≡ 64 → last ≡ cond (is_bare_at (λ b. b == backslash) text (w.at + 63)) 1 0
       → IsWalked text (walk_at (w.at + 64 + last) (w.equals + x) (w.commas + y) false none)
   walk_past last whole last_is =
       let place : w.at + (64 + last) ≡ w.at + 64 + last = omega arith in
@@ -211,8 +212,8 @@ module _ (text : List ℕ) (w : Walk) (room : w.at + 64 < length text) (going : 
             (to_next ends_plain text w.at room walked.passed run found last (omega arith) last_is);
         equals_are = λ _ _. both (λ b. b == 61) w.equals x next (walked.equals_are (omega arith) (λ e. absurd (cc))) x_is
             (past (λ b. b == 61));
-        commas_are = λ _ _. both (λ b. b == 44) w.commas y next (walked.commas_are (omega arith) (λ e. absurd (cc))) y_is
-            (past (λ b. b == 44));
+        commas_are = λ _ _. both (λ b. b == comma) w.commas y next (walked.commas_are (omega arith) (λ e. absurd (cc))) y_is
+            (past (λ b. b == comma));
         few_equals = omega (arith, walked.few_equals);
         few_commas = omega (arith, walked.few_commas);
         ends = λ e. absurd (cc e);
@@ -239,34 +240,34 @@ walk_to_newline text w run room walked found short newline =
 module _ (text rest : List ℕ) (w : Walk) (same : rest ≡ drop w.at text) (going : w.ended ≡ false)
     (walked : IsWalked text w) where
   -- it looks for backslashes, newlines and quotes
-  looks : LooksFor (is_byte3 92 10 34) ends_plain
-  looks = looks_for_two 10 34 refl
+  looks : LooksFor (is_byte3 backslash 10 quote) ends_plain
+  looks = looks_for_two 10 quote refl
 
   -- it finds nothing: the stretch ends with the text
-  pub walk_to_end : IsFirstByte (is_byte3 92 10 34) rest None → IsWalked text (walk_at (length text) w.equals w.commas true none)
+  pub walk_to_end : IsFirstByte (is_byte3 backslash 10 quote) rest None → IsWalked text (walk_at (length text) w.equals w.commas true none)
   walk_to_end none =
       let to : w.at + length rest ≡ length text = omega (arith, ap length same, length-drop w.at text) in
       record {
         passed = subst (IsPassed ends_plain text) to
-            (passed_search ends_plain text (is_byte3 92 10 34) looks rest w.at (length rest) same (omega arith) none walked.passed);
+            (passed_search ends_plain text (is_byte3 backslash 10 quote) looks rest w.at (length rest) same (omega arith) none walked.passed);
         equals_are = λ h _. absurd (omega arith);
         commas_are = λ h _. absurd (omega arith);
         few_equals = omega (arith, walked.few_equals);
         few_commas = omega (arith, walked.few_commas);
-        ends = λ _. search_ends (is_byte3 92 10 34) ends_plain looks text rest w.at same walked.passed none;
+        ends = λ _. search_ends (is_byte3 backslash 10 quote) ends_plain looks text rest w.at same walked.passed none;
         seen = nothing_ahead _;
       }
 
-  module _ (run x y : ℕ) (found : IsFirstByte (is_byte3 92 10 34) rest (Some run))
-      (x_is : x ≡ count_by (λ b. b == 61) (take run rest)) (y_is : y ≡ count_by (λ b. b == 44) (take run rest)) where
+  module _ (run x y : ℕ) (found : IsFirstByte (is_byte3 backslash 10 quote) rest (Some run))
+      (x_is : x ≡ count_by (λ b. b == 61) (take run rest)) (y_is : y ≡ count_by (λ b. b == comma) (take run rest)) where
     -- the bytes before it are passed, and it is in the text
     here : IsPassed ends_plain text (w.at + run) × (w.at + run < length text)
-    here = found_after (is_byte3 92 10 34) ends_plain looks text rest w.at same walked.passed run found
+    here = found_after (is_byte3 backslash 10 quote) ends_plain looks text rest w.at same walked.passed run found
 
     -- none of the bytes before it is escaped
     clear : (k : ℕ) → k < run → IsBareAfter (take (w.at + k) text)
     clear k h =
-        (passed_search ends_plain text (is_byte3 92 10 34) looks rest w.at k same (omega (arith, here.1))
+        (passed_search ends_plain text (is_byte3 backslash 10 quote) looks rest w.at k same (omega (arith, here.1))
         (λ j from to. found.0.before j from (omega arith)) walked.passed).is_bare (omega (arith, here.1))
 
     -- what was counted, and what comes before it
@@ -281,19 +282,19 @@ module _ (text rest : List ℕ) (w : Walk) (same : rest ≡ drop w.at text) (goi
     few p m is = omega (arith, is, count_by-le-length p (take run rest), length-take run rest)
 
     -- it finds the end of the stretch
-    pub walk_to_found : slice_index text (w.at + run) ≢ 92 → IsWalked text (walk_at (w.at + run) (w.equals + x) (w.commas + y) true none)
+    pub walk_to_found : slice_index text (w.at + run) ≢ backslash → IsWalked text (walk_at (w.at + run) (w.equals + x) (w.commas + y) true none)
     walk_to_found other = record {
       passed = here.0;
       equals_are = λ h _. counted (λ b. b == 61) w.equals x (walked.equals_are (omega arith) (λ e. absurd (cc))) x_is;
-      commas_are = λ h _. counted (λ b. b == 44) w.commas y (walked.commas_are (omega arith) (λ e. absurd (cc))) y_is;
+      commas_are = λ h _. counted (λ b. b == comma) w.commas y (walked.commas_are (omega arith) (λ e. absurd (cc))) y_is;
       few_equals = omega (arith, walked.few_equals, few (λ b. b == 61) x x_is);
-      few_commas = omega (arith, walked.few_commas, few (λ b. b == 44) y y_is);
-      ends = λ _. search_stops (is_byte3 92 10 34) ends_plain looks text rest w.at same walked.passed run found other;
+      few_commas = omega (arith, walked.few_commas, few (λ b. b == comma) y y_is);
+      ends = λ _. search_stops (is_byte3 backslash 10 quote) ends_plain looks text rest w.at same walked.passed run found other;
       seen = nothing_ahead _;
     }
 
     -- a backslash and what it escapes are not counted
-    not_counted : (p : ℕ → Bool) → p 92 ≡ false → slice_index text (w.at + run) ≡ 92 → w.at + run + 1 < length text
+    not_counted : (p : ℕ → Bool) → p backslash ≡ false → slice_index text (w.at + run) ≡ backslash → w.at + run + 1 < length text
         → count_by p (bare (take (w.at + run + 1 + 1) text)) ≡ count_by p (bare (take (w.at + run) text))
     not_counted p no_mark mark inside =
         let at = w.at + run in
@@ -305,19 +306,19 @@ module _ (text rest : List ℕ) (w : Walk) (same : rest ≡ drop w.at text) (goi
         count_escaped p text (at + 1) inside flag ∙ one ∙ omega arith
 
     -- it finds a backslash: past it and what it escapes
-    pub walk_on : (next : ℕ) → slice_index text (w.at + run) ≡ 92 → next ≡ min ((w.at + run) + 2) (length text)
+    pub walk_on : (next : ℕ) → slice_index text (w.at + run) ≡ backslash → next ≡ min ((w.at + run) + 2) (length text)
         → IsWalked text (walk_at next (w.equals + x) (w.commas + y) false none)
     walk_on next mark to =
-        let on : (p : ℕ → Bool) (n m : ℕ) → p 92 ≡ false → n ≡ count_by p (bare (take w.at text)) → m ≡ count_by p (take run rest)
+        let on : (p : ℕ → Bool) (n m : ℕ) → p backslash ≡ false → n ≡ count_by p (bare (take w.at text)) → m ≡ count_by p (take run rest)
         → next < length text → n + m ≡ count_by p (bare (take next text)) = λ p n m no_mark n_is m_is h.
         let place : w.at + run + 1 + 1 ≡ next = omega arith in
         counted p n m n_is m_is ∙ sym (not_counted p no_mark mark (omega arith)) ∙ ap (λ (k : ℕ). count_by p (bare (take k text))) place in
         record {
-          passed = search_goes_on (is_byte3 92 10 34) ends_plain looks text rest w.at same walked.passed run next found mark to;
+          passed = search_goes_on (is_byte3 backslash 10 quote) ends_plain looks text rest w.at same walked.passed run next found mark to;
           equals_are = λ h _. on (λ b. b == 61) w.equals x refl (walked.equals_are (omega arith) (λ e. absurd (cc))) x_is h;
-          commas_are = λ h _. on (λ b. b == 44) w.commas y refl (walked.commas_are (omega arith) (λ e. absurd (cc))) y_is h;
+          commas_are = λ h _. on (λ b. b == comma) w.commas y refl (walked.commas_are (omega arith) (λ e. absurd (cc))) y_is h;
           few_equals = omega (arith, walked.few_equals, few (λ b. b == 61) x x_is, here.1);
-          few_commas = omega (arith, walked.few_commas, few (λ b. b == 44) y y_is, here.1);
+          few_commas = omega (arith, walked.few_commas, few (λ b. b == comma) y y_is, here.1);
           ends = λ e. absurd (cc e);
           seen = nothing_ahead _;
         }

@@ -10,9 +10,10 @@ use Rattle.lp_format.specs.format.Dialects.{Dialect, Crate, Strict}
 use Rattle.lp_format.specs.format.Pieces.{begins_comment, IsFirstCut}
 use Rattle.lp_format.proofs.lemmas.split.SplitPieces.{cut_of_comment, cut_of_other}
 use Rattle.lp_split.proofs.lemmas.split.SplitStretches.{quiet_cut, quiet_last}
+use Rattle.lp_format.specs.format.Bytes.{backslash, quote}
 
 -- the front before the first of them holds no newline
-no_newline : (text : List ℕ) (n : ℕ) → n ≤ length text → Nowhere (Passes (is_byte3 92 10 34) text) 0 n → All (λ b. b ≢ 10) (take n text)
+no_newline : (text : List ℕ) (n : ℕ) → n ≤ length text → Nowhere (Passes (is_byte3 backslash 10 quote) text) 0 n → All (λ b. b ≢ 10) (take n text)
 no_newline text zero h none = All-nil (λ b. b ≢ 10)
 no_newline text (suc n) h none =
     let before = no_newline text n (omega arith) (λ k l m. none k l (omega arith)) in
@@ -22,7 +23,7 @@ no_newline text (suc n) h none =
     (All-push (λ b. b ≢ 10) (take n text) (slice_index text n) before other)
 
 -- a newline that is the first of them is the cut
-pub cut_at_newline : (dialect : Dialect) (text : List ℕ) (n : ℕ) → IsFirstByte (is_byte3 92 10 34) text (Some n) → slice_index text n ≡ 10
+pub cut_at_newline : (dialect : Dialect) (text : List ℕ) (n : ℕ) → IsFirstByte (is_byte3 backslash 10 quote) text (Some n) → slice_index text n ≡ 10
     → IsFirstCut dialect text (Some n)
 cut_at_newline Crate text n found newline = quiet_cut text n found newline
 cut_at_newline Strict text n found newline = elim (cases_Bool (begins_comment text)) [
@@ -31,7 +32,7 @@ cut_at_newline Strict text n found newline = elim (cases_Bool (begins_comment te
 ]
 
 -- a text without any of them is one piece
-pub no_cut : (dialect : Dialect) (text : List ℕ) → IsFirstByte (is_byte3 92 10 34) text None → IsFirstCut dialect text None
+pub no_cut : (dialect : Dialect) (text : List ℕ) → IsFirstByte (is_byte3 backslash 10 quote) text None → IsFirstCut dialect text None
 no_cut Crate text none = quiet_last text none
 no_cut Strict text none = elim (cases_Bool (begins_comment text)) [
   | inl e ↦ cut_of_comment text None e

@@ -21,6 +21,7 @@ use Rattle.lp_format.proofs.lemmas.split.SplitBare.{is_escaped-nil}
 use Rattle.lp_split.proofs.lemmas.split.SplitJumps.{passed_start}
 use Rattle.lp_split.proofs.lemmas.split.SplitStretches.{stretch_to, head_last, head_cut, head_space, plain_last, plain_cut}
 use Rattle.lp_split.proofs.lemmas.split.SplitStretches.{plain_quote, quoted_last, quoted_closes}
+use Rattle.lp_format.specs.format.Bytes.{backslash}
 
 -- where no byte ends a stretch, each place of it is passed, up to a bare one
 pub passed_to : (passes : ℕ → Bool) (text : List ℕ) (n : ℕ) → length text ≡ first_bare passes text → n ≤ length text
@@ -38,7 +39,7 @@ passed_to passes text n to h is_bare =
 
 -- pairs of backslashes after a bare place leave what comes after them bare
 pub even_backslashes : (text : List ℕ) (at pairs : ℕ) → at + (pairs + pairs) ≤ length text
-    → ((k : ℕ) → at ≤ k → k < length text → slice_index text k ≡ 92) → IsBareAfter (take at text)
+    → ((k : ℕ) → at ≤ k → k < length text → slice_index text k ≡ backslash) → IsBareAfter (take at text)
     → IsBareAfter (take (at + (pairs + pairs)) text)
 even_backslashes text at zero h all is_bare = subst (λ (n : ℕ). IsBareAfter (take n text)) (omega arith) is_bare
 even_backslashes text at (suc pairs) h all is_bare =
@@ -90,17 +91,17 @@ quoted_goes_on text rest e c at n b same to h =
     (quoted_closes text rest e c b.0 n b.2 b.3 (same ∙ ap (λ (i : ℕ). drop i text) b.1) to (omega (arith, b.1)))
 
 -- after a byte that is no backslash nothing is escaped
-pub bare_after_other : (text : List ℕ) (at : ℕ) → 0 < at → at ≤ length text → slice_index text (at - 1) ≢ 92 → IsBareAfter (take at text)
+pub bare_after_other : (text : List ℕ) (at : ℕ) → 0 < at → at ≤ length text → slice_index text (at - 1) ≢ backslash → IsBareAfter (take at text)
 bare_after_other text at some within other =
     let last : (at - 1) + 1 ≡ at = omega arith in
     let bare_here : is_escaped_after (take ((at - 1) + 1) text) ≡ false =
     is_escaped_more text (at - 1) (omega arith)
-    ∙ ap (λ (t : Bool). not (is_escaped_after (take (at - 1) text)) && t) (ne_eqb (slice_index text (at - 1)) 92 other)
+    ∙ ap (λ (t : Bool). not (is_escaped_after (take (at - 1) text)) && t) (ne_eqb (slice_index text (at - 1)) backslash other)
     ∙ and_right (not (is_escaped_after (take (at - 1) text))) false refl in
     subst (λ (n : ℕ). IsBareAfter (take n text)) last bare_here
 
 -- the last bare place, where a run of backslashes ends the text
-pub last_bare : (text : List ℕ) (at : ℕ) → at ≤ length text → ((k : ℕ) → at ≤ k → k < length text → slice_index text k ≡ 92)
+pub last_bare : (text : List ℕ) (at : ℕ) → at ≤ length text → ((k : ℕ) → at ≤ k → k < length text → slice_index text k ≡ backslash)
     → IsBareAfter (take at text) → IsBareAfter (take (length text - (length text - at) % 2) text)
 last_bare text at within all is_bare =
     let pairs = (length text - at) / 2 in

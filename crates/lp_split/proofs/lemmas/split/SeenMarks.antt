@@ -11,6 +11,7 @@ use Rattle.lp_scan.specs.code.Lanes.{AllPassBetween, IsRunIn, first_set, mask_of
 use Rattle.lp_split.specs.code.Ahead.{AreSeen}
 use Rattle.lp_scan.proofs.lemmas.scan.MaskLemmas.{run_is, shifted}
 use Rattle.lp_scan.proofs.lemmas.scan.MaskPlaces.{tz_below}
+use Rattle.lp_format.specs.format.Bytes.{backslash, quote}
 
 module _ (test : ℕ → Bool) (text : List ℕ) (at n m r : ℕ) (room : at + n ≤ length text) (few : n ≤ 64)
     (is : m ≡ mask_of test text at n) (some : 0 < m) (lowest : r ≡ trailing_zeros w64 m) where
@@ -62,14 +63,14 @@ module _ (test : ℕ → Bool) (text : List ℕ) (at n m r : ℕ) (room : at + n
 
 -- so are they seen
 pub seen_later : (text : List ℕ) (at n m r place : ℕ) → at + n ≤ length text → n ≤ 64
-    → m ≡ mask_of (is_byte3 92 10 34) text at n → 0 < m → r ≡ trailing_zeros w64 m
+    → m ≡ mask_of (is_byte3 backslash 10 quote) text at n → 0 < m → r ≡ trailing_zeros w64 m
     → at + r ≡ place → AreSeen (drop (place + 1) text) (m / 2 ^ r / 2)
 seen_later text at n m r place room few is some lowest to_place = subst
     (λ (k : ℕ). AreSeen (drop (k + 1) text) (m / 2 ^ r / 2)) to_place (record {
       count = n - (r + 1);
       within = omega (arith, length-drop (at + r + 1) text);
       few = omega arith;
-      are = later_are (is_byte3 92 10 34) text at n m r room few is some lowest;
+      are = later_are (is_byte3 backslash 10 quote) text at n m r room few is some lowest;
     })
 
 -- of no bytes nothing is seen

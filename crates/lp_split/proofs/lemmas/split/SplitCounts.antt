@@ -15,6 +15,7 @@ use Rattle.lp_format.specs.format.Escapes.{bare, is_bare_at, is_escaped_after, I
 use Rattle.lp_scan.proofs.lemmas.scan.MaskLemmas.{ones}
 use Rattle.lp_scan.proofs.lemmas.scan.BareMasks.{one_escaped}
 use Rattle.lp_split.proofs.lemmas.split.SplitWalk.{count_bare_more, count_by-push}
+use Rattle.lp_format.specs.format.Bytes.{backslash}
 
 -- the bytes that pass, one byte further
 pub count_more : (p : ℕ → Bool) (text : List ℕ) (at : ℕ) → at < length text
@@ -92,12 +93,12 @@ count_escaped p text at h escaped =
 
 -- the bare bytes that pass, one load further, and past the byte that the load escapes
 pub count_past : (p : ℕ → Bool) (text : List ℕ) (at last : ℕ) → at + 64 < length text
-    → last ≡ cond (is_bare_at (λ b. b == 92) text (at + 63)) 1 0
+    → last ≡ cond (is_bare_at (λ b. b == backslash) text (at + 63)) 1 0
     → count_by p (bare (take (at + (64 + last)) text)) ≡ count_by p (bare (take at text)) + count_by (is_bare_at p text)
     (range_with_len at 64)
 count_past p text at last room is =
     let along = count_along p text 64 at (omega arith) in
-    elim (cases_Bool (is_bare_at (λ b. b == 92) text (at + 63))) [
+    elim (cases_Bool (is_bare_at (λ b. b == backslash) text (at + 63))) [
       | inl set ↦
           let one : last ≡ 1 = is ∙ ap (λ (t : Bool). cond t 1 0) set in
           let place : at + (64 + last) ≡ at + 64 + 1 = omega (arith, one) in

@@ -9,12 +9,13 @@ use Rattle.memchr.specs.Find.{Nowhere, Passes, IsFirstByte}
 use Rattle.lp_format.specs.format.Escapes.{is_escaped_after, is_bare_at, first_bare, IsBareAfter, IsPassed}
 use Rattle.lp_format.proofs.lemmas.tokens.EscapeLemmas.{is_escaped_more, first_bare_is}
 use Rattle.lp_format.proofs.lemmas.split.SplitBare.{is_escaped-nil}
+use Rattle.lp_format.specs.format.Bytes.{backslash}
 
 -- a search looks for backslashes and for the bytes that pass
 pub record LooksFor (test passes : ℕ → Bool) : Type 0 where
-  pub others : (b : ℕ) → test b ≡ false → (b ≢ 92) × (passes b ≡ false)
-  pub stops : (b : ℕ) → test b ≡ true → b ≢ 92 → passes b ≡ true
-  pub escapes : passes 92 ≡ false
+  pub others : (b : ℕ) → test b ≡ false → (b ≢ backslash) × (passes b ≡ false)
+  pub stops : (b : ℕ) → test b ≡ true → b ≢ backslash → passes b ≡ true
+  pub escapes : passes backslash ≡ false
 
 module _ (passes : ℕ → Bool) (text : List ℕ) where
   -- before the first byte
@@ -39,18 +40,18 @@ module _ (passes : ℕ → Bool) (text : List ℕ) where
   escaped_at at h = rw h (and_right (passes (slice_index text at)) false refl)
 
   -- a byte that is no backslash and does not pass
-  passed_byte : (at : ℕ) → at < length text → slice_index text at ≢ 92 → passes (slice_index text at) ≡ false
+  passed_byte : (at : ℕ) → at < length text → slice_index text at ≢ backslash → passes (slice_index text at) ≡ false
       → IsPassed passes text at → IsPassed passes text (at + 1)
   passed_byte at h other fails p =
       record {
         within = omega arith;
-        is_bare = λ _. rw (is_escaped_more text at h, p.is_bare h, ne_eqb (slice_index text at) 92 other) refl;
+        is_bare = λ _. rw (is_escaped_more text at h, p.is_bare h, ne_eqb (slice_index text at) backslash other) refl;
         passed = passed_more at p.passed (fails_at at fails);
       }
 
   -- several such bytes
   pub passed_bytes : (at n : ℕ) → at + n ≤ length text
-      → ((k : ℕ) → k < n → (slice_index text (at + k) ≢ 92) × (passes (slice_index text (at + k)) ≡ false))
+      → ((k : ℕ) → k < n → (slice_index text (at + k) ≢ backslash) × (passes (slice_index text (at + k)) ≡ false))
       → IsPassed passes text at → IsPassed passes text (at + n)
   passed_bytes at zero h none p = subst (IsPassed passes text) (omega arith) p
   passed_bytes at (suc n) h none p =
@@ -72,7 +73,7 @@ module _ (passes : ℕ → Bool) (text : List ℕ) where
       p
 
   -- a backslash and the byte after it
-  pub passed_escape : (at : ℕ) → at < length text → slice_index text at ≡ 92 → passes 92 ≡ false
+  pub passed_escape : (at : ℕ) → at < length text → slice_index text at ≡ backslash → passes backslash ≡ false
       → IsPassed passes text at → IsPassed passes text (min (at + 2) (length text))
   passed_escape at h here fails p =
       let flag : is_escaped_after (take (at + 1) text) ≡ true = rw (is_escaped_more text at h, p.is_bare h, here) refl in
@@ -107,7 +108,7 @@ module _ (test passes : ℕ → Bool) (search : LooksFor test passes) (text rest
       (passed_search passes text test search rest at n same (omega arith) found.0.before p, fits)
 
   -- it finds a byte that passes
-  pub search_stops : (n : ℕ) → IsFirstByte test rest (Some n) → slice_index text (at + n) ≢ 92 → at + n ≡ first_bare passes text
+  pub search_stops : (n : ℕ) → IsFirstByte test rest (Some n) → slice_index text (at + n) ≢ backslash → at + n ≡ first_bare passes text
   search_stops n found other =
       let after = found_after n found in
       let here : slice_index rest n ≡ slice_index text (at + n) = ap (λ (t : List ℕ). slice_index t n) same ∙ get_or-drop at text n 0 in
@@ -115,7 +116,7 @@ module _ (test passes : ℕ → Bool) (search : LooksFor test passes) (text rest
       passed_to_stop passes text (at + n) after.1 stops after.0
 
   -- it finds a backslash
-  pub search_goes_on : (n next : ℕ) → IsFirstByte test rest (Some n) → slice_index text (at + n) ≡ 92
+  pub search_goes_on : (n next : ℕ) → IsFirstByte test rest (Some n) → slice_index text (at + n) ≡ backslash
       → next ≡ min ((at + n) + 2) (length text) → IsPassed passes text next
   search_goes_on n next found here to =
       let after = found_after n found in
@@ -130,7 +131,7 @@ module _ (test passes : ℕ → Bool) (search : LooksFor test passes) (text rest
       (passed_search passes text test search rest at (length rest) same (omega arith) none p)
 
 -- the search for the backslash and two bytes more
-pub looks_for_two : (c d : ℕ) → (92 == c || 92 == d) ≡ false → LooksFor (λ b. b == 92 || b == c || b == d) (λ b. b == c || b == d)
+pub looks_for_two : (c d : ℕ) → (backslash == c || backslash == d) ≡ false → LooksFor (λ b. b == backslash || b == c || b == d) (λ b. b == c || b == d)
 looks_for_two c d other =
     record {
       others = λ b h. grind (arith, nat_tests);

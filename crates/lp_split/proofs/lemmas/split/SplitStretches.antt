@@ -22,6 +22,7 @@ use Rattle.lp_format.proofs.lemmas.split.SplitShape.{last_place, IsHead-bare, En
 use Rattle.lp_format.proofs.lemmas.split.SplitShape.{EndsPlain-append, EndsQuoted-close}
 use Rattle.lp_split.proofs.lemmas.split.SplitWalk.{IsCountOf-append, Head-space, Plain-other, HasMoreEquals-from}
 use Rattle.lp_split.proofs.lemmas.split.StopMeaning.{before_stop}
+use Rattle.lp_format.specs.format.Bytes.{backslash, comma, equals, quote}
 
 -- what comes before the first bare byte that passes, and that byte
 pub record IsStretch (passes : ℕ → Bool) (text : List ℕ) (n : ℕ) : Type 0 where
@@ -46,17 +47,17 @@ bare_joined xs ys h =
     is_escaped-append xs ys ∙ ap (λ (f : Bool). flag_after f ys) (h ∙ sym is_escaped-nil) ∙ sym (is_escaped-append [] ys)
 
 -- no byte of such a text is a quote
-none_before : (before after : List ℕ) → All (λ b. (b == 10 || b == 34) ≡ false) (before ++ 34 ∷ after) → ⊥
+none_before : (before after : List ℕ) → All (λ b. (b == 10 || b == quote) ≡ false) (before ++ quote ∷ after) → ⊥
 none_before [] after none = let h = none 0 0 (omega arith) in cc
-none_before (b ∷ before) after none = none_before before after (All-tail (λ c. (c == 10 || c == 34) ≡ false) b (before ++ 34 ∷ after) none)
+none_before (b ∷ before) after none = none_before before after (All-tail (λ c. (c == 10 || c == quote) ≡ false) b (before ++ quote ∷ after) none)
 
 -- bytes without a newline or a quote are a plain stretch, whatever was counted before
-plain_is : (counted text : List ℕ) → All (λ b. (b == 10 || b == 34) ≡ false) (bare text) → IsPlain counted text
+plain_is : (counted text : List ℕ) → All (λ b. (b == 10 || b == quote) ≡ false) (bare text) → IsPlain counted text
 plain_is counted text none =
     record {
-      no_newline = All-weaker (λ b. (b == 10 || b == 34) ≡ false) (λ b. b ≢ 10) (λ b h. grind (arith, nat_tests)) (bare text) none;
+      no_newline = All-weaker (λ b. (b == 10 || b == quote) ≡ false) (λ b. b ≢ 10) (λ b h. grind (arith, nat_tests)) (bare text) none;
       no_opening = λ before after e.
-          let none_here = subst (All (λ b. (b == 10 || b == 34) ≡ false)) e none in
+          let none_here = subst (All (λ b. (b == 10 || b == quote) ≡ false)) e none in
           absurd (none_before before after none_here);
     }
 
@@ -90,10 +91,10 @@ module _ (text : List ℕ) (n : ℕ) (to : n ≡ first_bare (λ b. b == 32 || b 
 
 -- where a plain stretch ends that begins after a piece
 module _ (text rest : List ℕ) (e c at n : ℕ) (p : IsPlainTo text e c at) (same : rest ≡ drop at text)
-    (to : n ≡ first_bare (λ b. b == 10 || b == 34) rest) where
+    (to : n ≡ first_bare (λ b. b == 10 || b == quote) rest) where
   -- it is a stretch to the first bare newline or quote
-  stretch : IsStretch (λ b. b == 10 || b == 34) rest n
-  stretch = stretch_to (λ b. b == 10 || b == 34) rest n to
+  stretch : IsStretch (λ b. b == 10 || b == quote) rest n
+  stretch = stretch_to (λ b. b == 10 || b == quote) rest n to
 
   -- the piece with it is as long as both
   whole : take (at + n) text ≡ take at text ++ take n rest
@@ -141,15 +142,15 @@ module _ (text rest : List ℕ) (e c at n : ℕ) (p : IsPlainTo text e c at) (sa
             p.is_in.0 ++ bare (take n rest),
             ends_plain,
             IsCountOf-append p.is_in.0 (bare (take n rest)) e c walk.equals walk.commas p.is_in.2 (record {
-              equals_is = walked.equals_are inside (λ _. no_newline) ∙ ap (count_by (λ b. b == 61)) front;
-              commas_is = walked.commas_are inside (λ _. no_newline) ∙ ap (count_by (λ b. b == 44)) front;
+              equals_is = walked.equals_are inside (λ _. no_newline) ∙ ap (count_by (λ b. b == equals)) front;
+              commas_is = walked.commas_are inside (λ _. no_newline) ∙ ap (count_by (λ b. b == comma)) front;
             }),
           );
         };
       }
 
 -- one byte more, a quote
-quote_more : (text : List ℕ) (e c at : ℕ) → IsBeforeQuote text e c at → take (at + 1) text ≡ take at text ++ 34 ∷ []
+quote_more : (text : List ℕ) (e c at : ℕ) → IsBeforeQuote text e c at → take (at + 1) text ≡ take at text ++ quote ∷ []
 quote_more text e c at q = take_more text at 0 q.within ∙ ap (λ (b : ℕ). take at text ++ b ∷ []) q.here
 
 -- a quote that opens nothing
@@ -159,30 +160,30 @@ quote_opens_nothing text e c at few q =
     let within = q.within in
     record {
       within = omega arith;
-      is_bare = rw whole (is_escaped-push_other (take at text) 34 (omega arith));
+      is_bare = rw whole (is_escaped-push_other (take at text) quote (omega arith));
       is_in = rw whole
-          (Plain-other e c (take at text) 34 q.plain.is_bare (omega arith) (omega arith) (omega arith) (λ _. few) q.plain.is_in);
+          (Plain-other e c (take at text) quote q.plain.is_bare (omega arith) (omega arith) (omega arith) (λ _. few) q.plain.is_in);
     }
 
 -- where a quoted stretch ends that begins after a quote
 module _ (text rest : List ℕ) (e c at n : ℕ) (more : c < e) (q : IsBeforeQuote text e c at)
-    (same : rest ≡ drop (at + 1) text) (to : n ≡ first_bare (λ b. b == 34) rest) where
+    (same : rest ≡ drop (at + 1) text) (to : n ≡ first_bare (λ b. b == quote) rest) where
   -- it is a stretch to the first bare quote
-  quoted : IsStretch (λ b. b == 34) rest n
-  quoted = stretch_to (λ b. b == 34) rest n to
+  quoted : IsStretch (λ b. b == quote) rest n
+  quoted = stretch_to (λ b. b == quote) rest n to
 
   -- the piece with it is as long as both and the quote between them
-  whole_quoted : take ((at + 1) + n) text ≡ take at text ++ 34 ∷ take n rest
+  whole_quoted : take ((at + 1) + n) text ≡ take at text ++ quote ∷ take n rest
   whole_quoted =
       take-add (at + 1) n text ∙ ap (λ (t : List ℕ). take (at + 1) text ++ take n t) (sym same)
-      ∙ ap (λ (t : List ℕ). t ++ take n rest) (quote_more text e c at q) ∙ append_assoc (take at text) (34 ∷ []) (take n rest)
+      ∙ ap (λ (t : List ℕ). t ++ take n rest) (quote_more text e c at q) ∙ append_assoc (take at text) (quote ∷ []) (take n rest)
 
   -- the piece with it ends in a quoted stretch
   ends_quoted : EndsQuoted (take ((at + 1) + n) text) q.plain.is_in.0
   ends_quoted = rw whole_quoted
       (opened (take at text) q.plain.is_in.0 (take n rest) q.plain.is_in.1
       (q.plain.is_bare, HasMoreEquals-from q.plain.is_in.0 e c q.plain.is_in.2 more)
-      (All-weaker (λ b. (b == 34) ≡ false) (λ b. b ≢ 34) (λ b h. grind (arith, nat_tests)) (bare (take n rest)) quoted.none))
+      (All-weaker (λ b. (b == quote) ≡ false) (λ b. b ≢ quote) (λ b h. grind (arith, nat_tests)) (bare (take n rest)) quoted.none))
 
   -- the text ends there
   pub quoted_last : length text ≤ (at + 1) + n → IsLastPiece Crate text
@@ -196,20 +197,20 @@ module _ (text rest : List ℕ) (e c at n : ℕ) (more : c < e) (q : IsBeforeQuo
       let there : slice_index rest n ≡ slice_index text ((at + 1) + n) = ap (λ (t : List ℕ). slice_index t n) same
       ∙ get_or-drop (at + 1) text n 0 in
       let stops = quoted.stops inside in
-      let here : slice_index text ((at + 1) + n) ≡ 34 = grind (arith, nat_tests) in
+      let here : slice_index text ((at + 1) + n) ≡ quote = grind (arith, nat_tests) in
       let front = take ((at + 1) + n) text in
-      let longer : take (((at + 1) + n) + 1) text ≡ front ++ 34 ∷ [] = take_more text ((at + 1) + n) 0 h
+      let longer : take (((at + 1) + n) + 1) text ≡ front ++ quote ∷ [] = take_more text ((at + 1) + n) 0 h
       ∙ ap (λ (b : ℕ). front ++ b ∷ []) here in
       let bare_front : IsBareAfter front = rw whole_quoted
-      (last_place (take at text) (take n rest) 34 (omega arith) ∙ quoted.is_bare inside) in
+      (last_place (take at text) (take n rest) quote (omega arith) ∙ quoted.is_bare inside) in
       record {
         within = omega arith;
-        is_bare = rw longer (is_escaped-push_other front 34 (omega arith));
+        is_bare = rw longer (is_escaped-push_other front quote (omega arith));
         is_in = rw longer (q.plain.is_in.0, EndsQuoted-close ends_quoted bare_front, q.plain.is_in.2);
       }
 
 -- a byte that is no newline, quote or backslash lengthens a closed piece
-closed_byte : (front : List ℕ) (b : ℕ) → b ≢ 10 → b ≢ 34 → IsBareAfter front → IsClosed front → IsClosed (front ++ b ∷ [])
+closed_byte : (front : List ℕ) (b : ℕ) → b ≢ 10 → b ≢ quote → IsBareAfter front → IsClosed front → IsClosed (front ++ b ∷ [])
 closed_byte front b n q i (inl h) = elim (cases_eq b 32) [
   | inl s ↦ inr (32 ∷ [], rw s (EndsPlain-start front h i))
   | inr s ↦ inl (IsHead-bare front b h i s n)
@@ -222,7 +223,7 @@ pub record IsQuiet (front : List ℕ) : Type 0 where
   pub is_closed : IsClosed front
 
 -- the front before the first of them is quiet
-quiet_front : (text : List ℕ) (n : ℕ) → n ≤ length text → Nowhere (Passes (is_byte3 92 10 34) text) 0 n → IsQuiet (take n text)
+quiet_front : (text : List ℕ) (n : ℕ) → n ≤ length text → Nowhere (Passes (is_byte3 backslash 10 quote) text) 0 n → IsQuiet (take n text)
 quiet_front text zero h none = record { is_bare = is_escaped-nil; is_closed = inl (All-nil (λ b. (b ≢ 32) × (b ≢ 10))) }
 quiet_front text (suc n) h none =
     let before = quiet_front text n (omega arith) (λ k l m. none k l (omega arith)) in
@@ -235,13 +236,13 @@ quiet_front text (suc n) h none =
     })
 
 -- the first newline, quote or backslash
-pub quiet_cut : (text : List ℕ) (n : ℕ) → IsFirstByte (is_byte3 92 10 34) text (Some n) → slice_index text n ≡ 10
+pub quiet_cut : (text : List ℕ) (n : ℕ) → IsFirstByte (is_byte3 backslash 10 quote) text (Some n) → slice_index text n ≡ 10
     → IsFirstCut Crate text (Some n)
 quiet_cut text n found newline =
     let front = quiet_front text n (omega (arith, found.0.high)) found.0.before in
     (found.0.high, newline, (front.is_closed, front.is_bare))
 
 -- none of them
-pub quiet_last : (text : List ℕ) → IsFirstByte (is_byte3 92 10 34) text None → IsLastPiece Crate text
+pub quiet_last : (text : List ℕ) → IsFirstByte (is_byte3 backslash 10 quote) text None → IsLastPiece Crate text
 quiet_last text none = inl
     (subst IsClosed (take_all (length text) text (omega arith)) (quiet_front text (length text) (omega arith) none).is_closed)

@@ -15,6 +15,7 @@ use Rattle.lp_format.proofs.lemmas.split.SplitBare.{bare-push_escaped, bare-push
 use Rattle.lp_format.proofs.lemmas.split.SplitShape.{IsHead-escaped, IsHead-bare, EndsPlain-escaped, EndsPlain-bare}
 use Rattle.lp_format.proofs.lemmas.split.SplitShape.{EndsPlain-start, EndsQuoted-escaped, EndsQuoted-bare, EndsQuoted-start}
 use Rattle.lp_format.proofs.lemmas.split.SplitShape.{EndsQuoted-close}
+use Rattle.lp_format.specs.format.Bytes.{newline, quote}
 
 -- one byte more that is counted
 pub count_by-push : (p : ℕ → Bool) (xs : List ℕ) (b : ℕ) → count_by p (xs ++ b ∷ []) ≡ count_by p xs + cond (p b) 1 0
@@ -71,7 +72,7 @@ IsIn-backslash Quoted e c piece f h = (h.0, EndsQuoted-bare 92 h.1 f (omega arit
 pub Head-space : (e c : ℕ) (piece : List ℕ) → IsBareAfter piece → IsIn Head e c piece → IsIn Plain e c (piece ++ 32 ∷ [])
 Head-space e c piece f h = (32 ∷ [], EndsPlain-start piece h.0 f, IsCountOf-other [] e c 32 h.1 (omega arith) (omega arith))
 
-pub Head-other : (e c : ℕ) (piece : List ℕ) (b : ℕ) → IsBareAfter piece → b ≢ 32 → b ≢ 10 → IsIn Head e c piece
+pub Head-other : (e c : ℕ) (piece : List ℕ) (b : ℕ) → IsBareAfter piece → b ≢ 32 → b ≢ newline → IsIn Head e c piece
     → IsIn Head e c (piece ++ b ∷ [])
 Head-other e c piece b f n m h = (IsHead-bare piece b h.0 f n m, h.1)
 
@@ -83,18 +84,18 @@ pub Plain-comma : (e c : ℕ) (piece : List ℕ) → IsBareAfter piece → IsIn 
 Plain-comma e c piece f h =
     (h.0 ++ 44 ∷ [], EndsPlain-bare 44 h.1 f (omega arith) (λ q. absurd (omega arith)), rw add-zero at (IsCountOf-push h.0 e c 44 h.2))
 
-pub Plain-opens : (e c : ℕ) (piece : List ℕ) → IsBareAfter piece → c < e → IsIn Plain e c piece → IsIn Quoted e c (piece ++ 34 ∷ [])
+pub Plain-opens : (e c : ℕ) (piece : List ℕ) → IsBareAfter piece → c < e → IsIn Plain e c piece → IsIn Quoted e c (piece ++ quote ∷ [])
 Plain-opens e c piece f l h = (h.0, EndsQuoted-start h.1 f (HasMoreEquals-from h.0 e c h.2 l), h.2)
 
-pub Plain-other : (e c : ℕ) (piece : List ℕ) (b : ℕ) → IsBareAfter piece → b ≢ 61 → b ≢ 44 → b ≢ 10
-    → (b ≡ 34 → e ≤ c) → IsIn Plain e c piece → IsIn Plain e c (piece ++ b ∷ [])
+pub Plain-other : (e c : ℕ) (piece : List ℕ) (b : ℕ) → IsBareAfter piece → b ≢ 61 → b ≢ 44 → b ≢ newline
+    → (b ≡ quote → e ≤ c) → IsIn Plain e c piece → IsIn Plain e c (piece ++ b ∷ [])
 Plain-other e c piece b f n m l q h =
     (h.0 ++ b ∷ [], EndsPlain-bare b h.1 f l (λ i. not_more h.0 e c h.2 (q i)), IsCountOf-other h.0 e c b h.2 n m)
 
-pub Quoted-closes : (e c : ℕ) (piece : List ℕ) → IsBareAfter piece → IsIn Quoted e c piece → IsIn Plain e c (piece ++ 34 ∷ [])
+pub Quoted-closes : (e c : ℕ) (piece : List ℕ) → IsBareAfter piece → IsIn Quoted e c piece → IsIn Plain e c (piece ++ quote ∷ [])
 Quoted-closes e c piece f h = (h.0, EndsQuoted-close h.1 f, h.2)
 
-pub Quoted-other : (e c : ℕ) (piece : List ℕ) (b : ℕ) → IsBareAfter piece → b ≢ 34 → IsIn Quoted e c piece
+pub Quoted-other : (e c : ℕ) (piece : List ℕ) (b : ℕ) → IsBareAfter piece → b ≢ quote → IsIn Quoted e c piece
     → IsIn Quoted e c (piece ++ b ∷ [])
 Quoted-other e c piece b f n h = (h.0, EndsQuoted-bare b h.1 f n, h.2)
 

@@ -16,6 +16,7 @@ use Rattle.lp_split.specs.code.Tracks.{IsPlace, Leads, Steps}
 use Rattle.lp_format.proofs.lemmas.split.SplitBare.{is_escaped-nil}
 use Rattle.lp_format.proofs.lemmas.split.SplitPieces.{begins_comment-append}
 use Rattle.lp_split.proofs.lemmas.split.KnownTexts.{no_comment}
+use Rattle.lp_format.specs.format.Bytes.{newline}
 
 -- spaces and tabs
 abbrev pub AreBlanks : List ℕ → Type 0
@@ -46,9 +47,9 @@ pub comment_ends : Leads Comment 10 None
 comment_ends = (refl, λ dialect bytes h. subst (λ (d : Dialect). IsCutPiece d bytes) (sym h.0) (inl h.1))
 
 -- another byte does not
-pub comment_goes_on : (b : ℕ) → b ≢ 10 → Leads Comment b (Some Comment)
+pub comment_goes_on : (b : ℕ) → b ≢ newline → Leads Comment b (Some Comment)
 comment_goes_on b n = λ dialect bytes h.
-    (h.0, (begins_comment-append bytes (b ∷ []) h.1.0, All-push (λ c. c ≢ 10) bytes b h.1.1 n))
+    (h.0, (begins_comment-append bytes (b ∷ []) h.1.0, All-push (λ c. c ≢ newline) bytes b h.1.1 n))
 
 -- after blanks a `#` begins one
 pub comment_begins : (place : Place) → Leads (Blanks place) 35 (Some Comment)
@@ -56,8 +57,8 @@ comment_begins place = λ dialect bytes h. (
   h.0,
   (
     after_blanks bytes (35 ∷ []) h.1,
-    All-push (λ c. c ≢ 10) bytes 35
-        (All-weaker (λ c. (c ≡ 32) ⊎ (c ≡ 9)) (λ c. c ≢ 10)
+    All-push (λ c. c ≢ newline) bytes 35
+        (All-weaker (λ c. (c ≡ 32) ⊎ (c ≡ 9)) (λ c. c ≢ newline)
         (λ c k e. elim k [ inl s ↦ absurd (omega (arith, s, e)) | inr s ↦ absurd (omega (arith, s, e)) ]) bytes h.1)
         (omega arith),
   ),
@@ -95,5 +96,5 @@ pub first_place : IsPlace [] (record { part = Head; is_escaped = false; equals =
 first_place =
     record {
       escaped_is = is_escaped-nil;
-      ends_in = (All-nil (λ b. (b ≢ 32) × (b ≢ 10)), record { equals_is = refl; commas_is = refl });
+      ends_in = (All-nil (λ b. (b ≢ 32) × (b ≢ newline)), record { equals_is = refl; commas_is = refl });
     }

@@ -7,7 +7,7 @@ use Rattle.lp_split.specs.declared.split.resumed.Part.{Part}
 use Rattle.lp_split.specs.declared.split.resumed.Part.TheVariants.{Head, Plain, Quoted}
 use Rattle.lp_split.specs.declared.split.tracked.Track.{Track}
 use Rattle.lp_split.specs.declared.split.tracked.Track.TheVariants.{Comment, Blanks, Line}
-use Rattle.lp_format.specs.format.Bytes.{newlines_in}
+use Rattle.lp_format.specs.format.Bytes.{newline, newlines_in}
 use Rattle.lp_format.specs.format.Piece.{IsClosed, IsOpen}
 use Rattle.lp_split.specs.declared.stream.bounded.Skipped.{Skipped}
 use Rattle.lp_split.specs.declared.stream.bounded.Skipped.TheVariants.{Nothing, Within, Ended}
@@ -27,7 +27,7 @@ longer_is_too_long limit text part h = (omega (arith, length-append text part, h
 more_newlines : (text part : List ℕ) (n more : ℕ) → n ≡ newlines_in text → more ≡ newlines_in part
     → n + more ≡ newlines_in (text ++ part)
 more_newlines text part n more h g =
-    ap₂ (λ (a b : ℕ). a + b) h g ∙ sym (sum_by-append (λ (b : ℕ). cond (b == 10) 1 0) text part)
+    ap₂ (λ (a b : ℕ). a + b) h g ∙ sym (sum_by-append (λ (b : ℕ). cond (b == newline) 1 0) text part)
 
 -- a part that goes on in a piece that is too long
 pub skips_more : (limit : ℕ) (held : Held) (skipped : Skipped) (from to : Track) (n more : ℕ) (part : List ℕ) → skipped ≡ Within from n
@@ -49,8 +49,8 @@ skips_to_end limit old new skipped from n more part i is tracks dialect bytes co
       text ++ take i part,
       longer_is_too_long limit text (take i part) k.1,
       (
-        sym (append_assoc text (take i part) (10 ∷ new.bytes)
-            ∙ (ap (λ (t : List ℕ). text ++ (take i part ++ 10 ∷ t)) after ∙ ap (λ (t : List ℕ). text ++ t) split)),
+        sym (append_assoc text (take i part) (newline ∷ new.bytes)
+            ∙ (ap (λ (t : List ℕ). text ++ (take i part ++ newline ∷ t)) after ∙ ap (λ (t : List ℕ). text ++ t) split)),
         subst (λ (d : Dialect). IsCutPiece d (text ++ take i part)) (sym dialect) (tracks.2 old.dialect text k.2),
       ),
       more_newlines text (take i part) n more k.3 counted,
@@ -94,7 +94,7 @@ no_end_within dialect bytes track i begins tracks is_last =
 -- fewer bytes are kept once a piece is taken
 pub taking_keeps_fewer : (held after : Held) (piece : List ℕ) → TakesPiece held piece after → length after.bytes < length held.bytes
 taking_keeps_fewer held after piece takes =
-    omega (arith, ap (λ (t : List ℕ). length t) takes.bytes, length-append piece (10 ∷ after.bytes))
+    omega (arith, ap (λ (t : List ℕ). length t) takes.bytes, length-append piece (newline ∷ after.bytes))
 
 -- a piece is taken where no bytes were skipped
 pub takes_within : (limit : ℕ) (held after : Held) (skipped : Skipped) (piece text : List ℕ) → skipped ≡ Nothing

@@ -17,6 +17,7 @@ use Rattle.lp_split.specs.code.Searches.{NeverComment}
 use Rattle.lp_split.specs.code.Ahead.{AreSeen}
 use Rattle.lp_split.specs.code.Streams.{IsHeldAt}
 use Rattle.lp_split.specs.code.Tracks.{EndsIn}
+use Rattle.lp_format.specs.format.Bytes.{backslash, quote}
 
 module _ (text more : List ℕ) where
   -- a front of it
@@ -89,7 +90,7 @@ seen_longer text more marks h =
       count = h.count;
       within = omega (arith, length-append text more, h.within);
       few = h.few;
-      are = h.are ∙ ap (λ (t : List ℕ). mask_l (map (is_byte3 92 10 34) t)) (sym (take-append-le h.count text more h.within));
+      are = h.are ∙ ap (λ (t : List ℕ). mask_l (map (is_byte3 backslash 10 quote) t)) (sym (take-append-le h.count text more h.within));
     }
 
 -- what a search knows

@@ -8,7 +8,7 @@ use Rattle.lp_values.specs.declared.error.Error.TheVariants.{OutOfMemory}
 use Rattle.std.specs.List.{list_any}
 use Rattle.std.proofs.lemmas.Bool.{cases_Bool, or_right, or_parts, eqb-true}
 use Rattle.std.proofs.lemmas.List.{take-append-drop}
-use Rattle.lp_format.specs.format.Bytes.{is_one_of}
+use Rattle.lp_format.specs.format.Bytes.{backslash, comma, equals, is_one_of, quote}
 use Rattle.lp_format.specs.format.Readings.{Fault, Text, Read, Reading, miss, fatal, reads, ◌>>=◌, ◌otherwise◌}
 use Rattle.lp_format.specs.format.Names.{NameKind, name, a_tag_key, a_tag_value, a_field_key, escapable, spelled, spelled_len}
 use Rattle.lp_format.specs.format.Names.{read_text, is_shared, is_one_escape, ends_in_backslash, logical}
@@ -51,10 +51,10 @@ any_after p (x ∷ xs) ys h = or_right (p x) (list_any p (xs ++ ys)) (any_after 
 
 -- a text whose front, or whose end, holds a backslash
 pub backslash_in_front : (n : ℕ) (text : List ℕ) → HasBackslash (take n text) → HasBackslash text
-backslash_in_front n text h = rw take-append-drop at (any_front (λ c. c == 92) (take n text) (drop n text) h)
+backslash_in_front n text h = rw take-append-drop at (any_front (λ c. c == backslash) (take n text) (drop n text) h)
 
 pub backslash_at_end : (text rest : List ℕ) → EndsIn text rest → HasBackslash rest → HasBackslash text
-backslash_at_end text rest e h = rw e.is (any_after (λ c. c == 92) e.front rest h)
+backslash_at_end text rest e h = rw e.is (any_after (λ c. c == backslash) e.front rest h)
 
 not_false : (b : Bool) → not b ≡ false → b ≡ true
 not_false true e = refl
@@ -97,8 +97,8 @@ name_ends kind text t rest e = EndsIn-drop (spelled_len kind text) text rest (na
 copied_text : (known text : List ℕ) (n : ℕ) → is_shared known (take n text) ≡ false → HasBackslash text
 copied_text known text n e =
     backslash_in_front n text
-    (not_false (is_one_of (take n text) 92)
-    (or_parts (is_one_escape known (take n text)) (not (is_one_of (take n text) 92)) e).1)
+    (not_false (is_one_of (take n text) backslash)
+    (or_parts (is_one_escape known (take n text)) (not (is_one_of (take n text) backslash)) e).1)
 
 pub name_copied : (kind : NameKind) (text : List ℕ) (t : Text) (rest : List ℕ) → name kind text ≡ reads t rest
     → t.is_single ≡ false → HasBackslash text
@@ -124,20 +124,20 @@ byte_ends b text x rest e = record { front = b ∷ []; is = (byte_parts b text x
 pub record PairParts {V : Type 0} (kind : NameKind) (part : List ℕ → Reading V) (text : List ℕ) (x : Pair Text V) (rest : List ℕ)
     : Type 0 where
   pub mid : List ℕ
-  pub key : name kind text ≡ reads x.key (61 ∷ mid)
+  pub key : name kind text ≡ reads x.key (equals ∷ mid)
   pub value : part mid ≡ reads x.value rest
 
 pub pair_parts : {V : Type 0} (kind : NameKind) (part : List ℕ → Reading V) (text : List ℕ) (x : Pair Text V) (rest : List ℕ)
     → key_value kind part text ≡ reads x rest → PairParts kind part text x rest
 pair_parts kind part text x rest e =
     let k = bind_reads (name kind text) _ x rest e in
-    let mark = bind_reads (byte 61 k.mid) _ x rest k.next in
+    let mark = bind_reads (byte equals k.mid) _ x rest k.next in
     let v = bind_reads (part mark.mid) _ x rest mark.next in
     let parts = reads_parts (record { key = k.first; value = v.first }) x v.mid rest v.next in
-    let sign = (byte_parts 61 k.mid mark.first mark.mid mark.was).1 in
+    let sign = (byte_parts equals k.mid mark.first mark.mid mark.was).1 in
     record {
       mid = mark.mid;
-      key = subst (λ p. name kind text ≡ reads p.key (61 ∷ mark.mid)) parts.0 (rw sign at k.was);
+      key = subst (λ p. name kind text ≡ reads p.key (equals ∷ mark.mid)) parts.0 (rw sign at k.was);
       value = rw parts.1 at (subst (λ p. part mark.mid ≡ reads p.value v.mid) parts.0 v.was);
     }
 
@@ -192,7 +192,7 @@ string_read : (text : List ℕ) (v : Value Text) (rest : List ℕ) → string_at
 unfolding string_at
 string_read [] v rest e = absurd (cc)
 string_read (b ∷ after) v rest e =
-    elim (cases_Bool (b == 34 && nat_lt (body_len after) (length after))) [
+    elim (cases_Bool (b == quote && nat_lt (body_len after) (length after))) [
       | inl closed ↦ (
           let n = body_len after in
           let read : Value Text = string (read_text quotable (take n after)) in
@@ -241,13 +241,13 @@ pair_read : {V : Type 0} (kind : NameKind) (part : List ℕ → Reading V) (is_s
     → PairRead (λ p. p.key.is_single && is_single p.value) text x rest
 pair_read kind part is_single read text x rest e =
     let p = pair_parts kind part text x rest e in
-    let after_key = name_ends kind text x.key (61 ∷ p.mid) p.key in
-    let after_mark = EndsIn-end text (61 ∷ p.mid) p.mid after_key (record { front = 61 ∷ []; is = refl }) in
+    let after_key = name_ends kind text x.key (equals ∷ p.mid) p.key in
+    let after_mark = EndsIn-end text (equals ∷ p.mid) p.mid after_key (record { front = equals ∷ []; is = refl }) in
     let value_is = read p.mid x.value rest p.value in
     record {
       ends = EndsIn-end text p.mid rest after_mark value_is.ends;
       copied = λ h. elim (pair_copied x.key.is_single (is_single x.value) h) [
-        | inl key ↦ name_copied kind text x.key (61 ∷ p.mid) p.key key
+        | inl key ↦ name_copied kind text x.key (equals ∷ p.mid) p.key key
         | inr after ↦ backslash_at_end text p.mid after_mark (value_is.copied after)
       ];
     }
@@ -270,8 +270,8 @@ pub after_comma_read : {A : Type 0} (is_single : A → Bool) (one : List ℕ →
     → ((text : List ℕ) (x : A) (rest : List ℕ) → one text ≡ reads x rest → PairRead is_single text x rest)
     → (text : List ℕ) (x : A) (rest : List ℕ) → after_comma one text ≡ reads x rest → PairRead is_single text x rest
 after_comma_read is_single one read text x rest e =
-    let mark = bind_reads (byte 44 text) _ x rest e in
-    let mark_ends = byte_ends 44 text mark.first mark.mid mark.was in
+    let mark = bind_reads (byte comma text) _ x rest e in
+    let mark_ends = byte_ends comma text mark.first mark.mid mark.was in
     let is = read mark.mid x rest mark.next in
     record { ends = EndsIn-end text mark.mid rest mark_ends is.ends; copied = λ h. backslash_at_end text mark.mid mark_ends (is.copied h) }
 

@@ -4,7 +4,7 @@ use Rattle.std.proofs.Common.{refl, ◌-◌, ◌∙◌, append_assoc, append-nil
 use Rattle.std.proofs.lemmas.Grind.{common_steps, flat_map-append}
 use Rattle.std.proofs.lemmas.List.{take_more}
 use Rattle.std.proofs.Math.Nat.{sub_self}
-use Rattle.lp_format.specs.format.Bytes.{is_one_of}
+use Rattle.lp_format.specs.format.Bytes.{backslash, is_one_of}
 use Rattle.lp_format.specs.format.Escapes.{escaped, escaped_byte}
 use Rattle.lp_scan.specs.code.Tokens.{known_of}
 use Rattle.lp_format.specs.code.Shown.{shown_escapes}
@@ -43,7 +43,7 @@ keep_byte bytes text done start at low within plain whole =
 -- a byte with a backslash begins a new run, after the old one and the backslash
 pub escape_byte : (bytes text done : List ℕ) (start at : ℕ) → at < length text → is_one_of bytes (slice_index text at) ≡ true
     → done ++ take (at - start) (drop start text) ≡ escaped bytes (take at text)
-    → (done ++ (take (at - start) (drop start text) ++ 92 ∷ [])) ++ take (at + 1 - at) (drop at text) ≡ escaped bytes (take (at + 1) text)
+    → (done ++ (take (at - start) (drop start text) ++ backslash ∷ [])) ++ take (at + 1 - at) (drop at text) ≡ escaped bytes (take (at + 1) text)
 escape_byte bytes text done start at within special whole =
     let none : take (at - at) (drop at text) ≡ [] = rw (sub_self at) refl in
     rw (run_more text at at (omega arith) within, none, escaped_more bytes text at within, special, ← whole) (simp append_assoc)

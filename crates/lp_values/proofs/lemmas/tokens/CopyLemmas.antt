@@ -5,7 +5,7 @@ use Rattle.std.proofs.Common.{take-append-drop}
 use Rattle.std.specs.Prelude.{◌==◌}
 use Rattle.std.proofs.lemmas.Bool.{or_parts, not-true, eqb-false}
 use Rattle.std.proofs.lemmas.List.{take_more, get_or-drop, drop-drop}
-use Rattle.lp_format.specs.format.Bytes.{is_one_of}
+use Rattle.lp_format.specs.format.Bytes.{backslash, is_one_of}
 use Rattle.lp_format.specs.format.Escapes.{without_escapes}
 use Rattle.lp_scan.specs.code.Tokens.{is_plain}
 use Rattle.lp_scan.specs.code.Lanes.{AllPassBetween, IsRunAt}
@@ -34,7 +34,7 @@ module _ (known text : List ℕ) where
   left from at = stretch text from at ++ without_escapes known (drop at text)
 
   -- over a byte that is no backslash
-  left_byte : (from at : ℕ) → from ≤ at → at < length text → slice_index text at ≢ 92 → left from (at + 1) ≡ left from at
+  left_byte : (from at : ℕ) → from ≤ at → at < length text → slice_index text at ≢ backslash → left from (at + 1) ≡ left from at
   left_byte from at ordered within other =
       rw (
         stretch_more text from at ordered within,
@@ -49,7 +49,7 @@ module _ (known text : List ℕ) where
   left_bytes stops zero from at ordered fits pass = ap (left from) (add-zero at)
   left_bytes stops (suc n) from at ordered fits pass =
       let plain = not-true _ (pass at (omega arith) (omega arith)) in
-      let other = eqb-false (slice_index text at) 92 (or_parts (stops (slice_index text at)) (slice_index text at == 92) plain).1 in
+      let other = eqb-false (slice_index text at) backslash (or_parts (stops (slice_index text at)) (slice_index text at == backslash) plain).1 in
       let one = left_byte from at ordered (omega arith) other in
       let rest = left_bytes stops n from (at + 1) (omega arith) (omega arith) (λ k low high. pass k (omega arith) (omega arith)) in
       let e : at + suc n ≡ at + 1 + n = omega arith in
@@ -61,7 +61,7 @@ module _ (known text : List ℕ) where
       ap (left from) (sym e) ∙ left_bytes stops (end - at) from at ordered (omega (arith, run.within)) (rw (← e) at run.passes)
 
   -- over a backslash that stays, and the byte after it
-  pub left_unknown : (from at : ℕ) → from ≤ at → at + 1 < length text → slice_index text at ≡ 92
+  pub left_unknown : (from at : ℕ) → from ≤ at → at + 1 < length text → slice_index text at ≡ backslash
       → is_one_of known (slice_index text (at + 1)) ≡ false
       → left from (at + 1 + 1) ≡ left from at
   unfolding without_escapes
@@ -72,7 +72,7 @@ module _ (known text : List ℕ) where
       rw (second, first, here_and_after text at (omega arith), rest, here, unknown) (simp append_assoc)
 
   -- over one that goes: what comes before it can be written, and the byte after it is the next to write
-  pub left_known : (from at : ℕ) → from ≤ at → at + 1 < length text → slice_index text at ≡ 92
+  pub left_known : (from at : ℕ) → from ≤ at → at + 1 < length text → slice_index text at ≡ backslash
       → is_one_of known (slice_index text (at + 1)) ≡ true
       → stretch text from at ++ left (at + 1) (at + 1 + 1) ≡ left from at
   unfolding without_escapes

@@ -8,7 +8,7 @@ use Rattle.std.specs.List.{range_with_len}
 use lib.Lanes.{mask_l}
 use Rattle.std.proofs.lemmas.Bool.{cases_Bool, cases_lt, and_parts, and_right, eqb-true, eqb-false, ne_eqb, false≢true, not-true, or_parts}
 use Rattle.std.proofs.lemmas.List.{drop_all, get_or_past, get_or-take, length-take, take-take, take_all, append-nil}
-use Rattle.lp_format.specs.format.Bytes.{is_one_of}
+use Rattle.lp_format.specs.format.Bytes.{backslash, is_one_of}
 use Rattle.lp_format.specs.format.Escapes.{is_escaped_after, is_bare_at, without_escapes}
 use Rattle.lp_scan.specs.code.Tokens.{is_plain}
 use Rattle.lp_scan.specs.code.Lanes.{first_set, IsRunAt}
@@ -35,7 +35,7 @@ module _ (known text : List ℕ) where
   kept_escape n at goes = ap (λ (t : Bool). cond t [] (slice_index text at ∷ []) ++ kept n (at + 1)) goes
 
   -- a byte that is no bare backslash begins no escape
-  no_escape : (at : ℕ) → is_bare_at (λ b. b == 92) text at ≡ false → is_escape_at known text at ≡ false
+  no_escape : (at : ℕ) → is_bare_at (λ b. b == backslash) text at ≡ false → is_escape_at known text at ≡ false
   no_escape at bare = ap (λ (t : Bool). t && is_one_of known (slice_index text (at + 1))) bare
 
   -- the logical text is what is kept
@@ -45,24 +45,24 @@ module _ (known text : List ℕ) where
   without_kept no_zero zero at whole bare = rw (drop_all at text (omega arith)) refl
   without_kept no_zero (suc zero) at whole bare =
       let none : is_escape_at known text at ≡ false =
-      ap (λ (t : Bool). is_bare_at (λ b. b == 92) text at && t)
+      ap (λ (t : Bool). is_bare_at (λ b. b == backslash) text at && t)
       (ap (is_one_of known) (get_or_past text (at + 1) 0 (omega arith)) ∙ no_zero)
-      ∙ and_right (is_bare_at (λ b. b == 92) text at) false refl in
+      ∙ and_right (is_bare_at (λ b. b == backslash) text at) false refl in
       rw (here_and_after text at (omega arith), drop_all (at + 1) text (omega arith), kept_byte 0 at none) refl
   without_kept no_zero (suc (suc n)) at whole bare =
       let first = here_and_after text at (omega arith) in
       let c = slice_index text (at + 1) in
-      elim (cases_Bool (slice_index text at == 92)) [
+      elim (cases_Bool (slice_index text at == backslash)) [
         | inl is ↦
-            let here : slice_index text at ≡ 92 = eqb-true (slice_index text at) 92 is in
+            let here : slice_index text at ≡ backslash = eqb-true (slice_index text at) backslash is in
             let two : at + 1 + 1 ≡ at + 2 = omega arith in
             let second : drop (at + 1) text ≡ c ∷ drop (at + 2) text =
             here_and_after text (at + 1) (omega arith) ∙ ap (λ (k : ℕ). c ∷ drop k text) two in
             let flag : is_escaped_after (take (at + 1) text) ≡ true = rw (is_escaped_more text at (omega arith), bare, here) refl in
             let next : is_escaped_after (take (at + 2) text) ≡ false = ap (λ (k : ℕ). is_escaped_after (take k text)) (sym two)
-            ∙ is_escaped_more text (at + 1) (omega arith) ∙ ap (λ (e : Bool). not e && c == 92) flag in
-            let escaped : is_bare_at (λ b. b == 92) text (at + 1) ≡ false =
-            ap (λ (e : Bool). c == 92 && not e) flag ∙ and_right (c == 92) false refl in
+            ∙ is_escaped_more text (at + 1) (omega arith) ∙ ap (λ (e : Bool). not e && c == backslash) flag in
+            let escaped : is_bare_at (λ b. b == backslash) text (at + 1) ≡ false =
+            ap (λ (e : Bool). c == backslash && not e) flag ∙ and_right (c == backslash) false refl in
             let rest = without_kept no_zero n (at + 2) (omega arith) next in
             let after : kept (suc n) (at + 1) ≡ c ∷ kept n (at + 2) =
             kept_byte n (at + 1) (no_escape (at + 1) escaped) ∙ ap (λ (k : ℕ). c ∷ kept n k) two in
@@ -73,10 +73,10 @@ module _ (known text : List ℕ) where
               | inr k ↦ rw (kept_byte (suc n) at (begins ∙ k), after, first, second, is, k, rest) refl
             ]
         | inr other ↦
-            let plain : is_bare_at (λ b. b == 92) text at ≡ false =
+            let plain : is_bare_at (λ b. b == backslash) text at ≡ false =
             ap (λ (a : Bool). a && not (is_escaped_after (take at text))) other in
             let next : is_escaped_after (take (at + 1) text) ≡ false = rw (is_escaped_more text at (omega arith), bare, other) refl in
-            let not_it : slice_index text at ≢ 92 = eqb-false (slice_index text at) 92 other in
+            let not_it : slice_index text at ≢ backslash = eqb-false (slice_index text at) backslash other in
             rw (kept_byte (suc n) at (no_escape at plain), first)
             (without_escapes_plain_byte known (slice_index text at) (drop (at + 1) text) not_it
             ∙ ap (λ (bs : List ℕ). slice_index text at ∷ bs) (without_kept no_zero (suc n) (at + 1) (omega arith) next))
@@ -150,7 +150,7 @@ module _ (known text : List ℕ) (from at m : ℕ) (w : EscapesLeft known text f
     is_escape = lowest_passes (is_escape_at known text) at (length text - at) r (omega (arith, w.few)) found
         (omega (arith, escape_within))
 
-    pub escape_here : slice_index text (at + r) ≡ 92
+    pub escape_here : slice_index text (at + r) ≡ backslash
     escape_here = eqb-true _ _ (and_parts _ _ (and_parts _ _ is_escape).0).0
 
     pub escape_known : is_one_of known (slice_index text (at + r + 1)) ≡ true
@@ -204,8 +204,8 @@ mask_agree p q n at same = ap mask_l (lanes n at same)
 
 -- a text that is cut at a bare place has the escapes that it had before
 module _ (known text : List ℕ) (end : ℕ) (within : end ≤ length text) (bare : is_escaped_after (take end text) ≡ false) where
-  bare_same : (k : ℕ) → k < end → is_bare_at (λ b. b == 92) (take end text) k ≡ is_bare_at (λ b. b == 92) text k
-  bare_same k short = ap₂ (λ (b : ℕ) (bs : List ℕ). b == 92 && not (is_escaped_after bs))
+  bare_same : (k : ℕ) → k < end → is_bare_at (λ b. b == backslash) (take end text) k ≡ is_bare_at (λ b. b == backslash) text k
+  bare_same k short = ap₂ (λ (b : ℕ) (bs : List ℕ). b == backslash && not (is_escaped_after bs))
       (get_or-take end text k 0 short) (take-take k end text (omega arith))
 
   escape_same : (k : ℕ) → k < end → is_escape_at known (take end text) k ≡ is_escape_at known text k
@@ -213,7 +213,7 @@ module _ (known text : List ℕ) (end : ℕ) (within : end ≤ length text) (bar
     | inl inside ↦ ap₂ (λ (t : Bool) (c : ℕ). t && is_one_of known c) (bare_same k short) (get_or-take end text (k + 1) 0 inside)
     | inr past ↦
         let place : k + 1 ≡ end = omega arith in
-        let none : is_bare_at (λ b. b == 92) text k ≡ false = sym (escapes_next text k (omega arith))
+        let none : is_bare_at (λ b. b == backslash) text k ≡ false = sym (escapes_next text k (omega arith))
         ∙ ap (λ (n : ℕ). is_escaped_after (take n text)) place ∙ bare in
         no_escape known (take end text) k (bare_same k short ∙ none) ∙ sym (no_escape known text k none)
   ]
@@ -227,7 +227,7 @@ module _ (known text : List ℕ) (end : ℕ) (within : end ≤ length text) (bar
         few = omega (arith, size);
         before = λ k h.
             let plain = not-true _ (run.passes k (omega arith) h) in
-            let other = (or_parts (stops (slice_index text k)) (slice_index text k == 92) plain).1 in
+            let other = (or_parts (stops (slice_index text k)) (slice_index text k == backslash) plain).1 in
             escape_same k (omega arith)
             ∙ no_escape known text k (ap (λ (a : Bool). a && not (is_escaped_after (take k text))) other);
         are = is
@@ -238,7 +238,7 @@ module _ (known text : List ℕ) (end : ℕ) (within : end ≤ length text) (bar
 
 -- where a text is cut after the plain bytes before its first backslash, these are as they were
 pub first_backslash : (stops : ℕ → Bool) (text : List ℕ) (end first : ℕ) → end ≤ length text → first ≤ end
-    → IsRunAt (is_plain stops) text 0 first → (first < end → slice_index text first ≡ 92)
+    → IsRunAt (is_plain stops) text 0 first → (first < end → slice_index text first ≡ backslash)
     → IsFirstBackslash (take end text) first
 first_backslash stops text end first within ordered run here =
     let size : length (take end text) ≡ end = length-take end text ∙ omega arith in
@@ -247,9 +247,9 @@ first_backslash stops text end first within ordered run here =
       within = omega (arith, size);
       passes = λ k from to.
           let plain = not-true _ (run.passes k from to) in
-          let other = (or_parts (stops (slice_index text k)) (slice_index text k == 92) plain).1 in
-          ap (λ (b : ℕ). not (b == 92)) (get_or-take end text k 0 (omega arith)) ∙ ap not other;
+          let other = (or_parts (stops (slice_index text k)) (slice_index text k == backslash) plain).1 in
+          ap (λ (b : ℕ). not (b == backslash)) (get_or-take end text k 0 (omega arith)) ∙ ap not other;
       stops = λ more.
           let short : first < end = omega (arith, size) in
-          ap (λ (b : ℕ). not (b == 92)) (get_or-take end text first 0 short ∙ here short);
+          ap (λ (b : ℕ). not (b == backslash)) (get_or-take end text first 0 short ∙ here short);
     }

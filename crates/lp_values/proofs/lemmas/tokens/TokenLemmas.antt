@@ -5,7 +5,7 @@ use Rattle.std.proofs.lemmas.Bool.{and_parts, or_right}
 use Rattle.std.proofs.lemmas.Grind.{common_steps}
 use Rattle.lp_scan.specs.declared.sets.TokenKind.{TokenKind}
 use Rattle.lp_scan.specs.declared.sets.TokenKind.TheVariants.{Measurement, TagKey, TagValue, FieldKey, String}
-use Rattle.lp_format.specs.format.Bytes.{is_one_of}
+use Rattle.lp_format.specs.format.Bytes.{backslash, is_one_of}
 use Rattle.lp_format.specs.format.Escapes.{without_escapes}
 use Rattle.lp_scan.specs.code.Tokens.{stops_of, known_of}
 use Rattle.lp_format.specs.format.Names.{is_one_escape, is_shared, read_text}
@@ -13,7 +13,7 @@ use Rattle.lp_format.specs.format.Readings.{Text}
 use Rattle.lp_format.proofs.lemmas.names.NameLemmas.{no_backslash, without_escapes_same}
 
 -- a backslash ends no token
-pub backslash_goes_on : (kind : TokenKind) → stops_of kind 92 ≡ false
+pub backslash_goes_on : (kind : TokenKind) → stops_of kind backslash ≡ false
 backslash_goes_on Measurement = refl
 backslash_goes_on TagKey = refl
 backslash_goes_on TagValue = refl
@@ -47,7 +47,7 @@ unfolding without_escapes
 escape_alone known [] h = cc
 escape_alone known (b ∷ []) h = cc
 escape_alone known (b ∷ c ∷ []) h =
-    let parts = and_parts (b == 92) (is_one_of known c) h in
+    let parts = and_parts (b == backslash) (is_one_of known c) h in
     rw (parts.0, parts.1) refl
 escape_alone known (b ∷ c ∷ d ∷ rest) h = cc
 
@@ -58,7 +58,7 @@ read_escape known text part one e =
     same_text part (without_escapes known text) true (is_shared known text) (e ∙ escape_alone known text one) (sym (rw one refl))
 
 -- a text without a backslash is read as itself
-pub read_plain : (known text part : List ℕ) → is_one_of text 92 ≡ false → part ≡ text
+pub read_plain : (known text part : List ℕ) → is_one_of text backslash ≡ false → part ≡ text
     → let x : Text = record { bytes = part; is_single = true } in x ≡ read_text known text
 read_plain known text part none e =
     same_text part (without_escapes known text) true (is_shared known text)

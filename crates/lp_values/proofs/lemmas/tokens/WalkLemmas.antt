@@ -9,7 +9,7 @@ use Rattle.std.proofs.lemmas.List.Folds.{list_any_more}
 use Rattle.std.proofs.lemmas.List.Sums.{sum_by-cons}
 use Rattle.std.specs.List.{count_by, range_with_len}
 use mir.Val.{bool_byte}
-use Rattle.lp_format.specs.format.Bytes.{is_one_of}
+use Rattle.lp_format.specs.format.Bytes.{backslash, is_one_of}
 use Rattle.lp_format.specs.format.Escapes.{is_escaped_after, is_bare_at, first_bare, without_escapes, EscapeScan}
 use Rattle.lp_scan.specs.code.Tokens.{is_plain}
 use Rattle.lp_scan.specs.code.Lanes.{AllPassBetween, IsRunAt}
@@ -23,8 +23,8 @@ escaped_is_flag : (text : List ℕ) → is_escaped_after text ≡ flag_after fal
 escaped_is_flag text = is_escaped-append [] text ∙ ap (λ f. flag_after f text) is_escaped-nil
 
 -- what comes after a backslash and a byte is escaped just where it is without them
-escaped_after_pair : (c : ℕ) (rest : List ℕ) → is_escaped_after (92 ∷ c ∷ rest) ≡ is_escaped_after rest
-escaped_after_pair c rest = escaped_is_flag (92 ∷ c ∷ rest) ∙ ap (λ f. flag_after f rest) (none (eqb c 92)) ∙ sym (escaped_is_flag rest)
+escaped_after_pair : (c : ℕ) (rest : List ℕ) → is_escaped_after (backslash ∷ c ∷ rest) ≡ is_escaped_after rest
+escaped_after_pair c rest = escaped_is_flag (backslash ∷ c ∷ rest) ∙ ap (λ f. flag_after f rest) (none (eqb c backslash)) ∙ sym (escaped_is_flag rest)
   where
     none : (t : Bool) → cond t false false ≡ false
     none t = grind arith
@@ -35,14 +35,14 @@ pub without_escapes_append : (known front back : List ℕ) → is_escaped_after 
 unfolding without_escapes
 without_escapes_append known [] back bare = refl
 without_escapes_append known (b ∷ []) back bare =
-    elim (cases_Bool (b == 92)) [
-      | inl e ↦ absurd (let here = eqb-true b 92 e in let one = escaped_is_flag (b ∷ []) in let set = rw here at one in cc)
-      | inr e ↦ without_escapes_plain_byte known b back (eqb-false b 92 e)
+    elim (cases_Bool (b == backslash)) [
+      | inl e ↦ absurd (let here = eqb-true b backslash e in let one = escaped_is_flag (b ∷ []) in let set = rw here at one in cc)
+      | inr e ↦ without_escapes_plain_byte known b back (eqb-false b backslash e)
     ]
 without_escapes_append known (b ∷ c ∷ rest) back bare =
-    elim (cases_Bool (b == 92)) [
+    elim (cases_Bool (b == backslash)) [
       | inl e ↦
-          let here : b ≡ 92 = eqb-true b 92 e in
+          let here : b ≡ backslash = eqb-true b backslash e in
           let inner : is_escaped_after rest ≡ false = sym (escaped_after_pair c rest) ∙ rw (← here) bare in
           let more = without_escapes_append known rest back inner in
           elim (cases_Bool (is_one_of known c)) [ inl k ↦ rw (e, k, more) refl | inr k ↦ rw (e, k, more) refl ]
@@ -83,8 +83,8 @@ module _ (known : List ℕ) (stops : ℕ → Bool) (text : List ℕ) where
   walk_start = record { within = omega arith; bare = is_escaped-nil; passed = λ k h. absurd (omega arith); counted = refl }
 
   -- the two tests of a plain byte
-  plain_parts : (b : ℕ) → is_plain stops b ≡ true → (stops b ≡ false) × ((b == 92) ≡ false)
-  plain_parts b h = or_parts (stops b) (b == 92) (not-true _ h)
+  plain_parts : (b : ℕ) → is_plain stops b ≡ true → (stops b ≡ false) × ((b == backslash) ≡ false)
+  plain_parts b h = or_parts (stops b) (b == backslash) (not-true _ h)
 
   -- a plain byte further
   walk_byte : (at found : ℕ) → EscapeScan known stops text at found → at < length text
@@ -127,7 +127,7 @@ module _ (known : List ℕ) (stops : ℕ → Bool) (text : List ℕ) where
 
   -- over a backslash and the byte that it escapes, where it is no stop
   pub walk_escape : (at found : ℕ) (t : Bool) → EscapeScan known stops text at found → at + 1 < length text
-      → slice_index text at ≡ 92 → stops 92 ≡ false
+      → slice_index text at ≡ backslash → stops backslash ≡ false
       → is_one_of known (slice_index text (at + 1)) ≡ t → EscapeScan known stops text (at + 2) (found + cond t 1 0)
   unfolding without_escapes
   walk_escape at found t w within here kept is =
@@ -135,9 +135,9 @@ module _ (known : List ℕ) (stops : ℕ → Bool) (text : List ℕ) where
       let second = take_more text (at + 1) 0 within in
       let two : at + 1 + 1 ≡ at + 2 = omega arith in
       let escaped : is_escaped_after (take (at + 1) text) ≡ true = rw (is_escaped_more text at (omega arith), w.bare, here) refl in
-      let front : take (at + 2) text ≡ take at text ++ (92 ∷ slice_index text (at + 1) ∷ []) = rw (← two)
+      let front : take (at + 2) text ≡ take at text ++ (backslash ∷ slice_index text (at + 1) ∷ []) = rw (← two)
       (rw (second, first, here) (simp append_assoc)) in
-      let separated_list = without_escapes_append known (take at text) (92 ∷ slice_index text (at + 1) ∷ []) w.bare in
+      let separated_list = without_escapes_append known (take at text) (backslash ∷ slice_index text (at + 1) ∷ []) w.bare in
       record {
         within = omega arith;
         bare = rw (← two) (rw (is_escaped_more text (at + 1) within, escaped) refl);
@@ -158,7 +158,7 @@ module _ (known : List ℕ) (stops : ℕ → Bool) (text : List ℕ) where
 
   -- over a byte that is neither a backslash nor a stop
   to_by_byte : (n at found : ℕ) → EscapeScan known stops text at found → at < length text
-      → (slice_index text at == 92) ≡ false → is_bare_at stops text at ≡ false
+      → (slice_index text at == backslash) ≡ false → is_bare_at stops text at ≡ false
       → (EscapeScan known stops text (at + 1) found → EscapeScan known stops text (at + 1 + n) (found + escapes_from known text (at + 1) n))
       → EscapeScan known stops text (at + suc n) (found + escapes_from known text at (suc n))
   to_by_byte n at found w within other not_stop rest =
@@ -175,23 +175,23 @@ module _ (known : List ℕ) (stops : ℕ → Bool) (text : List ℕ) where
       (subst (λ (k : ℕ). EscapeScan known stops text (at + 1 + n) k) count (rest one))
 
   -- over a backslash and the byte that it escapes
-  to_by_escape : (n at found : ℕ) → stops 92 ≡ false → EscapeScan known stops text at found → at + 1 < length text
-      → (slice_index text at == 92) ≡ true
+  to_by_escape : (n at found : ℕ) → stops backslash ≡ false → EscapeScan known stops text at found → at + 1 < length text
+      → (slice_index text at == backslash) ≡ true
       → ((more : ℕ) → EscapeScan known stops text (at + 2) more
       → EscapeScan known stops text (at + 2 + n) (more + escapes_from known text (at + 2) n))
       → EscapeScan known stops text (at + suc (suc n)) (found + escapes_from known text at (suc (suc n)))
   to_by_escape n at found kept w within is rest =
       let t = is_one_of known (slice_index text (at + 1)) in
-      let here : slice_index text at ≡ 92 = eqb-true (slice_index text at) 92 is in
+      let here : slice_index text at ≡ backslash = eqb-true (slice_index text at) backslash is in
       let two = walk_escape at found t w within here kept refl in
       let first : cond {A = ℕ} (is_escape_at known text at) 1 0 ≡ cond t 1 0 = ap₂
       (λ (a e : Bool). cond {A = ℕ} ((a && not e) && t) 1 0) is w.bare in
       let flag : is_escaped_after (take (at + 1) text) ≡ true = rw (is_escaped_more text at (omega arith), w.bare, here) refl in
       let second : cond {A = ℕ} (is_escape_at known text (at + 1)) 1 0 ≡ 0 =
       ap (λ (e : Bool). cond {A = ℕ}
-      (((slice_index text (at + 1) == 92) && not e) && is_one_of known (slice_index text (at + 1 + 1))) 1 0) flag
+      (((slice_index text (at + 1) == backslash) && not e) && is_one_of known (slice_index text (at + 1 + 1))) 1 0) flag
       ∙ ap (λ (a : Bool). cond {A = ℕ} (a && is_one_of known (slice_index text (at + 1 + 1))) 1 0)
-      (and_right (slice_index text (at + 1) == 92) false refl) in
+      (and_right (slice_index text (at + 1) == backslash) false refl) in
       let next : at + 1 + 1 ≡ at + 2 = omega arith in
       let after : escapes_from known text (at + 1 + 1) n ≡ escapes_from known text (at + 2)
       n = ap (λ (k : ℕ). escapes_from known text k n) next in
@@ -202,13 +202,13 @@ module _ (known : List ℕ) (stops : ℕ → Bool) (text : List ℕ) where
       (subst (λ (k : ℕ). EscapeScan known stops text (at + 2 + n) k) count (rest (found + cond t 1 0) two))
 
   -- up to a bare place, with no bare stop on the way
-  pub walk_to : (n at found : ℕ) → stops 92 ≡ false → EscapeScan known stops text at found → at + n ≤ length text
+  pub walk_to : (n at found : ℕ) → stops backslash ≡ false → EscapeScan known stops text at found → at + n ≤ length text
       → is_escaped_after (take (at + n) text) ≡ false
       → ((k : ℕ) → at ≤ k → k < at + n → is_bare_at stops text k ≡ false)
       → EscapeScan known stops text (at + n) (found + escapes_from known text at n)
   walk_to zero at found kept w room bare none = rw (add-zero at, add-zero found) w
   walk_to (suc zero) at found kept w room bare none =
-      elim (cases_Bool (slice_index text at == 92)) [
+      elim (cases_Bool (slice_index text at == backslash)) [
         | inl is ↦ absurd (false≢true (sym bare ∙ rw (is_escaped_more text at (omega arith), w.bare, is) refl))
         | inr other ↦ to_by_byte zero at found w (omega arith) other (none at (omega arith) (omega arith))
             (λ one. rw (add-zero (at + 1), add-zero found) one)
@@ -216,7 +216,7 @@ module _ (known : List ℕ) (stops : ℕ → Bool) (text : List ℕ) where
   walk_to (suc (suc n)) at found kept w room bare none =
       let one_on : at + 1 + suc n ≡ at + suc (suc n) = omega arith in
       let two_on : at + 2 + n ≡ at + suc (suc n) = omega arith in
-      elim (cases_Bool (slice_index text at == 92)) [
+      elim (cases_Bool (slice_index text at == backslash)) [
         | inl is ↦
             to_by_escape n at found kept w (omega arith) is
             (λ more walked. walk_to n (at + 2) more kept walked (omega arith)
@@ -229,7 +229,7 @@ module _ (known : List ℕ) (stops : ℕ → Bool) (text : List ℕ) where
 
   -- the same, where the answer is added as a number
   pub walk_counted : (at found n : ℕ) (t : Bool) → EscapeScan known stops text at found → at + 1 < length text
-      → slice_index text at ≡ 92 → stops 92 ≡ false
+      → slice_index text at ≡ backslash → stops backslash ≡ false
       → is_one_of known (slice_index text (at + 1)) ≡ t → n ≡ bool_byte t → EscapeScan known stops text (at + 2) (found + n)
   walk_counted at found n true w within here kept is counted = rw counted (walk_escape at found true w within here kept is)
   walk_counted at found n false w within here kept is counted = rw counted (walk_escape at found false w within here kept is)
@@ -244,7 +244,7 @@ module _ (known : List ℕ) (stops : ℕ → Bool) (text : List ℕ) where
 
   -- or after a backslash that is the last byte
   pub walk_ends_after : (at found : ℕ) → EscapeScan known stops text at found → at + 1 ≡ length text
-      → slice_index text at ≡ 92 → stops 92 ≡ false
+      → slice_index text at ≡ backslash → stops backslash ≡ false
       → (first_bare stops text ≡ at + 1) × (length (without_escapes known (take (at + 1) text)) + found ≡ at + 1)
   unfolding without_escapes
   walk_ends_after at found w last here kept =
@@ -258,27 +258,27 @@ module _ (known : List ℕ) (stops : ℕ → Bool) (text : List ℕ) where
       )
 
   -- a byte that is not plain and no backslash is a stop
-  pub is_stop_then : (b : ℕ) → is_plain stops b ≡ false → b ≢ 92 → stops b ≡ true
+  pub is_stop_then : (b : ℕ) → is_plain stops b ≡ false → b ≢ backslash → stops b ≡ true
   is_stop_then b not_plain other =
-      elim (or_cases (stops b) (b == 92) (not-false _ not_plain)) [
+      elim (or_cases (stops b) (b == backslash) (not-false _ not_plain)) [
         | inl stop ↦ stop
-        | inr here ↦ absurd (other (eqb-true b 92 here))
+        | inr here ↦ absurd (other (eqb-true b backslash here))
       ]
 
   -- plain bytes hold no backslash
-  plain_front : (n : ℕ) → n ≤ length text → AllPassBetween (is_plain stops) text 0 n → is_one_of (take n text) 92 ≡ false
+  plain_front : (n : ℕ) → n ≤ length text → AllPassBetween (is_plain stops) text 0 n → is_one_of (take n text) backslash ≡ false
   plain_front zero fits pass = refl
   plain_front (suc n) fits pass =
       let before = plain_front n (omega arith) (λ k from to. pass k from (omega arith)) in
       let last = (plain_parts (slice_index text n) (pass n (omega arith) (omega arith))).1 in
-      let more = list_any_more (λ b. b == 92) text n 0 (omega arith) in
+      let more = list_any_more (λ b. b == backslash) text n 0 (omega arith) in
       rw (← add-one n) (rw (more, before) last)
 
-  pub run_is_plain : (end : ℕ) → IsRunAt (is_plain stops) text 0 end → is_one_of (take end text) 92 ≡ false
+  pub run_is_plain : (end : ℕ) → IsRunAt (is_plain stops) text 0 end → is_one_of (take end text) backslash ≡ false
   run_is_plain end run = plain_front end run.within run.passes
 
   -- a token without a backslash
-  pub run_ends : (end : ℕ) → IsRunAt (is_plain stops) text 0 end → (end < length text → slice_index text end ≢ 92)
+  pub run_ends : (end : ℕ) → IsRunAt (is_plain stops) text 0 end → (end < length text → slice_index text end ≢ backslash)
       → (first_bare stops text ≡ end) × (length (without_escapes known (take end text)) ≡ end)
   run_ends end run other =
       let ends = walk_ends end 0 (walk_run 0 end 0 walk_start run) (λ h. is_stop_then (slice_index text end) (run.stops h) (other h)) in

@@ -2,7 +2,7 @@ use Rattle.std.proofs.Common.{◌≡◌, ◌-◌, ◌<◌, true, false, [], ◌�
 use Rattle.std.proofs.lemmas.Grind.{common_steps}
 use Rattle.std.proofs.lemmas.Str.{IsCharBoundary-start, IsCharBoundary-before_ascii}
 use Rattle.std.proofs.Output.{has_written_append, has_written_of_eq}
-use Rattle.lp_format.specs.format.Bytes.{is_one_of}
+use Rattle.lp_format.specs.format.Bytes.{backslash, is_one_of}
 use Rattle.lp_scan.specs.code.Tokens.{known_of}
 use Rattle.lp_format.specs.code.Shown.{shown_escapes}
 use Rattle.lp_values.proofs.lemmas.shown.ShownLemmas.{escaped_nil, keep_byte, escape_byte, shown_ascii}
@@ -27,7 +27,7 @@ loop-at-preserved g c =
           rw (w.start-is, w.f-is) (
             omega arith,
             IsCharBoundary-before_ascii text l.at within (shown_ascii c.args.kind _ special),
-            done ++ (run ++ 92 ∷ []),
+            done ++ (run ++ backslash ∷ []),
             escape_byte bytes text done l.start l.at within special whole,
             λ plain.
                 let so_far = wrote plain in

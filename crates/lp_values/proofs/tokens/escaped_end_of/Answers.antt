@@ -11,6 +11,7 @@ use Rattle.lp_values.proofs.lemmas.tokens.EscapeMasks.{cut_escapes, first_backsl
 use Rattle.lp_values.proofs.lemmas.tokens.TokenLemmas.{backslash_goes_on}
 use Rattle.lp_values.proofs.lemmas.tokens.WalkLemmas.{walk_start, walk_run, walk_ends}
 use Rattle.lp_values.proofs.tokens.escaped_end_of.Goals as goal
+use Rattle.lp_format.specs.format.Bytes.{backslash}
 
 pub loop-end-init : goal.loop-end-init
 loop-end-init c =
@@ -23,12 +24,12 @@ loop-end-init c =
     }
 
 -- the backslashes are those of the walk, where the first is before its end
-told : (kind : TokenKind) (text : List ℕ) (at end found : ℕ) (told : Backslashes) → slice_index text at ≡ 92 → at < end → end ≤ length text
+told : (kind : TokenKind) (text : List ℕ) (at end found : ℕ) (told : Backslashes) → slice_index text at ≡ backslash → at < end → end ≤ length text
     → length (without_escapes (known_of kind) (take end text)) + found ≡ end → told.len ≡ end - found → told.first ≡ at
     → (0 < told.escapes → AreEscapes (known_of kind) (take end text) told.first told.escapes)
     → IsRunAt (is_plain (stops_of kind)) text 0 told.first → AreBackslashes (known_of kind) (take end text) told
 told kind text at end found t here after fits counted len first masked run = record {
-  some = is_one_of_front text at end 92 after (omega (arith, after, fits)) here;
+  some = is_one_of_front text at end backslash after (omega (arith, after, fits)) here;
   found = first_backslash (stops_of kind) text end t.first fits (omega (arith, after, first)) run
       (λ _. ap (slice_index text) first ∙ here);
   len = omega (arith, len, counted);
@@ -36,7 +37,7 @@ told kind text at end found t here after fits counted len first masked run = rec
 }
 
 -- the first backslash is before the stop of a load
-after_first : (kind : TokenKind) (bytes : List ℕ) (at next : ℕ) → at ≤ next → slice_index bytes at ≡ 92
+after_first : (kind : TokenKind) (bytes : List ℕ) (at next : ℕ) → at ≤ next → slice_index bytes at ≡ backslash
     → stops_of kind (slice_index bytes next) ≡ true → at < next
 after_first kind bytes at next further here stop = elim (cases_eq next at) [
   | inl e ↦ absurd (false≢true
@@ -58,7 +59,7 @@ returns-then-end-at-clause-backslashes c =
     let at = c.args.at in
     let next = c.escapes_in_load-next.result.0 in
     let load = c.escapes_in_load-next.ensures in
-    let here : slice_index bytes at ≡ 92 = rw c.as_bytes-bytes.ensures.value c.requires.here in
+    let here : slice_index bytes at ≡ backslash = rw c.as_bytes-bytes.ensures.value c.requires.here in
     let run = rw (← c.as_bytes-bytes.ensures.value) at c.requires.run in
     let stop = load.stops c.if-next-end.true in
     let ends = walk_ends (known_of kind) (stops_of kind) bytes next _ load.walked (λ _. stop) in
@@ -82,7 +83,7 @@ returns-else-end-at-clause-backslashes c =
     let at = c.args.at in
     let next = c.escapes_in_load-next.result.0 in
     let load = c.escapes_in_load-next.ensures in
-    let here : slice_index bytes at ≡ 92 = rw c.as_bytes-bytes.ensures.value c.requires.here in
+    let here : slice_index bytes at ≡ backslash = rw c.as_bytes-bytes.ensures.value c.requires.here in
     let stop = load.stops c.if-next-end.true in
     let ends = walk_ends (known_of kind) (stops_of kind) bytes next _ load.walked (λ _. stop) in
     let after = after_first kind bytes at next (omega (arith, load.further, c.loop-end.invariant.after)) here stop in
@@ -96,7 +97,7 @@ returns-clause-backslashes c =
     let at = c.args.at in
     let end = c.escapes_to_end-end.result.0 in
     let tail = c.escapes_to_end-end.ensures in
-    let here : slice_index bytes at ≡ 92 = rw c.as_bytes-bytes.ensures.value c.requires.here in
+    let here : slice_index bytes at ≡ backslash = rw c.as_bytes-bytes.ensures.value c.requires.here in
     let within : at < length bytes = rw c.as_bytes-bytes.ensures.value c.requires.within in
     let after : at < end = elim (cases_eq c.loop-end.end at) [
       | inl e ↦ rw (← e) (tail.moves (rw e within) (rw e here))

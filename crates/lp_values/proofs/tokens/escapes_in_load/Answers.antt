@@ -7,6 +7,7 @@ use Rattle.lp_values.proofs.lemmas.tokens.TokenLemmas.{backslash_goes_on}
 use Rattle.lp_values.proofs.lemmas.tokens.WalkMasks.{escapes_mask, load_stops, load_goes_on}
 use Rattle.lp_scan.proofs.lemmas.scan.BareMasks.{mask_low}
 use Rattle.lp_values.proofs.tokens.escapes_in_load.Goals as goal
+use Rattle.lp_format.specs.format.Bytes.{backslash}
 
 pub returns-then-run-lt-WIDE : goal.returns-then-run-lt-WIDE
 returns-then-run-lt-WIDE c =
@@ -17,7 +18,7 @@ returns-then-run-lt-WIDE c =
     let run = c.first_set-run.result in
     let given = c.places_of-backslashes.ensures in
     let stops = c.bare.ensures (stops_of kind) bytes at (omega arith) w.bare given c.stops_in.ensures in
-    let slashes = c.bare-2.ensures (λ b. b == 92) bytes at (omega arith) w.bare given given in
+    let slashes = c.bare-2.ensures (λ b. b == backslash) bytes at (omega arith) w.bare given given in
     let known = c.lowest-escapes.ensures
     ∙ ap (λ (m : ℕ). m % 2 ^ run) (escapes_mask (known_of kind) bytes at _ _ c.requires.room slashes c.known_in.ensures) in
     let load = load_stops (known_of kind) (stops_of kind) bytes at c.args.found c.requires.room
@@ -41,7 +42,7 @@ returns c =
     let run = c.first_set-run.result in
     let given = c.places_of-backslashes.ensures in
     let stops = c.bare.ensures (stops_of kind) bytes at (omega arith) w.bare given c.stops_in.ensures in
-    let slashes = c.bare-2.ensures (λ b. b == 92) bytes at (omega arith) w.bare given given in
+    let slashes = c.bare-2.ensures (λ b. b == backslash) bytes at (omega arith) w.bare given given in
     let known = c.lowest-escapes.ensures
     ∙ ap (λ (m : ℕ). m % 2 ^ run) (escapes_mask (known_of kind) bytes at _ _ c.requires.room slashes c.known_in.ensures) in
     let last = c.escapes_next.ensures bytes at (omega arith) w.bare given in

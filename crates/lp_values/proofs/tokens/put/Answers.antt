@@ -2,7 +2,7 @@ use Rattle.std.proofs.Common.{◌≡◌, ◌+◌, length, drop, slice_index, tru
 use Rattle.std.proofs.Common.{append_assoc, ℕ, List, ◌<◌}
 use Rattle.std.proofs.lemmas.Bool.{not-false, eqb-true}
 use Rattle.std.proofs.lemmas.Str.{IsCharBoundary-start, IsCharBoundary-before_ascii}
-use Rattle.lp_format.specs.format.Bytes.{is_one_of}
+use Rattle.lp_format.specs.format.Bytes.{backslash, is_one_of}
 use Rattle.lp_scan.specs.code.Tokens.{is_plain, known_of}
 use Rattle.lp_scan.specs.code.Lanes.{IsRunAt}
 use Rattle.lp_values.proofs.lemmas.tokens.CopyLemmas.{stretch, left_run, left_known, left_unknown, whole_last}
@@ -11,7 +11,7 @@ use Rattle.lp_values.proofs.tokens.put.Goals as goal
 use Rattle.lp_values.proofs.tokens.put.Goals.{then-is_known+in_ok-push_str, else-is_known}
 
 -- where the search stops before the end is a backslash
-stops_at : (bytes : List ℕ) (at end : ℕ) → IsRunAt (is_plain (λ b. false)) bytes at end → end < length bytes → slice_index bytes end ≡ 92
+stops_at : (bytes : List ℕ) (at end : ℕ) → IsRunAt (is_plain (λ b. false)) bytes at end → end < length bytes → slice_index bytes end ≡ backslash
 stops_at bytes at end run within = eqb-true _ _ (not-false _ (run.stops within))
 
 pub loop-at-init : goal.loop-at-init
@@ -36,7 +36,7 @@ loop-at-preserved c =
     let at = c.loop-at.at in
     let end = c.backslash_at-at.result in
     let inv = c.loop-at.invariant in
-    let here : slice_index bytes at ≡ 92 = inv.stopped (omega arith) in
+    let here : slice_index bytes at ≡ backslash = inv.stopped (omega arith) in
     let two : at + 2 ≡ at + 1 + 1 = omega arith in
     let run = rw two at c.backslash_at-at.ensures in
     elim c.if-is_known.branch [

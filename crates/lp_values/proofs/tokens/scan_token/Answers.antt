@@ -4,13 +4,14 @@ use Rattle.lp_values.proofs.lemmas.tokens.WalkLemmas.{run_ends, run_is_plain}
 use Rattle.lp_values.proofs.tokens.scan_token.Goals as goal
 use Rattle.lp_values.proofs.tokens.scan_token.Goals.{else-end-bytes-via-then-end-bytes+else-bytes-end-eq92}
 use Rattle.lp_values.proofs.tokens.scan_token.Goals.{else-end-bytes-via-else-end-bytes}
+use Rattle.lp_format.specs.format.Bytes.{backslash}
 
 pub returns-clause-end : goal.returns-clause-end
 returns-clause-end c =
     let kind = c.args.kind in
     let bytes = c.as_bytes-bytes.result.now in
     let end = c.plain_end-end.result in
-    let other : end < length bytes → slice_index bytes end ≢ 92 = λ within. elim c.else-end-bytes.branch [
+    let other : end < length bytes → slice_index bytes end ≢ backslash = λ within. elim c.else-end-bytes.branch [
       | else-end-bytes-via-then-end-bytes+else-bytes-end-eq92 w ↦ w.if-bytes-end-eq92.false
       | else-end-bytes-via-else-end-bytes w ↦ absurd (omega arith)
     ] in

@@ -7,6 +7,7 @@ use Rattle.lp_format.proofs.lemmas.line.TrimLemmas.{left_of, left_newline, left_
 use Rattle.lp_format.proofs.lemmas.line.TrimLemmas.{left_end, trimmed_is}
 use Rattle.lp_values.proofs.trim.trimmed.Goals as goal
 use Rattle.lp_values.proofs.trim.trimmed.Goals.{in-10, in-35, in-32-1, in-9-1, in_default}
+use Rattle.lp_format.specs.format.Bytes.{hash, newline, space, tab}
 
 pub loop-place-init : goal.loop-place-init
 loop-place-init c = record {
@@ -40,10 +41,10 @@ pub returns-in_default-2 : goal.returns-in_default-2
 returns-in_default-2 c =
     let bytes = c.as_bytes-bytes.result.now in
     let place = c.loop-place.place in
-    let a : slice_index bytes place ≢ 10 = λ e. grind (arith, common_steps) in
-    let b : slice_index bytes place ≢ 35 = λ e. grind (arith, common_steps) in
-    let s : slice_index bytes place ≢ 32 = λ e. grind (arith, common_steps) in
-    let t : slice_index bytes place ≢ 9 = λ e. grind (arith, common_steps) in
+    let a : slice_index bytes place ≢ newline = λ e. grind (arith, common_steps) in
+    let b : slice_index bytes place ≢ hash = λ e. grind (arith, common_steps) in
+    let s : slice_index bytes place ≢ space = λ e. grind (arith, common_steps) in
+    let t : slice_index bytes place ≢ tab = λ e. grind (arith, common_steps) in
     let kept : left_of false (drop place bytes) ≡ drop place bytes = left_kept bytes place (omega arith) a b s t in
     let outside : left_of c.loop-place.in_comment (drop place bytes) ≡ left_of false (drop place bytes) = rw c.if-in_comment.false refl in
     let whole : trimmed bytes ≡ drop place bytes = trimmed_is bytes ∙ c.loop-place.invariant.left ∙ outside ∙ kept in

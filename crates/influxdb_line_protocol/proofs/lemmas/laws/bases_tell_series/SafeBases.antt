@@ -8,7 +8,7 @@ use Rattle.lp_lines.specs.laws.BaseLaws.{IsClearSeries, IsParsedSeries, SafeBase
 use Rattle.lp_lines.specs.laws.BaseLaws.{has_one_escape, is_delimited, is_tag_delimited, is_tag_one_escape, spelled_tags}
 use Rattle.lp_lines.specs.code.Bases.{in_order, is_ambiguous_name, is_ambiguous_tag, is_base_safe}
 use Rattle.lp_lines.specs.code.Bases.{is_byte_alone}
-use Rattle.lp_format.specs.format.Bytes.{is_one_of}
+use Rattle.lp_format.specs.format.Bytes.{backslash, comma, equals, is_one_of}
 use Rattle.lp_format.specs.format.Escapes.{without_escapes}
 use Rattle.lp_format.specs.format.Lines.{tag}
 use Rattle.lp_format.specs.laws.Meanings.{SeparatedAfterComma}
@@ -27,7 +27,7 @@ escape_reads_alone : (known spelling : List ℕ) → is_byte_alone known (withou
 unfolding without_escapes
 escape_reads_alone known [] h = refl
 escape_reads_alone known (b ∷ []) h = refl
-escape_reads_alone known (b ∷ c ∷ []) h = elim (cases_Bool (b == 92)) [
+escape_reads_alone known (b ∷ c ∷ []) h = elim (cases_Bool (b == backslash)) [
   | inr other ↦ rw other refl
   | inl escapes ↦ elim (cases_Bool (is_one_of known c)) [
     | inr plain ↦ rw (escapes, plain) refl
@@ -57,22 +57,22 @@ tags_apart (t ∷ tags) text h clear =
     let p = tag_parts suffix t h.1 h.3 in
     let v = value_part suffix in
     let both = or_parts (is_ambiguous_tag t) (list_any is_ambiguous_tag tags) clear in
-    let names = or_parts (is_ambiguous_name (escapable a_tag_key) 61 t.key.bytes)
-    (is_ambiguous_name (escapable a_tag_value) 44 t.value.bytes) both.0 in
-    let key = name_apart a_tag_key 61 suffix t.key p.key_is names.0 in
-    let value = name_apart a_tag_value 44 v t.value p.value_is names.1 in
+    let names = or_parts (is_ambiguous_name (escapable a_tag_key) equals t.key.bytes)
+    (is_ambiguous_name (escapable a_tag_value) comma t.value.bytes) both.0 in
+    let key = name_apart a_tag_key equals suffix t.key p.key_is names.0 in
+    let value = name_apart a_tag_value comma v t.value p.value_is names.1 in
     let more = tags_apart tags h.1 h.4 both.1 in
     let escapes : is_tag_one_escape (spelled a_tag_key suffix, spelled a_tag_value v) ≡ false =
     or_from (is_one_escape (escapable a_tag_key) (spelled a_tag_key suffix)) (is_one_escape (escapable a_tag_value) (spelled a_tag_value v))
     key.0 value.0 in
     let others : list_any is_tag_one_escape (spelled_tags (length tags) (drop (spelled_len a_tag_value v) v)) ≡ false =
     ap (λ (r : List ℕ). list_any is_tag_one_escape (spelled_tags (length tags) r)) (sym p.rest_is) ∙ more.0 in
-    let all : list_any is_tag_one_escape (spelled_tags (length (t ∷ tags)) (44 ∷ suffix)) ≡ false =
+    let all : list_any is_tag_one_escape (spelled_tags (length (t ∷ tags)) (comma ∷ suffix)) ≡ false =
     or_from (is_tag_one_escape (spelled a_tag_key suffix, spelled a_tag_value v))
     (list_any is_tag_one_escape (spelled_tags (length tags) (drop (spelled_len a_tag_value v) v))) escapes others in (
       ap (λ (r : List ℕ). list_any is_tag_one_escape (spelled_tags (length (t ∷ tags)) r)) h.2 ∙ all,
       or_from (is_tag_delimited t) (list_any is_tag_delimited tags)
-          (or_from (is_one_of t.key.bytes 61) (is_one_of t.value.bytes 44) key.1 value.1) more.1,
+          (or_from (is_one_of t.key.bytes equals) (is_one_of t.value.bytes comma) key.1 value.1) more.1,
     )
 
 -- a parsed series whose base is safe is clear, and none of its names is delimited
@@ -80,14 +80,14 @@ safe_is_clear : (raw : List ℕ) (m : Text) (tags : List (Pair Text Text)) → I
     → is_base_safe m tags ≡ true → (has_one_escape raw (length tags) ≡ false) × (is_delimited m tags ≡ false)
 safe_is_clear raw m tags h safe =
     let p = name_parts a_measurement raw m h.after h.measurement_is in
-    let apart = or_parts (is_ambiguous_name (escapable a_measurement) 44 m.bytes) (list_any is_ambiguous_tag tags)
-    (not-true (is_ambiguous_name (escapable a_measurement) 44 m.bytes || list_any is_ambiguous_tag tags) safe) in
-    let first = name_apart a_measurement 44 raw m p.0 apart.0 in
+    let apart = or_parts (is_ambiguous_name (escapable a_measurement) comma m.bytes) (list_any is_ambiguous_tag tags)
+    (not-true (is_ambiguous_name (escapable a_measurement) comma m.bytes || list_any is_ambiguous_tag tags) safe) in
+    let first = name_apart a_measurement comma raw m p.0 apart.0 in
     let more = tags_apart tags h.after (tags_separated h) apart.1 in (
       or_from (is_one_escape (escapable a_measurement) (spelled a_measurement raw))
           (list_any is_tag_one_escape (spelled_tags (length tags) (drop (spelled_len a_measurement raw) raw)))
           first.0 (ap (λ (r : List ℕ). list_any is_tag_one_escape (spelled_tags (length tags) r)) (sym p.1) ∙ more.0),
-      or_from (is_one_of m.bytes 44) (list_any is_tag_delimited tags) first.1 more.1,
+      or_from (is_one_of m.bytes comma) (list_any is_tag_delimited tags) first.1 more.1,
     )
 
 pub safe_bases_tell_series : SafeBasesTellSeries
@@ -102,7 +102,7 @@ safe_bases_tell_series raw text m other tags others h k once alone safe sound =
 
 -- whether the key or the value of an entry is ambiguous
 abbrev is_ambiguous_entry : List ℕ × List ℕ → Bool
-is_ambiguous_entry e = is_ambiguous_name (escapable a_tag_key) 61 e.0 || is_ambiguous_name (escapable a_tag_value) 44 e.1
+is_ambiguous_entry e = is_ambiguous_name (escapable a_tag_key) equals e.0 || is_ambiguous_name (escapable a_tag_value) comma e.1
 
 -- the same test, of tags and of entries
 same_test : (tags : List (Pair Text Text)) → list_any is_ambiguous_entry (in_order tags) ≡ list_any is_ambiguous_tag tags
@@ -113,5 +113,5 @@ pub same_series_are_safe_alike : SameSeriesAreSafeAlike
 same_series_are_safe_alike m other tags others same =
     let moved = sym (same_test tags) ∙ list_any-IsPermutation is_ambiguous_entry (in_order tags) (in_order others) same.tags_are
     ∙ same_test others in
-    ap (λ (x : List ℕ). not (is_ambiguous_name (escapable a_measurement) 44 x || list_any is_ambiguous_tag tags)) same.measurement_is
-    ∙ ap (λ (b : Bool). not (is_ambiguous_name (escapable a_measurement) 44 other.bytes || b)) moved
+    ap (λ (x : List ℕ). not (is_ambiguous_name (escapable a_measurement) comma x || list_any is_ambiguous_tag tags)) same.measurement_is
+    ∙ ap (λ (b : Bool). not (is_ambiguous_name (escapable a_measurement) comma other.bytes || b)) moved

@@ -10,6 +10,7 @@ use Rattle.lp_lines.proofs.lemmas.read_back.LinePieces.{line_is_cut_piece}
 use Rattle.lp_format.proofs.lemmas.read_back.ReadLines.{read_line, read_line_is}
 use Rattle.lp_lines.proofs.lemmas.read_back.LineReadsBack.{line_reads_back}
 use Rattle.lp_lines.proofs.lemmas.names.Spellings.{line_trimmed, line_some}
+use Rattle.lp_format.specs.format.Bytes.{newline}
 
 -- the line of an admitted point has one answer
 line_answers : (dialect : Dialect) (p : Point) → IsAdmitted p → answers_of_piece dialect (line_of p) ≡ Ok (read_line p) ∷ []
@@ -25,7 +26,7 @@ admitted_batches_read_back dialect (p ∷ points) t answers all h =
     let more = admitted_batches_read_back dialect points t answers all.1 h in
     let ok = admitted_point p all.0.is_point all.0.names_are in
     let pieces = more.2.pieces in
-    let regrouped : line_of p ++ 10 ∷ (built_all points ++ t) ≡ built_all (p ∷ points) ++ t = simp append_assoc in (
+    let regrouped : line_of p ++ newline ∷ (built_all points ++ t) ≡ built_all (p ∷ points) ++ t = simp append_assoc in (
       read_line p ∷ more.0,
       rw more.1 (ap (λ q. q ∷ points) (read_line_is p)),
       record {

@@ -6,7 +6,7 @@ use Rattle.std.specs.List.{list_all}
 use Rattle.std.proofs.lemmas.Bool.{cases_Bool, false≢true, both_ways, and_from, and_right, not_from_false, ne_eqb}
 use Rattle.std.proofs.lemmas.Grind.{flat_map-append}
 use Rattle.lp_format.specs.format.Dialects.{Dialect, Crate, Strict}
-use Rattle.lp_format.specs.format.Bytes.{is_one_of}
+use Rattle.lp_format.specs.format.Bytes.{hash, is_one_of, newline}
 use Rattle.lp_format.specs.format.Escapes.{escaped, escaped_byte}
 use Rattle.lp_format.specs.format.Readings.{Fault, ends_with_backslash, fatal}
 use Rattle.lp_format.specs.format.Names.{NameKind, a_measurement, a_tag_key, a_tag_value, a_field_key, ends_in_backslash}
@@ -41,12 +41,12 @@ pub record Fails (line : List ℕ) : Type 0 where
   pub answered : (dialect : Dialect) (rest : List ℕ) → StopsWith stop rest → answer dialect (front ++ rest) ≡ Err ends_with_backslash
 
 -- a newline of a text is in a front of it, or after that
-newline_place : (p q t x : List ℕ) → p ++ 10 ∷ t ≡ q ++ x → ((y : List ℕ) × (q ≡ p ++ 10 ∷ y))
-    ⊎ ((y : List ℕ) × (p ≡ q ++ y) × (y ++ 10 ∷ t ≡ x))
+newline_place : (p q t x : List ℕ) → p ++ newline ∷ t ≡ q ++ x → ((y : List ℕ) × (q ≡ p ++ newline ∷ y))
+    ⊎ ((y : List ℕ) × (p ≡ q ++ y) × (y ++ newline ∷ t ≡ x))
 newline_place p [] t x e = inr (p, refl, e)
-newline_place [] (b ∷ q) t x e = let h : 10 ≡ b = cc in inl (q, ap (λ c. c ∷ q) (sym h))
+newline_place [] (b ∷ q) t x e = let h : newline ≡ b = cc in inl (q, ap (λ c. c ∷ q) (sym h))
 newline_place (a ∷ p) (b ∷ q) t x e =
-    let k : p ++ 10 ∷ t ≡ q ++ x = cc in
+    let k : p ++ newline ∷ t ≡ q ++ x = cc in
     elim (newline_place p q t x k) [
       | inl w ↦ let i = w.1 in inl (w.0, cc)
       | inr w ↦ let i = w.1 in inr (w.0, cc, w.2)
@@ -66,7 +66,7 @@ front_is_piece Crate line f = inl f.reached
 front_is_piece Strict line f = inr (line_no_comment f.front (subst BeginsLine (append-nil f.front) (f.begins [])), inl f.reached)
 
 -- what comes after it in the piece
-stops_here : (stop : ℕ) (y t after : List ℕ) → y ++ 10 ∷ t ≡ stop ∷ after → StopsWith stop y
+stops_here : (stop : ℕ) (y t after : List ℕ) → y ++ newline ∷ t ≡ stop ∷ after → StopsWith stop y
 stops_here stop [] t after e = tt
 stops_here stop (b ∷ y) t after e = cc
 
@@ -131,16 +131,16 @@ admitted_from : (kind : NameKind) (n : List ℕ) → IsParsedName kind n → lis
 unfolding is_admitted_name
 admitted_from a_measurement n h all =
     let some : (length n == 0) ≡ false = ne_eqb (length n) 0 (λ e. absurd (omega (arith, h.some))) in
-    rw (some, h.ends, all, ne_eqb (slice_index n 0) 35 h.begins) refl
+    rw (some, h.ends, all, ne_eqb (slice_index n 0) hash h.begins) refl
 admitted_from a_tag_key n h all =
     let some : (length n == 0) ≡ false = ne_eqb (length n) 0 (λ e. absurd (omega (arith, h.some))) in
-    rw (some, h.ends, all, and_right (slice_index n 0 == 35) false refl) refl
+    rw (some, h.ends, all, and_right (slice_index n 0 == hash) false refl) refl
 admitted_from a_tag_value n h all =
     let some : (length n == 0) ≡ false = ne_eqb (length n) 0 (λ e. absurd (omega (arith, h.some))) in
-    rw (some, h.ends, all, and_right (slice_index n 0 == 35) false refl) refl
+    rw (some, h.ends, all, and_right (slice_index n 0 == hash) false refl) refl
 admitted_from a_field_key n h all =
     let some : (length n == 0) ≡ false = ne_eqb (length n) 0 (λ e. absurd (omega (arith, h.some))) in
-    rw (some, h.ends, all, and_right (slice_index n 0 == 35) false refl) refl
+    rw (some, h.ends, all, and_right (slice_index n 0 == hash) false refl) refl
 
 -- the spelling around a byte that is not escaped
 spelling_around : (kind : NameKind) (front after : List ℕ) (stop : ℕ) → is_one_of (never_in kind) stop ≡ true

@@ -16,27 +16,28 @@ use Rattle.lp_lines.proofs.lemmas.read_back.Reaches.{Reaches}
 use Rattle.lp_lines.proofs.lemmas.read_back.LinePieces.{AdmittedTag}
 use Rattle.lp_lines.proofs.lemmas.names.Spellings.{name_reads_back, reaches_name, reaches_head, reaches_other}
 use Rattle.influxdb_line_protocol.proofs.lemmas.laws.batch_reads_back.FatalNames.{StopsWith, FatalName, fatal_name, fatal_here, around}
+use Rattle.lp_format.specs.format.Bytes.{comma, equals}
 
 -- what is fatal for all that are joined by commas, the first of which this is or which come after others
 pub record ManyFail {A : Type 0} (one : List ℕ → Reading A) (text : List ℕ) : Type 0 where
   pub at_first : separated_list one text ≡ fatal ends_with_backslash
-  pub at_later : (n : ℕ) → length text < n → many (after_comma one) n (44 ∷ text) ≡ fatal ends_with_backslash
+  pub at_later : (n : ℕ) → length text < n → many (after_comma one) n (comma ∷ text) ≡ fatal ends_with_backslash
 
 module _ {A : Type 0} (one : List ℕ → Reading A) where
   -- the first of them is fatal
   pub first_of_many : (text : List ℕ) → one text ≡ fatal ends_with_backslash → ManyFail one text
   first_of_many text e = record { at_first = rw e refl; at_later = fails }
     where
-      fails : (n : ℕ) → length text < n → many (after_comma one) n (44 ∷ text) ≡ fatal ends_with_backslash
+      fails : (n : ℕ) → length text < n → many (after_comma one) n (comma ∷ text) ≡ fatal ends_with_backslash
       fails zero room = absurd (omega arith)
       fails (suc n) room = rw e refl
 
   -- one is read, and then one is fatal
-  pub later_of_many : (text more : List ℕ) (x : A) → one text ≡ reads x (44 ∷ more) → length more < length text
+  pub later_of_many : (text more : List ℕ) (x : A) → one text ≡ reads x (comma ∷ more) → length more < length text
       → ManyFail one more → ManyFail one text
-  later_of_many text more x e less h = record { at_first = rw (e, h.at_later (length (44 ∷ more)) (omega arith)) refl; at_later = fails }
+  later_of_many text more x e less h = record { at_first = rw (e, h.at_later (length (comma ∷ more)) (omega arith)) refl; at_later = fails }
     where
-      fails : (n : ℕ) → length text < n → many (after_comma one) n (44 ∷ text) ≡ fatal ends_with_backslash
+      fails : (n : ℕ) → length text < n → many (after_comma one) n (comma ∷ text) ≡ fatal ends_with_backslash
       fails zero room = absurd (omega arith)
       fails (suc n) room = rw (e, h.at_later n (omega arith)) refl
 
@@ -57,12 +58,12 @@ record TagFails (t : Tag) : Type 0 where
 -- a key and what comes after its `=`
 reaches_after_key : (k value : List ℕ) → is_admitted_name a_tag_key k ≡ true
     → ((piece : List ℕ) → Reaches Head 0 0 piece → Reaches Head 0 0 (piece ++ value))
-    → (piece : List ℕ) → Reaches Head 0 0 piece → Reaches Head 0 0 (piece ++ (spelling a_tag_key k ++ 61 ∷ value))
+    → (piece : List ℕ) → Reaches Head 0 0 piece → Reaches Head 0 0 (piece ++ (spelling a_tag_key k ++ equals ∷ value))
 reaches_after_key k value ok more piece r =
     let text = piece ++ spelling a_tag_key k in
-    let sign = reaches_other 61 (omega arith) (omega arith) (omega arith) text (reaches_name a_tag_key k piece ok r) in
-    subst (Reaches Head 0 0) (append_assoc text (61 ∷ []) value
-    ∙ append_assoc piece (spelling a_tag_key k) (61 ∷ value)) (more (text ++ 61 ∷ []) sign)
+    let sign = reaches_other equals (omega arith) (omega arith) (omega arith) text (reaches_name a_tag_key k piece ok r) in
+    subst (Reaches Head 0 0) (append_assoc text (equals ∷ []) value
+    ∙ append_assoc piece (spelling a_tag_key k) (equals ∷ value)) (more (text ++ equals ∷ []) sign)
 
 -- a tag whose key stops too early
 key_fails : (t : Tag) → FatalName a_tag_key t.key → TagFails t
@@ -71,8 +72,8 @@ key_fails t f =
     record {
       front = spelling a_tag_key f.front;
       stop = f.stop;
-      after = f.after ++ 61 ∷ spelling a_tag_value t.value;
-      is = around a_tag_key t.key f (61 ∷ spelling a_tag_value t.value);
+      after = f.after ++ equals ∷ spelling a_tag_value t.value;
+      is = around a_tag_key t.key f (equals ∷ spelling a_tag_value t.value);
       reached = λ piece r. reaches_head f.spelled piece r;
       fails = λ rest stops. rw (fatal_here a_tag_key t.key f rest stops) refl;
     }
@@ -84,15 +85,15 @@ value_fails t ok f =
     let key = spelling a_tag_key t.key in
     let value = spelling a_tag_value f.front in
     record {
-      front = key ++ 61 ∷ value;
+      front = key ++ equals ∷ value;
       stop = f.stop;
       after = f.after;
-      is = ap (λ (xs : List ℕ). key ++ 61 ∷ xs) f.is ∙ sym (append_assoc key (61 ∷ value) (f.stop ∷ f.after));
+      is = ap (λ (xs : List ℕ). key ++ equals ∷ xs) f.is ∙ sym (append_assoc key (equals ∷ value) (f.stop ∷ f.after));
       reached = λ piece r. reaches_after_key t.key value ok (λ q h. reaches_head f.spelled q h) piece r;
       fails = λ rest stops.
           rw (
-            append_assoc key (61 ∷ value) rest,
-            name_reads_back a_tag_key t.key (value ++ rest) 61 ok refl,
+            append_assoc key (equals ∷ value) rest,
+            name_reads_back a_tag_key t.key (value ++ rest) equals ok refl,
             fatal_here a_tag_value t.value f rest stops,
           ) refl;
     }
@@ -112,7 +113,7 @@ pub record TagsFail (ts : List Tag) : Type 0 where
   pub front : List ℕ
   pub stop : ℕ
   pub after : List ℕ
-  pub is : flat_map built_tag ts ≡ 44 ∷ (front ++ stop ∷ after)
+  pub is : flat_map built_tag ts ≡ comma ∷ (front ++ stop ∷ after)
   pub reached : (piece : List ℕ) → Reaches Head 0 0 piece → Reaches Head 0 0 (piece ++ front)
   pub fails : (rest : List ℕ) → StopsWith stop rest → ManyFail tag (front ++ rest)
 
@@ -123,8 +124,8 @@ first_tag_fails t ts f =
       front = f.front;
       stop = f.stop;
       after = f.after ++ flat_map built_tag ts;
-      is = ap (λ (xs : List ℕ). 44 ∷ (xs ++ flat_map built_tag ts)) f.is
-          ∙ ap (λ (xs : List ℕ). 44 ∷ xs) (append_assoc f.front (f.stop ∷ f.after) (flat_map built_tag ts));
+      is = ap (λ (xs : List ℕ). comma ∷ (xs ++ flat_map built_tag ts)) f.is
+          ∙ ap (λ (xs : List ℕ). comma ∷ xs) (append_assoc f.front (f.stop ∷ f.after) (flat_map built_tag ts));
       reached = f.reached;
       fails = λ rest stops. first_of_many tag (f.front ++ rest) (f.fails rest stops);
     }
@@ -134,22 +135,22 @@ later_tag_fails : (t : Tag) (ts : List Tag) → AdmittedTag t → TagsFail ts �
 later_tag_fails t ts ok f =
     let text = tag_text t in
     record {
-      front = text ++ 44 ∷ f.front;
+      front = text ++ comma ∷ f.front;
       stop = f.stop;
       after = f.after;
-      is = ap (λ (xs : List ℕ). 44 ∷ (text ++ xs)) f.is
-          ∙ ap (λ (xs : List ℕ). 44 ∷ xs) (sym (append_assoc text (44 ∷ f.front) (f.stop ∷ f.after)));
+      is = ap (λ (xs : List ℕ). comma ∷ (text ++ xs)) f.is
+          ∙ ap (λ (xs : List ℕ). comma ∷ xs) (sym (append_assoc text (comma ∷ f.front) (f.stop ∷ f.after)));
       reached = λ piece r.
           let first = reaches_after_key t.key (spelling a_tag_value t.value) ok.0
           (λ q h. reaches_name a_tag_value t.value q ok.1 h) piece r in
-          let sign = reaches_other 44 (omega arith) (omega arith) (omega arith) (piece ++ text) first in
-          subst (Reaches Head 0 0) (append_assoc (piece ++ text) (44 ∷ []) f.front
-          ∙ append_assoc piece text (44 ∷ f.front)) (f.reached ((piece ++ text) ++ 44 ∷ []) sign);
+          let sign = reaches_other comma (omega arith) (omega arith) (omega arith) (piece ++ text) first in
+          subst (Reaches Head 0 0) (append_assoc (piece ++ text) (comma ∷ []) f.front
+          ∙ append_assoc piece text (comma ∷ f.front)) (f.reached ((piece ++ text) ++ comma ∷ []) sign);
       fails = λ rest stops.
           let more = f.front ++ rest in
-          subst (ManyFail tag) (sym (append_assoc text (44 ∷ f.front) rest))
-          (later_of_many tag (text ++ 44 ∷ more) more (read_tag t) (tag_reads_back t more 44 ok refl)
-          (omega (arith, length-append text (44 ∷ more))) (f.fails rest stops));
+          subst (ManyFail tag) (sym (append_assoc text (comma ∷ f.front) rest))
+          (later_of_many tag (text ++ comma ∷ more) more (read_tag t) (tag_reads_back t more comma ok refl)
+          (omega (arith, length-append text (comma ∷ more))) (f.fails rest stops));
     }
 
 -- tags whose names are parsed names, not all of them admitted

@@ -35,6 +35,7 @@ use Rattle.influxdb_line_protocol.proofs.lemmas.laws.batch_reads_back.FatalNames
 use Rattle.influxdb_line_protocol.proofs.lemmas.laws.batch_reads_back.FatalNames.{fatal_here, around, measurement_fails}
 use Rattle.influxdb_line_protocol.proofs.lemmas.laws.batch_reads_back.FatalTags.{ManyFail, first_of_many, later_of_many, second_fails}
 use Rattle.influxdb_line_protocol.proofs.lemmas.laws.batch_reads_back.FatalTags.{TagsFail, tags_fail}
+use Rattle.lp_format.specs.format.Bytes.{equals, newline, space}
 
 -- a line whose tags stop too early
 tags_line_fails : (m : List ℕ) (ts : List Tag) (more : List ℕ) → is_admitted_name a_measurement m ≡ true
@@ -83,7 +84,7 @@ unfolding field
 first_field_fails f fs g =
     let key = spelling a_field_key f.key in
     let front = spelling a_field_key g.front in
-    let sign = 61 ∷ built_value f.value in
+    let sign = equals ∷ built_value f.value in
     record {
       front = front;
       stop = g.stop;
@@ -114,7 +115,7 @@ later_field_fails f fs ok g =
           (g.reached (m + 1) ((piece ++ text) ++ 44 ∷ []) sign);
       gap = λ rest.
           ap spaces (append_assoc text (44 ∷ g.front) rest
-          ∙ append_assoc (spelling a_field_key f.key) (61 ∷ built_value f.value) (44 ∷ (g.front ++ rest)))
+          ∙ append_assoc (spelling a_field_key f.key) (equals ∷ built_value f.value) (44 ∷ (g.front ++ rest)))
           ∙ spelled_spaces (admitted_spelled a_field_key f.key ok.0) (admitted_parts a_field_key f.key ok.0).some _;
       fails = λ rest stops.
           let more = g.front ++ rest in
@@ -142,24 +143,24 @@ unfolding answer
 fields_line_fails m ts fs more named tagged f =
     let first = spelling a_measurement m in
     let tags = flat_map built_tag ts in
-    let regrouped : first ++ (tags ++ ((32 ∷ (f.front ++ f.stop ∷ f.after)) ++ more)) ≡ (first ++
-    (tags ++ 32 ∷ f.front)) ++ f.stop ∷ (f.after ++ more) = simp append_assoc in
+    let regrouped : first ++ (tags ++ ((space ∷ (f.front ++ f.stop ∷ f.after)) ++ more)) ≡ (first ++
+    (tags ++ space ∷ f.front)) ++ f.stop ∷ (f.after ++ more) = simp append_assoc in
     record {
-      front = first ++ (tags ++ 32 ∷ f.front);
+      front = first ++ (tags ++ space ∷ f.front);
       stop = f.stop;
       after = f.after ++ more;
       is = ap (λ (xs : List ℕ). first ++ (tags ++ (xs ++ more))) (f.is 32) ∙ regrouped;
-      begins = λ rest. subst BeginsLine (sym (append_assoc first (tags ++ 32 ∷ f.front) rest))
-          (measurement_begins m ((tags ++ 32 ∷ f.front) ++ rest) named);
+      begins = λ rest. subst BeginsLine (sym (append_assoc first (tags ++ space ∷ f.front) rest))
+          (measurement_begins m ((tags ++ space ∷ f.front) ++ rest) named);
       reached =
           let head = reaches_tags ts first tagged (reaches_name a_measurement m [] named reaches_start) in
-          inr (subst InPlain (append_assoc (first ++ tags) (32 ∷ []) f.front
-          ∙ append_assoc first tags (32 ∷ f.front))
-          (f.reached 0 ((first ++ tags) ++ 32 ∷ []) (reaches_gap (first ++ tags) head)));
+          inr (subst InPlain (append_assoc (first ++ tags) (space ∷ []) f.front
+          ∙ append_assoc first tags (space ∷ f.front))
+          (f.reached 0 ((first ++ tags) ++ space ∷ []) (reaches_gap (first ++ tags) head)));
       answered = λ dialect rest stops.
           rw (
-            append_assoc first (tags ++ 32 ∷ f.front) rest,
-            append_assoc tags (32 ∷ f.front) rest,
+            append_assoc first (tags ++ space ∷ f.front) rest,
+            append_assoc tags (space ∷ f.front) rest,
             measurement_reads_back m ts (f.front ++ rest) named,
             tag_set_reads_back ts (f.front ++ rest) tagged,
             f.gap rest,
@@ -227,14 +228,14 @@ after_admitted dialect p u text answers more ok e h k =
 -- a point that is not admitted is no first item
 not_first : (dialect : Dialect) (p : Point) (u text : List ℕ) (answers : List (Result Line Fault))
     (more : List (Result Point Fault)) → IsPoint p → is_admitted_point p ≡ false
-    → text ≡ line_of p ++ 10 ∷ u → HasAnswers dialect text answers → map item_of answers ≡ Ok p ∷ more → ⊥
+    → text ≡ line_of p ++ newline ∷ u → HasAnswers dialect text answers → map item_of answers ≡ Ok p ∷ more → ⊥
 not_first dialect p u text answers more is_point bad e h item =
     let first = first_line answers p more item in
     let here : Contains answers (Ok first.line) = subst (λ xs. Contains xs (Ok first.line)) (sym first.are) (0, omega arith, refl) in
     let names = subst ParsedPoint first.is (answers_parsed dialect text answers first.line h here) in
     let f = point_fails p is_point names bad in
-    let fails = first_fails dialect (line_of p) f (f.after ++ 10 ∷ u)
-    (e ∙ ap (λ (xs : List ℕ). xs ++ 10 ∷ u) f.is ∙ append_assoc f.front (f.stop ∷ f.after) (10 ∷ u)) h.are in
+    let fails = first_fails dialect (line_of p) f (f.after ++ newline ∷ u)
+    (e ∙ ap (λ (xs : List ℕ). xs ++ newline ∷ u) f.is ∙ append_assoc f.front (f.stop ∷ f.after) (newline ∷ u)) h.are in
     let wrong = sym first.are ∙ h.answered ∙ fails.1 in
     cc
 
@@ -256,5 +257,5 @@ other_batches_do_not dialect (p ∷ points) t items others all bad h k e =
           (second_fails (is_admitted_point p) (list_all is_admitted_point points) bad ok) (more, alone, refl) k
           (let same = sym read ∙ item in cc)
       | inr refused ↦ not_first dialect p u (built_all (p ∷ points) ++ t) h.0 (map Ok points ++ others) all.0
-          refused (first ∙ append_assoc (line_of p) (10 ∷ []) u) h.1 item
+          refused (first ∙ append_assoc (line_of p) (newline ∷ []) u) h.1 item
     ]

@@ -20,6 +20,7 @@ use Rattle.lp_lines.proofs.lemmas.names.ParsedNames.{ParsedPoint, names_are_pars
 use Rattle.influxdb_line_protocol.proofs.lemmas.laws.batch_reads_back.FatalNames.{first_fails}
 use Rattle.influxdb_line_protocol.proofs.lemmas.laws.batch_reads_back.RefusedBatches.{point_fails, same_answers}
 use Rattle.lp_format.proofs.lemmas.lists.Elements.{first_element, first_or_later, later_element}
+use Rattle.lp_format.specs.format.Bytes.{newline}
 
 -- a name as a line can have it is not unreadable
 parsed_is_readable : {kind : NameKind} {n : List ℕ} → IsParsedName kind n → ¬ IsUnreadable kind n
@@ -113,9 +114,9 @@ point_answered : (dialect : Dialect) (p : Point) (u : List ℕ) (answers : List 
     → HasAnswers dialect (built p ++ u) answers → (others : List (Result Line Fault)) × (answers ≡ Err ends_with_backslash ∷ others)
 point_answered dialect p u answers is_point bad names h =
     let f = point_fails p is_point (readable_point p names) bad in
-    let is : built p ++ u ≡ f.front ++ f.stop ∷ (f.after ++ 10 ∷ u) =
-    append_assoc (line_of p) (10 ∷ []) u ∙ ap (λ (xs : List ℕ). xs ++ 10 ∷ u) f.is ∙ append_assoc f.front (f.stop ∷ f.after) (10 ∷ u) in
-    let fails = first_fails dialect (line_of p) f (f.after ++ 10 ∷ u) is h.are in
+    let is : built p ++ u ≡ f.front ++ f.stop ∷ (f.after ++ newline ∷ u) =
+    append_assoc (line_of p) (newline ∷ []) u ∙ ap (λ (xs : List ℕ). xs ++ newline ∷ u) f.is ∙ append_assoc f.front (f.stop ∷ f.after) (newline ∷ u) in
+    let fails = first_fails dialect (line_of p) f (f.after ++ newline ∷ u) is h.are in
     (fails.0, h.answered ∙ fails.1)
 
 -- the first point that is not admitted is answered in its place

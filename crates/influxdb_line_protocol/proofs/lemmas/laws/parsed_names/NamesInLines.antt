@@ -28,6 +28,7 @@ use Rattle.lp_lines.proofs.lemmas.names.Spellings.{SpelledAs, SpelledAs.done, Sp
 use Rattle.lp_lines.proofs.lemmas.names.Spellings.{spelled_logical, spelled_reads, spelled_begins, spelled_spaces}
 use Rattle.lp_lines.proofs.lemmas.names.Spellings.{BeginsLine, line_no_comment, line_trimmed, line_some}
 use Rattle.lp_lines.proofs.lemmas.names.Spellings.{reaches_head, reaches_other, reaches_gap, reaches_field_key}
+use Rattle.lp_format.specs.format.Bytes.{comma, hash, space}
 
 -- a name that is not empty and does not end in a backslash, with a spelling
 record Spelled (kind : NameKind) (n s : List ℕ) : Type 0 where
@@ -51,7 +52,7 @@ from_field f = f ++ 61 ∷ 49 ∷ 105 ∷ []
 
 -- from the value of its tag on
 abbrev from_value : List ℕ → List ℕ → List ℕ
-from_value v f = v ++ 32 ∷ from_field f
+from_value v f = v ++ space ∷ from_field f
 
 -- from the key of its tag on
 abbrev from_key : List ℕ → List ℕ → List ℕ → List ℕ
@@ -59,7 +60,7 @@ from_key k v f = k ++ 61 ∷ from_value v f
 
 -- all of it
 abbrev whole : List ℕ → List ℕ → List ℕ → List ℕ → List ℕ
-whole m k v f = m ++ 44 ∷ from_key k v f
+whole m k v f = m ++ comma ∷ from_key k v f
 
 -- what its tag is read as
 abbrev tag_of : List ℕ → List ℕ → Pair Text Text
@@ -73,7 +74,7 @@ field_of f = record { key = text a_field_key f; value = integer (pos 1) }
 abbrev line_of : List ℕ → List ℕ → List ℕ → List ℕ → Line
 line_of m k v f =
     record {
-      series = front_before (whole m k v f) (32 ∷ from_field f);
+      series = front_before (whole m k v f) (space ∷ from_field f);
       measurement = text a_measurement m;
       tags = Some (tag_of k v ∷ []);
       fields = field_of f ∷ [];
@@ -82,17 +83,17 @@ line_of m k v f =
 
 -- what is read of it
 tag_read : {k n v x : List ℕ} → Spelled a_tag_key n k → Spelled a_tag_value x v → (f : List ℕ)
-    → tag (from_key k v f) ≡ reads (tag_of k v) (32 ∷ from_field f)
+    → tag (from_key k v f) ≡ reads (tag_of k v) (space ∷ from_field f)
 unfolding tag
 tag_read {v = v} key value
     f = rw (
       spelled_reads key.spelled key.some key.ends (61 ∷ from_value v f) refl,
-      spelled_reads value.spelled value.some value.ends (32 ∷ from_field f) refl,
+      spelled_reads value.spelled value.some value.ends (space ∷ from_field f) refl,
     ) refl
 
 -- the set of its tag
 tags_read : {k n v x : List ℕ} → Spelled a_tag_key n k → Spelled a_tag_value x v → (f : List ℕ)
-    → tag_set (44 ∷ from_key k v f) ≡ Ok (record { value = Some (tag_of k v ∷ []); rest = 32 ∷ from_field f })
+    → tag_set (comma ∷ from_key k v f) ≡ Ok (record { value = Some (tag_of k v ∷ []); rest = space ∷ from_field f })
 tags_read key value f = rw (tag_read key value f) refl
 
 -- its field
@@ -110,22 +111,22 @@ last_piece : (dialect : Dialect) (t : List ℕ) → begins_comment t ≡ false �
 last_piece Crate t none r = inl (inr (r.1.0, r.1.1))
 last_piece Strict t none r = inr (none, inl (inr (r.1.0, r.1.1)))
 
-module _ {m k v f m' k' v' f' : List ℕ} (first : Spelled a_measurement m' m) (no_hash : slice_index m' 0 ≢ 35)
+module _ {m k v f m' k' v' f' : List ℕ} (first : Spelled a_measurement m' m) (no_hash : slice_index m' 0 ≢ hash)
     (key : Spelled a_tag_key k' k) (value : Spelled a_tag_value v' v) (field : Spelled a_field_key f' f) where
   -- it begins with no blank, no newline and no `#`
   begins : BeginsLine (whole m k v f)
-  begins = spelled_begins first.spelled first.some no_hash (44 ∷ from_key k v f)
+  begins = spelled_begins first.spelled first.some no_hash (comma ∷ from_key k v f)
 
   -- it ends in a plain stretch
   reaches_end : Reaches Plain 1 0 (whole m k v f)
   reaches_end =
-      let front = reaches_other 44 (omega arith) (omega arith) (omega arith) m (reaches_head first.spelled [] reaches_start) in
-      let tagged = reaches_other 61 (omega arith) (omega arith) (omega arith) ((m ++ 44 ∷ []) ++ k)
-      (reaches_head key.spelled (m ++ 44 ∷ []) front) in
-      let head = reaches_head value.spelled (((m ++ 44 ∷ []) ++ k) ++ 61 ∷ []) tagged in
-      let series = (((m ++ 44 ∷ []) ++ k) ++ 61 ∷ []) ++ v in
-      let named = reaches_field_key 0 field.spelled (series ++ 32 ∷ []) (reaches_gap series head) in
-      let text = (series ++ 32 ∷ []) ++ f in
+      let front = reaches_other comma (omega arith) (omega arith) (omega arith) m (reaches_head first.spelled [] reaches_start) in
+      let tagged = reaches_other 61 (omega arith) (omega arith) (omega arith) ((m ++ comma ∷ []) ++ k)
+      (reaches_head key.spelled (m ++ comma ∷ []) front) in
+      let head = reaches_head value.spelled (((m ++ comma ∷ []) ++ k) ++ 61 ∷ []) tagged in
+      let series = (((m ++ comma ∷ []) ++ k) ++ 61 ∷ []) ++ v in
+      let named = reaches_field_key 0 field.spelled (series ++ space ∷ []) (reaches_gap series head) in
+      let text = (series ++ space ∷ []) ++ f in
       let sign : Reaches Plain 1 0
       (text ++ 61 ∷ []) = (is_escaped-push_other text 61 (omega arith), Plain-equals 0 0 text named.0 named.1) in
       let all = reaches_simple 1 0 (49 ∷ 105 ∷ []) (text ++ 61 ∷ []) refl sign in
@@ -134,9 +135,9 @@ module _ {m k v f m' k' v' f' : List ℕ} (first : Spelled a_measurement m' m) (
   -- its answer is the line
   answered : (dialect : Dialect) → answer dialect (whole m k v f) ≡ Ok (line_of m k v f)
   answered dialect =
-      answer_from_parts dialect (whole m k v f) (front_before (whole m k v f) (32 ∷ from_field f)) (from_field f)
-      (44 ∷ from_key k v f) [] (text a_measurement m) (Some (tag_of k v ∷ [])) (field_of f ∷ []) None
-      (spelled_reads first.spelled first.some first.ends (44 ∷ from_key k v f) refl)
+      answer_from_parts dialect (whole m k v f) (front_before (whole m k v f) (space ∷ from_field f)) (from_field f)
+      (comma ∷ from_key k v f) [] (text a_measurement m) (Some (tag_of k v ∷ [])) (field_of f ∷ []) None
+      (spelled_reads first.spelled first.some first.ends (comma ∷ from_key k v f) refl)
       (tags_read key value f)
       refl
       (spelled_spaces field.spelled field.some (61 ∷ 49 ∷ 105 ∷ []))
@@ -174,9 +175,9 @@ whole_utf8 {m = m} {k = k} {v = v} {f = f} a b c d =
     let end = utf8_push 61 (49 ∷ 105 ∷ []) (omega arith)
     (utf8_push 49 (105 ∷ []) (omega arith) (utf8_push 105 [] (omega arith) IsUtf8-nil)) in
     let field = IsUtf8-append f (61 ∷ 49 ∷ 105 ∷ []) d end in
-    let from_v = IsUtf8-append v (32 ∷ from_field f) c (utf8_push 32 (from_field f) (omega arith) field) in
+    let from_v = IsUtf8-append v (space ∷ from_field f) c (utf8_push 32 (from_field f) (omega arith) field) in
     let from_k = IsUtf8-append k (61 ∷ from_value v f) b (utf8_push 61 (from_value v f) (omega arith) from_v) in
-    IsUtf8-append m (44 ∷ from_key k v f) a (utf8_push 44 (from_key k v f) (omega arith) from_k)
+    IsUtf8-append m (comma ∷ from_key k v f) a (utf8_push comma (from_key k v f) (omega arith) from_k)
 
 -- each parsed name, in the line whose other names are one letter
 pub parsed_names_are_in_lines : ParsedNamesAreInLines

@@ -7,7 +7,7 @@ use Rattle.std.proofs.lemmas.Grind.{common_steps}
 use Rattle.std.proofs.lemmas.List.{take_at, drop_at}
 use Rattle.std.proofs.lemmas.Str.{IsUtf8-append, IsUtf8-take, IsUtf8-drop, IsUtf8-from_ascii, IsCharBoundary-before_ascii}
 use Rattle.std.proofs.lemmas.Str.{IsCharBoundary-after_ascii}
-use Rattle.lp_format.specs.format.Bytes.{is_one_of}
+use Rattle.lp_format.specs.format.Bytes.{backslash, is_one_of}
 use Rattle.lp_format.specs.format.Names.{NameKind, a_measurement, a_tag_key, a_tag_value, a_field_key, is_escapable}
 use Rattle.lp_format.specs.format.Points.{never_in}
 use Rattle.lp_lines.proofs.lemmas.names.Spellings.{SpelledAs, SpelledAs.done, SpelledAs.escape, SpelledAs.plain}
@@ -59,15 +59,15 @@ spelled_after {kind = kind} done front u = u
 spelled_after {kind = kind} (escape b n s known more) front u =
     let ascii = escapable_ascii kind b known in
     let parts = utf8_around front n b u ascii in
-    IsUtf8-append front (92 ∷ b ∷ s) parts.0 (utf8_push 92 (b ∷ s) (omega arith) (utf8_push b s ascii (spelled_after more [] parts.1)))
+    IsUtf8-append front (backslash ∷ b ∷ s) parts.0 (utf8_push backslash (b ∷ s) (omega arith) (utf8_push b s ascii (spelled_after more [] parts.1)))
 spelled_after {kind = kind} (plain b n s other may more) front u =
     subst IsUtf8 (append_assoc front (b ∷ []) s)
     (spelled_after more (front ++ b ∷ []) (subst IsUtf8 (sym (append_assoc front (b ∷ []) n)) u))
 spelled_after {kind = kind} (pair c n s never more) front u =
     let ascii = never_ascii kind c never in
-    let parts = utf8_around front (c ∷ n) 92 u (omega arith) in
+    let parts = utf8_around front (c ∷ n) backslash u (omega arith) in
     let last = utf8_around [] n c parts.1 ascii in
-    IsUtf8-append front (92 ∷ c ∷ s) parts.0 (utf8_push 92 (c ∷ s) (omega arith) (utf8_push c s ascii (spelled_after more [] last.1)))
+    IsUtf8-append front (backslash ∷ c ∷ s) parts.0 (utf8_push backslash (c ∷ s) (omega arith) (utf8_push c s ascii (spelled_after more [] last.1)))
 
 -- a spelling is UTF-8 where its name is
 pub spelling_utf8 : {kind : NameKind} {n s : List ℕ} → SpelledAs kind n s → IsUtf8 n → IsUtf8 s

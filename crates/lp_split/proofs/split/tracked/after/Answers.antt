@@ -5,6 +5,7 @@ use Rattle.lp_split.specs.code.Tracks.{Leads}
 use Rattle.lp_split.proofs.lemmas.split.TrackedPieces.{blanks_end, blanks_go_on, comment_begins, comment_goes_on, line_ends}
 use Rattle.lp_split.proofs.split.tracked.after.Goals.{then-byte-eq32, else-byte-eq32}
 use Rattle.lp_split.proofs.split.tracked.after.Goals as goal
+use Rattle.lp_format.specs.format.Bytes.{hash, space, tab}
 
 pub returns-in_err-after_byte-in-Line-clause-leads :
     goal.returns-in_err-after_byte-in-Line-clause-leads
@@ -20,13 +21,13 @@ returns-in-Comment-2-clause-leads c =
 pub returns-in-Blanks-clause-leads : goal.returns-in-Blanks-clause-leads
 returns-in-Blanks-clause-leads c =
     rw c.if-byte-eq35.true
-    (subst (λ (t : Track). Leads t 35 (Some Comment)) (sym c.in-Blanks.is) (comment_begins c.in-Blanks.field-0))
+    (subst (λ (t : Track). Leads t hash (Some Comment)) (sym c.in-Blanks.is) (comment_begins c.in-Blanks.field-0))
 
 pub returns-in_ok-after_byte-in-Blanks-2-clause-leads :
     goal.returns-in_ok-after_byte-in-Blanks-2-clause-leads
 returns-in_ok-after_byte-in-Blanks-2-clause-leads c =
     let next = c.in_ok-after_byte-in-Blanks-2 in
-    let blank : (c.args.byte ≡ 32) ⊎ (c.args.byte ≡ 9) = elim c.if-byte-eq32.branch [
+    let blank : (c.args.byte ≡ space) ⊎ (c.args.byte ≡ tab) = elim c.if-byte-eq32.branch [
       | then-byte-eq32 w ↦ inl w.if-byte-eq32.true
       | else-byte-eq32 w ↦ inr (omega arith)
     ] in

@@ -4,6 +4,7 @@ use Rattle.lp_split.proofs.lemmas.split.SplitWalk.{Plain-comma, Plain-equals, Pl
 use Rattle.lp_split.proofs.lemmas.split.PieceTracks.{bare_step}
 use Rattle.lp_split.proofs.split.tracked.after_plain.Goals.{in_default-via-in-34+else-place, in_default-via-in_default-1}
 use Rattle.lp_split.proofs.split.tracked.after_plain.Goals as goal
+use Rattle.lp_format.specs.format.Bytes.{quote}
 
 pub returns-in-61-clause-steps : goal.returns-in-61-clause-steps
 returns-in-61-clause-steps c =
@@ -23,7 +24,7 @@ pub returns-in-34-clause-steps : goal.returns-in-34-clause-steps
 returns-in-34-clause-steps c =
     let p = c.args.place in
     rw c.in-34.is
-    (bare_step p Plain Quoted Quoted 34 p.equals p.commas p.is_escaped c.requires.plain c.requires.is_bare refl
+    (bare_step p Plain Quoted Quoted quote p.equals p.commas p.is_escaped c.requires.plain c.requires.is_bare refl
     c.requires.is_bare (λ bytes h k. Plain-opens p.equals p.commas bytes h c.if-place.true k))
 
 pub returns-in_default-clause-steps : goal.returns-in_default-clause-steps

@@ -3,12 +3,13 @@ use Rattle.lp_split.specs.declared.split.resumed.Part.TheVariants.{Plain, Quoted
 use Rattle.lp_split.proofs.lemmas.split.SplitWalk.{Quoted-closes, Quoted-other}
 use Rattle.lp_split.proofs.lemmas.split.PieceTracks.{bare_step}
 use Rattle.lp_split.proofs.split.tracked.after_quoted.Goals as goal
+use Rattle.lp_format.specs.format.Bytes.{quote}
 
 pub returns-then-byte-eq34-clause-steps : goal.returns-then-byte-eq34-clause-steps
 returns-then-byte-eq34-clause-steps c =
     let p = c.args.place in
     rw c.if-byte-eq34.true
-    (bare_step p Quoted Plain Plain 34 p.equals p.commas p.is_escaped c.requires.quoted c.requires.is_bare refl
+    (bare_step p Quoted Plain Plain quote p.equals p.commas p.is_escaped c.requires.quoted c.requires.is_bare refl
     c.requires.is_bare (Quoted-closes p.equals p.commas))
 
 pub returns-clause-steps : goal.returns-clause-steps

@@ -5,9 +5,10 @@ use Rattle.lp_split.specs.code.Rules.{rules_of}
 use Rattle.lp_split.specs.code.Searches.{NeverComment}
 use Rattle.lp_split.proofs.lemmas.split.TrackedPieces.{first_place}
 use Rattle.lp_split.proofs.split.tracked.Track.new.Goals as goal
+use Rattle.lp_format.specs.format.Bytes.{space, tab}
 
 pub returns-in-Crate-clause-track : goal.returns-in-Crate-clause-track
 returns-in-Crate-clause-track c = (subst (λ (d : Dialect). NeverComment (rules_of d) []) (sym c.in-Crate.is) tt, first_place)
 
 pub returns-in-Strict-clause-track : goal.returns-in-Strict-clause-track
-returns-in-Strict-clause-track c = (ap rules_of c.in-Strict.is, All-nil (λ b. (b ≡ 32) ⊎ (b ≡ 9)), first_place)
+returns-in-Strict-clause-track c = (ap rules_of c.in-Strict.is, All-nil (λ b. (b ≡ space) ⊎ (b ≡ tab)), first_place)
