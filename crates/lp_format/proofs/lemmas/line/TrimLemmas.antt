@@ -32,9 +32,11 @@ left_of in_comment (b ∷ rest) =
     else if is_blank b then left_of false rest
     else b ∷ rest
 
+-- a first element that passes is dropped
 front_yes : {X : Type 0} (p : X → Bool) (x : X) (xs : List X) → p x ≡ true → without_front p (x ∷ xs) ≡ without_front p xs
 front_yes p x xs h = rw (h, one-add) refl
 
+-- a first element that does not pass ends the front
 front_no : {X : Type 0} (p : X → Bool) (x : X) (xs : List X) → p x ≡ false → without_front p (x ∷ xs) ≡ x ∷ xs
 front_no p x xs h = rw h refl
 
@@ -76,6 +78,7 @@ record Lines (text : List ℕ) : Type 0 where
   others : List (List ℕ)
   are : lines_of text ≡ first ∷ others
 
+-- each text is some lines, joined by newlines
 has_lines : (text : List ℕ) → Lines text
 has_lines [] = record { first = []; others = []; are = refl }
 has_lines (b ∷ text) =
@@ -85,6 +88,7 @@ has_lines (b ∷ text) =
       | inr on ↦ record { first = b ∷ more.first; others = more.others; are = rw (on, more.are) refl }
     ]
 
+-- a byte that is no newline belongs to the first line
 first_more : (b : ℕ) (text : List ℕ) (h : (b == newline) ≡ false) → lines_of (b ∷ text) ≡ (b ∷ (has_lines text).first) ∷ (has_lines text).others
 first_more b text h = rw (h, (has_lines text).are) refl
 
@@ -93,6 +97,7 @@ record Left (text : List ℕ) : Type 0 where
   outside : from_lines (lines_of text) ≡ left_of false text
   inside : from_lines (drop 1 (lines_of text)) ≡ left_of true text
 
+-- what is left of a text that begins with a newline is what is left after it
 newline_left : (b : ℕ) (text : List ℕ) → (b == newline) ≡ true → Left text → Left (b ∷ text)
 newline_left b text cut more =
     record {
@@ -101,6 +106,7 @@ newline_left b text cut more =
       inside = rw cut more.outside;
     }
 
+-- what is left of a text that begins with another byte, from what is left after it
 other_left : (b : ℕ) (text : List ℕ) → (b == newline) ≡ false → Left text → Left (b ∷ text)
 other_left b text on more =
     let l = (has_lines text).first in
@@ -123,6 +129,7 @@ other_left b text on more =
       inside = ap (λ (ls : List (List ℕ)). from_lines (drop 1 ls)) split ∙ after ∙ rw on refl;
     }
 
+-- skipping byte by byte leaves what skipping line by line does
 left_is : (text : List ℕ) → Left text
 left_is [] = record { outside = refl; inside = refl }
 left_is (b ∷ text) =
@@ -131,6 +138,7 @@ left_is (b ∷ text) =
       | inr on ↦ other_left b text on (left_is text)
     ]
 
+-- a trimmed text is what skipping byte by byte leaves
 pub trimmed_is : (text : List ℕ) → trimmed text ≡ left_of false text
 unfolding trimmed
 trimmed_is text = (left_is text).outside
@@ -140,14 +148,17 @@ pub left_newline : (in_comment : Bool) (text : List ℕ) (i : ℕ) → i < lengt
     → left_of in_comment (drop i text) ≡ left_of false (drop (i + 1) text)
 left_newline in_comment text i lt e = rw (drop_more text i 0 lt, e) refl
 
+-- a `#` begins a comment
 pub left_hash : (in_comment : Bool) (text : List ℕ) (i : ℕ) → i < length text → slice_index text i ≡ hash
     → left_of in_comment (drop i text) ≡ left_of true (drop (i + 1) text)
 left_hash in_comment text i lt e = rw (drop_more text i 0 lt, e, or_right in_comment true refl) refl
 
+-- inside a comment each byte but a newline is skipped
 pub left_inside : (text : List ℕ) (i : ℕ) → i < length text → slice_index text i ≢ newline
     → left_of true (drop i text) ≡ left_of true (drop (i + 1) text)
 left_inside text i lt other = rw (drop_more text i 0 lt, ne_eqb (slice_index text i) newline other) refl
 
+-- a blank is skipped
 pub left_blank : (in_comment : Bool) (text : List ℕ) (i : ℕ) → i < length text
     → is_blank (slice_index text i) ≡ true → left_of in_comment (drop i text) ≡ left_of in_comment (drop (i + 1) text)
 left_blank true text i lt e = left_inside text i lt (λ n. grind (arith, common_steps))
@@ -156,6 +167,7 @@ left_blank false text i lt e =
     let no_hash : (slice_index text i == hash) ≡ false = grind (arith, common_steps) in
     rw (drop_more text i 0 lt, no_newline, no_hash, e) refl
 
+-- what begins with another byte is kept
 pub left_kept : (text : List ℕ) (i : ℕ) → i < length text → slice_index text i ≢ newline → slice_index text i ≢ hash
     → slice_index text i ≢ space → slice_index text i ≢ tab
     → left_of false (drop i text) ≡ drop i text

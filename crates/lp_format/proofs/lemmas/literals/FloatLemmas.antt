@@ -45,6 +45,7 @@ signed_before signs (b ∷ ds) tail apart (inr numeral) =
     (λ e. absurd (omega arith)) in
     rw (apart b first, first, digits_before ds tail numeral.1.1, one-add, some) (omega arith)
 
+-- a signed number has a byte
 pub signed_some : (signs text : List ℕ) → IsSigned signs text → 0 < length text
 signed_some signs [] never = absurd never
 signed_some signs (b ∷ ds) any = omega arith
@@ -55,15 +56,19 @@ pub marked_before : (marks : List ℕ) (part : List ℕ → ℕ) (b : ℕ) (x ta
     → marked_len marks part (b ∷ (x ++ tail)) ≡ suc (length x) + digits_len tail
 marked_before marks part b x tail mark len some = rw (mark, len, lt-ltb 0 (length x + digits_len tail) (omega arith)) (omega arith)
 
+-- a digit is no minus
 pub minus_no_digit : (d : ℕ) → is_ascii_digit d ≡ true → is_one_of (codes "-") d ≡ false
 minus_no_digit d h = grind (arith, common_steps)
 
+-- a digit is no sign
 pub sign_no_digit : (d : ℕ) → is_ascii_digit d ≡ true → is_one_of (codes "+-") d ≡ false
 sign_no_digit d h = grind (arith, common_steps)
 
+-- a point is no digit
 point_no_digit : (d : ℕ) → is_one_of (codes ".") d ≡ true → is_ascii_digit d ≡ false
 point_no_digit d h = grind (arith, common_steps)
 
+-- the mark of an exponent is neither a digit nor a point
 mark_no_digit : (d : ℕ) → is_one_of (codes "eE") d ≡ true → (is_ascii_digit d ≡ false) × (is_one_of (codes ".") d ≡ false)
 mark_no_digit d h = (grind (arith, common_steps), grind (arith, common_steps))
 
@@ -161,6 +166,7 @@ signed_front signs (b ∷ rest) some =
           ]
     ]
   where
+    -- digits without a sign are a signed number
     plain_front : (signs : List ℕ) (b : ℕ) (rest : List ℕ) → is_one_of signs b ≡ false → (digits_len (b ∷ rest) == 0) ≡ false
         → IsSigned signs (take (number_len signs (b ∷ rest)) (b ∷ rest))
     plain_front signs b rest other digits =
@@ -209,16 +215,19 @@ float_len_float t some =
           )
     ]
 
+-- a signed number is ASCII
 signed_ascii : (signs text : List ℕ) → ((d : ℕ) → is_one_of signs d ≡ true → d < 128) → IsSigned signs text → IsAscii text
 signed_ascii signs [] small never = absurd never
 signed_ascii signs (b ∷ ds) small (inl signed) = IsAscii-cons b ds (small b signed.0) (IsAscii-from_digits ds signed.1.1)
 signed_ascii signs (b ∷ ds) small (inr numeral) = IsAscii-from_digits (b ∷ ds) numeral.1
 
+-- what is absent, or a mark and an ASCII part, is ASCII
 marked_ascii : (marks : List ℕ) (Part : List ℕ → Type 0) (text : List ℕ) → ((d : ℕ) → is_one_of marks d ≡ true → d < 128)
     → ((x : List ℕ) → Part x → IsAscii x) → IsMarked marks Part text → IsAscii text
 marked_ascii marks Part [] small of_part marked = λ i. omega arith
 marked_ascii marks Part (b ∷ x) small of_part marked = IsAscii-cons b x (small b marked.0) (of_part x marked.1)
 
+-- a float is ASCII
 float_ascii : (text : List ℕ) → IsFloat text → IsAscii text
 float_ascii text parts =
     let whole = parts.0 in
@@ -241,6 +250,7 @@ number_len_fits signs t =
       | inr other ↦ rw other (fits_after 0 t)
     ]
   where
+    -- a sign and the digits after it fit the text
     fits_after : (sign : ℕ) (t : List ℕ) → (if digits_len (drop sign t) == 0 then 0 else sign + digits_len (drop sign t)) ≤ length t
     fits_after sign t =
         elim (cases_Bool (digits_len (drop sign t) == 0)) [
@@ -250,6 +260,7 @@ number_len_fits signs t =
               rw some (omega (arith, prefix_len-le-length is_ascii_digit (drop sign t), length-drop sign t))
         ]
 
+-- the integer at the start of a text fits the text
 pub integer_len_fits : (t : List ℕ) → integer_len t ≤ length t
 integer_len_fits t = number_len_fits (codes "-") t
 
@@ -285,6 +296,7 @@ pub float_misses : (t : List ℕ) → float_len t ≡ 0 → float_at t ≡ miss
 unfolding float_at
 float_misses t none = rw (eq-eqb (float_len t) 0 none) refl
 
+-- the longest float at the start of a text is read
 pub float_reads : (t : List ℕ) → 0 < float_len t → float_at t ≡ reads (float (take (float_len t) t)) (drop (float_len t) t)
 unfolding float_at
 float_reads t some = rw (ne_eqb (float_len t) 0 (λ e. absurd (omega arith))) refl

@@ -129,6 +129,7 @@ module _ {A : Type 0} where
 
   module _ (g : List ℕ → Reading A) (nothing : g [] ≡ miss)
       (shorter : (text : List ℕ) (x : A) (rest : List ℕ) → g text ≡ reads x rest → length rest < length text) where
+    -- the elements after a comma, from those after the first of them
     tail_more : (n : ℕ) (text : List ℕ) → length text ≤ suc n → ((after : List ℕ) → length after ≤ n → Tail g n after)
         → (r : Reading A) → g text ≡ r → Tail g (suc n) text
     unfolding ended
@@ -147,6 +148,7 @@ module _ {A : Type 0} where
           ends = rw e (ap (prepend (x ∷ [])) t.ends ∙ ended_more x t.xs t.rest (g t.rest));
         }
 
+    -- what is read after a first element is a chain of elements, each after a comma
     tail_is : (n : ℕ) (text : List ℕ) → length text ≤ n → Tail g n text
     unfolding ended
     tail_is zero [] room = record { xs = []; rest = []; chain = refl; none = λ y after is. cc; ends = rw nothing refl }
@@ -233,12 +235,14 @@ module _ {A : Type 0} where
 
   module _ (one : List ℕ → Reading A)
       (no_longer : (text : List ℕ) (x : A) (rest : List ℕ) → one text ≡ reads x rest → length rest ≤ length text) where
+    -- what is left after a comma and an element is shorter
     pub after_shorter : (text : List ℕ) (x : A) (rest : List ℕ) → after_comma one text ≡ reads x rest → length rest < length text
     after_shorter text x rest e =
         let p = after_parts one text (reads x rest) e (λ k. cc) in
         let h = no_longer p.0 x rest p.2 in
         omega (arith, ap length p.1)
 
+    -- the outcome of a list, by what its first element is read as
     whole_by : (text : List ℕ) (r : Reading A) → one text ≡ r → Whole one text
     unfolding outcome
     whole_by text miss e = record { xs = []; rest = text; chain = refl; none = λ y after is. cc; ends = rw e refl }
@@ -255,6 +259,7 @@ module _ {A : Type 0} where
               ∙ ap (ended (x ∷ t.xs) t.rest) (sym last));
         }
 
+    -- each text has an outcome as a list joined by commas
     pub whole_is : (text : List ℕ) → Whole one text
     whole_is text = whole_by text (one text) refl
 
@@ -277,6 +282,7 @@ module _ {A : Type 0} where
               (from_separated one others text suffix k) none;
         }
 
+    -- a list that is read ends where no comma and element follow
     in_full : (text : List ℕ) (xs : List A) (rest : List ℕ) → separated_list one text ≡ reads xs rest → WholeList one text xs rest
     in_full text xs rest e =
         let w = whole_is text in
@@ -289,6 +295,7 @@ module _ {A : Type 0} where
           no_fault = λ f k. let d = sym p.3 ∙ from_fault one w.xs w.rest f k in cc;
         }))
 
+    -- a list that ends where no comma and element follow is read
     full_is_read : (text : List ℕ) (xs : List A) (rest : List ℕ) → WholeList one text xs rest → separated_list one text ≡ reads xs rest
     full_is_read text xs rest h =
         let none = none_after_most one text xs rest h.longest in
@@ -296,15 +303,18 @@ module _ {A : Type 0} where
         read_is text xs rest (from_separated one xs text rest h.longest.separated) none ∙ ap (outcome xs rest) last
         ∙ outcome_is_reads xs rest h.some
 
+    -- a list is read as far as it goes
     pub the_most_is_read : TheMostIsRead one
     the_most_is_read text xs rest = (in_full text xs rest, full_is_read text xs rest)
 
+    -- a fault of the element after the longest list is the fault of the list
     fault_is : (text : List ℕ) (e : Fault) (xs : List A) (rest : List ℕ) → LongestList one text xs rest
         → NextHasFault one xs rest e → separated_list one text ≡ fatal e
     fault_is text e xs rest h k =
         read_is text xs rest (from_separated one xs text rest h.separated) (none_after_most one text xs rest h)
         ∙ ap (outcome xs rest) (from_fault one xs rest e k) ∙ outcome_is_fatal xs rest e
 
+    -- a list has a fault only by the element after those that are read
     pub the_next_has_the_fault : TheNextHasTheFault one
     the_next_has_the_fault text e = (
       (λ h.
@@ -314,11 +324,13 @@ module _ {A : Type 0} where
       (λ h. fault_is text e h.0 h.1 h.2 h.3),
     )
 
+    -- a list of no elements has a first element that is not there
     first_by : (text : List ℕ) (xs : List A) (rest : List ℕ) → Chain one (after_comma one) xs text rest → xs ≡ []
         → next one (after_comma one) xs rest ≡ miss → one text ≡ miss
     first_by text [] rest h e last = ap one h ∙ last
     first_by text (x ∷ xs) rest h e last = absurd (cc)
 
+    -- a list is not there where its first element is not there
     pub the_first_misses : TheFirstMisses one
     the_first_misses text = (
       (λ h.

@@ -48,6 +48,7 @@ ends_cons b (c ∷ xs) h =
     let e : length (b ∷ c ∷ xs) - 1 ≡ suc (length (c ∷ xs) - 1) = omega arith in
     rw e refl
 
+-- a spelled name that is not empty means a text that is not empty
 logical_nonempty : (kind : NameKind) (text : List ℕ) → 0 < length text → 0 < length (logical kind text)
 unfolding without_escapes
 logical_nonempty kind [] h = absurd (omega arith)
@@ -58,6 +59,7 @@ logical_nonempty kind (b ∷ c ∷ rest) h =
       | inr e ↦ rw e (omega arith)
     ]
 
+-- a byte before a text does not change whether it ends in a backslash
 logical_ends_cons : (kind : NameKind) (c : ℕ) (rest : List ℕ) → ends_in_backslash (logical kind rest) ≡ ends_in_backslash rest
     → ends_in_backslash (c ∷ logical kind rest) ≡ ends_in_backslash (c ∷ rest)
 unfolding without_escapes
@@ -92,6 +94,7 @@ pub name_misses : (kind : NameKind) (text : List ℕ) → length (spelled kind t
 unfolding name
 name_misses kind text h = rw (eq-eqb _ _ h) refl
 
+-- a spelled name that ends in a backslash is a fault
 pub name_fatal : (kind : NameKind) (text : List ℕ) → 0 < length (spelled kind text) → ends_in_backslash (spelled kind text) ≡ true
     → name kind text ≡ fatal ends_with_backslash
 unfolding name
@@ -99,6 +102,7 @@ name_fatal kind text some h =
     let ne : length (spelled kind text) ≡ 0 → ⊥ = λ e. absurd (omega arith) in
     rw (ne_eqb _ _ ne, logical_ends kind (spelled kind text), h) refl
 
+-- any other spelled name that is not empty is read
 pub name_reads : (kind : NameKind) (text : List ℕ) → 0 < length (spelled kind text) → ends_in_backslash (spelled kind text) ≡ false
     → name kind text ≡ reads (read_text (escapable kind) (spelled kind text)) (drop (spelled_len kind text) text)
 unfolding name

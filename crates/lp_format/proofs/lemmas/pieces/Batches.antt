@@ -17,6 +17,7 @@ pub pieces_are_text : (dialect : Dialect) {text : List ℕ} {pieces : List (List
 pieces_are_text dialect (last piece h) = refl
 pieces_are_text dialect (cut piece text pieces c h) = separated_list pieces h (pieces_are_text dialect h)
   where
+    -- a piece before others is joined to them by a newline
     separated_list : {text : List ℕ} (pieces : List (List ℕ)) → Pieces dialect text pieces
         → join_with_byte newline pieces ≡ text → join_with_byte newline (piece ∷ pieces) ≡ piece ++ newline ∷ text
     separated_list [] h e = absurd (Pieces-nil dialect _ h)

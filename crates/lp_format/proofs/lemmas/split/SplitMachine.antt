@@ -38,10 +38,12 @@ abbrev run : State → List ℕ → State
 run s [] = s
 run s (b ∷ bs) = run (step s b) bs
 
+-- the machine reads two texts one after the other
 run-append : (s : State) (xs ys : List ℕ) → run s (xs ++ ys) ≡ run (run s xs) ys
 run-append s [] ys = refl
 run-append s (x ∷ xs) ys = run-append (step s x) xs ys
 
+-- a machine that has ended stays so
 run-ended : (xs : List ℕ) → run Ended xs ≡ Ended
 run-ended [] = refl
 run-ended (x ∷ xs) = run-ended xs
@@ -54,6 +56,7 @@ All_bare-cons P false b rest h = (λ _. All-head P b rest h, All-tail P b rest h
 abbrev NoOpening : List ℕ → List ℕ → Type 0
 NoOpening counted bares = (before after : List ℕ) → bares ≡ before ++ quote ∷ after → ¬ HasMoreEquals (counted ++ before)
 
+-- no byte opens a string if the first does not and none of the others does
 NoOpening-cons : (counted : List ℕ) (f : Bool) (b : ℕ) (rest : List ℕ)
     → NoOpening counted (cond f [] (b ∷ []) ++ rest) → (f ≡ false → b ≡ quote → ¬ HasMoreEquals counted)
     × NoOpening (counted ++ cond f [] (b ∷ [])) rest
@@ -64,13 +67,16 @@ NoOpening-cons counted false b rest h = (
   λ before after e. rw append_assoc (h (b ∷ before) after (ap (λ xs. b ∷ xs) e)),
 )
 
+-- after a bare byte the next is escaped if that byte is a backslash
 is_escaped-push_bare : (front : List ℕ) (b : ℕ) → is_escaped_after front ≡ false → is_escaped_after (front ++ b ∷ []) ≡ eqb b backslash
 is_escaped-push_bare front b h = is_escaped-push front b ∙ ap (λ f. cond (eqb b backslash) (not f) false) h ∙ same (eqb b backslash)
   where
+    -- a choice between true and false is its test
     same : (t : Bool) → cond t true false ≡ t
     same true = refl
     same false = refl
 
+-- a byte of a head that ends nothing leaves the machine in the head
 step_head : (front : List ℕ) (b : ℕ) → (is_escaped_after front ≡ false → (b ≢ space) × (b ≢ newline))
     → step (In_head (is_escaped_after front)) b ≡ In_head (is_escaped_after (front ++ b ∷ []))
 step_head front b h = elim (cases_Bool (is_escaped_after front)) [
@@ -81,6 +87,7 @@ step_head front b h = elim (cases_Bool (is_escaped_after front)) [
       ∙ ap In_head (sym (is_escaped-push_bare front b e))
 ]
 
+-- a head without bare spaces and newlines leaves the machine in the head
 run_head : (front text : List ℕ) → All (λ b. (b ≢ space) × (b ≢ newline)) (bare_after front text)
     → run (In_head (is_escaped_after front)) text ≡ In_head (is_escaped_after (front ++ text))
 run_head front [] h = ap (λ t. In_head (is_escaped_after t)) (sym (append-nil front))
@@ -89,14 +96,17 @@ run_head front (b ∷ text) h =
     ap (λ s. run s text) (step_head front b w.0) ∙ run_head (front ++ b ∷ []) text w.1
     ∙ ap (λ t. In_head (is_escaped_after t)) (append_assoc front (b ∷ []) text)
 
+-- the test says no if there are not more `=` than `,`
 more_equals-false : (counted : List ℕ) → ¬ HasMoreEquals counted → more_equals counted ≡ false
 unfolding more_equals
 more_equals-false counted h = le-ltb _ _ (omega (arith, h))
 
+-- the test says yes if there are more `=` than `,`
 more_equals-true : (counted : List ℕ) → HasMoreEquals counted → more_equals counted ≡ true
 unfolding more_equals
 more_equals-true counted h = lt-ltb _ _ h
 
+-- a bare byte that neither ends the piece nor opens a string is counted
 plain_step_is : (counted : List ℕ) (b : ℕ) → b ≢ newline → (b ≡ quote → ¬ HasMoreEquals counted)
     → plain_step counted b ≡ In_plain (eqb b backslash) (counted ++ b ∷ [])
 plain_step_is counted b n q =
@@ -107,6 +117,7 @@ plain_step_is counted b n q =
     ] in
     rw (ne_eqb b newline n, closed)
 
+-- a byte of a plain stretch that ends nothing leaves the machine in it
 step_plain : (front counted : List ℕ) (b : ℕ) → (is_escaped_after front ≡ false → b ≢ newline)
     → (is_escaped_after front ≡ false → b ≡ quote → ¬ HasMoreEquals counted)
     → step (In_plain (is_escaped_after front) counted) b ≡ In_plain (is_escaped_after (front ++ b ∷ []))
@@ -116,6 +127,7 @@ step_plain front counted b n q = elim (cases_Bool (is_escaped_after front)) [
   | inr e ↦ rw (is_escaped-push_bare front b e, e) (plain_step_is counted b (n e) (q e))
 ]
 
+-- a plain stretch that nothing ends leaves the machine in it
 run_plain : (front counted text : List ℕ) → All (λ b. b ≢ newline) (bare_after front text)
     → NoOpening counted (bare_after front text)
     → run (In_plain (is_escaped_after front) counted) text ≡ In_plain (is_escaped_after (front ++ text))
@@ -132,6 +144,7 @@ run_plain front counted (b ∷ text) n q =
     ∙ ap (In_plain (is_escaped_after (front ++ b ∷ text)))
     (append_assoc counted (cond (is_escaped_after front) [] (b ∷ [])) (bare_after (front ++ b ∷ []) text))
 
+-- a byte of a string that does not close it leaves the machine in it
 step_quoted : (front counted : List ℕ) (b : ℕ) → (is_escaped_after front ≡ false → b ≢ quote)
     → step (In_quoted (is_escaped_after front) counted) b ≡ In_quoted (is_escaped_after (front ++ b ∷ [])) counted
 step_quoted front counted b n = elim (cases_Bool (is_escaped_after front)) [
@@ -139,6 +152,7 @@ step_quoted front counted b n = elim (cases_Bool (is_escaped_after front)) [
   | inr e ↦ rw (is_escaped-push_bare front b e, e, ne_eqb b quote (n e))
 ]
 
+-- a string without a bare quote leaves the machine in it
 run_quoted : (front counted text : List ℕ) → All (λ b. b ≢ quote) (bare_after front text)
     → run (In_quoted (is_escaped_after front) counted) text ≡ In_quoted (is_escaped_after (front ++ text)) counted
 run_quoted front counted [] n = rw append-nil
@@ -155,11 +169,13 @@ start = In_head false
 run-head : (text : List ℕ) → IsHead text → run start text ≡ In_head (is_escaped_after text)
 run-head text h = ap (λ f. run (In_head f) text) (sym is_escaped-nil) ∙ run_head [] text h
 
+-- a plain stretch from its start leaves the machine in it
 plain_from_start : (counted text : List ℕ) → IsPlain counted text
     → run (In_plain false counted) text ≡ In_plain (is_escaped_after text) (counted ++ bare text)
 plain_from_start counted text h =
     ap (λ f. run (In_plain f counted) text) (sym is_escaped-nil) ∙ run_plain [] counted text h.no_newline h.no_opening
 
+-- a quote after more `=` than `,` opens a string
 opening : (piece counted quoted : List ℕ) → run start piece ≡ In_plain (is_escaped_after piece) counted
     → Opens piece counted → IsQuoted quoted
     → run start (piece ++ quote ∷ quoted) ≡ In_quoted (is_escaped_after (piece ++ quote ∷ quoted)) counted
@@ -172,6 +188,7 @@ opening piece counted quoted r o q =
     ∙ run_quoted [] counted quoted q
     ∙ ap (λ f. In_quoted f counted) (sym (last_place piece quoted quote (omega arith)))
 
+-- what ends in a plain stretch leaves the machine in one
 run-plain : {text counted : List ℕ} → EndsPlain text counted → run start text ≡ In_plain (is_escaped_after text) counted
 run-plain (first head plain h i p) =
     run-append start head (space ∷ plain)
@@ -186,6 +203,7 @@ run-plain (later piece counted quoted plain h o q i p) =
     ∙ plain_from_start counted plain p
     ∙ ap (λ f. In_plain f (counted ++ bare plain)) (sym (last_place (piece ++ quote ∷ quoted) plain quote (omega arith)))
 
+-- what ends in a string leaves the machine in one
 run-quoted : {text counted : List ℕ} → EndsQuoted text counted → run start text ≡ In_quoted (is_escaped_after text) counted
 run-quoted (opened piece counted quoted h o q) = opening piece counted quoted (run-plain h) o q
 
@@ -202,6 +220,7 @@ cut_ends piece rest (inr h) i =
     ∙ ap (λ f. run (In_plain f h.0) (newline ∷ rest)) i
     ∙ run-ended rest
 
+-- a piece that ends before a newline is no beginning of a longer one
 pub cut_not_within : (piece rest : List ℕ) → IsClosed piece → IsBareAfter piece → IsClosed (piece ++ newline ∷ rest)
     ⊎ IsOpen (piece ++ newline ∷ rest) → ⊥
 cut_not_within piece rest c i (inl (inl h)) = let e = cut_ends piece rest c i in let f = run-head (piece ++ newline ∷ rest) h in cc

@@ -21,6 +21,7 @@ use Rattle.lp_format.specs.format.Bytes.{comma, equals, hash, quote, space, tab}
 abbrev GoesOn : Dialect → List ℕ → ℕ → Type 0
 GoesOn dialect front b = ((b ≡ 10) × IsCutPiece dialect front) ⊎ IsLastPiece dialect (front ++ b ∷ [])
 
+-- a head and a byte are cut, or go on
 head_goes_on : (front : List ℕ) (b : ℕ) → IsHead front → GoesOn Crate front b
 head_goes_on front b h = elim (cases_Bool (is_escaped_after front)) [
   | inl e ↦ inr (inl (inl (IsHead-escaped front b h e)))
@@ -33,6 +34,7 @@ head_goes_on front b h = elim (cases_Bool (is_escaped_after front)) [
   ]
 ]
 
+-- what ends in a plain stretch and a byte are cut, or go on
 plain_goes_on : (front counted : List ℕ) (b : ℕ) → EndsPlain front counted → GoesOn Crate front b
 plain_goes_on front counted b h = elim (cases_Bool (is_escaped_after front)) [
   | inl e ↦ inr (inl (inr (counted, EndsPlain-escaped b h e)))
@@ -48,6 +50,7 @@ plain_goes_on front counted b h = elim (cases_Bool (is_escaped_after front)) [
   ]
 ]
 
+-- what ends in a string and a byte go on
 quoted_goes_on : (front counted : List ℕ) (b : ℕ) → EndsQuoted front counted → GoesOn Crate front b
 quoted_goes_on front counted b h = elim (cases_Bool (is_escaped_after front)) [
   | inl e ↦ inr (inr (counted, EndsQuoted-escaped b h e))
@@ -57,6 +60,7 @@ quoted_goes_on front counted b h = elim (cases_Bool (is_escaped_after front)) [
   ]
 ]
 
+-- a piece that is open, and a byte, are cut or go on, in the crate's dialect
 crate_goes_on : (front : List ℕ) (b : ℕ) → IsLastPiece Crate front → GoesOn Crate front b
 crate_goes_on front b (inl (inl h)) = head_goes_on front b h
 crate_goes_on front b (inl (inr h)) = plain_goes_on front h.0 b h.1
@@ -67,6 +71,7 @@ pub begins_comment-append : (front more : List ℕ) → begins_comment front ≡
 begins_comment-append [] more e = absurd (false≢true e)
 begins_comment-append (b ∷ front) more e = go (eqb b hash) (eqb b space || eqb b tab) e (begins_comment-append front more)
   where
+    -- what begins a comment still does with more after it
     go : (h s : Bool) → (h || s && begins_comment front) ≡ true
         → (begins_comment front ≡ true → begins_comment (front ++ more) ≡ true)
         → (h || s && begins_comment (front ++ more)) ≡ true
@@ -84,6 +89,7 @@ becomes_comment (x ∷ front) b e f =
     All-cons (λ c. c ≢ 10) x (front ++ b ∷ [])
     (λ i. false≢true (subst (λ c. begins_comment (c ∷ front ++ b ∷ []) ≡ true) i f)) (becomes_comment front b w.0 w.1)
   where
+    -- what becomes a comment by more bytes was none before
     go : (h s p q : Bool) → (h || s && p) ≡ false → (h || s && q) ≡ true → (p ≡ false) × (q ≡ true)
     go true s p q e f = absurd (false≢true (sym e))
     go false true p q e f = (e, f)
@@ -95,11 +101,13 @@ begins_comment-newline [] more e = refl
 begins_comment-newline (x ∷ front) more e =
     go (eqb x hash) (eqb x space || eqb x tab) (begins_comment front) (begins_comment (front ++ 10 ∷ more)) e (begins_comment-newline front more)
   where
+    -- what is no comment with more after it was none before
     go : (h s p q : Bool) → (h || s && p) ≡ false → (p ≡ false → q ≡ false) → (h || s && q) ≡ false
     go true s p q e k = e
     go false true p q e k = k e
     go false false p q e k = refl
 
+-- a piece that is open, and a byte, are cut or go on, in the strict dialect
 strict_goes_on : (front : List ℕ) (b : ℕ) → IsLastPiece Strict front → GoesOn Strict front b
 strict_goes_on front b (inl h) = elim (cases_eq b 10) [
   | inl n ↦ inl (n, inl h)
@@ -113,6 +121,7 @@ strict_goes_on front b (inr h) = elim (cases_Bool (begins_comment (front ++ b �
   ]
 ]
 
+-- a piece that is open, and a byte, are cut or go on
 goes_on : (dialect : Dialect) (front : List ℕ) (b : ℕ) → IsLastPiece dialect front → GoesOn dialect front b
 goes_on Crate front b h = crate_goes_on front b h
 goes_on Strict front b h = strict_goes_on front b h
@@ -127,15 +136,18 @@ IsLastPiece-extend dialect front (b ∷ more) h n = elim (goes_on dialect front 
       (IsLastPiece-extend dialect (front ++ b ∷ []) more w (All-tail (λ c. c ≢ 10) b more n))
 ]
 
+-- no bytes are a last piece
 pub IsLastPiece-nil : (dialect : Dialect) → IsLastPiece dialect []
 IsLastPiece-nil Crate = inl (inl (All-nil (λ b. (b ≢ space) × (b ≢ 10))))
 IsLastPiece-nil Strict = inr (refl, inl (inl (All-nil (λ b. (b ≢ space) × (b ≢ 10)))))
 
+-- what is cut could have been the last piece
 pub IsLastPiece-cut : (dialect : Dialect) (piece : List ℕ) → IsCutPiece dialect piece → IsLastPiece dialect piece
 IsLastPiece-cut Crate piece h = inl h.0
 IsLastPiece-cut Strict piece (inl h) = inl h
 IsLastPiece-cut Strict piece (inr h) = inr (h.0, inl h.1)
 
+-- a text with a newline in it is not free of newlines
 has_newline : (piece rest : List ℕ) → All (λ c. c ≢ 10) (piece ++ 10 ∷ rest) → ⊥
 has_newline [] rest h = All-head (λ c. c ≢ 10) 10 rest h refl
 has_newline (b ∷ piece) rest h = has_newline piece rest (All-tail (λ c. c ≢ 10) b (piece ++ 10 ∷ rest) h)
@@ -152,6 +164,7 @@ no_cut_within Strict piece rest (inr c) (inr h) = cut_not_within piece rest c.1 
 abbrev HasPieces : Dialect → List ℕ → Type 0
 HasPieces dialect text = (pieces : List (List ℕ)) × Pieces dialect text pieces
 
+-- each text has pieces, also after a piece that is open
 pieces_from : (dialect : Dialect) (front text : List ℕ) → IsLastPiece dialect front → HasPieces dialect (front ++ text)
 pieces_from dialect front [] h = (front ∷ [], rw append-nil (last front h))
 pieces_from dialect front (b ∷ text) h = elim (goes_on dialect front b h) [
@@ -161,6 +174,7 @@ pieces_from dialect front (b ∷ text) h = elim (goes_on dialect front b h) [
   | inr w ↦ subst (HasPieces dialect) (append_assoc front (b ∷ []) text) (pieces_from dialect (front ++ b ∷ []) text w)
 ]
 
+-- each text has pieces
 pub pieces_exist : (dialect : Dialect) (text : List ℕ) → HasPieces dialect text
 pieces_exist dialect text = pieces_from dialect [] text (IsLastPiece-nil dialect)
 
@@ -172,11 +186,13 @@ abbrev Cuts : Dialect → List ℕ → List ℕ → List (List ℕ) → Type 0
 Cuts dialect text piece pieces =
     (rest : List ℕ) × (text ≡ piece ++ 10 ∷ rest) × IsCutPiece dialect piece × Pieces dialect rest pieces
 
+-- a first piece is the whole text, or is cut from it
 uncons : (dialect : Dialect) {text piece : List ℕ} {pieces : List (List ℕ)} → Pieces dialect text (piece ∷ pieces)
     → ((pieces ≡ []) × (text ≡ piece) × IsLastPiece dialect piece) ⊎ Cuts dialect text piece pieces
 uncons dialect (last piece h) = inl (refl, refl, h)
 uncons dialect (cut piece text pieces c h) = inr (text, refl, c, h)
 
+-- two splits at newlines of one text are the same, or one is further on
 same_split : (p t q s : List ℕ) → p ++ 10 ∷ t ≡ q ++ 10 ∷ s → ((p ≡ q) × (t ≡ s))
     ⊎ (((x : List ℕ) × (p ≡ q ++ 10 ∷ x)) ⊎ ((x : List ℕ) × (q ≡ p ++ 10 ∷ x)))
 same_split [] t [] s e = inl (refl, cc)
@@ -189,6 +205,7 @@ same_split (x ∷ p) t (y ∷ q) s e =
       | inr w ↦ elim w [ inl v ↦ inr (inl (v.0, cc (v.1))) | inr v ↦ inr (inr (v.0, cc (v.1))) ]
     ]
 
+-- a text has one list of pieces
 pub same_pieces : (dialect : Dialect) {t u : List ℕ} {ps qs : List (List ℕ)} → t ≡ u → Pieces dialect t ps → Pieces dialect u qs → ps ≡ qs
 same_pieces dialect e (last p h) (last q k) = ap (λ x. x ∷ []) e
 same_pieces dialect e (last p h) (cut q u qs c k) = absurd (no_cut_within dialect q u c (subst (IsLastPiece dialect) e h))
@@ -201,6 +218,7 @@ same_pieces dialect e (cut p t ps c h) (cut q u qs d k) = elim (same_split p t q
   ]
 ]
 
+-- a list with an element is not empty
 push_is_not_nil : (before : List (List ℕ)) (piece : List ℕ) (after : List (List ℕ)) → before ++ piece ∷ after ≡ [] → ⊥
 push_is_not_nil [] piece after e = cc
 push_is_not_nil (x ∷ before) piece after e = cc
@@ -223,6 +241,7 @@ join_from_cut dialect u t (p ∷ before) piece after h k c = elim (uncons dialec
       (cut p (w.0 ++ 10 ∷ t) (before ++ piece ∷ after) w.2 (join_from_cut dialect w.0 t before piece after w.3 k c))
 ]
 
+-- the last piece of a text is cut where the text goes on after a newline with pieces of their own
 pub cut_from_join : (dialect : Dialect) (u t : List ℕ) (before : List (List ℕ)) (piece : List ℕ)
     (after : List (List ℕ)) → Pieces dialect u (before ++ piece ∷ []) → Pieces dialect t after
     → Pieces dialect (u ++ 10 ∷ t) (before ++ piece ∷ after) → IsCutPiece dialect piece
@@ -250,6 +269,7 @@ another_comment front old new f n (inl h) =
     (begins_comment-append front new f, All-append (λ b. b ≢ 10) front new q n)
 another_comment front old new f n (inr h) = absurd (both_ways (begins_comment (front ++ old)) h.0 (begins_comment-append front old f))
 
+-- in the strict dialect the rest of a comment can be any other without newlines
 pub comment_replaced : (before : List (List ℕ)) (front old new : List ℕ) (after : List (List ℕ)) (text : List ℕ)
     → begins_comment front ≡ true → All (λ b. b ≢ 10) new → Pieces Strict text (before ++ (front ++ old) ∷ after)
     → HasText (before ++ (front ++ new) ∷ after)
@@ -336,5 +356,6 @@ Pieces-cut_at dialect bytes text piece rest i others same h p r left =
     subst (λ t. Pieces dialect t (piece ∷ others)) (sym (split_at bytes i h.0 h.1) ∙ same)
     (subst (λ q. Pieces dialect (take i bytes ++ 10 ∷ drop (i + 1) bytes) (q ∷ others)) first made)
   where
+    -- a range from the start is a front
     from_start : (xs : List ℕ) (n : ℕ) → slice_range xs 0 n ≡ take n xs
     from_start xs n = grind arith

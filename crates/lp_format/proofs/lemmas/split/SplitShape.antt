@@ -18,6 +18,7 @@ same_bare front other (b ∷ text) e =
     ap (λ t. cond t [] (b ∷ []) ++ bare_after (front ++ b ∷ []) text) e
     ∙ ap (λ xs. cond (is_escaped_after other) [] (b ∷ []) ++ xs) (same_bare (front ++ b ∷ []) (other ++ b ∷ []) text f)
 
+-- the bare bytes of two texts are those of the first and those of the second after it
 bare_after-append : (front xs ys : List ℕ) → bare_after front (xs ++ ys) ≡ bare_after front xs ++ bare_after (front ++ xs) ys
 bare_after-append front [] ys = ap (λ t. bare_after t ys) (sym (append-nil front))
 bare_after-append front (x ∷ xs) ys =
@@ -25,6 +26,7 @@ bare_after-append front (x ∷ xs) ys =
     (sym (append_assoc (cond (is_escaped_after front) [] (x ∷ [])) (bare_after (front ++ x ∷ []) xs)
     (bare_after (front ++ x ∷ xs) ys)))
 
+-- the bare bytes of two texts, if nothing is escaped after the first
 pub bare-append : (xs ys : List ℕ) → IsBareAfter xs → bare (xs ++ ys) ≡ bare xs ++ bare ys
 bare-append xs ys h = bare_after-append [] xs ys ∙ ap (λ t. bare xs ++ t) (same_bare xs [] ys (h ∙ sym is_escaped-nil))
 
@@ -47,18 +49,23 @@ nil_has_no_place : (before : List ℕ) (c : ℕ) (after : List ℕ) → [] ≡ b
 nil_has_no_place [] c after e = cc
 nil_has_no_place (y ∷ before) c after e = cc
 
+-- an escaped byte leaves a head a head
 pub IsHead-escaped : (text : List ℕ) (b : ℕ) → IsHead text → is_escaped_after text ≡ true → IsHead (text ++ b ∷ [])
 IsHead-escaped text b h e = rw bare-push_escaped h
 
+-- a bare byte that is no space and no newline leaves a head a head
 pub IsHead-bare : (text : List ℕ) (b : ℕ) → IsHead text → is_escaped_after text ≡ false → b ≢ space → b ≢ newline → IsHead (text ++ b ∷ [])
 IsHead-bare text b h e s n = rw bare-push_bare (All-push (λ c. (c ≢ space) × (c ≢ newline)) (bare text) b h (s, n))
 
+-- an escaped byte leaves a string open
 pub IsQuoted-escaped : (text : List ℕ) (b : ℕ) → IsQuoted text → is_escaped_after text ≡ true → IsQuoted (text ++ b ∷ [])
 IsQuoted-escaped text b h e = rw bare-push_escaped h
 
+-- a bare byte that is no quote leaves a string open
 pub IsQuoted-bare : (text : List ℕ) (b : ℕ) → IsQuoted text → is_escaped_after text ≡ false → b ≢ quote → IsQuoted (text ++ b ∷ [])
 IsQuoted-bare text b h e n = rw bare-push_bare (All-push (λ c. c ≢ quote) (bare text) b h n)
 
+-- an escaped byte leaves a plain stretch plain
 pub IsPlain-escaped : (counted text : List ℕ) (b : ℕ) → IsPlain counted text → is_escaped_after text ≡ true
     → IsPlain counted (text ++ b ∷ [])
 IsPlain-escaped counted text b h e =
@@ -74,6 +81,7 @@ IsPlain-one counted b n q =
       no_opening = λ before after p. go before after (sym one ∙ p);
     }
   where
+    -- a last quote opens nothing where there are not more `=` than `,`
     go : (before after : List ℕ) → b ∷ [] ≡ before ++ quote ∷ after → ¬ HasMoreEquals (counted ++ before)
     go [] after p = rw append-nil (q (cc))
     go (c ∷ before) after p = absurd (nil_has_no_place before quote after (cc))
@@ -91,12 +99,14 @@ IsPlain-append counted xs ys e h k =
       ];
     }
 
+-- no bytes are a plain stretch
 IsPlain-nil : (counted : List ℕ) → IsPlain counted []
 IsPlain-nil counted = record {
   no_newline = All-nil (λ c. c ≢ newline);
   no_opening = λ before after p. absurd (nil_has_no_place before quote after p);
 }
 
+-- equal texts end in a plain stretch alike
 pub EndsPlain-same : {text more counted seen : List ℕ} → text ≡ more → counted ≡ seen → EndsPlain text counted → EndsPlain more seen
 EndsPlain-same {text} {more} {counted} e f h = subst (λ s. EndsPlain more s) f (subst (λ t. EndsPlain t counted) e h)
 
@@ -104,6 +114,7 @@ EndsPlain-same {text} {more} {counted} e f h = subst (λ s. EndsPlain more s) f 
 pub last_place : (front text : List ℕ) (b : ℕ) → b ≢ backslash → is_escaped_after (front ++ b ∷ text) ≡ is_escaped_after text
 last_place front text b h = is_escaped-after_other front text b (ne_eqb b backslash h)
 
+-- an escaped byte leaves the end in a plain stretch
 pub EndsPlain-escaped : {text counted : List ℕ} (b : ℕ) → EndsPlain text counted → is_escaped_after text ≡ true
     → EndsPlain (text ++ b ∷ []) counted
 EndsPlain-escaped b (first head plain h i p) e =
@@ -130,6 +141,7 @@ EndsPlain-append text (later piece counted quoted plain h o q i p) e k =
     (ap (λ s. counted ++ s) (bare-append plain text f) ∙ sym (append_assoc counted (bare plain) (bare text)))
     (later piece counted quoted (plain ++ text) h o q i (IsPlain-append counted plain text f p k))
 
+-- a bare byte that neither ends the piece nor opens a string leaves the end in a plain stretch
 pub EndsPlain-bare : {text counted : List ℕ} (b : ℕ) → EndsPlain text counted → IsBareAfter text → b ≢ newline
     → (b ≡ quote → ¬ HasMoreEquals counted) → EndsPlain (text ++ b ∷ []) (counted ++ b ∷ [])
 EndsPlain-bare {text} {counted} b h e n m =
@@ -142,6 +154,7 @@ EndsPlain-start head h i =
     EndsPlain-same refl (bare-push_bare [] 32 is_escaped-nil)
     (first head [] h i (IsPlain-one [] 32 (omega arith) (λ e. absurd (omega arith))))
 
+-- an escaped byte leaves the end in a string
 pub EndsQuoted-escaped : {text counted : List ℕ} (b : ℕ) → EndsQuoted text counted → is_escaped_after text ≡ true
     → EndsQuoted (text ++ b ∷ []) counted
 EndsQuoted-escaped b (opened piece counted quoted h o q) e =
@@ -149,6 +162,7 @@ EndsQuoted-escaped b (opened piece counted quoted h o q) e =
     subst (λ t. EndsQuoted t counted) (sym (append_assoc piece (quote ∷ quoted) (b ∷ [])))
     (opened piece counted (quoted ++ b ∷ []) h o (IsQuoted-escaped quoted b q f))
 
+-- a bare byte that is no quote leaves the end in a string
 pub EndsQuoted-bare : {text counted : List ℕ} (b : ℕ) → EndsQuoted text counted → IsBareAfter text → b ≢ quote
     → EndsQuoted (text ++ b ∷ []) counted
 EndsQuoted-bare b (opened piece counted quoted h o q) e n =
@@ -161,6 +175,7 @@ pub EndsQuoted-start : {text counted : List ℕ} → EndsPlain text counted → 
     → EndsQuoted (text ++ quote ∷ []) counted
 EndsQuoted-start {text} {counted} h i m = opened text counted [] h (i, m) (All-nil (λ c. c ≢ quote))
 
+-- a bare quote closes a string
 pub EndsQuoted-close : {text counted : List ℕ} → EndsQuoted text counted → IsBareAfter text → EndsPlain (text ++ quote ∷ []) counted
 EndsQuoted-close (opened piece counted quoted h o q) e = EndsPlain-same refl (append-nil counted)
     (later piece counted quoted [] h o q e (IsPlain-nil counted))

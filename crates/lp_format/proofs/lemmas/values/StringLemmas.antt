@@ -41,6 +41,7 @@ closing_quote after closes =
     let found = rw here at bare in
     eqb-true (slice_index after (body_len after)) quote (and_parts _ _ found).0
 
+-- a string that no quote closes is not there
 pub string_open : (text after : List ℕ) → text ≡ quote ∷ after
     → ((rest : List ℕ) → drop (body_len after) after ≢ quote ∷ rest) → string_at text ≡ miss
 unfolding string_at
@@ -50,6 +51,7 @@ string_open text after e unclosed =
     let test : nat_lt (body_len after) (length after) ≡ false = false_from_ne_true _ (λ t. never (ltb-true _ _ t)) in
     rw (e, test) refl
 
+-- a string between quotes is read
 pub string_reads : (text after rest : List ℕ) → text ≡ quote ∷ after → drop (body_len after) after ≡ quote ∷ rest
     → string_at text ≡ reads (string (read_text quotable (take (body_len after) after))) rest
 unfolding string_at

@@ -37,9 +37,11 @@ pub fits_from_test : (z : ℤ) → fits_i64 z ≡ true → FitsSigned w64 z
 fits_from_test (pos n) h = record { sfits = ltb-true n (2 ^ 63) h }
 fits_from_test (negsuc n) h = record { sfits = negative_fits n (and_parts (leb n 9223372036854775807) true h).0 }
   where
+    -- the negative of a number up to 2^63 - 1 fits an i64
     negative_fits : (n : ℕ) → leb n 9223372036854775807 ≡ true → n < 9223372036854775808
     negative_fits n h = omega (arith, leb-true n 9223372036854775807 h)
 
+-- the test says yes of an integer that fits an i64
 pub test_from_fits : (z : ℤ) → FitsSigned w64 z → fits_i64 z ≡ true
 test_from_fits (pos n) h = lt-ltb n (2 ^ 63) h.sfits
 test_from_fits (negsuc n) h = and_from (leb n 9223372036854775807) true (le-leb n 9223372036854775807 (omega (arith, h.sfits))) refl
@@ -82,6 +84,7 @@ pub integer_misses : (text : List ℕ) → integer_len text ≡ 0 → integer_at
 unfolding integer_at
 integer_misses text e = rw (eq-eqb (integer_len text) 0 e) refl
 
+-- digits without `i` are no integer
 pub integer_unmarked : (text : List ℕ) → slice_index text (integer_len text) ≢ 105 → integer_at text ≡ miss
 unfolding integer_at
 integer_unmarked text other =
@@ -90,6 +93,7 @@ integer_unmarked text other =
       | inr some ↦ rw (some, ne_eqb (slice_index text (integer_len text)) 105 other) refl
     ]
 
+-- digits in range and `i` are an integer
 pub integer_reads : (text : List ℕ) → 0 < integer_len text → slice_index text (integer_len text) ≡ 105
     → fits_i64 (signed_digits_value 10 (take (integer_len text) text)) ≡ true
     → integer_at text ≡ reads (integer (signed_digits_value 10 (take (integer_len text) text))) (drop (integer_len text + 1) text)
@@ -98,6 +102,7 @@ integer_reads text some mark fits =
     let ne : integer_len text ≡ 0 → ⊥ = λ e. absurd (omega arith) in
     rw (ne_eqb (integer_len text) 0 ne, eq-eqb (slice_index text (integer_len text)) 105 mark, fits) refl
 
+-- digits out of range and `i` are a fault
 pub integer_overflows : (text : List ℕ) → 0 < integer_len text → slice_index text (integer_len text) ≡ 105
     → fits_i64 (signed_digits_value 10 (take (integer_len text) text)) ≡ false
     → integer_at text ≡ fatal (integer_value_invalid (side_of (take (integer_len text) text)) (take (integer_len text) text))
@@ -158,6 +163,7 @@ digits_of_plain text other =
       | inr some ↦ rw (no_minus, some) (sym (zero-add (digits_len text)))
     ]
 
+-- no digits are at a minus
 pub digits_of_minus : (text : List ℕ) → slice_index text 0 ≡ 45 → digits_len text ≡ 0
 digits_of_minus [] e = refl
 digits_of_minus (b ∷ rest) e = rw e refl
@@ -167,6 +173,7 @@ pub unsigned_misses : (text : List ℕ) → digits_len text ≡ 0 → unsigned_a
 unfolding unsigned_at
 unsigned_misses text e = rw (eq-eqb (digits_len text) 0 e) refl
 
+-- digits without `u` are no unsigned integer
 pub unsigned_unmarked : (text : List ℕ) → slice_index text (digits_len text) ≢ 117 → unsigned_at text ≡ miss
 unfolding unsigned_at
 unsigned_unmarked text other =
@@ -175,6 +182,7 @@ unsigned_unmarked text other =
       | inr some ↦ rw (some, ne_eqb (slice_index text (digits_len text)) 117 other) refl
     ]
 
+-- digits in range and `u` are an unsigned integer
 pub unsigned_reads : (text : List ℕ) → 0 < digits_len text → slice_index text (digits_len text) ≡ 117
     → digits_value 10 (take (digits_len text) text) < 2 ^ 64
     → unsigned_at text ≡ reads (unsigned (digits_value 10 (take (digits_len text) text))) (drop (digits_len text + 1) text)
@@ -183,6 +191,7 @@ unsigned_reads text some mark small =
     let ne : digits_len text ≡ 0 → ⊥ = λ e. absurd (omega arith) in
     rw (ne_eqb (digits_len text) 0 ne, eq-eqb (slice_index text (digits_len text)) 117 mark, lt-ltb _ (2 ^ 64) small) refl
 
+-- digits out of range and `u` are a fault
 pub unsigned_overflows : (text : List ℕ) → 0 < digits_len text → slice_index text (digits_len text) ≡ 117
     → 2 ^ 64 ≤ digits_value 10 (take (digits_len text) text)
     → unsigned_at text ≡ fatal (uinteger_value_invalid above (take (digits_len text) text))
@@ -208,6 +217,7 @@ pub boolean_misses : (b : Bool) (words : List (List ℕ)) (text : List ℕ) → 
 unfolding boolean_at
 boolean_misses b words text none = rw (eq-eqb (word_len words text) 0 none) refl
 
+-- the longest word at the start of a text is read as its Boolean
 pub boolean_reads : (b : Bool) (words : List (List ℕ)) (text : List ℕ) (n : ℕ) → word_len words text ≡ n → 0 < n
     → boolean_at b words text ≡ reads (boolean b) (drop n text)
 unfolding boolean_at

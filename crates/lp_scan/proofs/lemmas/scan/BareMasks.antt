@@ -34,15 +34,19 @@ tells_bare marks m e r escaped made test text at room bare is marked =
 
 -- the lowest bit of a mask is the first place that passes
 module _ (p : ℕ → Bool) (at n r : ℕ) (few : n ≤ 64) (found : r ≡ first_set (mask_at p at n) n) where
+  -- the places are as many as the bytes
   long : length (range_with_len at n) ≡ n
   long = length-range_with_len at n
 
+  -- the lowest bit is the first place that passes
   counted : r ≡ prefix_len (λ k. not (p k)) (range_with_len at n)
   counted = found ∙ first_set_mask_l p (range_with_len at n) n long few
 
+  -- the lowest bit is a place of the load, or one past it
   pub lowest_within : r ≤ n
   lowest_within = omega (arith, counted, long, prefix_len-le-length (λ k. not (p k)) (range_with_len at n))
 
+  -- no place before the lowest bit passes
   pub none_before : (k : ℕ) → at ≤ k → k < at + r → p k ≡ false
   none_before k from to =
       let place : at + (k - at) ≡ k = omega arith in
@@ -52,6 +56,7 @@ module _ (p : ℕ → Bool) (at n r : ℕ) (few : n ≤ 64) (found : r ≡ first
       (subst (λ (j : ℕ). not (p j) ≡ true) (get_or-range_with_len at n (k - at) 0 inside ∙ place)
       (prefix_len_passes (λ j. not (p j)) (range_with_len at n) (k - at) 0 before))
 
+  -- the place of the lowest bit passes
   pub lowest_passes : r < n → p (at + r) ≡ true
   lowest_passes short =
       let inside : prefix_len (λ j. not (p j)) (range_with_len at n) < length (range_with_len at n) = omega (arith, counted, long) in
@@ -85,6 +90,7 @@ range_next : {X : Type 0} (f : ℕ → X) (n at : ℕ) → map f (range_with_len
 range_next f zero at = refl
 range_next f (suc n) at = ap (λ (rest : List _). f (at + 1) ∷ rest) (range_next f n (at + 1))
 
+-- the mask of a load one byte further
 pub mask_next : (p : ℕ → Bool) (at n : ℕ) → mask_at p (at + 1) n ≡ mask_at (λ k. p (k + 1)) at n
 mask_next p at n = ap mask_l (range_next p n at)
 
@@ -100,23 +106,27 @@ escaped_is_not_bare passes text k h = and_right (passes (slice_index text k)) (n
 -- after a load that begins at a bare place: a bare backslash at its end escapes one byte, and then comes a bare place
 module _ (text : List ℕ) (at : ℕ) (room : at + 64 < length text) (last : ℕ)
     (is : last ≡ cond (is_bare_at (λ b. b == backslash) text (at + 63)) 1 0) where
+  -- what follows a load is escaped if its last byte is a bare backslash
   flag : is_escaped_after (take (at + 64) text) ≡ is_bare_at (λ b. b == backslash) text (at + 63)
   flag =
       let place : at + 64 ≡ at + 63 + 1 = omega arith in
       ap (λ (n : ℕ). is_escaped_after (take n text)) place ∙ escapes_next text (at + 63) (omega arith)
 
+  -- at most one byte after a load is escaped by it
   pub at_most_one : last ≤ 1
   at_most_one = elim (cases_Bool (is_bare_at (λ b. b == backslash) text (at + 63))) [
     | inl set ↦ omega (arith, is ∙ ap (λ (t : Bool). cond t 1 0) set)
     | inr clear ↦ omega (arith, is ∙ ap (λ (t : Bool). cond t 1 0) clear)
   ]
 
+  -- a load that ends in a bare backslash escapes the byte after it
   pub one_escaped : 0 < last → is_escaped_after (take (at + 64) text) ≡ true
   one_escaped some = elim (cases_Bool (is_bare_at (λ b. b == backslash) text (at + 63))) [
     | inl set ↦ flag ∙ set
     | inr clear ↦ absurd (omega (arith, is ∙ ap (λ (t : Bool). cond t 1 0) clear))
   ]
 
+  -- nothing is escaped where the next load begins
   pub next_bare : IsBareAfter (take (at + (64 + last)) text)
   next_bare = elim (cases_Bool (is_bare_at (λ b. b == backslash) text (at + 63))) [
     | inl set ↦
@@ -132,6 +142,7 @@ module _ (text : List ℕ) (at : ℕ) (room : at + 64 < length text) (last : ℕ
 module _ (passes : ℕ → Bool) (text : List ℕ) (at : ℕ) (room : at + 64 < length text) (p : IsPassed passes text at) where
   -- how many bytes come before the first bare stop
   module _ (r : ℕ) (found : r ≡ first_set (mask_at (is_bare_at passes text) at 64) 64) where
+    -- no bare byte before the lowest bit passes
     none_to : (k : ℕ) → k < at + r → is_bare_at passes text k ≡ false
     none_to k to = elim (cases_lt k at) [
       | inl early ↦ p.passed k early
@@ -142,6 +153,7 @@ module _ (passes : ℕ → Bool) (text : List ℕ) (at : ℕ) (room : at + 64 < 
     here : r < 64 → (passes (slice_index text (at + r)) ≡ true) × (not (is_escaped_after (take (at + r) text)) ≡ true)
     here short = and_parts _ _ (lowest_passes (is_bare_at passes text) at 64 r (omega arith) found short)
 
+    -- the lowest bit is the first bare byte that passes
     pub to_stop : r < 64 → IsPassed passes text (at + r) × (passes (slice_index text (at + r)) ≡ true)
     to_stop short = (
       record { within = omega arith; is_bare = λ _. not-true _ (here short).1; passed = none_to },

@@ -58,6 +58,7 @@ one_place : (odd after e m : Bool) → (e && not after) ≡ false
     0 + cond m 1 0 + cond (borrow odd after e) 1 0
 one_place odd after e m h = grind arith
 
+-- a backslash is not both bare and no backslash
 after_it : (e m : Bool) → ((not e && m) && not m) ≡ false
 after_it e m = grind arith
 
@@ -86,6 +87,7 @@ shifted after (m ∷ ms) = rw (pow-suc 2 (length ms)) (omega (arith, shifted m m
 undone : (e odd m : Bool) → differs (differs (differs (differs e odd) m) odd) m ≡ e
 undone e odd m = grind arith
 
+-- undoing the difference gives the escaped places
 all_undone : (odd e : Bool) (ms : List Bool) → zip2 differs (zip2 differs (difference odd e ms) (odds odd (length ms))) ms ≡ escapes e ms
 all_undone odd e [] = refl
 all_undone odd e (m ∷ ms) = ap₂ (λ (b : Bool) (bs : List Bool). b ∷ bs) (undone e odd m) (all_undone (not odd) (not e && m) ms)
@@ -95,10 +97,12 @@ long_afters : (after : Bool) (ms : List Bool) → length (afters after ms) ≡ l
 long_afters after [] = refl
 long_afters after (m ∷ ms) = ap suc (long_afters m ms)
 
+-- the odd places are as many as the places
 long_odds : (odd : Bool) (n : ℕ) → length (odds odd n) ≡ n
 long_odds odd zero = refl
 long_odds odd (suc n) = ap suc (long_odds (not odd) n)
 
+-- the difference has as many places as the mask
 long_difference : (odd e : Bool) (ms : List Bool) → length (difference odd e ms) ≡ length ms
 long_difference odd e [] = refl
 long_difference odd e (m ∷ ms) = ap suc (long_difference (not odd) (not e && m) ms)
@@ -112,9 +116,11 @@ module _ (ms : List Bool) (long : length ms ≡ 64) where
   fits : (ls : List Bool) → length ls ≡ length ms → mask_l ls < 2 ^ 64
   fits ls same = subst (λ (n : ℕ). mask_l ls < 2 ^ n) (same ∙ long) (mask_l-lt ls)
 
+  -- the constant is the mask of the odd places
   odds_are : mask_l (odds false (length ms)) ≡ odd_places
   odds_are = ap (λ (n : ℕ). mask_l (odds false n)) long
 
+  -- a mask times 2 is that of the places after its own
   afters_are : mask_l ms * 2 % 2 ^ 64 ≡ mask_l (afters false ms)
   afters_are =
       let whole : mask_l (afters false ms) + 2 ^ 64 * cond (last_of false ms) 1 0 ≡ 0 + 2 * mask_l ms =
@@ -122,15 +128,18 @@ module _ (ms : List Bool) (long : length ms ≡ 64) where
       let below = fits (afters false ms) (long_afters false ms) in
       omega arith
 
+  -- the minuend of the subtraction is the mask of its places
   minuend_is : bit_or (mask_l ms * 2 % 2 ^ 64) odd_places ≡ mask_l (minuend false false ms)
   minuend_is =
       ap₂ bit_or afters_are (sym odds_are)
       ∙ mask_or (afters false ms) (odds false (length ms)) (long_afters false ms ∙ sym (long_odds false (length ms)))
 
+  -- the minuend has as many places as the mask
   long_minuend : length (minuend false false ms) ≡ length ms
   long_minuend = length-zip2 (λ a b. a || b) (afters false ms) (odds false (length ms))
       (long_afters false ms ∙ sym (long_odds false (length ms))) ∙ long_afters false ms
 
+  -- the subtraction gives the mask of the difference
   left_is : (bit_or (mask_l ms * 2 % 2 ^ 64) odd_places + (2 ^ 64 - mask_l ms)) % 2 ^ 64 ≡ mask_l (difference false false ms)
   left_is =
       let whole : mask_l (minuend false false ms) + 2 ^ 64 * borrowed false false false ms ≡ mask_l

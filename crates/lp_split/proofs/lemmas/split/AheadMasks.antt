@@ -68,6 +68,7 @@ module _ (text : List ℕ) (at : ℕ) (is_bare : IsBareAfter (take at text)) whe
 -- what is seen after one of the bytes that were seen
 module _ (text : List ℕ) (a : Ahead) (are : IsAhead text a) (run : ℕ) (inside : run < are.count)
     (is_bare : IsBareAfter (take (run + 1) text)) where
+  -- the rest of a mask after a stop is the mask of the text after it
   one_mask : (p : ℕ → Bool) (m : ℕ) → m ≡ mask_at (is_bare_at p text) 0 are.count
       → m / 2 ^ run / 2 ≡ mask_at (is_bare_at p (drop (run + 1) text)) 0 (are.count - (run + 1))
   one_mask p m is =
@@ -79,6 +80,7 @@ module _ (text : List ℕ) (a : Ahead) (are : IsAhead text a) (run : ℕ) (insid
       ∙ ap (λ (k : ℕ). mask_at q (k + 1) left) (zero-add run)
       ∙ mask_from text (run + 1) is_bare p left
 
+  -- what a load showed after a stop holds of the text after it
   pub seen_past : IsAhead (drop (run + 1) text)
       (ahead_of (a.passed - (run + 1)) (a.stops / 2 ^ run / 2) (a.equals / 2 ^ run / 2) (a.commas / 2 ^ run / 2))
   seen_past =

@@ -34,6 +34,7 @@ stays_other (x ∷ text) rest e some = elim (cases_eq x 10) [
   | inr n ↦ go (eqb x hash) (eqb x space || eqb x tab) e (λ f. stays_other text rest f (λ all. some (All-cons (λ b. b ≢ newline) x text n all)))
 ]
   where
+    -- what begins no comment does not with more after it
     go : (h s : Bool) → (h || s && begins_comment text) ≡ false
         → (begins_comment text ≡ false → begins_comment (text ++ rest) ≡ false)
         → (h || s && begins_comment (text ++ rest)) ≡ false

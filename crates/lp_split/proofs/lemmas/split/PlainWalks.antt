@@ -67,10 +67,12 @@ module _ (text : List ℕ) (a : Ahead) (are : IsAhead text a) where
 
   -- the lowest of the ends
   module _ (run : ℕ) (some : 0 < a.stops) (lowest : run ≡ trailing_zeros w64 a.stops) where
+    -- the lowest bit is the first end that the load showed
     found : run ≡ first_set mask are.count
     found = lowest ∙ ap (λ (t : Bool). cond t are.count (trailing_zeros w64 a.stops)) (sym (ne_eqb a.stops 0 (omega (arith, some))))
         ∙ ap (λ (m : ℕ). first_set m are.count) are.stops_are
 
+    -- the end is within what the load showed
     pub short : run < are.count
     short = tz_below a.stops are.count run (omega (arith, are.stops_are, mask_fits (is_bare_at ends_plain text) 0 are.count)) are.few some
         lowest
@@ -84,6 +86,7 @@ module _ (text : List ℕ) (a : Ahead) (are : IsAhead text a) where
     at_stop = and_parts _ _ (subst (λ (k : ℕ). is_bare_at ends_plain text k ≡ true) (zero-add run)
         (lowest_passes (is_bare_at ends_plain text) 0 are.count run are.few found short))
 
+    -- the byte there ends a plain stretch
     pub stop_ends : ends_plain (slice_index text run) ≡ true
     stop_ends = at_stop.0
 
@@ -111,6 +114,7 @@ module _ (text : List ℕ) (a : Ahead) (are : IsAhead text a) where
     low_few : (p : ℕ → Bool) (m : ℕ) → m ≡ mask_at (is_bare_at p text) 0 are.count → count_ones (m % 2 ^ run) ≤ run
     low_few p m is = omega (arith, low_counts p m is, few_bare p text run (omega (arith, stop_within)))
 
+    -- a walk that ends in what was seen ahead has counted what is before its end
     pub walk_ahead : IsWalked text (walk_at run (count_ones (a.equals % 2 ^ run)) (count_ones (a.commas % 2 ^ run)) true
         (ahead_of (a.passed - (run + 1)) (a.stops / 2 ^ run / 2) (a.equals / 2 ^ run / 2) (a.commas / 2 ^ run / 2)))
     walk_ahead = record {
@@ -155,6 +159,7 @@ module _ (text : List ℕ) (a : Ahead) (are : IsAhead text a) where
               here ∙ ap (λ (k : ℕ). count_by p (bare (take k text))) place
         ]
 
+    -- a walk that goes past what was seen ahead has counted all of that
     pub walk_starts : IsWalked text (walk_at a.passed (count_ones (a.equals % 2 ^ 64)) (count_ones (a.commas % 2 ^ 64)) false none)
     walk_starts = record {
       passed = record { within = are.fits; is_bare = are.is_bare; passed = none_seen };

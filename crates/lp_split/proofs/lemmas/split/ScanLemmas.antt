@@ -26,6 +26,7 @@ bare_len passes escaped [] = 0
 bare_len passes escaped (b ∷ text) = cond (passes b && not escaped) 0 (suc (bare_len passes (not escaped && b == backslash) text))
 
 module _ (passes : ℕ → Bool) where
+  -- the bytes before the first bare byte that passes fit the text
   bare_len_fits : (escaped : Bool) (text : List ℕ) → bare_len passes escaped text ≤ length text
   bare_len_fits escaped [] = omega arith
   bare_len_fits escaped (b ∷ text) =
@@ -34,6 +35,7 @@ module _ (passes : ℕ → Bool) where
         | inr on ↦ let more = bare_len_fits (not escaped && b == backslash) text in rw on (omega arith)
       ]
 
+  -- none of those bytes passes and is bare
   bare_len_before : (escaped : Bool) (text : List ℕ) (k : ℕ) → k < bare_len passes escaped text
       → (passes (get_or text k 0) && not (escaped_from escaped (take k text))) ≡ false
   bare_len_before escaped [] k h = absurd (omega arith)
@@ -49,6 +51,7 @@ module _ (passes : ℕ → Bool) where
             bare_len_before (not escaped && b == backslash) text k (omega arith)
       ]
 
+  -- the byte after them passes and is bare
   bare_len_at : (escaped : Bool) (text : List ℕ) → bare_len passes escaped text < length text
       → (passes (get_or text (bare_len passes escaped text) 0) && not
       (escaped_from escaped (take (bare_len passes escaped text) text))) ≡ true

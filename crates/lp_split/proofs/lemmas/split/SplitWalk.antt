@@ -21,6 +21,7 @@ use Rattle.lp_format.specs.format.Bytes.{newline, quote}
 pub count_by-push : (p : ℕ → Bool) (xs : List ℕ) (b : ℕ) → count_by p (xs ++ b ∷ []) ≡ count_by p xs + cond (p b) 1 0
 count_by-push p xs b = omega (arith, sum_by-append (λ x. cond (p x) 1 0) xs (b ∷ []))
 
+-- a byte more counts if it is `=` or `,`
 IsCountOf-push : (counted : List ℕ) (e c b : ℕ) → IsCountOf counted e c
     → IsCountOf (counted ++ b ∷ []) (e + cond (eqb b 61) 1 0) (c + cond (eqb b 44) 1 0)
 IsCountOf-push counted e c b h =
@@ -29,6 +30,7 @@ IsCountOf-push counted e c b h =
       commas_is = rw (count_by-push (λ x. eqb x 44) counted b) (ap (λ n. n + cond (eqb b 44) 1 0) h.commas_is);
     }
 
+-- another byte counts for nothing
 IsCountOf-other : (counted : List ℕ) (e c b : ℕ) → IsCountOf counted e c → b ≢ 61 → b ≢ 44 → IsCountOf (counted ++ b ∷ []) e c
 IsCountOf-other counted e c b h n m =
     record {
@@ -50,6 +52,7 @@ IsCountOf-append xs ys e c x y h k =
 pub HasMoreEquals-from : (counted : List ℕ) (e c : ℕ) → IsCountOf counted e c → c < e → HasMoreEquals counted
 HasMoreEquals-from counted e c h l = omega (arith, h.equals_is, h.commas_is)
 
+-- a count of `=` that is not greater says that there are not more
 not_more : (counted : List ℕ) (e c : ℕ) → IsCountOf counted e c → e ≤ c → ¬ HasMoreEquals counted
 not_more counted e c h l m = omega (arith, h.equals_is, h.commas_is)
 
@@ -60,6 +63,7 @@ IsIn-escaped Head e c piece b f h = (IsHead-escaped piece b h.0 f, h.1)
 IsIn-escaped Plain e c piece b f h = (h.0, EndsPlain-escaped b h.1 f, h.2)
 IsIn-escaped Quoted e c piece b f h = (h.0, EndsQuoted-escaped b h.1 f, h.2)
 
+-- a bare backslash changes no part and no count
 pub IsIn-backslash : (part : Part) (e c : ℕ) (piece : List ℕ) → IsBareAfter piece → IsIn part e c piece → IsIn part e c (piece ++ 92 ∷ [])
 IsIn-backslash Head e c piece f h = (IsHead-bare piece 92 h.0 f (omega arith) (omega arith), h.1)
 IsIn-backslash Plain e c piece f h = (
@@ -69,32 +73,40 @@ IsIn-backslash Plain e c piece f h = (
 )
 IsIn-backslash Quoted e c piece f h = (h.0, EndsQuoted-bare 92 h.1 f (omega arith), h.2)
 
+-- a bare space ends a head
 pub Head-space : (e c : ℕ) (piece : List ℕ) → IsBareAfter piece → IsIn Head e c piece → IsIn Plain e c (piece ++ 32 ∷ [])
 Head-space e c piece f h = (32 ∷ [], EndsPlain-start piece h.0 f, IsCountOf-other [] e c 32 h.1 (omega arith) (omega arith))
 
+-- another bare byte stays in the head
 pub Head-other : (e c : ℕ) (piece : List ℕ) (b : ℕ) → IsBareAfter piece → b ≢ 32 → b ≢ newline → IsIn Head e c piece
     → IsIn Head e c (piece ++ b ∷ [])
 Head-other e c piece b f n m h = (IsHead-bare piece b h.0 f n m, h.1)
 
+-- a bare `=` is counted
 pub Plain-equals : (e c : ℕ) (piece : List ℕ) → IsBareAfter piece → IsIn Plain e c piece → IsIn Plain (e + 1) c (piece ++ 61 ∷ [])
 Plain-equals e c piece f h =
     (h.0 ++ 61 ∷ [], EndsPlain-bare 61 h.1 f (omega arith) (λ q. absurd (omega arith)), rw add-zero at (IsCountOf-push h.0 e c 61 h.2))
 
+-- a bare `,` is counted
 pub Plain-comma : (e c : ℕ) (piece : List ℕ) → IsBareAfter piece → IsIn Plain e c piece → IsIn Plain e (c + 1) (piece ++ 44 ∷ [])
 Plain-comma e c piece f h =
     (h.0 ++ 44 ∷ [], EndsPlain-bare 44 h.1 f (omega arith) (λ q. absurd (omega arith)), rw add-zero at (IsCountOf-push h.0 e c 44 h.2))
 
+-- a bare quote after more `=` than `,` opens a string
 pub Plain-opens : (e c : ℕ) (piece : List ℕ) → IsBareAfter piece → c < e → IsIn Plain e c piece → IsIn Quoted e c (piece ++ quote ∷ [])
 Plain-opens e c piece f l h = (h.0, EndsQuoted-start h.1 f (HasMoreEquals-from h.0 e c h.2 l), h.2)
 
+-- another bare byte stays in the plain stretch
 pub Plain-other : (e c : ℕ) (piece : List ℕ) (b : ℕ) → IsBareAfter piece → b ≢ 61 → b ≢ 44 → b ≢ newline
     → (b ≡ quote → e ≤ c) → IsIn Plain e c piece → IsIn Plain e c (piece ++ b ∷ [])
 Plain-other e c piece b f n m l q h =
     (h.0 ++ b ∷ [], EndsPlain-bare b h.1 f l (λ i. not_more h.0 e c h.2 (q i)), IsCountOf-other h.0 e c b h.2 n m)
 
+-- a bare quote closes a string
 pub Quoted-closes : (e c : ℕ) (piece : List ℕ) → IsBareAfter piece → IsIn Quoted e c piece → IsIn Plain e c (piece ++ quote ∷ [])
 Quoted-closes e c piece f h = (h.0, EndsQuoted-close h.1 f, h.2)
 
+-- another bare byte stays in the string
 pub Quoted-other : (e c : ℕ) (piece : List ℕ) (b : ℕ) → IsBareAfter piece → b ≢ quote → IsIn Quoted e c piece
     → IsIn Quoted e c (piece ++ b ∷ [])
 Quoted-other e c piece b f n h = (h.0, EndsQuoted-bare b h.1 f n, h.2)

@@ -33,6 +33,7 @@ module _ (passes : ℕ → Bool) where
   all_fail true b rest h k = k
   all_fail false b rest h k = All-cons (λ (c : ℕ). passes c ≡ false) b rest (and_true (passes b) h) k
     where
+      -- what is false with true is false
       and_true : (t : Bool) → (t && true) ≡ false → t ≡ false
       and_true true m = absurd (cc)
       and_true false m = refl

@@ -79,6 +79,7 @@ blanks_end place next b hash space tab step = λ dialect bytes h. (
   step bytes h.2,
 )
   where
+    -- a byte that is neither a blank nor `#` begins no comment
     other : (rest : List ℕ) → (eqb b 35 || (eqb b 32 || eqb b 9) && begins_comment rest) ≡ false
     other rest = rw (ne_eqb b 35 hash, ne_eqb b 32 space, ne_eqb b 9 tab) refl
 
