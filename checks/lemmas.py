@@ -1,8 +1,8 @@
 #!/usr/bin/env python3
 """Prints each lemma that has no comment line above it, which says what it means.
 
-A lemma is what a file in a crate's proofs/ states by its type and then defines, but for the answers to goals, since a goal says what its
-answer is for, and the worked lines, whose names say it. With names of crates, those alone. Exit status: 1 if there is such a lemma.
+A lemma is what a file in a crate's proofs/ states by its type and then defines, but for the fields of records, the proofs of functions and
+the answers to goals, since a contract says what these are for, and the worked lines, whose names say it. With names of crates, those alone. Exit status: 1 if there is such a lemma.
 """
 import pathlib
 import re
@@ -12,12 +12,18 @@ TOP = pathlib.Path(__file__).resolve().parent.parent
 STATED = re.compile(r"^( *)(?:pub )?([^\s:(){}]+) : (.*)$")
 
 
+def is_field(lines, at, indent):
+    """Whether the line, which is indented so, is in a record."""
+    heads = [it for it in lines[:at] if it.strip() and len(it) - len(it.lstrip()) < indent]
+    return bool(re.match(r" *(?:pub )?record ", next((it for it in reversed(heads) if not it.startswith("    ")), "")))
+
+
 def unsaid(path):
     """The lemmas of a file that have no comment, each with its line's number."""
     lines = path.read_text(encoding="utf-8").split("\n")
     for at, line in enumerate(lines):
         stated = STATED.match(line)
-        if not stated or stated[3].startswith("goal."):
+        if not stated or stated[3].startswith("goal.") or stated[2].endswith("_spec") or is_field(lines, at, len(stated[1])):
             continue
         defined = re.compile("^" + stated[1] + re.escape(stated[2]) + r"(?: [^:]*)? =(?: |$)")
         is_lemma = any(defined.match(it) for it in lines[at + 1 :])

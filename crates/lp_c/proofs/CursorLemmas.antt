@@ -6,6 +6,7 @@ use Rattle.influxdb_line_protocol.specs.format.Dialects.{Dialect}
 use Rattle.influxdb_line_protocol.specs.format.Pieces.{Left, Pieces, PiecesLeft}
 use Rattle.influxdb_line_protocol.specs.code.ParseSteps.{GivesItem}
 
+-- each text has a piece
 no_pieces : (dialect : Dialect) (text : List ℕ) → Pieces dialect text [] → ⊥
 no_pieces dialect text h = elim h [ ]
 

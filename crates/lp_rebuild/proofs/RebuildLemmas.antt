@@ -73,10 +73,12 @@ refused_fault old e new some r answer is =
     let f = error_is e answer some is in
     subst (λ a. Takes old a new) (sym f.1) (refused_answer old (Err f.0) new refl (subst (λ t. Refuses old t new) f.2 r))
 
+-- an answer before others counts if it is carried
 pub carried_cons : (answer : Result Line Fault) (answers : List (Result Line Fault))
     → carried_of (answer ∷ answers) ≡ cond (is_carried_answer answer) 1 0 + carried_of answers
 carried_cons answer answers = omega (arith, sum_by-append (λ (a : Result Line Fault). cond (is_carried_answer a) 1 0) (answer ∷ []) answers)
 
+-- an answer before others counts if it is refused
 pub refused_cons : (answer : Result Line Fault) (answers : List (Result Line Fault))
     → refused_of (answer ∷ answers) ≡ cond (not (is_carried_answer answer)) 1 0 + refused_of answers
 refused_cons answer answers = omega
@@ -104,15 +106,18 @@ faults_push number (a ∷ answers) answer =
     ∙ sym (append_assoc first others (fault_of (number + 1 + length answers) answer))
     ∙ ap (λ (n : ℕ). (first ++ others) ++ fault_of n answer) {y = number + length (a ∷ answers)} (omega arith)
 
+-- an answer after others counts if it is carried
 carried_push : (answers : List (Result Line Fault)) (answer : Result Line Fault)
     → carried_of (answers ++ answer ∷ []) ≡ carried_of answers + cond (is_carried_answer answer) 1 0
 carried_push answers answer = omega (arith, sum_by-append (λ (a : Result Line Fault). cond (is_carried_answer a) 1 0) answers (answer ∷ []))
 
+-- an answer after others counts if it is refused
 refused_push : (answers : List (Result Line Fault)) (answer : Result Line Fault)
     → refused_of (answers ++ answer ∷ []) ≡ refused_of answers + cond (not (is_carried_answer answer)) 1 0
 refused_push answers answer = omega
     (arith, sum_by-append (λ (a : Result Line Fault). cond (not (is_carried_answer a)) 1 0) answers (answer ∷ []))
 
+-- an answer after others adds its line to the batch, if it is carried
 batch_push : (answers : List (Result Line Fault)) (answer : Result Line Fault)
     → batch_of (answers ++ answer ∷ []) ≡ batch_of answers ++ built_all (carried_point answer)
 batch_push answers answer =
@@ -180,6 +185,7 @@ pub record SoFar (dialect : Dialect) (text : List ℕ) (others : List (List ℕ)
   pub pieces : Pieces dialect text (front ++ others)
   pub took : Took (answers_of dialect front) so_far
 
+-- the pieces before others, with a piece more
 regrouped : (front skipped : List (List ℕ)) (piece : List ℕ) (others : List (List ℕ))
     → front ++ (skipped ++ piece ∷ others) ≡ (front ++ (skipped ++ piece ∷ [])) ++ others
 regrouped front skipped piece others = simp append_assoc

@@ -41,6 +41,7 @@ nothing_has : (dialect : Dialect) (text : List ℕ) (pieces : List (List ℕ)) �
 nothing_has dialect text pieces e (last piece h) = ap (λ (p : List ℕ). p ∷ []) e
 nothing_has dialect text pieces e (cut piece rest others c h) = absurd (holds_newline piece rest e)
 
+-- an empty text is one empty piece
 pub nothing_is_piece : PiecesExist → (dialect : Dialect) → Pieces dialect [] ([] ∷ [])
 nothing_is_piece exist dialect =
     let p = exist dialect [] in

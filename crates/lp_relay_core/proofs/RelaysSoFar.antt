@@ -62,6 +62,7 @@ not_empty : (u t : List ℕ) → u ++ newline ∷ t ≡ [] → ⊥
 not_empty [] t e = absurd (cc)
 not_empty (b ∷ u) t e = absurd (cc)
 
+-- an empty text is its own last piece
 nothing_is_last : (dialect : Dialect) (text : List ℕ) (pieces : List (List ℕ)) → text ≡ [] → Pieces dialect text pieces
     → IsLastPiece dialect text
 nothing_is_last dialect text pieces e (last piece h) = h

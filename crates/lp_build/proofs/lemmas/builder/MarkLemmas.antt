@@ -42,6 +42,7 @@ any_lane false false true false = refl
 any_lane false false false true = refl
 any_lane false false false false = refl
 
+-- two numbers are equal in either order
 eqb_swap : (a b : ℕ) → eqb a b ≡ eqb b a
 eqb_swap a b =
     elim (cases_eq a b) [

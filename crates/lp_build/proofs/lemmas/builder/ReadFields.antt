@@ -80,6 +80,7 @@ head_not_admitted l head =
     let p = parsed_point l in
     go (is_admitted_name a_measurement p.measurement) (list_all is_admitted_tag p.tags) (list_all is_admitted_field p.fields) head
   where
+    -- what is false for two is false for three
     go : (a b c : Bool) → (a && b) ≡ false → (a && b && c) ≡ false
     go true b c e = rw e refl
     go false b c e = refl

@@ -164,6 +164,7 @@ kept_alone kind (b ∷ n) none kept =
     and_from (may_hold kind b) (list_all (may_hold kind) n) (alone (may_hold kind b) parts.0)
     (kept_alone kind n step.1 (rw other at parts.1))
   where
+    -- what is true or false is true only by the first
     alone : (m : Bool) → (m || false) ≡ true → m ≡ true
     alone true h = refl
     alone false h = absurd (false≢true h)

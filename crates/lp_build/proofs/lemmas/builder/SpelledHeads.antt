@@ -54,6 +54,7 @@ written_least known (b ∷ c ∷ rest) back =
           rw (without_escapes_plain_byte known b (c ∷ rest) (eqb-false b backslash unlike)) (plain b (c ∷ rest) more)
     ]
   where
+    -- an escape is written by two bytes again, or by more
     escape : (c : ℕ) (rest : List ℕ) → is_one_of known backslash ≡ true → IsLeast rest (escaped known (without_escapes known rest))
         → IsLeast (backslash ∷ c ∷ rest) (escaped known (without_escapes known (backslash ∷ c ∷ rest)))
     escape c rest back more =
@@ -68,6 +69,7 @@ written_least known (b ∷ c ∷ rest) back =
               (longer (backslash ∷ c ∷ rest) (backslash ∷ backslash ∷ c ∷ escaped known text) (omega (arith, more.least)))
         ]
 
+    -- another byte is written by itself, or by more
     plain : (b : ℕ) (text : List ℕ) → IsLeast text (escaped known (without_escapes known text))
         → IsLeast (b ∷ text) (escaped known (b ∷ without_escapes known text))
     plain b text more =

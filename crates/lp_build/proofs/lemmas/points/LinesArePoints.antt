@@ -130,6 +130,7 @@ record SomeFit (fs : List (Pair Text (Value Text))) : Type 0 where
   some : 0 < length fs
   fit : AllByRecursion FieldFits fs
 
+-- the numbers of fields that are read are in range
 field_set_fits : (dialect : Dialect) (line rest : List ℕ) (fs : List (Pair Text (Value Text)))
     → field_set dialect line ≡ reads fs rest → SomeFit fs
 field_set_fits dialect line rest fs h =

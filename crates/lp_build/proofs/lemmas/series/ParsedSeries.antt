@@ -152,6 +152,7 @@ set_read : (tags : List (Pair Text Text)) (text : List ℕ) → SeparatedAfterCo
 set_read [] text h = rw h refl
 set_read (t ∷ tags) text h = rw (h.2, h.3, many_read (length h.1) tags h.1 h.4 (separated_room tags h.1 [] h.4)) refl
 
+-- a series that was read reads back
 pub read_series_are_parsed : ReadSeriesAreParsed
 read_series_are_parsed dialect line l e =
     let parts = answer_parts dialect line l e in

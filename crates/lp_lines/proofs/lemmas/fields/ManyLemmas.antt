@@ -23,6 +23,7 @@ prepend-prepend xs ys miss = refl
 prepend-prepend xs ys (fatal e) = refl
 prepend-prepend xs ys (reads more rest) = ap (λ zs. reads zs rest) (sym (append_assoc xs ys more))
 
+-- where no element is, none are read
 many_miss : {A : Type 0} (one : List ℕ → Reading A) (n : ℕ) (rest : List ℕ) → one rest ≡ miss → many one n rest ≡ reads [] rest
 many_miss one zero rest e = refl
 many_miss one (suc n) rest e = rw e refl
@@ -50,6 +51,7 @@ fails_too e r whole on h = carried_on e (λ f. r ≡ fatal f) (λ f. whole ≡ f
 not_all_after : {A : Type 0} (p : A → Bool) (xs ys : List A) → list_all p xs ≡ false → list_all p (xs ++ ys) ≡ false
 not_all_after p xs ys h = list_all-append p xs ys ∙ and_left (list_all p xs) (list_all p ys) h
 
+-- not all pass if the last does not
 not_all_last : {A : Type 0} (p : A → Bool) (xs : List A) (y : A) → p y ≡ false → list_all p (xs ++ y ∷ []) ≡ false
 not_all_last p xs y h = list_all-append p xs (y ∷ []) ∙ and_right (list_all p xs) (p y && true) (and_left (p y) true h)
 
@@ -72,6 +74,7 @@ pub record AtNext {A : Type 0} (one : List ℕ → Reading A) (text : List ℕ) 
 abbrev pub Reached : {A : Type 0} → (List ℕ → Reading A) → List ℕ → List A → List ℕ → List ℕ → Type 0
 Reached one text done rest place = ((done ≡ []) × (place ≡ text)) ⊎ AtNext one text done rest place
 
+-- elements before a miss are a miss only of what follows
 onto_miss : {A : Type 0} (xs : List A) (r : Reading (List A)) → prepend xs r ≡ miss → r ≡ miss
 onto_miss xs miss e = refl
 onto_miss xs (fatal f) e = absurd (cc)
@@ -82,6 +85,7 @@ many_reads : {A : Type 0} (one : List ℕ → Reading A) (n : ℕ) (rest : List 
 many_reads one zero rest e = cc
 many_reads {A} one (suc n) rest e = go (one rest) refl (λ after. many_reads one n after)
   where
+    -- many elements are never missed
     go : (r : Reading A) → one rest ≡ r → ((after : List ℕ) → many one n after ≡ miss → ⊥) → ⊥
     go miss f never = let m = rw f at e in cc
     go (fatal g) f never = let m = rw f at e in cc
@@ -96,20 +100,24 @@ module _ {A : Type 0} (is_single : A → Bool) (one : List ℕ → Reading A)
   copies_onto text xs (fatal e) some copied never = rw some refl
   copies_onto text xs (reads more rest) some copied never = (some, not_all_after is_single xs more copied)
 
+  -- after the first element the list has it alone
   pub so_far_start : (x : A) (text rest : List ℕ) → one text ≡ reads x rest → SoFar one text (x ∷ []) rest
   so_far_start x text rest e =
       record { fuel = length rest; enough = omega arith; is = rw e refl; counted = rw e (omega arith); ends = (read text x rest e).ends }
 
+  -- where no comma and element follow, the list has ended
   pub so_far_end : (text : List ℕ) (done : List A) (rest : List ℕ) → SoFar one text done rest
       → after_comma one rest ≡ miss → separated_list one text ≡ reads done rest
   so_far_end text done rest so_far e =
       so_far.is ∙ ap (prepend done) (many_miss (after_comma one) so_far.fuel rest e) ∙ ap (λ zs. reads zs rest) (append-nil done)
 
+  -- a comma and an element more
   pub so_far_more : (text : List ℕ) (done : List A) (rest after : List ℕ) (y : A) → SoFar one text done rest
       → after_comma one rest ≡ reads y after
       → length after < length rest → SoFar one text (done ++ y ∷ []) after
   so_far_more text done rest after y so_far e less = more so_far.fuel so_far.enough so_far.is so_far.counted
     where
+      -- an element more is in the list, and counted
       more : (n : ℕ) → length rest ≤ n → separated_list one text ≡ prepend done (many (after_comma one) n rest)
           → read_count one text ≡ length done + many_count (after_comma one) n rest
           → SoFar one text (done ++ y ∷ []) after
@@ -128,6 +136,7 @@ module _ {A : Type 0} (is_single : A → Bool) (one : List ℕ → Reading A)
       → after_comma one rest ≡ fatal e → separated_list one text ≡ fatal e
   so_far_fatal text done rest e so_far found = fails so_far.fuel rest so_far.enough found so_far.is
     where
+      -- a fault of the next element is the fault of the list
       fails : (n : ℕ) (rest : List ℕ) → length rest ≤ n → after_comma one rest ≡ fatal e
           → separated_list one text ≡ prepend done (many (after_comma one) n rest) → separated_list one text ≡ fatal e
       fails zero [] room found is = cc
@@ -138,6 +147,7 @@ module _ {A : Type 0} (is_single : A → Bool) (one : List ℕ → Reading A)
   pub first_needs : (room : ℕ) (text : List ℕ) → NeedsMemory is_single (one text) → SetNeedsMemory room is_single one text
   first_needs room text needs = inr (go (one text) refl needs)
     where
+      -- a first element that needs a copy, needs it for the list
       go : (r : Reading A) → one text ≡ r → NeedsMemory is_single r → CopiesIn is_single text (separated_list one text)
       go miss e h = absurd h
       go (fatal f) e h = rw e (and_right (not (is_one_of text backslash)) (carries_no_text f) h)
@@ -152,6 +162,7 @@ module _ {A : Type 0} (is_single : A → Bool) (one : List ℕ → Reading A)
       → NeedsMemory is_single (after_comma one rest) → SetNeedsMemory room is_single one text
   next_needs room text done rest so_far needs = inr (go (after_comma one rest) refl needs so_far.fuel so_far.enough so_far.is)
     where
+      -- a next element that needs a copy, needs it for the list
       go : (r : Reading A) → after_comma one rest ≡ r → NeedsMemory is_single r → (n : ℕ) → length rest ≤ n
           → separated_list one text ≡ prepend done (many (after_comma one) n rest)
           → CopiesIn is_single text (separated_list one text)
@@ -161,6 +172,7 @@ module _ {A : Type 0} (is_single : A → Bool) (one : List ℕ → Reading A)
           let front = (after_comma_read is_single one read rest x after e).copied h in
           absurd (none rest room front)
         where
+          -- an empty text has no backslash
           none : (rest : List ℕ) → length rest ≤ 0 → HasBackslash rest → ⊥
           none [] l h = cc
           none (b ∷ rest) l h = absurd (omega arith)
@@ -223,10 +235,12 @@ module _ {A : Type 0} (is_single : A → Bool) (one : List ℕ → Reading A)
   onto_reads xs (fatal f) ys rest e = absurd (cc)
   onto_reads xs (reads more end) ys rest e = let same : end ≡ rest = cc in (more, ap (λ (x : List ℕ). reads more x) same)
 
+  -- a text ends in what is left after many elements
   many_ends : (n : ℕ) (text : List ℕ) (xs : List A) (rest : List ℕ) → many (after_comma one) n text ≡ reads xs rest → EndsIn text rest
   many_ends zero text xs rest e = let same : text ≡ rest = cc in rw same (EndsIn-self rest)
   many_ends (suc n) text xs rest e = go (after_comma one text) refl (λ after more f. many_ends n after more rest f)
     where
+      -- a text ends in what is left after an element and those after it
       go : (r : Reading A) → after_comma one text ≡ r
           → ((after : List ℕ) (more : List A) → many (after_comma one) n after ≡ reads more rest
           → EndsIn after rest) → EndsIn text rest

@@ -27,6 +27,7 @@ then_not_light : {A : Type 0} (line : List ℕ) (x : Result (Read A) Fault) (f :
 then_not_light line (Ok a) f some h = h a
 then_not_light line (Err fault) f some h = rw some refl
 
+-- a line with a copy in it is not light
 complete_not_light : (line : List ℕ) (l : Line) (rest : List ℕ) → HasBackslash line → is_single_line l ≡ false
     → is_light_answer line (complete l rest) ≡ false
 complete_not_light line l [] some h = h
@@ -48,10 +49,12 @@ ok_read x r = Ok (record { value = x; rest = r })
 pub tag_set_ends : (text : List ℕ) (t : Read (Option (List (Pair Text Text)))) → tag_set text ≡ Ok t → EndsIn text t.rest
 tag_set_ends text t e = go (byte comma text) refl
   where
+    -- what is left of a read value is what it says
     value_rest : (x : Option (List (Pair Text Text))) (r : List ℕ) → ok_read x r ≡ Ok t → r ≡ t.rest
     value_rest x r e = let same : (let y : Read (Option (List (Pair Text Text))) = record { value = x; rest = r } in
         y ≡ t) = cc in ap (λ (y : Read (Option (List (Pair Text Text)))). y.rest) same
 
+    -- a text ends in what is left after the tags behind a comma
     after : (c : ℕ) (mark : List ℕ) (r : Reading (List (Pair Text Text))) → byte comma text ≡ reads c mark
         → separated_list tag mark ≡ r → EndsIn text t.rest
     after c mark miss m j = absurd (let h = rw (m, j) at e in cc)
@@ -60,6 +63,7 @@ tag_set_ends text t e = go (byte comma text) refl
         let same = value_rest (Some xs) rest (rw (m, j) at e) in
         rw (← same) (EndsIn-end text mark rest (byte_ends comma text c mark m) (joined_ends is_single_tag tag tag_read mark xs rest j))
 
+    -- a text ends in what is left after its tag set
     go : (r : Reading ℕ) → byte comma text ≡ r → EndsIn text t.rest
     go miss m = let same = value_rest None text (rw m at e) in rw (← same) (EndsIn-self text)
     go (fatal f) m = let same = value_rest None text (rw m at e) in rw (← same) (EndsIn-self text)
@@ -80,14 +84,17 @@ timestamp_carries text h =
     ]
 
 module _ (dialect : Dialect) (line : List ℕ) where
+  -- a line whose answer is not light is not light
   heavy_answer : (p q : ℕ) → is_light_answer line (answer dialect line) ≡ false → is_light_in p q dialect line ≡ false
   unfolding is_light_in
   heavy_answer p q h = and_right _ _ h
 
+  -- a line with more tags than there is room for is not light
   many_tags : (p q : ℕ) → nat_le (tags_in line) p ≡ false → is_light_in p q dialect line ≡ false
   unfolding is_light_in
   many_tags p q h = and_left _ _ (and_left _ _ h)
 
+  -- a line with more fields than there is room for is not light
   many_fields : (p q : ℕ) → nat_le (fields_in line) q ≡ false → is_light_in p q dialect line ≡ false
   unfolding is_light_in
   many_fields p q h = and_left _ _ (and_right _ _ h)
@@ -108,6 +115,7 @@ module _ (dialect : Dialect) (line : List ℕ) where
   unfolding answer
   measurement_needs p q needs = heavy_answer p q (go (name a_measurement line) refl needs)
     where
+      -- a measurement that needs a copy makes the line heavy
       go : (r : Reading Text) → name a_measurement line ≡ r → NeedsMemory (λ t. t.is_single) r
           → is_light_answer line (answer dialect line) ≡ false
       go miss e h = absurd h
@@ -129,9 +137,11 @@ module _ (dialect : Dialect) (line : List ℕ) where
   tags_need p q m rest e (suffix, mark, inl over) = many_tags p q (rw (e, mark) over)
   tags_need p q m rest e (suffix, mark, inr copies) = heavy_answer p q (go (separated_list tag suffix) refl copies)
     where
+      -- the line ends in what follows the comma
       ends : EndsIn line suffix
       ends = EndsIn-end line rest suffix (name_ends a_measurement line m rest e) (byte_ends comma rest comma suffix mark)
 
+      -- tags that need a copy make the line heavy
       go : (r : Reading (List (Pair Text Text))) → separated_list tag suffix ≡ r → CopiesIn is_single_tag suffix r
           → is_light_answer line (answer dialect line) ≡ false
       go miss j h = absurd h
@@ -151,6 +161,7 @@ module _ (dialect : Dialect) (line : List ℕ) where
     pub series_ends : EndsIn line tags.rest
     series_ends = EndsIn-end line rest tags.rest (name_ends a_measurement line m rest e) (tag_set_ends rest tags t)
 
+    -- the line ends in its fields
     fields_end : EndsIn line (drop (spaces tags.rest) tags.rest)
     fields_end = EndsIn-end line tags.rest (drop (spaces tags.rest) tags.rest) series_ends (EndsIn-drop (spaces tags.rest) tags.rest _ refl)
 
@@ -161,6 +172,7 @@ module _ (dialect : Dialect) (line : List ℕ) where
     fields_need p q (inl over) = many_fields p q (rw (e, t, s) over)
     fields_need p q (inr copies) = heavy_answer p q (go (separated_list field (drop (spaces tags.rest) tags.rest)) refl copies)
       where
+        -- fields that need a copy make the line heavy
         go : (r : Reading (List (Pair Text (Value Text))))
             → separated_list field (drop (spaces tags.rest) tags.rest) ≡ r
             → CopiesIn is_single_field (drop (spaces tags.rest) tags.rest) r
@@ -189,6 +201,7 @@ module _ (dialect : Dialect) (line : List ℕ) where
       unfolding answer
       trailing_needs p q n is some = heavy_answer p q (rw (e, t, s, f, is) (left _ n.rest some))
         where
+          -- a fault that carries what is left makes the line heavy
           left : (l : Line) (rest : List ℕ) → 0 < length rest → is_light_answer line (complete l rest) ≡ false
           left l [] some = absurd (omega arith)
           left l (b ∷ rest) some = and_right (not (is_one_of line backslash)) false refl

@@ -49,6 +49,7 @@ pub items_less : (before after : Left) (piece : List ℕ) → most_pieces after.
     → most_items after.text < most_items before.text
 items_less before after piece less some h = go before.dialect after.dialect before.text after.text less h
   where
+    -- after an item fewer items can follow
     go : (d e : Dialect) (t u : Option (List ℕ)) → most_pieces u < most_pieces t
         → ((others : List (List ℕ)) → PiecesLeft (record { dialect = e; text = u }) others
         → Skipped (record { dialect = d; text = t }) (piece ∷ others)) → most_items u < most_items t

@@ -49,6 +49,7 @@ tag_set_some (c ∷ line) rest ts h =
       | inr other ↦ no_tags rest (c ∷ line) ts (rw other at h)
     ]
   where
+    -- a tag set that is read has a tag
     with_tags : (r : Reading (List (Pair Text Text))) → separated_list tag line ≡ r
         → tag_set (comma ∷ line) ≡ Ok (record { value = ts; rest = rest })
         → HasSome ts

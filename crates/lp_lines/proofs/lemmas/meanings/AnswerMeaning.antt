@@ -189,6 +189,7 @@ module _ (dialect : Dialect) (text : List ℕ) where
       (Err (timestamp_value_invalid f.0 f.1), fatal_timestamp (line None) rest f.0 f.1 (h None) (stamp ∙ ap Err f.2))
   by_stamp line rest h same (Ok r) stamp = whole r.value r.rest stamp
     where
+      -- a line with each of its parts has a row in the table of answers
       whole : (t : Option ℤ) (last : List ℕ) → timestamp rest ≡ Ok (record { value = t; rest = last }) → SomeRow
       whole t [] e =
           (Ok (line t), all_read (line t) rest (h t) (e ∙ ap (λ (u : Option ℤ). Ok (record { value = u; rest = [] })) (sym (same t))))

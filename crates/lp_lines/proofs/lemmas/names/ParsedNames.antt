@@ -84,6 +84,7 @@ pub record Parts (dialect : Dialect) (line : List ℕ) (l : Line) : Type 0 where
 pub answer_parts : (dialect : Dialect) (line : List ℕ) (l : Line) → answer dialect line ≡ Ok l → Parts dialect line l
 answer_parts dialect line l h = by_row ((answer_is_by_rows dialect line (Ok l)).0 h)
   where
+    -- a line that is read has the parts that its row names
     by_row : IsAnswer dialect line (Ok l) → Parts dialect line l
     by_row (all_read _ rest r stamp) =
         let s = series_parts r.series_reads in

@@ -287,8 +287,10 @@ reaches_field_key m h piece r =
           (λ _. omega arith) i,
     )) h piece r
   where
+    -- a byte that a field key does not escape is no `=`
     no_equals : (b : ℕ) → is_escapable a_field_key b ≡ false → b ≢ equals
     no_equals b other = λ e. let h : is_escapable a_field_key b ≡ true = ap (is_escapable a_field_key) e in cc
 
+    -- a byte that a field key does not escape is no `,`
     no_comma : (b : ℕ) → is_escapable a_field_key b ≡ false → b ≢ comma
     no_comma b other = λ e. let h : is_escapable a_field_key b ≡ true = ap (is_escapable a_field_key) e in cc

@@ -126,6 +126,7 @@ reaches_quotable e c (b ∷ s) piece r =
           (reaches_quotable e c s (piece ++ b ∷ []) (reaches_byte Quoted e c piece b (same plain) r)))
     ]
   where
+    -- a byte that a string does not escape changes nothing in it
     same : is_one_of quotable b ≡ false → ChangesNothing Quoted e c b
     same plain = (
       λ i. cc (plain, ap (is_one_of quotable) i),
@@ -225,6 +226,7 @@ reaches_tags (t ∷ ts) piece all r =
     ∙ append_assoc piece (44 ∷ []) (spelling a_tag_key t.key ++ 61 ∷ spelling a_tag_value t.value))
     value))
   where
+    -- a byte that ends no head changes nothing in it
     other : (b : ℕ) → b ≢ backslash → b ≢ 32 → b ≢ newline → ChangesNothing Head 0 0 b
     other b no_backslash no_space no_newline = (no_backslash, λ q f h. Head-other 0 0 q b f no_space no_newline h)
 
@@ -298,6 +300,7 @@ pub line_is_cut_piece : (dialect : Dialect) (p : Point) → IsAdmitted p → IsC
 line_is_cut_piece dialect p ok = subst (IsCutPiece dialect) (sym (line_parts p))
     (whole p.measurement p.tags p.fields p.timestamp ok.measurement ok.tags ok.fields ok.some_field ok.timestamp)
   where
+    -- the line of an admitted point is a piece
     whole : (n : List ℕ) (ts : List Tag) (fs : List Field) (t : Option ℤ)
         → is_admitted_name a_measurement n ≡ true → AllByRecursion AdmittedTag ts → AllByRecursion AdmittedField fs
         → 0 < length fs → IfSome t (λ z. fits_i64 z ≡ true)

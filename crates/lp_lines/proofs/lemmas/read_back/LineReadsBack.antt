@@ -57,6 +57,7 @@ line_reads_back dialect p ok =
     ap (answer dialect) (line_parts p)
     ∙ parts_read_back p.measurement p.tags p.fields p.timestamp ok.measurement ok.tags ok.fields ok.some_field ok.timestamp
   where
+    -- the parts of an admitted point read back from its line
     parts_read_back : (m : List ℕ) (ts : List Tag) (fs : List Field) (t : Option ℤ)
         → is_admitted_name a_measurement m ≡ true → AllByRecursion AdmittedTag ts → AllByRecursion AdmittedField fs
         → 0 < length fs → IfSome t (λ z. fits_i64 z ≡ true)

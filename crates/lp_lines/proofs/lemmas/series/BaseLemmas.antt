@@ -57,6 +57,7 @@ key_at (t ∷ tags) zero d h = refl
 key_at (t ∷ tags) (suc i) d h = key_at tags i d (omega arith)
 key_at [] i d h = absurd (omega arith)
 
+-- the key at a place is the text of the tag there
 pub key_is : (tags : List (EscapedStr × EscapedStr)) (i : ℕ) (t : EscapedStr × EscapedStr) → i < length tags → t ≡ get_or tags i t
     → get_or (keys_of (map tag_of tags)) i [] ≡ text_of t.0
 key_is tags i t within is = key_at tags i t within ∙ ap (λ (t : EscapedStr × EscapedStr). text_of t.0) (sym is)
@@ -114,6 +115,7 @@ some_or true o v false h = refl
 some_or false o v true h = h
 some_or false o v false h = h
 
+-- a map with one key more has the keys so far
 pub has_more : (m n : BTreeMap (Bor (List ℕ)) (Bor (List ℕ))) (k v : Bor (List ℕ)) (keys : List (List ℕ)) (i : ℕ)
     → i < length keys → k.now ≡ get_or keys i []
     → UpdatesBy (λ x y. slice_cmp nat_cmp x.now y.now) (λ x. slice_cmp nat_cmp k.now x.now) m n (Some v)
@@ -189,6 +191,7 @@ no_borrowed : (b : Bool) (text key : List ℕ) → is_borrowed (cond b (owned te
 no_borrowed true text key = refl
 no_borrowed false text key = refl
 
+-- a base that is put in order is no part of the input
 pub by_key_is_no_part : (m : List ℕ) (tags : List (Pair Text Text)) → is_borrowed (base_by_key m tags) ≡ false
 unfolding base_by_key
 by_key_is_no_part m tags = no_borrowed _ _ _

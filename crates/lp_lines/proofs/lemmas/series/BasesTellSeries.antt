@@ -50,6 +50,7 @@ pub record TagParts (text : List ℕ) (x : Pair Text Text) (rest : List ℕ) : T
   pub rest_is : rest ≡ drop (spelled_len a_tag_value (value_part text)) (value_part text)
   pub text_is : text ≡ spelled a_tag_key text ++ equals ∷ value_part text
 
+-- a tag is a key, `=` and a value
 pub tag_parts : (text : List ℕ) (x : Pair Text Text) (rest : List ℕ) → tag text ≡ reads x rest → TagParts text x rest
 unfolding tag
 tag_parts text x rest e =
@@ -123,9 +124,11 @@ pub set_separated : (text left : List ℕ) (set : Option (List (Pair Text Text))
     → tag_set text ≡ Ok (record { value = set; rest = left }) → SeparatedAfterComma tag (some_tags set) text left
 set_separated text left set e = go (byte comma text) refl
   where
+    -- a series without a comma has no tags
     none : text ≡ left → None ≡ set → SeparatedAfterComma tag (some_tags set) text left
     none is same = rw (← same) is
 
+    -- the tags of a series follow its first comma
     after : (c : ℕ) (mark : List ℕ) (r : Reading (List (Pair Text Text))) → byte comma text ≡ reads c mark
         → separated_list tag mark ≡ r → SeparatedAfterComma tag (some_tags set) text left
     after c mark miss m j = absurd (let h = rw (m, j) at e in cc)
@@ -136,6 +139,7 @@ set_separated text left set e = go (byte comma text) refl
         let separated = separated_after xs text mark rest (byte_parts comma text c mark m).1 full.some full.longest.separated in
         rw (← same.0) (subst (λ (r : List ℕ). SeparatedAfterComma tag xs text r) same.1 separated)
 
+    -- the tags of a series are those that are read of its text
     go : (r : Reading ℕ) → byte comma text ≡ r → SeparatedAfterComma tag (some_tags set) text left
     go miss m = let same = ok_parts None set text left (rw m at e) in none same.1 same.0
     go (fatal f) m = let same = ok_parts None set text left (rw m at e) in none same.1 same.0
@@ -188,9 +192,11 @@ base_is raw m tags h = elim (cases_Bool (is_strictly_sorted (keys_of tags))) [
       ]
 ]
 
+-- two clear series are the same if their bases are
 pub clear_series_have_bases : ClearSeriesHaveBases
 clear_series_have_bases raw m tags h = ap is_some (base_is raw m tags h)
 
+-- one series has one base, in whatever order its tags are
 pub same_series_have_one_base : SameSeriesHaveOneBase
 same_series_have_one_base raw text m other tags others h k same =
     base_is raw m tags h

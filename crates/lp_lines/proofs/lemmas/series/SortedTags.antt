@@ -44,6 +44,7 @@ below_placed k Less a b c x y z = x
 below_placed k Equal a b c x y z = y
 below_placed k Greater a b c x y z = z
 
+-- a key below all others is below a new one that it is less than
 below_insert : (k l v : List ℕ) (es : List (List ℕ × List ℕ)) → slice_cmp nat_cmp k l ≡ Less → IsBelow k es
     → IsBelow k (insert_entry (slice_cmp nat_cmp) es l v)
 below_insert k l v [] less below = (less, tt)
@@ -54,6 +55,7 @@ below_insert k l v (e ∷ es) less below =
 turned : (o p : Ordering) → o ≡ ordering_reverse p → p ≡ Greater → o ≡ Less
 turned o p e g = rw g at e
 
+-- entries rise with an entry more, at its place
 rise_placed : (k v : List ℕ) (e : List ℕ × List ℕ) (es : List (List ℕ × List ℕ)) (o : Ordering) → slice_cmp nat_cmp k e.0 ≡ o
     → IsBelow e.0 es → Rise es → Rise (insert_entry (slice_cmp nat_cmp) es k v)
     → Rise (match_ordering o ((k, v) ∷ e ∷ es) ((e.0, v) ∷ es) (e ∷ insert_entry (slice_cmp nat_cmp) es k v))
@@ -67,6 +69,7 @@ rise_insert : (k v : List ℕ) (es : List (List ℕ × List ℕ)) → Rise es �
 rise_insert k v [] rise = (tt, tt)
 rise_insert k v (e ∷ es) rise = rise_placed k v e es (slice_cmp nat_cmp k e.0) refl rise.0 rise.1 (rise_insert k v es rise.1)
 
+-- entries rise, with all tags put at their places
 rise_fold : (es : List (List ℕ × List ℕ)) (tags : List (Pair Text Text)) → Rise es
     → Rise (fold (λ entries t. insert_entry (slice_cmp nat_cmp) entries t.key.bytes t.value.bytes) es tags)
 rise_fold es [] rise = rise
@@ -95,6 +98,7 @@ not_below_itself k h = let same = tied_itself nat_list_cmp_total k in cc
 abbrev IsWithin : List (List ℕ × List ℕ) → List (List ℕ × List ℕ) → Type 0
 IsWithin xs ys = (e : List ℕ × List ℕ) → Contains xs e → Contains ys e
 
+-- two rising lists with the same entries begin with the same
 same_first : (x y : List ℕ × List ℕ) (xs ys : List (List ℕ × List ℕ)) → IsBelow x.0 xs → IsBelow y.0 ys
     → IsWithin (x ∷ xs) (y ∷ ys) → IsWithin (y ∷ ys) (x ∷ xs) → x ≡ y
 same_first x y xs ys below under h k = elim (first_or_later y x ys (h x (first_element x xs))) [
@@ -106,6 +110,7 @@ same_first x y xs ys below under h k = elim (first_or_later y x ys (h x (first_e
   ]
 ]
 
+-- two rising lists with the same entries go on with the same
 within_after : (x y : List ℕ × List ℕ) (xs ys : List (List ℕ × List ℕ)) → x ≡ y → IsBelow x.0 xs
     → IsWithin (x ∷ xs) (y ∷ ys) → IsWithin xs ys
 within_after x y xs ys same below h e there = elim (first_or_later y e ys (h e (later_element x e xs there))) [
@@ -163,6 +168,7 @@ key_after : (front : List (Pair Text Text)) (t : Pair Text Text) (tags : List (P
 key_after [] t tags = refl
 key_after (u ∷ front) t tags = key_after front t tags
 
+-- the keys of a front are a front of the keys
 keys_before : (front tags : List (Pair Text Text)) → take (length front) (keys_of (front ++ tags)) ≡ keys_of front
 keys_before [] tags = refl
 keys_before (u ∷ front) tags = ap (λ (ks : List (List ℕ)). u.key.bytes ∷ ks) (keys_before front tags)
@@ -177,6 +183,7 @@ any_key q (t ∷ tags) = rw (any_key q tags) refl
 abbrev NoneRepeated : List (Pair Text Text) → Type 0
 NoneRepeated tags = (k : ℕ) → k < length tags → is_repeated_at (keys_of tags) k ≡ false
 
+-- none of the tags that follow repeats a key
 new_after : (front tags : List (Pair Text Text)) → NoneRepeated (front ++ tags) → AreNew (in_order front) tags
 new_after front [] none = tt
 new_after front (t ∷ tags) none =
@@ -190,6 +197,7 @@ new_after front (t ∷ tags) none =
           (subst (λ (ts : List (Pair Text Text)). NoneRepeated ts) (sym (append_assoc front (t ∷ []) tags)) none)),
     )
 
+-- no key is repeated if no first one is
 none_repeated : (keys : List (List ℕ)) → first_repeated keys ≡ length keys → (k : ℕ) → k < length keys → is_repeated_at keys k ≡ false
 unfolding first_repeated
 none_repeated keys e k h =

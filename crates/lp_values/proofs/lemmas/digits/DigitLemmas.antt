@@ -58,10 +58,12 @@ pub one_fits : (n : ℕ) (ds : List ℕ) → 1 ≤ length ds → n * 10 ≤ digi
 one_fits n [] some = absurd (omega arith)
 one_fits n (a ∷ ds) some = omega (arith, after_at_least (n * 10 + digit_value a) ds)
 
+-- two digits more make a number a hundred times as large, at least
 pub two_fit : (n : ℕ) (ds : List ℕ) → 2 ≤ length ds → n * 100 ≤ digits_value_after 10 n ds
 two_fit n [] some = absurd (omega arith)
 two_fit n (a ∷ ds) some = omega (arith, one_fits (n * 10 + digit_value a) ds (omega (arith, some)))
 
+-- three digits more make a number a thousand times as large, at least
 pub three_fit : (n : ℕ) (ds : List ℕ) → 3 ≤ length ds → n * 1000 ≤ digits_value_after 10 n ds
 three_fit n [] some = absurd (omega arith)
 three_fit n (a ∷ ds) some = omega (arith, two_fit (n * 10 + digit_value a) ds (omega (arith, some)))

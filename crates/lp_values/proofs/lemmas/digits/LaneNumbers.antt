@@ -48,6 +48,7 @@ four_sum : (a b c d : ℕ) → a < 10 → b < 10 → c < 10 → d < 10
     ≡ a * 1000 + b * 100 + c * 10 + d
 four_sum a b c d ha hb hc hd = omega (arith, ha, hb, hc, hd)
 
+-- digits, four and four, make the numbers of their groups
 pub are_groups : (k : ℕ) (ds : List ℕ) → length ds ≡ 4 * k → AllBelowBase 10 ds → AreGroups k ds
 are_groups zero [] e small = record { firsts_fit = tt; others_fit = tt; sums = refl; number = λ n. refl; below = tt; size = refl }
 are_groups zero (a ∷ ds) e small = absurd (omega (arith, e))

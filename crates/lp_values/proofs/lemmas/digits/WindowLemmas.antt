@@ -19,9 +19,11 @@ moves = replicate 16 255 ++ range_with_len 0 16
 abbrev pub window : ℕ → List ℕ
 window n = chunk 0 16 (chunk n (32 - n) moves)
 
+-- a window has a place for each lane
 window_len : (n : ℕ) → n ≤ 16 → length (window n) ≡ 16
 window_len n fits = length-chunk 0 16 (chunk n (32 - n) moves) (omega (arith, length-chunk n (32 - n) moves (omega arith)))
 
+-- a place of a window is a place of the table
 window_at : (n i : ℕ) → n ≤ 16 → i < 16 → get_or (window n) i 0 ≡ get_or moves (n + i) 0
 window_at n i fits within =
     get_or-take 16 (chunk n (32 - n) moves) i 0 within ∙ get_or-chunk n (32 - n) moves i 0 (omega (arith, within, fits))

@@ -23,9 +23,11 @@ pub record EndsIn (text rest : List ℕ) : Type 0 where
   pub front : List ℕ
   pub is : text ≡ front ++ rest
 
+-- a text ends in itself
 pub EndsIn-self : (text : List ℕ) → EndsIn text text
 EndsIn-self text = record { front = []; is = refl }
 
+-- a text ends in what is left after a front
 pub EndsIn-drop : (n : ℕ) (text rest : List ℕ) → rest ≡ drop n text → EndsIn text rest
 EndsIn-drop n text rest e = record { front = take n text; is = rw e (sym (take-append-drop n text)) }
 
@@ -37,6 +39,7 @@ EndsIn-end text mid rest h
           ∙ sym (append_assoc h.front k.front rest);
     }
 
+-- an element of the first list is one of both
 any_front : (p : ℕ → Bool) (xs ys : List ℕ) → list_any p xs ≡ true → list_any p (xs ++ ys) ≡ true
 any_front p [] ys h = absurd (cc)
 any_front p (x ∷ xs) ys h =
@@ -45,6 +48,7 @@ any_front p (x ∷ xs) ys h =
       | inr other ↦ let more = rw other at h in rw other (any_front p xs ys more)
     ]
 
+-- an element of the second list is one of both
 any_after : (p : ℕ → Bool) (xs ys : List ℕ) → list_any p ys ≡ true → list_any p (xs ++ ys) ≡ true
 any_after p [] ys h = h
 any_after p (x ∷ xs) ys h = or_right (p x) (list_any p (xs ++ ys)) (any_after p xs ys h)
@@ -53,9 +57,11 @@ any_after p (x ∷ xs) ys h = or_right (p x) (list_any p (xs ++ ys)) (any_after 
 pub backslash_in_front : (n : ℕ) (text : List ℕ) → HasBackslash (take n text) → HasBackslash text
 backslash_in_front n text h = rw take-append-drop at (any_front (λ c. c == backslash) (take n text) (drop n text) h)
 
+-- a text has the backslash that its end has
 pub backslash_at_end : (text rest : List ℕ) → EndsIn text rest → HasBackslash rest → HasBackslash text
 backslash_at_end text rest e h = rw e.is (any_after (λ c. c == backslash) e.front rest h)
 
+-- what is not false is true
 not_false : (b : Bool) → not b ≡ false → b ≡ true
 not_false true e = refl
 not_false false e = cc
@@ -71,6 +77,7 @@ pub record InTwo {A B : Type 0} (r : Reading A) (f : Read A → Reading B) (y : 
   pub was : r ≡ reads first mid
   pub next : f (record { value = first; rest = mid }) ≡ reads y rest
 
+-- what two readers read, one after the other, each of them read
 pub bind_reads : {A B : Type 0} (r : Reading A) (f : Read A → Reading B) (y : B) (rest : List ℕ)
     → (r >>= f) ≡ reads y rest → InTwo r f y rest
 bind_reads miss f y rest e = absurd (cc)
@@ -90,6 +97,7 @@ name_parts kind text t rest e =
       ]
     ]
 
+-- a text ends in what is left after a name
 pub name_ends : (kind : NameKind) (text : List ℕ) (t : Text) (rest : List ℕ) → name kind text ≡ reads t rest → EndsIn text rest
 name_ends kind text t rest e = EndsIn-drop (spelled_len kind text) text rest (name_parts kind text t rest e).1
 
@@ -100,12 +108,14 @@ copied_text known text n e =
     (not_false (is_one_of (take n text) backslash)
     (or_parts (is_one_escape known (take n text)) (not (is_one_of (take n text) backslash)) e).1)
 
+-- a name is a copy only of a text with a backslash
 pub name_copied : (kind : NameKind) (text : List ℕ) (t : Text) (rest : List ℕ) → name kind text ≡ reads t rest
     → t.is_single ≡ false → HasBackslash text
 name_copied kind text t rest e copied =
     copied_text (escapable kind) text (spelled_len kind text)
     (ap (λ (x : Text). x.is_single) (sym (name_parts kind text t rest e).0) ∙ copied)
 
+-- a byte that is read is the first of the text
 pub byte_parts : (b : ℕ) (text : List ℕ) (x : ℕ) (rest : List ℕ) → byte b text ≡ reads x rest → (x ≡ b) × (text ≡ b ∷ rest)
 byte_parts b [] x rest e = absurd (cc)
 byte_parts b (c ∷ cs) x rest e =
@@ -117,6 +127,7 @@ byte_parts b (c ∷ cs) x rest e =
       | inr other ↦ absurd (let m = rw other at e in cc)
     ]
 
+-- a text ends in what is left after a byte
 pub byte_ends : (b : ℕ) (text : List ℕ) (x : ℕ) (rest : List ℕ) → byte b text ≡ reads x rest → EndsIn text rest
 byte_ends b text x rest e = record { front = b ∷ []; is = (byte_parts b text x rest e).1 }
 
@@ -127,6 +138,7 @@ pub record PairParts {V : Type 0} (kind : NameKind) (part : List ℕ → Reading
   pub key : name kind text ≡ reads x.key (equals ∷ mid)
   pub value : part mid ≡ reads x.value rest
 
+-- a pair is a key, `=` and a part
 pub pair_parts : {V : Type 0} (kind : NameKind) (part : List ℕ → Reading V) (text : List ℕ) (x : Pair Text V) (rest : List ℕ)
     → key_value kind part text ≡ reads x rest → PairParts kind part text x rest
 pair_parts kind part text x rest e =
@@ -146,6 +158,7 @@ pub record PairRead {A : Type 0} (is_single : A → Bool) (text : List ℕ) (x :
   pub ends : EndsIn text rest
   pub copied : is_single x ≡ false → HasBackslash text
 
+-- a value that is a part of the input takes no copy
 single_read : (text : List ℕ) (v : Value Text) (n : ℕ) (w : Value Text) (rest : List ℕ) → is_single_value v ≡ true
     → reads v (drop n text) ≡ reads w rest → PairRead is_single_value text w rest
 single_read text v n w rest single e =
@@ -163,14 +176,17 @@ number_read text v rest true true w n fault single e = single_read text w n v re
 number_read text v rest true false w n fault single e = absurd (cc)
 number_read text v rest false fits w n fault single e = absurd (cc)
 
+-- an integer takes no copy, and the text ends in what is left
 integer_read : (text : List ℕ) (v : Value Text) (rest : List ℕ) → integer_at text ≡ reads v rest → PairRead is_single_value text v rest
 unfolding integer_at
 integer_read text v rest e = number_read text v rest _ _ _ _ _ refl e
 
+-- an unsigned integer takes no copy, and the text ends in what is left
 unsigned_read : (text : List ℕ) (v : Value Text) (rest : List ℕ) → unsigned_at text ≡ reads v rest → PairRead is_single_value text v rest
 unfolding unsigned_at
 unsigned_read text v rest e = number_read text v rest _ _ _ _ _ refl e
 
+-- a float takes no copy, and the text ends in what is left
 float_read : (text : List ℕ) (v : Value Text) (rest : List ℕ) → float_at text ≡ reads v rest → PairRead is_single_value text v rest
 unfolding float_at
 float_read text v rest e =
@@ -179,6 +195,7 @@ float_read text v rest e =
       | inr some ↦ single_read text (float (take (float_len text) text)) (float_len text) v rest refl (rw some at e)
     ]
 
+-- a Boolean takes no copy, and the text ends in what is left
 boolean_read : (b : Bool) (words : List (List ℕ)) (text : List ℕ) (v : Value Text) (rest : List ℕ)
     → boolean_at b words text ≡ reads v rest → PairRead is_single_value text v rest
 unfolding boolean_at
@@ -188,6 +205,7 @@ boolean_read b words text v rest e =
       | inr some ↦ single_read text (boolean b) (word_len words text) v rest refl (rw some at e)
     ]
 
+-- a string is a copy only of a text with a backslash, and the text ends in what is left
 string_read : (text : List ℕ) (v : Value Text) (rest : List ℕ) → string_at text ≡ reads v rest → PairRead is_single_value text v rest
 unfolding string_at
 string_read [] v rest e = absurd (cc)
@@ -213,6 +231,7 @@ either_reads miss s x rest e = inr e
 either_reads (fatal fault) s x rest e = absurd (cc)
 either_reads (reads y end) s x rest e = inl e
 
+-- a value is a copy only of a text with a backslash, and the text ends in what is left
 pub value_read : (text : List ℕ) (v : Value Text) (rest : List ℕ) → value text ≡ reads v rest → PairRead is_single_value text v rest
 unfolding value
 value_read text v rest e = elim (either_reads _ _ v rest e) [
@@ -252,6 +271,7 @@ pair_read kind part is_single read text x rest e =
       ];
     }
 
+-- a tag has copies only of a text with a backslash, and the text ends in what is left
 pub tag_read : (text : List ℕ) (x : Pair Text Text) (rest : List ℕ) → tag text ≡ reads x rest → PairRead is_single_tag text x rest
 unfolding tag
 tag_read text x rest e =
@@ -260,6 +280,7 @@ tag_read text x rest e =
       copied = name_copied a_tag_value text v rest e;
     }) text x rest e
 
+-- a field has copies only of a text with a backslash, and the text ends in what is left
 pub field_read : (text : List ℕ) (x : Pair Text (Value Text)) (rest : List ℕ) → field text ≡ reads x rest
     → PairRead is_single_field text x rest
 unfolding field

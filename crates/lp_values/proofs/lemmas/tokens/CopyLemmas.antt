@@ -55,6 +55,7 @@ module _ (known text : List ℕ) where
       let e : at + suc n ≡ at + 1 + n = omega arith in
       ap (left from) e ∙ rest ∙ one
 
+  -- a stretch without backslashes is copied as it is
   pub left_run : (stops : ℕ → Bool) (from at end : ℕ) → from ≤ at → IsRunAt (is_plain stops) text at end → left from end ≡ left from at
   left_run stops from at end ordered run =
       let e : at + (end - at) ≡ end = omega (arith, run.ordered) in
@@ -82,6 +83,7 @@ module _ (known text : List ℕ) where
       let rest = here_and_after text (at + 1) within in
       rw (one, none, here_and_after text at (omega arith), rest, here, is) (simp append_assoc)
 
+  -- one byte alone escapes nothing
   one_byte : (rest : List ℕ) → length rest ≤ 1 → without_escapes known rest ≡ rest
   unfolding without_escapes
   one_byte [] h = refl

@@ -115,6 +115,7 @@ all_left known text first mask given = record {
 }
 
 module _ (known text : List ℕ) (from at m : ℕ) (w : EscapesLeft known text from at m) where
+  -- no byte before the lowest bit is an escape
   no_more : (r : ℕ) → r ≡ first_set (mask_at (is_escape_at known text) at (length text - at)) (length text - at) → (k : ℕ)
       → from ≤ k → k < at + r → is_escape_at known text k ≡ false
   no_more r found k low high = elim (cases_lt k at) [
@@ -136,23 +137,28 @@ module _ (known text : List ℕ) (from at m : ℕ) (w : EscapesLeft known text f
 
   -- the lowest bit that is set is the next escape
   module _ (r : ℕ) (some : 0 < m) (lowest : r ≡ trailing_zeros w64 m) where
+    -- the lowest bit is the first escape of the mask
     found : r ≡ first_set (mask_at (is_escape_at known text) at (length text - at)) (length text - at)
     found = lowest ∙ ap (λ (t : Bool). cond t (length text - at) (trailing_zeros w64 m)) (sym (ne_eqb m 0 (omega (arith, some))))
         ∙ ap (λ (k : ℕ). first_set k (length text - at)) w.are
 
+    -- the escape is in the text
     pub escape_within : at + r < length text
     escape_within =
         let fits = mask_fits (is_escape_at known text) at (length text - at) in
         let short = tz_below m (length text - at) r (omega (arith, w.are, fits)) (omega (arith, w.few)) some lowest in
         omega (arith, short)
 
+    -- the lowest bit is an escape
     is_escape : is_escape_at known text (at + r) ≡ true
     is_escape = lowest_passes (is_escape_at known text) at (length text - at) r (omega (arith, w.few)) found
         (omega (arith, escape_within))
 
+    -- an escape begins with a backslash
     pub escape_here : slice_index text (at + r) ≡ backslash
     escape_here = eqb-true _ _ (and_parts _ _ (and_parts _ _ is_escape).0).0
 
+    -- the byte after it is known
     pub escape_known : is_one_of known (slice_index text (at + r + 1)) ≡ true
     escape_known = (and_parts _ _ is_escape).1
 
@@ -197,6 +203,7 @@ module _ (known text : List ℕ) (from at m : ℕ) (w : EscapesLeft known text f
 mask_agree : (p q : ℕ → Bool) (n at : ℕ) → ((k : ℕ) → at ≤ k → k < at + n → p k ≡ q k) → mask_at p at n ≡ mask_at q at n
 mask_agree p q n at same = ap mask_l (lanes n at same)
   where
+    -- two tests that agree on the places of a load give one mask
     lanes : (n at : ℕ) → ((k : ℕ) → at ≤ k → k < at + n → p k ≡ q k) → map p (range_with_len at n) ≡ map q (range_with_len at n)
     lanes zero at same = refl
     lanes (suc n) at same = ap₂ (λ (b : Bool) (bs : List Bool). b ∷ bs) (same at (omega arith) (omega arith))
@@ -204,10 +211,12 @@ mask_agree p q n at same = ap mask_l (lanes n at same)
 
 -- a text that is cut at a bare place has the escapes that it had before
 module _ (known text : List ℕ) (end : ℕ) (within : end ≤ length text) (bare : is_escaped_after (take end text) ≡ false) where
+  -- a backslash of a front is bare there if it is in the whole text
   bare_same : (k : ℕ) → k < end → is_bare_at (λ b. b == backslash) (take end text) k ≡ is_bare_at (λ b. b == backslash) text k
   bare_same k short = ap₂ (λ (b : ℕ) (bs : List ℕ). b == backslash && not (is_escaped_after bs))
       (get_or-take end text k 0 short) (take-take k end text (omega arith))
 
+  -- an escape of a front is one in the whole text
   escape_same : (k : ℕ) → k < end → is_escape_at known (take end text) k ≡ is_escape_at known text k
   escape_same k short = elim (cases_lt (k + 1) end) [
     | inl inside ↦ ap₂ (λ (t : Bool) (c : ℕ). t && is_one_of known c) (bare_same k short) (get_or-take end text (k + 1) 0 inside)
@@ -218,6 +227,7 @@ module _ (known text : List ℕ) (end : ℕ) (within : end ≤ length text) (bar
         no_escape known (take end text) k (bare_same k short ∙ none) ∙ sym (no_escape known text k none)
   ]
 
+  -- a mask of escapes holds for the text up to the end of the token
   pub cut_escapes : (stops : ℕ → Bool) (first m : ℕ) → IsRunAt (is_plain stops) text 0 first → first ≤ end → end ≤ first + 64
       → m ≡ mask_at (is_escape_at known text) first (end - first) → AreEscapes known (take end text) first m
   cut_escapes stops first m run ordered few is =

@@ -26,6 +26,7 @@ escaped_is_flag text = is_escaped-append [] text ∙ ap (λ f. flag_after f text
 escaped_after_pair : (c : ℕ) (rest : List ℕ) → is_escaped_after (backslash ∷ c ∷ rest) ≡ is_escaped_after rest
 escaped_after_pair c rest = escaped_is_flag (backslash ∷ c ∷ rest) ∙ ap (λ f. flag_after f rest) (none (eqb c backslash)) ∙ sym (escaped_is_flag rest)
   where
+    -- a choice between false and false
     none : (t : Bool) → cond t false false ≡ false
     none t = grind arith
 
@@ -56,9 +57,11 @@ module _ (known text : List ℕ) where
   abbrev pub escapes_from : ℕ → ℕ → ℕ
   escapes_from at n = count_by (is_escape_at known text) (range_with_len at n)
 
+  -- a count of escapes, from the first byte on
   escapes_first : (at n : ℕ) → escapes_from at (suc n) ≡ cond (is_escape_at known text at) 1 0 + escapes_from (at + 1) n
   escapes_first at n = sum_by-cons (λ k. cond (is_escape_at known text k) 1 0) at (range_with_len (at + 1) n)
 
+  -- a count of escapes, with a byte more
   pub escapes_more : (n at : ℕ) → escapes_from at (suc n) ≡ escapes_from at n + cond (is_escape_at known text (at + n)) 1 0
   escapes_more zero at =
       let place : at + 0 ≡ at = omega arith in
@@ -78,6 +81,7 @@ bare_fails : (t e : Bool) → e ≡ false → (t && not e) ≡ false → t ≡ f
 bare_fails t e bare h = grind arith
 
 module _ (known : List ℕ) (stops : ℕ → Bool) (text : List ℕ) where
+  -- at the start of a text nothing is counted
   pub walk_start : EscapeScan known stops text 0 0
   unfolding without_escapes
   walk_start = record { within = omega arith; bare = is_escaped-nil; passed = λ k h. absurd (omega arith); counted = refl }
@@ -274,6 +278,7 @@ module _ (known : List ℕ) (stops : ℕ → Bool) (text : List ℕ) where
       let more = list_any_more (λ b. b == backslash) text n 0 (omega arith) in
       rw (← add-one n) (rw (more, before) last)
 
+  -- a stretch that nothing in it ends has no backslash
   pub run_is_plain : (end : ℕ) → IsRunAt (is_plain stops) text 0 end → is_one_of (take end text) backslash ≡ false
   run_is_plain end run = plain_front end run.within run.passes
 

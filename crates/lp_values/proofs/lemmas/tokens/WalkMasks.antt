@@ -26,9 +26,11 @@ escapes_mask known text at m k room m_is k_is =
 module _ (known : List ℕ) (stops : ℕ → Bool) (text : List ℕ) (at found : ℕ) (room : at + 64 < length text) (kept : stops backslash ≡ false)
     (w : EscapeScan known stops text at found) (run : ℕ) (run_is : run ≡ first_set (mask_at (is_bare_at stops text) at 64) 64)
     (n : ℕ) (n_is : n ≡ count_ones (mask_at (is_escape_at known text) at 64 % 2 ^ run)) where
+  -- no stop is before the load
   passed : IsPassed stops text at
   passed = record { within = w.within; is_bare = λ _. w.bare; passed = w.passed }
 
+  -- the bits of the mask are counted as escapes
   counted : n ≡ escapes_from known text at run
   counted = n_is ∙ ones_low (is_escape_at known text) at 64 run (lowest_within (is_bare_at stops text) at 64 run (omega arith) run_is)
 

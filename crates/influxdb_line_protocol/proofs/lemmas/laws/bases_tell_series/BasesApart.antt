@@ -62,6 +62,7 @@ tags_begin (e ∷ es) = refl
 same_entry : (e f : List ℕ × List ℕ) → e.0 ≡ f.0 → e.1 ≡ f.1 → e ≡ f
 same_entry e f h k = go e.0 e.1 f.0 f.1 h k
   where
+    -- two pairs are equal if their parts are
     go : (a b c d : List ℕ) → a ≡ c → b ≡ d → (let x : List ℕ × List ℕ = (a, b) in x) ≡ (c, d)
     go a b c d h k = cc
 
@@ -100,6 +101,7 @@ same_parts m n es fs h k p q same =
     let parts = first_part comma m n (flat_map based_tag es) (flat_map based_tag fs) h k (tags_begin es) (tags_begin fs) same in
     (parts.0, same_tags es fs p q parts.1)
 
+-- one base is one series, if both are clear
 pub one_base_is_one_series : OneBaseIsOneSeries
 one_base_is_one_series raw text m other tags others h k p q same =
     let left = or_parts (is_one_of m.bytes comma) (list_any is_tag_delimited tags) p in
@@ -124,6 +126,7 @@ none_taken c (suc n) (b ∷ text) none =
     let parts = or_parts (b == c) (is_one_of text c) none in
     or_from (b == c) (is_one_of (take n text) c) parts.0 (none_taken c n text parts.1)
 
+-- what a text lacks, its end lacks
 none_dropped : (c n : ℕ) (text : List ℕ) → is_one_of text c ≡ false → is_one_of (drop n text) c ≡ false
 none_dropped c zero text none = none
 none_dropped c (suc n) [] none = refl
@@ -194,6 +197,7 @@ plain_tags (t ∷ tags) text h none =
       or_from (is_tag_delimited t) (list_any is_tag_delimited tags) parted more.1,
     )
 
+-- a series without a backslash is clear
 pub plain_series_are_clear : PlainSeriesAreClear
 plain_series_are_clear raw m tags none h =
     let p = name_parts a_measurement raw m h.after h.measurement_is in

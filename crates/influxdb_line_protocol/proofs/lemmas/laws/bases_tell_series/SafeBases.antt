@@ -90,6 +90,7 @@ safe_is_clear raw m tags h safe =
       or_from (is_one_of m.bytes comma) (list_any is_tag_delimited tags) first.1 more.1,
     )
 
+-- safe bases are the same for the same series alone
 pub safe_bases_tell_series : SafeBasesTellSeries
 safe_bases_tell_series raw text m other tags others h k once alone safe sound =
     let one = safe_is_clear raw m tags h safe in
@@ -109,6 +110,7 @@ same_test : (tags : List (Pair Text Text)) → list_any is_ambiguous_entry (in_o
 same_test [] = refl
 same_test (t ∷ tags) = ap (λ (b : Bool). is_ambiguous_tag t || b) (same_test tags)
 
+-- a base is safe whatever the order of the tags
 pub same_series_are_safe_alike : SameSeriesAreSafeAlike
 same_series_are_safe_alike m other tags others same =
     let moved = sym (same_test tags) ∙ list_any-IsPermutation is_ambiguous_entry (in_order tags) (in_order others) same.tags_are

@@ -28,6 +28,7 @@ module _ {A : Type 0} (one : List ℕ → Reading A) where
   pub first_of_many : (text : List ℕ) → one text ≡ fatal ends_with_backslash → ManyFail one text
   first_of_many text e = record { at_first = rw e refl; at_later = fails }
     where
+      -- a fatal tag after a comma is fatal for the tags
       fails : (n : ℕ) → length text < n → many (after_comma one) n (comma ∷ text) ≡ fatal ends_with_backslash
       fails zero room = absurd (omega arith)
       fails (suc n) room = rw e refl
@@ -37,6 +38,7 @@ module _ {A : Type 0} (one : List ℕ → Reading A) where
       → ManyFail one more → ManyFail one text
   later_of_many text more x e less h = record { at_first = rw (e, h.at_later (length (comma ∷ more)) (omega arith)) refl; at_later = fails }
     where
+      -- a fatal tag further on is fatal for the tags
       fails : (n : ℕ) → length text < n → many (after_comma one) n (comma ∷ text) ≡ fatal ends_with_backslash
       fails zero room = absurd (omega arith)
       fails (suc n) room = rw (e, h.at_later n (omega arith)) refl

@@ -103,6 +103,7 @@ items_are_answers dialect text answers items has drained =
 left_pieces : (left : Left) → (pieces : List (List ℕ)) × PiecesLeft left pieces
 left_pieces left = pieces_of left.dialect left.text
   where
+    -- what is left of a text has pieces
     pieces_of : (dialect : Dialect) (text : Option (List ℕ)) → (pieces : List (List ℕ))
         × PiecesLeft (record { dialect = dialect; text = text }) pieces
     pieces_of dialect None = ([], refl)

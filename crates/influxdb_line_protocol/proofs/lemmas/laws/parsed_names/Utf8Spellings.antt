@@ -31,6 +31,7 @@ utf8_around front rest b u ascii =
 one_ascii : (b : ℕ) → b < 128 → IsUtf8 (b ∷ [])
 one_ascii b h = IsUtf8-from_ascii (b ∷ []) ascii
   where
+    -- the byte alone is ASCII
     ascii : IsAscii (b ∷ [])
     ascii zero = h
     ascii (suc i) = omega arith

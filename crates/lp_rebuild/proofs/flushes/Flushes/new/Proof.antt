@@ -24,6 +24,7 @@ token = vstruct (vcons (vstruct vnil) vnil)
 abbrev Mark : RattleType
 Mark = Struct (record { name = (row.the_type).name; args = []; types = []; fields = (marker.the_field unit).row ∷ [] })
 
+-- a new count owns its token
 made : {M : Type 1} {𝓤 : Ura M} (𝓛 : Logic 𝓤) → ent 𝓤 (emp 𝓤) (sem 𝓛 (Mark.own_val (tt, tt) (token ∷ [])))
 made 𝓛 = makes_shadow 𝓛 (Mark.own_val (tt, tt) (token ∷ [])) (λ vss. (tt, ((λ uss. (tt, tt)), tt)))
     ((vstruct vnil ∷ [], tt), (refl, ((tt, (refl, tt)), tt)))
