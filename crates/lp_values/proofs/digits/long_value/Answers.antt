@@ -1,28 +1,47 @@
-use Rattle.std.proofs.Common.{◌∙◌, ◌-◌, length, sym, ap, subst, arith}
+use Rattle.std.proofs.Common.{◌≡◌, ◌∙◌, ◌-◌, length, sym, ap, subst, arith}
 use Rattle.std.specs.Str.Parse.{AllDigits, digits_value}
 use Rattle.lp_values.proofs.lemmas.digits.DigitLemmas.{few_fit}
-use Rattle.lp_values.proofs.lemmas.digits.LaneNumbers.{by_last, digits_parts, last_digits}
+use Rattle.lp_values.proofs.lemmas.digits.LaneNumbers.{by_last, digits_parts, whole_lanes}
 use Rattle.lp_values.proofs.digits.long_value.Goals as goal
 
-pub loaded_value-requires-clause-digits : goal.loaded_value-requires-clause-digits
-loaded_value-requires-clause-digits c = let ds = c.args.digits.now in (digits_parts (length ds - 16) ds c.requires.digits).0
+pub value_after-requires-clause-digits : goal.value_after-requires-clause-digits
+value_after-requires-clause-digits c =
+    let ds = c.args.digits.now in
+    subst (AllDigits 10) (sym c.split_at.ensures.front) (digits_parts (length ds - 16) ds c.requires.digits).0
+
+pub value_after-requires-clause-fits : goal.value_after-requires-clause-fits
+value_after-requires-clause-fits c =
+    let ds = c.args.digits.now in
+    let first = c.split_at.result.0.now in
+    let digits = subst (AllDigits 10) (sym c.split_at.ensures.front) (digits_parts (length ds - 16) ds c.requires.digits).0 in
+    few_fit first digits (omega (arith, c.split_at.ensures.front_len, c.requires.few))
 
 pub overflow_mul-result : goal.overflow_mul-result
 overflow_mul-result c =
     let ds = c.args.digits.now in
     let all = by_last (length ds - 16) ds (omega (arith, c.requires.least)) in
-    record { fits = omega (arith, c.loaded_value.ensures, all, few_fit ds c.requires.digits c.requires.few) }
+    let first = c.value_after.ensures ∙ ap (digits_value 10) c.split_at.ensures.front in
+    record { fits = omega (arith, first, all, few_fit ds c.requires.digits c.requires.few) }
 
-pub loaded_value-requires-2-clause-digits : goal.loaded_value-requires-2-clause-digits
-loaded_value-requires-2-clause-digits c =
+pub lanes_number-requires-clause-digits : goal.lanes_number-requires-clause-digits
+lanes_number-requires-clause-digits c =
     let ds = c.args.digits.now in
-    subst (AllDigits 10) (sym (last_digits ds c.requires.least)) (digits_parts (length ds - 16) ds c.requires.digits).1
+    let last = c.split_at.result.1.now in
+    let digits = subst (AllDigits 10) (sym c.split_at.ensures.back) (digits_parts (length ds - 16) ds c.requires.digits).1 in
+    let size : length last ≡ 16 = omega (arith, c.split_at.ensures.back_len, c.requires.least) in
+    (whole_lanes last c.digit_lanes.result size c.digit_lanes.ensures.whole digits c.digit_lanes.ensures.value).0
 
 pub returns : goal.returns
 returns c =
     let ds = c.args.digits.now in
-    let last = c.loaded_value-2.ensures ∙ ap (digits_value 10) (last_digits ds c.requires.least) in
-    omega (arith, c.loaded_value.ensures, last, by_last (length ds - 16) ds (omega (arith, c.requires.least)))
+    let last = c.split_at.result.1.now in
+    let digits = subst (AllDigits 10) (sym c.split_at.ensures.back) (digits_parts (length ds - 16) ds c.requires.digits).1 in
+    let size : length last ≡ 16 = omega (arith, c.split_at.ensures.back_len, c.requires.least) in
+    let all = by_last (length ds - 16) ds (omega (arith, c.requires.least)) in
+    let first = c.value_after.ensures ∙ ap (digits_value 10) c.split_at.ensures.front in
+    let lanes = whole_lanes last c.digit_lanes.result size c.digit_lanes.ensures.whole digits c.digit_lanes.ensures.value in
+    let rest = c.lanes_number.ensures ∙ lanes.1 ∙ ap (digits_value 10) c.split_at.ensures.back in
+    omega (arith, first, rest, all)
 
 pub overflow_add-result : goal.overflow_add-result
 overflow_add-result c =

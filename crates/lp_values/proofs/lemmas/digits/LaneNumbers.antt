@@ -12,6 +12,7 @@ use Rattle.std.proofs.Math.Nat.{mul_assoc, pow-succ'}
 use lib.Lanes.{zip2, Each1}
 use Rattle.std.proofs.lemmas.Str.{digit_value_digit}
 use Rattle.std.proofs.lemmas.Str.Parse.{digit_from_value}
+use Rattle.lp_format.specs.format.Bytes.{newline}
 
 -- what the first digit of each four is worth, by eights
 abbrev pub firsts : ℕ → List ℕ
@@ -21,7 +22,7 @@ firsts (suc k) = 125 ∷ (0 ∷ (0 ∷ (0 ∷ firsts k)))
 -- what the others are worth
 abbrev pub others : ℕ → List ℕ
 others zero = []
-others (suc k) = 0 ∷ (100 ∷ (10 ∷ (1 ∷ others k)))
+others (suc k) = 0 ∷ (100 ∷ (newline ∷ (1 ∷ others k)))
 
 -- the numbers of each four digits
 abbrev pub groups : List ℕ → List ℕ
@@ -126,6 +127,17 @@ lanes_are_digits n bytes room few digits =
     ap (take n) (zip2_splat (λ (a b : ℕ). (a + (2 ^ 8 - b)) % 2 ^ 8) (take 16 bytes) 16 48 (length-take-le 16 bytes room))
     ∙ take-map less n (take 16 bytes) ∙ ap (map less) (take-take n 16 bytes few) ∙ less_zero (take n bytes) digits
 
+-- the lanes of 16 digits are digits, and their number is what those write
+pub whole_lanes : (bytes lanes : List ℕ) → length bytes ≡ 16 → length lanes ≡ 16 → AllDigits 10 bytes
+    → ((n : ℕ) → n ≤ 16 → AllDigits 10 (take n bytes) → take n lanes ≡ map digit_value (take n bytes))
+    → AllBelowBase 10 lanes × (number_from_digits 10 lanes ≡ digits_value 10 bytes)
+whole_lanes bytes lanes long wide digits are =
+    let all = take_all 16 bytes (omega (arith, long)) in
+    let every : AllDigits 10 (take 16 bytes) = subst (AllDigits 10) (sym all) digits in
+    let is = sym (take_all 16 lanes (omega (arith, wide))) in
+    let same = are 16 (omega arith) every in
+    (moved_below 0 16 bytes lanes lanes is same every, moved_number 0 16 bytes lanes lanes is same ∙ ap (digits_value 10) all)
+
 -- digits at the start and the rest are digits
 pub digits_parts : (n : ℕ) (ds : List ℕ) → AllDigits 10 ds → AllDigits 10 (take n ds) × AllDigits 10 (drop n ds)
 digits_parts zero ds digits = (tt, digits)
@@ -156,11 +168,3 @@ by_last n ds long =
     ap (digits_value 10) (sym (take-append-drop n ds)) ∙ digits_append 0 (take n ds) (drop n ds)
     ∙ ap (λ x. digits_value_after 10 x (drop n ds)) (omega arith) ∙ number_before first 0 (drop n ds)
     ∙ ap (λ x. first * 10 ^ x + digits_value 10 (drop n ds)) size)
-
--- the last 16 digits are all that is left after those before
-pub last_digits : (ds : List ℕ) → 16 < length ds
-    → take 16 (take (length ds - (length ds - 16)) (drop (length ds - 16) ds)) ≡ drop (length ds - 16) ds
-last_digits ds least =
-    let last = drop (length ds - 16) ds in
-    let size = length-drop (length ds - 16) ds in
-    ap (take 16) (take_all (length ds - (length ds - 16)) last (omega (arith, size, least))) ∙ take_all 16 last (omega (arith, size, least))
