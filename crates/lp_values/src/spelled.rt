@@ -1,0 +1,106 @@
+//! Names, strings, values and faults as they are spelled in the input, with no memory.
+
+ghost use Rattle.std.specs.Prelude.{◌≡◌, true, length, not, IfOk, IsOk};
+ghost use Rattle.lp_format.specs.format.Bytes.{backslash, is_one_of};
+ghost use Rattle.lp_values.specs.code.SpelledParts.{spelled_text, spelling_of};
+ghost use Rattle.lp_values.specs.code.Texts.{read_of};
+
+use crate::error::{ErrorKind, OutOfRange};
+use crate::escaped::EscapedStr;
+use crate::literals::FloatText;
+use crate::tokens::{RawToken, escaped_str};
+use std::alloc::{AllocError, Global};
+
+/// A name or a string as it is spelled in the input, with its escapes.
+#[derive(Clone, Copy)]
+pub struct Spelled<'a> {
+    pub(crate) token: RawToken<'a>,
+}
+
+impl<'a> Spelled<'a> {
+    /// The spelling: a part of the input.
+    ///
+    /// ```text
+    /// cpu\ load  is spelled  cpu\ load
+    /// ```
+    #[inline(always)]
+    pub fn spelled(&self) -> &'a str
+        ensures { result.now ≡ spelling_of self.now }
+    {
+        self.token.text
+    }
+
+    /// Whether it holds no backslash, so that it is spelled as it reads.
+    #[inline(always)]
+    pub fn is_plain(&self) -> bool
+        ensures { result ≡ not (is_one_of (spelling_of self.now) backslash) }
+    {
+        self.token.backslashes.is_none()
+    }
+
+    /// How many bytes the logical text takes.
+    ///
+    /// ```text
+    /// cpu\ load  has  8, those of  cpu load
+    /// ```
+    #[inline(always)]
+    pub fn len(&self) -> usize
+        ensures { result ≡ length (spelled_text self.now).bytes }
+    {
+        match self.token.backslashes {
+            Some(backslashes) => backslashes.len,
+            None => self.token.text.len(),
+        }
+    }
+
+    /// The logical text. Only a copy takes memory: one request, for just its length.
+    ///
+    /// # Errors
+    ///
+    /// Where memory was refused.
+    #[inline(always)]
+    pub fn to_escaped_str(&self, alloc: Global) -> Result<EscapedStr<'a>, AllocError>
+        ensures text { IfOk result (λ text. read_of text ≡ spelled_text self.now) }
+        ensures no_memory { (spelled_text self.now).is_single ≡ true → IsOk result }
+    {
+        escaped_str(alloc, self.token)
+    }
+}
+
+/// A value of a field as it is spelled in the input.
+#[derive(Clone, Copy)]
+pub enum SpelledValue<'a> {
+    /// An integer: digits and `i`.
+    I64(i64),
+    /// An unsigned integer: digits and `u`.
+    U64(u64),
+    /// A float, by its text.
+    F64(FloatText<'a>),
+    /// A text between quotes.
+    String(Spelled<'a>),
+    /// `true` or `false`, in one of their spellings.
+    Boolean(bool),
+}
+
+/// The fault of a line, its texts parts of the input.
+#[derive(Clone, Copy, Debug)]
+pub enum SpelledFault<'a> {
+    /// The line does not begin with a measurement.
+    MeasurementValueInvalid,
+    /// The line has no field.
+    FieldSetMissing,
+    /// An integer is out of the range of `i64`; `value` are its digits as they were spelled.
+    IntegerValueInvalid { source: OutOfRange, value: &'a str },
+    /// An unsigned integer is out of the range of `u64`; `value` are its digits as they were spelled.
+    UIntegerValueInvalid { source: OutOfRange, value: &'a str },
+    /// A timestamp is out of the range of `i64`; `value` is the number as it was spelled.
+    TimestampValueInvalid { source: OutOfRange, value: &'a str },
+    /// A name ends in a backslash.
+    EndsWithBackslash,
+    /// Something is left after the last part that could be read.
+    CannotParseEntireLine { trailing_content: &'a str },
+    /// A comma comes after the measurement, and no tag after it.
+    TagSetMalformed,
+    /// No space comes after the measurement.
+    GenericParsingError { kind: ErrorKind },
+}
