@@ -7,11 +7,13 @@ pub use Rattle.lp_values.specs.code.Texts
 pub use Rattle.lp_values.specs.code.Outcomes
 pub use Rattle.lp_values.specs.code.Faults
 pub use Rattle.lp_values.specs.code.ReadValues
+pub use Rattle.lp_values.specs.code.SpelledParts
 pub use Rattle.lp_lines.specs.code.Parsed
 pub use Rattle.lp_lines.specs.code.Lookups
 pub use Rattle.lp_format.specs.code.Light
 pub use Rattle.lp_lines.specs.code.ParseSteps
 pub use Rattle.lp_lines.specs.code.ReadInto
+pub use Rattle.lp_lines.specs.code.Events
 pub use Rattle.lp_build.specs.code.Built
 pub use Rattle.lp_build.specs.code.WrittenAgain
 pub use Rattle.lp_format.specs.code.Shown

@@ -7,6 +7,9 @@ pub use Rattle.lp_split.specs.declared.stream.bounded.PieceTooLong
 pub use Rattle.lp_values.specs.declared.error.Error
 pub use Rattle.lp_values.specs.declared.error.ErrorKind
 pub use Rattle.lp_values.specs.declared.error.OutOfRange
+pub use Rattle.lp_values.specs.declared.spelled.Spelled
+pub use Rattle.lp_values.specs.declared.spelled.SpelledFault
+pub use Rattle.lp_values.specs.declared.spelled.SpelledValue
 pub use Rattle.lp_values.specs.declared.escaped.EscapedStr
 pub use Rattle.lp_values.specs.declared.literals.FloatText
 pub use Rattle.lp_values.specs.declared.values.FieldValue

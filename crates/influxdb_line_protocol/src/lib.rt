@@ -11,10 +11,14 @@ pub mod laws;
 
 pub use lp_build::builder;
 pub use lp_build::builder::{LineProtocolBuilder, is_admitted, write_line, write_parsed};
-pub use lp_lines::{FieldSet, ParseLines, ParsedLine, Series, TagSet, parse_lines, parse_lines_in};
+pub use lp_lines::{
+    EventSink, FieldSet, ParseLines, ParsedLine, Series, TagSet, parse_lines, parse_lines_in,
+    read_events_in, read_line_events,
+};
 pub use lp_split::{
     BoundedLineStream, Dialect, LineStream, PieceTooLong, SplitLines, split_lines, split_lines_in,
 };
 pub use lp_values::{
-    Error, ErrorKind, EscapedStr, FieldValue, FloatText, Measurement, OutOfRange, Result,
+    Error, ErrorKind, EscapedStr, FieldValue, FloatText, Measurement, OutOfRange, Result, Spelled,
+    SpelledFault, SpelledValue,
 };

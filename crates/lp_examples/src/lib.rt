@@ -17,6 +17,7 @@ pub mod print;
 pub mod rebuilt;
 pub mod refusals;
 pub mod strict;
+pub mod summed;
 #[cfg(test)]
 mod tests;
 pub mod values;

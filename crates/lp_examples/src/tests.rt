@@ -13,6 +13,7 @@ use crate::print::print_lines;
 use crate::rebuilt::cleaned;
 use crate::refusals::with_tag_if_room;
 use crate::strict::faults_in;
+use crate::summed::sum_of;
 use crate::values::{number, text};
 use crate::vectors::two_readings;
 use crate::written::write_again;
@@ -209,4 +210,13 @@ fn a_text_is_cleaned(rt: HostRuntime) {
         b"item 2: A generic parsing error occurred: TakeWhile1\n".as_slice()
     );
     assert_eq!(rt; (cleaned.carried, cleaned.refused), (1, 1));
+}
+
+#[test]
+fn a_field_is_summed_over_whole_lines(rt: HostRuntime) {
+    let text = "m a=1i,b=2i\nm a=3i x\n# c\nn,t=u a=4i 7\nm a\\ b=5i\n";
+    assert_eq!(rt; sum_of(text, "a"), 5);
+    assert_eq!(rt; sum_of(text, "a b"), 5);
+    assert_eq!(rt; sum_of(text, "b"), 2);
+    assert_eq!(rt; sum_of(text, "c"), 0);
 }

@@ -1,3 +1,4 @@
+pub mod events
 pub mod fields
 pub mod line
 pub mod meanings

@@ -5,6 +5,7 @@
 #![tactic(auto)]
 
 mod base;
+pub mod events;
 mod fields;
 pub mod freeing;
 mod line;
@@ -12,5 +13,6 @@ pub mod parsed;
 mod shown;
 mod tags;
 
+pub use events::{EventSink, read_events_in, read_line_events};
 pub use line::{ParseLines, parse_lines, parse_lines_in};
 pub use parsed::{FieldSet, ParsedLine, Series, TagSet};

@@ -2,3 +2,4 @@ pub mod tokens
 pub mod digits
 pub mod fields
 pub mod shown
+pub mod spelled

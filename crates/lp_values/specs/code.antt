@@ -3,3 +3,4 @@ pub mod Texts
 pub mod Outcomes
 pub mod Faults
 pub mod ReadValues
+pub mod SpelledParts

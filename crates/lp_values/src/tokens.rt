@@ -24,17 +24,17 @@ pub struct RawToken<'a> {
     pub kind: TokenKind,
     pub text: &'a str,
     // `None` where it holds no backslash.
-    backslashes: Option<Backslashes>,
+    pub(crate) backslashes: Option<Backslashes>,
     ghost told: { AreToldOf (known_of kind) text.now backslashes },
 }
 
 // The backslashes of a token that holds some.
 #[derive(Clone, Copy)]
-struct Backslashes {
+pub(crate) struct Backslashes {
     // The place of the first.
     first: usize,
     // How many bytes the token takes without its escapes.
-    len: usize,
+    pub(crate) len: usize,
     // The mask of its known escapes from the first backslash on, or 0 where it was not made.
     escapes: u64,
 }

@@ -172,7 +172,7 @@ fn float(text: &str, whole: usize) -> Option<(FieldValue<'_>, &str)>
 
 // Whether `byte` is at `place`.
 #[inline(always)]
-fn has_byte_at(bytes: &[u8], place: usize, byte: u8) -> bool
+pub(crate) fn has_byte_at(bytes: &[u8], place: usize, byte: u8) -> bool
     requires { 0 < byte }
     ensures { result ≡ (slice_index bytes.now place == byte) }
 {
@@ -181,7 +181,7 @@ fn has_byte_at(bytes: &[u8], place: usize, byte: u8) -> bool
 
 // Whether a number may begin with the first of `bytes`: a digit or `-`.
 #[inline(always)]
-fn begins_number(bytes: &[u8]) -> bool
+pub(crate) fn begins_number(bytes: &[u8]) -> bool
     ensures { result ≡ (is_ascii_digit (slice_index bytes.now 0) || slice_index bytes.now 0 == minus) }
 {
     matches!(bytes, [b'0'..=b'9' | b'-', ..])
@@ -229,7 +229,7 @@ fn string<'a>(alloc: Global, text: &'a str) -> Result<Option<(FieldValue<'a>, &'
 
 // Which Boolean the longest word at the start of `bytes` is for, and how many bytes that word takes.
 #[inline(always)]
-fn longest_word(bytes: &[u8]) -> Option<(bool, usize)>
+pub(crate) fn longest_word(bytes: &[u8]) -> Option<(bool, usize)>
     ensures value { MatchOption result ((word_len true_words bytes.now ≡ 0) × (word_len false_words bytes.now ≡ 0)) (λ word.
         (word_len true_words bytes.now ≡ if word.0 then word.1 else 0) × (word_len false_words bytes.now ≡ if word.0 then 0 else word.1)) }
     ensures last { IfSome result (λ word. (0 < word.1) × (word.1 ≤ length bytes.now) × (slice_index bytes.now (word.1 - 1) < 128)) }

@@ -1,0 +1,188 @@
+//! Names, strings, values and faults as they are spelled in the input, with no memory.
+
+ghost use Rattle.std.specs.Prelude.{◌≡◌, ◌≤◌, ◌<◌, ◌==◌, ◌&&◌, ◌++◌, ◌∷◌, [], true, drop, length, not, slice_index, IfOk, IfSome, IsOk};
+ghost use Rattle.std.specs.Prelude.{MatchOption};
+ghost use Rattle.std.specs.Str.{bytes_eq};
+ghost use Rattle.lp_format.specs.format.Bytes.{backslash, is_one_of};
+ghost use Rattle.lp_format.specs.format.Escapes.{without_escapes};
+ghost use Rattle.lp_scan.specs.code.Tokens.{known_of};
+ghost use Rattle.lp_values.specs.code.SpelledParts.{spelled_text, spelling_of};
+ghost use Rattle.lp_values.specs.code.Texts.{read_of};
+
+use crate::error::{ErrorKind, OutOfRange};
+use crate::escaped::EscapedStr;
+use crate::literals::FloatText;
+use crate::tokens::{RawToken, escaped_str};
+use lp_scan::sets::TokenKind;
+use std::alloc::{AllocError, Global};
+
+// Whether a spelling begins with a known escape.
+#[inline(always)]
+fn begins_escaped(kind: TokenKind, spelling: &[u8]) -> bool
+    ensures { result ≡ (slice_index spelling.now 0 == backslash && is_one_of (known_of kind) (slice_index spelling.now 1)) }
+{
+    matches!(spelling, [b'\\', byte, ..] if kind.is_known(*byte))
+}
+
+// The first byte of the logical text of a spelling, and the spelling of the others. `None` where that text is empty.
+#[inline(always)]
+fn first_of(kind: TokenKind, spelling: &[u8]) -> Option<(u8, &[u8])>
+    ensures value { MatchOption result (without_escapes (known_of kind) spelling.now ≡ [])
+        (λ p. without_escapes (known_of kind) spelling.now ≡ p.0 ∷ without_escapes (known_of kind) p.1.now) }
+    ensures less { IfSome result (λ p. length p.1.now < length spelling.now) }
+{
+    let [byte, rest @ ..] = spelling else {
+        return None;
+    };
+    if begins_escaped(kind, spelling) {
+        return Some((rest[0], &rest[1..]));
+    }
+    Some((*byte, rest))
+}
+
+// Whether the logical text of a spelling is `other`, byte by byte.
+fn reads_as(kind: TokenKind, spelling: &[u8], other: &[u8]) -> bool
+    ensures { result ≡ bytes_eq (without_escapes (known_of kind) spelling.now) other.now }
+{
+    let mut rest = spelling;
+    let mut left = other;
+    while let Some((byte, after)) = first_of(kind, rest) {
+        let [found, others @ ..] = left else {
+            return false;
+        };
+        if byte != *found {
+            return false;
+        }
+        rest = after;
+        left = others;
+    }
+    left.is_empty()
+}
+
+// Puts the logical text of a spelling to the front of `to`, byte by byte.
+fn put_front(kind: TokenKind, spelling: &[u8], to: &mut [u8])
+    requires { length (without_escapes (known_of kind) spelling.now) ≤ length to.old }
+    ensures { to.new ≡ without_escapes (known_of kind) spelling.now
+        ++ drop (length (without_escapes (known_of kind) spelling.now)) to.old }
+{
+    let mut rest = spelling;
+    let mut place = 0;
+    while let Some((byte, after)) = first_of(kind, rest) {
+        to[place] = byte;
+        place += 1;
+        rest = after;
+    }
+}
+
+/// A name or a string as it is spelled in the input, with its escapes.
+#[derive(Clone, Copy)]
+pub struct Spelled<'a> {
+    pub(crate) token: RawToken<'a>,
+}
+
+impl<'a> Spelled<'a> {
+    /// The spelling: a part of the input.
+    ///
+    /// ```text
+    /// cpu\ load  is spelled  cpu\ load
+    /// ```
+    #[inline(always)]
+    pub fn spelled(&self) -> &'a str
+        ensures { result.now ≡ spelling_of self.now }
+    {
+        self.token.text
+    }
+
+    /// Whether it holds no backslash, so that it is spelled as it reads.
+    #[inline(always)]
+    pub fn is_plain(&self) -> bool
+        ensures { result ≡ not (is_one_of (spelling_of self.now) backslash) }
+    {
+        self.token.backslashes.is_none()
+    }
+
+    /// How many bytes the logical text takes.
+    ///
+    /// ```text
+    /// cpu\ load  has  8, those of  cpu load
+    /// ```
+    #[inline(always)]
+    pub fn len(&self) -> usize
+        ensures { result ≡ length (spelled_text self.now).bytes }
+    {
+        match self.token.backslashes {
+            Some(backslashes) => backslashes.len,
+            None => self.token.text.len(),
+        }
+    }
+
+    /// Whether the logical text is `other`. It takes no memory.
+    pub fn eq_text(&self, other: &str) -> bool
+        ensures { result ≡ bytes_eq (spelled_text self.now).bytes other.now }
+    {
+        reads_as(
+            self.token.kind,
+            self.token.text.as_bytes(),
+            other.as_bytes(),
+        )
+    }
+
+    /// Puts the logical text to the front of `to`, which has room for it. It takes no memory.
+    pub fn put(&self, to: &mut [u8])
+        requires { length (spelled_text self.now).bytes ≤ length to.old }
+        ensures { to.new ≡ (spelled_text self.now).bytes ++ drop (length (spelled_text self.now).bytes) to.old }
+    {
+        put_front(self.token.kind, self.token.text.as_bytes(), to);
+    }
+
+    /// The logical text. Only a copy takes memory: one request, for just its length.
+    ///
+    /// # Errors
+    ///
+    /// Where memory was refused.
+    #[inline(always)]
+    pub fn to_escaped_str(&self, alloc: Global) -> Result<EscapedStr<'a>, AllocError>
+        ensures text { IfOk result (λ text. read_of text ≡ spelled_text self.now) }
+        ensures no_memory { (spelled_text self.now).is_single ≡ true → IsOk result }
+    {
+        escaped_str(alloc, self.token)
+    }
+}
+
+/// A value of a field as it is spelled in the input.
+#[derive(Clone, Copy)]
+pub enum SpelledValue<'a> {
+    /// An integer: digits and `i`.
+    I64(i64),
+    /// An unsigned integer: digits and `u`.
+    U64(u64),
+    /// A float, by its text.
+    F64(FloatText<'a>),
+    /// A text between quotes.
+    String(Spelled<'a>),
+    /// `true` or `false`, in one of their spellings.
+    Boolean(bool),
+}
+
+/// The fault of a line, its texts parts of the input.
+#[derive(Clone, Copy, Debug)]
+pub enum SpelledFault<'a> {
+    /// The line does not begin with a measurement.
+    MeasurementValueInvalid,
+    /// The line has no field.
+    FieldSetMissing,
+    /// An integer is out of the range of `i64`; `value` are its digits as they were spelled.
+    IntegerValueInvalid { source: OutOfRange, value: &'a str },
+    /// An unsigned integer is out of the range of `u64`; `value` are its digits as they were spelled.
+    UIntegerValueInvalid { source: OutOfRange, value: &'a str },
+    /// A timestamp is out of the range of `i64`; `value` is the number as it was spelled.
+    TimestampValueInvalid { source: OutOfRange, value: &'a str },
+    /// A name ends in a backslash.
+    EndsWithBackslash,
+    /// Something is left after the last part that could be read.
+    CannotParseEntireLine { trailing_content: &'a str },
+    /// A comma comes after the measurement, and no tag after it.
+    TagSetMalformed,
+    /// No space comes after the measurement.
+    GenericParsingError { kind: ErrorKind },
+}

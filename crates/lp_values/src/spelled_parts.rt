@@ -1,0 +1,185 @@
+//! Reads names, values and timestamps as they are spelled, with no memory.
+
+ghost use Rattle.std.specs.Prelude.{◌≡◌, ◌≤◌, ◌<◌, false, true, length, slice_index, IfOk, IfSome};
+ghost use Rattle.lp_format.specs.format.Bytes.{letter_i, letter_u};
+ghost use Rattle.lp_format.specs.format.Lines.{timestamp};
+ghost use Rattle.lp_format.specs.format.Names.{name};
+ghost use Rattle.lp_format.specs.format.Readings.{◌otherwise◌};
+ghost use Rattle.lp_format.specs.format.Values.{boolean_at, digits_len, false_words, float_at, integer_at, integer_len, side_of};
+ghost use Rattle.lp_format.specs.format.Values.{string_at, true_words, unsigned_at, value};
+ghost use Rattle.lp_values.specs.code.Outcomes.{kind_of, side};
+ghost use Rattle.lp_values.specs.code.SpelledParts.{GivesSpelled, GivesSpelledRead, spelled_text, spelled_value};
+
+use crate::digits::{integer_value, unsigned_value};
+use crate::error::OutOfRange;
+use crate::literals::{FloatText, integer_len};
+use crate::names::NameKind;
+use crate::spelled::{Spelled, SpelledFault, SpelledValue};
+use crate::tokens::take_token;
+use crate::trim::{strip_byte, trim_start_spaces};
+use crate::values::{begins_number, has_byte_at, longest_word};
+use lp_scan::sets::TokenKind;
+
+/// A part at the start of a text, and the rest; `None` where none is there.
+pub type Front<'a, T> = Result<Option<(T, &'a str)>, SpelledFault<'a>>;
+
+/// The name at the start of `text` as it is spelled, and the rest. `None` where no name is there.
+#[inline(always)]
+pub fn name<'a>(kind: NameKind, text: &'a str) -> Front<'a, Spelled<'a>>
+    ensures value { GivesSpelled spelled_text result (name (kind_of kind) text.now) }
+    ensures tail { IfOk result (λ o. IfSome o (λ p. length p.1.now ≤ length text.now)) }
+{
+    let (token, rest) = take_token(kind.token(), text);
+    if token.text.is_empty() {
+        return Ok(None);
+    }
+    if token.ends_in_backslash() {
+        return Err(SpelledFault::EndsWithBackslash);
+    }
+    Ok(Some((Spelled { token }, rest)))
+}
+
+// On which side of its range a number lies that is out of it.
+fn side_of(number: &str) -> OutOfRange
+    ensures { side result ≡ side_of number.now }
+{
+    if number.starts_with('-') {
+        OutOfRange::Below
+    } else {
+        OutOfRange::Above
+    }
+}
+
+// An integer and `i` at the start of `text`, and the rest, where the integer takes `whole` bytes.
+#[inline(always)]
+fn integer<'a>(text: &'a str, whole: usize) -> Front<'a, SpelledValue<'a>>
+    requires whole { whole ≡ integer_len text.now }
+    requires some { 0 < whole }
+    requires mark { slice_index text.now whole ≡ letter_i }
+    ensures value { GivesSpelled spelled_value result (integer_at text.now) }
+    ensures less { IfOk result (λ o. IfSome o (λ p. length p.1.now < length text.now)) }
+{
+    let (number, _) = text.split_at(whole);
+    match integer_value(number, text) {
+        Some(value) => Ok(Some((SpelledValue::I64(value), &text[whole + 1..]))),
+        None => Err(SpelledFault::IntegerValueInvalid {
+            source: side_of(number),
+            value: number,
+        }),
+    }
+}
+
+// Digits and `u` at the start of `text`, and the rest, where the digits take `whole` bytes.
+#[inline(always)]
+fn unsigned<'a>(text: &'a str, whole: usize) -> Front<'a, SpelledValue<'a>>
+    requires whole { whole ≡ digits_len text.now }
+    requires some { 0 < whole }
+    requires mark { slice_index text.now whole ≡ letter_u }
+    ensures value { GivesSpelled spelled_value result (unsigned_at text.now) }
+    ensures less { IfOk result (λ o. IfSome o (λ p. length p.1.now < length text.now)) }
+{
+    let (number, _) = text.split_at(whole);
+    match unsigned_value(number, text) {
+        Some(value) => Ok(Some((SpelledValue::U64(value), &text[whole + 1..]))),
+        None => Err(SpelledFault::UIntegerValueInvalid {
+            source: OutOfRange::Above,
+            value: number,
+        }),
+    }
+}
+
+// The longest float at the start of `text`, and the rest, where an integer takes `whole` bytes.
+#[inline(always)]
+fn float<'a>(text: &'a str, whole: usize) -> Front<'a, SpelledValue<'a>>
+    requires { whole ≡ integer_len text.now }
+    ensures value { GivesSpelled spelled_value result (float_at text.now) }
+    ensures less { IfOk result (λ o. IfSome o (λ p. length p.1.now < length text.now)) }
+{
+    let Some((value, rest)) = FloatText::front(text, whole) else {
+        return Ok(None);
+    };
+    Ok(Some((SpelledValue::F64(value), rest)))
+}
+
+// A number at the start of `text`, by the byte after its integer, and the rest.
+#[inline(always)]
+fn number<'a>(text: &'a str) -> Front<'a, SpelledValue<'a>>
+    ensures value { GivesSpelled spelled_value result (integer_at text.now otherwise unsigned_at text.now otherwise float_at text.now) }
+    ensures less { IfOk result (λ o. IfSome o (λ p. length p.1.now < length text.now)) }
+{
+    let whole = integer_len(text);
+    if whole == 0 {
+        return Ok(None);
+    }
+    let bytes = text.as_bytes();
+    if has_byte_at(bytes, whole, b'i') {
+        return integer(text, whole);
+    }
+    if has_byte_at(bytes, whole, b'u') && !has_byte_at(bytes, 0, b'-') {
+        return unsigned(text, whole);
+    }
+    float(text, whole)
+}
+
+// A text between quotes at the start of `text`, and the rest.
+#[inline(always)]
+fn string<'a>(text: &'a str) -> Front<'a, SpelledValue<'a>>
+    ensures value { GivesSpelled spelled_value result (string_at text.now) }
+    ensures less { IfOk result (λ o. IfSome o (λ p. length p.1.now < length text.now)) }
+{
+    let Some(opened) = strip_byte(b'"', text) else {
+        return Ok(None);
+    };
+    let (token, closing) = take_token(TokenKind::String, opened);
+    let Some(rest) = strip_byte(b'"', closing) else {
+        return Ok(None);
+    };
+    Ok(Some((SpelledValue::String(Spelled { token }), rest)))
+}
+
+// A Boolean at the start of `text`, and the rest.
+#[inline(never)]
+fn boolean<'a>(text: &'a str) -> Front<'a, SpelledValue<'a>>
+    ensures value { GivesSpelled spelled_value result (boolean_at true true_words text.now otherwise boolean_at false false_words text.now) }
+    ensures less { IfOk result (λ o. IfSome o (λ p. length p.1.now < length text.now)) }
+{
+    let Some((value, len)) = longest_word(text.as_bytes()) else {
+        return Ok(None);
+    };
+    Ok(Some((SpelledValue::Boolean(value), &text[len..])))
+}
+
+/// The value at the start of `text` as it is spelled, and the rest. `None` where none is there.
+#[inline(always)]
+pub fn value<'a>(text: &'a str) -> Front<'a, SpelledValue<'a>>
+    ensures value { GivesSpelled spelled_value result (value text.now) }
+    ensures less { IfOk result (λ o. IfSome o (λ p. length p.1.now < length text.now)) }
+{
+    let bytes = text.as_bytes();
+    if begins_number(bytes) {
+        return number(text);
+    }
+    if has_byte_at(bytes, 0, b'"') {
+        return string(text);
+    }
+    boolean(text)
+}
+
+/// The timestamp at the start of `text`, if spaces and a number are there, and the rest, without the spaces after the number.
+#[inline(always)]
+pub fn timestamp<'a>(text: &'a str) -> Result<(Option<i64>, &'a str), SpelledFault<'a>>
+    ensures { GivesSpelledRead (λ t. t) result (timestamp text.now) }
+{
+    let after = trim_start_spaces(text);
+    let (number, rest) = after.split_at(integer_len(after));
+    if number.is_empty() || after.len() == text.len() {
+        return Ok((None, text));
+    }
+    match integer_value(number, after) {
+        Some(timestamp) => Ok((Some(timestamp), trim_start_spaces(rest))),
+        None => Err(SpelledFault::TimestampValueInvalid {
+            source: side_of(number),
+            value: number,
+        }),
+    }
+}
