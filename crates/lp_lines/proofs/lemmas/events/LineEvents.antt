@@ -26,6 +26,7 @@ use Rattle.lp_lines.proofs.lemmas.events.EventLemmas.{takes_append, takes_more}
 module _ {S : Type 0} (takes : S → Event → S → Type 0) (dialect : Dialect) (line : List ℕ) (before named_one mid : S)
     (m : Text) (rest : List ℕ) (tags : List (Pair Text Text)) (e : name a_measurement line ≡ reads m rest)
     (begun : takes before (named m) named_one) (told_tags : TakesAll takes named_one (map tagged tags) mid) where
+  -- a fault after the measurement and tags comes after a front of events
   with_tags : (fault : SpelledFault) → answer dialect line ≡ Err (spelled_fault fault)
       → WasTold takes before mid (AreToldBefore {X = Unit {0}} (Err fault) (answer dialect line))
   with_tags fault is =
@@ -52,9 +53,11 @@ module _ {S : Type 0} (takes : S → Event → S → Type 0) (dialect : Dialect)
     -- these fields were told too
     module _ (gap : List ℕ) (s : byte space after_tags ≡ reads space gap) (fields : List (Pair Text (Value Text))) (after : S)
         (told_fields : TakesAll takes mid (map valued fields) after) where
+      -- a measurement and tags that were told are a front of events
       told_front : TakesAll takes before (front_events m tags fields) after
       told_front = takes_append takes before mid after (named m ∷ map tagged tags) (map valued fields) (named_one, begun, told_tags) told_fields
 
+      -- a fault after the fields comes after a front of events
       with_fields : (fault : SpelledFault) → answer dialect line ≡ Err (spelled_fault fault)
           → WasTold takes before after (AreToldBefore {X = Unit {0}} (Err fault) (answer dialect line))
       with_fields fault is = record { events = front_events m tags fields; told = told_front; are = (is, inr (m, tags, fields, refl)) }
@@ -78,6 +81,7 @@ module _ {S : Type 0} (takes : S → Event → S → Type 0) (dialect : Dialect)
         unfolding answer
         time_fault fault n = with_fields fault (rw (e, t, s, f, n) refl)
 
+        -- what is left of a line after its parts is its fault
         more_left : (time : Option ℤ) (more : List ℕ) → timestamp left ≡ Ok (record { value = time; rest = more })
             → 0 < length more → (fault : SpelledFault) → spelled_fault fault ≡ cannot_parse_entire_line more
             → answer dialect line ≡ Err (spelled_fault fault)

@@ -12,6 +12,7 @@ told_where_some : (known text : List ℕ) (told : Option Backslashes) → AreTol
 told_where_some known text None h = sym (h.0 refl)
 told_where_some known text (Some b) h = sym (h.1 b refl).some
 
+-- what is not untrue is true
 not_not : (b : Bool) → not (not b) ≡ b
 not_not true = refl
 not_not false = refl
