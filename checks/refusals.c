@@ -18,6 +18,7 @@ static const char *const REFUSED = "OutOfMemory";
 static bool counting;        /* a call of the library is running */
 static unsigned long asked;  /* its requests so far */
 static unsigned long refuse; /* the request to refuse; 0: none */
+static size_t most;          /* the bytes of the largest of them */
 static long held;            /* blocks that it has not given back */
 static unsigned long runs;   /* all runs so far */
 
@@ -29,6 +30,7 @@ void *__wrap_realloc(void *block, size_t size);
 void __wrap_free(void *block);
 
 void *__wrap_malloc(size_t size) {
+    if (counting && size > most) most = size;
     if (counting && ++asked == refuse) return NULL;
     void *block = __real_malloc(size);
     if (counting && block) held++;
@@ -36,6 +38,7 @@ void *__wrap_malloc(size_t size) {
 }
 
 void *__wrap_realloc(void *block, size_t size) {
+    if (counting && size > most) most = size;
     if (counting && ++asked == refuse) return NULL;
     void *moved = __real_realloc(block, size);
     if (counting && moved && !block) held++;
@@ -75,6 +78,7 @@ static void begin(unsigned long n) {
     count = 0;
     refused_at = NOWHERE;
     asked = 0;
+    most = 0;
     refuse = n;
     held = 0;
     counting = true;
@@ -459,8 +463,25 @@ static void run(bool is_strict) {
     if (lens[1] != strlen(FAULTS) || memcmp(err, FAULTS, strlen(FAULTS))) fail("the faults are not as stated");
 }
 
+/* ---- sizes of requests ---- */
+
+/* The largest request of a call is for so many bytes. */
+static void largest_is(enum call what, const char *text, size_t wanted) {
+    subject = text;
+    call(what, text, 0);
+    if (most != wanted) fail("the largest request is for %zu bytes and should be for %zu", most, wanted);
+}
+
+/* A copy, and a base that is no part of the text, take just their length. */
+static void just_their_length(void) {
+    largest_is(ITEMS, "m\\ n a=1i", 3);
+    largest_is(ITEMS, "m a=\"0123456789abcdef\\\"0123456789abcdef\"", 33);
+    largest_is(BASES, "m,a=x\\ y f=1i", 7);
+}
+
 int main(void) {
     no_requests();
+    just_their_length();
     items();
     long_name();
     bases();
