@@ -8,7 +8,7 @@ use Rattle.influxdb_line_protocol.specs.format.Dialects.{Dialect}
 use Rattle.influxdb_line_protocol.specs.format.Pieces.{Pieces, Pieces.cut, Pieces.last}
 use Rattle.influxdb_line_protocol.specs.laws.Laws.{PiecesExist, PiecesAreUnique}
 use Rattle.lp_relay_core.specs.Cuts.{IsCutAt}
-use Rattle.lp_format.specs.format.Bytes.{newline}
+use Rattle.influxdb_line_protocol.specs.format.Bytes.{newline}
 
 -- a list that ends with an element is not empty
 not_empty : {X : Type 0} (xs : List X) (x : X) → xs ++ x ∷ [] ≡ [] → ⊥

@@ -3,7 +3,7 @@ use Rattle.std.proofs.Common.{◌≡◌, ℕ, ◌+◌, ◌≤◌, List, [], ◌�
 use Rattle.std.proofs.Common.{refl, sym, ap, subst, ◌∙◌, arith, append_assoc, append-nil}
 use Rattle.std.specs.Borrow.{Bor}
 use Rattle.influxdb_line_protocol.specs.format.Dialects.{Dialect}
-use Rattle.influxdb_line_protocol.specs.format.Bytes.{newlines_in}
+use Rattle.influxdb_line_protocol.specs.format.Bytes.{newline, newlines_in}
 use Rattle.influxdb_line_protocol.specs.format.Pieces.{IsCutPiece, IsLastPiece}
 use Rattle.influxdb_line_protocol.specs.code.Bounded.{GivesOf, HeldWithin, Holds, IsLastOf, IsTooLong}
 use Rattle.influxdb_line_protocol.specs.types.PieceTooLong.{PieceTooLong}
@@ -17,7 +17,6 @@ use Rattle.lp_relay_core.proofs.ItemLemmas.{item_of_long, items_add_up, items_of
 use Rattle.lp_relay_core.proofs.FaultLines.{faults_from_append, faults_from_push, place_append}
 use Rattle.lp_relay_core.proofs.RelayLemmas.{part_of_none, part_poured, part_so_far, part_then, relays_none, relays_poured, relays_same}
 use Rattle.lp_relay_core.proofs.RelayLemmas.{part_same, relays_then}
-use Rattle.lp_format.specs.format.Bytes.{newline}
 
 -- the piece that a call gave, or that is too long, and the rest, which the stream then holds
 pub record Given (dialect : Dialect) (limit : ℕ) (text : List ℕ) (result : Result (Bor (List ℕ)) PieceTooLong) (after : HeldWithin)

@@ -20,7 +20,7 @@ use Rattle.lp_relay_core.proofs.ItemLemmas.{batch_append, items_push}
 use Rattle.lp_relay_core.proofs.FaultLines.{faults_from_append, place_append}
 use Rattle.lp_relay_core.proofs.RelayLemmas.{relays_more, relays_none, relays_same, part_more, part_same, part_so_far}
 use Rattle.lp_relay_core.proofs.RelayPieces.{faults_then, next_faults, same_limit}
-use Rattle.lp_format.specs.format.Bytes.{newline}
+use Rattle.influxdb_line_protocol.specs.format.Bytes.{newline}
 
 -- the first writer gained the batch of the items of these bytes and the second one their faults, where the first piece is at
 -- this place, and these are their counts

@@ -9,7 +9,7 @@ use Rattle.influxdb_line_protocol.specs.laws.Laws.{PiecesExist, PiecesAreUnique}
 use Rattle.lp_relay_core.specs.declared.cuts.Walk.{Walk}
 use Rattle.lp_relay_core.specs.CutSteps.{GoesOn, IsWalkOf, TakesLen}
 use Rattle.lp_relay_core.proofs.CutLemmas.{none_inside, nothing_is_piece, pieces_joined, take_between}
-use Rattle.lp_format.specs.format.Bytes.{newline}
+use Rattle.influxdb_line_protocol.specs.format.Bytes.{newline}
 
 -- the stream was given more of the text
 pub walk_given : (dialect : Dialect) (text : List ℕ) (walk : Walk) (after : Held) (n : ℕ) → IsWalkOf dialect text walk
