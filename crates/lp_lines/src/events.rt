@@ -21,6 +21,13 @@ use lp_values::{ErrorKind, Spelled, SpelledFault, SpelledValue};
 ///
 /// Of a line that is read it is told the measurement, each tag, each field and the end, in order. Of a line at fault it is
 /// told the parts that were read before the fault, none of them, some or all, and then the fault.
+///
+/// For contracts it has the member `takes`: what the sink is after it was told of an event.
+///
+/// ```text
+/// m,t=x a=1i  calls  measurement(m), tag(t, x), field(a, I64(1)), end("m,t=x", None)
+/// m,t=x       calls  measurement(m), tag(t, x), fault(GenericParsingError)
+/// ```
 pub trait EventSink<'a> {
     // Holds of the sink before a call, what it is told by that, and the sink after.
     ghost takes: { Self → Event → Self → Type 0 };
@@ -237,6 +244,10 @@ fn piece_events<'a, S: EventSink<'a>>(dialect: Dialect, piece: &'a str, sink: &m
 /// Tells what all lines of a text say, by the rules of a dialect, one line after another, also after a fault.
 ///
 /// The lines are those of [`parse_lines_in`](crate::parse_lines_in). It takes no memory, so no line is `OutOfMemory`.
+///
+/// ```text
+/// "m a=1i\n# c\nm b\n"  tells  measurement m, field a 1i, end m, and measurement m, fault FieldSetMissing
+/// ```
 pub fn read_events_in<'a, S: EventSink<'a>>(dialect: Dialect, input: &'a str, sink: &mut S)
     ensures { WasTold S.takes sink.old sink.new (AreEventsOfText (rules_of dialect) input.now) }
 {

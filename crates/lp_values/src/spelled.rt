@@ -75,6 +75,10 @@ fn put_front(kind: TokenKind, spelling: &[u8], to: &mut [u8])
 }
 
 /// A name or a string as it is spelled in the input, with its escapes.
+///
+/// ```text
+/// in  cpu\ load a=1i  the measurement  is spelled  cpu\ load  and reads  cpu load
+/// ```
 #[derive(Clone, Copy)]
 pub struct Spelled<'a> {
     pub(crate) token: RawToken<'a>,
@@ -94,6 +98,10 @@ impl<'a> Spelled<'a> {
     }
 
     /// Whether it holds no backslash, so that it is spelled as it reads.
+    ///
+    /// ```text
+    /// cpu  is plain,  cpu\ load  is not
+    /// ```
     #[inline(always)]
     pub fn is_plain(&self) -> bool
         ensures { result ≡ not (is_one_of (spelling_of self.now) backslash) }
@@ -117,6 +125,10 @@ impl<'a> Spelled<'a> {
     }
 
     /// Whether the logical text is `other`. It takes no memory.
+    ///
+    /// ```text
+    /// cpu\ load  is  "cpu load"
+    /// ```
     pub fn eq_text(&self, other: &str) -> bool
         ensures { result ≡ bytes_eq (spelled_text self.now).bytes other.now }
     {
@@ -128,6 +140,10 @@ impl<'a> Spelled<'a> {
     }
 
     /// Puts the logical text to the front of `to`, which has room for it. It takes no memory.
+    ///
+    /// ```text
+    /// cpu\ load  puts  cpu load  to the first 8 bytes
+    /// ```
     pub fn put(&self, to: &mut [u8])
         requires { length (spelled_text self.now).bytes ≤ length to.old }
         ensures { to.new ≡ (spelled_text self.now).bytes ++ drop (length (spelled_text self.now).bytes) to.old }
@@ -136,6 +152,10 @@ impl<'a> Spelled<'a> {
     }
 
     /// The logical text. Only a copy takes memory: one request, for just its length.
+    ///
+    /// ```text
+    /// cpu  gives a slice,  cpu\ load  gives the copy  cpu load
+    /// ```
     ///
     /// # Errors
     ///
@@ -150,6 +170,10 @@ impl<'a> Spelled<'a> {
 }
 
 /// A value of a field as it is spelled in the input.
+///
+/// ```text
+/// 64i  is  I64(64),  1.5  is  F64 of the text 1.5,  "a\"b"  is  String, spelled  a\"b
+/// ```
 #[derive(Clone, Copy)]
 pub enum SpelledValue<'a> {
     /// An integer: digits and `i`.
@@ -165,6 +189,10 @@ pub enum SpelledValue<'a> {
 }
 
 /// The fault of a line, its texts parts of the input.
+///
+/// ```text
+/// m a=9223372036854775808i  has  IntegerValueInvalid  with the value  9223372036854775808
+/// ```
 #[derive(Clone, Copy, Debug)]
 pub enum SpelledFault<'a> {
     /// The line does not begin with a measurement.
