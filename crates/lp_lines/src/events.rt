@@ -221,7 +221,7 @@ fn parts<'a, S: EventSink<'a>>(
 /// m,t=x a=1i 7   tells  measurement m, tag t x, field a 1i, end m,t=x 7
 /// m a=1i,b       tells  measurement m, field a 1i, fault CannotParseEntireLine
 /// ```
-#[inline(never)]
+#[inline(always)]
 pub fn read_line_events<'a, S: EventSink<'a>>(dialect: Dialect, line: &'a str, sink: &mut S)
     ensures { WasTold S.takes sink.old sink.new (λ events. AreEventsOf events (answer (rules_of dialect) line.now)) }
 {

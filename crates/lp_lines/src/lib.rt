@@ -6,12 +6,11 @@
 
 mod base;
 pub mod events;
-mod fields;
+mod filling;
 pub mod freeing;
 mod line;
 pub mod parsed;
 mod shown;
-mod tags;
 
 pub use events::{EventSink, read_events_in, read_line_events};
 pub use line::{ParseLines, parse_lines, parse_lines_in};

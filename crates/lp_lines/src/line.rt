@@ -1,43 +1,60 @@
 //! Lines.
 
-ghost use Rattle.std.specs.Prelude.{◌≡◌, ◌<◌, ◌≤◌, ◌++◌, ◌^◌, ℕ, List, [], length, max, slice_index, true, Err, None, Some, IfSome};
+ghost use Rattle.std.specs.Prelude.{◌≡◌, ◌<◌, ◌≤◌, ◌^◌, [], length, max, true, Err, None, Some, IfSome};
 ghost use Rattle.std.specs.Prelude.{MatchOption};
 ghost use Rattle.std.specs.Option.{option_map};
 ghost use Rattle.lp_format.specs.format.Dialects.{Crate};
 ghost use Rattle.lp_split.specs.code.Rules.{rules_of};
-ghost use Rattle.lp_format.specs.format.Lines.{answer, front_before};
-ghost use Rattle.lp_format.specs.format.Bytes.{space};
+ghost use Rattle.lp_format.specs.format.Lines.{answer};
 ghost use Rattle.lp_values.specs.code.Outcomes.{IsNotOutOfMemory};
 ghost use Rattle.lp_format.specs.code.Light.{inline_fields, inline_tags, is_light_in};
-ghost use Rattle.lp_lines.specs.code.Lookups.{room_of};
+ghost use Rattle.lp_lines.specs.code.Lookups.{room_of, some_items};
 ghost use Rattle.lp_lines.specs.code.Parsed.{FillsLine};
 ghost use Rattle.lp_format.specs.format.Trimming.{trimmed};
 ghost use Rattle.lp_lines.specs.code.ReadInto.{IsEmptyLine, KeepsTagRoom};
 
-use crate::{ParsedLine, Series, TagSet, fields, tags};
+use crate::filling::{Filling, tell_line};
+use crate::{ParsedLine, Series, TagSet};
 use lp_split::Dialect;
 use lp_split::split::{SplitLines, dialect_of, split_lines_in};
-use lp_values::names::{self, NameKind};
-use lp_values::trim::{strip_byte, trim_start_spaces, trimmed};
-use lp_values::{Error, ErrorKind, EscapedStr, Result, values};
+use lp_values::trim::trimmed;
+use lp_values::{Error, EscapedStr, Result};
 use smallvec::SmallVec;
 use std::alloc::Global;
 use std::marker::Model;
 use std::mem;
 
-// What comes before `rest`, which ends `line` and begins with a space.
+// Makes an empty tag set `None`. A set that has grown is kept at `spare`, if that is given. A set that has not holds no memory
+// and is forgotten: to drop it would visit each of its places.
 #[inline(always)]
-fn front_before<'a>(line: &'a str, rest: &str) -> &'a str
-    requires ends { (front : List ℕ) × (line.now ≡ front ++ rest.now) }
-    requires space { slice_index rest.now 0 ≡ space }
-    ensures { result.now ≡ front_before line.now rest.now }
+fn let_go<'a>(set: &mut Option<TagSet<'a>>, spare: Option<&mut Option<TagSet<'a>>>)
+    ensures { set.new ≡ None }
 {
-    &line[..line.len() - rest.len()]
+    if !set.as_ref().is_some_and(|tags| tags.spilled()) {
+        mem::forget(set.take());
+        return;
+    }
+    let grown = set.take();
+    if let Some(place) = spare {
+        *place = grown;
+    }
 }
 
-// Fills the line `parsed`, which has empty sets, with what the trimmed text `line` says. At a fault it is filled in part.
-// A tag set that has grown is kept at `spare`, where that is given and the line has no tags.
-#[tactic(auto, unfolding(lp_format::specs::format::Lines::answer))]
+// Lets the tag set of a line go if it holds no tag.
+#[inline(always)]
+fn let_go_empty<'a>(set: &mut Option<TagSet<'a>>, spare: Option<&mut Option<TagSet<'a>>>)
+    ensures tags { some_items set.new ≡ some_items set.old }
+    ensures some { IfSome set.new (λ tags. 0 < length tags.items) }
+    ensures room { IfSome set.new (λ tags. room_of set.old ≤ tags.capacity) }
+{
+    if set.as_ref().is_some_and(|tags| !tags.is_empty()) {
+        return;
+    }
+    let_go(set, spare);
+}
+
+// Fills the line `parsed`, which has empty sets, with what the trimmed text `line` says. At a fault, and where memory is refused,
+// it is filled in part. A tag set that has grown is kept at `spare`, if that is given and the line has no tags.
 #[inline(never)]
 fn fill<'a>(
     alloc: Global,
@@ -54,32 +71,26 @@ fn fill<'a>(
     ensures tag_room { KeepsTagRoom parsed.old parsed.new }
     ensures field_room { parsed.old.field_set.capacity ≤ parsed.new.field_set.capacity }
 {
-    let Some((measurement, rest)) = names::name(alloc, NameKind::Measurement, line)? else {
-        return Err(Error::MeasurementValueInvalid);
-    };
-    parsed.series.measurement = measurement;
-    let rest = tags::tag_set(alloc, rest, &mut parsed.series.tag_set, spare)?;
-    let Some(_after_space) = strip_byte(b' ', rest) else {
-        return Err(Error::GenericParsingError {
-            kind: ErrorKind::TakeWhile1,
-        });
-    };
-    parsed.series.raw_input = front_before(line, rest);
-    let Some(rest) = fields::field_set(
+    let mut filling = Filling {
         alloc,
-        dialect,
-        trim_start_spaces(rest),
-        &mut parsed.field_set,
-    )?
-    else {
-        return Err(Error::FieldSetMissing);
+        line: parsed,
+        refused: false,
+        fault: None,
     };
-    let (timestamp, rest) = values::timestamp(alloc, rest)?;
-    if !rest.is_empty() {
-        let trailing_content = String::from_str(alloc, rest)?;
-        return Err(Error::CannotParseEntireLine { trailing_content });
+    tell_line(dialect, line, &mut filling);
+    let Filling {
+        alloc,
+        line,
+        refused,
+        fault,
+    } = filling;
+    if let Some(fault) = fault {
+        return Err(fault.to_error(alloc));
     }
-    parsed.timestamp = timestamp;
+    if refused {
+        return Err(Error::OutOfMemory);
+    }
+    let_go_empty(&mut line.series.tag_set, spare);
     Ok(())
 }
 

@@ -9,7 +9,7 @@ ghost use Rattle.lp_scan.specs.code.Tokens.{known_of};
 ghost use Rattle.lp_values.specs.code.SpelledParts.{spelled_text, spelling_of};
 ghost use Rattle.lp_values.specs.code.Texts.{read_of};
 
-use crate::error::{ErrorKind, OutOfRange};
+use crate::error::{Error, ErrorKind, OutOfRange};
 use crate::escaped::EscapedStr;
 use crate::literals::FloatText;
 use crate::tokens::{RawToken, escaped_str};
@@ -213,4 +213,47 @@ pub enum SpelledFault<'a> {
     TagSetMalformed,
     /// No space comes after the measurement.
     GenericParsingError { kind: ErrorKind },
+}
+
+impl<'a> SpelledFault<'a> {
+    ghost use Rattle.std.specs.Prelude.{◌≢◌};
+    ghost use Rattle.lp_format.specs.code.Light.{carries_no_text};
+    ghost use Rattle.lp_values.specs.code.Outcomes.{IsFault};
+    ghost use Rattle.lp_values.specs.code.SpelledParts.{spelled_fault};
+
+    /// The same fault, with a copy of its text. Only a fault with a text takes memory: `OutOfMemory` if that was refused.
+    ///
+    /// ```text
+    /// IntegerValueInvalid  with the part  9223372036854775808  of the input  gives it with a copy of that text
+    /// ```
+    #[cold]
+    #[inline(never)]
+    pub fn to_error(self, alloc: Global) -> Error
+        ensures fault { IsFault result (λ fault. fault ≡ spelled_fault self.entry) }
+        ensures no_memory { carries_no_text (spelled_fault self.entry) ≡ true → result ≢ Error.OutOfMemory }
+    {
+        match self {
+            SpelledFault::MeasurementValueInvalid => Error::MeasurementValueInvalid,
+            SpelledFault::FieldSetMissing => Error::FieldSetMissing,
+            SpelledFault::EndsWithBackslash => Error::EndsWithBackslash,
+            SpelledFault::TagSetMalformed => Error::TagSetMalformed,
+            SpelledFault::GenericParsingError { kind } => Error::GenericParsingError { kind },
+            SpelledFault::IntegerValueInvalid { source, value } => match String::from_str(alloc, value) {
+                Ok(value) => Error::IntegerValueInvalid { source, value },
+                Err(_) => Error::OutOfMemory,
+            },
+            SpelledFault::UIntegerValueInvalid { source, value } => match String::from_str(alloc, value) {
+                Ok(value) => Error::UIntegerValueInvalid { source, value },
+                Err(_) => Error::OutOfMemory,
+            },
+            SpelledFault::TimestampValueInvalid { source, value } => match String::from_str(alloc, value) {
+                Ok(value) => Error::TimestampValueInvalid { source, value },
+                Err(_) => Error::OutOfMemory,
+            },
+            SpelledFault::CannotParseEntireLine { trailing_content } => match String::from_str(alloc, trailing_content) {
+                Ok(trailing_content) => Error::CannotParseEntireLine { trailing_content },
+                Err(_) => Error::OutOfMemory,
+            },
+        }
+    }
 }

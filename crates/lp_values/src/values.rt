@@ -9,6 +9,7 @@ ghost use Rattle.lp_format.specs.code.Light.{is_single_value, NeedsMemory};
 ghost use Rattle.lp_format.specs.format.Lines.{timestamp};
 ghost use Rattle.lp_values.specs.code.Outcomes.{Gives, GivesRead, IsFault};
 ghost use Rattle.lp_values.specs.code.ReadValues.{is_same_variant, value_of};
+ghost use Rattle.lp_values.specs.code.SpelledParts.{spelled_value};
 ghost use Rattle.lp_format.specs.format.Readings.{◌otherwise◌, above, integer_value_invalid, timestamp_value_invalid};
 ghost use Rattle.lp_format.specs.format.Readings.{uinteger_value_invalid};
 ghost use Rattle.lp_format.specs.format.Values.{digits_len, integer_len, integer_at, unsigned_at, float_at, string_at};
@@ -18,6 +19,7 @@ use crate::digits::{integer_value, unsigned_value};
 use crate::error::{Error, OutOfRange};
 use crate::escaped::EscapedStr;
 use crate::literals::{FloatText, integer_len};
+use crate::spelled::SpelledValue;
 use crate::tokens::{escaped_str, take_token};
 use crate::trim::{strip_byte, trim_start_spaces};
 use lp_scan::sets::TokenKind;
@@ -77,6 +79,21 @@ impl<'a> FieldValue<'a> {
             FieldValue::F64(value) => FieldValue::F64(*value),
             FieldValue::String(value) => FieldValue::String(value.clone(alloc)?),
             FieldValue::Boolean(value) => FieldValue::Boolean(*value),
+        })
+    }
+
+    /// The value of a spelled one. Only a text that is a copy takes memory: `Err` if it is refused.
+    #[inline(always)]
+    pub fn from_spelled(alloc: Global, value: SpelledValue<'a>) -> Result<Self, AllocError>
+        ensures value { IfOk result (λ read. value_of read ≡ spelled_value value.entry) }
+        ensures no_memory { is_single_value (spelled_value value.entry) ≡ true → IsOk result }
+    {
+        Ok(match value {
+            SpelledValue::I64(value) => FieldValue::I64(value),
+            SpelledValue::U64(value) => FieldValue::U64(value),
+            SpelledValue::F64(value) => FieldValue::F64(value),
+            SpelledValue::String(text) => FieldValue::String(text.to_escaped_str(alloc)?),
+            SpelledValue::Boolean(value) => FieldValue::Boolean(value),
         })
     }
 }

@@ -3,3 +3,5 @@ pub mod GivenLines
 pub mod LightLemmas
 pub mod ParseStepsLemmas
 pub mod SomeTags
+pub mod Filled
+pub mod Fills

@@ -4,7 +4,7 @@ use Rattle.std.proofs.lemmas.Grind.{common_steps}
 use Rattle.std.proofs.lemmas.Result.{err_from_is_err_and}
 use Rattle.lp_split.specs.code.Rules.{rules_of}
 use Rattle.lp_lines.proofs.lemmas.events.LineEvents.{all_told, fields_fault, left_fault, no_field, space_fault, tags_fault, time_fault}
-use Rattle.lp_lines.proofs.lemmas.line.LightLemmas.{series_ends}
+use Rattle.lp_lines.proofs.lemmas.fields.SeriesEnds.{series_ends}
 use Rattle.lp_lines.proofs.events.parts.Goals as goal
 
 pub returns-in_err-rest : goal.returns-in_err-rest
@@ -25,8 +25,7 @@ returns-in_default-strip_byte g c =
 pub front_before-series-requires-clause-ends : goal.front_before-series-requires-clause-ends
 front_before-series-requires-clause-ends g c =
     let e = rw c.in-Some.is at c.in_ok-measurement.ensures.value in
-    let ends = series_ends (rules_of c.args.dialect) c.args.line.now _ _ _ _ e c.in_ok-rest.ensures.are.1
-    c.in-Some-strip_byte.ensures.value in
+    let ends = series_ends c.args.line.now _ _ _ e c.in_ok-rest.ensures.are.1 in
     (ends.front, ends.is)
 
 pub returns-in_err-rest-2 : goal.returns-in_err-rest-2

@@ -28,7 +28,7 @@ joined_some one line rest xs h =
     omega (arith, ap length more.all)
 
 -- a set that may be missing holds at least one, where it is there
-abbrev HasSome : {T : Type 0} → Option (List T) → Type 0
+abbrev pub HasSome : {T : Type 0} → Option (List T) → Type 0
 HasSome o = IfSome o (λ ts. 0 < length ts)
 
 -- where no tag set is read, none is there
@@ -61,7 +61,7 @@ tag_set_some (c ∷ line) rest ts h =
         (joined_some tag line after us e)
 
 -- so does that of each line that is answered
-line_some_tags : (dialect : Dialect) (text : List ℕ) (l : Line) → answer dialect text ≡ Ok l → HasSome l.tags
+pub line_some_tags : (dialect : Dialect) (text : List ℕ) (l : Line) → answer dialect text ≡ Ok l → HasSome l.tags
 line_some_tags dialect text l h = let parts =
     answer_parts dialect text l h in tag_set_some parts.measurement_rest parts.tags_rest l.tags parts.tags
 

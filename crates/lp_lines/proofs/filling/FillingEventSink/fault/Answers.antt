@@ -1,0 +1,12 @@
+use Rattle.std.proofs.Common.{refl, inl, arith}
+use Rattle.lp_lines.proofs.filling.FillingEventSink.fault.Goals as goal
+
+pub returns : goal.returns
+returns c =
+    record {
+      same = refl;
+      rooms = record { tags = omega arith; fields = omega arith };
+      fault = refl;
+      puts = λ taken. (taken, tt);
+      needs = λ refused. inl refused;
+    }

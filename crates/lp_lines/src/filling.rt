@@ -1,0 +1,172 @@
+//! A sink that fills a line with the parts that it is told, and asks for memory for copies and for sets that grow.
+
+ghost use Rattle.std.specs.Prelude.{◌≡◌, ◌≤◌, ◌+◌, ◌⊎◌, ◌++◌, ◌∷◌, [], length, map, true, false};
+ghost use Rattle.lp_format.specs.code.Light.{is_single_field, is_single_tag};
+ghost use Rattle.lp_values.specs.code.SpelledParts.{spelled_text};
+ghost use Rattle.lp_lines.specs.code.Events.{named, spelled_field, spelled_tag, tagged, valued};
+ghost use Rattle.lp_format.specs.format.Lines.{answer};
+ghost use Rattle.lp_split.specs.code.Rules.{rules_of};
+ghost use Rattle.lp_lines.specs.code.Filling.{FillsAnswer, KeepsRooms, NeedsRoom, Puts, fields_so_far, tags_so_far};
+ghost use Rattle.lp_lines.specs.code.Parsed.{field_of, tag_of};
+
+use crate::events::{EventSink, read_line_events};
+use crate::{FieldSet, ParsedLine, TagSet};
+use lp_split::Dialect;
+use lp_values::error::refused;
+use lp_values::{FieldValue, Spelled, SpelledFault, SpelledValue};
+use std::alloc::Global;
+
+// Appends a tag, unless memory for it is refused.
+#[inline(always)]
+fn push_tag<'a>(alloc: Global, tags: &mut TagSet<'a>, key: Spelled<'a>, value: Spelled<'a>) -> bool
+    ensures pushed { result ≡ true → map tag_of tags.new.items ≡ map tag_of tags.old.items ++ spelled_tag (key.entry, value.entry) ∷ [] }
+    ensures needs { result ≡ false → (is_single_tag (spelled_tag (key.entry, value.entry)) ≡ false)
+        ⊎ (tags.old.capacity ≤ length (map tag_of tags.old.items)) }
+    ensures room { tags.old.capacity ≤ tags.new.capacity }
+{
+    let Ok(key) = key.to_escaped_str(alloc) else {
+        return false;
+    };
+    let Ok(value) = value.to_escaped_str(alloc) else {
+        return false;
+    };
+    tags.push((key, value)).is_ok()
+}
+
+// How many places a full set gets more, at least: so many that the fields of an ordinary line make it grow once.
+const MORE: usize = 10;
+
+// Makes room for a field more in a full set.
+#[inline(always)]
+fn make_room<'a>(fields: &mut FieldSet<'a>) -> bool
+    ensures items { fields.new.items ≡ fields.old.items }
+    ensures room { fields.old.capacity ≤ fields.new.capacity }
+    ensures has_room { result ≡ true → length fields.new.items + 1 ≤ fields.new.capacity }
+    ensures needs { result ≡ false → fields.old.capacity ≤ length fields.old.items }
+{
+    if fields.len() < fields.capacity() {
+        return true;
+    }
+    fields.reserve_exact(fields.len().max(MORE)).is_ok()
+}
+
+// Appends a field, unless memory for it is refused.
+#[inline(always)]
+fn push_field<'a>(alloc: Global, fields: &mut FieldSet<'a>, key: Spelled<'a>, value: SpelledValue<'a>) -> bool
+    ensures pushed { result ≡ true
+        → map field_of fields.new.items ≡ map field_of fields.old.items ++ spelled_field (key.entry, value.entry) ∷ [] }
+    ensures needs { result ≡ false → (is_single_field (spelled_field (key.entry, value.entry)) ≡ false)
+        ⊎ (fields.old.capacity ≤ length (map field_of fields.old.items)) }
+    ensures room { fields.old.capacity ≤ fields.new.capacity }
+{
+    let Ok(value) = FieldValue::from_spelled(alloc, value) else {
+        return false;
+    };
+    let Ok(key) = key.to_escaped_str(alloc) else {
+        refused(value);
+        return false;
+    };
+    if !make_room(fields) {
+        refused((key, value));
+        return false;
+    }
+    fields.push_reserved((key, value));
+    true
+}
+
+// Puts the measurement into a line, unless memory for it is refused.
+#[inline(always)]
+fn put_name<'a>(alloc: Global, line: &mut ParsedLine<'a>, name: Spelled<'a>) -> bool
+    ensures rooms { KeepsRooms line.old line.new }
+    ensures puts { result ≡ true → Puts line.old (named (spelled_text name.entry)) line.new }
+    ensures needs { result ≡ false → NeedsRoom line.old (named (spelled_text name.entry)) }
+{
+    let Ok(name) = name.to_escaped_str(alloc) else {
+        return false;
+    };
+    line.series.measurement = name;
+    true
+}
+
+// Puts a tag into a line that has a tag set, unless memory for it is refused.
+#[inline(always)]
+fn put_tag<'a>(alloc: Global, line: &mut ParsedLine<'a>, key: Spelled<'a>, value: Spelled<'a>) -> bool
+    ensures rooms { KeepsRooms line.old line.new }
+    ensures puts { result ≡ true → Puts line.old (tagged (spelled_tag (key.entry, value.entry))) line.new }
+    ensures needs { result ≡ false → NeedsRoom line.old (tagged (spelled_tag (key.entry, value.entry))) }
+{
+    match &mut line.series.tag_set {
+        Some(tags) => push_tag(alloc, tags, key, value),
+        None => false,
+    }
+}
+
+// Puts a field into a line, unless memory for it is refused.
+#[inline(always)]
+fn put_field<'a>(alloc: Global, line: &mut ParsedLine<'a>, key: Spelled<'a>, value: SpelledValue<'a>) -> bool
+    ensures rooms { KeepsRooms line.old line.new }
+    ensures puts { result ≡ true → Puts line.old (valued (spelled_field (key.entry, value.entry))) line.new }
+    ensures needs { result ≡ false → NeedsRoom line.old (valued (spelled_field (key.entry, value.entry))) }
+{
+    push_field(alloc, &mut line.field_set, key, value)
+}
+
+/// A line that is filled: whether memory for it was refused, and its fault, if it has one.
+#[derive(Drop)]
+pub(crate) struct Filling<'l, 'a> {
+    pub(crate) alloc: Global,
+    pub(crate) line: &'l mut ParsedLine<'a>,
+    pub(crate) refused: bool,
+    pub(crate) fault: Option<SpelledFault<'a>>,
+}
+
+impl<'l, 'a> EventSink<'a> for Filling<'l, 'a> {
+    ghost use Rattle.lp_lines.specs.code.Filling.{FillsBy};
+
+    ghost takes = { FillsBy };
+
+    #[inline(always)]
+    fn measurement(&mut self, name: Spelled<'a>) {
+        if !put_name(self.alloc, self.line, name) {
+            self.refused = true;
+        }
+    }
+
+    #[inline(always)]
+    fn tag(&mut self, key: Spelled<'a>, value: Spelled<'a>) {
+        if !put_tag(self.alloc, self.line, key, value) {
+            self.refused = true;
+        }
+    }
+
+    #[inline(always)]
+    fn field(&mut self, key: Spelled<'a>, value: SpelledValue<'a>) {
+        if !put_field(self.alloc, self.line, key, value) {
+            self.refused = true;
+        }
+    }
+
+    #[inline(always)]
+    fn end(&mut self, series: &'a str, timestamp: Option<i64>) {
+        self.line.series.raw_input = series;
+        self.line.timestamp = timestamp;
+    }
+
+    #[inline(always)]
+    fn fault(&mut self, fault: SpelledFault<'a>) {
+        self.fault = Some(fault);
+    }
+}
+
+/// Tells a line that is filled what the trimmed text `line` says.
+#[inline(always)]
+pub(crate) fn tell_line<'l, 'a>(dialect: Dialect, line: &'a str, filling: &mut Filling<'l, 'a>)
+    requires not_refused { filling.old.refused ≡ false }
+    requires no_tags { tags_so_far filling.old.line.now ≡ [] }
+    requires no_fields { fields_so_far filling.old.line.now ≡ [] }
+    ensures same { filling.new.line.ghost_name ≡ filling.old.line.ghost_name }
+    ensures rooms { KeepsRooms filling.old.line.now filling.new.line.now }
+    ensures filled { FillsAnswer filling.old (answer (rules_of dialect) line.now) filling.new }
+{
+    read_line_events(dialect, line, filling);
+}
