@@ -106,7 +106,7 @@ impl<'a> Spelled<'a> {
     pub fn is_plain(&self) -> bool
         ensures { result ≡ not (is_one_of (spelling_of self.now) backslash) }
     {
-        self.token.backslashes.is_none()
+        self.token.is_plain
     }
 
     /// How many bytes the logical text takes.
@@ -118,10 +118,7 @@ impl<'a> Spelled<'a> {
     pub fn len(&self) -> usize
         ensures { result ≡ length (spelled_text self.now).bytes }
     {
-        match self.token.backslashes {
-            Some(backslashes) => backslashes.len,
-            None => self.token.text.len(),
-        }
+        self.token.len
     }
 
     /// Whether the logical text is `other`. It takes no memory.

@@ -1,13 +1,11 @@
-use Rattle.std.proofs.Common.{◌≡◌, ℕ, ◌+◌, ◌-◌, ◌<◌, ◌≤◌, List, length, take, slice_index, true, ◌∙◌, sym, ap, arith, inl, inr, refl}
+use Rattle.std.proofs.Common.{◌≡◌, ℕ, ◌+◌, ◌-◌, ◌<◌, ◌≤◌, List, length, take, slice_index, true, false, not, ◌∙◌, sym, ap, arith, inl, inr, refl}
 use Rattle.std.proofs.lemmas.Bool.{false≢true, cases_eq}
-use Rattle.lp_values.specs.declared.tokens.Backslashes.{Backslashes}
 use Rattle.lp_scan.specs.declared.sets.TokenKind.{TokenKind}
 use Rattle.lp_format.specs.format.Escapes.{without_escapes}
 use Rattle.lp_scan.specs.code.Tokens.{is_plain, stops_of, known_of}
 use Rattle.lp_scan.specs.code.Lanes.{IsRunAt}
-use Rattle.lp_values.specs.code.RawTokens.{AreBackslashes, AreEscapes}
+use Rattle.lp_values.specs.code.RawTokens.{IsTold}
 use Rattle.lp_format.proofs.lemmas.tokens.EscapeLemmas.{is_one_of_front}
-use Rattle.lp_values.proofs.lemmas.tokens.EscapeMasks.{cut_escapes, first_backslash}
 use Rattle.lp_values.proofs.lemmas.tokens.TokenLemmas.{backslash_goes_on}
 use Rattle.lp_values.proofs.lemmas.tokens.WalkLemmas.{walk_start, walk_run, walk_ends}
 use Rattle.lp_values.proofs.tokens.escaped_end_of.Goals as goal
@@ -23,17 +21,12 @@ loop-end-init c =
       after = omega arith;
     }
 
--- the backslashes are those of the walk, where the first is before its end
-told : (kind : TokenKind) (text : List ℕ) (at end found : ℕ) (told : Backslashes) → slice_index text at ≡ backslash → at < end → end ≤ length text
-    → length (without_escapes (known_of kind) (take end text)) + found ≡ end → told.len ≡ end - found → told.first ≡ at
-    → (0 < told.escapes → AreEscapes (known_of kind) (take end text) told.first told.escapes)
-    → IsRunAt (is_plain (stops_of kind)) text 0 told.first → AreBackslashes (known_of kind) (take end text) told
-told kind text at end found t here after fits counted len first masked run = record {
-  some = is_one_of_front text at end backslash after (omega (arith, after, fits)) here;
-  found = first_backslash (stops_of kind) text end t.first fits (omega (arith, after, first)) run
-      (λ _. ap (slice_index text) first ∙ here);
-  len = omega (arith, len, counted);
-  masked = masked;
+-- what the walk counted is told, if the first backslash is before its end
+told : (kind : TokenKind) (text : List ℕ) (at end found len : ℕ) → slice_index text at ≡ backslash → at < end → end ≤ length text
+    → length (without_escapes (known_of kind) (take end text)) + found ≡ end → len ≡ end - found → IsTold (known_of kind) (take end text) len false
+told kind text at end found len here after fits counted is = record {
+  counts = omega (arith, is, counted);
+  tells = ap not (sym (is_one_of_front text at end backslash after (omega (arith, after, fits)) here));
 }
 
 -- the first backslash is before the stop of a load
@@ -45,39 +38,15 @@ after_first kind bytes at next further here stop = elim (cases_eq next at) [
   | inr other ↦ omega arith
 ]
 
-pub returns-then-end-at-clause-end : goal.returns-then-end-at-clause-end
-returns-then-end-at-clause-end c =
+pub returns-then-next-end-clause-end : goal.returns-then-next-end-clause-end
+returns-then-next-end-clause-end c =
     let load = c.escapes_in_load-next.ensures in
     let bytes = c.as_bytes-bytes.result.now in
     rw (← c.as_bytes-bytes.ensures.value) (sym (walk_ends (known_of c.args.kind) (stops_of c.args.kind) bytes _ _ load.walked
     (λ _. load.stops c.if-next-end.true)).0)
 
-pub returns-then-end-at-clause-backslashes : goal.returns-then-end-at-clause-backslashes
-returns-then-end-at-clause-backslashes c =
-    let kind = c.args.kind in
-    let bytes = c.as_bytes-bytes.result.now in
-    let at = c.args.at in
-    let next = c.escapes_in_load-next.result.0 in
-    let load = c.escapes_in_load-next.ensures in
-    let here : slice_index bytes at ≡ backslash = rw c.as_bytes-bytes.ensures.value c.requires.here in
-    let run = rw (← c.as_bytes-bytes.ensures.value) at c.requires.run in
-    let stop = load.stops c.if-next-end.true in
-    let ends = walk_ends (known_of kind) (stops_of kind) bytes next _ load.walked (λ _. stop) in
-    let after = after_first kind bytes at next (omega (arith, load.further, c.loop-end.invariant.after)) here stop in
-    let mask = rw c.if-end-at.true at (load.mask c.if-next-end.true) in
-    let cut = cut_escapes (known_of kind) bytes next load.walked.within load.walked.bare (stops_of kind) at
-    c.escapes_in_load-next.result.2 run (omega (arith, after)) (omega (arith, c.if-next-end.true, c.if-end-at.true)) mask in
-    rw (← c.as_bytes-bytes.ensures.value) (told kind bytes at next _ _ here after load.walked.within ends.1 refl refl (λ _. cut) run)
-
-pub returns-else-end-at-clause-end : goal.returns-else-end-at-clause-end
-returns-else-end-at-clause-end c =
-    let load = c.escapes_in_load-next.ensures in
-    let bytes = c.as_bytes-bytes.result.now in
-    rw (← c.as_bytes-bytes.ensures.value) (sym (walk_ends (known_of c.args.kind) (stops_of c.args.kind) bytes _ _ load.walked
-    (λ _. load.stops c.if-next-end.true)).0)
-
-pub returns-else-end-at-clause-backslashes : goal.returns-else-end-at-clause-backslashes
-returns-else-end-at-clause-backslashes c =
+pub returns-then-next-end-clause-told : goal.returns-then-next-end-clause-told
+returns-then-next-end-clause-told c =
     let kind = c.args.kind in
     let bytes = c.as_bytes-bytes.result.now in
     let at = c.args.at in
@@ -87,11 +56,10 @@ returns-else-end-at-clause-backslashes c =
     let stop = load.stops c.if-next-end.true in
     let ends = walk_ends (known_of kind) (stops_of kind) bytes next _ load.walked (λ _. stop) in
     let after = after_first kind bytes at next (omega (arith, load.further, c.loop-end.invariant.after)) here stop in
-    rw (← c.as_bytes-bytes.ensures.value) (told kind bytes at next _ _ here after load.walked.within ends.1 refl refl
-    (λ some. absurd (omega arith)) (rw (← c.as_bytes-bytes.ensures.value) at c.requires.run))
+    rw (← c.as_bytes-bytes.ensures.value) (told kind bytes at next _ _ here after load.walked.within ends.1 refl)
 
-pub returns-clause-backslashes : goal.returns-clause-backslashes
-returns-clause-backslashes c =
+pub returns-clause-told : goal.returns-clause-told
+returns-clause-told c =
     let kind = c.args.kind in
     let bytes = c.as_bytes-bytes.result.now in
     let at = c.args.at in
@@ -103,5 +71,4 @@ returns-clause-backslashes c =
       | inl e ↦ rw (← e) (tail.moves (rw e within) (rw e here))
       | inr other ↦ omega (arith, tail.further, c.loop-end.invariant.after)
     ] in
-    rw (← c.as_bytes-bytes.ensures.value) (told kind bytes at end _ _ here after tail.within tail.len refl refl
-    (λ some. absurd (omega arith)) (rw (← c.as_bytes-bytes.ensures.value) at c.requires.run))
+    rw (← c.as_bytes-bytes.ensures.value) (told kind bytes at end _ _ here after tail.within tail.len refl)

@@ -19,18 +19,15 @@ returns-then-run-lt-WIDE c =
     let given = c.places_of-backslashes.ensures in
     let stops = c.bare.ensures (stops_of kind) bytes at (omega arith) w.bare given c.stops_in.ensures in
     let slashes = c.bare-2.ensures (λ b. b == backslash) bytes at (omega arith) w.bare given given in
-    let known = c.lowest-escapes.ensures
-    ∙ ap (λ (m : ℕ). m % 2 ^ run) (escapes_mask (known_of kind) bytes at _ _ c.requires.room slashes c.known_in.ensures) in
+    let known = c.ones_below.ensures
+    ∙ ap (λ (m : ℕ). count_ones (m % 2 ^ run)) (escapes_mask (known_of kind) bytes at _ _ c.requires.room slashes c.known_in.ensures) in
     let load = load_stops (known_of kind) (stops_of kind) bytes at c.args.found c.requires.room
     (backslash_goes_on kind) w run
-    (c.first_set-run.ensures ∙ ap (λ (m : ℕ). first_set m 64) stops) _ (ap count_ones known) c.if-run-lt-WIDE.true in
-    let size : at + run - at ≡ run = omega arith in
+    (c.first_set-run.ensures ∙ ap (λ (m : ℕ). first_set m 64) stops) _ known c.if-run-lt-WIDE.true in
     record {
       walked = load.0;
       stops = λ _. load.1;
       further = omega arith;
-      mask = λ _. known ∙ mask_low (is_escape_at (known_of kind) bytes) at 64 run (omega arith)
-          ∙ ap (mask_at (is_escape_at (known_of kind) bytes) at) (sym size);
     }
 
 pub returns : goal.returns
@@ -43,11 +40,11 @@ returns c =
     let given = c.places_of-backslashes.ensures in
     let stops = c.bare.ensures (stops_of kind) bytes at (omega arith) w.bare given c.stops_in.ensures in
     let slashes = c.bare-2.ensures (λ b. b == backslash) bytes at (omega arith) w.bare given given in
-    let known = c.lowest-escapes.ensures
-    ∙ ap (λ (m : ℕ). m % 2 ^ run) (escapes_mask (known_of kind) bytes at _ _ c.requires.room slashes c.known_in.ensures) in
+    let known = c.ones_below.ensures
+    ∙ ap (λ (m : ℕ). count_ones (m % 2 ^ run)) (escapes_mask (known_of kind) bytes at _ _ c.requires.room slashes c.known_in.ensures) in
     let last = c.escapes_next.ensures bytes at (omega arith) w.bare given in
     let walked = load_goes_on (known_of kind) (stops_of kind) bytes at c.args.found c.requires.room
     (backslash_goes_on kind) w run
-    (c.first_set-run.ensures ∙ ap (λ (m : ℕ). first_set m 64) stops) _ (ap count_ones known) c.escapes_next.result
+    (c.first_set-run.ensures ∙ ap (λ (m : ℕ). first_set m 64) stops) _ known c.escapes_next.result
     c.if-run-lt-WIDE.false last in
-    record { walked = walked; stops = λ short. absurd (omega arith); further = omega arith; mask = λ short. absurd (omega arith) }
+    record { walked = walked; stops = λ short. absurd (omega arith); further = omega arith }

@@ -17,13 +17,13 @@ stops_at bytes at end run within = eqb-true _ _ (not-false _ (run.stops within))
 pub loop-at-init : goal.loop-at-init
 loop-at-init c =
     let bytes = c.as_bytes-bytes.result.now in
-    let run = rw (← c.as_bytes-bytes.ensures.value) at c.requires.found in
+    let run = c.backslash_at-at.ensures in
     record {
       ordered = omega arith;
       within = run.within;
-      stopped = stops_at bytes 0 c.args.first run;
+      stopped = stops_at bytes 0 _ run;
       boundary = IsCharBoundary-start bytes c.as_bytes-bytes.ensures.utf8;
-      whole = rw c.requires.empty (left_run (known_of c.args.kind) bytes (λ b. false) 0 0 c.args.first (omega arith) run);
+      whole = rw c.requires.empty (left_run (known_of c.args.kind) bytes (λ b. false) 0 0 _ (omega arith) run);
       room = rw c.as_bytes-bytes.ensures.value c.requires.room;
     }
 
@@ -34,11 +34,11 @@ loop-at-preserved c =
     let bytes = c.as_bytes-bytes.result.now in
     let from = c.loop-at.from in
     let at = c.loop-at.at in
-    let end = c.backslash_at-at.result in
+    let end = c.backslash_at-at-in-loop-at.result in
     let inv = c.loop-at.invariant in
     let here : slice_index bytes at ≡ backslash = inv.stopped (omega arith) in
     let two : at + 2 ≡ at + 1 + 1 = omega arith in
-    let run = rw two at c.backslash_at-at.ensures in
+    let run = rw two at c.backslash_at-at-in-loop-at.ensures in
     elim c.if-is_known.branch [
       | then-is_known+in_ok-push_str w ↦
           let is : is_one_of known (slice_index bytes (at + 1)) ≡ true = sym c.is_known.ensures ∙ w.if-is_known.true in
