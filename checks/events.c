@@ -1,5 +1,5 @@
-/* Compares the items that events tell with those of `parse_lines_in`, in both dialects: of every text of at most six bytes
-   over eleven that mean something, alone, and of every text of at most five of them after each of some fronts of a line.
+/* Compares the items that events tell with the items of `parse_lines_in`, in both dialects: of every text of at most six
+   bytes over eleven that mean something, and of every text of at most five such bytes after each of some fronts of a line.
    `checks/events.sh` builds this and runs it. */
 #include "lp_checks.h"
 

@@ -23,8 +23,8 @@ pub fn render_name(report: &mut Report<'_>, name: &EscapedStr<'_>) {
     render_text(report, name.as_str());
 }
 
-// Whether `eq_text` says of a name that it is the text that was put for it, and that it is its spelling just where an
-// escape does not make it shorter.
+// Whether `eq_text` says of a name that it is the text that was put for it, and that it is its spelling if and only if no
+// escape makes it shorter.
 fn is_equal_as_put(name: Spelled<'_>, put: &[u8]) -> bool {
     let Ok(put) = str::from_utf8(put) else {
         return false;
@@ -33,8 +33,8 @@ fn is_equal_as_put(name: Spelled<'_>, put: &[u8]) -> bool {
     name.eq_text(put) && name.eq_text(name.spelled()) == is_as_spelled
 }
 
-/// A name as it is spelled, as `render_name` has it: a copy where it is not plain, and not one known escape alone. A `!`
-/// follows where `eq_text` denies the text.
+/// A name as it is spelled, in the form of `render_name`: a copy if it is neither plain nor a known escape alone. A `!`
+/// follows if `eq_text` denies the text.
 pub fn render_spelled(report: &mut Report<'_>, name: Spelled<'_>) {
     let len = name.len();
     let is_escape = name.spelled().len() == 2 && len == 1;
@@ -78,7 +78,7 @@ pub fn render_value(report: &mut Report<'_>, value: &FieldValue<'_>) {
     }
 }
 
-/// A value as it is spelled, as `render_value` has it.
+/// A value as it is spelled, in the form of `render_value`.
 pub fn render_spelled_value(report: &mut Report<'_>, value: SpelledValue<'_>) {
     match value {
         SpelledValue::I64(number) => {
@@ -178,7 +178,7 @@ pub fn render_fault(report: &mut Report<'_>, fault: &Error) {
     }
 }
 
-/// A fault as it is spelled, as `render_fault` has it.
+/// A fault as it is spelled, in the form of `render_fault`.
 pub fn render_spelled_fault(report: &mut Report<'_>, fault: SpelledFault<'_>) {
     match fault {
         SpelledFault::MeasurementValueInvalid => report.push(b"MeasurementValueInvalid"),

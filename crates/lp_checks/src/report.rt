@@ -8,7 +8,7 @@ use std::fmt;
 pub struct Report<'a> {
     out: &'a mut [u8],
     ends: &'a mut [u64],
-    // Where the entry begins that is being written, and where it ends so far.
+    // The entry that is being written begins at the first, and ends so far at the second.
     start: usize,
     len: usize,
     count: u64,
@@ -52,7 +52,7 @@ impl<'a> Report<'a> {
         self.len.saturating_sub(self.start)
     }
 
-    /// What the entry holds from this place of it on; nothing where some of it has no room.
+    /// What the entry holds from this place on; nothing if some of it has no room.
     pub fn entry_from(&self, place: usize) -> &[u8] {
         let from = self.start.saturating_add(place);
         if from > self.len || self.len > self.out.len() {
@@ -61,7 +61,7 @@ impl<'a> Report<'a> {
         &self.out[from..self.len]
     }
 
-    /// Moves what the entry holds from this place of it on to its front; nothing is moved where some of it has no room.
+    /// Moves what the entry holds from this place on to its front; nothing is moved if some of it has no room.
     pub fn move_to_front(&mut self, place: usize) {
         if self.start <= self.len && self.len <= self.out.len() {
             let entry = &mut self.out[self.start..self.len];
