@@ -1,5 +1,6 @@
 /* Refuses each request for memory in turn: for N = 1, 2, .. the Nth alone, until a run makes fewer than N requests.
-   What must come is written out here, from the format's rules. `checks/refusals.sh` builds this and runs it.
+   What must come is written out here, from the format's rules. The events of the same texts must make no request.
+   `checks/refusals.sh` builds this and runs it.
 
    malloc, realloc and free of the library come here by the linker's --wrap. */
 #include "lp_checks.h"
