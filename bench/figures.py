@@ -15,6 +15,7 @@ from typing import NamedTuple
 CALLS = {
     "parse": "parse",
     "next_into": "next_into",
+    "events": "events",
     "numbers": "parse, in numbers",
     "split": "split",
     "rebuild": "rebuild",
@@ -43,6 +44,7 @@ STREAMS = {
 BESIDE = {
     "numbers": "parse",
     "next_into": "parse",
+    "events": "parse",
     "lp_lines_next": "library parse",
     "lp_lines_block": "library parse",
     "lp_rebuild": "library rebuild",
@@ -59,6 +61,9 @@ BESIDE = {
 
 SAME_ANSWERS = ("numbers", "split", "build", *(call for call in BESIDE if BESIDE[call].startswith(("library ", "crate "))))
 """The calls whose answer is also that of the call that they are compared with."""
+
+SAME_AS_PARSE = ("next_into", "events")
+"""The calls whose answer is that of the library's own `parse`."""
 
 
 class Figure(NamedTuple):
@@ -104,6 +109,14 @@ def joined(own: dict[tuple[str, str], Row], others: dict[tuple[str, str], Row]) 
     return figures
 
 
+def compare_own(own: dict[tuple[str, str], Row]) -> None:
+    """Says where calls of the library differ that should give one answer."""
+    for (corpus, call), row in own.items():
+        wanted = own.get((corpus, "parse"))
+        if call in SAME_AS_PARSE and wanted and row.answer != wanted.answer:
+            print(f"{call} of {corpus}: {row.answer}, but parse gives {wanted.answer}", file=sys.stderr)
+
+
 def read(path: Path) -> tuple[list[str], list[Figure]]:
     """The notes and the figures of a file."""
     notes, figures = [], []
@@ -125,8 +138,10 @@ def shown(figure: Figure) -> str:
 
 
 def main() -> None:
-    own, beside, out = map(Path, sys.argv[1:4])
-    figures = joined(best(own), best(beside))
+    own_path, beside_path, out = map(Path, sys.argv[1:4])
+    own = best(own_path)
+    compare_own(own)
+    figures = joined(own, best(beside_path))
     with out.open("w") as file:
         file.writelines(f"# {note}\n" for note in sys.argv[4:])
         for figure in figures:

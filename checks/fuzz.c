@@ -118,6 +118,14 @@ static void check_batch(bool is_strict, const uint8_t *text, size_t len) {
     for (uint64_t place = 0; place < items.count; place++) MUST(is_same(&all, of_batch.count + place, &items, place));
 }
 
+/* The events of the text tell its items. */
+static void check_events(bool is_strict, const uint8_t *text, size_t len) {
+    all.count = lp_checks_events(is_strict, text, len, all.out, ROOM, all.ends, ENTRIES);
+    must_fit(&all);
+    MUST(all.count == items.count);
+    for (uint64_t place = 0; place < items.count; place++) MUST(is_same(&all, place, &items, place));
+}
+
 /* A comment before the text changes no item. The newline that ends it is escaped, so no piece ends there in the crate's
    dialect; in the strict one it does. */
 static void check_comment(bool is_strict, const uint8_t *text, size_t len) {
@@ -173,6 +181,7 @@ int LLVMFuzzerTestOneInput(const uint8_t *bytes, size_t len) {
     for (int is_strict = 0; is_strict < 2; is_strict++) {
         read_items(is_strict, text, len, &items);
         check_pieces(is_strict, text, len);
+        check_events(is_strict, text, len);
         rebuild(is_strict, text, len, &rebuilt);
         check_batch(is_strict, text, len);
         check_comment(is_strict, text, len);

@@ -1,5 +1,6 @@
 /* Refuses each request for memory in turn: for N = 1, 2, .. the Nth alone, until a run makes fewer than N requests.
-   What must come is written out here, from the format's rules. `checks/refusals.sh` builds this and runs it.
+   What must come is written out here, from the format's rules. The events of the same texts must make no request.
+   `checks/refusals.sh` builds this and runs it.
 
    malloc, realloc and free of the library come here by the linker's --wrap. */
 #include "lp_checks.h"
@@ -21,6 +22,7 @@ static unsigned long refuse; /* the request to refuse; 0: none */
 static size_t most;          /* the bytes of the largest of them */
 static long held;            /* blocks that it has not given back */
 static unsigned long runs;   /* all runs so far */
+static unsigned long told;   /* texts whose events were told */
 
 void *__real_malloc(size_t size);
 void *__real_realloc(void *block, size_t size);
@@ -130,6 +132,26 @@ static void call(enum call what, const char *text, unsigned long n) {
     end();
 }
 
+/* What the events of a text tell is what its items are, in both dialects, and is told without a request. */
+static void events_ask_nothing(const char *text) {
+    static uint8_t items[ROOM];
+    static uint64_t items_ends[ENTRIES];
+    const uint8_t *bytes = (const uint8_t *)text;
+    size_t len = strlen(text);
+    for (int is_strict = 0; is_strict < 2; is_strict++) {
+        uint64_t wanted = lp_checks_items(is_strict, bytes, len, items, ROOM, items_ends, ENTRIES);
+        if (wanted > ENTRIES || (wanted && items_ends[wanted - 1] > ROOM)) fail("the items have no room");
+        begin(0);
+        count = lp_checks_events(is_strict, bytes, len, out, ROOM, ends, ENTRIES);
+        end();
+        if (asked) fail("the events made %lu requests", asked);
+        if (count != wanted) fail("the events tell %lu items and not %lu", (unsigned long)count, (unsigned long)wanted);
+        if (memcmp(ends, items_ends, wanted * sizeof ends[0]) || memcmp(out, items, from(wanted)))
+            fail("the events tell other items");
+    }
+    told++;
+}
+
 /* The entries are as wanted, but for one that is refused; its place, or NOWHERE. */
 static size_t refused_entry(const struct entry *entries, size_t wanted) {
     size_t refused = NOWHERE;
@@ -149,6 +171,7 @@ static size_t refused_entry(const struct entry *entries, size_t wanted) {
 static void each_refused(enum call what, const char *text, const struct entry *entries, size_t wanted, unsigned long first) {
     long refused[ENTRIES] = {0};
     subject = text;
+    events_ask_nothing(text);
     for (unsigned long n = first + 1;; n++) {
         call(what, text, n);
         size_t place = refused_entry(entries, wanted);
@@ -393,6 +416,7 @@ static void written(void) {
     bool was_refused[COUNT(lines)] = {false};
     char whole[256], before[256];
     subject = "write_line";
+    events_ask_nothing(text);
     snprintf(whole, sizeof whole, "%s%s%s%s", start, lines[0], lines[1], lines[2]);
     for (unsigned long n = 2;; n++) { /* the first request is for `start` */
         bool is_refused = false;
@@ -427,6 +451,7 @@ static const char *const FAULTS =
 
 static void rebuild(bool is_strict) {
     subject = is_strict ? "rebuild in the strict dialect" : "rebuild";
+    if (!is_strict) events_ask_nothing(INPUT);
     for (unsigned long n = 1;; n++) {
         begin(n);
         count = lp_checks_rebuild(is_strict, (const uint8_t *)INPUT, strlen(INPUT), out, ROOM, ends, ENTRIES);
@@ -468,6 +493,7 @@ static void run(bool is_strict) {
 /* The largest request of a call is for so many bytes. */
 static void largest_is(enum call what, const char *text, size_t wanted) {
     subject = text;
+    events_ask_nothing(text);
     call(what, text, 0);
     if (most != wanted) fail("the largest request is for %zu bytes and should be for %zu", most, wanted);
 }
@@ -492,6 +518,6 @@ int main(void) {
         rebuild(is_strict);
         run(is_strict);
     }
-    printf("%lu runs", runs);
+    printf("%lu runs, and %lu texts whose events ask for nothing", runs, told);
     return 0;
 }

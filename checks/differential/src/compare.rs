@@ -251,6 +251,7 @@ fn write_line(builder: Building, line: &ParsedLine<'_>, literals: &[&str]) -> Bu
 pub struct Reports {
     pieces: Report,
     items: Report,
+    events: Report,
     bases: Report,
     shown: Report,
     written: Report,
@@ -261,32 +262,41 @@ impl Reports {
         Reports {
             pieces: Report::new(),
             items: Report::new(),
+            events: Report::new(),
             bases: Report::new(),
             shown: Report::new(),
             written: Report::new(),
         }
     }
 
-    /// Compares all that both give for a text: its pieces, and of each item what was read, its base, what is shown of it and
-    /// what is written. The number of items comes back.
-    pub fn compare(&mut self, text: &str) -> Outcome<usize> {
+    fn compare_pieces(&mut self, text: &str) -> Outcome<()> {
         let pieces = self.pieces.pieces(text);
         let theirs: Vec<&str> = split_lines(text).collect();
         must_count("pieces", pieces.count(), theirs.len())?;
         for (place, piece) in theirs.iter().enumerate() {
             must_equal("a piece", pieces.entry(place), piece)?;
         }
+        Ok(())
+    }
+
+    /// Compares all that both give for a text: its pieces, and of each item what was read, what is told of it, its base, what
+    /// is shown of it and what is written. The number of items comes back.
+    pub fn compare(&mut self, text: &str) -> Outcome<usize> {
+        self.compare_pieces(text)?;
         let theirs: Vec<Item<'_>> = parse_lines(text).collect();
         let items = self.items.items(text);
+        let events = self.events.events(text);
         let bases = self.bases.bases(text);
         let shown = self.shown.shown(text);
         let written = self.written.written(text);
         must_count("items", items.count(), theirs.len())?;
+        must_count("items by events", events.count(), theirs.len())?;
         must_count("bases", bases.count(), theirs.len())?;
         let mut shown_place = 0;
         let mut builder = LineProtocolBuilder::new();
         for (place, item) in theirs.into_iter().enumerate() {
             let told = items.entry(place);
+            must_equal("an item by its events", events.entry(place), told)?;
             let item = match item {
                 Ok(line) => {
                     let literals = compare_line(text, &line, told)?;

@@ -19,6 +19,15 @@ extern "C" {
         ends: *mut u64,
         entries: usize,
     ) -> u64;
+    fn lp_checks_events(
+        strict: bool,
+        text: *const u8,
+        len: usize,
+        out: *mut u8,
+        room: usize,
+        ends: *mut u64,
+        entries: usize,
+    ) -> u64;
     fn lp_checks_bases(
         text: *const u8,
         len: usize,
@@ -110,6 +119,12 @@ impl Report {
     pub fn items(&mut self, text: &str) -> &Self {
         self.fill(|out, room, ends, entries| unsafe {
             lp_checks_items(false, text.as_ptr(), text.len(), out, room, ends, entries)
+        })
+    }
+
+    pub fn events(&mut self, text: &str) -> &Self {
+        self.fill(|out, room, ends, entries| unsafe {
+            lp_checks_events(false, text.as_ptr(), text.len(), out, room, ends, entries)
         })
     }
 

@@ -4,15 +4,19 @@
 //! is that test alone, so that a driver can take its time off. No call keeps anything.
 #![tactic(auto)]
 
+mod told;
+
 ghost use Rattle.std.specs.Prelude.{◌↔◌, IsTrue, IsUtf8};
 
 use influxdb_line_protocol::builder::BeforeMeasurement;
 use influxdb_line_protocol::{
-    EscapedStr, FieldValue, LineProtocolBuilder, ParsedLine, parse_lines, split_lines,
+    Dialect, EscapedStr, FieldValue, LineProtocolBuilder, ParsedLine, parse_lines, read_events_in,
+    split_lines,
 };
 use lp_rebuild::rebuild;
 use std::alloc::Global;
 use std::num::f64_to_bits_with_nan;
+use told::Sum;
 
 /// Whether a text is UTF-8.
 #[unsafe(no_mangle)]
@@ -117,6 +121,17 @@ pub extern "C" fn lp_bench_next_into(alloc: Global, text: &[u8]) -> u64 {
         sum = sum.wrapping_add(one);
     }
     sum
+}
+
+/// The same as `lp_bench_parse`, from the events that a sink is told. It takes no memory.
+#[unsafe(no_mangle)]
+pub extern "C" fn lp_bench_events(text: &[u8]) -> u64 {
+    let Ok(text) = str::from_utf8(text) else {
+        return 0;
+    };
+    let mut sum = Sum::new();
+    read_events_in(Dialect::Crate, text, &mut sum);
+    sum.sum()
 }
 
 /// The same as `lp_bench_parse`, with each float made a number.

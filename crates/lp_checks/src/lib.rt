@@ -6,6 +6,7 @@
 #![tactic(auto)]
 
 mod calls;
+mod events;
 mod render;
 mod report;
 mod sinks;
@@ -13,10 +14,11 @@ mod sinks;
 ghost use Rattle.std.specs.Prelude.{IsUtf8};
 
 use calls::{Answer, Lines};
+use events::Items;
 use influxdb_line_protocol::builder::BeforeMeasurement;
 use influxdb_line_protocol::{
     Dialect, EscapedStr, LineProtocolBuilder, ParsedLine, parse_lines, parse_lines_in,
-    split_lines_in, write_line,
+    read_events_in, split_lines_in, write_line,
 };
 use lp_rebuild::{RunFault, rebuild_in, run_in};
 use report::Report;
@@ -79,6 +81,22 @@ pub extern "C" fn lp_checks_items(
         report.end();
     }
     report.count()
+}
+
+/// The items of a text as `lp_checks_items` has them, from the events that a sink is told. It takes no memory.
+#[unsafe(no_mangle)]
+pub extern "C" fn lp_checks_events(
+    is_strict: bool,
+    text: &[u8],
+    out: &mut [u8],
+    ends: &mut [u64],
+) -> u64
+    requires { IsUtf8 text.now }
+{
+    let text = unsafe { str::from_utf8_unchecked(text) };
+    let mut items = Items::new(out, ends);
+    read_events_in(dialect(is_strict), text, &mut items);
+    items.count()
 }
 
 // The base of a line's series, or its fault.

@@ -1,7 +1,9 @@
 //! What was read, as text that can be read in one way only: each text follows its length and a colon.
 
 use crate::report::Report;
-use influxdb_line_protocol::{Error, EscapedStr, FieldValue, OutOfRange, ParsedLine};
+use influxdb_line_protocol::{
+    Error, EscapedStr, FieldValue, OutOfRange, ParsedLine, Spelled, SpelledFault, SpelledValue,
+};
 use std::borrow::CowStr;
 use std::fmt::Write;
 
@@ -19,6 +21,38 @@ pub fn render_name(report: &mut Report<'_>, name: &EscapedStr<'_>) {
         EscapedStr::CopiedValue(_) => report.push(b"C"),
     }
     render_text(report, name.as_str());
+}
+
+// Whether `eq_text` says of a name that it is the text that was put for it, and that it is its spelling if and only if no
+// escape makes it shorter.
+fn is_equal_as_put(name: Spelled<'_>, put: &[u8]) -> bool {
+    let Ok(put) = str::from_utf8(put) else {
+        return false;
+    };
+    let is_as_spelled = name.len() == name.spelled().len();
+    name.eq_text(put) && name.eq_text(name.spelled()) == is_as_spelled
+}
+
+/// A name as it is spelled, in the form of `render_name`: a copy if it is neither plain nor a known escape alone. A `!`
+/// follows if `eq_text` denies the text.
+pub fn render_spelled(report: &mut Report<'_>, name: Spelled<'_>) {
+    let len = name.len();
+    let is_escape = name.spelled().len() == 2 && len == 1;
+    let letter = if name.is_plain() || is_escape {
+        'S'
+    } else {
+        'C'
+    };
+    let _ = write!(report, "{letter}{len}:");
+    let place = report.entry_len();
+    if name.is_plain() {
+        report.push(name.spelled().as_bytes());
+    } else {
+        report.put(name);
+    }
+    if !is_equal_as_put(name, report.entry_from(place)) {
+        report.push(b"!");
+    }
 }
 
 /// A value: a letter for its variant, and the number, the text or the word.
@@ -44,6 +78,29 @@ pub fn render_value(report: &mut Report<'_>, value: &FieldValue<'_>) {
     }
 }
 
+/// A value as it is spelled, in the form of `render_value`.
+pub fn render_spelled_value(report: &mut Report<'_>, value: SpelledValue<'_>) {
+    match value {
+        SpelledValue::I64(number) => {
+            let _ = write!(report, "i{number}");
+        }
+        SpelledValue::U64(number) => {
+            let _ = write!(report, "u{number}");
+        }
+        SpelledValue::F64(literal) => {
+            report.push(b"f");
+            render_text(report, literal.as_str());
+        }
+        SpelledValue::String(text) => {
+            report.push(b"s");
+            render_spelled(report, text);
+        }
+        SpelledValue::Boolean(value) => {
+            let _ = write!(report, "{value}");
+        }
+    }
+}
+
 // The tags, each after a comma; for an empty set a comma.
 fn render_tags(report: &mut Report<'_>, tags: &[(EscapedStr<'_>, EscapedStr<'_>)]) {
     if tags.is_empty() {
@@ -57,11 +114,16 @@ fn render_tags(report: &mut Report<'_>, tags: &[(EscapedStr<'_>, EscapedStr<'_>)
     }
 }
 
-/// A line: `line`, its raw text, its measurement, its tags, its fields, and its timestamp after `at`.
-pub fn render_line(report: &mut Report<'_>, line: &ParsedLine<'_>) {
+/// What a line begins with: `line`, and the raw text of its series.
+pub fn render_head(report: &mut Report<'_>, series: &str) {
     report.push(b"line ");
-    render_text(report, line.series.raw_input);
+    render_text(report, series);
     report.push(b" ");
+}
+
+/// A line: its head, its measurement, its tags, its fields, and its timestamp after `at`.
+pub fn render_line(report: &mut Report<'_>, line: &ParsedLine<'_>) {
+    render_head(report, line.series.raw_input);
     render_name(report, &line.series.measurement);
     if let Some(tags) = &line.series.tag_set {
         render_tags(report, tags.as_slice());
@@ -113,6 +175,30 @@ pub fn render_fault(report: &mut Report<'_>, fault: &Error) {
         Error::TagSetMalformed => report.push(b"TagSetMalformed"),
         Error::GenericParsingError { kind: _ } => report.push(b"GenericParsingError"),
         Error::OutOfMemory => report.push(b"OutOfMemory"),
+    }
+}
+
+/// A fault as it is spelled, in the form of `render_fault`.
+pub fn render_spelled_fault(report: &mut Report<'_>, fault: SpelledFault<'_>) {
+    match fault {
+        SpelledFault::MeasurementValueInvalid => report.push(b"MeasurementValueInvalid"),
+        SpelledFault::FieldSetMissing => report.push(b"FieldSetMissing"),
+        SpelledFault::IntegerValueInvalid { source, value } => {
+            render_range(report, "IntegerValueInvalid", source, value);
+        }
+        SpelledFault::UIntegerValueInvalid { source, value } => {
+            render_range(report, "UIntegerValueInvalid", source, value);
+        }
+        SpelledFault::TimestampValueInvalid { source, value } => {
+            render_range(report, "TimestampValueInvalid", source, value);
+        }
+        SpelledFault::EndsWithBackslash => report.push(b"EndsWithBackslash"),
+        SpelledFault::CannotParseEntireLine { trailing_content } => {
+            report.push(b"CannotParseEntireLine ");
+            render_text(report, trailing_content);
+        }
+        SpelledFault::TagSetMalformed => report.push(b"TagSetMalformed"),
+        SpelledFault::GenericParsingError { kind: _ } => report.push(b"GenericParsingError"),
     }
 }
 
