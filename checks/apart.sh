@@ -25,7 +25,8 @@ case " $* " in
 esac
 STUB
 chmod +x stub
-export LP_RELAY=$work/stub CUTS RELAYS
+mkdir waiting
+export LP_RELAY=$work/stub TMPDIR=$work/waiting CUTS RELAYS
 
 # Runs a command, and leaves `out`, `err` and `status`. Both outputs are pipes, also where no file can be written.
 run() {
@@ -86,6 +87,18 @@ CUTS=$cuts
 RELAYS='cat; [ "$1" != --strict ] || { echo "item 1: no line" >&2; exit 1; }'
 wanted 1 "$text" "part 4, item 1: no line" "$apart" "$file" 4 --strict
 [ "$(wc -l <err)" = 4 ]
+RELAYS='text=$(cat); printf %s "$text"; case $text in ,*) printf "item %s: no line\n" 1 2 >&2; exit 1 ;; esac'
+wanted 1 "$text" "part 3, item 2: no line" "$apart" "$file" 4
+grep -qx 'part 3, item 1: no line' err
+# Each relay waits until all run.
+RELAYS='echo >>running; tries=0; while [ "$(wc -l <running)" -lt 4 ] && [ $tries -lt 100 ]; do sleep 0.1; tries=$((tries + 1)); done
+[ $tries -lt 100 ] || exit 2; cat'
+wanted 0 "$text" "" "$apart" "$file" 4
+# A hundred parts, of which the last one has all.
+CUTS="yes 0 | head -n 99; echo 30"
+RELAYS="cat"
+wanted 0 "$text" "" "$apart" "$file" 100
+CUTS=$cuts
 
 # Wrong arguments. What can be read only once is not read.
 wanted 2 "" "apart: usage: *" "$apart"
@@ -123,8 +136,9 @@ relays_wanted() {
     RELAYS=$1
     wanted 2 "first line" "$2" "$apart" "$file" 4
 }
-relays_wanted 'text=$(cat); case $text in ,*) echo "lp_relay: why" >&2; exit 2 ;; *) printf %s "$text" ;; esac' \
+relays_wanted 'text=$(cat); case $text in ,*) printf "%s\n" "item 1: no line" "lp_relay: why" >&2; exit 2 ;; *) printf %s "$text" ;; esac' \
     "apart: part 3: the status of the relay is 2"
+grep -qx 'part 3, item 1: no line' err
 grep -qx 'part 3, lp_relay: why' err
 relays_wanted 'text=$(cat); case $text in ,*) kill -9 $$ ;; *) printf %s "$text" ;; esac' \
     "apart: part 3: the status of the relay is 137"
@@ -163,6 +177,10 @@ wanted 2 y "apart: the output cannot be written" to_a_closed_pipe
 faults_to_full() { "$apart" "$file" 4 2>/dev/full; }
 RELAYS='cat; echo "item 1: no line" >&2; exit 1'
 wanted 2 "first line" "" faults_to_full
+if [ -n "$(ls -A waiting)" ]; then
+    echo "apart: a run has left $(ls -A waiting) in TMPDIR"
+    exit 1
+fi
 echo "apart: $tried runs with a stub ended as they should"
 [ -n "$relay" ] || exit 0
 

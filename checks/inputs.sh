@@ -150,6 +150,11 @@ done >ends_wanted
 wanted 0 ends_wanted none "$relay --cut $parts"
 from slowly "$relay" --cut "$parts"
 wanted 0 ends_wanted none "$relay --cut $parts, of a slow pipe,"
+# As many parts as can be asked for. The first one has the only line.
+echo 'm a=1i' >lines
+yes 7 | head -n 1000000 >ends_wanted
+"$relay" --cut 1000000 <lines >out 2>err && status=0 || status=$?
+wanted 0 ends_wanted none "$relay --cut 1000000"
 echo "inputs: $runs runs over $((${#block} * blocks)) bytes and more gave what the table says"
 
 # at_once INPUT OUTPUT PLACE: what is put into a pipe in one write, and no more, gives all of an output before the pipe is closed.

@@ -24,27 +24,43 @@ compare() {
     for crate in "$@"; do
         diff -r -x out -x must-fail "$top/crates/$crate" "$made/to/crates/$crate"
         [ ! -e "$made/to/crates/$crate/must-fail" ]
-        [ "$(grep -c "^$crate:" "$made/to/crates.txt")" = 1 ]
+        [ "$(grep -cE "^$crate( [^:]*)?:" "$made/to/crates.txt")" = 1 ]
     done
 }
 
 library=(lp_format lp_scan lp_split lp_values lp_lines lp_build influxdb_line_protocol)
 mkdir -p "$made/to/crates/app/src"
-printf '# mine\napp: influxdb_line_protocol\n' >"$made/to/crates.txt"
+printf '# mine\napp: influxdb_line_protocol\nlp_lines_of_mine: app\n' >"$made/to/crates.txt"
 take 0 "$made/to"
 compare "${library[@]}"
 grep -q '^# mine$' "$made/to/crates.txt"
 grep -q '^app:' "$made/to/crates.txt"
+grep -q '^lp_lines_of_mine: app$' "$made/to/crates.txt"
 [ -d "$made/to/crates/app/src" ]
-mkdir "$made/to/crates/lp_scan/out"
+mkdir "$made/to/crates/lp_scan/out" "$made/to/crates/lp_lines/out"
+touch "$made/to/crates/lp_scan/out/mine" "$made/to/crates/lp_lines/out/mine"
 take 1 "$made/to"
 echo "// mine" >>"$made/to/crates/lp_scan/src/lib.rt"
-take 0 --update "$made/to" lp_rebuild
-compare "${library[@]}" lp_rebuild
-[ -d "$made/to/crates/lp_scan/out" ]
+# One of its crates is not there, and the others are.
+take 1 "$made/to" lp_relay_core
 [ ! -e "$made/to/crates/lp_relay_core" ]
+grep -q '^// mine$' "$made/to/crates/lp_scan/src/lib.rt"
+# A static library is named in another form. Its line comes once, however often it is taken.
+for _ in 1 2; do
+    take 0 --update "$made/to" lp_print lp_c
+    compare "${library[@]}" lp_rebuild lp_print lp_c
+done
+[ -e "$made/to/crates/lp_scan/out/mine" ] && [ -e "$made/to/crates/lp_lines/out/mine" ]
+[ ! -e "$made/to/crates/lp_relay_core" ]
+# A copy that fails, after three that do not.
+mkdir "$made/broken" "$made/half"
+printf '#!/bin/sh\ncase "$*" in *-xf*/lp_values) cat >/dev/null; exit 1 ;; esac\nexec %s "$@"\n' "$(command -v tar)" >"$made/broken/tar"
+chmod +x "$made/broken/tar"
+PATH=$made/broken:$PATH take 1 "$made/half"
+[ -z "$(ls -A "$made/half/crates")" ] && [ ! -e "$made/half/crates.txt" ]
 take 1 "$made/nowhere"
 take 1 "$made/to" no_such_crate
+take 1 "$made/to" lp_relay_core no_such_crate
 take 2
 take 2 --all "$made/to"
 [ -z "$(find "$made/to/crates" -name '.take.*')" ]

@@ -249,6 +249,22 @@ static bool is_tested(const struct shape *shape, struct lent *lent) {
     return must(good, "lp_line_is_admitted", shape);
 }
 
+/* Whether the base of the series that is handed in is safe: a space alone makes it unsafe, and so does a last value with a comma. */
+static bool is_told_safe(const struct shape *shape, struct lent *lent) {
+    const lp_line *line = &lent->rows[0].line;
+    const size_t parts_len = shape->tags + shape->fields;
+    const bool wanted = !(shape->escaped && shape->bytes == 1);
+    bool safe = !wanted;
+    bool good = lp_line_is_base_safe(line, lent->parts, parts_len, &safe) == LP_WRITTEN && safe == wanted;
+    lp_part *last_tag = &lent->parts[shape->tags - 1];
+    const lp_part tag = *last_tag;
+    last_tag->text.text = (lp_text){ (const uint8_t *)"a,", 2 };
+    safe = true;
+    good &= lp_line_is_base_safe(line, lent->parts, parts_len, &safe) == LP_WRITTEN && !safe;
+    *last_tag = tag;
+    return must(good, "lp_line_is_base_safe", shape);
+}
+
 /* The line is read, by itself and twice in a block, and handed in. */
 static bool is_right(const struct shape *shape) {
     struct text twice = { NULL, 0, 0 };
@@ -261,6 +277,7 @@ static bool is_right(const struct shape *shape) {
     bool good = reads_fault(shape) & reads_next(&once, shape, &lent);
     if (good) good = reads_block(&twice, shape, &lent);
     if (good) good = puts_line(&written, shape, &lent) & puts_base(shape, &lent) & is_tested(shape, &lent);
+    if (good) good = is_told_safe(shape, &lent);
     free(twice.at);
     free(lent.parts);
     free(lent.bytes);

@@ -2,6 +2,9 @@
 //!
 //! A [`Meter`] counts what the devices of a relay move. They hand on each call to a device of their own, so that what a
 //! relay promises of its bytes and failures is promised of theirs.
+ghost use Rattle.std.specs.Prelude.{◌≡◌, ◌≤◌, ◌+◌, ◌-◌, ◌^◌, length, min};
+ghost use Rattle.influxdb_line_protocol.specs.format.Bytes.{newlines_in};
+
 use lp_rebuild::{DeviceFault, Sink, Source};
 use std::cell::Cell;
 use std::time::{Clock, Duration, Instant};
@@ -83,14 +86,30 @@ fn tenths_of_megabytes_a_second(bytes: u64, elapsed: Duration) -> u64 {
     bytes / milliseconds.saturating_mul(100).max(1)
 }
 
+// So many and more, and the greatest number where no `u64` holds that.
+fn total(count: u64, more: usize) -> u64
+    ensures { result ≡ min (count + more) (2 ^ 64 - 1) }
+{
+    count.saturating_add(more as u64)
+}
+
 // Counts more of them.
 fn add(count: &Cell<u64>, more: usize) {
-    count.set(count.get().saturating_add(more as u64));
+    count.set(total(count.get(), more));
 }
 
 // How many newlines there are.
-fn newlines(bytes: &[u8]) -> usize {
-    bytes.iter().filter(|byte| **byte == b'\n').count()
+fn newlines(bytes: &[u8]) -> usize
+    ensures few { result ≤ length bytes.now }
+    ensures value { result ≡ newlines_in bytes.now }
+{
+    let mut count = 0;
+    for at in 0..bytes.len() {
+        if bytes[at] == b'\n' {
+            count += 1;
+        }
+    }
+    count
 }
 
 /// A source that shows on a meter what is read of another.

@@ -1,9 +1,12 @@
 //! Long and wide lines: what is read of them in both dialects, one by one and into one line, what is shown of them, and that they
-//! are written again; and copies of long names and values.
+//! are written again; and copies of long names and values, also of those that a sink is told.
+
+ghost use Rattle.std.specs.Prelude.{⊤};
 
 use crate::rows::{self, Row, assert_same};
 use influxdb_line_protocol::{
-    Dialect, EscapedStr, FieldValue, LineProtocolBuilder, is_admitted, write_line,
+    Dialect, EscapedStr, EventSink, FieldValue, LineProtocolBuilder, Spelled, SpelledFault,
+    SpelledValue, is_admitted, read_events_in, write_line,
 };
 use lp_vectors::fault::Fault;
 use lp_vectors::render;
@@ -72,6 +75,65 @@ fn texts_of_each_size_are_copied(rt: HostRuntime) -> Result<(), Fault> {
         is_copied(&rt, alloc, EscapedStr::from(text), text)?;
         let copy = String::from_str(alloc, text)?;
         is_copied(&rt, alloc, EscapedStr::CopiedValue(copy), text)?;
+    }
+    Ok(())
+}
+
+// Takes the text of each name and string that it is told, and counts those that are this one.
+#[derive(Drop)]
+struct Texts<'k> {
+    alloc: Global,
+    wanted: &'k str,
+    found: usize,
+}
+
+impl<'k> Texts<'k> {
+    fn take(&mut self, name: Spelled<'_>) {
+        if let Ok(text) = name.to_escaped_str(self.alloc) {
+            if text.as_str() == self.wanted {
+                self.found = self.found.saturating_add(1);
+            }
+        }
+    }
+}
+
+impl<'a, 'k> EventSink<'a> for Texts<'k> {
+    ghost takes = { λ _ _ _. ⊤ };
+
+    fn measurement(&mut self, name: Spelled<'a>) {
+        self.take(name);
+    }
+
+    fn tag(&mut self, key: Spelled<'a>, value: Spelled<'a>) {
+        self.take(key);
+        self.take(value);
+    }
+
+    fn field(&mut self, key: Spelled<'a>, value: SpelledValue<'a>) {
+        self.take(key);
+        if let SpelledValue::String(text) = value {
+            self.take(text);
+        }
+    }
+
+    fn end(&mut self, _series: &'a str, _timestamp: Option<i64>) {}
+
+    fn fault(&mut self, _fault: SpelledFault<'a>) {}
+}
+
+#[test]
+fn texts_of_each_size_that_a_sink_is_told_are_copied(rt: HostRuntime) -> Result<(), Fault> {
+    let alloc = rt.alloc();
+    for long in rows::long_texts(alloc)?.iter() {
+        let name = long.spelled.as_str();
+        let text = format!(in alloc; "{name},{name}={name} {name}=\"{name}\"")?;
+        let mut texts = Texts {
+            alloc,
+            wanted: long.text.as_str(),
+            found: 0,
+        };
+        read_events_in(Dialect::Crate, text.as_str(), &mut texts);
+        assert_eq!(rt; texts.found, 5, "of {} bytes", long.text.len());
     }
     Ok(())
 }

@@ -148,6 +148,46 @@ fn a_line_of_20_mb_is_skipped(rt: HostRuntime) -> Result<(), Fault> {
     Ok(())
 }
 
+// The fault lines of so many pieces of which the second one of each three is no text, and the third one too long.
+fn faults_of_pieces(alloc: Global, count: usize) -> Result<String, AllocError> {
+    let mut faults = String::new(alloc);
+    for number in 0..count {
+        let first = number.saturating_mul(3);
+        let (second, third) = (first.saturating_add(2), first.saturating_add(3));
+        writeln!(faults, "item {second}: the line is not UTF-8")?;
+        writeln!(faults, "item {third}: the line is too long")?;
+    }
+    Ok(faults)
+}
+
+#[test]
+fn many_pieces_that_are_no_text_or_too_long_are_faults(rt: HostRuntime) -> Result<(), Fault> {
+    let alloc = rt.alloc();
+    let count = 100_000;
+    let mut text = Vec::new(alloc);
+    for _ in 0..count {
+        text.extend_from_slice(b"m a=1i\n\xff\ntoo long\n")?;
+    }
+    let lines = repeated(alloc, "m a=1i\n", count)?;
+    let faults = faults_of_pieces(alloc, count)?;
+    let mut reader = text.as_slice();
+    let mut out = Kept::new(alloc);
+    let mut err = Kept::new(alloc);
+    let answer = relay_numbered(
+        alloc,
+        Dialect::Crate,
+        6,
+        Numbering::Items,
+        &mut reader,
+        &mut out,
+        &mut err,
+    );
+    assert!(rt; answer.is_ok());
+    assert_same(&rt, out.as_slice(), lines.as_bytes());
+    assert_same(&rt, err.as_slice(), faults.as_bytes());
+    Ok(())
+}
+
 // The fault of each line tells the part of it that is long, after these words.
 fn are_told(
     rt: &impl Abort,
