@@ -52,7 +52,12 @@ fn make_room<'a>(fields: &mut FieldSet<'a>) -> bool
 
 // Appends a field, unless memory for it is refused.
 #[inline(always)]
-fn push_field<'a>(alloc: Global, fields: &mut FieldSet<'a>, key: Spelled<'a>, value: SpelledValue<'a>) -> bool
+fn push_field<'a>(
+    alloc: Global,
+    fields: &mut FieldSet<'a>,
+    key: Spelled<'a>,
+    value: SpelledValue<'a>,
+) -> bool
     ensures pushed { result ≡ true
         → map field_of fields.new.items ≡ map field_of fields.old.items ++ spelled_field (key.entry, value.entry) ∷ [] }
     ensures needs { result ≡ false → (is_single_field (spelled_field (key.entry, value.entry)) ≡ false)
@@ -90,7 +95,12 @@ fn put_name<'a>(alloc: Global, line: &mut ParsedLine<'a>, name: Spelled<'a>) -> 
 
 // Puts a tag into a line that has a tag set, unless memory for it is refused.
 #[inline(always)]
-fn put_tag<'a>(alloc: Global, line: &mut ParsedLine<'a>, key: Spelled<'a>, value: Spelled<'a>) -> bool
+fn put_tag<'a>(
+    alloc: Global,
+    line: &mut ParsedLine<'a>,
+    key: Spelled<'a>,
+    value: Spelled<'a>,
+) -> bool
     ensures rooms { KeepsRooms line.old line.new }
     ensures puts { result ≡ true → Puts line.old (tagged (spelled_tag (key.entry, value.entry))) line.new }
     ensures needs { result ≡ false → NeedsRoom line.old (tagged (spelled_tag (key.entry, value.entry))) }
@@ -103,7 +113,12 @@ fn put_tag<'a>(alloc: Global, line: &mut ParsedLine<'a>, key: Spelled<'a>, value
 
 // Puts a field into a line, unless memory for it is refused.
 #[inline(always)]
-fn put_field<'a>(alloc: Global, line: &mut ParsedLine<'a>, key: Spelled<'a>, value: SpelledValue<'a>) -> bool
+fn put_field<'a>(
+    alloc: Global,
+    line: &mut ParsedLine<'a>,
+    key: Spelled<'a>,
+    value: SpelledValue<'a>,
+) -> bool
     ensures rooms { KeepsRooms line.old line.new }
     ensures puts { result ≡ true → Puts line.old (valued (spelled_field (key.entry, value.entry))) line.new }
     ensures needs { result ≡ false → NeedsRoom line.old (valued (spelled_field (key.entry, value.entry))) }

@@ -235,19 +235,28 @@ impl<'a> SpelledFault<'a> {
             SpelledFault::EndsWithBackslash => Error::EndsWithBackslash,
             SpelledFault::TagSetMalformed => Error::TagSetMalformed,
             SpelledFault::GenericParsingError { kind } => Error::GenericParsingError { kind },
-            SpelledFault::IntegerValueInvalid { source, value } => match String::from_str(alloc, value) {
+            SpelledFault::IntegerValueInvalid { source, value } => match String::from_str(
+                alloc, value,
+            ) {
                 Ok(value) => Error::IntegerValueInvalid { source, value },
                 Err(_) => Error::OutOfMemory,
             },
-            SpelledFault::UIntegerValueInvalid { source, value } => match String::from_str(alloc, value) {
+            SpelledFault::UIntegerValueInvalid { source, value } => match String::from_str(
+                alloc, value,
+            ) {
                 Ok(value) => Error::UIntegerValueInvalid { source, value },
                 Err(_) => Error::OutOfMemory,
             },
-            SpelledFault::TimestampValueInvalid { source, value } => match String::from_str(alloc, value) {
+            SpelledFault::TimestampValueInvalid { source, value } => match String::from_str(
+                alloc, value,
+            ) {
                 Ok(value) => Error::TimestampValueInvalid { source, value },
                 Err(_) => Error::OutOfMemory,
             },
-            SpelledFault::CannotParseEntireLine { trailing_content } => match String::from_str(alloc, trailing_content) {
+            SpelledFault::CannotParseEntireLine { trailing_content } => match String::from_str(
+                alloc,
+                trailing_content,
+            ) {
                 Ok(trailing_content) => Error::CannotParseEntireLine { trailing_content },
                 Err(_) => Error::OutOfMemory,
             },

@@ -1,15 +1,14 @@
--- Which lines are answered without memory, and what a reading needs memory for.
-use Rattle.std.specs.Prelude.{ℕ, zero, suc, ◌&&◌, Bool, true, false, not, List, length, drop, Result, Ok, Err, nat_le, ◌≡◌, ◌⊎◌}
+-- Which lines are answered without memory.
+use Rattle.std.specs.Prelude.{ℕ, zero, suc, ◌&&◌, Bool, true, false, not, List, length, drop, Result, Ok, Err, nat_le}
 use Rattle.std.specs.List.{list_all}
 use Rattle.lp_format.specs.format.Dialects.{Dialect}
 use Rattle.lp_format.specs.format.Bytes.{backslash, comma, space, is_one_of}
 use Rattle.lp_format.specs.format.Readings.{Text, Fault, measurement_value_invalid, field_set_missing, ends_with_backslash}
-use Rattle.lp_format.specs.format.Readings.{tag_set_malformed, take_while1, Read, Reading, reads, miss, fatal}
+use Rattle.lp_format.specs.format.Readings.{tag_set_malformed, take_while1, Read, Reading, reads}
 use Rattle.lp_format.specs.format.Names.{a_measurement, name}
 use Rattle.lp_format.specs.format.Values.{Value, string}
 use Rattle.lp_format.specs.format.Points.{Pair}
 use Rattle.lp_format.specs.format.Lines.{Line, some_tags, byte, tag, field, after_comma, tag_set, spaces, answer}
-use Rattle.lp_format.specs.format.Lines.{separated_list}
 
 -- whether a fault carries no text
 abbrev pub carries_no_text : Fault → Bool
@@ -96,30 +95,3 @@ inline_fields = 4
 -- `inline_fields` fields, which are 4, are read, and the answer needs none
 abbrev pub is_light : Dialect → List ℕ → Bool
 is_light dialect line = is_light_in inline_tags inline_fields dialect line
-
--- a reading needs memory where what is read is not light, or its fault carries a text
-abbrev pub NeedsMemory : {A : Type 0} → (A → Bool) → Reading A → Type 0
-NeedsMemory is_light miss = ⊥
-NeedsMemory is_light (fatal fault) = carries_no_text fault ≡ false
-NeedsMemory is_light (reads x rest) = is_light x ≡ false
-
--- whether a text holds a backslash
-abbrev pub HasBackslash : List ℕ → Type 0
-HasBackslash text = is_one_of text backslash ≡ true
-
--- reading a set at the start of a text needs memory: the fault carries a text or the text holds a backslash, or the text
--- holds one, and what is read is not light
-abbrev pub CopiesIn : {A : Type 0} → (A → Bool) → List ℕ → Reading (List A) → Type 0
-CopiesIn is_light text miss = ⊥
-CopiesIn is_light text (fatal fault) = (not (is_one_of text backslash) && carries_no_text fault) ≡ false
-CopiesIn is_light text (reads xs rest) = HasBackslash text × (list_all is_light xs ≡ false)
-
--- reading those that are joined by commas needs memory: there are more than so many, or for one of them
-abbrev pub SetNeedsMemory : {A : Type 0} → ℕ → (A → Bool) → (List ℕ → Reading A) → List ℕ → Type 0
-SetNeedsMemory room is_light one text =
-    (nat_le (read_count one text) room ≡ false) ⊎ CopiesIn is_light text (separated_list one text)
-
--- reading the tags after a measurement needs memory where there is room for so many: a comma is there, and those
--- after it do
-abbrev pub TagsNeedMemory : ℕ → List ℕ → Type 0
-TagsNeedMemory room text = (after : List ℕ) × (byte comma text ≡ reads comma after) × SetNeedsMemory room is_single_tag tag after

@@ -1,6 +1,5 @@
--- What a reader of the code returned, or filled in place, against what reading gives.
-use Rattle.std.specs.Prelude.{◌≡◌, ◌≢◌, ℕ, List, Option, Some, None, IfSome, Result, Ok, Err, string_bytes}
-use Rattle.std.specs.Borrow.{Bor}
+-- The faults and the kinds of name of the code, as the definitions have them.
+use Rattle.std.specs.Prelude.{◌≢◌, Option, Some, None, IfSome, Result, Err, string_bytes}
 use Rattle.lp_values.specs.declared.error.Error.{Error}
 use Rattle.lp_values.specs.declared.error.Error.TheVariants as error
 use Rattle.lp_values.specs.declared.error.OutOfRange.{OutOfRange}
@@ -11,7 +10,6 @@ use Rattle.lp_format.specs.format.Names as names
 use Rattle.lp_format.specs.format.Readings.{Side, above, below, Fault, integer_value_invalid, uinteger_value_invalid}
 use Rattle.lp_format.specs.format.Readings.{timestamp_value_invalid, measurement_value_invalid, field_set_missing}
 use Rattle.lp_format.specs.format.Readings.{ends_with_backslash, tag_set_malformed, take_while1, cannot_parse_entire_line}
-use Rattle.lp_format.specs.format.Readings.{Read, Reading, miss, fatal, reads}
 
 -- the kind that the code's word names
 abbrev pub kind_of : NameKind → names.NameKind
@@ -43,32 +41,6 @@ abbrev pub IsFault : Error → (Fault → Type 0) → Type 0
 IsFault (error.DuplicateTag key) Is = ⊥
 IsFault e Is = IfSome (fault_of e) Is
 
--- what the code fails with is the fault that reading gives
-abbrev pub FailsOn : {A : Type 0} → Error → Reading A → Type 0
-FailsOn error reading = IsFault error (λ fault. reading ≡ fatal fault)
-
--- what the code read, seen by view, is what reading gives
-abbrev pub Gives : {X A : Type 0} → (X → A) → Result (Option (X × Bor (List ℕ))) Error → Reading A → Type 0
-Gives view (Ok None) reading = reading ≡ miss
-Gives view (Ok (Some p)) reading = reading ≡ reads (view p.0) p.1.now
-Gives view (Err e) reading = FailsOn e reading
-
--- what the code read, seen by view, is what must be read, or the fault is that one
-abbrev pub GivesRead : {X A : Type 0} → (X → A) → Result (X × Bor (List ℕ)) Error → Result (Read A) Fault → Type 0
-GivesRead view (Ok p) wanted = wanted ≡ Ok (record { value = view p.0; rest = p.1.now })
-GivesRead view (Err e) wanted = IsFault e (λ fault. wanted ≡ Err fault)
-
 -- the code did not answer `OutOfMemory`
 abbrev pub IsNotOutOfMemory : {X : Type 0} → Result X Error → Type 0
 IsNotOutOfMemory result = result ≢ Err error.OutOfMemory
-
--- this was filled in, and with the rest that the code returned it is what reading gives
-abbrev pub Fills : {A : Type 0} → A → Result (Option (Bor (List ℕ))) Error → Reading A → Type 0
-Fills x (Ok None) reading = reading ≡ miss
-Fills x (Ok (Some rest)) reading = reading ≡ reads x rest.now
-Fills x (Err e) reading = FailsOn e reading
-
--- this was filled in, and with the rest that the code returned it is what must be read, or the fault is that one
-abbrev pub FillsRead : {A : Type 0} → A → Result (Bor (List ℕ)) Error → Result (Read A) Fault → Type 0
-FillsRead x (Ok rest) wanted = wanted ≡ Ok (record { value = x; rest = rest.now })
-FillsRead x (Err e) wanted = IsFault e (λ fault. wanted ≡ Err fault)

@@ -1,5 +1,5 @@
 -- What a sink was told, one event after another.
-use Rattle.std.proofs.Common.{◌≡◌, ℕ, ◌+◌, ◌<◌, List, [], ◌∷◌, ◌++◌, length, length-append, map, refl, arith, inl, inr, Bool}
+use Rattle.std.proofs.Common.{◌≡◌, ℕ, ◌+◌, ◌<◌, List, [], ◌∷◌, ◌++◌, length, length-append, map, refl, arith, inl, inr}
 use Rattle.std.specs.Prelude.{Some, Ok}
 use Rattle.std.specs.Borrow.{Bor}
 use Rattle.std.proofs.lemmas.List.{map_push}
@@ -8,7 +8,6 @@ use Rattle.lp_format.specs.format.Readings.{Fault, Reading, fatal, miss, reads}
 use Rattle.lp_format.specs.format.Lines.{byte, separated_list}
 use Rattle.lp_lines.specs.code.Events.{AreCounted, Event, TakesAll, WasToldParts}
 use Rattle.lp_lines.proofs.lemmas.fields.ManyLemmas.{Reached, SoFar, last_read, reached_all, reached_fatal, reached_more}
-use Rattle.lp_values.proofs.lemmas.fields.ReadingLemmas.{PairRead}
 
 -- some events and then others
 pub takes_append : {S : Type 0} (takes : S → Event → S → Type 0) (before mid after : S) (events others : List Event)
@@ -29,8 +28,7 @@ abbrev pub ToldSoFar : {S A : Type 0} → (S → Event → S → Type 0) → (A 
 ToldSoFar takes event one before after text count rest place =
     WasToldParts takes event before after (λ parts. (count ≡ length parts) × Reached one text parts rest place)
 
-module _ {S A : Type 0} (takes : S → Event → S → Type 0) (event : A → Event) (is_single : A → Bool) (one : List ℕ → Reading A)
-    (read : (text : List ℕ) (x : A) (rest : List ℕ) → one text ≡ reads x rest → PairRead is_single text x rest) where
+module _ {S A : Type 0} (takes : S → Event → S → Type 0) (event : A → Event) (one : List ℕ → Reading A) where
   -- nothing was told yet
   pub told_none : (before : S) (text : List ℕ) → ToldSoFar takes event one before before text 0 text text
   told_none before text = record { parts = []; told = refl; are = (refl, inl (refl, refl)) }
@@ -47,7 +45,7 @@ module _ {S A : Type 0} (takes : S → Event → S → Type 0) (event : A → Ev
         told = rw (map_push event parts x) (takes_more takes before mid after (map event parts) (event x) so_far.told told);
         are = (
           (let count = so_far.are.0 in omega (arith, count, length-append parts (x ∷ []))),
-          reached_more is_single one read end x so_far.are.1 is less,
+          reached_more one end x so_far.are.1 is less,
         );
       }
 
@@ -70,7 +68,7 @@ module _ {S A : Type 0} (takes : S → Event → S → Type 0) (event : A → Ev
       → WasToldParts takes event before after (AreCounted (Ok (Some (count + 1, end))) (separated_list one text))
   told_last before mid after text count rest place x end so_far is less told none =
       let more = told_more before mid after text count rest place x end.now so_far is less told in
-      record { parts = more.parts; told = more.told; are = (more.are.0, last_read is_single one read more.are.1 none) }
+      record { parts = more.parts; told = more.told; are = (more.are.0, last_read one more.are.1 none) }
 
   -- no part reads at the place: these were all
   pub told_all : (before after : S) (text : List ℕ) (count : ℕ) (rest : Bor (List ℕ)) (place : List ℕ)
@@ -80,7 +78,7 @@ module _ {S A : Type 0} (takes : S → Event → S → Type 0) (event : A → Ev
       record {
         parts = so_far.parts;
         told = so_far.told;
-        are = (so_far.are.0, reached_all is_single one read so_far.are.1 none (let count = so_far.are.0 in omega arith));
+        are = (so_far.are.0, reached_all one so_far.are.1 none (let count = so_far.are.0 in omega arith));
       }
 
   -- what is at the place is fatal
@@ -88,4 +86,4 @@ module _ {S A : Type 0} (takes : S → Event → S → Type 0) (event : A → Ev
       → ToldSoFar takes event one before after text count rest place → one place ≡ fatal fault
       → WasToldParts takes event before after (λ parts. separated_list one text ≡ fatal fault)
   told_fatal before after text count rest place fault so_far is =
-      record { parts = so_far.parts; told = so_far.told; are = reached_fatal is_single one read fault so_far.are.1 is }
+      record { parts = so_far.parts; told = so_far.told; are = reached_fatal one fault so_far.are.1 is }

@@ -1,21 +1,16 @@
 -- How many that are joined by commas are read one after another.
-use Rattle.std.proofs.Common.{◌≡◌, ℕ, zero, suc, ◌+◌, ◌<◌, ◌≤◌, List, [], ◌∷◌, ◌++◌, length, length-append, Bool, true, false, not, ◌&&◌}
+use Rattle.std.proofs.Common.{◌≡◌, ℕ, zero, suc, ◌<◌, ◌≤◌, List, [], ◌∷◌, ◌++◌, length, length-append}
 use Rattle.std.proofs.Common.{refl, sym, ap, ◌∙◌, arith, inl, inr}
 use Rattle.std.specs.Prelude.{◌⊎◌}
-use Rattle.std.specs.List.{list_all}
-use Rattle.std.proofs.lemmas.Bool.{and_left, and_right, lt-leb}
 use Rattle.std.proofs.lemmas.List.{append_assoc, append-nil}
-use Rattle.std.proofs.lemmas.List.Folds.{list_all-append}
-use Rattle.lp_format.specs.format.Bytes.{backslash, comma, is_one_of}
+use Rattle.lp_format.specs.format.Bytes.{comma}
 use Rattle.lp_format.specs.format.Readings.{Fault, Reading, miss, fatal, reads}
 use Rattle.lp_format.specs.format.Lines.{after_comma, byte, separated_list, many, prepend}
-use Rattle.lp_format.specs.code.Light.{carries_no_text, many_count, read_count, NeedsMemory, HasBackslash, CopiesIn}
-use Rattle.lp_format.specs.code.Light.{SetNeedsMemory}
-use Rattle.lp_values.specs.code.Outcomes.{FailsOn, IsFault}
+use Rattle.lp_values.specs.code.Outcomes.{IsFault}
 use Rattle.lp_values.specs.declared.error.Error.{Error}
 use Rattle.lp_values.specs.declared.error.Error.TheVariants as error
-use Rattle.lp_values.proofs.lemmas.fields.ReadingLemmas.{EndsIn, EndsIn-end, EndsIn-self, bind_reads, byte_ends, PairRead}
-use Rattle.lp_values.proofs.lemmas.fields.ReadingLemmas.{backslash_at_end, after_comma_read}
+use Rattle.lp_values.proofs.lemmas.fields.ReadingLemmas.{EndsIn, EndsIn-end, EndsIn-self, bind_reads, byte_ends}
+use Rattle.lp_values.proofs.lemmas.fields.ReadingLemmas.{after_comma_ends}
 
 -- those that are read after others
 prepend-prepend : {A : Type 0} (xs ys : List A) (r : Reading (List A)) → prepend xs (prepend ys r) ≡ prepend (xs ++ ys) r
@@ -42,27 +37,12 @@ carried_on error.TagSetMalformed P Q on h = on _ h
 carried_on (error.GenericParsingError kind) P Q on h = on _ h
 carried_on error.OutOfMemory P Q on h = tt
 
--- an error of one reading is that of another
-pub fails_too : {A B : Type 0} (e : Error) (r : Reading A) (whole : Reading B)
-    → ((f : Fault) → r ≡ fatal f → whole ≡ fatal f) → FailsOn e r → FailsOn e whole
-fails_too e r whole on h = carried_on e (λ f. r ≡ fatal f) (λ f. whole ≡ fatal f) on h
-
--- a set of which one part is not light is not
-not_all_after : {A : Type 0} (p : A → Bool) (xs ys : List A) → list_all p xs ≡ false → list_all p (xs ++ ys) ≡ false
-not_all_after p xs ys h = list_all-append p xs ys ∙ and_left (list_all p xs) (list_all p ys) h
-
--- not all pass if the last does not
-not_all_last : {A : Type 0} (p : A → Bool) (xs : List A) (y : A) → p y ≡ false → list_all p (xs ++ y ∷ []) ≡ false
-not_all_last p xs y h = list_all-append p xs (y ∷ []) ∙ and_right (list_all p xs) (p y && true) (and_left (p y) true h)
-
 -- what is read of a text whose front was read: `done` was read, `rest` is left, and the whole is done and as many as
 -- are at the start of the rest
 pub record SoFar {A : Type 0} (one : List ℕ → Reading A) (text : List ℕ) (done : List A) (rest : List ℕ) : Type 0 where
   pub fuel : ℕ
   pub enough : length rest ≤ fuel
   pub is : separated_list one text ≡ prepend done (many (after_comma one) fuel rest)
-  pub counted : read_count one text ≡ length done + many_count (after_comma one) fuel rest
-  pub ends : EndsIn text rest
 
 -- some were read, and a comma after them: the next one may come after it
 pub record AtNext {A : Type 0} (one : List ℕ → Reading A) (text : List ℕ) (done : List A) (rest place : List ℕ) : Type 0 where
@@ -74,36 +54,11 @@ pub record AtNext {A : Type 0} (one : List ℕ → Reading A) (text : List ℕ) 
 abbrev pub Reached : {A : Type 0} → (List ℕ → Reading A) → List ℕ → List A → List ℕ → List ℕ → Type 0
 Reached one text done rest place = ((done ≡ []) × (place ≡ text)) ⊎ AtNext one text done rest place
 
--- elements before a miss are a miss only of what follows
-onto_miss : {A : Type 0} (xs : List A) (r : Reading (List A)) → prepend xs r ≡ miss → r ≡ miss
-onto_miss xs miss e = refl
-onto_miss xs (fatal f) e = absurd (cc)
-onto_miss xs (reads ys end) e = absurd (cc)
-
--- many never misses
-many_reads : {A : Type 0} (one : List ℕ → Reading A) (n : ℕ) (rest : List ℕ) → many one n rest ≡ miss → ⊥
-many_reads one zero rest e = cc
-many_reads {A} one (suc n) rest e = go (one rest) refl (λ after. many_reads one n after)
-  where
-    -- many elements are never missed
-    go : (r : Reading A) → one rest ≡ r → ((after : List ℕ) → many one n after ≡ miss → ⊥) → ⊥
-    go miss f never = let m = rw f at e in cc
-    go (fatal g) f never = let m = rw f at e in cc
-    go (reads x after) f never = never after (onto_miss (x ∷ []) (many one n after) (rw f at e))
-
-module _ {A : Type 0} (is_single : A → Bool) (one : List ℕ → Reading A)
-    (read : (text : List ℕ) (x : A) (rest : List ℕ) → one text ≡ reads x rest → PairRead is_single text x rest) where
-  -- a copy before those that are read after it
-  copies_onto : (text : List ℕ) (xs : List A) (r : Reading (List A)) → HasBackslash text
-      → list_all is_single xs ≡ false → (r ≡ miss → ⊥) → CopiesIn is_single text (prepend xs r)
-  copies_onto text xs miss some copied never = never refl
-  copies_onto text xs (fatal e) some copied never = rw some refl
-  copies_onto text xs (reads more rest) some copied never = (some, not_all_after is_single xs more copied)
-
+module _ {A : Type 0} (one : List ℕ → Reading A) where
   -- after the first element the list has it alone
   pub so_far_start : (x : A) (text rest : List ℕ) → one text ≡ reads x rest → SoFar one text (x ∷ []) rest
   so_far_start x text rest e =
-      record { fuel = length rest; enough = omega arith; is = rw e refl; counted = rw e (omega arith); ends = (read text x rest e).ends }
+      record { fuel = length rest; enough = omega arith; is = rw e refl }
 
   -- where no comma and element follow, the list has ended
   pub so_far_end : (text : List ℕ) (done : List A) (rest : List ℕ) → SoFar one text done rest
@@ -115,20 +70,17 @@ module _ {A : Type 0} (is_single : A → Bool) (one : List ℕ → Reading A)
   pub so_far_more : (text : List ℕ) (done : List A) (rest after : List ℕ) (y : A) → SoFar one text done rest
       → after_comma one rest ≡ reads y after
       → length after < length rest → SoFar one text (done ++ y ∷ []) after
-  so_far_more text done rest after y so_far e less = more so_far.fuel so_far.enough so_far.is so_far.counted
+  so_far_more text done rest after y so_far e less = more so_far.fuel so_far.enough so_far.is
     where
-      -- an element more is in the list, and counted
+      -- an element more is in the list
       more : (n : ℕ) → length rest ≤ n → separated_list one text ≡ prepend done (many (after_comma one) n rest)
-          → read_count one text ≡ length done + many_count (after_comma one) n rest
           → SoFar one text (done ++ y ∷ []) after
-      more zero room is counted = absurd (omega arith)
-      more (suc n) room is counted =
+      more zero room is = absurd (omega arith)
+      more (suc n) room is =
           record {
             fuel = n;
             enough = omega arith;
             is = is ∙ rw e (prepend-prepend done (y ∷ []) (many (after_comma one) n after));
-            counted = (let is = rw e at counted in omega (arith, is, length-append done (y ∷ [])));
-            ends = EndsIn-end text rest after so_far.ends (after_comma_read is_single one read rest y after e).ends;
           }
 
   -- what is fatal after a comma is fatal for all
@@ -142,46 +94,6 @@ module _ {A : Type 0} (is_single : A → Bool) (one : List ℕ → Reading A)
       fails zero [] room found is = cc
       fails zero (b ∷ rest) room found is = absurd (omega arith)
       fails (suc n) rest room found is = is ∙ rw found refl
-
-  -- the first needs memory
-  pub first_needs : (room : ℕ) (text : List ℕ) → NeedsMemory is_single (one text) → SetNeedsMemory room is_single one text
-  first_needs room text needs = inr (go (one text) refl needs)
-    where
-      -- a first element that needs a copy, needs it for the list
-      go : (r : Reading A) → one text ≡ r → NeedsMemory is_single r → CopiesIn is_single text (separated_list one text)
-      go miss e h = absurd h
-      go (fatal f) e h = rw e (and_right (not (is_one_of text backslash)) (carries_no_text f) h)
-      go (reads x rest) e h =
-          rw e
-          (copies_onto text (x ∷ []) (many (after_comma one) (length rest) rest) ((read text x rest e).copied h)
-          (and_left (is_single x) true h)
-          (many_reads (after_comma one) (length rest) rest))
-
-  -- one after a comma needs memory
-  pub next_needs : (room : ℕ) (text : List ℕ) (done : List A) (rest : List ℕ) → SoFar one text done rest
-      → NeedsMemory is_single (after_comma one rest) → SetNeedsMemory room is_single one text
-  next_needs room text done rest so_far needs = inr (go (after_comma one rest) refl needs so_far.fuel so_far.enough so_far.is)
-    where
-      -- a next element that needs a copy, needs it for the list
-      go : (r : Reading A) → after_comma one rest ≡ r → NeedsMemory is_single r → (n : ℕ) → length rest ≤ n
-          → separated_list one text ≡ prepend done (many (after_comma one) n rest)
-          → CopiesIn is_single text (separated_list one text)
-      go miss e h n room is = absurd h
-      go (fatal f) e h n room is = rw (so_far_fatal text done rest f so_far e) (and_right (not (is_one_of text backslash)) (carries_no_text f) h)
-      go (reads x after) e h zero room is =
-          let front = (after_comma_read is_single one read rest x after e).copied h in
-          absurd (none rest room front)
-        where
-          -- an empty text has no backslash
-          none : (rest : List ℕ) → length rest ≤ 0 → HasBackslash rest → ⊥
-          none [] l h = cc
-          none (b ∷ rest) l h = absurd (omega arith)
-      go (reads x after) e h (suc n) room is =
-          let some = backslash_at_end text rest so_far.ends ((after_comma_read is_single one read rest x after e).copied h) in
-          let whole : separated_list one text ≡ prepend (done ++ x ∷ []) (many (after_comma one) n after) = is
-          ∙ rw e (prepend-prepend done (x ∷ []) (many (after_comma one) n after)) in
-          rw whole (copies_onto text (done ++ x ∷ []) (many (after_comma one) n after) some
-          (not_all_last is_single done x h) (many_reads (after_comma one) n after))
 
   -- what is read after a comma is read where the next one may be
   next_is : (rest place : List ℕ) → byte comma rest ≡ reads comma place → after_comma one rest ≡ one place
@@ -204,13 +116,6 @@ module _ {A : Type 0} (is_single : A → Bool) (one : List ℕ → Reading A)
   reached_fatal {text} {done} {rest} {place} e (inr more) found =
       so_far_fatal text done rest e more.so_far (next_is rest place more.mark ∙ found)
 
-  -- what is read where the next one may be needs memory
-  pub reached_needs : {text : List ℕ} {done : List A} {rest place : List ℕ} (room : ℕ)
-      → Reached one text done rest place → NeedsMemory is_single (one place) → SetNeedsMemory room is_single one text
-  reached_needs {text} {done} {rest} {place} room (inl first) needs = first_needs room text (rw first.1 at needs)
-  reached_needs {text} {done} {rest} {place} room (inr more) needs = next_needs room text done rest more.so_far
-      (rw (next_is rest place more.mark) needs)
-
   -- nothing is read where the next one may be: these are all
   pub reached_all : {text : List ℕ} {done : List A} {rest place : List ℕ} → Reached one text done rest place
       → one place ≡ miss → 0 < length done → separated_list one text ≡ reads done rest
@@ -222,12 +127,8 @@ module _ {A : Type 0} (is_single : A → Bool) (one : List ℕ → Reading A)
       → byte comma rest ≡ miss → separated_list one text ≡ reads done rest
   last_read {text} {done} {rest} so_far none = so_far_end text done rest so_far (rw none refl)
 
-  -- there is one more than there is room for
-  pub more_than_room : {text : List ℕ} {done : List A} {rest : List ℕ} (room : ℕ) → SoFar one text done rest
-      → room < length done → SetNeedsMemory room is_single one text
-  more_than_room {text} {done} {rest} room so_far over =
-      inl (lt-leb (read_count one text) room (let counted = so_far.counted in omega arith))
-
+module _ {A : Type 0} (one : List ℕ → Reading A)
+    (ends : (text : List ℕ) (x : A) (rest : List ℕ) → one text ≡ reads x rest → EndsIn text rest) where
   -- what is after as many as are at the start ends the text
   onto_reads : (xs : List A) (r : Reading (List A)) (ys : List A) (rest : List ℕ) → prepend xs r ≡ reads ys rest
       → (more : List A) × (r ≡ reads more rest)
@@ -248,11 +149,11 @@ module _ {A : Type 0} (is_single : A → Bool) (one : List ℕ → Reading A)
       go (fatal g) f more = absurd (let m = rw f at e in cc)
       go (reads x after) f more =
           let m = onto_reads (x ∷ []) (many (after_comma one) n after) xs rest (rw f at e) in
-          EndsIn-end text after rest (after_comma_read is_single one read text x after f).ends (more after m.0 m.1)
+          EndsIn-end text after rest (after_comma_ends one ends text x after f) (more after m.0 m.1)
 
   -- so does what is after those that are joined by commas
   pub joined_ends : (text : List ℕ) (xs : List A) (rest : List ℕ) → separated_list one text ≡ reads xs rest → EndsIn text rest
   joined_ends text xs rest e =
       let first = bind_reads (one text) _ xs rest e in
       let m = onto_reads (first.first ∷ []) (many (after_comma one) (length first.mid) first.mid) xs rest first.next in
-      EndsIn-end text first.mid rest (read text first.first first.mid first.was).ends (many_ends (length first.mid) first.mid m.0 rest m.1)
+      EndsIn-end text first.mid rest (ends text first.first first.mid first.was) (many_ends (length first.mid) first.mid m.0 rest m.1)

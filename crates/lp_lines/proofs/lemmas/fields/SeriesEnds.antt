@@ -6,8 +6,7 @@ use Rattle.lp_format.specs.format.Readings.{Fault, Text, Read, Reading, miss, fa
 use Rattle.lp_format.specs.format.Names.{name, a_measurement}
 use Rattle.lp_format.specs.format.Points.{Pair}
 use Rattle.lp_format.specs.format.Lines.{byte, separated_list, tag, tag_set}
-use Rattle.lp_format.specs.code.Light.{is_single_tag}
-use Rattle.lp_values.proofs.lemmas.fields.ReadingLemmas.{EndsIn, EndsIn-end, EndsIn-self, byte_ends, name_ends, tag_read}
+use Rattle.lp_values.proofs.lemmas.fields.ReadingLemmas.{EndsIn, EndsIn-end, EndsIn-self, byte_ends, name_ends, tag_ends}
 use Rattle.lp_lines.proofs.lemmas.fields.ManyLemmas.{joined_ends}
 
 -- these tags were read, and this is left
@@ -30,7 +29,7 @@ tag_set_ends text t e = go (byte comma text) refl
     after c mark (fatal f) m j = absurd (let h = rw (m, j) at e in cc)
     after c mark (reads xs rest) m j =
         let same = value_rest (Some xs) rest (rw (m, j) at e) in
-        rw (← same) (EndsIn-end text mark rest (byte_ends comma text c mark m) (joined_ends is_single_tag tag tag_read mark xs rest j))
+        rw (← same) (EndsIn-end text mark rest (byte_ends comma text c mark m) (joined_ends tag tag_ends mark xs rest j))
 
     -- a text ends in what is left after its tag set
     go : (r : Reading ℕ) → byte comma text ≡ r → EndsIn text t.rest

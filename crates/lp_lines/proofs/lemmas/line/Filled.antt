@@ -10,7 +10,6 @@ use Rattle.lp_format.specs.format.Lines.{Line, some_tags}
 use Rattle.lp_format.specs.format.Points.{Pair}
 use Rattle.lp_format.specs.format.Readings.{Fault, Text}
 use Rattle.lp_format.specs.format.Values.{Value}
-use Rattle.lp_values.specs.code.Texts.{read_of}
 use Rattle.lp_lines.specs.declared.filling.Filling.{Filling}
 use Rattle.lp_lines.specs.declared.parsed.ParsedLine.{ParsedLine}
 use Rattle.lp_lines.specs.code.Events.{AreEventsOf, Event, TakesAll, ended, events_of_line, failed, named, tagged, valued}
@@ -51,9 +50,9 @@ module _ {A X : Type 0} (event : A → Event) (set : ParsedLine → List A) (roo
     (grows : (old new : Filling) (x : A) → FillsBy old (event x) new → room old.line.now ≤ room new.line.now)
     (keeps : (old new : Filling) (x : A) → FillsBy old (event x) new → new.fault ≡ old.fault)
     (puts : (old new : Filling) (x : A) → FillsBy old (event x) new → new.refused ≡ false
-        → (old.refused ≡ false) × (set new.line.now ≡ set old.line.now ++ x ∷ []) × (others new.line.now ≡ others old.line.now))
+    → (old.refused ≡ false) × (set new.line.now ≡ set old.line.now ++ x ∷ []) × (others new.line.now ≡ others old.line.now))
     (needs : (old new : Filling) (x : A) → FillsBy old (event x) new → new.refused ≡ true
-        → (old.refused ≡ true) ⊎ ((is_single x ≡ false) ⊎ (room old.line.now ≤ length (set old.line.now)))) where
+    → (old.refused ≡ true) ⊎ ((is_single x ≡ false) ⊎ (room old.line.now ≤ length (set old.line.now)))) where
   -- a first part that needs memory needs it for all
   first_needs : (old : Filling) (x : A) (xs : List A)
       → (old.refused ≡ true) ⊎ ((is_single x ≡ false) ⊎ (room old.line.now ≤ length (set old.line.now)))
@@ -83,8 +82,7 @@ module _ {A X : Type 0} (event : A → Event) (set : ParsedLine → List A) (roo
         fault = later.fault ∙ keeps old mid x first;
         puts = λ taken.
             let rest = later.puts taken in
-            let one = puts old mid x first rest.0 in
-            (
+            let one = puts old mid x first rest.0 in (
               one.0,
               rest.1 ∙ ap (λ (ys : List A). ys ++ xs) one.1 ∙ append_assoc (set old.line.now) (x ∷ []) xs,
               rest.2 ∙ one.2,

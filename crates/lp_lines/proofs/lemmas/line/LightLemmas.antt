@@ -1,13 +1,12 @@
 -- What a line that is answered without memory has.
-use Rattle.std.proofs.Common.{◌≡◌, ℕ, zero, suc, ◌<◌, ◌≤◌, List, [], ◌∷◌, length, drop, Bool, true, not, ◌&&◌, refl, ap, ◌∙◌, arith}
-use Rattle.std.specs.Prelude.{Option, Some, None, Result, Ok, Err, nat_le}
+use Rattle.std.proofs.Common.{◌≡◌, ℕ, zero, suc, ◌≤◌, List, [], ◌∷◌, length, drop, true, not, ◌&&◌, refl, ap, ◌∙◌, arith}
+use Rattle.std.specs.Prelude.{Option, Some, None, Ok, Err, nat_le}
 use Rattle.std.proofs.lemmas.Bool.{and_parts, le-leb, leb-true}
 use Rattle.lp_format.specs.format.Dialects.{Dialect}
 use Rattle.lp_format.specs.format.Bytes.{backslash, comma, is_one_of, space}
 use Rattle.lp_format.specs.format.Readings.{Fault, Text, Read, Reading, miss, fatal, reads}
-use Rattle.lp_format.specs.format.Values.{Value}
 use Rattle.lp_format.specs.format.Points.{Pair}
-use Rattle.lp_format.specs.format.Lines.{Line, after_comma, answer, byte, field, field_set, many, prepend, separated_list}
+use Rattle.lp_format.specs.format.Lines.{Line, after_comma, answer, byte, field, many, prepend, separated_list}
 use Rattle.lp_format.specs.format.Lines.{some_tags, spaces, tag, tag_set, without_comma}
 use Rattle.lp_format.specs.code.Light.{carries_no_text, count_after, fields_in, is_light_answer, is_light_in, is_single_line}
 use Rattle.lp_format.specs.code.Light.{many_count, read_count, tags_in}
@@ -110,8 +109,7 @@ module _ (dialect : Dialect) (line : List ℕ) where
       let counts = and_parts (nat_le (tags_in line) p) (nat_le (fields_in line) q) parts.0 in
       let tags : tags_in line ≤ p = leb-true (tags_in line) p counts.0 in
       let fields : fields_in line ≤ q = leb-true (fields_in line) q counts.1 in
-      let read = answer_parts dialect line l h in
-      (
+      let read = answer_parts dialect line l h in (
         omega (arith, tags, tags_are l h),
         omega (arith, fields, fields_are l h read (byte space read.tags_rest) refl),
         rw h at parts.1,

@@ -2,8 +2,7 @@ use Rattle.std.proofs.Common.{◌≡◌, ℕ, ◌+◌, ◌-◌, ◌<◌, ◌≤�
 use Rattle.std.proofs.lemmas.Bool.{false≢true, cases_eq}
 use Rattle.lp_scan.specs.declared.sets.TokenKind.{TokenKind}
 use Rattle.lp_format.specs.format.Escapes.{without_escapes}
-use Rattle.lp_scan.specs.code.Tokens.{is_plain, stops_of, known_of}
-use Rattle.lp_scan.specs.code.Lanes.{IsRunAt}
+use Rattle.lp_scan.specs.code.Tokens.{stops_of, known_of}
 use Rattle.lp_values.specs.code.RawTokens.{IsTold}
 use Rattle.lp_format.proofs.lemmas.tokens.EscapeLemmas.{is_one_of_front}
 use Rattle.lp_values.proofs.lemmas.tokens.TokenLemmas.{backslash_goes_on}

@@ -1,11 +1,8 @@
-use Rattle.std.proofs.Common.{◌≡◌, ◌==◌, ℕ, ◌+◌, ◌-◌, ◌%◌, ◌^◌, ◌∙◌, ap, count_ones, sym, arith}
+use Rattle.std.proofs.Common.{◌==◌, ℕ, ◌%◌, ◌^◌, ◌∙◌, ap, count_ones, arith}
 use Rattle.lp_scan.specs.code.Tokens.{known_of, stops_of}
 use Rattle.lp_scan.specs.code.Lanes.{first_set}
-use Rattle.lp_values.specs.code.RawTokens.{is_escape_at}
-use Rattle.lp_scan.specs.code.Scan.{mask_at}
 use Rattle.lp_values.proofs.lemmas.tokens.TokenLemmas.{backslash_goes_on}
 use Rattle.lp_values.proofs.lemmas.tokens.WalkMasks.{escapes_mask, load_stops, load_goes_on}
-use Rattle.lp_scan.proofs.lemmas.scan.BareMasks.{mask_low}
 use Rattle.lp_values.proofs.tokens.escapes_in_load.Goals as goal
 use Rattle.lp_format.specs.format.Bytes.{backslash}
 

@@ -1,4 +1,4 @@
-use Rattle.std.proofs.Common.{refl, inl, inr, true, false, ◌≡◌}
+use Rattle.std.proofs.Common.{refl, inl, inr}
 use Rattle.lp_lines.proofs.filling.FillingEventSink.tag.Goals as goal
 
 pub returns-then-not-put_tag : goal.returns-then-not-put_tag
