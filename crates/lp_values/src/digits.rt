@@ -13,6 +13,9 @@ use std::simd::prelude::*;
 // So many digits write a number that a u64 holds.
 const MOST_DIGITS: usize = 19;
 
+// What four zeros add up to by their codes, each times what its place is worth.
+const FOUR_ZEROS: u32 = 1111 * 48;
+
 // What a number is worth before 16 digits.
 const BEFORE_LANES: u64 = 10_000_000_000_000_000;
 
@@ -87,6 +90,24 @@ fn value_after(before: u64, digits: &[u8]) -> u64
     }
 }
 
+// The number that at most 19 digits write, by four digits after four.
+#[inline(never)]
+fn value_by_fours(digits: &[u8]) -> u64
+    requires digits { AllDigits 10 digits.now }
+    requires few { length digits.now ≤ MOST_DIGITS }
+    ensures { result ≡ digits_value 10 digits.now }
+{
+    let mut value = 0;
+    let mut left = digits;
+    while let [a, b, c, d, rest @ ..] = left {
+        let front = u32::from(*a) * 1000 + u32::from(*b) * 100;
+        let codes = front + u32::from(*c) * 10 + u32::from(*d);
+        value = value * 10_000 + u64::from(codes - FOUR_ZEROS);
+        left = rest;
+    }
+    value_after(value, left)
+}
+
 // What the first 16 bytes are as digits, as far as they are digits.
 #[inline(always)]
 fn digit_lanes(bytes: &[u8]) -> u8x16
@@ -145,18 +166,20 @@ fn long_value(digits: &[u8]) -> u64
     value_after(0, first) * BEFORE_LANES + lanes_number(digit_lanes(last))
 }
 
-// The number that at most 19 digits at the start of `text` write, by loads.
+// The number that at most 19 digits at the start of `text` write.
 #[inline(always)]
 fn digits_value(digits: &[u8], text: &[u8]) -> u64
     requires digits { AllDigits 10 digits.now }
     requires few { length digits.now ≤ MOST_DIGITS }
     requires front { digits.now ≡ take (length digits.now) text.now }
-    requires room { LANES ≤ length text.now }
     ensures { result ≡ digits_value 10 digits.now }
 {
     let len = digits.len();
     if len > LANES {
         return long_value(digits);
+    }
+    if text.len() < LANES {
+        return value_by_fours(digits);
     }
     loaded_value(text, len)
 }
@@ -177,7 +200,7 @@ fn sign_and_digits<'a>(number: &'a str, text: &'a str) -> (bool, &'a [u8], &'a [
     }
 }
 
-// The integer of a number of any length, also near the end of a text; `None` if no i64 holds it.
+// The integer of a number of any length; `None` where no i64 holds it.
 #[cold]
 #[inline(never)]
 fn parsed_integer(number: &str) -> Option<i64>
@@ -188,7 +211,7 @@ fn parsed_integer(number: &str) -> Option<i64>
     number.parse::<i64>().ok()
 }
 
-/// The number that the digits `number`, at the start of `text`, write; `None` if no u64 holds it.
+/// The number that the digits `number`, at the start of `text`, write; `None` where no u64 holds it.
 #[inline(always)]
 pub(crate) fn unsigned_value(number: &str, text: &str) -> Option<u64>
     requires numeral { IsNumeral 10 number.now }
@@ -196,13 +219,13 @@ pub(crate) fn unsigned_value(number: &str, text: &str) -> Option<u64>
     ensures { MatchOption result (2 ^ 64 ≤ digits_value 10 number.now) (λ value. (value < 2 ^ 64) × (value ≡ digits_value 10 number.now)) }
 {
     let digits = number.as_bytes();
-    if digits.len() <= MOST_DIGITS && text.len() >= LANES {
+    if digits.len() <= MOST_DIGITS {
         return Some(digits_value(digits, text.as_bytes()));
     }
     number.parse::<u64>().ok()
 }
 
-/// The integer that `number`, at the start of `text`, writes, with `-` at the start or not; `None` if no i64 holds it.
+/// The integer that `number`, at the start of `text`, writes, with `-` at the start or not; `None` where no i64 holds it.
 #[inline(always)]
 pub(crate) fn integer_value(number: &str, text: &str) -> Option<i64>
     requires signed { IsSigned (codes "-") number.now }
@@ -211,7 +234,7 @@ pub(crate) fn integer_value(number: &str, text: &str) -> Option<i64>
         (λ value. (fits_i64 (signed_digits_value 10 number.now) ≡ true) × (value ≡ signed_digits_value 10 number.now)) }
 {
     let (is_negative, digits, after) = sign_and_digits(number, text);
-    if digits.len() <= MOST_DIGITS && after.len() >= LANES {
+    if digits.len() <= MOST_DIGITS {
         if let Ok(value) = i64::try_from(digits_value(digits, after)) {
             return Some(if is_negative { -value } else { value });
         }

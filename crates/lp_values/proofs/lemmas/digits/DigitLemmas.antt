@@ -1,5 +1,5 @@
--- Digits at the start of a text, by lanes.
-use Rattle.std.proofs.Common.{◌≡◌, ◌∙◌, ℕ, suc, ◌+◌, ◌*◌, ◌^◌, ◌%◌, ◌<◌, ◌≤◌, Bool, true, false, not, eqb, List, [], ◌∷◌, map, length}
+-- Digits at the start of a text, by lanes and by groups.
+use Rattle.std.proofs.Common.{◌≡◌, ◌∙◌, ℕ, suc, ◌+◌, ◌-◌, ◌*◌, ◌^◌, ◌%◌, ◌<◌, ◌≤◌, Bool, true, false, not, eqb, List, [], ◌∷◌, map, length}
 use Rattle.std.proofs.Common.{take, drop, get_or, refl, sym, ap, arith}
 use Rattle.std.specs.Prelude.{◌==◌, if◌then◌else◌}
 use Rattle.std.specs.Int.{w64, trailing_zeros}
@@ -10,6 +10,8 @@ use Rattle.std.proofs.lemmas.Bool.{agree_below, agree_below_at, ne_eqb}
 use Rattle.std.proofs.lemmas.Simd.{map-map, mask_l-mod, first_set_mask_l}
 use Rattle.std.proofs.lemmas.List.{length-map, length-take-le, take-append-drop}
 use Rattle.std.proofs.lemmas.List.Folds.{prefix_len-append}
+use Rattle.std.proofs.lemmas.Str.Parse.{digit_from_value}
+use Rattle.std.proofs.lemmas.Str.{digit_value_digit}
 use Rattle.std.proofs.lemmas.Int.Digits.{digits_value-lt}
 use Rattle.std.proofs.Math.Nat.{pow-le-pow_right}
 use lib.Lanes.{mask_l, top}
@@ -65,6 +67,32 @@ two_fit n (a ∷ ds) some = omega (arith, one_fits (n * 10 + digit_value a) ds (
 pub three_fit : (n : ℕ) (ds : List ℕ) → 3 ≤ length ds → n * 1000 ≤ digits_value_after 10 n ds
 three_fit n [] some = absurd (omega arith)
 three_fit n (a ∷ ds) some = omega (arith, two_fit (n * 10 + digit_value a) ds (omega (arith, some)))
+
+-- the value of a digit, from its byte
+pub digit_is : (d : ℕ) → digit_value d < 10 → digit_value d ≡ d - 48
+digit_is d small = let range = digit_from_value d small in omega (arith, digit_value_digit d range)
+
+-- the number with four digits more
+abbrev pub with_four : ℕ → List ℕ → ℕ
+with_four n ds = n * 10000 + (((get_or ds 0 0 - 48) * 10 + (get_or ds 1 0 - 48)) * 100 + ((get_or ds 2 0 - 48) * 10 + (get_or ds 3 0 - 48)))
+
+-- the digits after four write on after them; by their codes, those of four zeros add up to 53328
+pub four_more : (n : ℕ) (ds : List ℕ) → 4 ≤ length ds → AllDigits 10 ds
+    → AllDigits 10 (drop 4 ds) × (digits_value_after 10 (with_four n ds) (drop 4 ds) ≡ digits_value_after 10 n ds)
+    × (n * 10000 + (get_or ds 0 0 * 1000 + get_or ds 1 0 * 100 + get_or ds 2 0 * 10 + get_or ds 3 0 - 53328) ≡ with_four n ds)
+four_more n [] some digits = absurd (omega arith)
+four_more n (a ∷ []) some digits = absurd (omega arith)
+four_more n (a ∷ (b ∷ [])) some digits = absurd (omega arith)
+four_more n (a ∷ (b ∷ (c ∷ []))) some digits = absurd (omega arith)
+four_more n (a ∷ (b ∷ (c ∷ (d ∷ ds)))) some (va, (vb, (vc, (vd, rest)))) = (
+  rest,
+  ap (λ m. digits_value_after 10 m ds) (omega (arith, digit_is a va, digit_is b vb, digit_is c vc, digit_is d vd)),
+  omega (arith, digit_from_value a va, digit_from_value b vb, digit_from_value c vc, digit_from_value d vd),
+)
+
+-- so the number so far is no greater than the whole one
+pub four_fit : (n : ℕ) (ds : List ℕ) → 4 ≤ length ds → AllDigits 10 ds → with_four n ds ≤ digits_value_after 10 n ds
+four_fit n ds some digits = omega (arith, (four_more n ds some digits).1, after_at_least (with_four n ds) (drop 4 ds))
 
 -- what at most 19 digits write fits a u64
 pub few_fit : (ds : List ℕ) → AllDigits 10 ds → length ds ≤ 19 → digits_value 10 ds < 2 ^ 64

@@ -12,6 +12,7 @@ use Rattle.std.proofs.Math.Nat.{mul_assoc, pow-succ'}
 use lib.Lanes.{zip2, Each1}
 use Rattle.std.proofs.lemmas.Str.{digit_value_digit}
 use Rattle.std.proofs.lemmas.Str.Parse.{digit_from_value}
+use Rattle.lp_format.specs.format.Bytes.{newline}
 
 -- what the first digit of each four is worth, by eights
 abbrev pub firsts : ℕ → List ℕ
@@ -21,7 +22,7 @@ firsts (suc k) = 125 ∷ (0 ∷ (0 ∷ (0 ∷ firsts k)))
 -- what the others are worth
 abbrev pub others : ℕ → List ℕ
 others zero = []
-others (suc k) = 0 ∷ (100 ∷ (10 ∷ (1 ∷ others k)))
+others (suc k) = 0 ∷ (100 ∷ (newline ∷ (1 ∷ others k)))
 
 -- the numbers of each four digits
 abbrev pub groups : List ℕ → List ℕ
