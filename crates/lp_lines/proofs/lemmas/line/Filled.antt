@@ -73,6 +73,7 @@ module _ {A X : Type 0} (event : A → Event) (set : ParsedLine → List A) (roo
       let one = ap length (puts old mid x first taken).1 in
       inr (inr (omega (arith, grows old mid x first, one, length-append (set old.line.now) (x ∷ []))))
 
+  -- parts of one kind that were told were put
   filled_by : (old new : Filling) (xs : List A) → TakesAll FillsBy old (map event xs) new → FilledBy set room is_single others old xs new
   filled_by old new [] same = rw (← same)
       (record { fault = refl; puts = λ taken. (taken, sym (append-nil (set old.line.now)), refl); needs = λ refused. inl refused })
@@ -186,6 +187,7 @@ module _ (old : Filling) (l : Line) (begun told_tags told_fields new : Filling) 
         timestamp = end.1.1;
       }
 
+  -- the parts and the end of a line fill it
   filled_parts : FilledLine old l new
   filled_parts =
       record {
