@@ -4,7 +4,6 @@
 use crate::fault::Fault;
 use crate::render;
 use influxdb_line_protocol::{Dialect, parse_lines_in, split_lines_in};
-use lp_rebuild::rebuild;
 use std::alloc::{AllocError, Global};
 use std::process::Abort;
 
@@ -68,85 +67,6 @@ fn long_runs_of_backslashes_are_read_by_twos(rt: HostRuntime) -> Result<(), Faul
             ("m s=\"", 9_999, "\"", "FieldSetMissing", 0, ""),
         ],
     )
-}
-
-// Each text has these pieces by each dialect, and these items by both.
-fn are_cut_so(
-    rt: &impl Abort,
-    alloc: Global,
-    rows: &[(&str, &str, &str, &str)],
-) -> Result<(), Fault> {
-    for row in rows {
-        let (text, by_crate, by_strict, items) = *row;
-        for (dialect, pieces) in [(Dialect::Crate, by_crate), (Dialect::Strict, by_strict)] {
-            let rendered = render::pieces_in(alloc, dialect, text)?;
-            assert_eq!(rt; rendered.as_str(), pieces, "of {text}");
-            let rendered = render::items_in(alloc, dialect, text)?;
-            assert_eq!(rt; rendered.as_str(), items, "of {text}");
-        }
-    }
-    Ok(())
-}
-
-#[test]
-fn each_line_is_cut_and_answered_on_its_own(rt: HostRuntime) -> Result<(), Fault> {
-    // The pieces by each dialect, and the items, which are the same.
-    are_cut_so(
-        &rt,
-        rt.alloc(),
-        &[
-            // The counts of `=` and `,` begin anew with each piece: what a line before had does not tell whether a quote opens.
-            (
-                "m a=1i\n# say \"hi\nn b=2i",
-                "<m a=1i><# say \"hi><n b=2i>",
-                "<m a=1i><# say \"hi><n b=2i>",
-                "S<m> S<a>=1i|S<n> S<b>=2i",
-            ),
-            (
-                "m a=1i\nn \"x\no b=2i",
-                "<m a=1i><n \"x><o b=2i>",
-                "<m a=1i><n \"x><o b=2i>",
-                "S<m> S<a>=1i|FieldSetMissing|S<o> S<b>=2i",
-            ),
-            (
-                "m ,,,\nn c=\"x\ny\"",
-                "<m ,,,><n c=\"x\ny\">",
-                "<m ,,,><n c=\"x\ny\">",
-                "FieldSetMissing|S<n> S<c>=S<x\ny>",
-            ),
-            (
-                "# a=\"\nm b=1i",
-                "<# a=\"\nm b=1i>",
-                "<# a=\"><m b=1i>",
-                "S<m> S<b>=1i",
-            ),
-            (
-                "#\\\nm b=1i\nn c=2i",
-                "<#\\\nm b=1i><n c=2i>",
-                "<#\\><m b=1i><n c=2i>",
-                "S<m> S<b>=1i|S<n> S<c>=2i",
-            ),
-            ("\\ ", "<\\ >", "<\\ >", "TakeWhile1"),
-            ("\\# a=1i", "<\\# a=1i>", "<\\# a=1i>", "C<\\#> S<a>=1i"),
-            ("é\\é f=1i", "<é\\é f=1i>", "<é\\é f=1i>", "C<é\\é> S<f>=1i"),
-            (
-                "m,t\\ 1=v s=\"x\n",
-                "<m,t\\ 1=v s=\"x\n>",
-                "<m,t\\ 1=v s=\"x\n>",
-                "FieldSetMissing",
-            ),
-        ],
-    )
-}
-
-#[test]
-fn a_backslash_and_a_number_sign_are_a_name(rt: HostRuntime) -> Result<(), Fault> {
-    let rendered = render::items(rt.alloc(), "\\# a=1i")?;
-    assert_eq!(rt; rendered.as_str(), "C<\\#> S<a>=1i");
-    let rebuilt = rebuild(rt.alloc(), "\\# a=1i")?;
-    assert_eq!(rt; rebuilt.carried, 1);
-    assert_eq!(rt; rebuilt.batch.as_slice(), b"\\\\# a=1i\n".as_slice());
-    Ok(())
 }
 
 // How many pieces a text has, where each of them is empty.

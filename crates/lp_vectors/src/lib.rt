@@ -1,4 +1,4 @@
-//! Tests over tables of what is read: worked texts, with what each must give. What the other crates of tests share is public.
+//! Tests of what is read that no table of texts and answers can hold. What the other crates of tests share is public.
 #![tactic(auto)]
 
 pub mod cuts;
@@ -13,23 +13,15 @@ mod faults;
 mod hostile;
 pub mod lent;
 #[cfg(test)]
-mod lines;
-#[cfg(test)]
 mod long;
 #[cfg(test)]
 mod names;
-#[cfg(test)]
-mod pieces;
 pub mod random;
 #[cfg(test)]
 mod reference_splitter;
-#[cfg(test)]
-mod remainders;
 pub mod render;
 pub mod short_line;
 pub mod short_texts;
-#[cfg(test)]
-mod tables;
 #[cfg(test)]
 mod tags;
 #[cfg(test)]

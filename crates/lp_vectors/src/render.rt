@@ -1,8 +1,7 @@
 //! Items as one line of text each, so that a table can hold what is wanted.
 
 use influxdb_line_protocol::{
-    Dialect, Error, EscapedStr, FieldValue, ParsedLine, parse_lines, parse_lines_in, split_lines,
-    split_lines_in,
+    Dialect, Error, EscapedStr, FieldValue, ParsedLine, parse_lines_in, split_lines_in,
 };
 use std::alloc::{AllocError, Global};
 
@@ -132,12 +131,7 @@ fn items_into_one(alloc: Global, dialect: Dialect, input: &str) -> Result<String
     Ok(rendered)
 }
 
-/// The pieces of a text, each between `<` and `>`.
-pub fn pieces(alloc: Global, input: &str) -> Result<String, AllocError> {
-    pieces_in(alloc, Dialect::Crate, input)
-}
-
-/// The same, by the rules of a dialect.
+/// The pieces of a text, each between `<` and `>`, by the rules of a dialect.
 pub fn pieces_in(alloc: Global, dialect: Dialect, input: &str) -> Result<String, AllocError> {
     let mut rendered = String::new(alloc);
     for piece in split_lines_in(dialect, input) {
@@ -158,10 +152,14 @@ fn push_rest(rendered: &mut String, rest: Option<&str>) -> Result<(), AllocError
     rendered.push_str(">")
 }
 
-/// What is left of a text before its first piece, after each piece and at the end.
-pub fn rests_of_pieces(alloc: Global, input: &str) -> Result<String, AllocError> {
+/// What is left of a text before its first piece, after each piece and at the end, by the rules of a dialect.
+pub fn rests_of_pieces_in(
+    alloc: Global,
+    dialect: Dialect,
+    input: &str,
+) -> Result<String, AllocError> {
     let mut rendered = String::new(alloc);
-    let mut pieces = split_lines(input);
+    let mut pieces = split_lines_in(dialect, input);
     push_rest(&mut rendered, pieces.remainder())?;
     while let Some(_piece) = pieces.next() {
         push_rest(&mut rendered, pieces.remainder())?;
@@ -170,10 +168,14 @@ pub fn rests_of_pieces(alloc: Global, input: &str) -> Result<String, AllocError>
     Ok(rendered)
 }
 
-/// What is left of a text before its first item, after each item and at the end.
-pub fn rests_of_items(alloc: Global, input: &str) -> Result<String, AllocError> {
+/// What is left of a text before its first item, after each item and at the end, by the rules of a dialect.
+pub fn rests_of_items_in(
+    alloc: Global,
+    dialect: Dialect,
+    input: &str,
+) -> Result<String, AllocError> {
     let mut rendered = String::new(alloc);
-    let mut lines = parse_lines(alloc, input);
+    let mut lines = parse_lines_in(alloc, dialect, input);
     push_rest(&mut rendered, lines.remainder())?;
     while let Some(_item) = lines.next() {
         push_rest(&mut rendered, lines.remainder())?;

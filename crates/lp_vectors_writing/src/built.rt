@@ -295,26 +295,6 @@ fn a_string_may_hold_a_newline(rt: HostRuntime) -> Result<(), Fault> {
     Ok(())
 }
 
-#[test]
-fn what_follows_a_batch_is_answered_alone(rt: HostRuntime) -> Result<(), Fault> {
-    for (text, wanted) in [
-        ("m a=1i\n\"x\n", "S<m> S<a>=1i|TakeWhile1"),
-        ("m a=1i\n\\\nn b=2i", "S<m> S<a>=1i|C<\\\nn> S<b>=2i"),
-        ("m a=1i\n# a=\"\nx\n", "S<m> S<a>=1i|TakeWhile1"),
-        ("m a=1i\n# a=\"\nx", "S<m> S<a>=1i|TakeWhile1"),
-        ("m a=1x\nn b=2i", "rest <x>|S<n> S<b>=2i"),
-        ("m a=\"x\nn b=2i", "FieldSetMissing"),
-        ("y\\\nn b=2i", "C<y\\\nn> S<b>=2i"),
-    ] {
-        assert_eq!(rt;
-            render::items(rt.alloc(), text)?.as_str(),
-            wanted,
-            "of {text}"
-        );
-    }
-    Ok(())
-}
-
 // A line of a measurement, perhaps a tag, and one field that is true.
 fn true_line(
     alloc: Global,

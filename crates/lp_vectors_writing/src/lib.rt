@@ -1,4 +1,4 @@
-//! Tests over tables of what is written and shown: lines that are built, and runs of the program.
+//! Tests of what is written and shown: lines that are built, and runs of the program.
 #![tactic(auto)]
 
 #[cfg(test)]
@@ -27,5 +27,3 @@ mod runs;
 mod series;
 #[cfg(test)]
 mod small_buffers;
-#[cfg(test)]
-mod written;

@@ -1,0 +1,160 @@
+//! What the library gives for a text, spelled as the file of rows says at its head.
+
+use influxdb_line_protocol::{Dialect, FloatText, ParsedLine, parse_lines_in};
+use lp_rebuild::{Kept, rebuild_in, run_in, status};
+use lp_vectors::render;
+use std::alloc::{AllocError, Global};
+use std::borrow::CowStr;
+
+/// What a row asks of its text.
+#[derive(Clone, Copy, Drop)]
+pub enum Kind {
+    Items,
+    Pieces,
+    RestsOfPieces,
+    RestsOfItems,
+    Series,
+    Columns,
+    Fault,
+    Base,
+    Shown,
+    Rebuilt,
+    Run,
+    Float,
+}
+
+/// The kinds, each with the word that rows have for it.
+pub const KINDS: [(&str, Kind); 12] = [
+    ("items", Kind::Items),
+    ("pieces", Kind::Pieces),
+    ("rests_of_pieces", Kind::RestsOfPieces),
+    ("rests_of_items", Kind::RestsOfItems),
+    ("series", Kind::Series),
+    ("columns", Kind::Columns),
+    ("fault", Kind::Fault),
+    ("base", Kind::Base),
+    ("shown", Kind::Shown),
+    ("rebuilt", Kind::Rebuilt),
+    ("run", Kind::Run),
+    ("float", Kind::Float),
+];
+
+/// What the library gives for a text.
+pub fn answer(
+    alloc: Global,
+    kind: Kind,
+    dialect: Dialect,
+    text: &str,
+) -> Result<String, AllocError> {
+    match kind {
+        Kind::Items => render::items_in(alloc, dialect, text),
+        Kind::Pieces => render::pieces_in(alloc, dialect, text),
+        Kind::RestsOfPieces => render::rests_of_pieces_in(alloc, dialect, text),
+        Kind::RestsOfItems => render::rests_of_items_in(alloc, dialect, text),
+        Kind::Series => series(alloc, dialect, text),
+        Kind::Columns => of_first_line(alloc, dialect, text, Part::Columns),
+        Kind::Fault => fault(alloc, dialect, text),
+        Kind::Base => of_first_line(alloc, dialect, text, Part::Base),
+        Kind::Shown => of_first_line(alloc, dialect, text, Part::Shown),
+        Kind::Rebuilt => rebuilt(alloc, dialect, text),
+        Kind::Run => run(alloc, dialect, text),
+        Kind::Float => format!(in alloc; "{}", FloatText::new(text).is_some()),
+    }
+}
+
+// The text of the series of each item, divided by `|`, with nothing for a fault.
+fn series(alloc: Global, dialect: Dialect, text: &str) -> Result<String, AllocError> {
+    let mut rendered = String::new(alloc);
+    let mut is_first = true;
+    for item in parse_lines_in(alloc, dialect, text) {
+        if !is_first {
+            rendered.push_str("|")?;
+        }
+        is_first = false;
+        if let Ok(line) = &item {
+            rendered.push_str(line.series.raw_input)?;
+        }
+    }
+    Ok(rendered)
+}
+
+// The text of the fault that is the first item.
+fn fault(alloc: Global, dialect: Dialect, text: &str) -> Result<String, AllocError> {
+    match parse_lines_in(alloc, dialect, text).next() {
+        Some(Err(fault)) => format!(in alloc; "{fault}"),
+        _ => String::from_str(alloc, "no fault"),
+    }
+}
+
+// What a row asks of a line.
+#[derive(Clone, Copy, Drop)]
+enum Part {
+    Columns,
+    Base,
+    Shown,
+}
+
+// What is asked of the line that is the first item.
+fn of_first_line(
+    alloc: Global,
+    dialect: Dialect,
+    text: &str,
+    part: Part,
+) -> Result<String, AllocError> {
+    let Some(Ok(line)) = parse_lines_in(alloc, dialect, text).next() else {
+        return String::from_str(alloc, "no line");
+    };
+    match part {
+        Part::Columns => columns(alloc, &line),
+        Part::Base => base(alloc, line),
+        Part::Shown => format!(in alloc; "{line}"),
+    }
+}
+
+// How many columns a line has whose sets are small.
+fn columns(alloc: Global, line: &ParsedLine<'_>) -> Result<String, AllocError> {
+    let tags = match &line.series.tag_set {
+        Some(tags) => tags.len(),
+        None => 0,
+    };
+    if tags < 100 && line.field_set.len() < 100 {
+        return format!(in alloc; "{}", line.column_count());
+    }
+    String::from_str(alloc, "too many to count")
+}
+
+// The base of a line's series: `B` and its text where it is borrowed, `O` and its text where it is owned, or the fault.
+fn base(alloc: Global, line: ParsedLine<'_>) -> Result<String, AllocError> {
+    match line.series.generate_base(alloc) {
+        Ok(CowStr::Borrowed(text)) => format!(in alloc; "B<{text}>"),
+        Ok(CowStr::Owned(text)) => format!(in alloc; "O<{text}>"),
+        Err(fault) => format!(in alloc; "{fault}"),
+    }
+}
+
+// Bytes that are read as text.
+fn text_of(bytes: &[u8]) -> &str {
+    match str::from_utf8(bytes) {
+        Ok(text) => text,
+        Err(_) => "no text",
+    }
+}
+
+// How many items were written again of how many there are, and what was written.
+fn rebuilt(alloc: Global, dialect: Dialect, text: &str) -> Result<String, AllocError> {
+    let rebuilt = rebuild_in(alloc, dialect, text)?;
+    let items = rebuilt.carried.saturating_add(rebuilt.refused);
+    let batch = text_of(rebuilt.batch.as_slice());
+    format!(in alloc; "{} of {items} <{batch}>", rebuilt.carried)
+}
+
+// The status of a run, and what it wrote to both outputs.
+fn run(alloc: Global, dialect: Dialect, text: &str) -> Result<String, AllocError> {
+    let mut reader = text.as_bytes();
+    let mut out = Kept::new(alloc);
+    let mut err = Kept::new(alloc);
+    let ended = status(&run_in(alloc, dialect, &mut reader, &mut out, &mut err));
+    let out = text_of(out.as_slice());
+    let err = text_of(err.as_slice());
+    format!(in alloc; "{ended} <{out}> <{err}>")
+}
