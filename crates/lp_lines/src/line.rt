@@ -254,7 +254,7 @@ impl<'a> ParseLines<'a> {
 /// backslash at its end. A piece that cannot be read is one `Err`, and the next pieces are answered as if it had not been
 /// there. So `m a="x`, a newline and `n b=1i` are one `Err(FieldSetMissing)`, since the quote is never closed.
 ///
-/// A refused request for memory is `Err(Error::OutOfMemory)` in its line's place. A line of
+/// If memory for a line is refused, its item is `Err(Error::OutOfMemory)`, or the fault of the line if it has one. A line of
 /// at most 8 tags and 4 fields asks for none where each name and string of it is a part of the
 /// input, or where it holds no backslash and its fault carries no text.
 pub fn parse_lines(alloc: Global, input: &str) -> ParseLines<'_>
