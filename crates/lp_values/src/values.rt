@@ -71,7 +71,15 @@ impl<'a> FieldValue<'a> {
         })
     }
 
-    /// The value of a spelled one. Only a text that is a copy takes memory: `Err` if it is refused.
+    /// The value that is spelled so. Only a text that is a copy takes memory: one request, for just its length.
+    ///
+    /// ```text
+    /// 64i  gives  I64(64),  "a\"b"  gives  String, with the copy  a"b
+    /// ```
+    ///
+    /// # Errors
+    ///
+    /// If memory was refused.
     #[inline(always)]
     pub fn from_spelled(alloc: Global, value: SpelledValue<'a>) -> Result<Self, AllocError>
         ensures value { IfOk result (λ read. value_of read ≡ spelled_value value.entry) }
