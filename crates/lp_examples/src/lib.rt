@@ -18,6 +18,7 @@ pub mod rebuilt;
 pub mod refusals;
 pub mod strict;
 pub mod summed;
+pub mod tagged;
 #[cfg(test)]
 mod tests;
 pub mod values;

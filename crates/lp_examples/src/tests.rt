@@ -14,6 +14,7 @@ use crate::rebuilt::cleaned;
 use crate::refusals::with_tag_if_room;
 use crate::strict::faults_in;
 use crate::summed::sum_of;
+use crate::tagged::count_tagged;
 use crate::values::{number, text};
 use crate::vectors::two_readings;
 use crate::written::write_again;
@@ -219,4 +220,12 @@ fn a_field_is_summed_over_whole_lines(rt: HostRuntime) {
     assert_eq!(rt; sum_of(text, "a b"), 5);
     assert_eq!(rt; sum_of(text, "b"), 2);
     assert_eq!(rt; sum_of(text, "c"), 0);
+}
+
+#[test]
+fn lines_with_a_tag_are_counted(rt: HostRuntime) {
+    let text = "m,t=a\\ b f=1i\nm,t=a f=1i\nm,u=a\\ b,t=a\\ b f=t\nm,t=a\\ b f\nn,t=a\\ b f=1 7\n";
+    assert_eq!(rt; count_tagged(text, "t", "a b"), 3);
+    assert_eq!(rt; count_tagged(text, "t", "a"), 1);
+    assert_eq!(rt; count_tagged(text, "u", "a"), 0);
 }
