@@ -16,6 +16,9 @@ static const char TEXT[] = "c\\ pu,h\\=ost=A\\ B,zone=w msg=\"a\\\"b\",up=t 5\nm
 #define MANY "m,a=1,b=1,c=1,d=1,e=1,f=1,g=1,h=1,i=1 a=1,b=1,c=1,d=1,e=1"
 static const char GROWN[] = MANY "\n" MANY " rest";
 
+/* How often the sets of the second line grow: two of them, each time that it is read. */
+enum { GROWN_AT_FAULT = 4 };
+
 /* Two lines, of which the second one holds copies: a block of two rows ends after it. */
 static const char COPIED[] = "m f=1\nc\\ pu,h\\=ost=A\\ B s=\"\\\"q\"";
 
@@ -91,17 +94,19 @@ static int pieces(const uint8_t *text, size_t len) {
     return count;
 }
 
-/* Refuses each request for memory of this many in turn: one item of `items` is out of memory, and the others are as ever. */
-static int refuse_each(const uint8_t *text, size_t len, long requests, int items) {
+/* Refuses each request for memory of this many in turn: one item of `items` is out of memory, and the others are as ever. Of so
+ * many requests, which were for parts of a line at fault, the item is that fault. */
+static int refuse_each(const uint8_t *text, size_t len, long requests, int items, long of_faults) {
     int failed = 0;
     for (long at = 0; at < requests; at++) {
         lp_refused = at;
         lp_requests = 0;
         struct seen seen = read_all(text, len, at % 2);
-        failed |= seen.out_of_memory != 1 || seen.others || seen.lines + seen.faults != items - 1;
+        if (seen.out_of_memory == 0) of_faults--;
+        failed |= seen.out_of_memory > 1 || seen.others || seen.lines + seen.faults != items - seen.out_of_memory;
     }
     lp_refused = -1;
-    return failed;
+    return failed || of_faults != 0;
 }
 
 /* A copy in a block of just its length. */
@@ -123,12 +128,12 @@ int main(void) {
     struct seen wide = read_blocks(text, len, 8, 64), narrow = read_blocks(text, len, 4, 20);
     failed |= wide.lines != 2 || wide.faults != 3 || wide.others || wide.more_parts || wide.more_room;
     failed |= narrow.lines != 2 || narrow.faults != 3 || narrow.others || narrow.more_parts + narrow.more_room == 0;
-    failed |= refuse_each(text, len, requests, 5);
+    failed |= refuse_each(text, len, requests, 5, 0);
     lp_requests = 0;
     struct seen more = read_all(grown, grown_len, false);
     long grown_requests = lp_requests;
     failed |= more.lines != 1 || more.faults != 1 || more.others || more.out_of_memory || grown_requests < 4;
-    failed |= refuse_each(grown, grown_len, grown_requests, 2);
+    failed |= refuse_each(grown, grown_len, grown_requests, 2, GROWN_AT_FAULT);
     struct seen blocks = read_blocks(grown, grown_len, 16, 64);
     struct seen copies = read_blocks((const uint8_t *)COPIED, sizeof COPIED - 1, 16, 64);
     failed |= blocks.lines != 1 || blocks.faults != 1 || blocks.others || copies.lines != 2 || copies.faults || copies.others;
