@@ -6,3 +6,4 @@ pub mod Bases
 pub mod Freeing
 pub mod Events
 pub mod Filling
+pub mod EventsLeft

@@ -56,7 +56,7 @@ pub trait EventSink<'a> {
 // A tag at the start of `text`, and the rest.
 #[tactic(auto, unfolding(lp_format::specs::format::Lines::tag))]
 #[inline(always)]
-fn tag<'a>(text: &'a str) -> Front<'a, (Spelled<'a>, Spelled<'a>)>
+pub(crate) fn tag<'a>(text: &'a str) -> Front<'a, (Spelled<'a>, Spelled<'a>)>
     ensures value { GivesSpelled spelled_tag result (tag text.now) }
     ensures less { IfOk result (λ o. IfSome o (λ p. length p.1.now < length text.now)) }
 {
@@ -75,7 +75,7 @@ fn tag<'a>(text: &'a str) -> Front<'a, (Spelled<'a>, Spelled<'a>)>
 // A field at the start of `text`, and the rest.
 #[tactic(auto, unfolding(lp_format::specs::format::Lines::field))]
 #[inline(always)]
-fn field<'a>(text: &'a str) -> Front<'a, (Spelled<'a>, SpelledValue<'a>)>
+pub(crate) fn field<'a>(text: &'a str) -> Front<'a, (Spelled<'a>, SpelledValue<'a>)>
     ensures value { GivesSpelled spelled_field result (field text.now) }
     ensures less { IfOk result (λ o. IfSome o (λ p. length p.1.now < length text.now)) }
 {
@@ -172,7 +172,7 @@ fn field_set<'a, S: EventSink<'a>>(
 
 // What comes before `rest`, which ends `line` and begins with a space.
 #[inline(always)]
-fn front_before<'a>(line: &'a str, rest: &str) -> &'a str
+pub(crate) fn front_before<'a>(line: &'a str, rest: &str) -> &'a str
     requires ends { (front : List ℕ) × (line.now ≡ front ++ rest.now) }
     requires space { slice_index rest.now 0 ≡ space }
     ensures { result.now ≡ front_before line.now rest.now }

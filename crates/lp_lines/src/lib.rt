@@ -10,8 +10,11 @@ mod filling;
 pub mod freeing;
 mod line;
 pub mod parsed;
+mod place;
+pub mod pull;
 mod shown;
 
 pub use events::{EventSink, read_events_in, read_line_events};
 pub use line::{ParseLines, parse_lines, parse_lines_in};
 pub use parsed::{FieldSet, ParsedLine, Series, TagSet};
+pub use pull::{Event, ParseEvents, parse_events, parse_events_in};

@@ -1,2 +1,4 @@
 pub mod EventLemmas
+pub mod EventSteps
 pub mod LineEvents
+pub mod NextEvents

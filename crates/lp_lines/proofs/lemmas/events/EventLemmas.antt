@@ -7,7 +7,8 @@ use Rattle.lp_format.specs.format.Bytes.{comma}
 use Rattle.lp_format.specs.format.Readings.{Fault, Reading, fatal, miss, reads}
 use Rattle.lp_format.specs.format.Lines.{byte, separated_list}
 use Rattle.lp_lines.specs.code.Events.{AreCounted, Event, TakesAll, WasToldParts}
-use Rattle.lp_lines.proofs.lemmas.fields.ManyLemmas.{Reached, SoFar, last_read, reached_all, reached_fatal, reached_more}
+use Rattle.lp_lines.specs.code.EventsLeft.{SoFar}
+use Rattle.lp_lines.proofs.lemmas.fields.ManyLemmas.{Reached, last_read, reached_all, reached_fatal, reached_more}
 
 -- some events and then others
 pub takes_append : {S : Type 0} (takes : S → Event → S → Type 0) (before mid after : S) (events others : List Event)

@@ -6,6 +6,7 @@ use Rattle.std.proofs.lemmas.List.{append_assoc, append-nil}
 use Rattle.lp_format.specs.format.Bytes.{comma}
 use Rattle.lp_format.specs.format.Readings.{Fault, Reading, miss, fatal, reads}
 use Rattle.lp_format.specs.format.Lines.{after_comma, byte, separated_list, many, prepend}
+use Rattle.lp_lines.specs.code.EventsLeft.{SoFar}
 use Rattle.lp_values.specs.code.Outcomes.{IsFault}
 use Rattle.lp_values.specs.declared.error.Error.{Error}
 use Rattle.lp_values.specs.declared.error.Error.TheVariants as error
@@ -36,13 +37,6 @@ carried_on (error.CannotParseEntireLine trailing_content) P Q on h = on _ h
 carried_on error.TagSetMalformed P Q on h = on _ h
 carried_on (error.GenericParsingError kind) P Q on h = on _ h
 carried_on error.OutOfMemory P Q on h = tt
-
--- what is read of a text whose front was read: `done` was read, `rest` is left, and the whole is done and as many as
--- are at the start of the rest
-pub record SoFar {A : Type 0} (one : List ℕ → Reading A) (text : List ℕ) (done : List A) (rest : List ℕ) : Type 0 where
-  pub fuel : ℕ
-  pub enough : length rest ≤ fuel
-  pub is : separated_list one text ≡ prepend done (many (after_comma one) fuel rest)
 
 -- some were read, and a comma after them: the next one may come after it
 pub record AtNext {A : Type 0} (one : List ℕ → Reading A) (text : List ℕ) (done : List A) (rest place : List ℕ) : Type 0 where
