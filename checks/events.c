@@ -1,5 +1,6 @@
-/* Compares the items that events tell with the items of `parse_lines_in`, in both dialects: of every text of at most six
-   bytes over eleven that mean something, and of every text of at most five such bytes after each of some fronts of a line.
+/* Compares the items that events tell, to a sink and one after another, with the items of `parse_lines_in`, in both dialects:
+   of every text of at most six bytes over eleven that mean something, and of every text of at most five such bytes after each
+   of some fronts of a line.
    `checks/events.sh` builds this and runs it. */
 #include "lp_checks.h"
 
@@ -21,7 +22,7 @@ static const char *const FRONTS[] = {
 /* Items, an entry each. */
 struct items { uint64_t count, ends[ENTRIES]; uint8_t out[ROOM]; };
 
-static struct items by_events, by_parse;
+static struct items by_events, by_pull, by_parse;
 static unsigned long texts, lines, faults;
 
 static void fail(const char *text, size_t len, bool is_strict) {
@@ -35,10 +36,10 @@ static size_t len_of(const struct items *items) { return items->count ? (size_t)
 
 static bool fits(const struct items *items) { return items->count <= ENTRIES && len_of(items) <= ROOM; }
 
-static bool is_same(void) {
-    return fits(&by_events) && fits(&by_parse) && by_events.count == by_parse.count &&
-           !memcmp(by_events.ends, by_parse.ends, by_parse.count * sizeof by_parse.ends[0]) &&
-           !memcmp(by_events.out, by_parse.out, len_of(&by_parse));
+static bool is_same(const struct items *items) {
+    return fits(items) && fits(&by_parse) && items->count == by_parse.count &&
+           !memcmp(items->ends, by_parse.ends, by_parse.count * sizeof by_parse.ends[0]) &&
+           !memcmp(items->out, by_parse.out, len_of(&by_parse));
 }
 
 static void count_items(void) {
@@ -54,7 +55,8 @@ static void compare(const char *text, size_t len) {
     for (int is_strict = 0; is_strict < 2; is_strict++) {
         by_parse.count = lp_checks_items(is_strict, bytes, len, by_parse.out, ROOM, by_parse.ends, ENTRIES);
         by_events.count = lp_checks_events(is_strict, bytes, len, by_events.out, ROOM, by_events.ends, ENTRIES);
-        if (!is_same()) fail(text, len, is_strict);
+        by_pull.count = lp_checks_pulled(is_strict, bytes, len, by_pull.out, ROOM, by_pull.ends, ENTRIES);
+        if (!is_same(&by_events) || !is_same(&by_pull)) fail(text, len, is_strict);
         count_items();
     }
     texts++;

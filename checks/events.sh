@@ -1,6 +1,6 @@
 #!/usr/bin/env bash
-# Compares the items that a sink is told with the items of `parse_lines_in`, over every short text of bytes that mean
-# something, in both dialects: `events.c` says over which bytes.
+# Compares the items that events tell, to a sink and one after another, with the items of `parse_lines_in`, over every short
+# text of bytes that mean something, in both dialects: `events.c` says over which bytes.
 set -eu
 here=$(cd "$(dirname "$0")" && pwd)
 top=$(dirname "$here")
@@ -16,7 +16,7 @@ trap 'rm -rf "$built"' EXIT
 
 cc -O2 -Wall -Wextra "$here/events.c" "$library" "$heap" -o "$built/events"
 if ! said=$("$built/events"); then
-    echo "events: a sink is told other items than are read" >&2
+    echo "events: they tell other items than are read" >&2
     exit 1
 fi
 echo "events: $said: told as they are read"

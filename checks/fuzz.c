@@ -118,12 +118,15 @@ static void check_batch(bool is_strict, const uint8_t *text, size_t len) {
     for (uint64_t place = 0; place < items.count; place++) MUST(is_same(&all, of_batch.count + place, &items, place));
 }
 
-/* The events of the text tell its items. */
+/* The events of the text tell its items, to a sink and one after another. */
 static void check_events(bool is_strict, const uint8_t *text, size_t len) {
-    all.count = lp_checks_events(is_strict, text, len, all.out, ROOM, all.ends, ENTRIES);
-    must_fit(&all);
-    MUST(all.count == items.count);
-    for (uint64_t place = 0; place < items.count; place++) MUST(is_same(&all, place, &items, place));
+    for (int is_pulled = 0; is_pulled < 2; is_pulled++) {
+        all.count = is_pulled ? lp_checks_pulled(is_strict, text, len, all.out, ROOM, all.ends, ENTRIES)
+                              : lp_checks_events(is_strict, text, len, all.out, ROOM, all.ends, ENTRIES);
+        must_fit(&all);
+        MUST(all.count == items.count);
+        for (uint64_t place = 0; place < items.count; place++) MUST(is_same(&all, place, &items, place));
+    }
 }
 
 /* A comment before the text changes no item. The newline that ends it is escaped, so no piece ends there in the crate's

@@ -13,6 +13,8 @@ uint64_t lp_checks_items(bool is_strict, const uint8_t *text, size_t len, uint8_
                          size_t entries);
 uint64_t lp_checks_events(bool is_strict, const uint8_t *text, size_t len, uint8_t *out, size_t room, uint64_t *ends,
                           size_t entries);
+uint64_t lp_checks_pulled(bool is_strict, const uint8_t *text, size_t len, uint8_t *out, size_t room, uint64_t *ends,
+                          size_t entries);
 uint64_t lp_checks_bases(const uint8_t *text, size_t len, uint8_t *out, size_t room, uint64_t *ends, size_t entries);
 uint64_t lp_checks_shown(const uint8_t *text, size_t len, uint8_t *out, size_t room, uint64_t *ends, size_t entries);
 uint64_t lp_checks_copies(const uint8_t *text, size_t len, uint8_t *out, size_t room, uint64_t *ends, size_t entries);

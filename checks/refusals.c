@@ -132,17 +132,20 @@ static void call(enum call what, const char *text, unsigned long n) {
     end();
 }
 
-/* What the events of a text tell is what its items are, in both dialects, and is told without a request. */
+/* What the events of a text tell is what its items are, in both dialects, and is told without a request: to a sink, or one
+   event after another. */
 static void events_ask_nothing(const char *text) {
     static uint8_t items[ROOM];
     static uint64_t items_ends[ENTRIES];
     const uint8_t *bytes = (const uint8_t *)text;
     size_t len = strlen(text);
-    for (int is_strict = 0; is_strict < 2; is_strict++) {
+    for (int way = 0; way < 4; way++) {
+        bool is_strict = way & 1, is_pulled = way & 2;
         uint64_t wanted = lp_checks_items(is_strict, bytes, len, items, ROOM, items_ends, ENTRIES);
         if (wanted > ENTRIES || (wanted && items_ends[wanted - 1] > ROOM)) fail("the items have no room");
         begin(0);
-        count = lp_checks_events(is_strict, bytes, len, out, ROOM, ends, ENTRIES);
+        count = is_pulled ? lp_checks_pulled(is_strict, bytes, len, out, ROOM, ends, ENTRIES)
+                          : lp_checks_events(is_strict, bytes, len, out, ROOM, ends, ENTRIES);
         end();
         if (asked) fail("the events made %lu requests", asked);
         if (count != wanted) fail("the events tell %lu items and not %lu", (unsigned long)count, (unsigned long)wanted);

@@ -5,6 +5,7 @@ ghost use Rattle.lp_format.specs.laws.Laws.{OtherPointsEndWithBackslash, NamesAr
 ghost use Rattle.lp_format.specs.laws.Laws.{StrictFieldsEnd, PiecesExist, PiecesAreUnique, PiecesAreTheText, PiecesJoin};
 ghost use Rattle.lp_format.specs.laws.Laws.{AnswersJoin, CommentTextIsIgnored};
 ghost use Rattle.lp_format.specs.laws.PointsOfLines.{LinesArePoints};
+ghost use Rattle.influxdb_line_protocol.specs.laws.GivenEvents.{AllEventsCome, EventsSoFar};
 ghost use Rattle.influxdb_line_protocol.specs.laws.GivenItems.{ItemsAreOfPieces, ItemsAreAnswers, ItemsSoFar, GivenLinesWereRead};
 ghost use Rattle.lp_lines.specs.laws.BaseLaws.{ClearSeriesHaveBases, SameSeriesHaveOneBase, TagsByKeyAreSorted};
 ghost use Rattle.lp_lines.specs.laws.BaseLaws.{OneBaseIsOneSeries, PlainSeriesAreClear, ReadSeriesAreParsed};
@@ -60,6 +61,14 @@ pub fn items_are_answers()
     ensures answers { ItemsAreAnswers }
     ensures so_far { ItemsSoFar }
     ensures read { GivenLinesWereRead }
+{}
+
+/// The events that calls of `next` give, from any call on to `None`, are all that were left then. From `parse_events` on these
+/// are the events of the text, as the contract of that call says. Up to any call, the events that came, and after them those
+/// that are left, were left at the start.
+pub fn all_events_come()
+    ensures so_far { EventsSoFar }
+    ensures all { AllEventsCome }
 {}
 
 /// Each text has exactly one list of pieces, and joined by newlines they are the text. A newline

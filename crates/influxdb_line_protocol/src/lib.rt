@@ -12,8 +12,8 @@ pub mod laws;
 pub use lp_build::builder;
 pub use lp_build::builder::{LineProtocolBuilder, is_admitted, write_line, write_parsed};
 pub use lp_lines::{
-    EventSink, FieldSet, ParseLines, ParsedLine, Series, TagSet, parse_lines, parse_lines_in,
-    read_events_in, read_line_events,
+    Event, EventSink, FieldSet, ParseEvents, ParseLines, ParsedLine, Series, TagSet, parse_events,
+    parse_events_in, parse_lines, parse_lines_in, read_events_in, read_line_events,
 };
 pub use lp_split::{
     BoundedLineStream, Dialect, LineStream, PieceTooLong, SplitLines, split_lines, split_lines_in,

@@ -17,8 +17,8 @@ use calls::{Answer, Lines};
 use events::Items;
 use influxdb_line_protocol::builder::BeforeMeasurement;
 use influxdb_line_protocol::{
-    Dialect, EscapedStr, LineProtocolBuilder, ParsedLine, parse_lines, parse_lines_in,
-    read_events_in, split_lines_in, write_line,
+    Dialect, EscapedStr, LineProtocolBuilder, ParsedLine, parse_events_in, parse_lines,
+    parse_lines_in, read_events_in, split_lines_in, write_line,
 };
 use lp_rebuild::{RunFault, rebuild_in, run_in};
 use report::Report;
@@ -96,6 +96,24 @@ pub extern "C" fn lp_checks_events(
     let text = unsafe { str::from_utf8_unchecked(text) };
     let mut items = Items::new(out, ends);
     read_events_in(dialect(is_strict), text, &mut items);
+    items.count()
+}
+
+/// The items of a text as `lp_checks_items` has them, from the events that come one after another. It takes no memory.
+#[unsafe(no_mangle)]
+pub extern "C" fn lp_checks_pulled(
+    is_strict: bool,
+    text: &[u8],
+    out: &mut [u8],
+    ends: &mut [u64],
+) -> u64
+    requires { IsUtf8 text.now }
+{
+    let text = unsafe { str::from_utf8_unchecked(text) };
+    let mut items = Items::new(out, ends);
+    for event in parse_events_in(dialect(is_strict), text) {
+        event.tell(&mut items);
+    }
     items.count()
 }
 

@@ -14,6 +14,7 @@ pub mod numbers;
 pub mod packets;
 pub mod parts;
 pub mod print;
+pub mod pulled;
 pub mod rebuilt;
 pub mod refusals;
 pub mod strict;

@@ -10,6 +10,7 @@ use crate::keys::{host, is_of_host};
 use crate::numbers::whole_number;
 use crate::packets::packet;
 use crate::print::print_lines;
+use crate::pulled::first_fault;
 use crate::rebuilt::cleaned;
 use crate::refusals::with_tag_if_room;
 use crate::strict::faults_in;
@@ -20,7 +21,7 @@ use crate::vectors::two_readings;
 use crate::written::write_again;
 use arrayvec::ArrayVec;
 use influxdb_line_protocol::builder::NoRoom;
-use influxdb_line_protocol::{Dialect, LineProtocolBuilder, ParsedLine, parse_lines};
+use influxdb_line_protocol::{Dialect, LineProtocolBuilder, ParsedLine, SpelledFault, parse_lines};
 use std::alloc::Global;
 
 // The line of a text that has one.
@@ -228,4 +229,15 @@ fn lines_with_a_tag_are_counted(rt: HostRuntime) {
     assert_eq!(rt; count_tagged(text, "t", "a b"), 3);
     assert_eq!(rt; count_tagged(text, "t", "a"), 1);
     assert_eq!(rt; count_tagged(text, "u", "a"), 0);
+}
+
+#[test]
+fn the_first_fault_is_found(rt: HostRuntime) {
+    assert!(rt; first_fault("m a=1i\n# c\nn,t=u a=4i 7\n").is_none());
+    assert!(rt; matches!(first_fault("m a=1i\nm b\n,\n"), Some(SpelledFault::FieldSetMissing)));
+    let rest = match first_fault("m,t=x a=1i,b=2i, 5\nm\n") {
+        Some(SpelledFault::CannotParseEntireLine { trailing_content }) => trailing_content,
+        _ => "",
+    };
+    assert_eq!(rt; rest, ", 5");
 }

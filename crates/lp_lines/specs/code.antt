@@ -5,5 +5,5 @@ pub mod ReadInto
 pub mod Bases
 pub mod Freeing
 pub mod Events
-pub mod Filling
 pub mod EventsLeft
+pub mod Filling

@@ -1,3 +1,4 @@
+pub mod all_events_come
 pub mod items_are_answers
 pub mod batch_reads_back
 pub mod meanings

@@ -1,4 +1,2 @@
 pub mod EventLemmas
-pub mod EventSteps
 pub mod LineEvents
-pub mod NextEvents

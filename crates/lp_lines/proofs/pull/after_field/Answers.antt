@@ -6,8 +6,8 @@ use Rattle.lp_format.specs.format.Readings.{cannot_parse_entire_line}
 use Rattle.lp_split.specs.code.Rules.{rules_of}
 use Rattle.lp_values.specs.code.SpelledParts.{spelled_fault}
 use Rattle.lp_lines.specs.code.Events.{front_events, spelled_field, valued}
-use Rattle.lp_lines.proofs.lemmas.events.EventSteps.{completes_end, completes_fault, completes_more, field_after, fields_fatal, fields_more}
-use Rattle.lp_lines.proofs.lemmas.events.EventSteps.{left_fault, time_fault}
+use Rattle.lp_lines.proofs.lemmas.pull.EventSteps.{completes_end, completes_fault, completes_more, field_after, fields_fatal, fields_more}
+use Rattle.lp_lines.proofs.lemmas.pull.EventSteps.{left_fault, time_fault}
 use Rattle.lp_lines.proofs.pull.after_field.Goals as goal
 
 pub returns-in_err-key-clause-steps : goal.returns-in_err-key-clause-steps

@@ -8,8 +8,8 @@ use Rattle.lp_values.proofs.lemmas.fields.ReadingLemmas.{EndsIn, EndsIn-end, aft
 use Rattle.lp_lines.specs.code.Events.{front_events, spelled_tag, tagged}
 use Rattle.lp_lines.specs.code.EventsLeft.{AreLeftAfterSeries, AreLeftFrom}
 use Rattle.lp_lines.specs.declared.place.Place.TheVariants.{Names}
-use Rattle.lp_lines.proofs.lemmas.events.EventSteps.{completes_fault, completes_more, front_is, names_end, names_fatal, names_malformed}
-use Rattle.lp_lines.proofs.lemmas.events.EventSteps.{names_more, not_stripped, steps_from, stripped, tag_after}
+use Rattle.lp_lines.proofs.lemmas.pull.EventSteps.{completes_fault, completes_more, front_is, names_end, names_fatal, names_malformed}
+use Rattle.lp_lines.proofs.lemmas.pull.EventSteps.{names_more, not_stripped, steps_from, stripped, tag_after}
 use Rattle.lp_lines.proofs.pull.after_name.Goals as goal
 use Rattle.lp_lines.proofs.pull.after_name.Goals.{else-names-via-then-names+else-is_some, else-names-via-else-names}
 

@@ -5,7 +5,7 @@ use Rattle.lp_format.specs.format.Readings.{measurement_value_invalid}
 use Rattle.lp_values.specs.code.SpelledParts.{spelled_fault, spelled_text}
 use Rattle.lp_values.proofs.lemmas.fields.ReadingLemmas.{name_ends}
 use Rattle.lp_lines.specs.code.Events.{named}
-use Rattle.lp_lines.proofs.lemmas.events.EventSteps.{begin_fatal, begin_miss, completes_fault, completes_more, front_is, name_shorter}
+use Rattle.lp_lines.proofs.lemmas.pull.EventSteps.{begin_fatal, begin_miss, completes_fault, completes_more, front_is, name_shorter}
 use Rattle.lp_lines.proofs.pull.begin.Goals as goal
 
 pub returns-in_err-name-clause-steps : goal.returns-in_err-name-clause-steps

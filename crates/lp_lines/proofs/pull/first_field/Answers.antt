@@ -3,7 +3,7 @@ use Rattle.std.proofs.lemmas.Result.{err_from_is_err_and}
 use Rattle.lp_format.specs.format.Readings.{field_set_missing, take_while1}
 use Rattle.lp_values.specs.code.SpelledParts.{spelled_fault}
 use Rattle.lp_lines.specs.code.Events.{front_events, spelled_field, valued}
-use Rattle.lp_lines.proofs.lemmas.events.EventSteps.{completes_fault, completes_more, field_after, first_fatal, first_read, no_field, no_space}
+use Rattle.lp_lines.proofs.lemmas.pull.EventSteps.{completes_fault, completes_more, field_after, first_fatal, first_read, no_field, no_space}
 use Rattle.lp_lines.proofs.pull.first_field.Goals as goal
 
 pub returns-in_default-clause-steps : goal.returns-in_default-clause-steps

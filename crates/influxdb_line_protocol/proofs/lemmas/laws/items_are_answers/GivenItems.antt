@@ -1,6 +1,6 @@
 -- The items that calls of `next` give are those of the text, one after another.
 use Rattle.std.proofs.Common.{◌≡◌, ℕ, ◌<◌, ◌==◌, true, false, List, [], ◌∷◌, ◌++◌, length, map, refl, sym, ap, ◌∙◌, subst, arith}
-use Rattle.std.proofs.Common.{append_assoc, append-nil, inl, inr, Option, None, Some, Result}
+use Rattle.std.proofs.Common.{append_assoc, append-nil, inl, inr, Some, Result}
 use Rattle.std.specs.Iterator.{Yields}
 use Rattle.std.specs.List.{All}
 use Rattle.std.proofs.lemmas.Bool.{cases_Bool, eq-eqb, ne_eqb}
@@ -16,7 +16,8 @@ use Rattle.lp_lines.specs.code.ParseSteps.{GivesItem, IsBlankPiece}
 use Rattle.influxdb_line_protocol.specs.laws.GivenItems.{trimmed_line, trimmed_lines, AreItemsOf, AreAnswers, ItemsAreOfPieces}
 use Rattle.influxdb_line_protocol.specs.laws.GivenItems.{ItemsAreAnswers, GivenLinesWereRead, ItemsSoFar}
 use Rattle.lp_format.specs.format.Lines.{answer}
-use Rattle.lp_format.proofs.lemmas.split.SplitPieces.{pieces_exist, same_pieces}
+use Rattle.lp_format.proofs.lemmas.split.SplitPieces.{same_pieces}
+use Rattle.lp_lines.proofs.lemmas.pull.NextEvents.{left_pieces}
 
 -- nothing is left of blank pieces
 blank_lines : (pieces : List (List ℕ)) → All IsBlankPiece pieces → trimmed_lines pieces ≡ []
@@ -98,16 +99,6 @@ items_are_answers dialect text answers items has drained =
     let items_of = items_are_of_pieces dialect text has.pieces items has.are drained in
     subst (AreAnswers items) (sym (has.answered ∙ answers_of_lines dialect has.pieces))
     (items_answer dialect (trimmed_lines has.pieces) items items_of)
-
--- what is left has pieces
-left_pieces : (left : Left) → (pieces : List (List ℕ)) × PiecesLeft left pieces
-left_pieces left = pieces_of left.dialect left.text
-  where
-    -- what is left of a text has pieces
-    pieces_of : (dialect : Dialect) (text : Option (List ℕ)) → (pieces : List (List ℕ))
-        × PiecesLeft (record { dialect = dialect; text = text }) pieces
-    pieces_of dialect None = ([], refl)
-    pieces_of dialect (Some text) = pieces_exist dialect text
 
 -- a line that is given was read
 pub given_lines_were_read : GivenLinesWereRead

@@ -4,15 +4,14 @@ use Rattle.lp_split.specs.code.Rules.{rules_of}
 use Rattle.lp_lines.specs.code.EventsLeft.{AreLeftFrom, Completes, HasEventsLeft}
 use Rattle.lp_lines.specs.code.ParseSteps.{GivesLine}
 use Rattle.lp_lines.specs.declared.place.Place.TheVariants.{Fields, Names}
-use Rattle.lp_lines.proofs.lemmas.events.EventSteps.{steps_from}
-use Rattle.lp_lines.proofs.lemmas.events.NextEvents.{blank_events, line_left, line_less, none_comes, step_less}
+use Rattle.lp_lines.proofs.lemmas.pull.EventSteps.{steps_from}
+use Rattle.lp_lines.proofs.lemmas.pull.NextEvents.{blank_events, line_left, line_less, none_comes, step_less}
 use Rattle.lp_lines.proofs.pull.ParseEvents.step.Goals as goal
 
 pub returns-in_err-next_line-in-Between-clause-steps : goal.returns-in_err-next_line-in-Between-clause-steps
 returns-in_err-next_line-in-Between-clause-steps c =
     let gives = c.in_err-next_line-in-Between.ensures.gives in
-    rw (c.from_residual.ensures, c.in-Between.is)
-    (
+    rw (c.from_residual.ensures, c.in-Between.is) (
       record {
         pieces = gives.0.skipped;
         are_left = gives.0.left;

@@ -1,4 +1,4 @@
-use Rattle.lp_lines.proofs.lemmas.events.NextEvents.{told_from_more}
+use Rattle.lp_lines.proofs.lemmas.pull.NextEvents.{told_from_more}
 use Rattle.lp_lines.proofs.pull.ParseEvents.tell.Goals as goal
 
 pub loop-event-preserved : goal.loop-event-preserved

@@ -1,4 +1,4 @@
-use Rattle.lp_lines.proofs.lemmas.events.NextEvents.{ToldFrom}
+use Rattle.lp_lines.proofs.lemmas.pull.NextEvents.{ToldFrom}
 use Rattle.lp_lines.proofs.pull.ParseEvents.tell.Given as goal
 
 abbrev pub invariant-loop-event : goal.invariant-loop-event

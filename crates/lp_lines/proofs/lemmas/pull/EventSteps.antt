@@ -71,11 +71,12 @@ front_is line rest h =
     let front : front_before (h.front ++ rest) rest ≡ h.front = rw n (take-append_seam h.front rest) in
     subst (λ l. front_before l rest ++ rest ≡ l) (sym h.is) (ap (λ (x : List ℕ). x ++ rest) front)
 
--- a measurement that is fatal, and a line without one
+-- a measurement that is fatal
 pub begin_fatal : (dialect : Dialect) (line : List ℕ) (fault : Fault) → name a_measurement line ≡ fatal fault → answer dialect line ≡ Err fault
 unfolding answer
 begin_fatal dialect line fault e = rw e refl
 
+-- a line without a measurement
 pub begin_miss : (dialect : Dialect) (line : List ℕ) → name a_measurement line ≡ miss → answer dialect line ≡ Err measurement_value_invalid
 unfolding answer
 begin_miss dialect line e = rw e refl

@@ -92,9 +92,9 @@ left_total left pieces h = go left.dialect left.text h
     go dialect None none = rw none refl
     go dialect (Some text) h = pieces_total dialect h
 
--- some pieces are left, or none
-some_left : (left : Left) → (pieces : List (List ℕ)) × PiecesLeft left pieces
-some_left left = go left.dialect left.text
+-- what is left has pieces
+pub left_pieces : (left : Left) → (pieces : List (List ℕ)) × PiecesLeft left pieces
+left_pieces left = go left.dialect left.text
   where
     -- each text has pieces
     go : (dialect : Dialect) (text : Option (List ℕ)) → (pieces : List (List ℕ)) × PiecesLeft (record { dialect = dialect; text = text }) pieces
@@ -124,11 +124,17 @@ left_fits in_comment (b ∷ rest) =
 pub line_less : (before after : Left) (line : Bor (List ℕ)) → GivesLine before (Some line) after
     → length line.now + 1 + most_pieces after.text ≤ most_pieces before.text
 line_less before after line found =
-    let some = some_left after in
+    let some = left_pieces after in
     let gave = found.1 some.0 some.1 in
     let fits : length (trimmed gave.piece) ≤ length gave.piece = rw (trimmed_is gave.piece) (left_fits false gave.piece) in
-    omega (arith, left_total after some.0 some.1, left_total before (gave.skipped ++ gave.piece ∷ some.0) gave.left,
-    total_after gave.skipped gave.piece some.0, fits, ap length gave.line_is)
+    omega (
+      arith,
+      left_total after some.0 some.1,
+      left_total before (gave.skipped ++ gave.piece ∷ some.0) gave.left,
+      total_after gave.skipped gave.piece some.0,
+      fits,
+      ap length gave.line_is,
+    )
 
 -- after a step that leaves fewer events of a line, fewer are left
 pub step_less : (result : Result (given.Event × Place) SpelledFault) (line after before : ℕ) → IfOk result (λ p. most_of_line p.1 < line + 1)

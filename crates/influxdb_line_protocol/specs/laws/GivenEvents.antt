@@ -1,0 +1,17 @@
+-- The events that calls of `next` on a `ParseEvents` give, one after another.
+use Rattle.std.specs.Prelude.{List, ◌++◌, map}
+use Rattle.std.specs.Iterator.{Drains, Yields}
+use Rattle.lp_lines.specs.code.Events.{Event}
+use Rattle.lp_lines.specs.code.EventsLeft.{GivesEvent, HasEventsLeft, told}
+use Rattle.lp_lines.specs.declared.pull.Event as given
+use Rattle.lp_lines.specs.declared.pull.ParseEvents.{ParseEvents}
+
+-- Up to any call, the events that came, and after them those that are left, were left at the start.
+abbrev pub EventsSoFar : Type 0
+EventsSoFar =
+    (start reader : ParseEvents) (came : List given.Event) (others : List Event)
+    → Yields GivesEvent start came reader → HasEventsLeft reader others → HasEventsLeft start (map told came ++ others)
+
+-- Up to the call that gives `None`, the events that came are all that were left at the start.
+abbrev pub AllEventsCome : Type 0
+AllEventsCome = (start : ParseEvents) (came : List given.Event) → Drains GivesEvent start came → HasEventsLeft start (map told came)

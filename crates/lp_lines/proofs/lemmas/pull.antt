@@ -1,0 +1,2 @@
+pub mod EventSteps
+pub mod NextEvents
