@@ -234,7 +234,12 @@ fn lines_with_a_tag_are_counted(rt: HostRuntime) {
 #[test]
 fn the_first_fault_is_found(rt: HostRuntime) {
     assert!(rt; first_fault("m a=1i\n# c\nn,t=u a=4i 7\n").is_none());
-    assert!(rt; matches!(first_fault("m a=1i\nm b\n,\n"), Some(SpelledFault::FieldSetMissing)));
+    assert!(rt;
+        matches!(
+            first_fault("m a=1i\nm b\n,\n"),
+            Some(SpelledFault::FieldSetMissing)
+        )
+    );
     let rest = match first_fault("m,t=x a=1i,b=2i, 5\nm\n") {
         Some(SpelledFault::CannotParseEntireLine { trailing_content }) => trailing_content,
         _ => "",
