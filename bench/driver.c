@@ -1,5 +1,6 @@
 /* Times calls over files, or without a file the building of points, in processor time: the median of five runs after a
-   first one, in MB/s. Each row has the call, the file, the speed and the answer, with tabs between. */
+   first one, in MB/s. Each row has the call, the file, the speed and the answer, with tabs between.
+   `--once CALL FILE` makes one call in the function `counted`, for instructions.py. */
 #include "driver.h"
 #include <stdio.h>
 #include <stdlib.h>
@@ -72,7 +73,28 @@ static uint8_t *read_file(const char *path, size_t *len) {
     return text;
 }
 
+/* Makes one call, in a function whose name a profiler can be told. */
+__attribute__((noinline)) uint64_t counted(uint64_t (*call)(const uint8_t *, size_t), const uint8_t *text, size_t len) {
+    return call(text, len);
+}
+
+static uint64_t utf8_alone(const uint8_t *text, size_t len) { return is_utf8(text, len); }
+
+/* What is lent to a call grows in the first one, so that it is made twice and counted once. */
+static int once(const char *name, const char *path) {
+    size_t len;
+    uint8_t *text = read_file(path, &len);
+    uint64_t (*call)(const uint8_t *, size_t) = strcmp(name, "utf8") ? NULL : utf8_alone;
+    for (const struct call *at = calls; at->name && !call; at++) if (!strcmp(at->name, name)) call = at->call;
+    if (!call) { fprintf(stderr, "%s: no such call\n", name); return 2; }
+    call(text, len);
+    counted(call, text, len);
+    free(text);
+    return 0;
+}
+
 int main(int argc, char **argv) {
+    if (argc == 4 && !strcmp(argv[1], "--once")) return once(argv[2], argv[3]);
     if (argc == 1 && build) run_build(POINTS);
     for (int i = 1; i < argc; i++) {
         size_t len;

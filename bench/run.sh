@@ -3,6 +3,8 @@
 #
 #   bench/run.sh           makes the corpora, times all, and writes the .tsv files that table.py and picture.py read
 #   bench/run.sh FILE..    times these files alone
+#   COUNT=1 bench/run.sh   counts instructions in place of the times, by valgrind, over corpora of 1 MB, and writes instructions.tsv
+#                          and parts.tsv
 #
 # CARGO_FLAGS: more words for cargo, as where the crate lies if crates.io is out of reach.
 # PYTHON: python3 by default.
@@ -21,7 +23,7 @@ figures=${FIGURES:-$here/figures.tsv}
 callers=${CALLERS:-$here/callers.tsv}
 streams=${STREAMS:-$here/streams.tsv}
 corpora="files that were given"
-if [ $# -gt 0 ]; then
+if [ $# -gt 0 ] || [ -n "${COUNT:-}" ]; then
     figures=${FIGURES:-$built/figures.tsv}
     callers=${CALLERS:-$built/callers.tsv}
     streams=${STREAMS:-$built/streams.tsv}
@@ -42,6 +44,13 @@ cc -O2 "$here"/{driver,library}.c "$top/crates/lp_bench/out/liblp_bench.a" "$hea
 cc -O2 "$here"/{driver,streams}.c "$top/crates/lp_bench_streams/out/liblp_bench_streams.a" "$heap" -o "$built/streams"
 cc -O2 -I"$top/include" "$here"/{driver,callers}.c "$archive" "$heap" -o "$built/c"
 "$top/bindings/build.sh" "$archive" > "$built/build.log"
+
+if [ -n "${COUNT:-}" ]; then
+    python3 "$here/corpora.py" --seed "${SEED:-bench}" --size 1000000 --out "$built/counted" > "$built/files"
+    python3 "$here/parts.py" "$built/parts"
+    python3 "$here/instructions.py" "$built/library" "$built/c" "$built/counted" "$built/parts"
+    exit
+fi
 
 # Builds the driver in Rust over the crate that its Cargo.toml names. From a copy, since cargo writes its lock file beside it.
 build_crate() {

@@ -2,7 +2,7 @@
 
 use influxdb_line_protocol::{Dialect, FloatText, ParsedLine, parse_lines_in};
 use lp_rebuild::{Kept, rebuild_in, run_in, status};
-use lp_vectors::render;
+use lp_vectors_shared::render;
 use std::alloc::{AllocError, Global};
 use std::borrow::CowStr;
 

@@ -3,6 +3,7 @@ use Rattle.std.proofs.Common.{◌≡◌, ℕ, List, [], ◌∷◌, ◌++◌, map
 use Rattle.std.proofs.Common.{Option, Some, None, Result, Ok, Err, refl, sym, ap, subst, ◌∙◌, arith, append-nil}
 use Rattle.std.proofs.Common.{OnErr}
 use Rattle.std.specs.Str.{IsUtf8}
+use Rattle.std.proofs.lemmas.Str.{IsUtf8-nil}
 use Rattle.std.specs.List.{All}
 use Rattle.std.specs.Io.KnownBytes.{Appends}
 use Rattle.std.proofs.KnownBytes.{Appends-nil}
@@ -127,6 +128,16 @@ pub takes_bytes : (dialect : Dialect) (text piece : List ℕ) (old new : Made) �
 takes_bytes dialect text piece old new same u t =
     subst (λ l. TakesItems old l new)
     (ap (λ (p : List ℕ). map answered (answers_of_piece dialect p)) same ∙ sym (items_of_text dialect piece u)) t
+
+-- an empty piece has no item
+no_items : (dialect : Dialect) → items_of_bytes dialect [] ≡ []
+unfolding answers_of_piece trimmed
+no_items dialect = items_of_text dialect [] IsUtf8-nil
+
+-- of an empty piece nothing is taken
+pub takes_empty : (dialect : Dialect) (piece : List ℕ) (old : Made) → piece ≡ [] → TakesItems old (items_of_bytes dialect piece) old
+takes_empty dialect piece old none =
+    subst (λ l. TakesItems old l old) (sym (ap (items_of_bytes dialect) none ∙ no_items dialect)) (takes_nothing old)
 
 -- a piece that is not UTF-8 was refused
 pub takes_bad_bytes : (dialect : Dialect) (piece : List ℕ) (old new : Progress) → (¬ IsUtf8 piece)

@@ -121,7 +121,7 @@ fn text_of(bytes: &[u8]) -> Result<&str, Utf8Error>
     basic::from_utf8(bytes)
 }
 
-// Takes the bytes of a piece: their text, or where they are not UTF-8 a fault.
+// Takes the bytes of a piece: their text, or a fault if they are not UTF-8. An empty piece, which has no item, needs no line.
 fn take_bytes(
     alloc: Global,
     dialect: Dialect,
@@ -135,6 +135,9 @@ fn take_bytes(
     ensures counted { OnOk result
         (so_far.new.carried + so_far.new.refused ≤ so_far.old.carried + so_far.old.refused + 1) }
 {
+    if piece.is_empty() {
+        return Ok(());
+    }
     match text_of(piece) {
         Ok(text) => take_text(alloc, dialect, so_far, text),
         Err(_) => refuse(so_far, NOT_UTF8),

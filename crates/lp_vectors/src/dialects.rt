@@ -1,8 +1,8 @@
 //! A run in each dialect, as the arguments of the program ask for it.
 
-use crate::fault::Fault;
 use influxdb_line_protocol::Dialect;
 use lp_rebuild::{Kept, USAGE, dialect_of, rebuild_in, run_in, status};
+use lp_vectors_shared::fault::Fault;
 
 #[test]
 fn runs_are_in_the_dialect_that_was_asked_for(rt: HostRuntime) -> Result<(), Fault> {

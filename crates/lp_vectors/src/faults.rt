@@ -1,9 +1,9 @@
 //! The texts of faults that no line has, or that a run has. That of a repeated tag is the Rust crate's, the others are from the
 //! format's rules.
 
-use crate::fault::Fault;
 use influxdb_line_protocol::Error;
 use lp_rebuild::RunFault;
+use lp_vectors_shared::fault::Fault;
 use std::alloc::Global;
 use std::process::Abort;
 

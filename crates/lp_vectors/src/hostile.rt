@@ -1,9 +1,9 @@
 //! Texts that somebody might write to make a reader stumble: long runs of backslashes, quotes and comments before a
 //! newline, and texts that end early. The answers come from the format's rules.
 
-use crate::fault::Fault;
-use crate::render;
 use influxdb_line_protocol::{Dialect, parse_lines_in, split_lines_in};
+use lp_vectors_shared::fault::Fault;
+use lp_vectors_shared::render;
 use std::alloc::{AllocError, Global};
 use std::process::Abort;
 

@@ -1,9 +1,9 @@
 //! Long lines and long faults, in both dialects: with memory at hand each is answered in full. The answers come from the
 //! format's rules.
 
-use crate::fault::Fault;
-use crate::render;
 use influxdb_line_protocol::Dialect;
+use lp_vectors_shared::fault::Fault;
+use lp_vectors_shared::render;
 use std::alloc::{AllocError, Global};
 use std::process::Abort;
 

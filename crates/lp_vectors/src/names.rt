@@ -1,7 +1,7 @@
 //! Names: what their calls give, and whether two are equal. `Foo` is the Rust crate's own test, the others follow the format's rules.
 
-use crate::fault::Fault;
 use influxdb_line_protocol::EscapedStr;
+use lp_vectors_shared::fault::Fault;
 use std::collections::HashSet;
 
 #[test]

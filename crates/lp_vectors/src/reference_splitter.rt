@@ -1,8 +1,8 @@
 //! The pieces of a text byte by byte, to be held against those that the splitter finds by jumps.
 
-use crate::fault::Fault;
-use crate::short_texts::{COUNTS, short_text};
 use influxdb_line_protocol::split_lines;
+use lp_vectors_shared::fault::Fault;
+use lp_vectors_shared::short_texts::{COUNTS, short_text};
 
 /// The part of a piece that a byte is in.
 #[derive(Clone, Copy)]

@@ -1,7 +1,7 @@
 //! The first tag and the first field of a key. `foo` is the Rust crate's own test, the others follow the format's rules.
 
-use crate::fault::Fault;
 use influxdb_line_protocol::{FieldValue, parse_lines};
+use lp_vectors_shared::fault::Fault;
 
 #[test]
 fn the_first_match_is_found(rt: HostRuntime) -> Result<(), Fault> {

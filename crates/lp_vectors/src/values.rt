@@ -1,8 +1,8 @@
 //! Values: a long one, and copies. What is wanted comes from the format's rules.
 
-use crate::fault::Fault;
-use crate::render;
 use influxdb_line_protocol::{FieldValue, parse_lines};
+use lp_vectors_shared::fault::Fault;
+use lp_vectors_shared::render;
 
 #[test]
 fn a_long_float_is_read(rt: HostRuntime) -> Result<(), Fault> {

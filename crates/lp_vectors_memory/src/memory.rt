@@ -1,9 +1,9 @@
 //! Lines that are read while requests for memory are refused: each of them, or those after the first few.
 
 use influxdb_line_protocol::{Error, parse_lines};
-use lp_vectors::exhausted_memory::ExhaustedMemory;
-use lp_vectors::fault::Fault;
-use lp_vectors::render;
+use lp_vectors_shared::exhausted_memory::ExhaustedMemory;
+use lp_vectors_shared::fault::Fault;
+use lp_vectors_shared::render;
 use std::alloc::Global;
 use std::process::Abort;
 

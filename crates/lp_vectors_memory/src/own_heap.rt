@@ -6,8 +6,8 @@ ghost use Rattle.std.specs.Prelude.{◌<◌};
 use influxdb_line_protocol::builder::NoRoom;
 use influxdb_line_protocol::{FloatText, LineProtocolBuilder, parse_lines, write_line};
 use linked_list_allocator::LocalHeap;
-use lp_vectors::fault::Fault;
-use lp_vectors::short_line::LINE;
+use lp_vectors_shared::fault::Fault;
+use lp_vectors_shared::short_line::LINE;
 use std::alloc::{AllocError, Global};
 use std::process::Abort;
 

@@ -11,11 +11,11 @@ use influxdb_line_protocol::{
     EscapedStr, FieldValue, FloatText, LineProtocolBuilder, ParseLines, ParsedLine, parse_lines,
     write_line,
 };
-use lp_vectors::exhausted_memory::ExhaustedMemory;
-use lp_vectors::fault::Fault;
-use lp_vectors::lent::Lent;
-use lp_vectors::render;
-use lp_vectors::short_line::{LINE, first_refused, refusal};
+use lp_vectors_shared::exhausted_memory::ExhaustedMemory;
+use lp_vectors_shared::fault::Fault;
+use lp_vectors_shared::lent::Lent;
+use lp_vectors_shared::render;
+use lp_vectors_shared::short_line::{LINE, first_refused, refusal};
 use std::alloc::{AllocError, Global};
 use std::borrow::CowStr;
 use std::process::Abort;

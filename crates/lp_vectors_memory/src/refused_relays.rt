@@ -3,9 +3,9 @@
 
 use lp_rebuild::{DeviceFault, RunFault, Source};
 use lp_relay_core::relay;
-use lp_vectors::drops::Basin;
-use lp_vectors::exhausted_memory::ExhaustedMemory;
-use lp_vectors::fault::Fault;
+use lp_vectors_shared::drops::Basin;
+use lp_vectors_shared::exhausted_memory::ExhaustedMemory;
+use lp_vectors_shared::fault::Fault;
 use std::alloc::Global;
 
 const TEXT: &[u8] = b"m a=T 5\n# c\nx\nw\\\t a=1i\n";

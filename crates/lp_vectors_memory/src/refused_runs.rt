@@ -4,9 +4,9 @@
 ghost use Rattle.std.specs.Prelude.{◌<◌};
 
 use lp_rebuild::{DeviceFault, RunFault, Source, rebuild, run};
-use lp_vectors::drops::Basin;
-use lp_vectors::exhausted_memory::ExhaustedMemory;
-use lp_vectors::fault::Fault;
+use lp_vectors_shared::drops::Basin;
+use lp_vectors_shared::exhausted_memory::ExhaustedMemory;
+use lp_vectors_shared::fault::Fault;
 use std::alloc::{AllocError, Global};
 use std::process::Abort;
 

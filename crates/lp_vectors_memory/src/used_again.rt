@@ -1,9 +1,9 @@
 //! One line that is used again: what it holds after each item, and that its sets keep their room.
 
 use influxdb_line_protocol::{Error, ParsedLine, parse_lines};
-use lp_vectors::exhausted_memory::ExhaustedMemory;
-use lp_vectors::fault::Fault;
-use lp_vectors::render;
+use lp_vectors_shared::exhausted_memory::ExhaustedMemory;
+use lp_vectors_shared::fault::Fault;
+use lp_vectors_shared::render;
 use std::alloc::{AllocError, Global};
 use std::process::Abort;
 

@@ -1,7 +1,7 @@
 //! Bases of series with many tags and with long names.
 
 use crate::rows::{self, LongText, assert_same};
-use lp_vectors::fault::Fault;
+use lp_vectors_shared::fault::Fault;
 use std::alloc::{AllocError, Global};
 use std::borrow::CowStr;
 use std::process::Abort;

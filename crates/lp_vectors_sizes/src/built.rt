@@ -2,7 +2,7 @@
 
 use crate::rows::{self, LongText, assert_same, repeated};
 use influxdb_line_protocol::{FloatText, LineProtocolBuilder};
-use lp_vectors::fault::Fault;
+use lp_vectors_shared::fault::Fault;
 use std::alloc::Global;
 use std::process::Abort;
 

@@ -8,8 +8,8 @@ use influxdb_line_protocol::{
     Dialect, EscapedStr, EventSink, FieldValue, LineProtocolBuilder, Spelled, SpelledFault,
     SpelledValue, is_admitted, read_events_in, write_line,
 };
-use lp_vectors::fault::Fault;
-use lp_vectors::render;
+use lp_vectors_shared::fault::Fault;
+use lp_vectors_shared::render;
 use std::alloc::Global;
 use std::process::Abort;
 

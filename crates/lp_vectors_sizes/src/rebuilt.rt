@@ -4,7 +4,7 @@ use crate::rows::{self, Row, assert_same, repeated};
 use influxdb_line_protocol::Dialect;
 use lp_rebuild::{DeviceFault, Kept, Source, read_all, rebuild_in, run_in};
 use lp_relay_core::{Numbering, part_ends, relay_numbered};
-use lp_vectors::fault::Fault;
+use lp_vectors_shared::fault::Fault;
 use std::alloc::{AllocError, Global};
 use std::process::Abort;
 

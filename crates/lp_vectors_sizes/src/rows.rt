@@ -2,7 +2,7 @@
 //! serves for what is read, shown and written again.
 
 use influxdb_line_protocol::{ParsedLine, parse_lines};
-use lp_vectors::fault::Fault;
+use lp_vectors_shared::fault::Fault;
 use std::alloc::{AllocError, Global};
 use std::process::Abort;
 

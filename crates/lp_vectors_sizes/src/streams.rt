@@ -2,7 +2,7 @@
 
 use crate::rows::repeated;
 use influxdb_line_protocol::{BoundedLineStream, Dialect, LineStream, PieceTooLong};
-use lp_vectors::fault::Fault;
+use lp_vectors_shared::fault::Fault;
 use std::alloc::{AllocError, Global};
 use std::process::Abort;
 

@@ -2,8 +2,8 @@
 
 use crate::taken::gives_pieces;
 use influxdb_line_protocol::{Dialect, LineStream};
-use lp_vectors::fault::Fault;
-use lp_vectors::short_texts::{COUNTS, short_text};
+use lp_vectors_shared::fault::Fault;
+use lp_vectors_shared::short_texts::{COUNTS, short_text};
 
 // Cuts each text of at most six bytes over these in every way, and gives how many cut texts there are.
 fn all_give_pieces(

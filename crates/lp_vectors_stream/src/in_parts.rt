@@ -1,7 +1,7 @@
 //! Worked texts that come in parts, and what a stream gives of them.
 
 use influxdb_line_protocol::{Dialect, LineStream};
-use lp_vectors::fault::Fault;
+use lp_vectors_shared::fault::Fault;
 
 #[test]
 fn a_piece_is_there_with_its_newline(rt: HostRuntime) -> Result<(), Fault> {

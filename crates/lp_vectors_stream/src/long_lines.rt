@@ -3,8 +3,8 @@
 
 use crate::taken::gives_short_pieces;
 use influxdb_line_protocol::{BoundedLineStream, Dialect, PieceTooLong};
-use lp_vectors::fault::Fault;
-use lp_vectors::short_texts::{COUNTS, short_text};
+use lp_vectors_shared::fault::Fault;
+use lp_vectors_shared::short_texts::{COUNTS, short_text};
 
 #[test]
 fn a_long_piece_is_one_fault(rt: HostRuntime) -> Result<(), Fault> {

@@ -4,7 +4,7 @@
 ghost use Rattle.std.specs.Prelude.{◌<◌};
 
 use influxdb_line_protocol::LineStream;
-use lp_vectors::fault::Fault;
+use lp_vectors_shared::fault::Fault;
 
 const PARTS: usize = 1 << 18;
 

@@ -2,8 +2,8 @@
 
 use crate::taken::{gives_pieces, gives_short_pieces};
 use influxdb_line_protocol::{BoundedLineStream, Dialect, LineStream};
-use lp_vectors::fault::Fault;
-use lp_vectors::random::Random;
+use lp_vectors_shared::fault::Fault;
+use lp_vectors_shared::random::Random;
 
 const DIALECTS: [Dialect; 2] = [Dialect::Crate, Dialect::Strict];
 

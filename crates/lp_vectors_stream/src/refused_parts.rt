@@ -4,8 +4,8 @@ use crate::taken::{takes_answers, takes_last, takes_last_answer, takes_pieces};
 use influxdb_line_protocol::{
     BoundedLineStream, Dialect, LineStream, PieceTooLong, split_lines, split_lines_in,
 };
-use lp_vectors::exhausted_memory::ExhaustedMemory;
-use lp_vectors::fault::Fault;
+use lp_vectors_shared::exhausted_memory::ExhaustedMemory;
+use lp_vectors_shared::fault::Fault;
 use std::alloc::{AllocError, Global};
 
 const TEXT: &str = "m,a=b s=\"a\nb\\\"\nc\",t=1i\n# d\ne f=\"\n\n\",g=\"h\nh\"\nlast\\\nlast";

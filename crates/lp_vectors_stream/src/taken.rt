@@ -5,7 +5,7 @@ ghost use Rattle.influxdb_line_protocol.specs.format.Pieces.{IsLastPiece};
 use influxdb_line_protocol::{
     BoundedLineStream, Dialect, LineStream, PieceTooLong, SplitLines, split_lines_in,
 };
-use lp_vectors::cuts::Parts;
+use lp_vectors_shared::cuts::Parts;
 use std::alloc::AllocError;
 
 /// Takes each piece that a newline ends, and says whether they are the next ones of these.

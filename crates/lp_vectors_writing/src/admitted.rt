@@ -4,7 +4,7 @@ use influxdb_line_protocol::{
     EscapedStr, FieldSet, FieldValue, LineProtocolBuilder, ParsedLine, Series, TagSet, is_admitted,
     write_line,
 };
-use lp_vectors::fault::Fault;
+use lp_vectors_shared::fault::Fault;
 use std::alloc::{AllocError, Global};
 use std::process::Abort;
 

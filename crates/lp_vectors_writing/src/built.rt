@@ -3,8 +3,8 @@
 use arrayvec::ArrayVec;
 use influxdb_line_protocol::builder::{BufMut, FieldValue, NoRoom};
 use influxdb_line_protocol::{FloatText, LineProtocolBuilder};
-use lp_vectors::fault::Fault;
-use lp_vectors::render;
+use lp_vectors_shared::fault::Fault;
+use lp_vectors_shared::render;
 use std::alloc::Global;
 use std::process::Abort;
 

@@ -4,7 +4,7 @@
 use influxdb_line_protocol::{
     EscapedStr, FieldSet, FieldValue, FloatText, ParsedLine, Series, TagSet, parse_lines,
 };
-use lp_vectors::fault::Fault;
+use lp_vectors_shared::fault::Fault;
 use std::alloc::Global;
 
 // A line with this measurement and these tags, made from a parsed one.

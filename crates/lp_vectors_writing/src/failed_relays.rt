@@ -3,10 +3,10 @@
 use influxdb_line_protocol::{Dialect, split_lines_in};
 use lp_rebuild::{Rebuilt, RunFault, rebuild_in};
 use lp_relay_core::relay_in;
-use lp_vectors::cuts::{CutSource, Parts};
-use lp_vectors::drops::Basin;
-use lp_vectors::fault::Fault;
-use lp_vectors::random::Random;
+use lp_vectors_shared::cuts::{CutSource, Parts};
+use lp_vectors_shared::drops::Basin;
+use lp_vectors_shared::fault::Fault;
+use lp_vectors_shared::random::Random;
 use std::alloc::Global;
 
 const DIALECTS: [Dialect; 2] = [Dialect::Crate, Dialect::Strict];

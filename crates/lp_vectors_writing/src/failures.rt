@@ -2,8 +2,8 @@
 
 use lp_rebuild::{Kept, Reading, RunFault, Writing, run};
 use lp_relay_core::relay;
-use lp_vectors::drops::{Basin, Trickle};
-use lp_vectors::fault::Fault;
+use lp_vectors_shared::drops::{Basin, Trickle};
+use lp_vectors_shared::fault::Fault;
 use std::alloc::Global;
 use std::cell::Cell;
 use std::io::{self, Read, Write};

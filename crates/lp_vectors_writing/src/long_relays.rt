@@ -3,8 +3,8 @@
 use influxdb_line_protocol::Dialect;
 use lp_rebuild::Kept;
 use lp_relay_core::relay_within;
-use lp_vectors::drops::Trickle;
-use lp_vectors::fault::Fault;
+use lp_vectors_shared::drops::Trickle;
+use lp_vectors_shared::fault::Fault;
 
 // The second line has 13 bytes, of which one is a newline, and the fourth one has 6.
 const LINES: &[u8] = b"m a=1i\nm s=\"a\nbcdef\"\n\nn c=1i\nx\n";

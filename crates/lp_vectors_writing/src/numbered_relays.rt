@@ -3,8 +3,8 @@
 use influxdb_line_protocol::Dialect;
 use lp_rebuild::{Kept, RunFault};
 use lp_relay_core::{Numbering, Relayed, relay_numbered, relay_within};
-use lp_vectors::drops::Trickle;
-use lp_vectors::fault::Fault;
+use lp_vectors_shared::drops::Trickle;
+use lp_vectors_shared::fault::Fault;
 use std::alloc::Global;
 
 // The pieces that are not blank begin on the lines 1, 4, 5, 7, 9, 12, 14 and 15. That of the line 9 has 24 bytes.

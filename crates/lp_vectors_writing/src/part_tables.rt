@@ -3,7 +3,7 @@
 use influxdb_line_protocol::Dialect;
 use lp_rebuild::rebuild_in;
 use lp_relay_core::part_ends;
-use lp_vectors::fault::Fault;
+use lp_vectors_shared::fault::Fault;
 use std::alloc::Global;
 use std::process::Abort;
 

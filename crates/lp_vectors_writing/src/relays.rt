@@ -4,8 +4,8 @@
 use influxdb_line_protocol::Dialect;
 use lp_rebuild::{DeviceFault, Failures, Kept, RunFault, Source, rebuild};
 use lp_relay_core::{relay, relay_in};
-use lp_vectors::drops::{Basin, Trickle};
-use lp_vectors::fault::Fault;
+use lp_vectors_shared::drops::{Basin, Trickle};
+use lp_vectors_shared::fault::Fault;
 use std::alloc::Global;
 use std::process::Abort;
 

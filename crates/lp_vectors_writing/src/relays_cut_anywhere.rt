@@ -3,10 +3,10 @@
 use influxdb_line_protocol::Dialect;
 use lp_rebuild::{Kept, Rebuilt, rebuild_in};
 use lp_relay_core::relay_in;
-use lp_vectors::cuts::CutSource;
-use lp_vectors::fault::Fault;
-use lp_vectors::random::Random;
-use lp_vectors::short_texts::{COUNTS, short_text};
+use lp_vectors_shared::cuts::CutSource;
+use lp_vectors_shared::fault::Fault;
+use lp_vectors_shared::random::Random;
+use lp_vectors_shared::short_texts::{COUNTS, short_text};
 use std::alloc::Global;
 
 // Whether a relay of a text in these parts gives what its rebuild does.

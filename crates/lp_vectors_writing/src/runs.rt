@@ -1,7 +1,7 @@
 //! Runs of the program over bytes that are no text.
 
 use lp_rebuild::{Kept, run, status};
-use lp_vectors::fault::Fault;
+use lp_vectors_shared::fault::Fault;
 
 #[test]
 fn input_that_is_no_text_writes_nothing(rt: HostRuntime) -> Result<(), Fault> {

@@ -1,7 +1,7 @@
 //! What is shown of a series, and shown and based of series that were made from a parsed one.
 
 use influxdb_line_protocol::{EscapedStr, ParsedLine, Series, TagSet, parse_lines};
-use lp_vectors::fault::Fault;
+use lp_vectors_shared::fault::Fault;
 use std::alloc::{AllocError, Global};
 use std::borrow::CowStr;
 

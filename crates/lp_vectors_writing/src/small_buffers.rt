@@ -5,9 +5,9 @@ ghost use Rattle.std.specs.Prelude.{◌<◌};
 use arrayvec::ArrayVec;
 use influxdb_line_protocol::builder::NoRoom;
 use influxdb_line_protocol::{FloatText, LineProtocolBuilder, ParsedLine, parse_lines, write_line};
-use lp_vectors::fault::Fault;
-use lp_vectors::lent::Lent;
-use lp_vectors::short_line::{LINE, first_refused, refusal};
+use lp_vectors_shared::fault::Fault;
+use lp_vectors_shared::lent::Lent;
+use lp_vectors_shared::short_line::{LINE, first_refused, refusal};
 use std::process::Abort;
 
 // Writes the line into a buffer of this capacity, call by call.

@@ -1,8 +1,16 @@
+use Rattle.std.proofs.Common.{◌∙◌, length, sym}
+use Rattle.std.proofs.lemmas.Bool.{eqb-true}
+use Rattle.std.proofs.lemmas.List.{nil_from_length}
 use Rattle.influxdb_line_protocol.specs.code.Rules.{rules_of}
 use Rattle.std.proofs.lemmas.Result.{on_ok_weaker}
 use Rattle.lp_relay_core.specs.RelaySteps.{made}
-use Rattle.lp_relay_core.proofs.RelayLemmas.{takes_bytes, takes_bad_bytes}
+use Rattle.lp_relay_core.proofs.RelayLemmas.{takes_bytes, takes_bad_bytes, takes_empty}
 use Rattle.lp_relay_core.proofs.taking.take_bytes.Goals as goal
+
+pub returns-then-is_empty-clause-taken : goal.returns-then-is_empty-clause-taken
+returns-then-is_empty-clause-taken c =
+    takes_empty (rules_of c.args.dialect) c.args.piece.now (made c.args.so_far.now)
+    (nil_from_length c.args.piece.now (eqb-true (length c.args.piece.now) 0 (sym c.is_empty.ensures ∙ c.if-is_empty.true)))
 
 pub returns-in-Ok-clause-taken : goal.returns-in-Ok-clause-taken
 returns-in-Ok-clause-taken c =

@@ -1,0 +1,12 @@
+//! What the crates of tests share: the fault that a test ends with, items as text, devices and memory that fail, texts in parts.
+#![tactic(auto)]
+
+pub mod cuts;
+pub mod drops;
+pub mod exhausted_memory;
+pub mod fault;
+pub mod lent;
+pub mod random;
+pub mod render;
+pub mod short_line;
+pub mod short_texts;
