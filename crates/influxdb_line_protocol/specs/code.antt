@@ -13,8 +13,8 @@ pub use Rattle.lp_lines.specs.code.Lookups
 pub use Rattle.lp_format.specs.code.Light
 pub use Rattle.lp_lines.specs.code.ParseSteps
 pub use Rattle.lp_lines.specs.code.ReadInto
-pub use Rattle.lp_lines.specs.code.Events
-pub use Rattle.lp_lines.specs.code.EventsLeft
+pub use Rattle.lp_events.specs.code.Events
+pub use Rattle.lp_events.specs.code.EventsLeft
 pub use Rattle.lp_build.specs.code.Built
 pub use Rattle.lp_build.specs.code.WrittenAgain
 pub use Rattle.lp_format.specs.code.Shown

@@ -16,8 +16,8 @@ pub use Rattle.lp_values.specs.declared.values.FieldValue
 pub use Rattle.lp_lines.specs.declared.parsed.Series
 pub use Rattle.lp_lines.specs.declared.parsed.ParsedLine
 pub use Rattle.lp_lines.specs.declared.line.ParseLines
-pub use Rattle.lp_lines.specs.declared.pull.Event
-pub use Rattle.lp_lines.specs.declared.pull.ParseEvents
+pub use Rattle.lp_events.specs.declared.pull.Event
+pub use Rattle.lp_events.specs.declared.pull.ParseEvents
 pub use Rattle.lp_build.specs.declared.builder.buffer.NoRoom
 pub use Rattle.lp_build.specs.declared.builder.LineProtocolBuilder
 pub use Rattle.lp_build.specs.declared.builder.parsed.Written

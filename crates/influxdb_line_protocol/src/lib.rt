@@ -11,10 +11,10 @@ pub mod laws;
 
 pub use lp_build::builder;
 pub use lp_build::builder::{LineProtocolBuilder, is_admitted, write_line, write_parsed};
-pub use lp_lines::{
-    Event, EventSink, FieldSet, ParseEvents, ParseLines, ParsedLine, Series, TagSet, parse_events,
-    parse_events_in, parse_lines, parse_lines_in, read_events_in, read_line_events,
+pub use lp_events::{
+    Event, EventSink, ParseEvents, parse_events, parse_events_in, read_events_in, read_line_events,
 };
+pub use lp_lines::{FieldSet, ParseLines, ParsedLine, Series, TagSet, parse_lines, parse_lines_in};
 pub use lp_split::{
     BoundedLineStream, Dialect, LineStream, PieceTooLong, SplitLines, split_lines, split_lines_in,
 };

@@ -4,6 +4,4 @@ pub mod ParseSteps
 pub mod ReadInto
 pub mod Bases
 pub mod Freeing
-pub mod Events
-pub mod EventsLeft
 pub mod Filling

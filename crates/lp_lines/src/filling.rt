@@ -7,14 +7,14 @@
 ghost use Rattle.std.specs.Prelude.{◌≡◌, ◌≤◌, ◌+◌, ◌⊎◌, ◌++◌, ◌∷◌, [], length, map, true, false};
 ghost use Rattle.lp_format.specs.code.Light.{is_single_field, is_single_tag};
 ghost use Rattle.lp_values.specs.code.SpelledParts.{spelled_text};
-ghost use Rattle.lp_lines.specs.code.Events.{named, spelled_field, spelled_tag, tagged, valued};
+ghost use Rattle.lp_events.specs.code.Events.{named, spelled_field, spelled_tag, tagged, valued};
 ghost use Rattle.lp_format.specs.format.Lines.{answer};
 ghost use Rattle.lp_split.specs.code.Rules.{rules_of};
 ghost use Rattle.lp_lines.specs.code.Filling.{FillsAnswer, KeepsRooms, NeedsRoom, Puts, fields_so_far, tags_so_far};
 ghost use Rattle.lp_lines.specs.code.Parsed.{field_of, tag_of};
 
-use crate::events::{EventSink, read_line_events};
 use crate::{FieldSet, ParsedLine, TagSet};
+use lp_events::{EventSink, read_line_events};
 use lp_split::Dialect;
 use lp_values::error::refused;
 use lp_values::{FieldValue, Spelled, SpelledFault, SpelledValue};

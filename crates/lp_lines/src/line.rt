@@ -10,36 +10,20 @@ ghost use Rattle.lp_values.specs.code.Outcomes.{IsNotOutOfMemory};
 ghost use Rattle.lp_format.specs.code.Light.{inline_fields, inline_tags, is_light_in};
 ghost use Rattle.lp_lines.specs.code.Lookups.{room_of, some_items};
 ghost use Rattle.lp_lines.specs.code.Parsed.{FillsLine};
-ghost use Rattle.lp_lines.specs.code.ParseSteps.{GivesLine, most_items};
+ghost use Rattle.lp_events.specs.code.LineSteps.{GivesLine, most_items};
 ghost use Rattle.lp_format.specs.format.Trimming.{trimmed};
 ghost use Rattle.lp_lines.specs.code.ReadInto.{IsEmptyLine, KeepsTagRoom};
 
 use crate::filling::{Filling, tell_line};
 use crate::{ParsedLine, Series, TagSet};
+use lp_events::lines;
 use lp_split::Dialect;
 use lp_split::split::{SplitLines, dialect_of, split_lines_in};
-use lp_values::trim::trimmed;
 use lp_values::{Error, EscapedStr, Result};
 use smallvec::SmallVec;
 use std::alloc::Global;
 use std::marker::Model;
 use std::mem;
-
-// The next piece that holds more than blanks and comments, without those before it.
-#[inline(always)]
-pub(crate) fn next_line<'a>(lines: &mut SplitLines<'a>) -> Option<&'a str>
-    ensures gives { GivesLine lines.old result lines.new }
-    ensures fewer { IfSome result (λ line. most_items lines.new.text < most_items lines.old.text) }
-    ensures fits { IfSome result (λ line. length line.now < 2 ^ 63) }
-{
-    while let Some(piece) = lines.next() {
-        let line = trimmed(piece);
-        if !line.is_empty() {
-            return Some(line);
-        }
-    }
-    None
-}
 
 // Makes an empty tag set `None`. A set that has grown is kept at `spare`, if that is given. A set that has not holds no memory
 // and is forgotten: to drop it would visit each of its places.
@@ -204,7 +188,7 @@ impl<'a> ParseLines<'a> {
         ensures fewer { IfSome result (λ line. most_items self.new.text < most_items self.old.text) }
         ensures fits { IfSome result (λ line. length line.now < 2 ^ 63) }
     {
-        next_line(&mut self.lines)
+        lines::next_line(&mut self.lines)
     }
 
     /// The text that is left: what comes after the piece of the last item, or `None` once there is none.

@@ -1,10 +1,10 @@
 -- The events that calls of `next` on a `ParseEvents` give, one after another.
 use Rattle.std.specs.Prelude.{List, ◌++◌, map}
 use Rattle.std.specs.Iterator.{Drains, Yields}
-use Rattle.lp_lines.specs.code.Events.{Event}
-use Rattle.lp_lines.specs.code.EventsLeft.{GivesEvent, HasEventsLeft, told}
-use Rattle.lp_lines.specs.declared.pull.Event as given
-use Rattle.lp_lines.specs.declared.pull.ParseEvents.{ParseEvents}
+use Rattle.lp_events.specs.code.Events.{Event}
+use Rattle.lp_events.specs.code.EventsLeft.{GivesEvent, HasEventsLeft, told}
+use Rattle.lp_events.specs.declared.pull.Event as given
+use Rattle.lp_events.specs.declared.pull.ParseEvents.{ParseEvents}
 
 -- Up to any call, the events that came, and after them those that are left, were left at the start.
 abbrev pub EventsSoFar : Type 0

@@ -11,7 +11,7 @@ use Rattle.lp_values.specs.code.SpelledParts.{spelled_fault}
 use Rattle.lp_values.specs.code.Texts.{read_of}
 use Rattle.lp_lines.specs.declared.filling.Filling.{Filling}
 use Rattle.lp_lines.specs.declared.parsed.ParsedLine.{ParsedLine}
-use Rattle.lp_lines.specs.code.Events.{Event, ended, failed, named, tagged, valued}
+use Rattle.lp_events.specs.code.Events.{Event, ended, failed, named, tagged, valued}
 use Rattle.lp_lines.specs.code.Lookups.{room_of, some_items}
 use Rattle.lp_lines.specs.code.Parsed.{field_of, tag_of}
 

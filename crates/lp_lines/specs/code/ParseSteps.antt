@@ -1,6 +1,5 @@
 -- What a call of `next` on a `ParseLines` gives.
 use Rattle.std.specs.Prelude.{◌≡◌, ℕ, ◌<◌, ◌^◌, true, List, ◌∷◌, [], ◌++◌, length, Option, Some, None, IfSome, Result, IfOk}
-use Rattle.std.specs.Borrow.{Bor}
 use Rattle.std.specs.List.{All}
 use Rattle.lp_format.specs.format.Dialects.{Dialect}
 use Rattle.lp_values.specs.declared.error.Error.{Error}
@@ -8,14 +7,11 @@ use Rattle.lp_lines.specs.declared.parsed.ParsedLine.{ParsedLine}
 use Rattle.lp_format.specs.format.Pieces.{Left, PiecesLeft}
 use Rattle.lp_format.specs.format.Trimming.{trimmed}
 use Rattle.lp_format.specs.code.Light.{is_light}
+pub use Rattle.lp_events.specs.code.LineSteps.{IsBlankPiece, GaveLine, HadBlankPieces, GivesLine, most_items}
 use Rattle.lp_lines.specs.code.Lookups.{columns}
 use Rattle.lp_values.specs.code.Outcomes.{IsNotOutOfMemory}
 use Rattle.lp_lines.specs.code.Parsed.{Answers}
 use Rattle.lp_format.specs.format.Lines.{answer}
-
--- nothing is left of the piece when it is trimmed
-abbrev pub IsBlankPiece : List ℕ → Type 0
-IsBlankPiece piece = length (trimmed piece) ≡ 0
 
 -- a line that was read has at least one tag, where it has a tag set
 abbrev pub HasNoEmptyTagSet : Result ParsedLine Error → Type 0
@@ -42,36 +38,9 @@ pub record GaveItem (before : Left) (item : Result ParsedLine Error) (others : L
   pub some : 0 < length (trimmed piece)
   pub item_is : IsItemOf before.dialect (trimmed piece) item
 
--- blank pieces were left, then a piece that is not blank, of which this line is left when it is trimmed, and then the others
-pub record GaveLine (before : Left) (line : List ℕ) (others : List (List ℕ)) : Type 0 where
-  pub skipped : List (List ℕ)
-  pub piece : List ℕ
-  pub left : PiecesLeft before (skipped ++ piece ∷ others)
-  pub blank : All IsBlankPiece skipped
-  pub some : 0 < length line
-  pub line_is : line ≡ trimmed piece
-
--- only blank pieces were left
-pub record HadBlankPieces (before : Left) : Type 0 where
-  pub skipped : List (List ℕ)
-  pub left : PiecesLeft before skipped
-  pub blank : All IsBlankPiece skipped
-
 -- a call gives the item of the first piece that is not blank and leaves the pieces after it, whatever the item is;
 -- or `None` where only blank pieces are left, and then none is left
 abbrev pub GivesItem : Left → Option (Result ParsedLine Error) → Left → Type 0
 GivesItem before None after = HadBlankPieces before × PiecesLeft after []
 GivesItem before (Some item) after =
     (after.dialect ≡ before.dialect) × ((others : List (List ℕ)) → PiecesLeft after others → GaveItem before item others)
-
--- the line of the first piece that is not blank is given, and the pieces after it are left; or `None` where only blank
--- pieces are left, and then none is left
-abbrev pub GivesLine : Left → Option (Bor (List ℕ)) → Left → Type 0
-GivesLine before None after = HadBlankPieces before × PiecesLeft after []
-GivesLine before (Some line) after =
-    (after.dialect ≡ before.dialect) × ((others : List (List ℕ)) → PiecesLeft after others → GaveLine before line.now others)
-
--- so many items are left at most
-abbrev pub most_items : Option (List ℕ) → ℕ
-most_items None = 0
-most_items (Some text) = length text

@@ -6,7 +6,7 @@ use Rattle.lp_format.specs.code.Light.{is_light_in}
 use Rattle.lp_lines.specs.code.Lookups.{room_of, some_items}
 use Rattle.lp_values.specs.code.Outcomes.{IsNotOutOfMemory}
 use Rattle.lp_values.specs.code.Texts.{text_of}
-use Rattle.lp_lines.specs.code.ParseSteps.{GaveLine}
+use Rattle.lp_events.specs.code.LineSteps.{GaveLine}
 use Rattle.lp_format.specs.format.Pieces.{Left, PiecesLeft}
 
 -- a line that says nothing: it has no text, no name, no tags, no fields and no timestamp

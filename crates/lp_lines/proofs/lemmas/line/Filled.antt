@@ -12,7 +12,7 @@ use Rattle.lp_format.specs.format.Readings.{Fault, Text}
 use Rattle.lp_format.specs.format.Values.{Value}
 use Rattle.lp_lines.specs.declared.filling.Filling.{Filling}
 use Rattle.lp_lines.specs.declared.parsed.ParsedLine.{ParsedLine}
-use Rattle.lp_lines.specs.code.Events.{AreEventsOf, Event, TakesAll, ended, events_of_line, failed, named, tagged, valued}
+use Rattle.lp_events.specs.code.Events.{AreEventsOf, Event, TakesAll, ended, events_of_line, failed, named, tagged, valued}
 use Rattle.lp_lines.specs.code.Filling.{FilledLine, FillsAnswer, FillsBy, HasRead, KeepsRooms, beside_fields, beside_tags, field_room}
 use Rattle.lp_lines.specs.code.Filling.{fields_so_far, tag_room, tags_so_far}
 

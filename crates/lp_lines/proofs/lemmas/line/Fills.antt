@@ -20,7 +20,7 @@ use Rattle.lp_lines.specs.declared.parsed.ParsedLine.{ParsedLine}
 use Rattle.lp_lines.specs.code.Filling.{FilledLine, FillsAnswer, HasRead, field_room, tag_room}
 use Rattle.lp_lines.specs.code.Lookups.{some_items}
 use Rattle.lp_lines.specs.code.Parsed.{line_read, tag_of, tags_of}
-use Rattle.lp_lines.proofs.lemmas.fields.ManyLemmas.{carried_on}
+use Rattle.lp_events.proofs.lemmas.fields.ManyLemmas.{carried_on}
 use Rattle.lp_lines.proofs.lemmas.line.LightLemmas.{light_fault, light_line}
 use Rattle.lp_lines.proofs.lemmas.line.SomeTags.{HasSome, line_some_tags}
 

@@ -5,7 +5,8 @@ use Rattle.lp_lines.specs.declared.parsed.ParsedLine.{ParsedLine}
 use Rattle.lp_format.specs.code.Light.{is_light, is_light_in}
 use Rattle.lp_values.specs.code.Outcomes.{IsNotOutOfMemory}
 use Rattle.lp_lines.specs.code.Parsed.{Answers}
-use Rattle.lp_lines.specs.code.ParseSteps.{IsItemOf, GaveItem, GaveLine}
+use Rattle.lp_events.specs.code.LineSteps.{GaveLine}
+use Rattle.lp_lines.specs.code.ParseSteps.{IsItemOf, GaveItem}
 use Rattle.lp_format.specs.format.Pieces.{Left}
 use Rattle.lp_lines.specs.code.ReadInto.{GaveInRoom}
 use Rattle.lp_format.specs.format.Lines.{answer}

@@ -12,7 +12,7 @@ use Rattle.lp_format.specs.code.Light.{carries_no_text, count_after, fields_in, 
 use Rattle.lp_format.specs.code.Light.{many_count, read_count, tags_in}
 use Rattle.lp_format.proofs.lemmas.names.Inversions.{prepend_parts}
 use Rattle.lp_values.proofs.lemmas.fields.ReadingLemmas.{bind_reads}
-use Rattle.lp_lines.proofs.lemmas.fields.SeriesEnds.{ok_read}
+use Rattle.lp_events.proofs.lemmas.fields.SeriesEnds.{ok_read}
 use Rattle.lp_lines.proofs.lemmas.names.ParsedNames.{Parts, answer_parts}
 
 -- as many as were read were counted

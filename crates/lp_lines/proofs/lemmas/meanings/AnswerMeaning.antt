@@ -22,7 +22,7 @@ use Rattle.lp_format.specs.laws.MeaningsOfAnswers.{IsAnswer.no_measurement, IsAn
 use Rattle.lp_format.specs.laws.MeaningsOfAnswers.{IsAnswer.no_space, IsAnswer.fatal_field, IsAnswer.no_field}
 use Rattle.lp_format.specs.laws.MeaningsOfAnswers.{IsAnswer.fatal_timestamp, IsAnswer.left, IsAnswer.all_read, AnswerIsByRows}
 use Rattle.lp_format.proofs.lemmas.meanings.JoinedMeaning.{the_most_is_read, the_next_has_the_fault, the_first_misses}
-use Rattle.lp_lines.proofs.lemmas.fields.SeriesEnds.{tag_set_ends}
+use Rattle.lp_events.proofs.lemmas.fields.SeriesEnds.{tag_set_ends}
 use Rattle.lp_lines.proofs.lemmas.read_back.LineReadsBack.{front_is}
 use Rattle.lp_values.proofs.lemmas.fields.ReadingLemmas.{EndsIn, EndsIn-end, name_ends}
 use Rattle.lp_format.proofs.lemmas.meanings.ShorterRests.{tag_no_longer, field_no_longer}

@@ -1,6 +1,6 @@
 -- The events that calls of `next` give are those that were left.
 use Rattle.std.proofs.Common.{[], ◌∷◌, ◌++◌, map, append-nil, subst, sym}
-use Rattle.lp_lines.specs.code.EventsLeft.{HasEventsLeft, told}
+use Rattle.lp_events.specs.code.EventsLeft.{HasEventsLeft, told}
 use Rattle.influxdb_line_protocol.specs.laws.GivenEvents.{AllEventsCome, EventsSoFar}
 
 -- the events that came were left, and those that are left after them

@@ -17,7 +17,7 @@ use Rattle.influxdb_line_protocol.specs.laws.GivenItems.{trimmed_line, trimmed_l
 use Rattle.influxdb_line_protocol.specs.laws.GivenItems.{ItemsAreAnswers, GivenLinesWereRead, ItemsSoFar}
 use Rattle.lp_format.specs.format.Lines.{answer}
 use Rattle.lp_format.proofs.lemmas.split.SplitPieces.{same_pieces}
-use Rattle.lp_lines.proofs.lemmas.pull.NextEvents.{left_pieces}
+use Rattle.lp_events.proofs.lemmas.pull.NextEvents.{left_pieces}
 
 -- nothing is left of blank pieces
 blank_lines : (pieces : List (List ℕ)) → All IsBlankPiece pieces → trimmed_lines pieces ≡ []

@@ -1,0 +1,252 @@
+-- What one step of a reader means for the events that are left.
+use Rattle.std.proofs.Common.{◌≡◌, ℕ, ◌-◌, ◌<◌, List, [], ◌∷◌, ◌++◌, length, map, drop, Bool, true, false, refl, sym, ◌∙◌, ap, subst, arith}
+use Rattle.std.proofs.Common.{append_assoc, inl, inr, length-append, length-drop, length-take}
+use Rattle.std.specs.Prelude.{ℤ, ◌⊎◌, ◌==◌, MatchOption, Option, Some, None, Result, Ok, Err, is_some}
+use Rattle.std.specs.Borrow.{Bor}
+use Rattle.std.proofs.lemmas.Bool.{cases_Bool, ne_eqb}
+use Rattle.std.proofs.lemmas.Bool.Decides.{nat_tests}
+use Rattle.std.proofs.lemmas.List.{append-nil, map_push}
+use Rattle.std.proofs.Math.Seq.{take-append_seam}
+use Rattle.lp_format.specs.format.Bytes.{comma, space}
+use Rattle.lp_format.specs.format.Dialects.{Dialect}
+use Rattle.lp_format.specs.format.Lines.{after_comma, answer, byte, field, field_set, front_before, spaces, tag, timestamp, without_comma}
+use Rattle.lp_format.specs.format.Names.{NameKind, a_measurement, name, spelled, spelled_len}
+use Rattle.lp_format.specs.format.Pieces.{Left}
+use Rattle.lp_format.specs.format.Points.{Pair}
+use Rattle.lp_format.specs.format.Readings.{Fault, Text, cannot_parse_entire_line, fatal, field_set_missing, measurement_value_invalid}
+use Rattle.lp_format.specs.format.Readings.{miss, reads, tag_set_malformed, take_while1}
+use Rattle.lp_format.specs.format.Values.{Value}
+use Rattle.lp_values.proofs.lemmas.fields.ReadingLemmas.{EndsIn, bind_reads, byte_parts, name_parts}
+use Rattle.lp_events.specs.code.Events.{AreEventsOf, AreFrontEvents, Event, ended, failed, front_events, named, tagged, valued}
+use Rattle.lp_events.specs.code.EventsLeft.{AreEventsLeft, Completes, FieldsRead, NamesRead, SeriesRead, Steps, told}
+use Rattle.lp_events.specs.declared.place.Place.{Place}
+use Rattle.lp_events.specs.declared.pull.Event as given
+use Rattle.lp_values.specs.code.SpelledParts.{spelled_fault}
+use Rattle.lp_values.specs.declared.spelled.SpelledFault.{SpelledFault}
+use Rattle.lp_events.proofs.lemmas.fields.ManyLemmas.{so_far_end, so_far_fatal, so_far_more, so_far_start}
+
+-- a line that is completed after one event more is completed with that event
+pub completes_more : (line : List ℕ) (front : List Event) (event : Event) (left : Left) (others : List Event)
+    → Completes line (front ++ event ∷ []) left others → Completes line front left (event ∷ others)
+completes_more line front event left others h =
+    record {
+      first = event ∷ h.first;
+      others = h.others;
+      events_are = ap (λ (es : List Event). event ∷ es) h.events_are;
+      line_is = subst (λ es. AreEventsOf es (answer left.dialect line)) (append_assoc front (event ∷ []) h.first) h.line_is;
+      others_are = h.others_are;
+    }
+
+-- a fault completes its line
+pub completes_fault : (line : List ℕ) (front : List Event) (fault : Fault) (left : Left) (others : List Event) → AreFrontEvents front
+    → answer left.dialect line ≡ Err fault → AreEventsLeft left others → Completes line front left (failed fault ∷ others)
+completes_fault line front fault left others is_front is h =
+    record {
+      first = failed fault ∷ [];
+      others = others;
+      events_are = refl;
+      line_is = rw is (front, is_front, refl);
+      others_are = h;
+    }
+
+-- a number that is not 0
+not_none : (n : ℕ) → (n == 0) ≡ false → 0 < n
+not_none n some = grind (arith, nat_tests)
+
+-- what is left after a name is shorter than the text
+pub name_shorter : (kind : NameKind) (text : List ℕ) (t : Text) (rest : List ℕ) → name kind text ≡ reads t rest → length rest < length text
+unfolding name
+name_shorter kind text t rest e = elim (cases_Bool (length (spelled kind text) == 0)) [
+  | inl empty ↦ absurd (let m = rw empty at e in cc)
+  | inr some ↦
+      let is = (name_parts kind text t rest e).1 in
+      let more = not_none (length (spelled kind text)) some in
+      omega (arith, ap length is, length-drop (spelled_len kind text) text, length-take (spelled_len kind text) text, more)
+]
+
+-- the front before the end of a line is what comes before it
+pub front_is : (line rest : List ℕ) → EndsIn line rest → front_before line rest ++ rest ≡ line
+front_is line rest h =
+    let n : length (h.front ++ rest) - length rest ≡ length h.front = omega (arith, length-append h.front rest) in
+    let front : front_before (h.front ++ rest) rest ≡ h.front = rw n (take-append_seam h.front rest) in
+    subst (λ l. front_before l rest ++ rest ≡ l) (sym h.is) (ap (λ (x : List ℕ). x ++ rest) front)
+
+-- a measurement that is fatal
+pub begin_fatal : (dialect : Dialect) (line : List ℕ) (fault : Fault) → name a_measurement line ≡ fatal fault → answer dialect line ≡ Err fault
+unfolding answer
+begin_fatal dialect line fault e = rw e refl
+
+-- a line without a measurement
+pub begin_miss : (dialect : Dialect) (line : List ℕ) → name a_measurement line ≡ miss → answer dialect line ≡ Err measurement_value_invalid
+unfolding answer
+begin_miss dialect line e = rw e refl
+
+-- a text begins with a comma, or does not
+comma_cases : (text : List ℕ) → (byte comma text ≡ miss) ⊎ ((place : List ℕ) × (byte comma text ≡ reads comma place))
+comma_cases [] = inl refl
+comma_cases (b ∷ text) = elim (cases_Bool (b == comma)) [ inl is ↦ inr (text, rw is refl) | inr other ↦ inl (rw other refl) ]
+
+-- what was stripped of a text, if it begins with a comma
+pub stripped : (result : Option (Bor (List ℕ))) (text : List ℕ)
+    → MatchOption result (byte comma text ≡ miss) (λ rest. byte comma text ≡ reads comma rest.now) → is_some result ≡ true
+    → (place : List ℕ) × (byte comma text ≡ reads comma place)
+stripped None text is some = absurd (cc)
+stripped (Some place) text is some = (place.now, is)
+
+-- it does not begin with a comma, if nothing was stripped
+pub not_stripped : (result : Option (Bor (List ℕ))) (text : List ℕ)
+    → MatchOption result (byte comma text ≡ miss) (λ rest. byte comma text ≡ reads comma rest.now) → is_some result ≡ false
+    → byte comma text ≡ miss
+not_stripped None text is none = is
+not_stripped (Some place) text is none = absurd (cc)
+
+-- what a step gives of some events it gives of those that they are left for
+pub steps_from : (Are Wanted : Left → List Event → Type 0) (result : Result (given.Event × Place) SpelledFault)
+    → ((left : Left) (events : List Event) → Are left events → Wanted left events) → Steps Are result → Steps Wanted result
+steps_from Are Wanted (Ok p) on h = λ left others later. on left (told p.0 ∷ others) (h left others later)
+steps_from Are Wanted (Err fault) on h =
+    λ left others later. on left (failed (spelled_fault fault) ∷ others) (h left others later)
+
+module _ (line : List ℕ) (m : Text) (tags : List (Pair Text Text)) (rest : List ℕ) where
+  -- one tag more is read after a comma
+  pub names_more : (is_first : Bool) (t : Pair Text Text) (after : List ℕ) → NamesRead line m tags rest is_first
+      → after_comma tag rest ≡ reads t after → length after < length rest → NamesRead line m (tags ++ t ∷ []) after false
+  names_more true t after (e, none) is less =
+      let mark = bind_reads (byte comma rest) _ t after is in
+      let same = (byte_parts comma rest mark.first mark.mid mark.was).0 in
+      (rest, mark.mid, e, rw same at mark.was, rw none (so_far_start tag t mark.mid after mark.next))
+  names_more false t after (start, place, e, mark, so_far) is less =
+      (start, place, e, mark, so_far_more tag place tags rest after t so_far is less)
+
+  -- what is fatal after a comma is the fault of the line
+  pub names_fatal : (dialect : Dialect) (is_first : Bool) (fault : Fault) → NamesRead line m tags rest is_first
+      → after_comma tag rest ≡ fatal fault → answer dialect line ≡ Err fault
+  unfolding answer
+  names_fatal dialect true fault (e, none) is = elim (comma_cases rest) [
+    | inl other ↦ absurd (let h = rw other at is in cc)
+    | inr mark ↦ let f = rw mark.1 at is in rw (e, mark.1, f) refl
+  ]
+  names_fatal dialect false fault (start, place, e, mark, so_far) is =
+      rw (e, mark, so_far_fatal tag place tags rest fault so_far is) refl
+
+  -- a comma after the measurement with no tag is malformed
+  pub names_malformed : (dialect : Dialect) (is_first : Bool) (place : List ℕ) → NamesRead line m tags rest is_first → is_first ≡ true
+      → byte comma rest ≡ reads comma place → after_comma tag rest ≡ miss → answer dialect line ≡ Err tag_set_malformed
+  unfolding answer
+  names_malformed dialect false place h first mark is = absurd (cc)
+  names_malformed dialect true place (e, none) first mark is = let f = rw mark at is in rw (e, mark, f) refl
+
+  -- where no tag follows, all were read
+  pub names_end : (is_first : Bool) → NamesRead line m tags rest is_first → (is_first ≡ true → byte comma rest ≡ miss)
+      → after_comma tag rest ≡ miss → SeriesRead line m tags rest
+  names_end true (e, none) bare is =
+      record { start = rest; set = None; name_is = e; set_is = rw (bare refl) refl; tags_are = sym none }
+  names_end false (start, place, e, mark, so_far) bare is =
+      record { start = start; set = Some tags; name_is = e; set_is = rw (mark, so_far_end tag place tags rest so_far is) refl; tags_are = refl }
+
+  module _ (h : SeriesRead line m tags rest) where
+    -- no space comes after the tags
+    pub no_space : (dialect : Dialect) → byte space rest ≡ miss → answer dialect line ≡ Err take_while1
+    unfolding answer
+    no_space dialect s = rw (h.name_is, h.set_is, s) refl
+
+    -- no field comes after the tags
+    pub no_field : (dialect : Dialect) (gap : List ℕ) → byte space rest ≡ reads space gap → field (drop (spaces rest) rest) ≡ miss
+        → answer dialect line ≡ Err field_set_missing
+    unfolding answer
+    no_field dialect gap s f = rw (h.name_is, h.set_is, s, f) refl
+
+    -- the first field is fatal
+    pub first_fatal : (dialect : Dialect) (gap : List ℕ) (fault : Fault) → byte space rest ≡ reads space gap
+        → field (drop (spaces rest) rest) ≡ fatal fault → answer dialect line ≡ Err fault
+    unfolding answer
+    first_fatal dialect gap fault s f = rw (h.name_is, h.set_is, s, f) refl
+
+    -- the first field
+    pub first_read : (gap : List ℕ) (x : Pair Text (Value Text)) (after : List ℕ) → byte space rest ≡ reads space gap
+        → field (drop (spaces rest) rest) ≡ reads x after
+        → FieldsRead line (front_before line rest) m tags (x ∷ []) after true
+    first_read gap x after s f =
+        record {
+          after = rest;
+          gap = gap;
+          series_read = h;
+          series_is = refl;
+          gap_is = s;
+          so_far = so_far_start field x (drop (spaces rest) rest) after f;
+          some = omega arith;
+          first_is = refl;
+        }
+
+module _ (line series : List ℕ) (m : Text) (tags : List (Pair Text Text)) (fields : List (Pair Text (Value Text))) (rest : List ℕ)
+    (is_first : Bool) (h : FieldsRead line series m tags fields rest is_first) where
+  -- one field more
+  pub fields_more : (x : Pair Text (Value Text)) (after : List ℕ) → after_comma field rest ≡ reads x after
+      → length after < length rest → FieldsRead line series m tags (fields ++ x ∷ []) after false
+  fields_more x after is less =
+      let some = h.some in
+      let more : 1 < length (fields ++ x ∷ []) = omega (arith, length-append fields (x ∷ [])) in
+      record {
+        after = h.after;
+        gap = h.gap;
+        series_read = h.series_read;
+        series_is = h.series_is;
+        gap_is = h.gap_is;
+        so_far = so_far_more field (drop (spaces h.after) h.after) fields rest after x h.so_far is less;
+        some = omega arith;
+        first_is = sym (ne_eqb (length (fields ++ x ∷ [])) 1 (λ one. absurd (omega arith)));
+      }
+
+  -- a field that is fatal
+  pub fields_fatal : (dialect : Dialect) (fault : Fault) → after_comma field rest ≡ fatal fault → answer dialect line ≡ Err fault
+  unfolding answer
+  fields_fatal dialect fault is =
+      let f = so_far_fatal field (drop (spaces h.after) h.after) fields rest fault h.so_far is in
+      rw (h.series_read.name_is, h.series_read.set_is, h.gap_is, f) refl
+
+  -- no field follows
+  module _ (dialect : Dialect) (none : after_comma field rest ≡ miss) where
+    -- so these are all
+    all_fields : field_set dialect (drop (spaces h.after) h.after) ≡ reads fields (without_comma dialect fields rest)
+    all_fields = rw (so_far_end field (drop (spaces h.after) h.after) fields rest h.so_far none) refl
+
+    -- the timestamp is at fault
+    pub time_fault : (fault : Fault) → timestamp (without_comma dialect fields rest) ≡ Err fault → answer dialect line ≡ Err fault
+    unfolding answer
+    time_fault fault t = rw (h.series_read.name_is, h.series_read.set_is, h.gap_is, all_fields, t) refl
+
+    -- something is left after it
+    pub left_fault : (time : Option ℤ) (more : List ℕ)
+        → timestamp (without_comma dialect fields rest) ≡ Ok (record { value = time; rest = more }) → 0 < length more
+        → answer dialect line ≡ Err (cannot_parse_entire_line more)
+    unfolding answer
+    left_fault time [] t some = absurd (omega arith)
+    left_fault time (b ∷ more) t some = rw (h.series_read.name_is, h.series_read.set_is, h.gap_is, all_fields, t) refl
+
+    -- nothing is left: the end completes the line
+    pub completes_end : (left : Left) (others : List Event) (time : Option ℤ) (more : List ℕ) → left.dialect ≡ dialect
+        → timestamp (without_comma dialect fields rest) ≡ Ok (record { value = time; rest = more }) → length more ≡ 0
+        → AreEventsLeft left others → Completes line (front_events m tags fields) left (ended series time ∷ others)
+    unfolding answer
+    completes_end left others time (b ∷ more) d t empty later = absurd (omega arith)
+    completes_end left others time [] d t empty later =
+        record {
+          first = ended series time ∷ [];
+          others = others;
+          events_are = refl;
+          line_is = rw (d, h.series_read.name_is, h.series_read.set_is, h.gap_is, all_fields, t, h.series_is, h.series_read.tags_are) refl;
+          others_are = later;
+        }
+
+-- a tag after those of a front
+pub tag_after : (m : Text) (tags : List (Pair Text Text)) (t : Pair Text Text)
+    → front_events m (tags ++ t ∷ []) [] ≡ front_events m tags [] ++ tagged t ∷ []
+tag_after m tags t =
+    ap (λ (es : List Event). named m ∷ es)
+    (append-nil (map tagged (tags ++ t ∷ [])) ∙ map_push tagged tags t
+    ∙ ap (λ (es : List Event). es ++ tagged t ∷ []) (sym (append-nil (map tagged tags))))
+
+-- a field after those of a front
+pub field_after : (m : Text) (tags : List (Pair Text Text)) (fields : List (Pair Text (Value Text))) (x : Pair Text (Value Text))
+    → front_events m tags (fields ++ x ∷ []) ≡ front_events m tags fields ++ valued x ∷ []
+field_after m tags fields x = simp (append_assoc, map_push)

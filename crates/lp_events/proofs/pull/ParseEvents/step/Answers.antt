@@ -1,0 +1,51 @@
+use Rattle.std.proofs.Common.{◌≡◌, [], arith, refl, subst, sym}
+use Rattle.std.specs.Prelude.{Some}
+use Rattle.lp_split.specs.code.Rules.{rules_of}
+use Rattle.lp_events.specs.code.EventsLeft.{AreLeftFrom, Completes, HasEventsLeft}
+use Rattle.lp_events.specs.code.LineSteps.{GivesLine}
+use Rattle.lp_events.specs.declared.place.Place.TheVariants.{Fields, Names}
+use Rattle.lp_events.proofs.lemmas.pull.EventSteps.{steps_from}
+use Rattle.lp_events.proofs.lemmas.pull.NextEvents.{blank_events, line_left, line_less, none_comes, step_less}
+use Rattle.lp_events.proofs.pull.ParseEvents.step.Goals as goal
+
+pub returns-in_err-next_line-in-Between-clause-steps : goal.returns-in_err-next_line-in-Between-clause-steps
+returns-in_err-next_line-in-Between-clause-steps c =
+    let gives = c.in_err-next_line-in-Between.ensures.gives in
+    rw (c.from_residual.ensures, c.in-Between.is) (
+      record {
+        pieces = gives.0.skipped;
+        are_left = gives.0.left;
+        are = blank_events c.args.self.now.lines.dialect gives.0.skipped gives.0.blank;
+      },
+      record { pieces = []; are_left = gives.1; are = refl },
+      omega (arith, none_comes c.next_line.new.lines gives.1),
+    )
+
+pub returns-in_ok-next_line-in-Between-clause-steps : goal.returns-in_ok-next_line-in-Between-clause-steps
+returns-in_ok-next_line-in-Between-clause-steps c =
+    let reader = c.args.self.now in
+    let line = c.in_ok-next_line-in-Between.field-0 in
+    steps_from (Completes line.now []) (λ left events. left ≡ c.next_line.new.lines → HasEventsLeft reader events) c.begin.result
+    (λ left events h same. rw c.in-Between.is
+    (line_left reader.lines left line events
+    (subst (GivesLine reader.lines (Some line)) (sym same) c.in_ok-next_line-in-Between.ensures.gives) h))
+    c.begin.ensures.steps
+
+pub returns-in_ok-next_line-in-Between-clause-less : goal.returns-in_ok-next_line-in-Between-clause-less
+returns-in_ok-next_line-in-Between-clause-less c =
+    let line = c.in_ok-next_line-in-Between.field-0 in
+    rw c.in-Between.is
+    (step_less c.begin.result _ _ _ c.begin.ensures.less
+    (omega (arith, line_less c.args.self.now.lines c.next_line.new.lines line c.in_ok-next_line-in-Between.ensures.gives)))
+
+pub returns-in-Names-clause-steps : goal.returns-in-Names-clause-steps
+returns-in-Names-clause-steps c =
+    steps_from (AreLeftFrom (Names c.in-Names.names)) (λ left events. left ≡ c.args.self.now.lines → HasEventsLeft c.args.self.now events)
+    c.after_name.result
+    (λ left events h same. rw (c.in-Names.is, ← same) h) c.after_name.ensures.steps
+
+pub returns-in-Fields-clause-steps : goal.returns-in-Fields-clause-steps
+returns-in-Fields-clause-steps c =
+    steps_from (λ left events. left.dialect ≡ rules_of c.dialect_of.result → AreLeftFrom (Fields c.in-Fields.fields) left events)
+    (λ left events. left ≡ c.args.self.now.lines → HasEventsLeft c.args.self.now events) c.after_field.result
+    (λ left events h same. rw (c.in-Fields.is, ← same) (h (rw same (sym c.dialect_of.ensures)))) c.after_field.ensures.steps

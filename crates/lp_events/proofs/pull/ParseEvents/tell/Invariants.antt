@@ -1,0 +1,5 @@
+use Rattle.lp_events.proofs.lemmas.pull.NextEvents.{ToldFrom}
+use Rattle.lp_events.proofs.pull.ParseEvents.tell.Given as goal
+
+abbrev pub invariant-loop-event : goal.invariant-loop-event
+invariant-loop-event g l = ToldFrom g.S.EventSink.takes l.fn.sink l.sink l.fn.self l.event-iterator

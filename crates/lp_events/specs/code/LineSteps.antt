@@ -1,0 +1,37 @@
+-- The next line of a text: its next piece that is not blank, trimmed.
+use Rattle.std.specs.Prelude.{◌≡◌, ℕ, ◌<◌, List, ◌∷◌, [], ◌++◌, length, Option, Some, None}
+use Rattle.std.specs.Borrow.{Bor}
+use Rattle.std.specs.List.{All}
+use Rattle.lp_format.specs.format.Pieces.{Left, PiecesLeft}
+use Rattle.lp_format.specs.format.Trimming.{trimmed}
+
+-- nothing is left of the piece when it is trimmed
+abbrev pub IsBlankPiece : List ℕ → Type 0
+IsBlankPiece piece = length (trimmed piece) ≡ 0
+
+-- blank pieces were left, then a piece that is not blank, of which this line is left when it is trimmed, and then the others
+pub record GaveLine (before : Left) (line : List ℕ) (others : List (List ℕ)) : Type 0 where
+  pub skipped : List (List ℕ)
+  pub piece : List ℕ
+  pub left : PiecesLeft before (skipped ++ piece ∷ others)
+  pub blank : All IsBlankPiece skipped
+  pub some : 0 < length line
+  pub line_is : line ≡ trimmed piece
+
+-- only blank pieces were left
+pub record HadBlankPieces (before : Left) : Type 0 where
+  pub skipped : List (List ℕ)
+  pub left : PiecesLeft before skipped
+  pub blank : All IsBlankPiece skipped
+
+-- the line of the first piece that is not blank is given, and the pieces after it are left; or `None` where only blank
+-- pieces are left, and then none is left
+abbrev pub GivesLine : Left → Option (Bor (List ℕ)) → Left → Type 0
+GivesLine before None after = HadBlankPieces before × PiecesLeft after []
+GivesLine before (Some line) after =
+    (after.dialect ≡ before.dialect) × ((others : List (List ℕ)) → PiecesLeft after others → GaveLine before line.now others)
+
+-- so many items are left at most
+abbrev pub most_items : Option (List ℕ) → ℕ
+most_items None = 0
+most_items (Some text) = length text

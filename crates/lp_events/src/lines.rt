@@ -1,0 +1,23 @@
+//! The lines of a text: its pieces, trimmed, but for blank ones.
+
+ghost use Rattle.std.specs.Prelude.{◌<◌, ◌^◌, length, IfSome};
+ghost use Rattle.lp_events.specs.code.LineSteps.{GivesLine, most_items};
+
+use lp_split::split::SplitLines;
+use lp_values::trim::trimmed;
+
+/// The next piece that holds more than blanks and comments, without those before it.
+#[inline(always)]
+pub fn next_line<'a>(lines: &mut SplitLines<'a>) -> Option<&'a str>
+    ensures gives { GivesLine lines.old result lines.new }
+    ensures fewer { IfSome result (λ line. most_items lines.new.text < most_items lines.old.text) }
+    ensures fits { IfSome result (λ line. length line.now < 2 ^ 63) }
+{
+    while let Some(piece) = lines.next() {
+        let line = trimmed(piece);
+        if !line.is_empty() {
+            return Some(line);
+        }
+    }
+    None
+}

@@ -1,0 +1,291 @@
+//! The parts of lines, given one after another, with no memory.
+
+ghost use Rattle.std.specs.Prelude.{◌≡◌, ◌<◌, ◌+◌, ◌==◌, ◌↔◌, [], List, None, length, IfOk, IfSome, MatchOption, MatchResult};
+ghost use Rattle.lp_format.specs.format.Dialects.{Crate};
+ghost use Rattle.lp_format.specs.format.Lines.{after_comma, field, tag, without_comma};
+ghost use Rattle.lp_format.specs.format.Pieces.{most_pieces};
+ghost use Rattle.lp_format.specs.format.Points.{Pair};
+ghost use Rattle.lp_format.specs.format.Readings.{Text};
+ghost use Rattle.lp_format.specs.format.Values.{Value};
+ghost use Rattle.lp_split.specs.code.Rules.{rules_of};
+ghost use Rattle.lp_values.specs.code.SpelledParts.{GivesSpelled};
+ghost use Rattle.lp_events.specs.code.Events.{AreEventsOfText, Event as Told, WasTold, spelled_field, spelled_tag};
+ghost use Rattle.lp_events.specs.code.EventsLeft.{AreLeftAfterSeries, AreLeftFrom, Completes, GivesEvent, HasEventsLeft, Steps};
+ghost use Rattle.lp_events.specs.code.EventsLeft.{most_events, most_of_line, told};
+
+use crate::events::{self, EventSink, front_before};
+use crate::lines::next_line;
+use crate::place::{Fields, Names, Place};
+use lp_split::Dialect;
+use lp_split::split::{SplitLines, dialect_of, split_lines_in};
+use lp_values::names::NameKind;
+use lp_values::spelled_parts::{self, Front};
+use lp_values::trim::{strip_byte, trim_start_spaces};
+use lp_values::{ErrorKind, Spelled, SpelledFault, SpelledValue};
+
+/// A part of a line, as a reader comes to it; where the line ends; or its fault.
+///
+/// Of a line that is read come the measurement, each tag, each field and the end, in order. Of a line at fault come the
+/// parts that were read before the fault, none of them, some or all, and then the fault.
+///
+/// ```text
+/// m,t=x a=1i  gives  Measurement(m), Tag(t, x), Field(a, I64(1)), End { series: "m,t=x", timestamp: None }
+/// m,t=x       gives  Measurement(m), Tag(t, x), Fault(GenericParsingError)
+/// ```
+#[derive(Clone, Copy)]
+pub enum Event<'a> {
+    /// A line begins, with this measurement.
+    Measurement(Spelled<'a>),
+    /// A tag of the line: its key and its value.
+    Tag(Spelled<'a>, Spelled<'a>),
+    /// A field of the line: its key and its value.
+    Field(Spelled<'a>, SpelledValue<'a>),
+    /// The line ends: `series` is the front of it that was read as measurement and tags.
+    End {
+        series: &'a str,
+        timestamp: Option<i64>,
+    },
+    /// The line is at fault. What came of it is no line.
+    Fault(SpelledFault<'a>),
+}
+
+impl<'a> Event<'a> {
+    /// Tells a sink of it.
+    ///
+    /// ```text
+    /// Tag(t, x)  calls  tag(t, x)
+    /// ```
+    #[inline(always)]
+    pub fn tell<S: EventSink<'a>>(self, sink: &mut S)
+        ensures { S.takes sink.old (told self.entry) sink.new }
+    {
+        match self {
+            Event::Measurement(name) => sink.measurement(name),
+            Event::Tag(key, value) => sink.tag(key, value),
+            Event::Field(key, value) => sink.field(key, value),
+            Event::End { series, timestamp } => sink.end(series, timestamp),
+            Event::Fault(fault) => sink.fault(fault),
+        }
+    }
+}
+
+// The next event of a line and where its part ends, or the fault of the line.
+type Step<'a> = Result<(Event<'a>, Place<'a>), SpelledFault<'a>>;
+
+// A tag after a comma at the start of `text`, and the rest.
+#[inline(always)]
+fn next_tag<'a>(text: &'a str) -> Front<'a, (Spelled<'a>, Spelled<'a>)>
+    ensures value { GivesSpelled spelled_tag result (after_comma tag text.now) }
+    ensures less { IfOk result (λ o. IfSome o (λ p. length p.1.now < length text.now)) }
+{
+    match strip_byte(b',', text) {
+        Some(place) => events::tag(place),
+        None => Ok(None),
+    }
+}
+
+// A field after a comma at the start of `text`, and the rest.
+#[inline(always)]
+fn next_field<'a>(text: &'a str) -> Front<'a, (Spelled<'a>, SpelledValue<'a>)>
+    ensures value { GivesSpelled spelled_field result (after_comma field text.now) }
+    ensures less { IfOk result (λ o. IfSome o (λ p. length p.1.now < length text.now)) }
+{
+    match strip_byte(b',', text) {
+        Some(place) => events::field(place),
+        None => Ok(None),
+    }
+}
+
+// The measurement of a trimmed text.
+#[inline(always)]
+fn begin<'a>(line: &'a str) -> Step<'a>
+    ensures steps { Steps (Completes line.now []) result }
+    ensures less { IfOk result (λ p. most_of_line p.1 < length line.now + 1) }
+{
+    let Some((name, rest)) = spelled_parts::name(NameKind::Measurement, line)? else {
+        return Err(SpelledFault::MeasurementValueInvalid);
+    };
+    let names = Names {
+        line,
+        rest,
+        is_first: true,
+    };
+    Ok((Event::Measurement(name), Place::Names(names)))
+}
+
+// The first field of a line, after its tags and spaces.
+#[inline(always)]
+fn first_field<'a>(names: Names<'a>) -> Step<'a>
+    ensures steps { Steps (AreLeftAfterSeries names.entry.line.now names.entry.rest.now) result }
+    ensures less { IfOk result (λ p. most_of_line p.1 < length names.entry.rest.now + 1) }
+{
+    let Some(_after_space) = strip_byte(b' ', names.rest) else {
+        return Err(SpelledFault::GenericParsingError {
+            kind: ErrorKind::TakeWhile1,
+        });
+    };
+    let series = front_before(names.line, names.rest);
+    let Some(((key, value), rest)) = events::field(trim_start_spaces(names.rest))? else {
+        return Err(SpelledFault::FieldSetMissing);
+    };
+    let fields = Fields {
+        series,
+        rest,
+        is_first: true,
+    };
+    Ok((Event::Field(key, value), Place::Fields(fields)))
+}
+
+// The next tag of a line, or its first field.
+#[inline(always)]
+fn after_name<'a>(names: Names<'a>) -> Step<'a>
+    ensures steps { Steps (AreLeftFrom (Place.Names names.entry)) result }
+    ensures less { IfOk result (λ p. most_of_line p.1 < length names.entry.rest.now + 1) }
+{
+    let Some(((key, value), rest)) = next_tag(names.rest)? else {
+        if names.is_first && strip_byte(b',', names.rest).is_some() {
+            return Err(SpelledFault::TagSetMalformed);
+        }
+        return first_field(names);
+    };
+    let names = Names {
+        line: names.line,
+        rest,
+        is_first: false,
+    };
+    Ok((Event::Tag(key, value), Place::Names(names)))
+}
+
+// What is left after the last field: in the crate's dialect without the comma after a first field that is the only one.
+#[inline(always)]
+fn rest_after<'a>(dialect: Dialect, fields: Fields<'a>) -> &'a str
+    ensures { (all : List (Pair Text (Value Text))) → fields.entry.is_first ≡ (length all == 1)
+        → result.now ≡ without_comma (rules_of dialect) all fields.entry.rest.now }
+{
+    match dialect {
+        Dialect::Crate if fields.is_first => strip_byte(b',', fields.rest).unwrap_or(fields.rest),
+        _ => fields.rest,
+    }
+}
+
+// The next field of a line, or its end.
+#[inline(always)]
+fn after_field<'a>(dialect: Dialect, fields: Fields<'a>) -> Step<'a>
+    ensures steps { Steps (λ left events. left.dialect ≡ rules_of dialect → AreLeftFrom (Place.Fields fields.entry) left events) result }
+    ensures less { IfOk result (λ p. most_of_line p.1 < length fields.entry.rest.now + 1) }
+{
+    if let Some(((key, value), rest)) = next_field(fields.rest)? {
+        let fields = Fields {
+            series: fields.series,
+            rest,
+            is_first: false,
+        };
+        return Ok((Event::Field(key, value), Place::Fields(fields)));
+    }
+    let (timestamp, rest) = spelled_parts::timestamp(rest_after(dialect, fields))?;
+    if !rest.is_empty() {
+        return Err(SpelledFault::CannotParseEntireLine {
+            trailing_content: rest,
+        });
+    }
+    let end = Event::End {
+        series: fields.series,
+        timestamp,
+    };
+    Ok((end, Place::Between))
+}
+
+/// The events of a text, one after another: what [`parse_events`] gives.
+///
+/// Whatever the events of a line are, the next ones are those of the lines after it. There are at most `input.len() + 1`
+/// events, and it stays ended. It keeps no line, only the place in one, so it takes no memory.
+#[derive(Drop)]
+pub struct ParseEvents<'a> {
+    lines: SplitLines<'a>,
+    // In the line before those that are left.
+    place: Place<'a>,
+}
+
+/// Reads the lines of a text part by part: the events that [`read_events_in`](crate::read_events_in) tells a sink of.
+///
+/// It takes no memory, and neither do the calls of what it gives. The caller may stop after any event.
+///
+/// ```text
+/// "m a=1i\n# c\nm b\n"  gives  Measurement(m), Field(a, I64(1)), End { .. }, Measurement(m), Fault(FieldSetMissing)
+/// ```
+pub fn parse_events(input: &str) -> ParseEvents<'_>
+    ensures { (events : List Told) → HasEventsLeft result events ↔ AreEventsOfText Crate input.now events }
+{
+    parse_events_in(Dialect::Crate, input)
+}
+
+/// Reads the lines of a text part by part, by the rules of a dialect.
+///
+/// ```text
+/// parse_events_in(Dialect::Crate, "m a=1i,")   gives  Measurement(m), Field(a, I64(1)), End { .. }
+/// parse_events_in(Dialect::Strict, "m a=1i,")  gives  Measurement(m), Field(a, I64(1)), Fault(CannotParseEntireLine)
+/// ```
+pub fn parse_events_in(dialect: Dialect, input: &str) -> ParseEvents<'_>
+    ensures { (events : List Told) → HasEventsLeft result events ↔ AreEventsOfText (rules_of dialect) input.now events }
+{
+    ParseEvents {
+        lines: split_lines_in(dialect, input),
+        place: Place::Between,
+    }
+}
+
+impl<'a> ParseEvents<'a> {
+    // The next step, or `None` where no line is left.
+    #[inline(always)]
+    fn step(&mut self) -> Option<Step<'a>>
+        ensures place { self.new.place ≡ self.old.place }
+        ensures steps { MatchOption result (GivesEvent self.old None self.new)
+            (λ step. Steps (λ left events. left ≡ self.new.lines → HasEventsLeft self.old events) step) }
+        ensures less { IfSome result (λ step. MatchResult step
+            (λ p. most_of_line p.1 + most_pieces self.new.lines.text < most_events self.old)
+            (λ fault. most_pieces self.new.lines.text < most_events self.old)) }
+    {
+        match self.place {
+            Place::Between => Some(begin(next_line(&mut self.lines)?)),
+            Place::Names(names) => Some(after_name(names)),
+            Place::Fields(fields) => Some(after_field(dialect_of(&self.lines), fields)),
+        }
+    }
+
+    /// Tells a sink of the events that are left.
+    ///
+    /// ```text
+    /// after Measurement(m) of  m a=1i  it calls  field(a, I64(1)), end("m", None)
+    /// ```
+    pub fn tell<S: EventSink<'a>>(self, sink: &mut S)
+        ensures { WasTold S.takes sink.old sink.new (HasEventsLeft self.entry) }
+    {
+        for event in self {
+            event.tell(sink);
+        }
+    }
+}
+
+impl<'a> Iterator for ParseEvents<'a> {
+    type Item = Event<'a>;
+
+    ghost use Rattle.std.specs.Iterator.{at_most};
+
+    ghost next_gives = { GivesEvent };
+
+    ghost remaining = { λ reader. at_most (most_events reader) };
+
+    #[inline(always)]
+    fn next(&mut self) -> Option<Event<'a>> {
+        match self.step()? {
+            Ok((event, place)) => {
+                self.place = place;
+                Some(event)
+            }
+            Err(fault) => {
+                self.place = Place::Between;
+                Some(Event::Fault(fault))
+            }
+        }
+    }
+}

@@ -1,5 +1,0 @@
-use Rattle.lp_lines.proofs.lemmas.pull.NextEvents.{ToldFrom}
-use Rattle.lp_lines.proofs.pull.ParseEvents.tell.Given as goal
-
-abbrev pub invariant-loop-event : goal.invariant-loop-event
-invariant-loop-event g l = ToldFrom g.S.EventSink.takes l.fn.sink l.sink l.fn.self l.event-iterator
