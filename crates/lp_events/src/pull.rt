@@ -214,7 +214,8 @@ pub struct ParseEvents<'a> {
 /// "m a=1i\n# c\nm b\n"  gives  Measurement(m), Field(a, I64(1)), End { .. }, Measurement(m), Fault(FieldSetMissing)
 /// ```
 pub fn parse_events(input: &str) -> ParseEvents<'_>
-    ensures { (events : List Told) → HasEventsLeft result events ↔ AreEventsOfText Crate input.now events }
+    ensures left { (events : List Told) → HasEventsLeft result events ↔ AreEventsOfText Crate input.now events }
+    ensures most { most_events result ≡ length input.now + 1 }
 {
     parse_events_in(Dialect::Crate, input)
 }
@@ -226,7 +227,8 @@ pub fn parse_events(input: &str) -> ParseEvents<'_>
 /// parse_events_in(Dialect::Strict, "m a=1i,")  gives  Measurement(m), Field(a, I64(1)), Fault(CannotParseEntireLine)
 /// ```
 pub fn parse_events_in(dialect: Dialect, input: &str) -> ParseEvents<'_>
-    ensures { (events : List Told) → HasEventsLeft result events ↔ AreEventsOfText (rules_of dialect) input.now events }
+    ensures left { (events : List Told) → HasEventsLeft result events ↔ AreEventsOfText (rules_of dialect) input.now events }
+    ensures most { most_events result ≡ length input.now + 1 }
 {
     ParseEvents {
         lines: split_lines_in(dialect, input),
