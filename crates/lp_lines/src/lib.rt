@@ -13,5 +13,5 @@ pub mod parsed;
 mod shown;
 
 pub use events::{EventSink, read_events_in, read_line_events};
-pub use line::{ParseLines, parse_lines, parse_lines_in};
+pub use line::{ParseLines, next_line, parse_lines, parse_lines_in};
 pub use parsed::{FieldSet, ParsedLine, Series, TagSet};

@@ -11,6 +11,7 @@ ghost use Rattle.lp_format.specs.code.Light.{inline_fields, inline_tags, is_ligh
 ghost use Rattle.lp_lines.specs.code.Lookups.{room_of, some_items};
 ghost use Rattle.lp_lines.specs.code.Parsed.{FillsLine};
 ghost use Rattle.lp_format.specs.format.Trimming.{trimmed};
+ghost use Rattle.lp_lines.specs.code.ParseSteps.{GivesLine, most_items};
 ghost use Rattle.lp_lines.specs.code.ReadInto.{IsEmptyLine, KeepsTagRoom};
 
 use crate::filling::{Filling, tell_line};
@@ -153,6 +154,26 @@ fn refuse(item: &mut Result<ParsedLine<'_>>, fault: Error)
     *item = Err(fault);
 }
 
+/// The next of these pieces that holds more than blanks and comments, without those before it. It takes no memory.
+///
+/// ```text
+/// "\n# c\nm a=1i\nn b=1i"  gives  m a=1i, and leaves the piece n b=1i
+/// ```
+#[inline(always)]
+pub fn next_line<'a>(lines: &mut SplitLines<'a>) -> Option<&'a str>
+    ensures gives { GivesLine lines.old result lines.new }
+    ensures fewer { IfSome result (λ line. most_items lines.new.text < most_items lines.old.text) }
+    ensures fits { IfSome result (λ line. length line.now < 2 ^ 63) }
+{
+    while let Some(piece) = lines.next() {
+        let line = trimmed(piece);
+        if !line.is_empty() {
+            return Some(line);
+        }
+    }
+    None
+}
+
 /// The lines of a text, one after another: what [`parse_lines`] gives.
 ///
 /// Each item is the answer for one piece that holds more than blanks and comments: what its line
@@ -177,7 +198,7 @@ impl<'a> Model for ParseLines<'a> {
 
 impl<'a> ParseLines<'a> {
     ghost use Rattle.std.specs.Prelude.{IfNone};
-    ghost use Rattle.lp_lines.specs.code.ParseSteps.{GivesItem, GivesLine, most_items};
+    ghost use Rattle.lp_lines.specs.code.ParseSteps.{GivesItem};
     ghost use Rattle.lp_lines.specs.code.ReadInto.{GivesInRoom, LeavesEmpty, item_in};
 
     // The next piece that holds more than blanks and comments, without those before it.
@@ -187,13 +208,7 @@ impl<'a> ParseLines<'a> {
         ensures fewer { IfSome result (λ line. most_items self.new.text < most_items self.old.text) }
         ensures fits { IfSome result (λ line. length line.now < 2 ^ 63) }
     {
-        while let Some(piece) = self.lines.next() {
-            let line = trimmed(piece);
-            if !line.is_empty() {
-                return Some(line);
-            }
-        }
-        None
+        next_line(&mut self.lines)
     }
 
     /// The text that is left: what comes after the piece of the last item, or `None` once there is none.

@@ -2,13 +2,13 @@ use Rattle.std.proofs.Common.{◌≡◌, ◌<◌, length, sym, ◌∙◌, ap, ar
 use Rattle.std.proofs.lemmas.Bool.{eqb-true}
 use Rattle.std.proofs.lemmas.Bool.Decides.{nat_tests}
 use Rattle.lp_lines.proofs.lemmas.line.ParseStepsLemmas.{Skipped-more, items_less}
-use Rattle.lp_lines.proofs.line.ParseLines.next_line.Goals as goal
+use Rattle.lp_lines.proofs.line.next_line.Goals as goal
 
 pub returns-then-not-is_empty-clause-fewer : goal.returns-then-not-is_empty-clause-fewer
 returns-then-not-is_empty-clause-fewer c =
     let g = (c.in-Some.ensures.goes.on tt).2 in
     let some : 0 < length c.trimmed-line.result.now = grind (arith, nat_tests) in
-    items_less c.args.self.now c.next.new.self c.in-Some.piece.now (omega arith) (rw (← c.trimmed-line.ensures) some)
+    items_less c.args.lines.now c.next.new.self c.in-Some.piece.now (omega arith) (rw (← c.trimmed-line.ensures) some)
     (λ others h. c.loop-piece.invariant.skipped _ (c.in-Some.ensures.steps.1 others h))
 
 pub loop-piece-preserved : goal.loop-piece-preserved
