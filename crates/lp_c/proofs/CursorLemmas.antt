@@ -1,23 +1,33 @@
 -- What a cursor has left.
-use Rattle.std.proofs.Common.{ℕ, List, [], Option, Some, None, Result, refl}
-use Rattle.influxdb_line_protocol.specs.types.Error.{Error}
-use Rattle.influxdb_line_protocol.specs.types.ParsedLine.{ParsedLine}
-use Rattle.influxdb_line_protocol.specs.format.Dialects.{Dialect}
-use Rattle.influxdb_line_protocol.specs.format.Pieces.{Left, Pieces, PiecesLeft}
-use Rattle.influxdb_line_protocol.specs.code.ParseSteps.{GivesItem}
+use Rattle.std.proofs.Common.{◌≡◌, ℕ, List, None, Some, arith, refl}
+use Rattle.std.specs.Borrow.{Bor}
+use Rattle.std.proofs.lemmas.Bool.{false≢true}
+use Rattle.influxdb_line_protocol.specs.format.Pieces.{Left}
+use Rattle.influxdb_line_protocol.specs.code.ParseSteps.{GivesLine}
+use Rattle.lp_c.specs.Crossing.{ReadsItem, left_of}
+use Rattle.lp_c.specs.Numbers.{answer_number}
+use Rattle.lp_c.specs.declared.views.Answer.{Answer}
+use Rattle.lp_c.specs.declared.views.Line.{Line}
+use Rattle.lp_c.specs.declared.views.Lines.{Lines}
+use Rattle.lp_c.specs.declared.views.Part.{Part}
 
--- each text has a piece
-no_pieces : (dialect : Dialect) (text : List ℕ) → Pieces dialect text [] → ⊥
-no_pieces dialect text h = elim h [ ]
+-- a call that gives a line leaves the dialect as it was
+pub gives_in_dialect : (before after : Left) (line : Bor (List ℕ)) → GivesLine before (Some line) after
+    → GivesLine before (Some line) (record { dialect = before.dialect; text = after.text })
+gives_in_dialect before after line h = (refl, λ others left. h.1 others (rw h.0 left))
 
--- where no piece is left, none is left in any dialect
-none_left : (d e : Dialect) (text : Option (List ℕ)) → PiecesLeft (record { dialect = d; text = text }) []
-    → PiecesLeft (record { dialect = e; text = text }) []
-none_left d e None h = refl
-none_left d e (Some text) h = absurd (no_pieces d text h)
-
--- a call that gives an item leaves the dialect as it was
-pub gives_in_dialect : (before after : Left) (item : Option (Result ParsedLine Error)) → GivesItem before item after
-    → GivesItem before item (record { dialect = before.dialect; text = after.text })
-gives_in_dialect before after None h = (h.0, none_left after.dialect before.dialect after.text h.1)
-gives_in_dialect before after (Some item) h = (refl, λ others left. h.1 others (rw h.0 left))
+-- where no item is left, the end is answered, and all of the room is left
+pub reads_end : (before : Lines) (room number : ℕ) (line : Line) (parts : List Part) (after : Lines)
+    → number ≡ answer_number Answer.End → GivesLine (left_of before) None (left_of after)
+    → ReadsItem before room room number line parts after
+reads_end before room number line parts after is h = record {
+  text = None;
+  answer = Answer.End;
+  passed = left_of after;
+  numbered = is;
+  gives = h;
+  shown = refl;
+  moves = λ passes. refl;
+  stays = λ more. absurd (false≢true more);
+  taken = rw is (omega arith);
+}

@@ -1,3 +1,4 @@
 pub mod BlockLemmas
 pub mod CursorLemmas
-pub mod PartLemmas
+pub mod TextLemmas
+pub mod ToldLemmas

@@ -1,23 +1,21 @@
 -- What a caller in C sees of what was read.
-use Rattle.std.specs.Prelude.{◌≡◌, ◌<◌, ◌+◌, ◌-◌, ◌^◌, ◌==◌, ◌&&◌, ℕ, ℤ, pos, List, [], Bool, true, false, not, Option, Some, None}
-use Rattle.std.specs.Prelude.{Result, Ok, Err, length, map, take, drop, min, string_bytes, if◌then◌else◌}
+use Rattle.std.specs.Prelude.{◌≡◌, ◌<◌, ◌+◌, ◌-◌, ◌^◌, ◌==◌, ◌&&◌, ◌||◌, ℕ, ℤ, pos, List, [], Bool, true, false, not, Option, Some, None}
+use Rattle.std.specs.Prelude.{Result, Ok, Err, length, map, take, drop, min, if◌then◌else◌}
+use Rattle.std.specs.Borrow.{Bor}
 use Rattle.std.specs.List.{sum_by}
 use Rattle.std.specs.Option.{option_map, is_some}
 use Rattle.std.specs.Ordering.{int_eq}
 use Rattle.influxdb_line_protocol.specs.format.Dialects.{Dialect, Crate, Strict}
-use Rattle.influxdb_line_protocol.specs.types.ParsedLine.{ParsedLine}
-use Rattle.influxdb_line_protocol.specs.types.Error.{Error}
-use Rattle.influxdb_line_protocol.specs.types.Error.TheVariants as error
-use Rattle.influxdb_line_protocol.specs.types.OutOfRange.{OutOfRange}
-use Rattle.influxdb_line_protocol.specs.types.OutOfRange.TheVariants as range
 use Rattle.influxdb_line_protocol.specs.format.Lines as format
 use Rattle.influxdb_line_protocol.specs.format.Lines.{some_tags}
 use Rattle.influxdb_line_protocol.specs.format.Pieces.{GivesPiece, Left}
 use Rattle.influxdb_line_protocol.specs.format.Points.{Pair}
-use Rattle.influxdb_line_protocol.specs.format.Readings.{Text}
+use Rattle.influxdb_line_protocol.specs.format.Readings as reading
+use Rattle.influxdb_line_protocol.specs.format.Readings.{Fault, Text, above, below, integer_value_invalid, uinteger_value_invalid}
+use Rattle.influxdb_line_protocol.specs.format.Readings.{cannot_parse_entire_line, ends_with_backslash, field_set_missing}
+use Rattle.influxdb_line_protocol.specs.format.Readings.{measurement_value_invalid, tag_set_malformed, take_while1, timestamp_value_invalid}
 use Rattle.influxdb_line_protocol.specs.format.Values.{Value, integer, unsigned, float, string, boolean}
-use Rattle.influxdb_line_protocol.specs.code.ParseSteps.{GivesItem}
-use Rattle.influxdb_line_protocol.specs.code.Parsed.{line_read}
+use Rattle.influxdb_line_protocol.specs.code.ParseSteps.{GivesLine}
 use Rattle.lp_c.specs.Numbers.{answer_number, fault_number, kind_number, side_number}
 use Rattle.lp_c.specs.declared.views.Answer.{Answer}
 use Rattle.lp_c.specs.declared.views.FaultKind.{FaultKind}
@@ -140,9 +138,9 @@ AnswersLine read room Answer.MoreRoom line parts = room < copied_in read
 AnswersLine read room answer line parts = ⊥
 
 -- the side that a fault names
-abbrev pub side_of : OutOfRange → Side
-side_of range.Above = side.Above
-side_of range.Below = side.Below
+abbrev pub side_of : reading.Side → Side
+side_of above = side.Above
+side_of below = side.Below
 
 -- a fault as a caller sees it: its kind, its side, and its text
 pub record FaultSeen : Type 0 where
@@ -151,26 +149,24 @@ pub record FaultSeen : Type 0 where
   pub text : List ℕ
 
 -- a fault without a number or a text
-abbrev pub bare_fault : FaultKind → Option FaultSeen
-bare_fault kind = Some (record { kind = kind; side = side.Neither; text = [] })
+abbrev pub bare_fault : FaultKind → FaultSeen
+bare_fault kind = record { kind = kind; side = side.Neither; text = [] }
 
--- what a caller sees of an error; a refused request for memory is no fault
-abbrev pub fault_seen : Error → Option FaultSeen
-fault_seen (error.DuplicateTag key) = Some (record { kind = FaultKind.DuplicateTag; side = side.Neither; text = string_bytes key })
-fault_seen error.MeasurementValueInvalid = bare_fault FaultKind.MeasurementValueInvalid
-fault_seen error.FieldSetMissing = bare_fault FaultKind.FieldSetMissing
-fault_seen (error.IntegerValueInvalid source value) =
-    Some (record { kind = FaultKind.IntegerValueInvalid; side = side_of source; text = string_bytes value })
-fault_seen (error.UIntegerValueInvalid source value) =
-    Some (record { kind = FaultKind.UIntegerValueInvalid; side = side_of source; text = string_bytes value })
-fault_seen (error.TimestampValueInvalid source value) =
-    Some (record { kind = FaultKind.TimestampValueInvalid; side = side_of source; text = string_bytes value })
-fault_seen error.EndsWithBackslash = bare_fault FaultKind.EndsWithBackslash
-fault_seen (error.CannotParseEntireLine rest) =
-    Some (record { kind = FaultKind.CannotParseEntireLine; side = side.Neither; text = string_bytes rest })
-fault_seen error.TagSetMalformed = bare_fault FaultKind.TagSetMalformed
-fault_seen (error.GenericParsingError kind) = bare_fault FaultKind.GenericParsingError
-fault_seen error.OutOfMemory = None
+-- a fault that names a number
+abbrev pub number_fault : FaultKind → reading.Side → List ℕ → FaultSeen
+number_fault kind side text = record { kind = kind; side = side_of side; text = text }
+
+-- what a caller sees of a fault
+abbrev pub fault_seen : Fault → FaultSeen
+fault_seen measurement_value_invalid = bare_fault FaultKind.MeasurementValueInvalid
+fault_seen field_set_missing = bare_fault FaultKind.FieldSetMissing
+fault_seen (integer_value_invalid side text) = number_fault FaultKind.IntegerValueInvalid side text
+fault_seen (uinteger_value_invalid side text) = number_fault FaultKind.UIntegerValueInvalid side text
+fault_seen (timestamp_value_invalid side text) = number_fault FaultKind.TimestampValueInvalid side text
+fault_seen ends_with_backslash = bare_fault FaultKind.EndsWithBackslash
+fault_seen (cannot_parse_entire_line rest) = record { kind = FaultKind.CannotParseEntireLine; side = side.Neither; text = rest }
+fault_seen tag_set_malformed = bare_fault FaultKind.TagSetMalformed
+fault_seen take_while1 = bare_fault FaultKind.GenericParsingError
 
 -- the line shows this fault, and how many bytes of room its text takes; it has no tags, no fields and no timestamp
 pub record ShowsFault (fault : FaultSeen) (line : Line) : Type 0 where
@@ -185,18 +181,16 @@ pub record ShowsFault (fault : FaultSeen) (line : Line) : Type 0 where
   pub timestamp : line.timestamp ≡ pos 0
 
 -- what is answered for a fault: it is shown, or its text takes more room than was lent
-abbrev pub AnswersFault : Option FaultSeen → ℕ → Answer → Line → Type 0
-AnswersFault None room answer line = answer ≡ Answer.OutOfMemory
-AnswersFault (Some fault) room Answer.Fault line = ShowsFault fault line
-AnswersFault (Some fault) room Answer.MoreRoom line = (line.copied_len ≡ length fault.text) × (room < length fault.text)
-AnswersFault (Some fault) room answer line = ⊥
+abbrev pub AnswersFault : FaultSeen → ℕ → Answer → Line → Type 0
+AnswersFault fault room Answer.Fault line = ShowsFault fault line
+AnswersFault fault room Answer.MoreRoom line = (line.copied_len ≡ length fault.text) × (room < length fault.text)
+AnswersFault fault room answer line = ⊥
 
--- what is answered for an item
-abbrev pub AnswersItem : Option (Result ParsedLine Error) → ℕ → Answer → Line → List Part → Type 0
+-- what is answered for an item: it is what the format answers for a line
+abbrev pub AnswersItem : Option (Result format.Line Fault) → ℕ → Answer → Line → List Part → Type 0
 AnswersItem None room answer line parts = answer ≡ Answer.End
-AnswersItem (Some (Ok parsed)) room answer line parts =
-    CountsLine (line_read parsed) line × AnswersLine (line_read parsed) room answer line parts
-AnswersItem (Some (Err error)) room answer line parts = AnswersFault (fault_seen error) room answer line
+AnswersItem (Some (Ok read)) room answer line parts = CountsLine read line × AnswersLine read room answer line parts
+AnswersItem (Some (Err fault)) room answer line parts = AnswersFault (fault_seen fault) room answer line
 
 -- whether more parts or more room is needed
 abbrev pub is_more : Answer → Bool
@@ -204,16 +198,26 @@ is_more Answer.MoreParts = true
 is_more Answer.MoreRoom = true
 is_more answer = false
 
--- the number is that of the answer for the next item, whichever that is; the cursor moves past the item as the parser does,
--- but stays where more is needed
-pub record ReadsItem (before : Lines) (room : ℕ) (number : ℕ) (line : Line) (parts : List Part) (after : Lines) : Type 0 where
-  pub item : Option (Result ParsedLine Error)
+-- whether an answer is for an item that was passed: a line or a fault
+abbrev pub is_item : ℕ → Bool
+is_item answer = answer == answer_number Answer.Line || answer == answer_number Answer.Fault
+
+-- how many bytes of room an answer takes: those that the line tells, where an item was passed
+abbrev pub taken_by : ℕ → Line → ℕ
+taken_by answer line = if is_item answer then line.copied_len else 0
+
+-- the number is that of the answer for the next item, which is what the format answers for the line of the next piece that is not
+-- blank; the cursor moves past that piece, but stays where more is needed; all of the room is left but what the answer takes
+pub record ReadsItem (before : Lines) (room left number : ℕ) (line : Line) (parts : List Part) (after : Lines) : Type 0 where
+  pub text : Option (Bor (List ℕ))
   pub answer : Answer
-  pub passed : Lines
+  pub passed : Left
   pub numbered : number ≡ answer_number answer
-  pub gives : GivesItem (left_of before) item (left_of passed)
-  pub shown : AnswersItem item room answer line parts
-  pub stays : after ≡ (if is_more answer then before else passed)
+  pub gives : GivesLine (left_of before) text passed
+  pub shown : AnswersItem (option_map (λ line. format.answer (dialect_of before.strict) line.now) text) room answer line parts
+  pub moves : is_more answer ≡ false → left_of after ≡ passed
+  pub stays : is_more answer ≡ true → after ≡ before
+  pub taken : left + taken_by number line ≡ room
 
 -- whether there was a piece; the view shows it, and what is left after it is left, as the splitter has it
 abbrev pub GivesView : Left → Bool → View → Left → Type 0

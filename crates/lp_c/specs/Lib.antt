@@ -3,4 +3,5 @@ pub mod Crossing
 pub mod Handed
 pub mod Numbers
 pub mod Rebuilding
+pub mod Telling
 pub mod Writing

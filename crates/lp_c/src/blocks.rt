@@ -1,13 +1,13 @@
 //! Many items in one call, for callers to whom a call is dear.
 
-ghost use Rattle.std.specs.Prelude.{◌≡◌, ◌≤◌, ◌+◌, drop, false, length, take, IsTrue, IsUtf8};
-ghost use Rattle.lp_c.specs.Blocks.{ReadsBlock, is_item, parts_of};
-ghost use Rattle.lp_c.specs.Crossing.{ReadsItem, left_of};
+ghost use Rattle.std.specs.Prelude.{◌≡◌, ◌≢◌, ◌≤◌, ◌+◌, drop, false, length, take, IsTrue, IsUtf8};
+ghost use Rattle.lp_c.specs.Blocks.{ReadsBlock, parts_of};
+ghost use Rattle.lp_c.specs.Crossing.{ReadsItem, is_item, left_of};
+ghost use Rattle.lp_c.specs.Numbers.{answer_number};
 
-use crate::reading::{items_of, new_line, read_next};
+use crate::reading::{pieces_of, read_next};
 use crate::views::{Answer, Line, Lines, Part, Room};
-use influxdb_line_protocol::{ParseLines, ParsedLine};
-use std::alloc::Global;
+use influxdb_line_protocol::SplitLines;
 
 /// An item, and where its parts begin.
 #[repr(C)]
@@ -25,16 +25,13 @@ pub struct Row<'a> {
 fn is_item(answer: u32) -> bool
     ensures { result ≡ is_item answer }
 {
-    answer == Answer::Line.number()
-        || answer == Answer::Fault.number()
-        || answer == Answer::OutOfMemory.number()
+    answer == Answer::Line.number() || answer == Answer::Fault.number()
 }
 
 // Reads the next item into a row, with its parts from `used` on, and gives its answer and how many parts it has.
 #[inline(always)]
 fn read_row<'a>(
-    items: &mut ParseLines<'a>,
-    parsed: &mut ParsedLine<'a>,
+    pieces: &mut SplitLines<'a>,
     lines: &mut Lines<'a>,
     room: &mut Room<'a>,
     row: &mut Row<'a>,
@@ -42,27 +39,22 @@ fn read_row<'a>(
     used: usize,
 ) -> (u32, usize)
     requires text { IsUtf8 lines.old.rest.now }
-    requires left { lines.old.ended ≡ false → items.old ≡ left_of lines.old }
+    requires left { lines.old.ended ≡ false → pieces.old ≡ left_of lines.old }
     requires used { used ≤ length parts.old }
     ensures text { IsUtf8 lines.new.rest.now }
-    ensures left { IsTrue (is_item result.0) → lines.new.ended ≡ false → items.new ≡ left_of lines.new }
+    ensures left { IsTrue (is_item result.0) → lines.new.ended ≡ false → pieces.new ≡ left_of lines.new }
     ensures answer { result.0 ≡ row.new.answer }
     ensures own { result.1 ≡ parts_of row.new }
     ensures at { row.new.parts_at ≡ used }
     ensures size { length parts.new ≡ length parts.old }
     ensures kept { take used parts.new ≡ take used parts.old }
     ensures fits { used + result.1 ≤ length parts.new }
-    ensures reads { ∥ ReadsItem lines.old (length room.old.bytes.now) row.new.answer row.new.line (drop used parts.new) lines.new ∥₁ }
+    ensures reads { ∥ ReadsItem lines.old (length room.old.bytes.now) (length room.new.bytes.now) row.new.answer row.new.line
+        (drop used parts.new) lines.new ∥₁ }
+    ensures memory { result.0 ≢ answer_number Answer.OutOfMemory }
 {
     row.parts_at = used;
-    row.answer = read_next(
-        items,
-        parsed,
-        lines,
-        room,
-        &mut row.line,
-        &mut parts[used..],
-    );
+    row.answer = read_next(pieces, lines, room, &mut row.line, &mut parts[used..]);
     let own = if row.answer == Answer::Line.number() {
         row.line.tags + row.line.fields
     } else {
@@ -71,15 +63,15 @@ fn read_row<'a>(
     (row.answer, own)
 }
 
-/// Reads items into rows, in order, as long as rows, parts and room last. `filled` is how many rows were filled.
+/// Reads items into rows, in order, as long as rows, parts and room last. `filled` is how many rows were filled. It asks for no
+/// memory.
 ///
-/// Each row has the answer for its item (`Line`, `Fault` or `OutOfMemory`) and what [`lp_lines_next`](crate::reading) shows of
-/// it; the parts of a line begin at `parts_at`. Answers `Line`, where each row is filled; `End`, where no item is left; or
-/// `MoreParts` or `MoreRoom`, where the next item takes more than is left: the row after the filled ones says how much, and
-/// `lines` is before that item.
+/// Each row has the answer for its item (`Line` or `Fault`) and what [`lp_lines_next`](crate::reading) shows of it; the parts of
+/// a line begin at `parts_at`. Answers `Line`, where each row is filled; `End`, where no item is left; or `MoreParts` or
+/// `MoreRoom`, where the next item takes more than is left: the row after the filled ones says how much, and `lines` is before
+/// that item. What is left of `room` is all but the bytes that the items of the rows take.
 #[unsafe(no_mangle)]
 pub extern "C" fn lp_lines_block<'a>(
-    alloc: Global,
     lines: &mut Lines<'a>,
     room: &mut Room<'a>,
     rows: &mut [Row<'a>],
@@ -88,21 +80,14 @@ pub extern "C" fn lp_lines_block<'a>(
 ) -> u32
     requires { IsUtf8 lines.old.rest.now }
     ensures text { IsUtf8 lines.new.rest.now }
-    ensures reads { ∥ ReadsBlock lines.old (length room.old.bytes.now) rows.new parts.new filled.new result lines.new ∥₁ }
+    ensures reads { ∥ ReadsBlock lines.old (length room.old.bytes.now) (length room.new.bytes.now) rows.new parts.new filled.new
+        result lines.new ∥₁ }
+    ensures memory { result ≢ answer_number Answer.OutOfMemory }
 {
-    let mut items = items_of(alloc, lines);
-    let mut parsed = new_line(alloc);
+    let mut pieces = pieces_of(lines);
     let mut used = 0usize;
     for at in 0..rows.len() {
-        let (answer, own) = read_row(
-            &mut items,
-            &mut parsed,
-            lines,
-            room,
-            &mut rows[at],
-            parts,
-            used,
-        );
+        let (answer, own) = read_row(&mut pieces, lines, room, &mut rows[at], parts, used);
         if !is_item(answer) {
             *filled = at;
             return answer;

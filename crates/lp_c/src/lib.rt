@@ -9,5 +9,6 @@ mod handed;
 mod lent;
 mod reading;
 mod rebuilding;
+mod telling;
 mod views;
 mod writing;

@@ -1,21 +1,14 @@
 //! The calls that read.
 
-ghost use Rattle.std.specs.Prelude.{◌≡◌, ◌≤◌, ◌+◌, ◌↔◌, [], length, false, IsFalse, IsTrue, IsUtf8, Some, option_map};
+ghost use Rattle.std.specs.Prelude.{◌≡◌, ◌≢◌, ◌≤◌, ◌+◌, ◌↔◌, [], length, false, IsFalse, IsTrue, IsUtf8, Some, option_map};
 ghost use Rattle.influxdb_line_protocol.specs.code.Rules.{rules_of};
-ghost use Rattle.influxdb_line_protocol.specs.code.ParseSteps.{GivesItem};
-ghost use Rattle.influxdb_line_protocol.specs.code.ReadInto.{item_in};
+ghost use Rattle.lp_c.specs.Crossing.{GivesView, ReadsItem, dialect_of, is_item, left_of};
 ghost use Rattle.lp_c.specs.Numbers.{answer_number};
-ghost use Rattle.lp_c.specs.Blocks.{is_item};
-ghost use Rattle.lp_c.specs.Crossing.{AnswersItem, GivesView, ReadsItem, dialect_of, left_of};
 
-use crate::lent::{put_fault, put_line};
+use crate::telling::put_item;
 use crate::views::{Answer, Line, Lines, Part, Room, View};
-use influxdb_line_protocol::{
-    Dialect, Error, EscapedStr, FieldSet, ParseLines, ParsedLine, Series, TagSet, parse_lines_in,
-    split_lines_in,
-};
-use lp_lines::freeing::{forget_line, free_line};
-use std::alloc::Global;
+use influxdb_line_protocol::{Dialect, SplitLines, split_lines_in};
+use lp_events::lines::next_line;
 
 /// The version of the library: 10,000 times its first number, 100 times its second, and its third.
 #[unsafe(no_mangle)]
@@ -69,91 +62,54 @@ fn leave<'a>(lines: &mut Lines<'a>, rest: Option<&'a str>)
     }
 }
 
-// A line to read into. It is made where it is used: a line is large, and each move of it is a copy.
+// The pieces of what is left, where the cursor has not ended.
 #[inline(always)]
-pub(crate) fn new_line<'a>(alloc: Global) -> ParsedLine<'a> {
-    ParsedLine {
-        series: Series {
-            raw_input: "",
-            measurement: EscapedStr::SingleSlice(""),
-            tag_set: Some(TagSet::new(alloc)),
-        },
-        field_set: FieldSet::new(alloc),
-        timestamp: None,
-    }
-}
-
-// The items of what is left, where the cursor has not ended.
-#[inline(always)]
-pub(crate) fn items_of<'a>(alloc: Global, lines: &Lines<'a>) -> ParseLines<'a>
+pub(crate) fn pieces_of<'a>(lines: &Lines<'a>) -> SplitLines<'a>
     requires { IsUtf8 lines.now.rest.now }
     ensures { lines.now.ended ≡ false → result ≡ left_of lines.now }
 {
     let text = unsafe { str::from_utf8_unchecked(lines.rest) };
-    parse_lines_in(alloc, dialect_of(lines.strict), text)
+    split_lines_in(dialect_of(lines.strict), text)
 }
 
-// Puts an item out, whose line, where it has one, is `parsed`.
-#[inline(always)]
-fn put_item<'a>(
-    answer: &Option<Result<(), Error>>,
-    parsed: &ParsedLine<'a>,
-    room: &mut Room<'a>,
-    line: &mut Line<'a>,
-    parts: &mut [Part<'a>],
-) -> Answer
-    ensures answers { AnswersItem (option_map (item_in parsed.now) answer.now) (length room.old.bytes.now) result
-        line.new parts.new }
-    ensures fits { answer_number result ≡ 1 → line.new.tags + line.new.fields ≤ length parts.new }
-{
-    match answer {
-        None => Answer::End,
-        Some(Ok(())) => put_line(parsed, room, line, parts),
-        Some(Err(error)) => put_fault(error, room, line),
-    }
-}
-
-// Reads the next item into what the caller lends, by way of `parsed`, which may be used again; so may `items`, where the
-// item was passed.
+// Reads the next item into what the caller lends; `pieces` may be used again where the item was passed.
 #[inline(always)]
 pub(crate) fn read_next<'a>(
-    items: &mut ParseLines<'a>,
-    parsed: &mut ParsedLine<'a>,
+    pieces: &mut SplitLines<'a>,
     lines: &mut Lines<'a>,
     room: &mut Room<'a>,
     line: &mut Line<'a>,
     parts: &mut [Part<'a>],
 ) -> u32
     requires text { IsUtf8 lines.old.rest.now }
-    requires left { lines.old.ended ≡ false → items.old ≡ left_of lines.old }
+    requires left { lines.old.ended ≡ false → pieces.old ≡ left_of lines.old }
     ensures text { IsUtf8 lines.new.rest.now }
-    ensures left { IsTrue (is_item result) → lines.new.ended ≡ false → items.new ≡ left_of lines.new }
-    ensures reads { ∥ ReadsItem lines.old (length room.old.bytes.now) result line.new parts.new lines.new ∥₁ }
+    ensures left { IsTrue (is_item result) → lines.new.ended ≡ false → pieces.new ≡ left_of lines.new }
+    ensures reads { ∥ ReadsItem lines.old (length room.old.bytes.now) (length room.new.bytes.now) result line.new parts.new
+        lines.new ∥₁ }
     ensures fits { result ≡ 1 → line.new.tags + line.new.fields ≤ length parts.new }
+    ensures memory { result ≢ answer_number Answer.OutOfMemory }
 {
     if lines.ended {
         return Answer::End.number();
     }
-    let answer = put_item(&items.next_into(parsed), parsed, room, line, parts);
-    let mut passed = Lines {
-        rest: lines.rest,
-        ended: false,
-        strict: lines.strict,
+    let Some(text) = next_line(pieces) else {
+        lines.ended = true;
+        return Answer::End.number();
     };
-    leave(&mut passed, items.remainder());
+    let answer = put_item(dialect_of(lines.strict), text, room, line, parts);
     if !answer.is_more() {
-        *lines = passed;
+        leave(lines, pieces.remainder());
     }
     answer.number()
 }
 
-/// Reads the next item into what the caller lends, and answers the number of an [`Answer`].
+/// Reads the next item into what the caller lends, and answers the number of an [`Answer`]. It asks for no memory.
 ///
-/// `Line`, `Fault`, `OutOfMemory` and `End` pass the item. `MoreParts` and `MoreRoom` leave `lines` as it was, and `line`
-/// says how much the item takes: lend that much, and call again.
+/// `Line`, `Fault` and `End` pass the item. `MoreParts` and `MoreRoom` leave `lines` as it was, and `line` says how much the
+/// item takes: lend that much, and call again. What is left of `room` is all but the bytes that a line or a fault takes.
 #[unsafe(no_mangle)]
 pub extern "C" fn lp_lines_next<'a>(
-    alloc: Global,
     lines: &mut Lines<'a>,
     room: &mut Room<'a>,
     line: &mut Line<'a>,
@@ -161,14 +117,11 @@ pub extern "C" fn lp_lines_next<'a>(
 ) -> u32
     requires { IsUtf8 lines.old.rest.now }
     ensures text { IsUtf8 lines.new.rest.now }
-    ensures reads { ∥ ReadsItem lines.old (length room.old.bytes.now) result line.new parts.new lines.new ∥₁ }
+    ensures reads { ∥ ReadsItem lines.old (length room.old.bytes.now) (length room.new.bytes.now) result line.new parts.new
+        lines.new ∥₁ }
+    ensures memory { result ≢ answer_number Answer.OutOfMemory }
 {
-    let mut items = items_of(alloc, lines);
-    let mut parsed = new_line(alloc);
-    let answer = read_next(&mut items, &mut parsed, lines, room, line, parts);
-    free_line(alloc, &mut parsed);
-    forget_line(parsed);
-    answer
+    read_next(&mut pieces_of(lines), lines, room, line, parts)
 }
 
 /// Takes the next piece off what is left, not parsed, and says whether there was one.
@@ -182,8 +135,7 @@ pub extern "C" fn lp_lines_piece<'a>(lines: &mut Lines<'a>, piece: &mut View<'a>
     if lines.ended {
         return false;
     }
-    let text = unsafe { str::from_utf8_unchecked(lines.rest) };
-    let mut pieces = split_lines_in(dialect_of(lines.strict), text);
+    let mut pieces = pieces_of(lines);
     let Some(first) = pieces.next() else {
         return false;
     };

@@ -6,7 +6,11 @@ ghost use Rattle.lp_events.specs.code.LineSteps.{GivesLine, most_items};
 use lp_split::split::SplitLines;
 use lp_values::trim::trimmed;
 
-/// The next piece that holds more than blanks and comments, without those before it.
+/// The next of these pieces that holds more than blanks and comments, without those before it. It takes no memory.
+///
+/// ```text
+/// "\n# c\nm a=1i\nn b=1i"  gives  m a=1i, and leaves the piece n b=1i
+/// ```
 #[inline(always)]
 pub fn next_line<'a>(lines: &mut SplitLines<'a>) -> Option<&'a str>
     ensures gives { GivesLine lines.old result lines.new }

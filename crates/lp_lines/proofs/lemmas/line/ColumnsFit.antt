@@ -49,7 +49,7 @@ field_room dialect text rest fs h =
     omega (arith, ap length same, room_of field (λ t. (field_no_longer t).holds) parts.first text parts.mid full.longest.separated)
 
 -- the tags and the fields of a line
-line_room : (dialect : Dialect) (text : List ℕ) (l : Line) → answer dialect text ≡ Ok l
+pub line_room : (dialect : Dialect) (text : List ℕ) (l : Line) → answer dialect text ≡ Ok l
     → length (some_tags l.tags) + length l.fields ≤ length text + 1
 line_room dialect text l h =
     let parts = answer_parts dialect text l h in

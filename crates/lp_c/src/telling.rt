@@ -1,0 +1,159 @@
+//! A sink that puts a line where the caller lends memory for it, part by part, as it is told.
+//!
+//! What does not fit is counted, so that the caller is told how much the whole line takes.
+
+ghost use Rattle.std.specs.Prelude.{◌≡◌, ◌<◌, ◌≤◌, ◌+◌, ◌^◌, None, Some, length};
+ghost use Rattle.influxdb_line_protocol.specs.code.Events.{spelled_field, spelled_tag};
+ghost use Rattle.influxdb_line_protocol.specs.code.Rules.{rules_of};
+ghost use Rattle.influxdb_line_protocol.specs.format.Lines.{answer};
+ghost use Rattle.lp_c.specs.Crossing.{AnswersItem, taken_by};
+ghost use Rattle.lp_c.specs.Numbers.{answer_number};
+ghost use Rattle.lp_c.specs.Telling.{TellsField, TellsTag, Told, lent, lent_to};
+
+use crate::lent::{field_of, put_fault, tag_of, view_of, with_text, with_value};
+use crate::views::{Answer, FaultKind, Line, Part, Room, Side};
+use influxdb_line_protocol::{
+    Dialect, EventSink, Spelled, SpelledFault, SpelledValue, read_line_events,
+};
+
+/// A line that is told: where it is put, and its fault, if it has one.
+#[derive(Drop)]
+pub(crate) struct Telling<'l, 'a> {
+    pub(crate) line: &'l mut Line<'a>,
+    pub(crate) parts: &'l mut [Part<'a>],
+    pub(crate) room: &'l mut Room<'a>,
+    pub(crate) fault: Option<SpelledFault<'a>>,
+}
+
+impl<'l, 'a> EventSink<'a> for Telling<'l, 'a> {
+    ghost use Rattle.lp_c.specs.Telling.{Tells};
+
+    ghost takes = { Tells };
+
+    #[inline(always)]
+    fn measurement(&mut self, name: Spelled<'a>) {
+        self.line.measurement = view_of(self.room, name);
+        self.line.tags = 0;
+        self.line.fields = 0;
+        self.line.copied_len = with_text(0, name);
+    }
+
+    #[inline(always)]
+    fn tag(&mut self, key: Spelled<'a>, value: Spelled<'a>) {
+        let at = self.line.tags.saturating_add(self.line.fields);
+        let part = tag_of(self.room, key, value);
+        if at < self.parts.len() {
+            self.parts[at] = part;
+        }
+        self.line.tags = self.line.tags.saturating_add(1);
+        self.line.copied_len = with_text(with_text(self.line.copied_len, key), value);
+    }
+
+    #[inline(always)]
+    fn field(&mut self, key: Spelled<'a>, value: SpelledValue<'a>) {
+        let at = self.line.tags.saturating_add(self.line.fields);
+        let part = field_of(self.room, key, value);
+        if at < self.parts.len() {
+            self.parts[at] = part;
+        }
+        self.line.fields = self.line.fields.saturating_add(1);
+        self.line.copied_len = with_value(with_text(self.line.copied_len, key), value);
+    }
+
+    #[inline(always)]
+    fn end(&mut self, series: &'a str, timestamp: Option<i64>) {
+        self.line.series = series.as_bytes();
+        self.line.has_tag_set = self.line.tags != 0;
+        self.line.has_timestamp = timestamp.is_some();
+        self.line.timestamp = timestamp.unwrap_or(0);
+        self.line.fault = FaultKind::None.number();
+        self.line.side = Side::Neither.number();
+    }
+
+    #[inline(always)]
+    fn fault(&mut self, fault: SpelledFault<'a>) {
+        self.fault = Some(fault);
+    }
+}
+
+// Tells what the trimmed text `text` says.
+#[inline(always)]
+fn tell_line<'l, 'a>(dialect: Dialect, text: &'a str, telling: &mut Telling<'l, 'a>)
+    requires short { length text.now < 2 ^ 63 }
+    requires no_fault { telling.old.fault ≡ None }
+    ensures line { telling.new.line.ghost_name ≡ telling.old.line.ghost_name }
+    ensures parts { telling.new.parts.ghost_name ≡ telling.old.parts.ghost_name }
+    ensures room { telling.new.room.ghost_name ≡ telling.old.room.ghost_name }
+    ensures size { length telling.new.parts.now ≡ length telling.old.parts.now }
+    ensures told { Told (answer (rules_of dialect) text.now) telling.new.fault (lent_to telling.old) (lent_to telling.new) }
+{
+    read_line_events(dialect, text, telling);
+}
+
+// Gives back what was lent. This changes nothing; it is where the loans end, so that the caller knows what they leave.
+#[inline(always)]
+fn give_back(line: &mut Line<'_>, parts: &mut [Part<'_>], room: &mut Room<'_>)
+    ensures line { line.new ≡ line.old }
+    ensures parts { parts.new ≡ parts.old }
+    ensures room { room.new ≡ room.old }
+{}
+
+// Puts out what the trimmed text `text` says, as far as it fits, and gives the fault that was told.
+#[inline(never)]
+fn put_told<'a>(
+    dialect: Dialect,
+    text: &'a str,
+    room: &mut Room<'a>,
+    line: &mut Line<'a>,
+    parts: &mut [Part<'a>],
+) -> Option<SpelledFault<'a>>
+    requires { length text.now < 2 ^ 63 }
+    ensures { Told (answer (rules_of dialect) text.now) result (lent line.old parts.old room.old) (lent line.new parts.new room.new) }
+{
+    let mut telling = Telling {
+        line,
+        parts,
+        room,
+        fault: None,
+    };
+    tell_line(dialect, text, &mut telling);
+    let Telling {
+        line,
+        parts,
+        room,
+        fault,
+    } = telling;
+    give_back(line, parts, room);
+    fault
+}
+
+// Puts out the item of the trimmed text `text`, or says how much more it takes. A line is told without room first, since room
+// that holds a copy cannot be given back where more is needed; only a line with copies is told once more.
+#[inline(always)]
+pub(crate) fn put_item<'a>(
+    dialect: Dialect,
+    text: &'a str,
+    room: &mut Room<'a>,
+    line: &mut Line<'a>,
+    parts: &mut [Part<'a>],
+) -> Answer
+    requires { length text.now < 2 ^ 63 }
+    ensures answers { AnswersItem (Some (answer (rules_of dialect) text.now)) (length room.old.bytes.now) result line.new parts.new }
+    ensures taken { length room.new.bytes.now + taken_by (answer_number result) line.new ≡ length room.old.bytes.now }
+    ensures fits { answer_number result ≡ 1 → line.new.tags + line.new.fields ≤ length parts.new }
+{
+    let mut none = Room { bytes: &mut [] };
+    if let Some(fault) = put_told(dialect, text, &mut none, line, parts) {
+        return put_fault(fault, room, line);
+    }
+    if parts.len() < line.tags || parts.len() - line.tags < line.fields {
+        return Answer::MoreParts;
+    }
+    if room.bytes.len() < line.copied_len {
+        return Answer::MoreRoom;
+    }
+    if line.copied_len != 0 {
+        let _no_fault = put_told(dialect, text, room, line, parts);
+    }
+    Answer::Line
+}
