@@ -25,4 +25,6 @@ pub mod short_texts;
 #[cfg(test)]
 mod tags;
 #[cfg(test)]
+mod told;
+#[cfg(test)]
 mod values;
