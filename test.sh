@@ -20,6 +20,7 @@ timed() {
 }
 timed checks/documents.sh checks/documents.sh
 timed checks/take.sh checks/take.sh
+timed checks/launch.sh checks/launch.sh
 
 timed misuses/check.sh misuses/check.sh >"$told" 2>&1 &
 misuses=$!

@@ -90,10 +90,11 @@ wanted 1 "$text" "part 4, item 1: no line" "$apart" "$file" 4 --strict
 RELAYS='text=$(cat); printf %s "$text"; case $text in ,*) printf "item %s: no line\n" 1 2 >&2; exit 1 ;; esac'
 wanted 1 "$text" "part 3, item 2: no line" "$apart" "$file" 4
 grep -qx 'part 3, item 1: no line' err
-# Each relay waits until all run.
-RELAYS='echo >>running; tries=0; while [ "$(wc -l <running)" -lt 4 ] && [ $tries -lt 100 ]; do sleep 0.1; tries=$((tries + 1)); done
+# Each of twelve relays waits until all run.
+CUTS="seq 19 30"
+RELAYS='echo >>running; tries=0; while [ "$(wc -l <running)" -lt 12 ] && [ $tries -lt 100 ]; do sleep 0.1; tries=$((tries + 1)); done
 [ $tries -lt 100 ] || exit 2; cat'
-wanted 0 "$text" "" "$apart" "$file" 4
+wanted 0 "$text" "" "$apart" "$file" 12
 # A hundred parts, of which the last one has all.
 CUTS="yes 0 | head -n 99; echo 30"
 RELAYS="cat"

@@ -157,6 +157,13 @@ if [ "$(tail -n 1 "$work/out")" != "ran out, the output could not be written, or
     echo "arguments: --help does not print all of its text"
     exit 1
 fi
+# Each option of the usage begins a line of its own.
+for option in $(printf '%s' "$usage" | grep -o -e '--[a-z-]*'); do
+    if ! grep -qE "^  $option( [A-Z]+)?  " "$work/out"; then
+        echo "arguments: --help does not say what $option does"
+        exit 1
+    fi
+done
 lists=$((lists + 1))
 echo "arguments: $lists lists answered"
 [ -n "$relay" ] || exit 0
@@ -261,17 +268,19 @@ shown 1 "there are more options" "line 2${fault%?}\r\n${clear}22 bytes read, 0 l
 ${clear}line 3: the line is too long\r\n"
 cmp /dev/null "$work/out"
 
-# Three faults, and 300,001 lines of seven bytes. The rate lies between that of the pause and that of the whole run.
-{ printf 'x\nx\nx\n'; yes 'm a=1i' | head -n 300000; } >"$work/first"
+# Three faults, 300,001 lines of seven bytes, and comments of 40 MB, so that the rate has two digits before its point. It lies
+# between that of the pause and that of the whole run.
+{ printf 'x\nx\nx\n'; yes 'm a=1i' | head -n 300000; yes "#$(printf '%099998d' 0)" | head -n 400; } >"$work/first"
+read_wanted=$(($(wc -c <"$work/first") + 7))
 printf 'm a=1i\n' >"$work/last"
 begun=$(date +%s%3N)
 show_progress ">'$work/out'"
 passed=$(($(date +%s%3N) - begun))
 tenths=$(sed -n '$s/.* faults: 3, \([0-9]*\)\.\([0-9]\) MB.*/\1\2/p' "$work/err")
 tenths=$((10#${tenths:-0}))
-shown 1 "there are faults and lines" "$(printf "item %s: ${missing%?}"'\\r\\n' 1 2 3)${clear}2100013 bytes read, \
+shown 1 "there are faults and lines" "$(printf "item %s: ${missing%?}"'\\r\\n' 1 2 3)${clear}$read_wanted bytes read, \
 300000 lines written, faults: 3, $((tenths / 10)).$((tenths % 10)) MB/s$clear"
-if [ "$tenths" -gt $((2100013 / 250000)) ] || [ "$tenths" -lt $((2100013 / (100 * passed))) ]; then
+if [ "$tenths" -gt $((read_wanted / 250000)) ] || [ "$tenths" -lt $((read_wanted / (100 * passed))) ]; then
     echo "arguments: in $passed ms the relay shows a rate of $((tenths / 10)).$((tenths % 10)) MB/s"
     exit 1
 fi

@@ -136,6 +136,30 @@ for program in "$rebuild" "$relay"; do
     wanted 0 lines none "$program, line by line,"
 done
 
+# Two million lines and as many that are refused, of 150 MB, are relayed in 32 MB of memory, since nothing is held of what was
+# written; and are cut into parts in 320 MB, since the input is held once, in a buffer that grows by doubling.
+pairs=2000000
+all_pairs() { yes "$line"$'\nx' | head -n "$((2 * pairs))"; }
+faults_of_pairs() { seq -f 'item %.0f: A generic parsing error occurred: TakeWhile1' 2 2 "$((2 * pairs))"; }
+# in_memory KILOBYTES PROGRAM..: runs a program that has no more memory.
+in_memory() { (ulimit -v "$1" && shift && exec "$@"); }
+mkfifo pipe_out pipe_err
+cmp pipe_out <(yes "$line" | head -n "$pairs") &
+same_out=$!
+cmp pipe_err <(faults_of_pairs) &
+same_err=$!
+all_pairs | in_memory 32000 "$relay" >pipe_out 2>pipe_err && status=0 || status=$?
+if ! wait "$same_out" || ! wait "$same_err" || [ "$status" != 1 ]; then
+    echo "inputs: in 32 MB of memory $relay does not relay 150 MB as it should, and its status is $status"
+    exit 1
+fi
+rm pipe_out pipe_err
+pair=$((${#line} + 3))
+printf '%s\n' "$((pairs * pair / 2))" "$((pairs * pair))" >ends_wanted
+all_pairs | in_memory 320000 "$relay" --cut 2 >out 2>err && status=0 || status=$?
+wanted 0 ends_wanted none "in 320 MB of memory $relay --cut 2"
+runs=$((runs + 1))
+
 # The ends of 5,000 parts: with 801 bytes each, they would end within the block at many places.
 parts=5000
 for ((part = 1; part <= parts; part++)); do

@@ -508,9 +508,43 @@ static void just_their_length(void) {
     largest_is(BASES, "m,a=x\\ y f=1i", 7);
 }
 
+/* A text that repeats a part so many times. */
+static void repeat(char *text, const char *front, const char *part, int times, const char *back) {
+    strcpy(text, front);
+    while (times-- > 0) strcat(text, part);
+    strcat(text, back);
+}
+
+/* These lines, each as it is written again, are rebuilt with few requests, of some hundred bytes at most for each byte of them. */
+static void few_requests(const char *what, const char *lines) {
+    subject = what;
+    begin(0);
+    count = lp_checks_rebuild(false, (const uint8_t *)lines, strlen(lines), out, ROOM, ends, ENTRIES);
+    end();
+    if (count != 3) fail("no answer came");
+    must_be(0, lines);
+    if (asked > 50) fail("%lu requests came", asked);
+    if (most > 200 * strlen(lines)) fail("a request is for %zu bytes", most);
+}
+
+/* What grows gets several times its room at once. A set of tags that has grown is kept for the next line with tags. */
+static void growing(void) {
+    static char lines[ROOM], wide[ROOM];
+    repeat(lines, "", "m a=1i\n", 1000, "");
+    few_requests("a thousand lines", lines);
+    repeat(lines, "m f=1i", ",a=1i", 1000, " 5\n");
+    few_requests("a line of a thousand fields", lines);
+    repeat(lines, "m", ",a=b", 1000, " f=1i\n");
+    few_requests("a line of a thousand tags", lines);
+    repeat(wide, "m", ",a=b", 100, " f=1i\nm f=1i\n");
+    repeat(lines, "", wide, 20, "");
+    few_requests("twenty lines of a hundred tags, and one without tags after each", lines);
+}
+
 int main(void) {
     no_requests();
     just_their_length();
+    growing();
     items();
     long_name();
     bases();

@@ -30,8 +30,10 @@ compare() {
 
 library=(lp_format lp_scan lp_split lp_values lp_events lp_lines lp_build influxdb_line_protocol)
 mkdir -p "$made/to/crates/app/src"
-printf '# mine\napp: influxdb_line_protocol\nlp_lines_of_mine: app\n' >"$made/to/crates.txt"
-take 0 "$made/to"
+# The last line ends with the file.
+printf '# mine\napp: influxdb_line_protocol\nlp_lines_of_mine: app' >"$made/to/crates.txt"
+cd "$made"
+take 0 to
 compare "${library[@]}"
 grep -q '^# mine$' "$made/to/crates.txt"
 grep -q '^app:' "$made/to/crates.txt"
@@ -45,6 +47,8 @@ echo "// mine" >>"$made/to/crates/lp_scan/src/lib.rt"
 take 1 "$made/to" lp_relay_core
 [ ! -e "$made/to/crates/lp_relay_core" ]
 grep -q '^// mine$' "$made/to/crates/lp_scan/src/lib.rt"
+# A file that the crate does not have here goes with the old copy.
+touch "$made/to/crates/lp_scan/src/of_an_older_state.rt"
 # A static library is named in another form. Its line comes once, however often it is taken.
 for _ in 1 2; do
     take 0 --update "$made/to" lp_print lp_c

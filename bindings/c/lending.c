@@ -22,6 +22,9 @@ enum { GROWN_AT_FAULT = 4 };
 /* Two lines, of which the second one holds copies: a block of two rows ends after it. */
 static const char COPIED[] = "m f=1\nc\\ pu,h\\=ost=A\\ B s=\"\\\"q\"";
 
+/* A line without tags after each line of many: a block of two rows ends while the room of these is kept for a third line. */
+static const char SPARED[] = MANY "\nm f=1\n" MANY "\nm f=1";
+
 /* Each lent block is of just the length that was asked for, so that the address sanitizer sees what is touched past it. */
 static struct seen read_all(const uint8_t *text, size_t len, bool strict) {
     struct seen seen = { 0, 0, 0, 0, 0, 0 };
@@ -136,7 +139,9 @@ int main(void) {
     failed |= refuse_each(grown, grown_len, grown_requests, 2, GROWN_AT_FAULT);
     struct seen blocks = read_blocks(grown, grown_len, 16, 64);
     struct seen copies = read_blocks((const uint8_t *)COPIED, sizeof COPIED - 1, 16, 64);
+    struct seen spared = read_blocks((const uint8_t *)SPARED, sizeof SPARED - 1, 16, 64);
     failed |= blocks.lines != 1 || blocks.faults != 1 || blocks.others || copies.lines != 2 || copies.faults || copies.others;
+    failed |= spared.lines != 4 || spared.faults || spared.others;
     free(grown);
     free(text);
     printf("%d lines, %d faults, more parts %d times, more room %d times; each of %ld requests refused in turn\n",

@@ -4,6 +4,7 @@ import contextlib
 import io
 import runpy
 import unittest
+import weakref
 from pathlib import Path
 
 from line_protocol import Fault, FaultKind, Line, Side, Unsigned, parse, split
@@ -103,3 +104,10 @@ class Blocks(unittest.TestCase):
     def test_the_text_is_kept_while_it_is_read(self):
         items = parse(b"m f=1i\n" * 1000)
         self.assertEqual(sum(1 for _ in items), 1000)
+
+    def test_an_item_that_is_let_go_is_held_by_nothing(self):
+        items = parse("m f=1i\nm f\n" * 500)
+        line, fault = weakref.ref(next(items)), weakref.ref(next(items))
+        for _ in range(500):
+            next(items)
+        self.assertEqual((line(), fault()), (None, None))

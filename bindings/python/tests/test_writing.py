@@ -2,6 +2,7 @@
 
 import copy
 import math
+import tracemalloc
 import unittest
 from concurrent.futures import ThreadPoolExecutor
 
@@ -98,6 +99,13 @@ class Rebuilding(unittest.TestCase):
                 self.assertGreater(len(rebuilt.batch) + len(rebuilt.faults), len(text) * 3 // 2 + 64)
                 self.assertEqual(
                     (rebuilt.carried, rebuilt.refused), (rebuilt.batch.count("\n"), rebuilt.faults.count("\n")))
+
+    def test_no_more_memory_is_kept_than_a_call_may_keep(self):
+        text = b"m f=1i\n" * (1 << 22)
+        tracemalloc.start()
+        self.addCleanup(tracemalloc.stop)
+        self.assertEqual(rebuild(text).carried, 1 << 22)
+        self.assertLess(tracemalloc.get_traced_memory()[0], 1 << 26)
 
     def test_threads_rebuild_side_by_side(self):
         texts = [f"m,t=a{number} f={number}i\nm {number}\n" * 2000 for number in range(8)]

@@ -16,4 +16,6 @@ mod reference_splitter;
 #[cfg(test)]
 mod tags;
 #[cfg(test)]
+mod told;
+#[cfg(test)]
 mod values;

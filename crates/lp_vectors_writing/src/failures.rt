@@ -87,45 +87,49 @@ fn input_that_is_no_text_leaves_both_outputs_empty(rt: HostRuntime) {
     assert!(rt; err.as_slice().is_empty());
 }
 
-// A writer of std that takes nothing, or all, and counts its flushes.
+// A writer of std that takes nothing, or all, and counts its writes and its flushes.
 #[derive(Drop)]
 struct Counted<'a> {
     takes: bool,
-    flushes: &'a Cell<usize>,
+    calls: &'a Cell<(usize, usize)>,
 }
 
 impl<'a> Write for Counted<'a> {
     fn write(&mut self, buf: &[u8]) -> io::Result<usize> {
+        let (writes, flushes) = self.calls.get();
+        self.calls.set((writes.saturating_add(1), flushes));
         if self.takes { Ok(buf.len()) } else { Ok(0) }
     }
 
     fn flush(&mut self) -> io::Result<()> {
-        self.flushes.set(self.flushes.get().saturating_add(1));
+        let (writes, flushes) = self.calls.get();
+        self.calls.set((writes, flushes.saturating_add(1)));
         Ok(())
     }
 }
 
+// A writer is handed all at once, so one that takes all is called once.
 #[test]
 fn a_writer_that_takes_nothing_has_failed(rt: HostRuntime) {
-    for (out_takes, err_takes, fault, out_flushes, err_flushes) in [
-        (true, true, None, 1, 1),
-        (false, true, Some(RunFault::Write), 0, 0),
-        (true, false, Some(RunFault::Write), 1, 0),
+    for (out_takes, err_takes, fault, out_wanted, err_wanted) in [
+        (true, true, None, (1, 1), (1, 1)),
+        (false, true, Some(RunFault::Write), (1, 0), (0, 0)),
+        (true, false, Some(RunFault::Write), (1, 1), (1, 0)),
     ] {
-        let (out_count, err_count) = (Cell::new(0), Cell::new(0));
+        let (out_calls, err_calls) = (Cell::new((0, 0)), Cell::new((0, 0)));
         let mut reader = TEXT;
         let mut out = Writing::new(Counted {
             takes: out_takes,
-            flushes: &out_count,
+            calls: &out_calls,
         });
         let mut err = Writing::new(Counted {
             takes: err_takes,
-            flushes: &err_count,
+            calls: &err_calls,
         });
         let answer = run(rt.alloc(), &mut reader, &mut out, &mut err);
         assert_eq!(rt; answer.err(), fault);
-        assert_eq!(rt; out_count.get(), out_flushes);
-        assert_eq!(rt; err_count.get(), err_flushes);
+        assert_eq!(rt; out_calls.get(), out_wanted);
+        assert_eq!(rt; err_calls.get(), err_wanted);
     }
 }
 
