@@ -2,7 +2,8 @@
  *
  * Memory: the library keeps nothing and frees nothing of yours. What is read lies in what you lend: an lp_line, an array of
  * lp_part, and an lp_room of bytes for the texts that hold escapes. Its texts are parts of your input (`copied` false) or of
- * your room (`copied` true), and live as long as these. The heap is used within a call, by the functions of bindings/c/heap.c.
+ * your room (`copied` true), and live as long as these. What reads uses no heap; other calls do, within the call, by the
+ * functions of bindings/c/heap.c.
  *
  * You owe: pointers that are not NULL, also at length 0; memory that holds what its type says (a `bool` is 0 or 1, each text
  * has its `len` bytes: begin with LP_EMPTY_LINE and lp_empty_parts); nothing that is written overlaps anything else that is
@@ -95,7 +96,7 @@ typedef struct lp_line {
     bool has_timestamp;
 } lp_line;
 
-/* An item of a block: `answer` is LP_LINE, LP_FAULT or LP_OUT_OF_MEMORY, and the parts of a line begin at `parts_at`. */
+/* An item of a block: `answer` is LP_LINE or LP_FAULT, and the parts of a line begin at `parts_at`. */
 typedef struct lp_row { lp_line line; size_t parts_at; uint32_t answer; } lp_row;
 
 /* What is left of a text: a cursor. Copy it to come back to where it was. */
@@ -128,17 +129,19 @@ uint32_t lp_version(void);
  * True: the text is UTF-8, and `lines` borrows it. False: it is not, and `lines` is as it was. */
 bool lp_lines_begin(const uint8_t *text, size_t len, bool strict, lp_lines *lines);
 
-/* Reads the next item, and passes it but for the two last answers.
+/* Reads the next item, and passes it but for the two last answers. It asks for no memory.
  * LP_LINE: `line` and its first `tags` + `fields` parts show all of it. LP_FAULT: `fault`, `side` and `fault_text` show it.
- * LP_OUT_OF_MEMORY: this item is lost, and the next ones are not. LP_END: no item is left.
+ * LP_END: no item is left.
  * LP_MORE_PARTS: lend `tags` + `fields` parts, LP_MORE_ROOM: lend `copied_len` bytes, and call again: `lines` is as it was.
- * Left open is what no answer names: what parts and room hold at these two and at LP_FAULT, but for `fault_text`, and past the
- * parts of a line; and `line` at LP_END and LP_OUT_OF_MEMORY. Where more is asked for, the length of the room is as it was. */
+ * Where an item was read, `copied_len` bytes are taken off the front of the room; at the other answers its length is as it was.
+ * Left open is what no answer names: what parts and room hold at the two last answers and at LP_FAULT, but for `fault_text`, and
+ * past the parts of a line; and `line` at LP_END. */
 uint32_t lp_lines_next(lp_lines *lines, lp_room *room, lp_line *line, lp_part *parts, size_t parts_len);
 
 /* Reads items into rows, as lp_lines_next does, as long as rows, parts and room last: `filled` is how many rows were filled.
  * LP_LINE: all of them. LP_END: no item is left. LP_MORE_PARTS, LP_MORE_ROOM: the next item takes more than is left: the row
- * after the filled ones says how much, as for lp_lines_next, and `lines` is before that item. Begin with LP_EMPTY_ROW. */
+ * after the filled ones says how much, as for lp_lines_next, and `lines` is before that item. The room is shorter by the sum of
+ * `copied_len` over the filled rows. It asks for no memory. Begin with LP_EMPTY_ROW. */
 uint32_t lp_lines_block(lp_lines *lines, lp_room *room, lp_row *rows, size_t rows_len, lp_part *parts, size_t parts_len,
                         size_t *filled);
 

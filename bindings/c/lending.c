@@ -1,33 +1,27 @@
-/* Reads a text with as little lent as can be, and more where more is asked for, also in blocks; then refuses each request for
- * memory in turn. Compile heap.c with -DLP_REFUSE. */
+/* Reads texts with as little lent as can be, and more where more is asked for, also in blocks, and sees that no request for memory
+ * is made. Compile heap.c with -DLP_REFUSE. */
 #include "influxdb_line_protocol.h"
 #include <stdio.h>
 #include <stdlib.h>
 #include <string.h>
 
-extern long lp_refused, lp_requests;
+extern long lp_requests;
 
-struct seen { int lines, faults, out_of_memory, more_parts, more_room, others; };
+struct seen { int lines, faults, more_parts, more_room, others; };
 
 static const char TEXT[] = "c\\ pu,h\\=ost=A\\ B,zone=w msg=\"a\\\"b\",up=t 5\nm 5\n\nm f=99999999999999999999i\n"
                            "# a comment\nm f=1 rest\nlast f=1";
 
-/* A line with more tags and fields than sets have room for at first, and one that is at fault after as many. */
+/* A line with many tags and fields, and one that is at fault after as many. */
 #define MANY "m,a=1,b=1,c=1,d=1,e=1,f=1,g=1,h=1,i=1 a=1,b=1,c=1,d=1,e=1"
-static const char GROWN[] = MANY "\n" MANY " rest";
-
-/* How often the sets of the second line grow: two of them, each time that it is read. */
-enum { GROWN_AT_FAULT = 4 };
+static const char WIDE[] = MANY "\n" MANY " rest";
 
 /* Two lines, of which the second one holds copies: a block of two rows ends after it. */
 static const char COPIED[] = "m f=1\nc\\ pu,h\\=ost=A\\ B s=\"\\\"q\"";
 
-/* A line without tags after each line of many: a block of two rows ends while the room of these is kept for a third line. */
-static const char SPARED[] = MANY "\nm f=1\n" MANY "\nm f=1";
-
 /* Each lent block is of just the length that was asked for, so that the address sanitizer sees what is touched past it. */
 static struct seen read_all(const uint8_t *text, size_t len, bool strict) {
-    struct seen seen = { 0, 0, 0, 0, 0, 0 };
+    struct seen seen = { 0, 0, 0, 0, 0 };
     lp_lines lines = LP_NO_LINES;
     lp_line line = LP_EMPTY_LINE;
     size_t parts_len = 0, bytes_len = 0;
@@ -43,7 +37,6 @@ static struct seen read_all(const uint8_t *text, size_t len, bool strict) {
         if ((is_item || is_more) && (room.at != bytes + taken || room.len != bytes_len - taken)) { seen.others++; break; }
         if (answer == LP_LINE) seen.lines++;
         else if (answer == LP_FAULT) seen.faults++;
-        else if (answer == LP_OUT_OF_MEMORY) seen.out_of_memory++;
         else if (answer == LP_MORE_PARTS && line.tags + line.fields > parts_len) {
             seen.more_parts++;
             parts_len = line.tags + line.fields;
@@ -64,7 +57,7 @@ static struct seen read_all(const uint8_t *text, size_t len, bool strict) {
 
 /* Reads in blocks of two rows and so many parts and bytes: each item has its row, and the first part of a line is its own. */
 static struct seen read_blocks(const uint8_t *text, size_t len, size_t parts_len, size_t bytes_len) {
-    struct seen seen = { 0, 0, 0, 0, 0, 0 };
+    struct seen seen = { 0, 0, 0, 0, 0 };
     lp_lines lines = LP_NO_LINES;
     lp_row rows[2] = { LP_EMPTY_ROW, LP_EMPTY_ROW };
     lp_part parts[16];
@@ -97,21 +90,6 @@ static int pieces(const uint8_t *text, size_t len) {
     return count;
 }
 
-/* Refuses each request for memory of this many in turn: one item of `items` is out of memory, and the others are as ever. Of so
- * many requests, which were for parts of a line at fault, the item is that fault. */
-static int refuse_each(const uint8_t *text, size_t len, long requests, int items, long of_faults) {
-    int failed = 0;
-    for (long at = 0; at < requests; at++) {
-        lp_refused = at;
-        lp_requests = 0;
-        struct seen seen = read_all(text, len, at % 2);
-        if (seen.out_of_memory == 0) of_faults--;
-        failed |= seen.out_of_memory > 1 || seen.others || seen.lines + seen.faults != items - seen.out_of_memory;
-    }
-    lp_refused = -1;
-    return failed || of_faults != 0;
-}
-
 /* A copy in a block of just its length. */
 static uint8_t *copy_of(const char *text, size_t len) {
     uint8_t *copy = malloc(len);
@@ -120,32 +98,24 @@ static uint8_t *copy_of(const char *text, size_t len) {
 }
 
 int main(void) {
-    size_t len = sizeof TEXT - 1, grown_len = sizeof GROWN - 1;
-    uint8_t *text = copy_of(TEXT, len), *grown = copy_of(GROWN, grown_len);
+    size_t len = sizeof TEXT - 1, wide_len = sizeof WIDE - 1;
+    uint8_t *text = copy_of(TEXT, len), *wide_text = copy_of(WIDE, wide_len);
     lp_lines lines = LP_NO_LINES;
     int failed = lp_version() != 20000 || lp_lines_begin((const uint8_t *)"\xff", 1, false, &lines) || pieces(text, len) != 7;
-    lp_requests = 0;
-    struct seen all = read_all(text, len, false);
-    long requests = lp_requests;
-    failed |= all.lines != 2 || all.faults != 3 || all.out_of_memory || all.others || all.more_parts != 1 || all.more_room < 2;
+    struct seen all = read_all(text, len, false), strict = read_all(text, len, true);
+    failed |= all.lines != 2 || all.faults != 3 || all.others || all.more_parts != 1 || all.more_room < 2;
+    failed |= strict.lines != 2 || strict.faults != 3 || strict.others;
     struct seen wide = read_blocks(text, len, 8, 64), narrow = read_blocks(text, len, 4, 20);
     failed |= wide.lines != 2 || wide.faults != 3 || wide.others || wide.more_parts || wide.more_room;
     failed |= narrow.lines != 2 || narrow.faults != 3 || narrow.others || narrow.more_parts + narrow.more_room == 0;
-    failed |= refuse_each(text, len, requests, 5, 0);
-    lp_requests = 0;
-    struct seen more = read_all(grown, grown_len, false);
-    long grown_requests = lp_requests;
-    failed |= more.lines != 1 || more.faults != 1 || more.others || more.out_of_memory || grown_requests < 4;
-    failed |= refuse_each(grown, grown_len, grown_requests, 2, GROWN_AT_FAULT);
-    struct seen blocks = read_blocks(grown, grown_len, 16, 64);
+    struct seen more = read_all(wide_text, wide_len, false);
+    failed |= more.lines != 1 || more.faults != 1 || more.others;
+    struct seen blocks = read_blocks(wide_text, wide_len, 16, 64);
     struct seen copies = read_blocks((const uint8_t *)COPIED, sizeof COPIED - 1, 16, 64);
-    struct seen spared = read_blocks((const uint8_t *)SPARED, sizeof SPARED - 1, 16, 64);
     failed |= blocks.lines != 1 || blocks.faults != 1 || blocks.others || copies.lines != 2 || copies.faults || copies.others;
-    failed |= spared.lines != 4 || spared.faults || spared.others;
-    free(grown);
+    free(wide_text);
     free(text);
-    printf("%d lines, %d faults, more parts %d times, more room %d times; each of %ld requests refused in turn\n",
-        all.lines + more.lines, all.faults + more.faults, all.more_parts + more.more_parts, all.more_room + more.more_room,
-        requests + grown_requests);
-    return failed;
+    printf("%d lines, %d faults, more parts %d times, more room %d times, %ld requests for memory\n",
+        all.lines + more.lines, all.faults + more.faults, all.more_parts + more.more_parts, all.more_room + more.more_room, lp_requests);
+    return failed || lp_requests != 0;
 }

@@ -1,7 +1,7 @@
 #!/usr/bin/env bash
 # Builds the static library of crates/lp_c, and programs over it, watched by the address and undefined behaviour sanitizers;
-# compares what the example prints with example.out, and lets lending.c read and writing.c write with little lent and memory
-# refused, and sizes.c hand over what is large. threads.c is watched by the thread sanitizer, and by helgrind, which sees the
+# compares what the example prints with example.out, and lets lending.c read with little lent and no request for memory, writing.c
+# write with little lent and memory refused, and sizes.c hand over what is large. threads.c is watched by the thread sanitizer, and by helgrind, which sees the
 # library's own loads and stores too; and the archive must hold no variable. The header goes through a C++ compiler too.
 #
 #     bindings/c/test.sh             makes the archive first

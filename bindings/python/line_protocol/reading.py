@@ -99,10 +99,8 @@ class _Block:
         for place, (answer, name, at, count, end, (timed, time)) in enumerate(zip(answers, names, starts, tags, ends, times)):
             if answer == lp.LINE:
                 yield Line(name, pairs[at : at + count], pairs[at + count : end], time if timed else None)
-            elif answer == lp.FAULT:
-                yield self.fault(place)
             else:
-                raise MemoryError("a request for memory was refused")
+                yield self.fault(place)
 
     def fault(self, place: int) -> Fault:
         """The fault of a row."""
@@ -124,8 +122,7 @@ def _items(block: _Block) -> Iterator[Union[Line, Fault]]:
 def parse(text: Union[str, bytes], *, strict: bool = False) -> Iterator[Union[Line, Fault]]:
     """Each line of a text, or the fault in its place, by the rules of the Rust crate or of the strict dialect.
 
-    UnicodeDecodeError where the text is no UTF-8: then nothing is read. MemoryError where a request for memory was refused,
-    and then no more items come.
+    UnicodeDecodeError where the text is no UTF-8: then nothing is read.
     """
     return _items(_Block(lp.encoded(text), strict))
 

@@ -1,4 +1,5 @@
-"""Requests for memory that are refused, one in turn. LP_REFUSED_LIBRARY names a shared library that has heap.c with LP_REFUSE."""
+"""Requests for memory: none is made where a text is read, and each other is refused in turn. LP_REFUSED_LIBRARY names a shared
+library that has heap.c with LP_REFUSE."""
 
 import os
 import subprocess
@@ -13,8 +14,9 @@ from line_protocol import library
 refused, requests = (ctypes.c_long.in_dll(library.LIBRARY, name) for name in ("lp_refused", "lp_requests"))
 line = line_protocol.Line("m", [("t", "a b")], [("f", 1)])
 builder = line_protocol.Builder().measurement("a").field("f", 1).close_line().measurement("b").field("g", 2)
+refused.value, requests.value = 0, 0
+assert len(list(line_protocol.parse('a\\ b,h\\ =x f=1i\nm f=99999999999999999999i\nlast f=1'))) == 3 and requests.value == 0
 for call in (
-    lambda: list(line_protocol.parse('a\\ b,h\\ =x f=1i\nm f=99999999999999999999i\nlast f=1')),
     lambda: line_protocol.write(line),
     lambda: line_protocol.base(line),
     lambda: line_protocol.is_base_safe(line_protocol.Line("m", 9 * [("t", "a")])),

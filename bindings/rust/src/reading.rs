@@ -129,11 +129,11 @@ impl<'a> Iterator for ParseLines<'a> {
         }
         let row = &self.rows[self.taken];
         self.taken += 1;
-        match row.answer {
-            answer::LINE => self.item(row),
+        if row.answer == answer::LINE {
+            self.item(row)
+        } else {
             // SAFETY: the text lies in the room, which was not written since.
-            answer::FAULT => Some(Err(unsafe { fault(&row.line) })),
-            _ => border::refuse_memory(),
+            Some(Err(unsafe { fault(&row.line) }))
         }
     }
 }

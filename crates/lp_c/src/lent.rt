@@ -96,7 +96,7 @@ pub fn view_of<'a>(room: &mut Room<'a>, text: Spelled<'a>) -> View<'a>
     if room.bytes.len() < text.len() {
         return View {
             text: b"",
-            copied: true,
+            copied: false,
         };
     }
     View {
