@@ -15,7 +15,8 @@ from typing import NamedTuple
 CALLS = {
     "parse": "parse",
     "next_into": "next_into",
-    "events": "events",
+    "events": "events, to a sink",
+    "pull": "events, one by one",
     "numbers": "parse, in numbers",
     "split": "split",
     "rebuild": "rebuild",
@@ -45,6 +46,7 @@ BESIDE = {
     "numbers": "parse",
     "next_into": "parse",
     "events": "parse",
+    "pull": "parse",
     "lp_lines_next": "library parse",
     "lp_lines_block": "library parse",
     "lp_rebuild": "library rebuild",
@@ -62,7 +64,7 @@ BESIDE = {
 SAME_ANSWERS = ("numbers", "split", "build", *(call for call in BESIDE if BESIDE[call].startswith(("library ", "crate "))))
 """The calls whose answer is also that of the call that they are compared with."""
 
-SAME_AS_PARSE = ("next_into", "events")
+SAME_AS_PARSE = ("next_into", "events", "pull")
 """The calls whose answer is that of the library's own `parse`."""
 
 

@@ -17,7 +17,7 @@ from pathlib import Path
 
 from parts import LINES, MORE
 
-OF_LIBRARY = ("parse", "next_into", "events", "split", "rebuild")
+OF_LIBRARY = ("parse", "next_into", "events", "pull", "split", "rebuild")
 OF_CALLERS = ("lp_lines_next", "lp_lines_block")
 """The calls that are counted, by driver."""
 

@@ -5,6 +5,7 @@ bool lp_bench_is_utf8(const uint8_t *text, size_t len);
 uint64_t lp_bench_parse(const uint8_t *text, size_t len);
 uint64_t lp_bench_next_into(const uint8_t *text, size_t len);
 uint64_t lp_bench_events(const uint8_t *text, size_t len);
+uint64_t lp_bench_pull(const uint8_t *text, size_t len);
 uint64_t lp_bench_numbers(const uint8_t *text, size_t len);
 uint64_t lp_bench_split(const uint8_t *text, size_t len);
 uint64_t lp_bench_rebuild(const uint8_t *text, size_t len);
@@ -14,6 +15,7 @@ const struct call calls[] = {
     { "parse", lp_bench_parse },
     { "next_into", lp_bench_next_into },
     { "events", lp_bench_events },
+    { "pull", lp_bench_pull },
     { "numbers", lp_bench_numbers },
     { "split", lp_bench_split },
     { "rebuild", lp_bench_rebuild },

@@ -10,8 +10,8 @@ ghost use Rattle.std.specs.Prelude.{◌↔◌, IsTrue, IsUtf8};
 
 use influxdb_line_protocol::builder::BeforeMeasurement;
 use influxdb_line_protocol::{
-    Dialect, EscapedStr, FieldValue, LineProtocolBuilder, ParsedLine, parse_lines, read_events_in,
-    split_lines,
+    Dialect, EscapedStr, FieldValue, LineProtocolBuilder, ParsedLine, parse_events, parse_lines,
+    read_events_in, split_lines,
 };
 use lp_rebuild::rebuild;
 use std::alloc::Global;
@@ -131,6 +131,19 @@ pub extern "C" fn lp_bench_events(text: &[u8]) -> u64 {
     };
     let mut sum = Sum::new();
     read_events_in(Dialect::Crate, text, &mut sum);
+    sum.sum()
+}
+
+/// The same as `lp_bench_parse`, from the events that are given one after another. It takes no memory.
+#[unsafe(no_mangle)]
+pub extern "C" fn lp_bench_pull(text: &[u8]) -> u64 {
+    let Ok(text) = str::from_utf8(text) else {
+        return 0;
+    };
+    let mut sum = Sum::new();
+    for event in parse_events(text) {
+        event.tell(&mut sum);
+    }
     sum.sum()
 }
 
