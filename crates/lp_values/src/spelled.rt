@@ -1,6 +1,6 @@
 //! Names, strings, values and faults as they are spelled in the input, with no memory.
 
-ghost use Rattle.std.specs.Prelude.{◌≡◌, ◌≤◌, ◌<◌, ◌==◌, ◌&&◌, ◌++◌, ◌∷◌, [], true, drop, length, not, slice_index, IfOk, IfSome, IsOk};
+ghost use Rattle.std.specs.Prelude.{◌≡◌, ◌≤◌, ◌<◌, ◌+◌, ◌==◌, ◌&&◌, ◌++◌, ◌∷◌, [], true, drop, length, not, slice_index, take, IfOk, IfSome, IsOk};
 ghost use Rattle.std.specs.Prelude.{MatchOption};
 ghost use Rattle.std.specs.Str.{bytes_eq};
 ghost use Rattle.lp_format.specs.format.Bytes.{backslash, is_one_of};
@@ -12,7 +12,7 @@ ghost use Rattle.lp_values.specs.code.Texts.{read_of};
 use crate::error::{Error, ErrorKind, OutOfRange};
 use crate::escaped::EscapedStr;
 use crate::literals::FloatText;
-use crate::tokens::{RawToken, escaped_str};
+use crate::tokens::{RawToken, backslash_at, escaped_str};
 use lp_scan::sets::TokenKind;
 use std::alloc::{AllocError, Global};
 
@@ -59,18 +59,46 @@ fn reads_as(kind: TokenKind, spelling: &[u8], other: &[u8]) -> bool
     left.is_empty()
 }
 
-// Puts the logical text of a spelling to the front of `to`, byte by byte.
-fn put_front(kind: TokenKind, spelling: &[u8], to: &mut [u8])
+// Puts bytes into `to` from `place` on.
+#[inline(always)]
+fn put_run(run: &[u8], to: &mut [u8], place: usize)
+    requires { place + length run.now ≤ length to.old }
+    ensures { to.new ≡ take place to.old ++ run.now ++ drop (place + length run.now) to.old }
+{
+    let (_, rest) = to.split_at_mut(place);
+    let (front, _) = rest.split_at_mut(run.len());
+    front.copy_from_slice(run);
+}
+
+// Puts what comes before the first backslash of a spelling into `to` from `place` on, and gives its length.
+#[inline(always)]
+fn put_plain(kind: TokenKind, spelling: &[u8], to: &mut [u8], place: usize) -> usize
+    requires { place + length (without_escapes (known_of kind) spelling.now) ≤ length to.old }
+    ensures within { result ≤ length spelling.now }
+    ensures front { take (place + result) to.new ++ without_escapes (known_of kind) (drop result spelling.now)
+        ≡ take place to.old ++ without_escapes (known_of kind) spelling.now }
+    ensures back { drop (place + result) to.new ≡ drop (place + result) to.old }
+    ensures room { place + result ≤ length to.new }
+{
+    let run = backslash_at(spelling, 0);
+    put_run(&spelling[..run], to, place);
+    run
+}
+
+/// Puts the logical text of a spelling to the front of `to`, stretch by stretch: what comes before a backslash is copied at once.
+pub fn put_front(kind: TokenKind, spelling: &[u8], to: &mut [u8])
     requires { length (without_escapes (known_of kind) spelling.now) ≤ length to.old }
     ensures { to.new ≡ without_escapes (known_of kind) spelling.now
         ++ drop (length (without_escapes (known_of kind) spelling.now)) to.old }
 {
-    let mut rest = spelling;
-    let mut place = 0;
+    let run = put_plain(kind, spelling, to, 0);
+    let mut place = run;
+    let mut rest = &spelling[run..];
     while let Some((byte, after)) = first_of(kind, rest) {
         to[place] = byte;
-        place += 1;
-        rest = after;
+        let run = put_plain(kind, after, to, place + 1);
+        place += 1 + run;
+        rest = &after[run..];
     }
 }
 

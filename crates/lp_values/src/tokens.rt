@@ -223,7 +223,7 @@ fn backslash_tail(bytes: &[u8], at: usize) -> usize
 
 // The same, 16 at a time.
 #[inline(always)]
-fn backslash_at(bytes: &[u8], at: usize) -> usize
+pub(crate) fn backslash_at(bytes: &[u8], at: usize) -> usize
     requires { at ≤ length bytes.now }
     ensures { IsRunAt (is_plain (λ b. false)) bytes.now at result }
 {

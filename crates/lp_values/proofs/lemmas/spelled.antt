@@ -1,1 +1,2 @@
 pub mod SpelledBytes
+pub mod SpelledRuns

@@ -1,7 +1,7 @@
 -- The bytes of a logical text, one after another.
-use Rattle.std.proofs.Common.{◌≡◌, ℕ, ◌-◌, ◌<◌, List, take, [], ◌∷◌, length, drop, slice_index, true, false, refl, arith, inl, inr}
+use Rattle.std.proofs.Common.{◌≡◌, ℕ, ◌-◌, ◌<◌, List, take, [], ◌∷◌, ◌++◌, length, drop, slice_index, true, false, refl, arith, inl, inr, ap, ◌∙◌}
 use Rattle.std.specs.Prelude.{◌==◌, ◌&&◌}
-use Rattle.std.proofs.lemmas.Bool.{and_parts, cases_Bool, eqb-true}
+use Rattle.std.proofs.lemmas.Bool.{and_parts, cases_Bool, eqb-true, or_parts}
 use Rattle.std.proofs.lemmas.List.{take_all}
 use Rattle.lp_scan.specs.declared.sets.TokenKind.{TokenKind}
 use Rattle.lp_scan.specs.declared.sets.TokenKind.TheVariants.{Measurement, TagKey, TagValue, FieldKey, String}
@@ -51,6 +51,14 @@ plain_byte : (known : List ℕ) (c : ℕ) (text : List ℕ) → (c == backslash)
 unfolding without_escapes
 plain_byte known c [] h = refl
 plain_byte known c (d ∷ text) h = rw h refl
+
+-- bytes without a backslash stand for themselves
+pub run_itself : (known front back : List ℕ) → is_one_of front backslash ≡ false
+    → without_escapes known (front ++ back) ≡ front ++ without_escapes known back
+run_itself known [] back h = refl
+run_itself known (b ∷ front) back h =
+    let parts = or_parts (b == backslash) (is_one_of front backslash) h in
+    plain_byte known b (front ++ back) parts.0 ∙ ap (λ l. b ∷ l) (run_itself known front back parts.1)
 
 -- any other byte stands for itself
 byte_itself : (kind : TokenKind) (b : ℕ) (text : List ℕ)
