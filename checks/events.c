@@ -1,8 +1,9 @@
-/* Compares the items that events tell, to a sink and one after another, with the items of `parse_lines_in`, in both dialects:
-   of every text of at most six bytes over eleven that mean something, and of every text of at most five such bytes after each
-   of some fronts of a line.
+/* Compares the items that events tell, to a sink and one after another, and those of the blocks of lp_c, with the items of
+   `parse_lines_in`, in both dialects: of every text of at most six bytes over eleven that mean something, and of every text of
+   at most five such bytes after each of some fronts of a line.
    `checks/events.sh` builds this and runs it. */
 #include "lp_checks.h"
+#include "rows.h"
 
 #include <stdio.h>
 #include <stdlib.h>
@@ -22,11 +23,11 @@ static const char *const FRONTS[] = {
 /* Items, an entry each. */
 struct items { uint64_t count, ends[ENTRIES]; uint8_t out[ROOM]; };
 
-static struct items by_events, by_pull, by_parse;
+static struct items by_events, by_pull, by_blocks, by_parse;
 static unsigned long texts, lines, faults;
 
 static void fail(const char *text, size_t len, bool is_strict) {
-    fprintf(stderr, "events: in the %s dialect other items are told of the text of the bytes", is_strict ? "strict" : "crate's");
+    fprintf(stderr, "events: in the %s dialect other items are told, or are in blocks, of the text of the bytes", is_strict ? "strict" : "crate's");
     for (size_t at = 0; at < len; at++) fprintf(stderr, " %02x", (unsigned)text[at]);
     fputc('\n', stderr);
     exit(1);
@@ -56,7 +57,8 @@ static void compare(const char *text, size_t len) {
         by_parse.count = lp_checks_items(is_strict, bytes, len, by_parse.out, ROOM, by_parse.ends, ENTRIES);
         by_events.count = lp_checks_events(is_strict, bytes, len, by_events.out, ROOM, by_events.ends, ENTRIES);
         by_pull.count = lp_checks_pulled(is_strict, bytes, len, by_pull.out, ROOM, by_pull.ends, ENTRIES);
-        if (!is_same(&by_events) || !is_same(&by_pull)) fail(text, len, is_strict);
+        by_blocks.count = rows_items(is_strict, bytes, len, by_blocks.out, ROOM, by_blocks.ends, ENTRIES);
+        if (!is_same(&by_events) || !is_same(&by_pull) || !is_same(&by_blocks)) fail(text, len, is_strict);
         count_items();
     }
     texts++;

@@ -1,6 +1,6 @@
 #!/usr/bin/env bash
-# Compares the items that events tell, to a sink and one after another, with the items of `parse_lines_in`, over every short
-# text of bytes that mean something, in both dialects: `events.c` says over which bytes.
+# Compares the items that events tell, to a sink and one after another, and those of the blocks of crates/lp_c, with the items of
+# `parse_lines_in`, over every short text of bytes that mean something, in both dialects: `events.c` says over which bytes.
 set -eu
 here=$(cd "$(dirname "$0")" && pwd)
 top=$(dirname "$here")
@@ -11,12 +11,13 @@ if ! command -v cc >/dev/null; then
 fi
 . "$here/library.sh"
 build_library
+build_all events lp_c lib
 built=$(mktemp -d)
 trap 'rm -rf "$built"' EXIT
 
-cc -O2 -Wall -Wextra "$here/events.c" "$library" "$heap" -o "$built/events"
+cc -O2 -Wall -Wextra -I"$top/include" "$here/events.c" "$library" "$top/crates/lp_c/out/liblp_c.a" "$heap" -o "$built/events"
 if ! said=$("$built/events"); then
-    echo "events: they tell other items than are read" >&2
+    echo "events: they tell other items than are read, or blocks have others" >&2
     exit 1
 fi
-echo "events: $said: told as they are read"
+echo "events: $said: told, and in blocks, as they are read"

@@ -1,5 +1,6 @@
 /* What must hold of every text, in both dialects, for libFuzzer. `checks/fuzz.sh` builds this and runs it. */
 #include "lp_checks.h"
+#include "rows.h"
 
 #include <stdio.h>
 #include <stdlib.h>
@@ -118,11 +119,12 @@ static void check_batch(bool is_strict, const uint8_t *text, size_t len) {
     for (uint64_t place = 0; place < items.count; place++) MUST(is_same(&all, of_batch.count + place, &items, place));
 }
 
-/* The events of the text tell its items, to a sink and one after another. */
+/* The events of the text tell its items, to a sink and one after another, and blocks of rows have them. */
 static void check_events(bool is_strict, const uint8_t *text, size_t len) {
-    for (int is_pulled = 0; is_pulled < 2; is_pulled++) {
-        all.count = is_pulled ? lp_checks_pulled(is_strict, text, len, all.out, ROOM, all.ends, ENTRIES)
-                              : lp_checks_events(is_strict, text, len, all.out, ROOM, all.ends, ENTRIES);
+    for (int way = 0; way < 3; way++) {
+        all.count = way == 0   ? lp_checks_events(is_strict, text, len, all.out, ROOM, all.ends, ENTRIES)
+                    : way == 1 ? lp_checks_pulled(is_strict, text, len, all.out, ROOM, all.ends, ENTRIES)
+                               : rows_items(is_strict, text, len, all.out, ROOM, all.ends, ENTRIES);
         must_fit(&all);
         MUST(all.count == items.count);
         for (uint64_t place = 0; place < items.count; place++) MUST(is_same(&all, place, &items, place));

@@ -24,6 +24,7 @@ if ! clang -fsanitize=fuzzer,address "$built/probe.c" -o "$built/probe" >/dev/nu
     exit 0
 fi
 build_library
+build_all fuzz lp_c lib
 
 # The kit's toolchain, but for a clang that adds counters.
 kit=$(dirname "$(dirname "$heap")")
@@ -49,7 +50,8 @@ done
     --antt-project "$kit/rattle/logic/antt-project.json" --logic-built "$kit/logic_built" --links lp_checks= \
     --incremental out/incremental --backend llvm --toolchain "$built/toolchain" -o "$built/liblp_checks.a") \
     >"$built/log" 2>&1 || { tail -n 20 "$built/log" >&2; exit 1; }
-clang -O2 -g -Wall -Wextra -fsanitize=fuzzer,address "$here/fuzz.c" "$built/liblp_checks.a" "$heap" -o "$built/fuzz"
+clang -O2 -g -Wall -Wextra -I"$top/include" -fsanitize=fuzzer,address "$here/fuzz.c" "$built/liblp_checks.a" "$top/crates/lp_c/out/liblp_c.a" "$heap" \
+    -o "$built/fuzz"
 
 corpus=${CORPUS:-$built/corpus}
 mkdir -p "$corpus"
