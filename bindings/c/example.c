@@ -22,7 +22,7 @@ static void print_fault(const lp_line *line) {
     printf("fault %u <%.*s>\n", (unsigned)line->fault, TEXT(line->fault_text));
 }
 
-/* Prints each line of a text, and each fault. False: the text is no UTF-8, a line takes more than is lent, or memory ran out. */
+/* Prints each line of a text, and each fault. False: the text is no UTF-8, or a line takes more than is lent. */
 static bool print_lines(const uint8_t *text, size_t len) {
     lp_lines lines = LP_NO_LINES;
     lp_line line = LP_EMPTY_LINE;
