@@ -1,5 +1,5 @@
 -- Copies that are at the front of the room go to the views that wait for them.
-use Rattle.std.proofs.Common.{◌≡◌, ◌∙◌, ℕ, ◌+◌, ◌<◌, ◌≤◌, List, [], ◌∷◌, ◌++◌, Bool, length, map, take, drop, refl, sym, ap, ap₂}
+use Rattle.std.proofs.Common.{◌≡◌, ◌∙◌, ℕ, ◌+◌, ◌≤◌, List, [], ◌∷◌, ◌++◌, length, map, take, drop, refl, sym, ap, ap₂}
 use Rattle.std.proofs.Common.{arith, false, true, inl, inr, length-drop}
 use Rattle.std.specs.Prelude.{if◌then◌else◌, None, Some, Result, Ok, Err}
 use Rattle.std.specs.List.{sum_by}
@@ -10,7 +10,7 @@ use Rattle.std.proofs.lemmas.List.Sums.{sum_by-cons}
 use Rattle.influxdb_line_protocol.specs.format.Lines as format
 use Rattle.influxdb_line_protocol.specs.format.Readings.{Fault, Text}
 use Rattle.lp_c.specs.Crossing.{AnswersItem, ShowsLine, field_shown, tag_shown, text_shown}
-use Rattle.lp_c.specs.Telling.{Lent, Told, Waits, filled_line, filled_own, filled_part, filled_parts, filled_view, own_parts, part_len, text_copy, view_len, waits_for}
+use Rattle.lp_c.specs.Telling.{Lent, Told, Waits, filled_line, filled_own, filled_parts, filled_view, own_parts, part_len, text_copy, view_len, waits_for}
 use Rattle.lp_c.specs.declared.views.Answer.{Answer}
 use Rattle.lp_c.specs.declared.views.Line.{Line}
 use Rattle.lp_c.specs.declared.views.Part.{Part}
@@ -51,10 +51,6 @@ filled_none room (p ∷ parts) none =
     ap₂ (λ (q : Part) (qs : List Part). q ∷ qs)
     (ap₂ make (empty_view room p.key (omega (arith, all, none))) (empty_view (drop (view_len p.key) room) p.text (omega (arith, all, none))))
     (filled_none (drop (part_len p) room) parts (omega (arith, all, none)))
-
--- what parts show once those from a place on have their copies
-abbrev pub shown_with : {A : Type 0} → (Part → A) → ℕ → List ℕ → List Part → List A
-shown_with f at room parts = map f (take at parts) ++ map f (filled_parts room (drop at parts))
 
 module _ {A : Type 0} (f : Part → A) (t n : ℕ) (parts full : List Part) (same : map f (take (t + n) parts) ≡ map f full) where
   -- the first parts show the same

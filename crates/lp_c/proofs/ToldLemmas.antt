@@ -1,5 +1,5 @@
 -- A line that is told is counted, and shown if parts and room suffice.
-use Rattle.std.proofs.Common.{◌≡◌, ◌∙◌, ℕ, ◌+◌, ◌-◌, ◌^◌, ◌<◌, ◌≤◌, List, [], ◌∷◌, ◌++◌, length, map, take, drop, min}
+use Rattle.std.proofs.Common.{◌≡◌, ◌∙◌, ℕ, ◌+◌, ◌^◌, ◌<◌, ◌≤◌, List, [], ◌∷◌, ◌++◌, length, map, take, drop}
 use Rattle.std.proofs.Common.{Option, Some, None, Result, Ok, Err, refl, sym, ap, ap₂, arith, append_assoc, false, inl, inr, length-append}
 use Rattle.std.specs.Prelude.{◌==◌, not, slice_set}
 use Rattle.std.specs.List.{sum_by}

@@ -1,4 +1,4 @@
-use Rattle.std.proofs.Common.{◌≡◌, ◌≤◌, ◌∙◌, ap, arith, length, refl, sym}
+use Rattle.std.proofs.Common.{◌≤◌, ◌∙◌, ap, arith, length, refl, sym}
 use Rattle.std.proofs.lemmas.List.{length-take-le}
 use Rattle.influxdb_line_protocol.specs.code.SpelledParts.{known_in, spelled_text, spelling_of}
 use Rattle.lp_c.proofs.FillLemmas.{waits_for_copy}
