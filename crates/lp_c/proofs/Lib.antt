@@ -1,4 +1,5 @@
 pub mod BlockLemmas
 pub mod CursorLemmas
+pub mod FillLemmas
 pub mod TextLemmas
 pub mod ToldLemmas

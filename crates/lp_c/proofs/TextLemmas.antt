@@ -1,5 +1,5 @@
 -- Which spellings are read as a part of the input.
-use Rattle.std.proofs.Common.{◌≡◌, ℕ, List, [], ◌∷◌, length, true, false, refl, arith, inl, inr}
+use Rattle.std.proofs.Common.{◌≡◌, ℕ, List, [], ◌∷◌, ◌≤◌, length, true, false, refl, arith, inl, inr}
 use Rattle.std.specs.Prelude.{◌==◌}
 use Rattle.std.proofs.lemmas.Bool.{and_parts, cases_Bool, false≢true}
 use Rattle.lp_format.specs.format.Bytes.{backslash, is_one_of}
@@ -39,4 +39,20 @@ not_shared known text some apart =
     elim (cases_Bool (is_one_escape known text)) [
       | inl is ↦ absurd (let lens = escape_lens known text is in apart lens.0 lens.1)
       | inr other ↦ rw (other, some) refl
+    ]
+
+-- no text takes more bytes than its spelling
+pub no_longer : (known text : List ℕ) → length (without_escapes known text) ≤ length text
+unfolding without_escapes
+no_longer known [] = omega arith
+no_longer known (b ∷ []) = omega arith
+no_longer known (b ∷ c ∷ rest) =
+    let less = no_longer known rest in
+    let more = no_longer known (c ∷ rest) in
+    elim (cases_Bool (b == backslash)) [
+      | inl mark ↦ elim (cases_Bool (is_one_of known c)) [
+        | inl is ↦ rw (mark, is) (omega (arith, less))
+        | inr other ↦ rw (mark, other) (omega (arith, less))
+      ]
+      | inr other ↦ rw other (omega (arith, more))
     ]

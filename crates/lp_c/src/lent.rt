@@ -1,14 +1,16 @@
 //! Texts, tags, fields and faults are put into what the caller lends.
 
-ghost use Rattle.std.specs.Prelude.{◌≡◌, ◌≢◌, ◌+◌, ◌≤◌, ◌-◌, ◌^◌, [], false, length, min, pos, true};
+ghost use Rattle.std.specs.Prelude.{◌≡◌, ◌≢◌, ◌+◌, ◌≤◌, ◌-◌, ◌^◌, [], drop, false, length, map, pos, true};
 ghost use Rattle.std.specs.Prelude.{MatchOption, Some};
+ghost use Rattle.std.specs.List.{sum_by};
 ghost use Rattle.influxdb_line_protocol.specs.code.Events.{spelled_field, spelled_tag};
 ghost use Rattle.influxdb_line_protocol.specs.code.Outcomes.{side};
-ghost use Rattle.influxdb_line_protocol.specs.code.SpelledParts.{spelled_fault, spelled_text, spelled_value};
-ghost use Rattle.lp_c.specs.Crossing.{copied_field, copied_tag, copied_text, copied_value};
-ghost use Rattle.lp_c.specs.Crossing.{fault_seen, field_shown, side_of, tag_shown, text_shown};
-ghost use Rattle.lp_c.specs.Crossing.{AnswersFault, taken_by};
+ghost use Rattle.influxdb_line_protocol.specs.code.SpelledParts.{spelled_fault, spelled_text};
+ghost use Rattle.influxdb_line_protocol.specs.format.Lines as format;
+ghost use Rattle.lp_c.specs.Crossing.{AnswersFault, ShowsLine, fault_seen, field_shown, side_of, tag_shown, taken_by, text_shown};
 ghost use Rattle.lp_c.specs.Numbers.{answer_number, kind_number};
+ghost use Rattle.lp_c.specs.Telling.{PutsCopy, Waits, field_copies, tag_copies, text_copy};
+ghost use Rattle.lp_c.specs.Telling.{filled_line, filled_own, filled_part, filled_parts, filled_view, part_len, view_len, waits_for};
 
 use crate::views::{Answer, FaultKind, Kind, Line, Part, Room, Side, View};
 use influxdb_line_protocol::{ErrorKind, OutOfRange, Spelled, SpelledFault, SpelledValue};
@@ -24,20 +26,6 @@ fn put<'a>(room: &mut Room<'a>, text: &[u8]) -> &'a [u8]
     let bytes = mem::take(&mut room.bytes);
     let (front, rest) = bytes.split_at_mut(text.len());
     front.copy_from_slice(text);
-    room.bytes = rest;
-    front
-}
-
-// Puts the logical text of a spelling into the room.
-#[inline(never)]
-fn put_copy<'a>(room: &mut Room<'a>, spelled: Spelled<'a>) -> &'a [u8]
-    requires { length (spelled_text spelled).bytes ≤ length room.old.bytes.now }
-    ensures copy { result.now ≡ (spelled_text spelled.entry).bytes }
-    ensures left { length room.new.bytes.now + length (spelled_text spelled.entry).bytes ≡ length room.old.bytes.now }
-{
-    let bytes = mem::take(&mut room.bytes);
-    let (front, rest) = bytes.split_at_mut(spelled.len());
-    spelled.put(front);
     room.bytes = rest;
     front
 }
@@ -58,50 +46,69 @@ fn shared<'a>(spelled: Spelled<'a>) -> Option<&'a [u8]>
     None
 }
 
-// How many bytes of room a text takes after `len` others.
+// Puts the logical text of a spelling into the room after `len` bytes, if it fits, and says how many bytes there are with it.
+#[inline(never)]
+fn put_copy(room: &mut Room<'_>, len: usize, spelled: Spelled<'_>) -> usize
+    ensures { PutsCopy room.old.bytes.now len (spelled_text spelled.entry).bytes room.new.bytes.now result }
+{
+    let all = len.saturating_add(spelled.len());
+    if all <= room.bytes.len() {
+        spelled.put(&mut room.bytes[len..]);
+    }
+    all
+}
+
+// The same of a text that takes no room where it is a part of the input.
 #[inline(always)]
-pub fn with_text(len: usize, text: Spelled<'_>) -> usize
-    ensures { result ≡ min (len + copied_text (spelled_text text.entry)) (2 ^ 64 - 1) }
+pub fn put_text(room: &mut Room<'_>, len: usize, text: Spelled<'_>) -> usize
+    ensures { PutsCopy room.old.bytes.now len (text_copy (spelled_text text.entry)) room.new.bytes.now result }
 {
     match shared(text) {
         Some(_) => len,
-        None => len.saturating_add(text.len()),
+        None => put_copy(room, len, text),
     }
 }
 
-// How many bytes of room a value takes after `len` others.
+// The same of the texts of a tag.
 #[inline(always)]
-pub fn with_value(len: usize, value: SpelledValue<'_>) -> usize
-    ensures { result ≡ min (len + copied_value (spelled_value value.entry)) (2 ^ 64 - 1) }
+pub fn put_tag(room: &mut Room<'_>, len: usize, key: Spelled<'_>, value: Spelled<'_>) -> usize
+    ensures { PutsCopy room.old.bytes.now len (tag_copies (spelled_tag (key.entry, value.entry))) room.new.bytes.now result }
 {
+    let len = put_text(room, len, key);
+    put_text(room, len, value)
+}
+
+// The same of the texts of a field.
+#[inline(always)]
+pub fn put_field(
+    room: &mut Room<'_>,
+    len: usize,
+    key: Spelled<'_>,
+    value: SpelledValue<'_>,
+) -> usize
+    ensures { PutsCopy room.old.bytes.now len (field_copies (spelled_field (key.entry, value.entry))) room.new.bytes.now result }
+{
+    let len = put_text(room, len, key);
     match value {
-        SpelledValue::String(text) => with_text(len, text),
+        SpelledValue::String(text) => put_text(room, len, text),
         _ => len,
     }
 }
 
-// A text as it is shown: a part of the input as it is, a copy in the room, if it fits.
+// A text as it is shown: a part of the input as it is; of a copy the length, until it is in the room.
 #[inline(always)]
-pub fn view_of<'a>(room: &mut Room<'a>, text: Spelled<'a>) -> View<'a>
-    ensures shown { copied_text (spelled_text text.entry) ≤ length room.old.bytes.now → text_shown result ≡ spelled_text text.entry }
-    ensures left { copied_text (spelled_text text.entry) ≤ length room.old.bytes.now
-        → length room.new.bytes.now + copied_text (spelled_text text.entry) ≡ length room.old.bytes.now }
+pub fn view_of<'a>(text: Spelled<'a>) -> View<'a>
+    ensures { Waits text_shown view_len filled_view (text_copy (spelled_text text.entry)) (spelled_text text.entry) result }
 {
-    if let Some(text) = shared(text) {
-        return View {
+    match shared(text) {
+        Some(text) => View {
             text,
             copied: false,
-        };
-    }
-    if room.bytes.len() < text.len() {
-        return View {
-            text: b"",
-            copied: false,
-        };
-    }
-    View {
-        text: put_copy(room, text),
-        copied: true,
+        },
+        None => View {
+            text: &text.spelled().as_bytes()[..text.len()],
+            copied: true,
+        },
     }
 }
 
@@ -128,28 +135,24 @@ fn part_of<'a>(kind: Kind, key: View<'a>) -> Part<'a>
     }
 }
 
-// A tag as it is shown, if its copies fit.
+// A tag as it is shown once its copies are in the room.
 #[inline(always)]
-pub fn tag_of<'a>(room: &mut Room<'a>, key: Spelled<'a>, value: Spelled<'a>) -> Part<'a>
-    ensures shown { copied_tag (spelled_tag (key.entry, value.entry)) ≤ length room.old.bytes.now
-        → tag_shown result ≡ Some (spelled_tag (key.entry, value.entry)) }
-    ensures left { copied_tag (spelled_tag (key.entry, value.entry)) ≤ length room.old.bytes.now
-        → length room.new.bytes.now + copied_tag (spelled_tag (key.entry, value.entry)) ≡ length room.old.bytes.now }
+pub fn tag_of<'a>(key: Spelled<'a>, value: Spelled<'a>) -> Part<'a>
+    ensures { Waits tag_shown part_len filled_part (tag_copies (spelled_tag (key.entry, value.entry)))
+        (Some (spelled_tag (key.entry, value.entry))) result }
 {
-    let mut part = part_of(Kind::Tag, view_of(room, key));
-    part.text = view_of(room, value);
+    let mut part = part_of(Kind::Tag, view_of(key));
+    part.text = view_of(value);
     part
 }
 
-// A field as it is shown, if its copies fit.
+// A field as it is shown once its copies are in the room.
 #[inline(always)]
-pub fn field_of<'a>(room: &mut Room<'a>, key: Spelled<'a>, value: SpelledValue<'a>) -> Part<'a>
-    ensures shown { copied_field (spelled_field (key.entry, value.entry)) ≤ length room.old.bytes.now
-        → field_shown result ≡ Some (spelled_field (key.entry, value.entry)) }
-    ensures left { copied_field (spelled_field (key.entry, value.entry)) ≤ length room.old.bytes.now
-        → length room.new.bytes.now + copied_field (spelled_field (key.entry, value.entry)) ≡ length room.old.bytes.now }
+pub fn field_of<'a>(key: Spelled<'a>, value: SpelledValue<'a>) -> Part<'a>
+    ensures { Waits field_shown part_len filled_part (field_copies (spelled_field (key.entry, value.entry)))
+        (Some (spelled_field (key.entry, value.entry))) result }
 {
-    let key = view_of(room, key);
+    let key = view_of(key);
     match value {
         SpelledValue::I64(integer) => Part {
             integer,
@@ -167,7 +170,7 @@ pub fn field_of<'a>(room: &mut Room<'a>, key: Spelled<'a>, value: SpelledValue<'
             ..part_of(Kind::Float, key)
         },
         SpelledValue::String(text) => Part {
-            text: view_of(room, text),
+            text: view_of(text),
             ..part_of(Kind::String, key)
         },
         SpelledValue::Boolean(boolean) => Part {
@@ -175,6 +178,59 @@ pub fn field_of<'a>(room: &mut Room<'a>, key: Spelled<'a>, value: SpelledValue<'
             ..part_of(Kind::Boolean, key)
         },
     }
+}
+
+// Gives a view its copy, off the front of the room, if it waits for one.
+#[inline(always)]
+fn fill_view<'a>(room: &mut Room<'a>, view: &mut View<'a>)
+    requires { view_len view.old ≤ length room.old.bytes.now }
+    ensures shown { text_shown view.new ≡ text_shown (filled_view room.old.bytes.now view.old) }
+    ensures left { room.new.bytes.now ≡ drop (view_len view.old) room.old.bytes.now }
+{
+    if view.copied {
+        let bytes = mem::take(&mut room.bytes);
+        let (front, rest) = bytes.split_at_mut(view.text.len());
+        room.bytes = rest;
+        view.text = front;
+    }
+}
+
+// Gives a part its copies.
+#[inline(always)]
+fn fill_part<'a>(room: &mut Room<'a>, part: &mut Part<'a>)
+    requires { part_len part.old ≤ length room.old.bytes.now }
+    ensures tag { tag_shown part.new ≡ tag_shown (filled_part room.old.bytes.now part.old) }
+    ensures field { field_shown part.new ≡ field_shown (filled_part room.old.bytes.now part.old) }
+    ensures left { room.new.bytes.now ≡ drop (part_len part.old) room.old.bytes.now }
+{
+    fill_view(room, &mut part.key);
+    fill_view(room, &mut part.text);
+}
+
+// Gives parts their copies.
+fn fill_parts<'a>(room: &mut Room<'a>, parts: &mut [Part<'a>])
+    requires { sum_by part_len parts.old ≤ length room.old.bytes.now }
+    ensures tags { map tag_shown parts.new ≡ map tag_shown (filled_parts room.old.bytes.now parts.old) }
+    ensures fields { map field_shown parts.new ≡ map field_shown (filled_parts room.old.bytes.now parts.old) }
+    ensures left { length room.new.bytes.now + sum_by part_len parts.old ≡ length room.old.bytes.now }
+{
+    for at in 0..parts.len() {
+        fill_part(room, &mut parts[at]);
+    }
+}
+
+// Gives a line and its parts their copies, which are at the front of the room.
+#[inline(never)]
+pub fn fill_line<'a>(room: &mut Room<'a>, line: &mut Line<'a>, parts: &mut [Part<'a>])
+    requires fits { line.old.tags + line.old.fields ≤ length parts.old }
+    requires room { waits_for line.old parts.old ≤ length room.old.bytes.now }
+    ensures shown { (read : format.Line) → ShowsLine read (filled_line room.old.bytes.now line.old)
+        (filled_own room.old.bytes.now line.old parts.old) → ShowsLine read line.new parts.new }
+    ensures left { length room.new.bytes.now + waits_for line.old parts.old ≡ length room.old.bytes.now }
+    ensures kept { line.new ≡ record line.old { measurement = line.new.measurement } }
+{
+    fill_view(room, &mut line.measurement);
+    fill_parts(room, &mut parts[..line.tags + line.fields]);
 }
 
 // The side that a fault names.

@@ -10,7 +10,7 @@ ghost use Rattle.lp_c.specs.Crossing.{AnswersItem, taken_by};
 ghost use Rattle.lp_c.specs.Numbers.{answer_number};
 ghost use Rattle.lp_c.specs.Telling.{TellsField, TellsTag, Told, lent, lent_to};
 
-use crate::lent::{field_of, put_fault, tag_of, view_of, with_text, with_value};
+use crate::lent::{field_of, fill_line, put_fault, put_field, put_tag, put_text, tag_of, view_of};
 use crate::views::{Answer, FaultKind, Line, Part, Room, Side};
 use influxdb_line_protocol::{
     Dialect, EventSink, Spelled, SpelledFault, SpelledValue, read_line_events,
@@ -32,32 +32,32 @@ impl<'l, 'a> EventSink<'a> for Telling<'l, 'a> {
 
     #[inline(always)]
     fn measurement(&mut self, name: Spelled<'a>) {
-        self.line.measurement = view_of(self.room, name);
+        self.line.measurement = view_of(name);
         self.line.tags = 0;
         self.line.fields = 0;
-        self.line.copied_len = with_text(0, name);
+        self.line.copied_len = put_text(self.room, 0, name);
     }
 
     #[inline(always)]
     fn tag(&mut self, key: Spelled<'a>, value: Spelled<'a>) {
         let at = self.line.tags.saturating_add(self.line.fields);
-        let part = tag_of(self.room, key, value);
+        let part = tag_of(key, value);
         if at < self.parts.len() {
             self.parts[at] = part;
         }
         self.line.tags = self.line.tags.saturating_add(1);
-        self.line.copied_len = with_text(with_text(self.line.copied_len, key), value);
+        self.line.copied_len = put_tag(self.room, self.line.copied_len, key, value);
     }
 
     #[inline(always)]
     fn field(&mut self, key: Spelled<'a>, value: SpelledValue<'a>) {
         let at = self.line.tags.saturating_add(self.line.fields);
-        let part = field_of(self.room, key, value);
+        let part = field_of(key, value);
         if at < self.parts.len() {
             self.parts[at] = part;
         }
         self.line.fields = self.line.fields.saturating_add(1);
-        self.line.copied_len = with_value(with_text(self.line.copied_len, key), value);
+        self.line.copied_len = put_field(self.room, self.line.copied_len, key, value);
     }
 
     #[inline(always)]
@@ -85,6 +85,7 @@ fn tell_line<'l, 'a>(dialect: Dialect, text: &'a str, telling: &mut Telling<'l, 
     ensures parts { telling.new.parts.ghost_name ≡ telling.old.parts.ghost_name }
     ensures room { telling.new.room.ghost_name ≡ telling.old.room.ghost_name }
     ensures size { length telling.new.parts.now ≡ length telling.old.parts.now }
+    ensures room_size { length telling.new.room.now.bytes.now ≡ length telling.old.room.now.bytes.now }
     ensures told { Told (answer (rules_of dialect) text.now) telling.new.fault (lent_to telling.old) (lent_to telling.new) }
 {
     read_line_events(dialect, text, telling);
@@ -108,7 +109,8 @@ fn put_told<'a>(
     parts: &mut [Part<'a>],
 ) -> Option<SpelledFault<'a>>
     requires { length text.now < 2 ^ 63 }
-    ensures { Told (answer (rules_of dialect) text.now) result (lent line.old parts.old room.old) (lent line.new parts.new room.new) }
+    ensures told { Told (answer (rules_of dialect) text.now) result (lent line.old parts.old room.old) (lent line.new parts.new room.new) }
+    ensures room { length room.new.bytes.now ≡ length room.old.bytes.now }
 {
     let mut telling = Telling {
         line,
@@ -127,8 +129,8 @@ fn put_told<'a>(
     fault
 }
 
-// Puts out the item of the trimmed text `text`, or says how much more it takes. A line is told without room first, since room
-// that holds a copy cannot be given back where more is needed; only a line with copies is told once more.
+// Puts out the item of the trimmed text `text`, or says how much more it takes. Room that was handed out cannot be taken back, so a
+// line that is told only writes its copies there; they are handed out once the line has ended, and has all that it takes.
 #[inline(always)]
 pub(crate) fn put_item<'a>(
     dialect: Dialect,
@@ -142,8 +144,7 @@ pub(crate) fn put_item<'a>(
     ensures taken { length room.new.bytes.now + taken_by (answer_number result) line.new ≡ length room.old.bytes.now }
     ensures fits { answer_number result ≡ 1 → line.new.tags + line.new.fields ≤ length parts.new }
 {
-    let mut none = Room { bytes: &mut [] };
-    if let Some(fault) = put_told(dialect, text, &mut none, line, parts) {
+    if let Some(fault) = put_told(dialect, text, room, line, parts) {
         return put_fault(fault, room, line);
     }
     if parts.len() < line.tags || parts.len() - line.tags < line.fields {
@@ -153,7 +154,7 @@ pub(crate) fn put_item<'a>(
         return Answer::MoreRoom;
     }
     if line.copied_len != 0 {
-        let _no_fault = put_told(dialect, text, room, line, parts);
+        fill_line(room, line, parts);
     }
     Answer::Line
 }

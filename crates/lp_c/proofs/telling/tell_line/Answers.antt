@@ -14,6 +14,9 @@ returns-clause-parts c = let was = c.read_line_events.ensures in (same_memory _ 
 pub returns-clause-size : goal.returns-clause-size
 returns-clause-size c = let was = c.read_line_events.ensures in (same_memory _ _ was.events was.told).size
 
+pub returns-clause-room_size : goal.returns-clause-room_size
+returns-clause-room_size c = let was = c.read_line_events.ensures in (same_memory _ _ was.events was.told).room_size
+
 pub returns-clause-told : goal.returns-clause-told
 returns-clause-told c =
     let was = c.read_line_events.ensures in
