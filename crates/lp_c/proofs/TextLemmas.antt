@@ -1,4 +1,4 @@
--- Which spellings are read as a part of the input.
+-- Which spellings are read as a part of the input, and that no text is longer than its spelling.
 use Rattle.std.proofs.Common.{◌≡◌, ℕ, List, [], ◌∷◌, ◌≤◌, length, true, false, refl, arith, inl, inr, ap, take}
 use Rattle.std.specs.Prelude.{◌==◌}
 use Rattle.std.proofs.lemmas.Bool.{and_parts, cases_Bool, false≢true}
