@@ -1,7 +1,8 @@
--- Which spellings are read as a part of the input.
-use Rattle.std.proofs.Common.{◌≡◌, ℕ, List, [], ◌∷◌, ◌≤◌, length, true, false, refl, arith, inl, inr}
+-- Which spellings are read as a part of the input, and that no text is longer than its spelling.
+use Rattle.std.proofs.Common.{◌≡◌, ℕ, List, [], ◌∷◌, ◌≤◌, length, true, false, refl, arith, inl, inr, ap, take}
 use Rattle.std.specs.Prelude.{◌==◌}
 use Rattle.std.proofs.lemmas.Bool.{and_parts, cases_Bool, false≢true}
+use Rattle.std.proofs.lemmas.List.{length-take-le}
 use Rattle.lp_format.specs.format.Bytes.{backslash, is_one_of}
 use Rattle.lp_format.specs.format.Escapes.{without_escapes}
 use Rattle.lp_format.specs.format.Names.{is_one_escape, is_shared}
@@ -42,7 +43,7 @@ not_shared known text some apart =
     ]
 
 -- no text takes more bytes than its spelling
-pub no_longer : (known text : List ℕ) → length (without_escapes known text) ≤ length text
+no_longer : (known text : List ℕ) → length (without_escapes known text) ≤ length text
 unfolding without_escapes
 no_longer known [] = omega arith
 no_longer known (b ∷ []) = omega arith
@@ -56,3 +57,7 @@ no_longer known (b ∷ c ∷ rest) =
       ]
       | inr other ↦ rw other (omega (arith, more))
     ]
+
+-- so the front of a spelling that has so many bytes is there
+pub copy_fits : (known text bytes : List ℕ) (n : ℕ) → bytes ≡ text → n ≡ length (without_escapes known text) → length (take n bytes) ≡ n
+copy_fits known text bytes n is len = length-take-le n bytes (omega (arith, len, no_longer known text, ap length is))

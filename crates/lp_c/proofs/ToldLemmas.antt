@@ -50,7 +50,7 @@ same_memory old new (event ∷ events) (mid, first, more) =
     }
 
 -- bytes that are put after others are put with them
-pub puts_two : (old mid new a b : List ℕ) (len m all : ℕ) → PutsCopy old len a mid m → PutsCopy mid m b new all
+puts_two : (old mid new a b : List ℕ) (len m all : ℕ) → PutsCopy old len a mid m → PutsCopy mid m b new all
     → PutsCopy old len (a ++ b) new all
 puts_two old mid new a b len m all first next =
     let both = length-append a b in
@@ -67,7 +67,7 @@ puts_two old mid new a b len m all first next =
     }
 
 -- no bytes are put
-pub puts_none : (room : List ℕ) (len : ℕ) → len < 2 ^ 64 → PutsCopy room len [] room len
+puts_none : (room : List ℕ) (len : ℕ) → len < 2 ^ 64 → PutsCopy room len [] room len
 puts_none room len small = record {
   counted = omega (arith, small);
   size = refl;
@@ -75,7 +75,7 @@ puts_none room len small = record {
 }
 
 -- a text takes as many bytes as its copy has
-pub text_size : (text : Text) → length (text_copy text) ≡ copied_text text
+text_size : (text : Text) → length (text_copy text) ≡ copied_text text
 text_size text = elim (cases_Bool text.is_single) [ inl is ↦ rw is refl | inr other ↦ rw other refl ]
 
 -- so does a tag
