@@ -18,6 +18,6 @@ pub enum Fault {
     #[error(transparent)]
     Line(#[from] LineFault),
     /// Something else came than what the test goes on with.
-    #[error("something else came than what the test goes on with")]
+    #[error("what was needed to go on did not come")]
     Unexpected,
 }
