@@ -58,6 +58,10 @@ build() {
 # `rt` says is shown if that fails.
 build_all() {
     local name=$1 crate=$2 command=$3 low log below=()
+    if ! command -v rt >/dev/null; then
+        echo "$name: there is no rt, which proves and builds $crate: the kit belongs in /opt/rattle" >&2
+        return 1
+    fi
     log=$(mktemp)
     add_below "$crate"
     for low in "${below[@]}"; do
@@ -72,15 +76,25 @@ build_all() {
     rm -f "$log"
 }
 
-launch() {
-    local name=$1 crate=$2 wanted
-    local program=$top/crates/$crate/out/$crate stamp=$top/crates/$crate/out/launcher.stamp
-    shift 2
+# Proves and builds a crate as `build_all` does, if this file of its out/ was not built from these sources.
+build_if_changed() {
+    local name=$1 crate=$2 command=$3 file=$4 wanted out=$top/crates/$2/out
     wanted=$(sources "$crate")
-    if [ ! -x "$program" ] || [ "$(cat "$stamp" 2>/dev/null)" != "$wanted" ]; then
-        [ ! -t 2 ] || echo "$name: proving and building the program, which takes some minutes" >&2
-        build_all "$name" "$crate" run || exit 2
-        echo "$wanted" >"$stamp"
+    if [ ! -s "$out/$file" ] || [ "$(cat "$out/launcher.stamp" 2>/dev/null)" != "$wanted" ]; then
+        [ ! -t 2 ] || echo "$name: proving and building $file, which takes some minutes" >&2
+        build_all "$name" "$crate" "$command" || return 1
+        echo "$wanted" >"$out/launcher.stamp"
     fi
-    exec "$program" "$@"
+}
+
+launch() {
+    local name=$1 crate=$2
+    shift 2
+    build_if_changed "$name" "$crate" run "$crate" || exit 2
+    exec "$top/crates/$crate/out/$crate" "$@"
+}
+
+# The version of this state: the newest that CHANGELOG.md names.
+version() {
+    sed -n '/^## [0-9]*\.[0-9]*\.[0-9]*$/ { s/^## //p; q; }' "$top/CHANGELOG.md"
 }

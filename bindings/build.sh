@@ -1,20 +1,26 @@
 #!/usr/bin/env bash
 # Makes the static library of crates/lp_c, and of it the shared library that callers load at run time:
 #
-#     bindings/build.sh             proves what is not proved yet, and makes out/liblp_c.a of it;
-#                                   a terminal sees how far that is
-#     bindings/build.sh ARCHIVE     takes an archive that was made before
+#     bindings/build.sh                      proves what is not proved yet, and makes out/liblp_c.a of it;
+#                                            a terminal sees how far that is
+#     bindings/build.sh ARCHIVE [FOLDER]     takes an archive that was made before
 #
-# The shared library is bindings/out/libinfluxdb_line_protocol.so.
+# The shared library is libinfluxdb_line_protocol.so of FOLDER, which is bindings/out if none is given: a link to the file that has
+# the version in its name, as is the link to which programs are bound. It shows the calls of the header alone.
 set -eu
 here=$(cd "$(dirname "$0")" && pwd)
 . "$here/../launch.sh"
 archive=${1:-$top/crates/lp_c/out/liblp_c.a}
+folder=${2:-$here/out}
 if [ $# = 0 ]; then
     [ ! -t 2 ] || echo "build: proving and building the library, which takes some minutes" >&2
     build_all build lp_c lib || exit 1
 fi
-mkdir -p "$here/out"
+mkdir -p "$folder"
+version=$(version)
+shared=libinfluxdb_line_protocol.so
 "${CC:-cc}" -O2 -shared -fPIC "$here/c/heap.c" -Wl,--whole-archive "$archive" -Wl,--no-whole-archive \
-    -o "$here/out/libinfluxdb_line_protocol.so"
-echo "build: $archive and $here/out/libinfluxdb_line_protocol.so"
+    -Wl,-soname,"$shared.${version%%.*}" -Wl,--version-script,"$here/c/shown.map" -o "$folder/$shared.$version"
+ln -sf "$shared.$version" "$folder/$shared.${version%%.*}"
+ln -sf "$shared.$version" "$folder/$shared"
+echo "build: $archive and $folder/$shared"

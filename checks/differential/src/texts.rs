@@ -222,6 +222,37 @@ fn line(seeded: &mut Seeded) -> String {
     line
 }
 
+// A value as the builder writes it.
+fn written_value(seeded: &mut Seeded) -> String {
+    let number = seeded.next() >> seeded.below(64);
+    match seeded.below(6) {
+        0 => format!("{}i", number.cast_signed()),
+        1 => format!("{number}u"),
+        2 => format!("{number}.{}", seeded.below(1000)),
+        3 => String::from(seeded.one_of(&["true", "false"])),
+        4 => String::from(seeded.one_of(&["\"\"", "\"plain\"", "\"a b,c=d\"", "\"two\nlines\""])),
+        _ => String::from(seeded.one_of(&["\"\\\"\"", "\"\\\\\"", "\"é\\\\n\""])),
+    }
+}
+
+// A line as the builder writes it.
+fn written_line(seeded: &mut Seeded) -> String {
+    let names = ["cpu", "k1", "é", "x\\ y", "a\\,b", "back\\slash"];
+    let keys = ["host", "k1", "é", "x\\ y", "a\\,b", "region\\=eu"];
+    let mut line = String::from(seeded.one_of(&names));
+    for _ in 0..seeded.below(4) {
+        line += &format!(",{}={}", seeded.one_of(&keys), seeded.one_of(&keys));
+    }
+    for place in 0..1 + seeded.below(3) {
+        line += if place == 0 { " " } else { "," };
+        line += &format!("{}={}", seeded.one_of(&keys), written_value(seeded));
+    }
+    if seeded.once_in(2) {
+        line += &format!(" {}", (seeded.next() >> seeded.below(64)).cast_signed());
+    }
+    line
+}
+
 // Takes out, puts in or doubles a few places.
 fn mutated(seeded: &mut Seeded, text: &str) -> String {
     let mut letters: Vec<char> = text.chars().collect();
@@ -238,14 +269,18 @@ fn mutated(seeded: &mut Seeded, text: &str) -> String {
     letters.into_iter().collect()
 }
 
-/// A text: of lines, some of them mutated, or of tokens.
+/// A text: of lines, half of which are as the builder writes them, and some mutated, or of tokens.
 pub fn text(seeded: &mut Seeded) -> String {
     if seeded.once_in(4) {
         return tokens(seeded, 24);
     }
     let mut text = String::new();
     for _ in 0..1 + seeded.below(4) {
-        text += &line(seeded);
+        text += &if seeded.once_in(2) {
+            written_line(seeded)
+        } else {
+            line(seeded)
+        };
         text += seeded.one_of(&["\n", "\n", "\n", "\n", "\n\n", ""]);
     }
     if seeded.once_in(2) {

@@ -20,5 +20,4 @@ pub use Rattle.lp_events.specs.declared.pull.Event
 pub use Rattle.lp_events.specs.declared.pull.ParseEvents
 pub use Rattle.lp_build.specs.declared.builder.buffer.NoRoom
 pub use Rattle.lp_build.specs.declared.builder.LineProtocolBuilder
-pub use Rattle.lp_build.specs.declared.builder.parsed.Written
 pub use Rattle.lp_build.specs.declared.builder.Refused

@@ -4,7 +4,7 @@ ghost use Rattle.lp_format.specs.laws.Laws.{AdmittedBatchesReadBack, OtherBatche
 ghost use Rattle.lp_format.specs.laws.Laws.{OtherPointsEndWithBackslash, NamesAreParsed, ParsedNamesAreInLines};
 ghost use Rattle.lp_format.specs.laws.Laws.{StrictFieldsEnd, PiecesExist, PiecesAreUnique, PiecesAreTheText, PiecesJoin};
 ghost use Rattle.lp_format.specs.laws.Laws.{AnswersJoin, CommentTextIsIgnored};
-ghost use Rattle.lp_format.specs.laws.PointsOfLines.{LinesArePoints};
+ghost use Rattle.lp_format.specs.laws.PointsOfLines.{LinesArePoints, LinesThatStayAreWritten, WrittenLinesStay};
 ghost use Rattle.influxdb_line_protocol.specs.laws.GivenEvents.{AllEventsCome, EventsSoFar};
 ghost use Rattle.influxdb_line_protocol.specs.laws.GivenItems.{ItemsAreOfPieces, ItemsAreAnswers, ItemsSoFar, GivenLinesWereRead};
 ghost use Rattle.lp_lines.specs.laws.BaseLaws.{ClearSeriesHaveBases, SameSeriesHaveOneBase, TagsByKeyAreSorted};
@@ -49,6 +49,13 @@ pub fn parsed_names()
 /// are in the range of their types, and its floats are literals.
 pub fn lines_are_points()
     ensures { LinesArePoints }
+{}
+
+/// A text that [`builder::is_as_written`](crate::builder::is_as_written) is read in each dialect, and what the builder writes for the
+/// point of that line, whose names are all admitted, is the text and a newline. No other text is read so.
+pub fn written_lines_stay()
+    ensures stay { WrittenLinesStay }
+    ensures written { LinesThatStayAreWritten }
 {}
 
 /// The items that calls of `next` give, from `parse_lines` to `None`, are those of the text: one item

@@ -10,7 +10,7 @@
 pub mod laws;
 
 pub use lp_build::builder;
-pub use lp_build::builder::{LineProtocolBuilder, is_admitted, write_line, write_parsed};
+pub use lp_build::builder::{LineProtocolBuilder, is_admitted, is_as_written, write_line};
 pub use lp_events::{
     Event, EventSink, ParseEvents, parse_events, parse_events_in, read_events_in, read_line_events,
 };

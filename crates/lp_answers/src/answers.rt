@@ -1,6 +1,6 @@
 //! What the library gives for a text, spelled as the file of rows says at its head.
 
-use influxdb_line_protocol::{Dialect, FloatText, ParsedLine, parse_lines_in};
+use influxdb_line_protocol::{Dialect, FloatText, ParsedLine, is_as_written, parse_lines_in};
 use lp_rebuild::{Kept, rebuild_in, run_in, status};
 use lp_vectors_shared::render;
 use std::alloc::{AllocError, Global};
@@ -21,10 +21,11 @@ pub enum Kind {
     Rebuilt,
     Run,
     Float,
+    AsWritten,
 }
 
 /// The kinds, each with the word that rows have for it.
-pub const KINDS: [(&str, Kind); 12] = [
+pub const KINDS: [(&str, Kind); 13] = [
     ("items", Kind::Items),
     ("pieces", Kind::Pieces),
     ("rests_of_pieces", Kind::RestsOfPieces),
@@ -37,6 +38,7 @@ pub const KINDS: [(&str, Kind); 12] = [
     ("rebuilt", Kind::Rebuilt),
     ("run", Kind::Run),
     ("float", Kind::Float),
+    ("as_written", Kind::AsWritten),
 ];
 
 /// What the library gives for a text.
@@ -59,6 +61,7 @@ pub fn answer(
         Kind::Rebuilt => rebuilt(alloc, dialect, text),
         Kind::Run => run(alloc, dialect, text),
         Kind::Float => format!(in alloc; "{}", FloatText::new(text).is_some()),
+        Kind::AsWritten => format!(in alloc; "{}", is_as_written(text)),
     }
 }
 

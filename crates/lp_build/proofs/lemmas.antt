@@ -1,3 +1,4 @@
 pub mod builder
 pub mod points
 pub mod series
+pub mod written

@@ -1,3 +1,4 @@
+pub mod AsWritten
 pub mod Built
 pub mod WrittenAgain
 pub mod Marks

@@ -17,9 +17,8 @@ use Rattle.influxdb_line_protocol.specs.format.Points.{Pair}
 use Rattle.influxdb_line_protocol.specs.format.Readings.{Fault, Text}
 use Rattle.influxdb_line_protocol.specs.format.Values.{Value, integer, unsigned, float, string, boolean}
 use Rattle.influxdb_line_protocol.specs.types.SpelledFault.{SpelledFault}
-use Rattle.lp_lines.proofs.lemmas.line.ColumnsFit.{line_room}
+use Rattle.lp_lines.proofs.lemmas.line.AnsweredLines.{line_room, HasSome, line_some_tags}
 use Rattle.lp_lines.proofs.lemmas.line.Filled.{takes_parted}
-use Rattle.lp_lines.proofs.lemmas.line.SomeTags.{HasSome, line_some_tags}
 use Rattle.lp_c.specs.Crossing.{ShowsLine, copied_field, copied_in, copied_tag, copied_text, copied_value, field_shown, tag_shown, text_shown}
 use Rattle.lp_c.specs.Telling.{Lent, PutsCopy, Tells, TellsEnd, TellsName, TellsPart, Told, ToldLine, Waits, field_copies, filled_line, filled_own}
 use Rattle.lp_c.specs.Telling.{filled_part, filled_parts, filled_view, lent_to, own_parts, part_len, place, tag_copies, text_copy, value_copy, view_len}

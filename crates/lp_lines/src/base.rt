@@ -118,6 +118,7 @@ fn is_ambiguous<'a>(measurement: &EscapedStr<'a>, tags: &[(EscapedStr<'a>, Escap
 }
 
 // The base of a series with this raw text, measurement and tags.
+#[tactic(auto, unfolding(crate::specs::code::Bases::base_of, crate::specs::code::Bases::base_by_key))]
 fn base<'a>(
     alloc: Global,
     raw_input: &'a str,

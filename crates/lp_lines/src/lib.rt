@@ -11,5 +11,5 @@ mod line;
 pub mod parsed;
 mod shown;
 
-pub use line::{ParseLines, parse_lines, parse_lines_in};
+pub use line::{ParseLines, parse_lines, parse_lines_in, read_into};
 pub use parsed::{FieldSet, ParsedLine, Series, TagSet};

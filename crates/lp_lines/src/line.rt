@@ -1,6 +1,6 @@
 //! Lines.
 
-ghost use Rattle.std.specs.Prelude.{◌≡◌, ◌<◌, ◌≤◌, ◌^◌, [], length, max, true, Err, None, Some, IfSome};
+ghost use Rattle.std.specs.Prelude.{◌≡◌, ◌<◌, ◌≤◌, ◌^◌, [], length, max, true, Err, None, Some, IfSome, OnErr};
 ghost use Rattle.std.specs.Prelude.{MatchOption};
 ghost use Rattle.std.specs.Option.{option_map};
 ghost use Rattle.lp_format.specs.format.Dialects.{Crate};
@@ -154,6 +154,34 @@ fn refuse(item: &mut Result<ParsedLine<'_>>, fault: Error)
     *item = Err(fault);
 }
 
+/// Reads a trimmed text into a line that is used again: the line is then what the text says, or empty where that is at fault.
+///
+/// The sets of the line keep their room. One of tags that has grown is kept at `spare` while the line has no tags.
+#[inline(always)]
+pub fn read_into<'a>(
+    alloc: Global,
+    dialect: Dialect,
+    text: &'a str,
+    line: &mut ParsedLine<'a>,
+    spare: &mut Option<TagSet<'a>>,
+) -> Result<()>
+    ensures value { FillsLine line.new result (answer (rules_of dialect) text.now) }
+    ensures fault { OnErr result (IsEmptyLine line.new) }
+    ensures tag_room { KeepsTagRoom line.old line.new }
+    ensures field_room { line.old.field_set.capacity ≤ line.new.field_set.capacity }
+    ensures light { is_light_in (max inline_tags (room_of line.old.series.tag_set)) (max inline_fields line.old.field_set.capacity)
+        (rules_of dialect) text.now ≡ true → IsNotOutOfMemory result }
+{
+    clear_sets(alloc, line, spare);
+    match fill(alloc, dialect, text, line, Some(spare)) {
+        Ok(()) => Ok(()),
+        Err(fault) => {
+            empty(line);
+            Err(fault)
+        }
+    }
+}
+
 /// The lines of a text, one after another: what [`parse_lines`] gives.
 ///
 /// Each item is the answer for one piece that holds more than blanks and comments: what its line
@@ -226,20 +254,8 @@ impl<'a> ParseLines<'a> {
             (max inline_fields line.old.field_set.capacity) self.old result self.new }
     {
         let text = self.next_line()?;
-        clear_sets(self.alloc, line, &mut self.spare);
-        match fill(
-            self.alloc,
-            dialect_of(&self.lines),
-            text,
-            line,
-            Some(&mut self.spare),
-        ) {
-            Ok(()) => Some(Ok(())),
-            Err(fault) => {
-                empty(line);
-                Some(Err(fault))
-            }
-        }
+        let dialect = dialect_of(&self.lines);
+        Some(read_into(self.alloc, dialect, text, line, &mut self.spare))
     }
 }
 

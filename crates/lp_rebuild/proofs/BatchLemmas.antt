@@ -1,31 +1,45 @@
 -- What is carried: lines that were read, and points that are admitted, so that the batch reads back.
-use Rattle.std.proofs.Common.{◌≡◌, ℕ, ◌==◌, List, [], ◌∷◌, ◌++◌, length, map, Some, Result, Ok, Err}
+use Rattle.std.proofs.Common.{◌≡◌, ℕ, ◌<◌, ◌==◌, List, [], ◌∷◌, ◌++◌, length, map, Result, Ok, Err}
 use Rattle.std.proofs.Common.{refl, sym, ap, subst, ◌∙◌, inl, inr}
 use Rattle.std.specs.Prelude.{IfOk}
 use Rattle.std.specs.List.{flat_map, AllByRecursion}
 use Rattle.std.proofs.lemmas.Bool.{cases_Bool}
+use Rattle.std.proofs.lemmas.List.{length-map}
 use Rattle.influxdb_line_protocol.specs.format.Dialects.{Dialect}
 use Rattle.influxdb_line_protocol.specs.types.Error.{Error}
 use Rattle.influxdb_line_protocol.specs.types.ParsedLine.{ParsedLine}
 use Rattle.influxdb_line_protocol.specs.format.Readings.{Fault}
 use Rattle.influxdb_line_protocol.specs.format.Points.{is_admitted_point, built_all}
-use Rattle.influxdb_line_protocol.specs.format.Lines.{Line, point_of, answer}
-use Rattle.influxdb_line_protocol.specs.code.Parsed.{IsReadLine}
+use Rattle.influxdb_line_protocol.specs.format.Lines.{Line, point_of, answer, logical_field}
+use Rattle.influxdb_line_protocol.specs.code.Parsed.{Answers, FillsLine, IsReadLine, field_of, line_read}
+use Rattle.influxdb_line_protocol.specs.code.ReadInto.{item_in}
 use Rattle.influxdb_line_protocol.specs.format.Trimming.{trimmed}
-use Rattle.influxdb_line_protocol.specs.format.Pieces.{Left}
-use Rattle.influxdb_line_protocol.specs.code.ParseSteps.{GivesItem}
 use Rattle.influxdb_line_protocol.specs.format.Items.{HasAnswers, answers_of, answers_of_piece}
 use Rattle.influxdb_line_protocol.specs.laws.Laws.{IsAdmittedPoint, AdmittedBatchesReadBack, PiecesAreUnique}
-use Rattle.influxdb_line_protocol.specs.laws.GivenItems.{GivenLinesWereRead}
 use Rattle.influxdb_line_protocol.specs.laws.PointsOfLines.{LinesArePoints}
 use Rattle.lp_rebuild.specs.declared.batch.Rebuilt.{Rebuilt}
+use Rattle.lp_rebuild.specs.RebuildSteps.{IsTrimmed}
 use Rattle.lp_rebuild.specs.Rebuilding.{RebuildsIn, ReadsBackIn, carried_point, batch_of}
 
--- a line that is given was read
-pub item_is_read : GivenLinesWereRead → (before after : Left) (item : Result ParsedLine Error)
-    → GivesItem before (Some item) after → IfOk item (λ line. IsReadLine line)
-item_is_read law before after (Err e) gives = tt
-item_is_read law before after (Ok line) gives = law before after line gives
+-- a line that a trimmed text says was read
+pub line_is_read : (dialect : Dialect) (text : List ℕ) (line : ParsedLine) (read : Result Unit Error) → IsTrimmed text
+    → FillsLine line read (answer dialect text) → IfOk (item_in line read) (λ l. IsReadLine l)
+line_is_read dialect text line (Err e) is filled = tt
+line_is_read dialect text line (Ok done) is filled =
+    record { dialect = dialect; text = is.0; answered = ap (answer dialect) (sym is.1) ∙ filled }
+
+-- what the text says is the item
+pub filled_answers : (line : ParsedLine) (read : Result Unit Error) (answer : Result Line Fault) → FillsLine line read answer
+    → Answers (item_in line read) answer
+filled_answers line (Ok done) answer filled = filled
+filled_answers line (Err e) answer filled = filled
+
+-- a line that was read has a field
+pub has_field : LinesArePoints → (line : ParsedLine) → IsReadLine line → 0 < length line.field_set.items
+has_field are line read =
+    let point = are read.dialect (trimmed read.text) (line_read line) read.answered in
+    subst (λ (n : ℕ). 0 < n) (length-map (map field_of line.field_set.items) logical_field ∙ length-map line.field_set.items field_of)
+    point.some_field
 
 -- what holds of all of two lists holds of all of both
 all_joined : {X : Type 0} (P : X → Type 0) (xs ys : List X) → AllByRecursion P xs → AllByRecursion P ys → AllByRecursion P (xs ++ ys)

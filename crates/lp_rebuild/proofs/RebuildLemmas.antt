@@ -1,16 +1,16 @@
 -- How a rebuild goes over the pieces of a text.
 use Rattle.std.proofs.Common.{◌≡◌, ◌≢◌, ℕ, ◌+◌, ◌==◌, ◌<◌, Bool, true, false, not, cond, List, [], ◌∷◌, ◌++◌, length}
 use Rattle.std.proofs.Common.{Result, Ok, Err, string_bytes, refl, sym, ap, subst, ◌∙◌, arith, append_assoc}
-use Rattle.std.proofs.Common.{append-nil, eq-eqb}
-use Rattle.std.specs.List.{All, flat_map}
+use Rattle.std.proofs.Common.{append-nil, eq-eqb, inl, inr}
+use Rattle.std.proofs.Math.Nat.{eq-zero-or-pos}
+use Rattle.std.specs.List.{flat_map}
 use Rattle.std.proofs.lemmas.Grind.{flat_map-append}
 use Rattle.std.proofs.lemmas.Bool.Decides.{nat_tests}
-use Rattle.std.proofs.lemmas.List.Elements.{All-tail}
 use Rattle.std.proofs.lemmas.List.Sums.{sum_by-append}
+use Rattle.influxdb_line_protocol.specs.format.Bytes.{newline}
 use Rattle.influxdb_line_protocol.specs.format.Dialects.{Dialect}
 use Rattle.influxdb_line_protocol.specs.types.Error.{Error}
 use Rattle.influxdb_line_protocol.specs.types.Error.TheVariants as error
-use Rattle.influxdb_line_protocol.specs.types.ParsedLine.{ParsedLine}
 use Rattle.lp_rebuild.specs.declared.batch.Place.{Place}
 use Rattle.lp_rebuild.specs.declared.batch.Place.TheVariants.{ByNumber}
 use Rattle.lp_rebuild.specs.declared.batch.Progress.{Progress}
@@ -22,11 +22,9 @@ use Rattle.influxdb_line_protocol.specs.format.Readings.{measurement_value_inval
 use Rattle.influxdb_line_protocol.specs.format.Readings.{take_while1, cannot_parse_entire_line}
 use Rattle.influxdb_line_protocol.specs.format.Points.{Point, built, built_all, is_admitted_point}
 use Rattle.influxdb_line_protocol.specs.format.Lines.{Line, point_of, answer}
-use Rattle.influxdb_line_protocol.specs.code.Parsed.{Answers}
 use Rattle.influxdb_line_protocol.specs.code.Faults.{error_text, fault_text}
 use Rattle.influxdb_line_protocol.specs.format.Trimming.{trimmed}
-use Rattle.influxdb_line_protocol.specs.format.Pieces.{Left, Pieces, PiecesLeft}
-use Rattle.influxdb_line_protocol.specs.code.ParseSteps.{IsBlankPiece, GaveItem}
+use Rattle.influxdb_line_protocol.specs.format.Pieces.{Pieces}
 use Rattle.influxdb_line_protocol.specs.format.Items.{answers_of, answers_of_piece}
 use Rattle.lp_rebuild.specs.Rebuilding.{RebuildsIn, batch_of, carried_point, faults_from, fault_of, carried_of}
 use Rattle.lp_rebuild.specs.Rebuilding.{refused_of, is_carried_answer, refusal_text}
@@ -163,13 +161,12 @@ Took-more answers answer old new numbered h t =
       refused = t.refused ∙ add_elsewhere (is_carried_answer answer) _ _ h.refused ∙ sym (refused_push answers answer);
     }
 
--- blank pieces have no answers
-pub blank_answers : (dialect : Dialect) (pieces : List (List ℕ)) → All IsBlankPiece pieces → answers_of dialect pieces ≡ []
+-- a blank piece has no answer
+pub blank_answers : (dialect : Dialect) (piece : List ℕ) → length (trimmed piece) ≡ 0 → answers_of_piece dialect piece ≡ []
 unfolding answers_of_piece
-blank_answers dialect [] h = refl
-blank_answers dialect (p ∷ pieces) h =
-    let e : (length (trimmed p) == 0) ≡ true = eq-eqb (length (trimmed p)) 0 (h 0 p (omega arith)) in
-    rw e (blank_answers dialect pieces (All-tail IsBlankPiece p pieces h))
+blank_answers dialect piece none =
+    let e : (length (trimmed piece) == 0) ≡ true = eq-eqb (length (trimmed piece)) 0 none in
+    rw e refl
 
 -- a piece that is not blank has one
 pub piece_answers : (dialect : Dialect) (piece : List ℕ) → 0 < length (trimmed piece)
@@ -185,53 +182,70 @@ pub record SoFar (dialect : Dialect) (text : List ℕ) (others : List (List ℕ)
   pub pieces : Pieces dialect text (front ++ others)
   pub took : Took (answers_of dialect front) so_far
 
--- the pieces before others, with a piece more
-regrouped : (front skipped : List (List ℕ)) (piece : List ℕ) (others : List (List ℕ))
-    → front ++ (skipped ++ piece ∷ others) ≡ (front ++ (skipped ++ piece ∷ [])) ++ others
-regrouped front skipped piece others = simp append_assoc
+-- the answers after those of these pieces
+answers_push : (dialect : Dialect) (front : List (List ℕ)) (piece : List ℕ)
+    → answers_of dialect (front ++ piece ∷ []) ≡ answers_of dialect front ++ answers_of_piece dialect piece
+answers_push dialect front piece =
+    flat_map-append (answers_of_piece dialect) front (piece ∷ [])
+    ∙ ap (λ (l : List (Result Line Fault)). answers_of dialect front ++ l) (append-nil (answers_of_piece dialect piece))
 
--- the answers after blank pieces and one that is not
-front_answers : (dialect : Dialect) (front skipped : List (List ℕ)) (piece : List ℕ) → All IsBlankPiece skipped → 0 < length (trimmed piece)
-    → answers_of dialect (front ++ (skipped ++ piece ∷ [])) ≡ answers_of dialect front ++ answer dialect (trimmed piece) ∷ []
-front_answers dialect front skipped piece blank some =
-    let f = answers_of_piece dialect in
-    flat_map-append f front (skipped ++ piece ∷ [])
-    ∙ ap (λ (l : List (Result Line Fault)). answers_of dialect front ++ l)
-    (flat_map-append f skipped (piece ∷ [])
-    ∙ ap (λ (l : List (Result Line Fault)). l ++ (f piece ++ [])) (blank_answers dialect skipped blank)
-    ∙ append-nil (f piece) ∙ piece_answers dialect piece some)
+-- the answers of a piece more were taken
+took_piece : (dialect : Dialect) (front : List (List ℕ)) (piece : List ℕ) (old new : Progress) → old.place ≡ ByNumber
+    → Took (answers_of dialect front) old → (length (trimmed piece) ≡ 0 → new ≡ old)
+    → (0 < length (trimmed piece) → Takes old (answer dialect (trimmed piece)) new)
+    → Took (answers_of dialect front ++ answers_of_piece dialect piece) new
+took_piece dialect front piece old new numbered h blank takes =
+    elim (eq-zero-or-pos (length (trimmed piece))) [
+      | inr some ↦
+          subst (λ l. Took (answers_of dialect front ++ l) new) (sym (piece_answers dialect piece some))
+          (Took-more (answers_of dialect front) (answer dialect (trimmed piece)) old new numbered h (takes some))
+      | inl none ↦
+          subst (λ l. Took (answers_of dialect front ++ l) new) (sym (blank_answers dialect piece none))
+          (subst (λ l. Took l new) (sym (append-nil (answers_of dialect front)))
+          (subst (Took (answers_of dialect front)) (sym (blank none)) h))
+    ]
 
--- an item was taken, and the blank pieces before it were passed
-pub SoFar-item : (dialect : Dialect) (text : List ℕ) (before : Left) (item : Result ParsedLine Error)
-    (others : List (List ℕ)) (old new : Progress) → before.dialect ≡ dialect
-    → old.place ≡ ByNumber → ((left : List (List ℕ)) → PiecesLeft before left → SoFar dialect text left old) → GaveItem before item others
-    → ((answer : Result Line Fault) → Answers item answer → Takes old answer new) → SoFar dialect text others new
-SoFar-item dialect text before item others old new same numbered done gave takes =
-    let h = done (gave.skipped ++ gave.piece ∷ others) gave.left in
-    let given = answer dialect (trimmed gave.piece) in
+-- a piece more was taken
+pub SoFar-piece : (dialect : Dialect) (text piece : List ℕ) (others : List (List ℕ)) (old new : Progress) → old.place ≡ ByNumber
+    → SoFar dialect text (piece ∷ others) old → (length (trimmed piece) ≡ 0 → new ≡ old)
+    → (0 < length (trimmed piece) → Takes old (answer dialect (trimmed piece)) new) → SoFar dialect text others new
+SoFar-piece dialect text piece others old new numbered h blank takes =
     record {
-      front = h.front ++ (gave.skipped ++ gave.piece ∷ []);
-      pieces = subst (Pieces dialect text) (regrouped h.front gave.skipped gave.piece others) h.pieces;
-      took = subst (λ l. Took l new) (sym (front_answers dialect h.front gave.skipped gave.piece gave.blank gave.some))
-          (Took-more (answers_of dialect h.front) given old new numbered h.took
-          (takes given (subst (λ d. Answers item (answer d (trimmed gave.piece))) same gave.item_is.answers)));
+      front = h.front ++ piece ∷ [];
+      pieces = subst (Pieces dialect text) (sym (append_assoc h.front (piece ∷ []) others)) h.pieces;
+      took = subst (λ l. Took l new) (sym (answers_push dialect h.front piece))
+          (took_piece dialect h.front piece old new numbered h.took blank takes);
     }
 
--- only blank pieces were left
-pub SoFar-end : (dialect : Dialect) (text : List ℕ) (skipped : List (List ℕ)) (so_far : Progress)
-    → All IsBlankPiece skipped → SoFar dialect text skipped so_far
+-- no piece was left
+pub SoFar-end : (dialect : Dialect) (text : List ℕ) (so_far : Progress) → SoFar dialect text [] so_far
     → (r : Rebuilt) → r.batch ≡ so_far.batch → r.faults.items ≡ string_bytes so_far.faults
     → r.carried ≡ so_far.carried → r.refused ≡ so_far.refused → RebuildsIn dialect text r
-SoFar-end dialect text skipped so_far blank h r batch faults carried refused =
-    let none : answers_of dialect (h.front ++ skipped) ≡ answers_of dialect h.front =
-    flat_map-append (answers_of_piece dialect) h.front skipped
-    ∙ ap (λ (l : List (Result Line Fault)). answers_of dialect h.front ++ l)
-    (blank_answers dialect skipped blank) ∙ append-nil (answers_of dialect h.front) in
+SoFar-end dialect text so_far h r batch faults carried refused =
     record {
       answers = answers_of dialect h.front;
-      has = record { pieces = h.front ++ skipped; are = h.pieces; answered = sym none };
+      has = record { pieces = h.front; are = subst (Pieces dialect text) (append-nil h.front) h.pieces; answered = refl };
       batch = ap (λ v. v.items) batch ∙ h.took.batch;
       faults = faults ∙ h.took.faults;
       carried = carried ∙ h.took.carried;
       refused = refused ∙ h.took.refused;
     }
+
+-- the text of a line that the builder writes so was copied
+pub copied_line : (dialect : Dialect) (text : List ℕ) (old new : Progress) → ((line : Line) × (answer dialect text ≡ Ok line)
+    × ((is_admitted_point (point_of line) ≡ true) × (built (point_of line) ≡ text ++ newline ∷ [])))
+    → new.batch.items ≡ (old.batch.items ++ text) ++ newline ∷ [] → new.faults ≡ old.faults
+    → new.carried ≡ old.carried + 1 → new.refused ≡ old.refused → Takes old (answer dialect text) new
+copied_line dialect text old new stays batch faults carried refused =
+    let line = stays.0 in
+    let point : carried_point (Ok line) ≡ point_of line ∷ [] = rw stays.2.0 refl in
+    let same : text ++ newline ∷ [] ≡ built_all (carried_point (Ok line)) =
+    sym stays.2.1 ∙ sym (append-nil (built (point_of line))) ∙ ap built_all (sym point) in
+    let carries : is_carried_answer (Ok line) ≡ true = stays.2.0 in
+    subst (λ a. Takes old a new) (sym stays.1)
+    (record {
+      batch = batch ∙ append_assoc old.batch.items text (newline ∷ []) ∙ ap (λ (l : List ℕ). old.batch.items ++ l) same;
+      faults = rw carries (ap string_bytes faults ∙ sym (append-nil (string_bytes old.faults)));
+      carried = rw carries carried;
+      refused = rw carries refused;
+    })

@@ -4,9 +4,11 @@ use Rattle.lp_rebuild.specs.declared.batch.Place.{Place}
 use Rattle.lp_rebuild.specs.declared.batch.Place.TheVariants.{ByNumber, OnLine}
 use Rattle.lp_rebuild.specs.declared.batch.Progress.{Progress}
 use Rattle.influxdb_line_protocol.specs.format.Bytes.{newline}
+use Rattle.influxdb_line_protocol.specs.format.Dialects.{Dialect}
 use Rattle.influxdb_line_protocol.specs.format.Points.{built_all}
 use Rattle.influxdb_line_protocol.specs.format.Readings.{Fault}
-use Rattle.influxdb_line_protocol.specs.format.Lines.{Line}
+use Rattle.influxdb_line_protocol.specs.format.Lines.{Line, answer}
+use Rattle.influxdb_line_protocol.specs.format.Trimming.{trimmed}
 use Rattle.lp_rebuild.specs.Rebuilding.{carried_point, fault_line, is_carried_answer, refusal_text}
 
 -- a line that names the line of the input on which the piece of an item begins, and says what is wrong with the item
@@ -32,3 +34,11 @@ pub record Takes (old : Progress) (answer : Result Line Fault) (new : Progress) 
       ++ (if is_carried_answer answer then [] else fault_line_at old.place (old.carried + old.refused + 1) (refusal_text answer))
   pub carried : new.carried ≡ (if is_carried_answer answer then old.carried + 1 else old.carried)
   pub refused : new.refused ≡ (if is_carried_answer answer then old.refused else old.refused + 1)
+
+-- the answer for a text was taken, and is the same in each dialect
+abbrev pub TakesInEach : Progress → List ℕ → Progress → Type 0
+TakesInEach old text new = (dialect : Dialect) → Takes old (answer dialect text) new
+
+-- a text is what is left of some text once it is trimmed
+abbrev pub IsTrimmed : List ℕ → Type 0
+IsTrimmed text = (piece : List ℕ) × (text ≡ trimmed piece)

@@ -1,17 +1,22 @@
 //! The lines of a text, written again.
-ghost use Rattle.std.specs.Prelude.{◌≡◌, ◌+◌, ◌<◌, ◌++◌, IfOk, IfSome, OnOk, Result, Ok, Err};
+ghost use Rattle.std.specs.Prelude.{◌≡◌, ◌+◌, ◌<◌, ◌≤◌, ◌++◌, length, IfOk, IfSome, OnOk, Result, Ok, Err};
 ghost use Rattle.influxdb_line_protocol.specs.code.Rules.{rules_of};
 ghost use Rattle.influxdb_line_protocol.specs.format.Readings.{Fault};
-ghost use Rattle.influxdb_line_protocol.specs.format.Points.{built_if_admitted, is_admitted_point};
-ghost use Rattle.influxdb_line_protocol.specs.format.Lines.{Line};
+ghost use Rattle.influxdb_line_protocol.specs.format.Points.{IsAsWritten, built};
+ghost use Rattle.influxdb_line_protocol.specs.format.Lines.{Line, answer};
+ghost use Rattle.influxdb_line_protocol.specs.format.Trimming.{trimmed};
 ghost use Rattle.influxdb_line_protocol.specs.code.Parsed.{line_read, parsed_point, Answers, IsReadLine};
 ghost use Rattle.influxdb_line_protocol.specs.code.ReadInto.{item_in};
 ghost use Rattle.lp_rebuild.specs.Rebuilding.{Rebuilds, RebuildsIn, ReadsBack, ReadsBackIn};
-ghost use Rattle.lp_rebuild.specs.RebuildSteps.{Refuses, Takes};
+ghost use Rattle.lp_rebuild.specs.RebuildSteps.{IsTrimmed, Refuses, Takes, TakesInEach};
 
+use influxdb_line_protocol::builder::is_as_written;
 use influxdb_line_protocol::{
-    Dialect, Error, LineProtocolBuilder, ParsedLine, laws, parse_lines_in, write_parsed,
+    Dialect, Error, LineProtocolBuilder, ParsedLine, TagSet, is_admitted, laws, split_lines_in,
+    write_line,
 };
+use lp_lines::read_into;
+use lp_values::trim::trimmed;
 use std::alloc::{AllocError, Global};
 use std::fmt::Display;
 use std::mem;
@@ -51,14 +56,14 @@ pub struct Progress {
 // What is wrong with a line that has a name that is not admitted.
 const NOT_ADMITTED: &str = "a name cannot be written again";
 
-// Writes the line again, after `batch`, where each of its names is admitted, and tells whether.
-fn carry(batch: Vec<u8>, line: &ParsedLine<'_>) -> Result<(Vec<u8>, bool), AllocError>
+// Writes the line again, after `batch`.
+fn append(batch: Vec<u8>, line: &ParsedLine<'_>) -> Result<Vec<u8>, AllocError>
     requires { IsReadLine line.now }
-    ensures batch { IfOk result (λ r. r.0.items ≡ batch.items ++ built_if_admitted (parsed_point line.now)) }
-    ensures admitted { IfOk result (λ r. r.1 ≡ is_admitted_point (parsed_point line.now)) }
+    ensures { IfOk result (λ longer. longer.items ≡ batch.items ++ built (parsed_point line.now)) }
 {
-    match write_parsed(LineProtocolBuilder::new_with(batch), line) {
-        Ok(written) => Ok((written.builder.build(), written.is_admitted)),
+    laws::lines_are_points();
+    match write_line(LineProtocolBuilder::new_with(batch), line) {
+        Ok(builder) => Ok(builder.build()),
         Err(_) => Err(AllocError),
     }
 }
@@ -89,12 +94,11 @@ fn take_line(alloc: Global, so_far: &mut Progress, line: &ParsedLine<'_>) -> Res
         (so_far.new.carried + so_far.new.refused ≡ so_far.old.carried + so_far.old.refused + 1) }
     ensures place { so_far.new.place ≡ so_far.old.place }
 {
-    let batch = mem::replace(&mut so_far.batch, Vec::new(alloc));
-    let (batch, is_admitted) = carry(batch, line)?;
-    so_far.batch = batch;
-    if !is_admitted {
+    if !is_admitted(line) {
         return refuse(so_far, NOT_ADMITTED);
     }
+    let batch = mem::replace(&mut so_far.batch, Vec::new(alloc));
+    so_far.batch = append(batch, line)?;
     so_far.carried += 1;
     Ok(())
 }
@@ -138,13 +142,81 @@ pub fn take(
     }
 }
 
+/// Takes the next item of a text, a line that is as the builder writes it: its text is copied.
+#[inline(always)]
+pub fn take_written(so_far: &mut Progress, text: &str) -> Result<(), AllocError>
+    requires room { so_far.old.carried + so_far.old.refused < usize.MAX }
+    requires written { IsAsWritten text.now }
+    ensures taken { OnOk result (TakesInEach so_far.old text.now so_far.new) }
+    ensures counted { OnOk result
+        (so_far.new.carried + so_far.new.refused ≡ so_far.old.carried + so_far.old.refused + 1) }
+    ensures place { so_far.new.place ≡ so_far.old.place }
+{
+    laws::written_lines_stay();
+    so_far.batch.reserve(text.len() + 1)?;
+    so_far.batch.extend_from_slice(text.as_bytes())?;
+    so_far.batch.push(b'\n')?;
+    so_far.carried += 1;
+    Ok(())
+}
+
+/// Takes the next item of a text, a line: it is read into `line`, as [`read_into`] does, and written again or refused.
+pub fn take_text<'a>(
+    alloc: Global,
+    dialect: Dialect,
+    so_far: &mut Progress,
+    text: &'a str,
+    line: &mut ParsedLine<'a>,
+    spare: &mut Option<TagSet<'a>>,
+) -> Result<(), AllocError>
+    requires room { so_far.old.carried + so_far.old.refused < usize.MAX }
+    requires trimmed { IsTrimmed text.now }
+    ensures taken { OnOk result (Takes so_far.old (answer (rules_of dialect) text.now) so_far.new) }
+    ensures counted { OnOk result
+        (so_far.new.carried + so_far.new.refused ≡ so_far.old.carried + so_far.old.refused + 1) }
+    ensures place { so_far.new.place ≡ so_far.old.place }
+{
+    let answer = read_into(alloc, dialect, text, line, spare);
+    take(alloc, so_far, &answer, line)
+}
+
+// Takes the next piece of a text: its line is copied where it is as the builder writes it, and else read into `line`. A blank
+// piece has none.
+#[inline(always)]
+fn take_piece<'a>(
+    alloc: Global,
+    dialect: Dialect,
+    so_far: &mut Progress,
+    piece: &'a str,
+    line: &mut ParsedLine<'a>,
+    spare: &mut Option<TagSet<'a>>,
+) -> Result<(), AllocError>
+    requires { so_far.old.carried + so_far.old.refused < usize.MAX }
+    ensures blank { length (trimmed piece.now) ≡ 0 → so_far.new ≡ so_far.old }
+    ensures taken { OnOk result (0 < length (trimmed piece.now)
+        → Takes so_far.old (answer (rules_of dialect) (trimmed piece.now)) so_far.new) }
+    ensures counted { OnOk result
+        (so_far.new.carried + so_far.new.refused ≤ so_far.old.carried + so_far.old.refused + 1) }
+    ensures place { so_far.new.place ≡ so_far.old.place }
+{
+    let text = trimmed(piece);
+    if text.is_empty() {
+        return Ok(());
+    }
+    if is_as_written(text) {
+        return take_written(so_far, text);
+    }
+    take_text(alloc, dialect, so_far, text, line, spare)
+}
+
 /// Writes again each line of a text whose names are all admitted, and refuses every other item.
 ///
 /// [`is_admitted`] says which lines these are. For every other item `faults` gains `item N: TEXT` and
 /// a newline, where TEXT is the error, or `a name cannot be written again`. With any text after it,
 /// `batch` reads back as the lines that were written, and then as that text alone.
 ///
-/// The text is read once. A carried line takes no memory but for the growth of `batch`.
+/// A line that is as the builder writes it is copied, and takes no memory but for the growth of `batch`. Another line is gone over
+/// twice: it is read after that was asked of its text, and its copies take memory.
 ///
 /// # Errors
 ///
@@ -172,7 +244,6 @@ pub fn rebuild_in(alloc: Global, dialect: Dialect, input: &str) -> Result<Rebuil
     ensures reads_back { IfOk result (λ r. ReadsBackIn (rules_of dialect) input.now r) }
 {
     laws::batch_reads_back();
-    laws::items_are_answers();
     laws::lines_are_points();
     laws::pieces_join();
     let mut so_far = Progress {
@@ -182,14 +253,11 @@ pub fn rebuild_in(alloc: Global, dialect: Dialect, input: &str) -> Result<Rebuil
         refused: 0,
         place: Place::ByNumber,
     };
-    let mut lines = parse_lines_in(alloc, dialect, input);
     let mut line = ParsedLine::new(alloc);
-    while let Some(answer) = lines.next_into(&mut line) {
-        let taken = {
-            let answer = answer;
-            take(alloc, &mut so_far, &answer, &line)
-        };
-        taken?;
+    let mut spare = None;
+    let mut pieces = split_lines_in(dialect, input);
+    while let Some(piece) = pieces.next() {
+        take_piece(alloc, dialect, &mut so_far, piece, &mut line, &mut spare)?;
     }
     Ok(Rebuilt {
         batch: so_far.batch,

@@ -1,24 +1,17 @@
 -- The steps of a relay, one after another.
-use Rattle.std.proofs.Common.{◌≡◌, ℕ, List, [], ◌∷◌, ◌++◌, map, string_bytes, codes}
-use Rattle.std.proofs.Common.{Option, Some, None, Result, Ok, Err, refl, sym, ap, subst, ◌∙◌, arith, append-nil}
+use Rattle.std.proofs.Common.{◌≡◌, ◌<◌, ℕ, List, [], ◌∷◌, ◌++◌, length, map, string_bytes, codes}
+use Rattle.std.proofs.Common.{Option, Result, Ok, Err, refl, sym, ap, subst, ◌∙◌, arith, append-nil}
 use Rattle.std.proofs.Common.{OnErr}
 use Rattle.std.specs.Str.{IsUtf8}
 use Rattle.std.proofs.lemmas.Str.{IsUtf8-nil}
-use Rattle.std.specs.List.{All}
 use Rattle.std.specs.Io.KnownBytes.{Appends}
 use Rattle.std.proofs.KnownBytes.{Appends-nil}
 use Rattle.influxdb_line_protocol.specs.format.Dialects.{Dialect}
-use Rattle.influxdb_line_protocol.specs.types.Error.{Error}
-use Rattle.influxdb_line_protocol.specs.types.ParsedLine.{ParsedLine}
 use Rattle.influxdb_line_protocol.specs.format.Readings.{Fault}
 use Rattle.influxdb_line_protocol.specs.format.Points.{built_all}
 use Rattle.influxdb_line_protocol.specs.format.Lines.{Line, answer}
 use Rattle.influxdb_line_protocol.specs.format.Trimming.{trimmed}
 use Rattle.influxdb_line_protocol.specs.format.Items.{answers_of_piece}
-use Rattle.influxdb_line_protocol.specs.format.Pieces.{IsLastPiece, Left, Pieces.last, PiecesLeft}
-use Rattle.influxdb_line_protocol.specs.code.Parsed.{Answers}
-use Rattle.influxdb_line_protocol.specs.code.ParseSteps.{GivesItem, HadBlankPieces, IsBlankPiece}
-use Rattle.influxdb_line_protocol.specs.laws.Laws.{PiecesExist, PiecesAreUnique}
 use Rattle.lp_rebuild.specs.declared.batch.Progress.{Progress}
 use Rattle.lp_rebuild.specs.Rebuilding.{carried_point, is_carried_answer}
 use Rattle.lp_rebuild.specs.RebuildSteps.{Refuses, Takes}
@@ -73,54 +66,20 @@ takes_too_long old new r =
       refused = r.refused;
     }
 
--- two lists that end alike, of which one has one element
-one_only : {X : Type 0} (xs : List X) (x y : X) (ys : List X) → xs ++ x ∷ ys ≡ y ∷ [] → x ≡ y
-one_only [] x y ys e = cc
-one_only (z ∷ []) x y ys e = absurd (cc)
-one_only (z ∷ (w ∷ zs)) x y ys e = absurd (cc)
-
--- some pieces are left, whatever they are
-some_left : PiecesExist → (dialect : Dialect) (text : Option (List ℕ))
-    → (others : List (List ℕ)) × PiecesLeft (record { dialect = dialect; text = text }) others
-some_left exist dialect None = ([], refl)
-some_left exist dialect (Some text) = exist dialect text
-
--- the item that is given for a text of one piece is its answer
-pub piece_item : PiecesExist → PiecesAreUnique → (dialect : Dialect) (piece : List ℕ) → IsLastPiece dialect piece
-    → (after : Left) (item : Result ParsedLine Error) → GivesItem (record { dialect = dialect; text = Some piece }) (Some item) after
-    → (answer : Result Line Fault) × Answers item answer × (answers_of_piece dialect piece ≡ answer ∷ [])
-piece_item exist unique dialect piece h after item gives =
-    let left = some_left exist after.dialect after.text in
-    let g = gives.1 left.0 left.1 in
-    let same : g.piece ≡ piece =
-    one_only g.skipped g.piece piece left.0 (unique dialect piece (g.skipped ++ g.piece ∷ left.0) (piece ∷ []) g.left (last piece h)) in (
-      answer dialect (trimmed g.piece),
-      g.item_is.answers,
-      ap (answers_of_piece dialect) (sym same) ∙ piece_answers dialect g.piece g.some,
-    )
-
--- a text of one piece that has no item has no answer
-pub piece_blank : PiecesAreUnique → (dialect : Dialect) (piece : List ℕ) → IsLastPiece dialect piece
-    → HadBlankPieces (record { dialect = dialect; text = Some piece }) → answers_of_piece dialect piece ≡ []
-piece_blank unique dialect piece h blank =
-    sym (append-nil (answers_of_piece dialect piece))
-    ∙ blank_answers dialect (piece ∷ [])
-    (subst (All IsBlankPiece) (unique dialect piece blank.skipped (piece ∷ []) blank.left (last piece h)) blank.blank)
-
--- the items of a text that was answered were taken
-pub takes_text : (dialect : Dialect) (piece : List ℕ) (item : Result ParsedLine Error) (old new : Progress)
-    → ((answer : Result Line Fault) × Answers item answer × (answers_of_piece dialect piece ≡ answer ∷ []))
-    → ((answer : Result Line Fault) → Answers item answer → Takes old answer new)
+-- the line of a piece is its one item
+pub takes_line : (dialect : Dialect) (piece : List ℕ) (old new : Progress) → 0 < length (trimmed piece)
+    → Takes old (answer dialect (trimmed piece)) new
     → TakesItems (made old) (map answered (answers_of_piece dialect piece)) (made new)
-takes_text dialect piece item old new is takes =
-    subst (λ (l : List (Result Line Fault)). TakesItems (made old) (map answered l) (made new)) (sym is.2)
-    (takes_answer old is.0 new (takes is.0 is.1))
+takes_line dialect piece old new some takes =
+    subst (λ (l : List (Result Line Fault)). TakesItems (made old) (map answered l) (made new)) (sym (piece_answers dialect piece some))
+    (takes_answer old (answer dialect (trimmed piece)) new takes)
 
--- a blank text has none
-pub takes_blank : (dialect : Dialect) (piece : List ℕ) (old : Progress) → answers_of_piece dialect piece ≡ []
+-- a blank piece has none
+pub takes_blank : (dialect : Dialect) (piece : List ℕ) (old : Progress) → length (trimmed piece) ≡ 0
     → TakesItems (made old) (map answered (answers_of_piece dialect piece)) (made old)
-takes_blank dialect piece old is =
-    subst (λ (l : List (Result Line Fault)). TakesItems (made old) (map answered l) (made old)) (sym is) (takes_nothing (made old))
+takes_blank dialect piece old blank =
+    subst (λ (l : List (Result Line Fault)). TakesItems (made old) (map answered l) (made old)) (sym (blank_answers dialect piece blank))
+    (takes_nothing (made old))
 
 -- the items of a piece are those of its text
 pub takes_bytes : (dialect : Dialect) (text piece : List ℕ) (old new : Made) → text ≡ piece → IsUtf8 piece

@@ -2,18 +2,21 @@
 ghost use Rattle.std.specs.Prelude.{◌≡◌, ◌+◌, ◌<◌, ◌≤◌, length, map, IfOk, IsUtf8, MatchResult, OnOk};
 ghost use Rattle.influxdb_line_protocol.specs.code.Rules.{rules_of};
 ghost use Rattle.influxdb_line_protocol.specs.format.Bytes.{newlines_in};
-ghost use Rattle.influxdb_line_protocol.specs.format.Pieces.{IsLastPiece};
+ghost use Rattle.influxdb_line_protocol.specs.format.Lines.{answer};
 ghost use Rattle.influxdb_line_protocol.specs.format.Items.{answers_of_piece};
+ghost use Rattle.lp_rebuild.specs.RebuildSteps.{IsTrimmed, Takes};
 ghost use Rattle.lp_relay_core.specs.Relaying.{answered, items_of_bytes};
 ghost use Rattle.lp_relay_core.specs.RelaySteps.{HoldsLess, TakesItems, first_place, items_given, made, made_of_none};
 ghost use Rattle.lp_relay_core.specs.RelaySteps.{newlines_given, place_after};
 
+use influxdb_line_protocol::builder::is_as_written;
 use influxdb_line_protocol::{
-    Dialect, EscapedStr, FieldSet, ParsedLine, PieceTooLong, Series, TagSet, laws, parse_lines_in,
+    Dialect, EscapedStr, FieldSet, ParsedLine, PieceTooLong, Series, TagSet,
 };
 use lp_lines::freeing::{forget_line, free_line};
-use lp_rebuild::batch::{Place, Progress, refuse, take};
+use lp_rebuild::batch::{Place, Progress, refuse, take_text, take_written};
 use lp_rebuild::program::BLOCK;
+use lp_values::trim::trimmed;
 use simdutf8::basic::{self, Utf8Error};
 use std::alloc::{AllocError, Global};
 use std::str;
@@ -50,47 +53,19 @@ pub(crate) fn nothing_made(alloc: Global, numbering: Numbering) -> Progress
     }
 }
 
-// Takes the text of a piece by way of a line: it is written again or refused, unless it is blank.
-#[inline(always)]
-fn take_by_line<'a>(
-    alloc: Global,
-    dialect: Dialect,
-    so_far: &mut Progress,
-    text: &'a str,
-    line: &mut ParsedLine<'a>,
-) -> Result<(), AllocError>
-    requires room { so_far.old.carried + so_far.old.refused < usize.MAX }
-    requires piece { IsLastPiece (rules_of dialect) text.now }
-    ensures taken { OnOk result
-        (TakesItems (made so_far.old) (map answered (answers_of_piece (rules_of dialect) text.now)) (made so_far.new)) }
-    ensures counted { OnOk result
-        (so_far.new.carried + so_far.new.refused ≤ so_far.old.carried + so_far.old.refused + 1) }
-{
-    laws::items_are_answers();
-    laws::pieces_join();
-    let mut lines = parse_lines_in(alloc, dialect, text);
-    match lines.next_into(line) {
-        Some(answer) => {
-            let answer = answer;
-            take(alloc, so_far, &answer, line)
-        }
-        None => Ok(()),
-    }
-}
-
-// Takes the text of a piece: its line is written again or refused, unless it is blank.
-fn take_text(
+// Takes a line by way of a `ParsedLine`: it is written again or refused.
+#[inline(never)]
+fn take_by_line(
     alloc: Global,
     dialect: Dialect,
     so_far: &mut Progress,
     text: &str,
 ) -> Result<(), AllocError>
     requires room { so_far.old.carried + so_far.old.refused < usize.MAX }
-    requires piece { IsLastPiece (rules_of dialect) text.now }
-    ensures taken { OnOk result
-        (TakesItems (made so_far.old) (map answered (answers_of_piece (rules_of dialect) text.now)) (made so_far.new)) }
+    requires trimmed { IsTrimmed text.now }
+    ensures taken { OnOk result (Takes so_far.old (answer (rules_of dialect) text.now) so_far.new) }
     ensures counted { OnOk result
-        (so_far.new.carried + so_far.new.refused ≤ so_far.old.carried + so_far.old.refused + 1) }
+        (so_far.new.carried + so_far.new.refused ≡ so_far.old.carried + so_far.old.refused + 1) }
 {
     let mut line = ParsedLine {
         series: Series {
@@ -101,10 +76,35 @@ fn take_text(
         field_set: FieldSet::new(alloc),
         timestamp: None,
     };
-    let taken = take_by_line(alloc, dialect, so_far, text, &mut line);
+    let taken = take_text(alloc, dialect, so_far, text, &mut line, &mut None);
     free_line(alloc, &mut line);
     forget_line(line);
     taken
+}
+
+// Takes the text of a piece: its line is copied where it is as the builder writes it, and else taken by way of a `ParsedLine`. A
+// blank piece has none.
+#[inline(always)]
+fn take_trimmed(
+    alloc: Global,
+    dialect: Dialect,
+    so_far: &mut Progress,
+    piece: &str,
+) -> Result<(), AllocError>
+    requires { so_far.old.carried + so_far.old.refused < usize.MAX }
+    ensures taken { OnOk result
+        (TakesItems (made so_far.old) (map answered (answers_of_piece (rules_of dialect) piece.now)) (made so_far.new)) }
+    ensures counted { OnOk result
+        (so_far.new.carried + so_far.new.refused ≤ so_far.old.carried + so_far.old.refused + 1) }
+{
+    let text = trimmed(piece);
+    if text.is_empty() {
+        return Ok(());
+    }
+    if is_as_written(text) {
+        return take_written(so_far, text);
+    }
+    take_by_line(alloc, dialect, so_far, text)
 }
 
 // From this length on `simdutf8` tests bytes. It is several times as fast as std where they are not ASCII; where they are, it
@@ -129,7 +129,6 @@ fn take_bytes(
     piece: &[u8],
 ) -> Result<(), AllocError>
     requires room { so_far.old.carried + so_far.old.refused < usize.MAX }
-    requires piece { IsLastPiece (rules_of dialect) piece.now }
     ensures taken { OnOk result
         (TakesItems (made so_far.old) (items_of_bytes (rules_of dialect) piece.now) (made so_far.new)) }
     ensures counted { OnOk result
@@ -139,7 +138,7 @@ fn take_bytes(
         return Ok(());
     }
     match text_of(piece) {
-        Ok(text) => take_text(alloc, dialect, so_far, text),
+        Ok(text) => take_trimmed(alloc, dialect, so_far, text),
         Err(_) => refuse(so_far, NOT_UTF8),
     }
 }
@@ -152,7 +151,6 @@ fn take_given(
     piece: Result<&[u8], PieceTooLong>,
 ) -> Result<(), AllocError>
     requires room { so_far.old.carried + so_far.old.refused < usize.MAX }
-    requires piece { IfOk piece (λ bytes. IsLastPiece (rules_of dialect) bytes.now) }
     ensures taken { OnOk result
         (TakesItems (made so_far.old) (items_given (rules_of dialect) piece.entry) (made so_far.new)) }
     ensures counted { OnOk result
@@ -202,7 +200,6 @@ pub(crate) fn take_piece(
 ) -> Result<(), AllocError>
     requires fits { so_far.old.carried + so_far.old.refused ≤ usize.MAX }
     requires few { HoldsLess BLOCK so_far.old }
-    requires piece { IfOk piece (λ bytes. IsLastPiece (rules_of dialect) bytes.now) }
     ensures taken { OnOk result
         (TakesItems (made so_far.old) (items_given (rules_of dialect) piece.entry) (made so_far.new)) }
     ensures place { OnOk result (so_far.new.place ≡ place_after so_far.old.place (newlines_given piece.entry)) }

@@ -1,7 +1,7 @@
 //! Which bytes of one load end a token or are backslashes.
-ghost use Rattle.std.specs.Prelude.{◌≡◌, ◌+◌, ◌<◌, ◌≤◌, bit_and, false, length, map, slice_index};
+ghost use Rattle.std.specs.Prelude.{◌≡◌, ◌+◌, ◌<◌, ◌≤◌, bit_and, false, length, map, not, slice_index};
 ghost use Rattle.lp_format.specs.format.Bytes.{is_one_of};
-ghost use Rattle.lp_scan.specs.code.Tokens.{is_end, is_plain, known_of, stops_of};
+ghost use Rattle.lp_scan.specs.code.Tokens.{is_end, is_mark, is_plain, known_of, stops_of};
 ghost use Rattle.lp_scan.specs.code.Lanes.{IsRunIn, first_set, mask_of};
 
 use crate::scan::WIDE;
@@ -63,6 +63,32 @@ pub fn end_mask(kind: TokenKind, bytes: &[u8], at: usize) -> u64
             (backslashes | quotes).to_bitmask()
         }
     }
+}
+
+/// The mask of those of the 16 bytes from `at` on that end a token of this kind where they are bare, or that get a backslash
+/// in it.
+#[inline(always)]
+pub fn mark_mask(kind: TokenKind, bytes: &[u8], at: usize) -> u64
+    requires { at + LANES ≤ length bytes.now }
+    ensures { result ≡ mask_of (is_mark kind) bytes.now at LANES }
+{
+    match kind {
+        TokenKind::Measurement | TokenKind::String => end_mask(kind, bytes, at),
+        TokenKind::TagKey | TokenKind::TagValue | TokenKind::FieldKey => {
+            let v = u8x16::from_slice(&bytes[at..]);
+            let ends = by_low_half(KEY_ENDS, v).simd_eq(v);
+            (ends | v.simd_eq(u8x16::splat(b','))).to_bitmask()
+        }
+    }
+}
+
+/// How many of the 16 bytes from `at` on come before the first that ends a token of this kind, or that gets a backslash in it.
+#[inline(always)]
+pub fn unmarked_run(kind: TokenKind, bytes: &[u8], at: usize) -> usize
+    requires { at + LANES ≤ length bytes.now }
+    ensures { IsRunIn (λ b. not (is_mark kind b)) bytes.now at LANES result }
+{
+    first_set(mark_mask(kind, bytes, at), LANES)
 }
 
 /// The mask of those of the 64 bytes from `at` on that end a token of this kind where they are bare.

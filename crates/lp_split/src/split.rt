@@ -1,16 +1,15 @@
 //! The pieces of a text.
 
-ghost use Rattle.std.specs.Prelude.{◌≡◌, ◌≢◌, ◌+◌, ◌-◌, ◌/◌, ◌^◌, ◌<◌, ◌≤◌, ◌==◌, ◌||◌, length, take, drop, option_map, slice_index};
+ghost use Rattle.std.specs.Prelude.{◌≡◌, ◌≢◌, ◌+◌, ◌/◌, ◌^◌, ◌<◌, ◌≤◌, ◌==◌, ◌||◌, length, take, drop, option_map, slice_index};
 ghost use Rattle.std.specs.Prelude.{IfSome, MatchOption, true, false};
 ghost use Rattle.std.specs.Iterator.{at_most};
-ghost use Rattle.std.specs.List.{All, count_by, range_with_len};
-ghost use Rattle.lp_format.specs.format.Bytes.{backslash, newline, space, quote};
+ghost use Rattle.std.specs.List.{All, count_by};
+ghost use Rattle.lp_format.specs.format.Bytes.{backslash, newline, quote};
 ghost use Rattle.memchr.specs.Find.{IsFirstByte, is_byte3};
 ghost use Rattle.lp_scan.specs.code.Lanes.{mask_of};
-ghost use Rattle.lp_format.specs.format.Escapes.{first_bare, is_bare_at, IsBareAfter, IsPassed};
-ghost use Rattle.lp_split.specs.code.Ahead.{IsAhead, AreSeen, IsWalked};
-ghost use Rattle.lp_scan.specs.code.Scan.{mask_at};
-ghost use Rattle.lp_split.specs.code.Stops.{is_stop, is_mark};
+ghost use Rattle.lp_format.specs.format.Escapes.{IsBareAfter};
+ghost use Rattle.lp_split.specs.code.Ahead.{IsAhead, AreSeen};
+ghost use Rattle.lp_split.specs.code.Stops.{is_stop, is_mark, EndsAt, IsBarePassed, IsStretch};
 ghost use Rattle.lp_format.specs.format.Pieces.{begins_comment, IsFirstCut, GivesPiece, most_pieces};
 ghost use Rattle.lp_format.specs.format.Dialects.{Crate};
 ghost use Rattle.lp_split.specs.code.Rules.{rules_of};
@@ -24,6 +23,7 @@ use std::simd::prelude::*;
 mod resumed;
 mod tracked;
 
+use resumed::cut_from;
 pub(crate) use resumed::{Search, search_on};
 pub(crate) use tracked::{Track, track_on};
 
@@ -82,10 +82,10 @@ fn stops_in(stops: Stops, text: &[u8], at: usize) -> u64
 #[inline(always)]
 fn stop_in(stops: Stops, text: &[u8], at: usize, backslashes: u64) -> usize
     requires room { at + WIDE < length text.now }
-    requires passed { IsPassed (is_stop stops) text.now at }
+    requires passed { IsBarePassed (is_stop stops) text.now at }
     requires given { backslashes ≡ mask_of (λ b. b == backslash) text.now at WIDE }
     ensures within { result ≤ WIDE + 1 }
-    ensures passed { IsPassed (is_stop stops) text.now (at + result) }
+    ensures passed { IsBarePassed (is_stop stops) text.now (at + result) }
     ensures stops { result < WIDE → is_stop stops (slice_index text.now (at + result)) ≡ true }
 {
     let run = first_set(bare(stops_in(stops, text, at), backslashes), WIDE);
@@ -96,7 +96,7 @@ fn stop_in(stops: Stops, text: &[u8], at: usize, backslashes: u64) -> usize
 }
 
 // The place of the first byte that ends a stretch or is a backslash: `memchr3` looks for these three
-// in a head or a plain stretch, `memchr2` for the backslash and the quote in a quoted one.
+// in a head, `memchr2` for the backslash and the quote in a quoted stretch.
 #[inline(always)]
 fn next_mark(stops: Stops, text: &[u8]) -> Option<usize>
     ensures { IsFirstByte (is_mark stops) text.now result }
@@ -107,16 +107,15 @@ fn next_mark(stops: Stops, text: &[u8]) -> Option<usize>
     memchr3(b'\\', stops.first, stops.second, text)
 }
 
-// How many bytes come before the first bare one that ends a stretch, or all of them, where there
-// is none before `from`. Wide loads go on as long as they show something near.
-#[inline(never)]
-fn far_len(stops: Stops, text: &[u8], from: usize) -> usize
-    requires escapes { is_stop stops backslash ≡ false }
-    requires passed { IsPassed (is_stop stops) text.now from }
-    ensures within { result ≤ length text.now }
-    ensures value { result ≡ first_bare (is_stop stops) text.now }
+// How many bytes come before the first bare one that ends a stretch; where there is none all of them, but for a bare backslash
+// at the end, which escapes what comes. Wide loads look at them as long as they show something near, and then `memchr`.
+#[inline(always)]
+fn bare_len(stops: Stops, text: &[u8]) -> usize
+    requires { is_stop stops backslash ≡ false }
+    ensures passed { IsBarePassed (is_stop stops) text.now result }
+    ensures ends { result < length text.now → EndsAt (is_stop stops) text.now result }
 {
-    let (mut at, mut quiet) = (from, 0);
+    let (mut at, mut quiet) = (0, 0);
     loop {
         if quiet < NEAR && text.len() - at > WIDE {
             let backslashes = places_of(b'\\', text, at);
@@ -132,175 +131,104 @@ fn far_len(stops: Stops, text: &[u8], from: usize) -> usize
             return text.len();
         };
         at += found;
-        if text[at] != b'\\' {
+        if text[at] != b'\\' || at + 1 == text.len() {
             return at;
         }
         // The byte after a backslash is escaped.
-        at = (at + 2).min(text.len());
+        at += 2;
         quiet = 0;
     }
 }
 
-// How many bytes come before the first bare one that ends a stretch, or all of them: the near ones
-// are searched by wide loads, the far ones by `memchr`.
+// How many bytes come before the first bare one that ends a stretch, or all of them.
 #[inline(always)]
 fn stretch_len(stops: Stops, text: &[u8]) -> usize
     requires { is_stop stops backslash ≡ false }
-    ensures within { result ≤ length text.now }
-    ensures value { result ≡ first_bare (is_stop stops) text.now }
+    ensures { IsStretch (is_stop stops) text.now 0 result }
 {
-    let mut at = 0;
-    while at < NEAR && text.len() - at > WIDE {
-        let run = stop_in(stops, text, at, places_of(b'\\', text, at));
-        at += run;
-        if run < WIDE {
-            return at;
-        }
+    let len = bare_len(stops, text);
+    if len + 1 == text.len() && text[len] == b'\\' {
+        return text.len();
     }
-    far_len(stops, text, at)
+    len
 }
 
-/// How many bytes come before the first bare space or newline, or all of them.
-fn head_len(text: &[u8]) -> usize
-    ensures within { result ≤ length text.now }
-    ensures value { result ≡ first_bare (λ b. b == space || b == newline) text.now }
-{
-    stretch_len(HEAD, text)
-}
-
-// What a load showed of the bytes after a place: the masks of the bare newlines and quotes, of the bare `=` and of the bare
-// `,` among them, and how many bytes are passed with them.
+// What a load showed of the bytes from a place on: the masks of the bare newlines and quotes, of the bare `=` and of the bare
+// `,` among them, and where the bytes end that are passed with them.
 #[derive(Clone, Copy)]
 struct Ahead {
-    passed: usize,
     stops: u64,
     equals: u64,
     commas: u64,
+    end: usize,
 }
 
-const NOTHING: Ahead = Ahead {
-    passed: 0,
-    stops: 0,
-    equals: 0,
-    commas: 0,
-};
+// Nothing was seen from this place on.
+#[inline(always)]
+fn nothing_from(at: usize) -> Ahead
+    ensures { result ≡ record { stops = 0; equals = 0; commas = 0; end = at } }
+{
+    Ahead {
+        stops: 0,
+        equals: 0,
+        commas: 0,
+        end: at,
+    }
+}
 
-// What it showed of the bytes after one of them.
+// What the load of the 64 bytes from `at` on shows.
+#[inline(always)]
+fn load_ahead(text: &[u8], at: usize) -> Ahead
+    requires room { at + WIDE < length text.now }
+    requires starts_bare { IsBareAfter (take at text.now) }
+    ensures seen { IsAhead text.now at result }
+    ensures further { at < result.end }
+{
+    let backslashes = places_of(b'\\', text, at);
+    Ahead {
+        stops: bare(stops_in(PLAIN, text, at), backslashes),
+        equals: bare(places_of(b'=', text, at), backslashes),
+        commas: bare(places_of(b',', text, at), backslashes),
+        end: at + WIDE + escapes_next(backslashes),
+    }
+}
+
+// What it showed of the bytes after the first `run` and one more.
 #[inline(always)]
 fn seen_past(ahead: Ahead, run: usize) -> Ahead
-    requires inside { run < ahead.passed }
-    requires few { run < WIDE }
+    requires { run < WIDE }
     ensures { result ≡ record {
-      passed = ahead.passed - (run + 1);
       stops = ahead.stops / 2 ^ run / 2;
       equals = ahead.equals / 2 ^ run / 2;
       commas = ahead.commas / 2 ^ run / 2;
+      end = ahead.end;
     } }
 {
     Ahead {
-        passed: ahead.passed - (run + 1),
         stops: (ahead.stops >> run) >> 1,
         equals: (ahead.equals >> run) >> 1,
         commas: (ahead.commas >> run) >> 1,
+        end: ahead.end,
     }
 }
 
-// What the load of the 64 bytes from `at` on shows, of which the backslashes and the bare newlines and quotes are given.
+// Where a quoted stretch ends that begins at a place: at the first bare quote, or with the text; and what was seen after it.
 #[inline(always)]
-fn load_ahead(text: &[u8], at: usize, backslashes: u64, stops: u64) -> Ahead
-    requires room { at + WIDE < length text.now }
-    requires starts_bare { IsBareAfter (take at text.now) }
-    requires given { backslashes ≡ mask_of (λ b. b == backslash) text.now at WIDE }
-    requires stops { stops ≡ mask_at (is_bare_at (λ b. b == newline || b == quote) text.now) at WIDE }
-    ensures { (seen : IsAhead (drop at text.now) result) × (seen.count ≡ WIDE) }
-{
-    Ahead {
-        passed: WIDE + escapes_next(backslashes),
-        stops,
-        equals: bare(places_of(b'=', text, at), backslashes),
-        commas: bare(places_of(b',', text, at), backslashes),
-    }
-}
-
-/// How many bytes come before the first bare quote, or all of them, from what was seen ahead; and what is seen after it.
-#[inline(always)]
-fn quoted_run(text: &[u8], ahead: Ahead) -> (usize, Ahead)
-    requires { IsAhead text.now ahead }
-    ensures within { result.0 ≤ length text.now }
-    ensures value { result.0 ≡ first_bare (λ b. b == quote) text.now }
-    ensures later { IsAhead (drop (result.0 + 1) text.now) result.1 }
+fn quoted_end(text: &[u8], at: usize, ahead: Ahead) -> (usize, Ahead)
+    requires within { at ≤ length text.now }
+    requires is_bare { IsBareAfter (take at text.now) }
+    requires seen { IsAhead text.now at ahead }
+    ensures end { IsStretch (λ b. b == quote) text.now at result.0 }
+    ensures later { result.0 < length text.now → IsAhead text.now (result.0 + 1) result.1 }
 {
     if ahead.stops != 0 {
-        let at = ahead.stops.trailing_zeros() as usize;
-        if text[at] == b'"' {
-            return (at, seen_past(ahead, at));
+        let run = ahead.stops.trailing_zeros() as usize;
+        if text[at + run] == b'"' {
+            return (at + run, seen_past(ahead, run));
         }
     }
-    (stretch_len(QUOTED, text), NOTHING)
-}
-
-// A place of a plain stretch: how many bare `=` and `,` come before it if no newline ends the stretch there, whether
-// the stretch ends there, and what was seen after it.
-#[derive(Clone, Copy)]
-struct Walk {
-    at: usize,
-    equals: usize,
-    commas: usize,
-    ended: bool,
-    later: Ahead,
-}
-
-// How many of the first `n` of the 64 bytes from `at` on are this one and bare. The backslashes among them are given.
-#[inline(always)]
-fn bare_among(byte: u8, text: &[u8], at: usize, backslashes: u64, n: usize) -> usize
-    requires room { at + WIDE ≤ length text.now }
-    requires few { n ≤ WIDE }
-    requires starts_bare { IsBareAfter (take at text.now) }
-    requires given { backslashes ≡ mask_of (λ b. b == backslash) text.now at WIDE }
-    ensures few { result ≤ n }
-    ensures value { result ≡ count_by (is_bare_at (λ b. b == byte) text.now) (range_with_len at n) }
-{
-    ones_below(bare(places_of(byte, text, at), backslashes), n)
-}
-
-// One load further along a plain stretch: to the first bare newline or quote in it, or past it and what it escapes.
-#[inline(always)]
-fn plain_in(text: &[u8], from: Walk) -> Walk
-    requires room { from.at + WIDE < length text.now }
-    requires goes_on { from.ended ≡ false }
-    requires walked { IsWalked text.now from }
-    ensures walked { IsWalked text.now result }
-    ensures further { result.ended ≡ false → from.at < result.at }
-{
-    let backslashes = places_of(b'\\', text, from.at);
-    let stops = bare(stops_in(PLAIN, text, from.at), backslashes);
-    let run = first_set(stops, WIDE);
-    if run < WIDE && text[from.at + run] == b'\n' {
-        return Walk {
-            at: from.at + run,
-            ended: true,
-            later: NOTHING,
-            ..from
-        };
-    }
-    let equals = from.equals + bare_among(b'=', text, from.at, backslashes, run);
-    let commas = from.commas + bare_among(b',', text, from.at, backslashes, run);
-    if run < WIDE {
-        return Walk {
-            at: from.at + run,
-            equals,
-            commas,
-            ended: true,
-            later: seen_past(load_ahead(text, from.at, backslashes, stops), run),
-        };
-    }
-    Walk {
-        at: from.at + WIDE + escapes_next(backslashes),
-        equals,
-        commas,
-        ended: false,
-        later: NOTHING,
-    }
+    let end = at + stretch_len(QUOTED, &text[at..]);
+    (end, nothing_from(end + 1))
 }
 
 // How many bytes are this one, byte by byte.
@@ -329,152 +257,46 @@ pub(crate) fn count_of(byte: u8, text: &[u8]) -> usize
     count + count_few(byte, &text[at..])
 }
 
-// A search further along a plain stretch: to its end, or past the next backslash and what it escapes.
-#[inline(always)]
-fn plain_leap(text: &[u8], from: Walk) -> Walk
-    requires goes_on { from.ended ≡ false }
-    requires walked { IsWalked text.now from }
-    ensures walked { IsWalked text.now result }
-    ensures further { result.ended ≡ false → from.at < result.at }
-{
-    let rest = &text[from.at..];
-    let Some(run) = memchr3(b'\\', b'\n', b'"', rest) else {
-        return Walk {
-            at: text.len(),
-            ended: true,
-            later: NOTHING,
-            ..from
-        };
-    };
-    let walk = Walk {
-        at: from.at + run,
-        equals: from.equals + count_of(b'=', &rest[..run]),
-        commas: from.commas + count_of(b',', &rest[..run]),
-        ended: true,
-        later: NOTHING,
-    };
-    if text[walk.at] != b'\\' {
-        return walk;
-    }
-    // The byte after a backslash is escaped.
-    Walk {
-        at: (walk.at + 2).min(text.len()),
-        ended: false,
-        ..walk
-    }
-}
-
-// Where a plain stretch ends, from a place of it. Wide loads go on as long as they show something near.
-#[inline(never)]
-fn far_plain(text: &[u8], from: Walk) -> Walk
-    requires walked { IsWalked text.now from }
-    ensures walked { IsWalked text.now result }
-    ensures value { result.at ≡ first_bare (λ b. b == newline || b == quote) text.now }
-{
-    let (mut walk, mut quiet) = (from, 0);
-    while !walk.ended {
-        if quiet < NEAR && text.len() - walk.at > WIDE {
-            let backslashes = places_of(b'\\', text, walk.at);
-            quiet = if backslashes == 0 { quiet + WIDE } else { 0 };
-            walk = plain_in(text, walk);
-            continue;
-        }
-        walk = plain_leap(text, walk);
-        quiet = 0;
-    }
-    walk
-}
-
-// Where a plain stretch ends, if that was seen ahead.
-#[inline(always)]
-fn plain_ahead(text: &[u8], ahead: Ahead) -> Walk
-    requires seen { IsAhead text.now ahead }
-    requires some { 0 < ahead.stops }
-    ensures walked { IsWalked text.now result }
-    ensures value { result.at ≡ first_bare (λ b. b == newline || b == quote) text.now }
-{
-    let run = ahead.stops.trailing_zeros() as usize;
-    Walk {
-        at: run,
-        equals: ones_below(ahead.equals, run),
-        commas: ones_below(ahead.commas, run),
-        ended: true,
-        later: seen_past(ahead, run),
-    }
-}
-
-/// Where the plain stretch at the start of the text ends: at the first bare newline or quote, or with the text.
-#[inline(always)]
-fn plain_run(text: &[u8], ahead: Ahead) -> Walk
-    requires { IsAhead text.now ahead }
-    ensures walked { IsWalked text.now result }
-    ensures value { result.at ≡ first_bare (λ b. b == newline || b == quote) text.now }
-{
-    if ahead.stops != 0 {
-        return plain_ahead(text, ahead);
-    }
-    let mut walk = Walk {
-        at: ahead.passed,
-        equals: ones_below(ahead.equals, WIDE),
-        commas: ones_below(ahead.commas, WIDE),
-        ended: false,
-        later: NOTHING,
-    };
-    while walk.at < NEAR && text.len() - walk.at > WIDE {
-        walk = plain_in(text, walk);
-        if walk.ended {
-            return walk;
-        }
-    }
-    // Field by field, so that a walk that ends near stays in registers.
-    let far = far_plain(
-        text,
-        Walk {
-            at: walk.at,
-            equals: walk.equals,
-            commas: walk.commas,
-            ended: walk.ended,
-            later: walk.later,
-        },
-    );
-    Walk {
-        at: far.at,
-        equals: far.equals,
-        commas: far.commas,
-        ended: far.ended,
-        later: far.later,
-    }
-}
-
 /// The place of the newline that ends the first piece, or `None` where the text is one piece, with no regard to
-/// comments. It goes from stretch to stretch: no stretch is searched twice, and each byte is counted at most once.
+/// comments. Loads show where plain stretches end, and the last bytes of the text are tracked one by one.
 #[inline(never)]
 fn cut_by_stretches(text: &[u8]) -> Option<usize>
     ensures { IsFirstCut Crate text.now result }
 {
-    let head = head_len(text);
+    let head = stretch_len(HEAD, text);
     if *text.get(head)? == b'\n' {
         return Some(head);
     }
     let mut at = head + 1;
-    let (mut equals, mut commas, mut ahead) = (0, 0, NOTHING);
+    let (mut equals, mut commas, mut ahead) = (0, 0, nothing_from(at));
     loop {
-        // A plain stretch begins at `at`.
-        let plain = plain_run(&text[at..], ahead);
-        let end = at + plain.at;
-        if *text.get(end)? == b'\n' {
+        // A plain stretch begins or goes on at `at`.
+        if ahead.stops == 0 {
+            at = ahead.end;
+            equals += ones_below(ahead.equals, WIDE);
+            commas += ones_below(ahead.commas, WIDE);
+            if text.len() - at <= WIDE {
+                return match cut_from(text, at, Track::in_plain(equals, commas)) {
+                    Ok(cut) => Some(cut.at),
+                    Err(_) => None,
+                };
+            }
+            ahead = load_ahead(text, at);
+            continue;
+        }
+        let run = ahead.stops.trailing_zeros() as usize;
+        let end = at + run;
+        if text[end] == b'\n' {
             return Some(end);
         }
-        equals += plain.equals;
-        commas += plain.commas;
+        equals += ones_below(ahead.equals, run);
+        commas += ones_below(ahead.commas, run);
         at = end + 1;
-        ahead = plain.later;
+        ahead = seen_past(ahead, run);
         if commas < equals {
-            let (run, later) = quoted_run(&text[at..], ahead);
-            at += run;
+            (at, ahead) = quoted_end(text, at, ahead);
             text.get(at)?;
             at += 1;
-            ahead = later;
         }
     }
 }

@@ -2,4 +2,3 @@ pub mod tokens
 pub mod digits
 pub mod fields
 pub mod shown
-pub mod spelled

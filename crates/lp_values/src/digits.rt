@@ -213,7 +213,7 @@ fn parsed_integer(number: &str) -> Option<i64>
 
 /// The number that the digits `number`, at the start of `text`, write; `None` where no u64 holds it.
 #[inline(always)]
-pub(crate) fn unsigned_value(number: &str, text: &str) -> Option<u64>
+pub fn unsigned_value(number: &str, text: &str) -> Option<u64>
     requires numeral { IsNumeral 10 number.now }
     requires front { number.now ≡ take (length number.now) text.now }
     ensures { MatchOption result (2 ^ 64 ≤ digits_value 10 number.now) (λ value. (value < 2 ^ 64) × (value ≡ digits_value 10 number.now)) }
@@ -227,7 +227,7 @@ pub(crate) fn unsigned_value(number: &str, text: &str) -> Option<u64>
 
 /// The integer that `number`, at the start of `text`, writes, with `-` at the start or not; `None` where no i64 holds it.
 #[inline(always)]
-pub(crate) fn integer_value(number: &str, text: &str) -> Option<i64>
+pub fn integer_value(number: &str, text: &str) -> Option<i64>
     requires signed { IsSigned (codes "-") number.now }
     requires front { number.now ≡ take (length number.now) text.now }
     ensures { MatchOption result (fits_i64 (signed_digits_value 10 number.now) ≡ false)

@@ -4,10 +4,10 @@
 //! so they are a crate beside the splitter, below what reads a whole line.
 #![tactic(auto)]
 
-mod digits;
+pub mod digits;
 pub mod error;
 mod escaped;
-mod literals;
+pub mod literals;
 pub mod names;
 pub mod shown;
 pub mod spelled;

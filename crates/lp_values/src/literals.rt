@@ -25,9 +25,9 @@ fn negative_len(digits: &[u8]) -> usize
     if len == 0 { 0 } else { 1 + len }
 }
 
-// How many bytes of `text` an integer takes at the start: none, where none is there.
+/// How many bytes of `text` an integer takes at the start: none, where none is there.
 #[inline(always)]
-pub(crate) fn integer_len(text: &str) -> usize
+pub fn integer_len(text: &str) -> usize
     ensures value { result ≡ integer_len text.now }
     ensures boundary { IsCharBoundary text.now result }
 {
@@ -116,9 +116,9 @@ impl<'a> FloatText<'a> {
         self.text
     }
 
-    // The longest float at the start of `text`, and the rest, where an integer takes `whole` bytes.
+    /// The longest float at the start of `text`, and the rest, where an integer takes `whole` bytes.
     #[inline(always)]
-    pub(crate) fn front(text: &'a str, whole: usize) -> Option<(Self, &'a str)>
+    pub fn front(text: &'a str, whole: usize) -> Option<(Self, &'a str)>
         requires { whole ≡ integer_len text.now }
         ensures value { MatchOption result (float_at text.now ≡ miss) (λ p. float_at text.now ≡ reads (float (literal_of p.0)) p.1.now) }
         ensures less { IfSome result (λ p. length p.1.now < length text.now) }

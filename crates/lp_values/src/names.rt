@@ -16,9 +16,9 @@ pub enum NameKind {
 }
 
 impl NameKind {
-    // The kind of token that a name of this kind is.
+    /// The kind of token that a name of this kind is.
     #[inline(always)]
-    pub(crate) fn token(self) -> TokenKind
+    pub fn token(self) -> TokenKind
         ensures stops { stops_of result ≡ is_stop (kind_of self) }
         ensures known { known_of result ≡ escapable (kind_of self) }
     {

@@ -1,7 +1,6 @@
 //! Names, strings, values and faults as they are spelled in the input, with no memory.
 
-ghost use Rattle.std.specs.Prelude.{◌≡◌, ◌≤◌, ◌<◌, ◌+◌, ◌==◌, ◌&&◌, ◌++◌, ◌∷◌, [], true, drop, length, not, slice_index, take, IfOk, IfSome, IsOk};
-ghost use Rattle.std.specs.Prelude.{MatchOption};
+ghost use Rattle.std.specs.Prelude.{◌≡◌, ◌≤◌, ◌+◌, ◌++◌, true, drop, length, not, take, IfOk, IsOk};
 ghost use Rattle.std.specs.Str.{bytes_eq};
 ghost use Rattle.lp_format.specs.format.Bytes.{backslash, is_one_of};
 ghost use Rattle.lp_format.specs.format.Escapes.{without_escapes};
@@ -12,48 +11,22 @@ ghost use Rattle.lp_values.specs.code.Texts.{read_of};
 use crate::error::{Error, ErrorKind, OutOfRange};
 use crate::escaped::EscapedStr;
 use crate::literals::FloatText;
-use crate::tokens::{RawToken, backslash_at, escaped_str};
+use crate::tokens::{RawToken, escaped_str, stretch_at};
 use lp_scan::sets::TokenKind;
 use std::alloc::{AllocError, Global};
 
-// Whether a spelling begins with a known escape.
-#[inline(always)]
-fn begins_escaped(kind: TokenKind, spelling: &[u8]) -> bool
-    ensures { result ≡ (slice_index spelling.now 0 == backslash && is_one_of (known_of kind) (slice_index spelling.now 1)) }
-{
-    matches!(spelling, [b'\\', byte, ..] if kind.is_known(*byte))
-}
-
-// The first byte of the logical text of a spelling, and the spelling of the others. `None` where that text is empty.
-#[inline(always)]
-fn first_of(kind: TokenKind, spelling: &[u8]) -> Option<(u8, &[u8])>
-    ensures value { MatchOption result (without_escapes (known_of kind) spelling.now ≡ [])
-        (λ p. without_escapes (known_of kind) spelling.now ≡ p.0 ∷ without_escapes (known_of kind) p.1.now) }
-    ensures less { IfSome result (λ p. length p.1.now < length spelling.now) }
-{
-    let [byte, rest @ ..] = spelling else {
-        return None;
-    };
-    if begins_escaped(kind, spelling) {
-        return Some((rest[0], &rest[1..]));
-    }
-    Some((*byte, rest))
-}
-
-// Whether the logical text of a spelling is `other`, byte by byte.
+// Whether the logical text of a spelling is `other`, stretch by stretch.
 fn reads_as(kind: TokenKind, spelling: &[u8], other: &[u8]) -> bool
     ensures { result ≡ bytes_eq (without_escapes (known_of kind) spelling.now) other.now }
 {
-    let mut rest = spelling;
+    let mut at = 0;
     let mut left = other;
-    while let Some((byte, after)) = first_of(kind, rest) {
-        let [found, others @ ..] = left else {
+    while at < spelling.len() {
+        let (from, end) = stretch_at(kind, spelling, at);
+        let Some(others) = left.strip_prefix(&spelling[from..end]) else {
             return false;
         };
-        if byte != *found {
-            return false;
-        }
-        rest = after;
+        at = end;
         left = others;
     }
     left.is_empty()
@@ -70,35 +43,19 @@ fn put_run(run: &[u8], to: &mut [u8], place: usize)
     front.copy_from_slice(run);
 }
 
-// Puts what comes before the first backslash of a spelling into `to` from `place` on, and gives its length.
-#[inline(always)]
-fn put_plain(kind: TokenKind, spelling: &[u8], to: &mut [u8], place: usize) -> usize
-    requires { place + length (without_escapes (known_of kind) spelling.now) ≤ length to.old }
-    ensures within { result ≤ length spelling.now }
-    ensures front { take (place + result) to.new ++ without_escapes (known_of kind) (drop result spelling.now)
-        ≡ take place to.old ++ without_escapes (known_of kind) spelling.now }
-    ensures back { drop (place + result) to.new ≡ drop (place + result) to.old }
-    ensures room { place + result ≤ length to.new }
-{
-    let run = backslash_at(spelling, 0);
-    put_run(&spelling[..run], to, place);
-    run
-}
-
-/// Puts the logical text of a spelling to the front of `to`, stretch by stretch: what comes before a backslash is copied at once.
+/// Puts the logical text of a spelling to the front of `to`, stretch by stretch.
 pub fn put_front(kind: TokenKind, spelling: &[u8], to: &mut [u8])
     requires { length (without_escapes (known_of kind) spelling.now) ≤ length to.old }
     ensures { to.new ≡ without_escapes (known_of kind) spelling.now
         ++ drop (length (without_escapes (known_of kind) spelling.now)) to.old }
 {
-    let run = put_plain(kind, spelling, to, 0);
-    let mut place = run;
-    let mut rest = &spelling[run..];
-    while let Some((byte, after)) = first_of(kind, rest) {
-        to[place] = byte;
-        let run = put_plain(kind, after, to, place + 1);
-        place += 1 + run;
-        rest = &after[run..];
+    let mut place = 0;
+    let mut at = 0;
+    while at < spelling.len() {
+        let (from, end) = stretch_at(kind, spelling, at);
+        put_run(&spelling[from..end], to, place);
+        place += end - from;
+        at = end;
     }
 }
 

@@ -95,9 +95,9 @@ impl<'a> FieldValue<'a> {
     }
 }
 
-// Whether `byte` is at `place`.
+/// Whether `byte` is at `place`.
 #[inline(always)]
-pub(crate) fn has_byte_at(bytes: &[u8], place: usize, byte: u8) -> bool
+pub fn has_byte_at(bytes: &[u8], place: usize, byte: u8) -> bool
     requires { 0 < byte }
     ensures { result ≡ (slice_index bytes.now place == byte) }
 {

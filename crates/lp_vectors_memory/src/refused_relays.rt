@@ -5,8 +5,8 @@ use lp_rebuild::{DeviceFault, RunFault, Source};
 use lp_relay_core::relay;
 use lp_vectors_shared::drops::Basin;
 use lp_vectors_shared::exhausted_memory::ExhaustedMemory;
-use lp_vectors_shared::fault::Fault;
-use std::alloc::Global;
+use std::alloc::{AllocError, Global};
+use std::process::Abort;
 
 const TEXT: &[u8] = b"m a=T 5\n# c\nx\nw\\\t a=1i\n";
 
@@ -75,40 +75,37 @@ fn relay_with(alloc: Global, exhausts_at: usize, bytes_left: usize) -> Ended {
     Ended { fault, out, err }
 }
 
+// How many bytes are left at one read of each relay.
+const BYTES_LEFT: &[usize] = &[0, 16, 32, 64, 96, 128, 256, 1_536];
+
 // Each byte is a part of its own, after which all lines that have ended are written: the first one at the 8th byte, and the
 // fault of the third at the 14th.
+fn has_written_the_lines_before(
+    rt: &impl Abort,
+    alloc: Global,
+    exhausts_at: usize,
+    bytes_left: usize,
+) {
+    let ended = relay_with(alloc, exhausts_at, bytes_left);
+    let (out, err) = (ended.out.as_slice(), ended.err.as_slice());
+    let least_out: &[u8] = if exhausts_at > 8 { OUT } else { b"" };
+    let least_err: &[u8] = if exhausts_at > 14 { FIRST } else { b"" };
+    let is_right = match ended.fault {
+        None => out == OUT && err == ERR,
+        Some(fault) => fault == RunFault::OutOfMemory,
+    };
+    assert!(rt; is_right, "{bytes_left} at {exhausts_at}");
+    assert!(rt; OUT.starts_with(out), "{bytes_left} at {exhausts_at}");
+    assert!(rt; ERR.starts_with(err), "{bytes_left} at {exhausts_at}");
+    assert!(rt; out.starts_with(least_out), "{bytes_left} at {exhausts_at}");
+    assert!(rt; err.starts_with(least_err), "{bytes_left} at {exhausts_at}");
+}
+
 #[test]
 fn a_relay_that_is_refused_memory_has_written_the_lines_before(rt: HostRuntime) {
     for exhausts_at in 1..TEXT.len() + 2 {
-        for bytes_left in [0, 16, 32, 64, 96, 128, 256, 1_536] {
-            let ended = relay_with(rt.alloc(), exhausts_at, bytes_left);
-            if ended.fault.is_none() {
-                assert_eq!(rt; ended.out.as_slice(), OUT, "{bytes_left} at {exhausts_at}");
-                assert_eq!(rt; ended.err.as_slice(), ERR, "{bytes_left} at {exhausts_at}");
-            } else {
-                assert_eq!(rt;
-                    ended.fault,
-                    Some(RunFault::OutOfMemory),
-                    "{bytes_left} at {exhausts_at}"
-                );
-            }
-            assert!(rt;
-                OUT.starts_with(ended.out.as_slice()),
-                "{bytes_left} at {exhausts_at}"
-            );
-            assert!(rt;
-                ERR.starts_with(ended.err.as_slice()),
-                "{bytes_left} at {exhausts_at}"
-            );
-            if exhausts_at > 8 {
-                assert_eq!(rt; ended.out.as_slice(), OUT, "{bytes_left} at {exhausts_at}");
-            }
-            if exhausts_at > 14 {
-                assert!(rt;
-                    ended.err.as_slice().starts_with(FIRST),
-                    "{bytes_left} at {exhausts_at}"
-                );
-            }
+        for bytes_left in BYTES_LEFT {
+            has_written_the_lines_before(&rt, rt.alloc(), exhausts_at, *bytes_left);
         }
     }
 }
@@ -122,18 +119,32 @@ fn a_relay_whose_first_byte_has_no_room_has_written_nothing(rt: HostRuntime) {
     assert!(rt; ended.err.as_slice().is_empty());
 }
 
-#[test]
-fn a_relay_that_has_no_room_for_a_block_has_written_nothing(rt: HostRuntime) -> Result<(), Fault> {
-    for granted in [[].as_slice(), [512usize].as_slice()] {
-        let mut reader = b"m a=1i\n".as_slice();
-        let mut out = Basin::new(0);
-        let mut err = Basin::new(0);
-        let exhausted = ExhaustedMemory::leaving(rt.alloc(), granted)?;
-        let answer = relay(rt.alloc(), &mut reader, &mut out, &mut err);
-        drop(exhausted);
-        assert_eq!(rt; answer.err(), Some(RunFault::OutOfMemory));
-        assert!(rt; out.as_slice().is_empty());
-        assert!(rt; err.as_slice().is_empty());
-    }
+// A relay for whose block there is no room has written nothing. One request for each of these sizes is granted.
+fn has_no_room_for_a_block(
+    rt: &impl Abort,
+    alloc: Global,
+    granted: &[usize],
+) -> Result<(), AllocError> {
+    let mut reader = b"m a=1i\n".as_slice();
+    let (mut out, mut err) = (Basin::new(0), Basin::new(0));
+    let exhausted = ExhaustedMemory::leaving(alloc, granted)?;
+    let fault = relay(alloc, &mut reader, &mut out, &mut err).err();
+    drop(exhausted);
+    assert_eq!(rt;
+        fault,
+        Some(RunFault::OutOfMemory),
+        "{} granted",
+        granted.len()
+    );
+    assert!(rt; out.as_slice().is_empty(), "{} granted", granted.len());
+    assert!(rt; err.as_slice().is_empty(), "{} granted", granted.len());
     Ok(())
+}
+
+#[test]
+fn a_relay_that_has_no_room_for_a_block_has_written_nothing(
+    rt: HostRuntime,
+) -> Result<(), AllocError> {
+    has_no_room_for_a_block(&rt, rt.alloc(), &[])?;
+    has_no_room_for_a_block(&rt, rt.alloc(), &[512])
 }

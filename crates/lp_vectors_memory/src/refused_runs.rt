@@ -6,7 +6,6 @@ ghost use Rattle.std.specs.Prelude.{◌<◌};
 use lp_rebuild::{DeviceFault, RunFault, Source, rebuild, run};
 use lp_vectors_shared::drops::Basin;
 use lp_vectors_shared::exhausted_memory::ExhaustedMemory;
-use lp_vectors_shared::fault::Fault;
 use std::alloc::{AllocError, Global};
 use std::process::Abort;
 
@@ -48,18 +47,21 @@ fn is_rebuilt(
     }
 }
 
-// With so many bytes the first request is refused, or the second, and so on; with the last number none is.
+// With so many bytes the first request is refused, or the second, and so on.
+const REFUSED_WITH: &[usize] = &[0, 16, 32, 64, 80, 96];
+
+// With so many none is.
+const ENOUGH: usize = 1_536;
 
 #[test]
-fn each_request_of_a_rebuild_is_refused_in_turn(rt: HostRuntime) -> Result<(), Fault> {
+fn each_request_of_a_rebuild_is_refused_in_turn(rt: HostRuntime) -> Result<(), AllocError> {
     for place in 0..2 {
-        for bytes in [0, 16, 32, 64, 80, 96] {
-            assert!(rt;
-                !is_rebuilt(&rt, rt.alloc(), place, bytes)?,
-                "{bytes} bytes at {place}"
-            );
+        for bytes in REFUSED_WITH {
+            assert!(rt; *bytes < 4_096);
+            let is_rebuilt = is_rebuilt(&rt, rt.alloc(), place, *bytes)?;
+            assert!(rt; !is_rebuilt, "{bytes} bytes at {place}");
         }
-        assert!(rt; is_rebuilt(&rt, rt.alloc(), place, 1_536)?, "at {place}");
+        assert!(rt; is_rebuilt(&rt, rt.alloc(), place, ENOUGH)?, "at {place}");
     }
     Ok(())
 }
@@ -117,28 +119,40 @@ fn is_run(rt: &impl Abort, alloc: Global, place: usize, bytes: usize) -> bool
 #[test]
 fn a_run_that_is_refused_memory_writes_nothing(rt: HostRuntime) {
     for place in 0..2 {
-        for bytes in [0, 16, 32, 64, 80, 96] {
-            assert!(rt;
-                !is_run(&rt, rt.alloc(), place, bytes),
-                "{bytes} bytes at {place}"
-            );
+        for bytes in REFUSED_WITH {
+            let is_run = is_run(&rt, rt.alloc(), place, *bytes);
+            assert!(rt; !is_run, "{bytes} bytes at {place}");
         }
-        assert!(rt; is_run(&rt, rt.alloc(), place, 1_536), "at {place}");
+        assert!(rt; is_run(&rt, rt.alloc(), place, ENOUGH), "at {place}");
     }
 }
 
-#[test]
-fn a_run_that_is_refused_memory_as_it_reads_writes_nothing(rt: HostRuntime) -> Result<(), Fault> {
-    for granted in [[].as_slice(), [65_536usize].as_slice()] {
-        let mut reader = b"m a=1i\n".as_slice();
-        let mut out = Basin::new(0);
-        let mut err = Basin::new(0);
-        let exhausted = ExhaustedMemory::leaving(rt.alloc(), granted)?;
-        let answer = run(rt.alloc(), &mut reader, &mut out, &mut err);
-        drop(exhausted);
-        assert_eq!(rt; answer.err(), Some(RunFault::OutOfMemory));
-        assert!(rt; out.as_slice().is_empty());
-        assert!(rt; err.as_slice().is_empty());
-    }
+// A run that is refused memory as it reads writes nothing. One request for each of these sizes is granted.
+fn is_refused_as_it_reads(
+    rt: &impl Abort,
+    alloc: Global,
+    granted: &[usize],
+) -> Result<(), AllocError> {
+    let mut reader = b"m a=1i\n".as_slice();
+    let (mut out, mut err) = (Basin::new(0), Basin::new(0));
+    let exhausted = ExhaustedMemory::leaving(alloc, granted)?;
+    let fault = run(alloc, &mut reader, &mut out, &mut err).err();
+    drop(exhausted);
+    assert_eq!(rt;
+        fault,
+        Some(RunFault::OutOfMemory),
+        "{} granted",
+        granted.len()
+    );
+    assert!(rt; out.as_slice().is_empty(), "{} granted", granted.len());
+    assert!(rt; err.as_slice().is_empty(), "{} granted", granted.len());
     Ok(())
+}
+
+#[test]
+fn a_run_that_is_refused_memory_as_it_reads_writes_nothing(
+    rt: HostRuntime,
+) -> Result<(), AllocError> {
+    is_refused_as_it_reads(&rt, rt.alloc(), &[])?;
+    is_refused_as_it_reads(&rt, rt.alloc(), &[65_536])
 }

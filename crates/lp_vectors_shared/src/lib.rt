@@ -5,6 +5,7 @@ pub mod cuts;
 pub mod drops;
 pub mod exhausted_memory;
 pub mod fault;
+pub mod given;
 pub mod lent;
 pub mod random;
 pub mod render;

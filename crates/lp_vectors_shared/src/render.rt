@@ -4,6 +4,7 @@ use influxdb_line_protocol::{
     Dialect, Error, EscapedStr, FieldValue, ParsedLine, parse_lines_in, split_lines_in,
 };
 use std::alloc::{AllocError, Global};
+use std::borrow::CowStr;
 
 /// A name: `S` and its text where it is a part of the input or a fixed text, and `C` where it is a
 /// copy.
@@ -26,32 +27,58 @@ pub fn value(alloc: Global, value: &FieldValue<'_>) -> Result<String, AllocError
     }
 }
 
+// A key and its value, after what divides them from the text before.
+fn push_pair(
+    rendered: &mut String,
+    divider: &str,
+    key: &str,
+    value: &str,
+) -> Result<(), AllocError> {
+    rendered.push_str(divider)?;
+    rendered.push_str(key)?;
+    rendered.push_str("=")?;
+    rendered.push_str(value)
+}
+
+// One more tag.
+fn push_tag(
+    rendered: &mut String,
+    alloc: Global,
+    key: &EscapedStr<'_>,
+    tag_value: &EscapedStr<'_>,
+) -> Result<(), AllocError> {
+    let key = name(alloc, key)?;
+    let tag_value = name(alloc, tag_value)?;
+    push_pair(rendered, ",", key.as_str(), tag_value.as_str())
+}
+
+// One more field.
+fn push_field(
+    rendered: &mut String,
+    alloc: Global,
+    key: &EscapedStr<'_>,
+    field_value: &FieldValue<'_>,
+) -> Result<(), AllocError> {
+    let key = name(alloc, key)?;
+    let field_value = value(alloc, field_value)?;
+    push_pair(rendered, " ", key.as_str(), field_value.as_str())
+}
+
 /// What was read of a line.
 pub fn line(alloc: Global, line: &ParsedLine<'_>) -> Result<String, AllocError> {
     let mut rendered = name(alloc, &line.series.measurement)?;
     if let Some(tags) = &line.series.tag_set {
         for (key, tag_value) in tags.as_slice() {
-            let key = name(alloc, key)?;
-            let tag_value = name(alloc, tag_value)?;
-            rendered.push_str(",")?;
-            rendered.push_str(key.as_str())?;
-            rendered.push_str("=")?;
-            rendered.push_str(tag_value.as_str())?;
+            push_tag(&mut rendered, alloc, key, tag_value)?;
         }
     }
     for (key, field_value) in line.field_set.as_slice() {
-        let key = name(alloc, key)?;
-        let field_value = value(alloc, field_value)?;
-        rendered.push_str(" ")?;
-        rendered.push_str(key.as_str())?;
-        rendered.push_str("=")?;
-        rendered.push_str(field_value.as_str())?;
+        push_field(&mut rendered, alloc, key, field_value)?;
     }
-    if let Some(timestamp) = line.timestamp {
-        let timestamp = format!(in alloc; " at {timestamp}")?;
-        rendered.push_str(timestamp.as_str())?;
+    match line.timestamp {
+        Some(timestamp) => format!(in alloc; "{rendered} at {timestamp}"),
+        None => Ok(rendered),
     }
-    Ok(rendered)
 }
 
 /// A fault.
@@ -79,6 +106,18 @@ pub fn fault(alloc: Global, fault: &Error) -> Result<String, AllocError> {
     }
 }
 
+/// A base, `B` where it is borrowed and `O` where it is owned, or the fault.
+pub fn base(
+    alloc: Global,
+    base: &influxdb_line_protocol::Result<CowStr<'_>>,
+) -> Result<String, AllocError> {
+    match base {
+        Ok(CowStr::Borrowed(text)) => format!(in alloc; "B<{text}>"),
+        Ok(CowStr::Owned(text)) => format!(in alloc; "O<{text}>"),
+        Err(error) => fault(alloc, error),
+    }
+}
+
 /// The items of a text, divided by `|`.
 pub fn items(alloc: Global, input: &str) -> Result<String, AllocError> {
     items_in(alloc, Dialect::Crate, input)
@@ -103,16 +142,35 @@ fn push_item(rendered: &mut String, item: &str) -> Result<(), AllocError> {
     rendered.push_str(item)
 }
 
+// One more line.
+fn push_line(
+    rendered: &mut String,
+    alloc: Global,
+    parsed: &ParsedLine<'_>,
+) -> Result<(), AllocError> {
+    let one = line(alloc, parsed)?;
+    push_item(rendered, one.as_str())
+}
+
+// One more fault.
+fn push_fault(rendered: &mut String, alloc: Global, error: &Error) -> Result<(), AllocError> {
+    let one = fault(alloc, error)?;
+    push_item(rendered, one.as_str())
+}
+
 // The items of a text, by `next`.
 fn items_by_next(alloc: Global, dialect: Dialect, input: &str) -> Result<String, AllocError> {
     let mut rendered = String::new(alloc);
+    let mut pushed = Ok(());
     for item in parse_lines_in(alloc, dialect, input) {
-        let one = match &item {
-            Ok(parsed) => line(alloc, parsed)?,
-            Err(error) => fault(alloc, error)?,
-        };
-        push_item(&mut rendered, one.as_str())?;
+        if pushed.is_ok() {
+            pushed = match &item {
+                Ok(parsed) => push_line(&mut rendered, alloc, parsed),
+                Err(error) => push_fault(&mut rendered, alloc, error),
+            };
+        }
     }
+    pushed?;
     Ok(rendered)
 }
 
@@ -121,13 +179,16 @@ fn items_into_one(alloc: Global, dialect: Dialect, input: &str) -> Result<String
     let mut rendered = String::new(alloc);
     let mut lines = parse_lines_in(alloc, dialect, input);
     let mut parsed = ParsedLine::new(alloc);
+    let mut pushed = Ok(());
     while let Some(answer) = lines.next_into(&mut parsed) {
-        let one = match &answer {
-            Ok(()) => line(alloc, &parsed)?,
-            Err(error) => fault(alloc, error)?,
-        };
-        push_item(&mut rendered, one.as_str())?;
+        if pushed.is_ok() {
+            pushed = match &answer {
+                Ok(()) => push_line(&mut rendered, alloc, &parsed),
+                Err(error) => push_fault(&mut rendered, alloc, error),
+            };
+        }
     }
+    pushed?;
     Ok(rendered)
 }
 
@@ -176,10 +237,13 @@ pub fn rests_of_items_in(
 ) -> Result<String, AllocError> {
     let mut rendered = String::new(alloc);
     let mut lines = parse_lines_in(alloc, dialect, input);
-    push_rest(&mut rendered, lines.remainder())?;
+    let mut pushed = push_rest(&mut rendered, lines.remainder());
     while let Some(_item) = lines.next() {
-        push_rest(&mut rendered, lines.remainder())?;
+        if pushed.is_ok() {
+            pushed = push_rest(&mut rendered, lines.remainder());
+        }
     }
+    pushed?;
     push_rest(&mut rendered, lines.remainder())?;
     Ok(rendered)
 }

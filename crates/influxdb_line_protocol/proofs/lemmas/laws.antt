@@ -1,6 +1,6 @@
-pub mod all_events_come
-pub mod items_are_answers
-pub mod batch_reads_back
-pub mod meanings
-pub mod parsed_names
-pub mod bases_tell_series
+pub mod BasesApart
+pub mod BatchesReadBack
+pub mod FatalLines
+pub mod GivenItems
+pub mod NamesInLines
+pub mod WordsAndKeys

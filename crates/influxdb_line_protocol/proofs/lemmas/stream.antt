@@ -1,2 +1,1 @@
-pub mod StreamAnswers
 pub mod StreamRuns

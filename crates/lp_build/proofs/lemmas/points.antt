@@ -1,1 +1,2 @@
 pub mod LinesArePoints
+pub mod WrittenLinesStay

@@ -1,21 +1,14 @@
 -- What the calls of the builder write.
-use Rattle.std.specs.Prelude.{◌≡◌, ◌≢◌, ℕ, ◌+◌, ◌^◌, ◌<◌, ◌≤◌, ◌↔◌, List, ◌++◌, length, Result, Ok, Err, IfOk, IfErr, IsOk, MatchResult}
+use Rattle.std.specs.Prelude.{◌≡◌, ◌≢◌, ℕ, ◌+◌, ◌^◌, ◌<◌, ◌≤◌, ◌↔◌, List, ◌++◌, length, Result, IfOk, IfErr, IsOk, MatchResult}
 use Rattle.lp_build.specs.declared.builder.buffer.NoRoom.{NoRoom}
 use Rattle.lp_build.specs.declared.builder.buffer.NoRoom.TheVariants.{TooLong}
 use Rattle.lp_build.specs.declared.builder.LineProtocolBuilder.{LineProtocolBuilder}
 use Rattle.lp_build.specs.declared.builder.Refused.{Refused}
-use Rattle.lp_build.specs.declared.builder.BeforeMeasurement.{BeforeMeasurement}
-use Rattle.lp_build.specs.declared.builder.parsed.Written.{Written}
 use Rattle.lp_format.specs.format.Escapes.{escaped}
 
 -- the buffer that a builder writes to
 abbrev pub buffer_of : {B S : Type 0} → LineProtocolBuilder B S → B
 buffer_of b = b.buf
-
--- the answer of a call that may write nothing, without whether it wrote
-abbrev pub with_builder : {B S : Type 0} → Result (Written B) (Refused B S) → Result (LineProtocolBuilder B BeforeMeasurement) (Refused B S)
-with_builder (Ok w) = Ok w.builder
-with_builder (Err r) = Err r
 
 -- no byte of a text gets a backslash
 abbrev pub IsPlainText : List ℕ → List ℕ → Type 0

@@ -1,18 +1,16 @@
 -- The texts that the builder writes for the parts of a parsed line.
-use Rattle.std.specs.Prelude.{◌≡◌, ◌≢◌, ◌&&◌, ℕ, Bool, true, length, List, [], ◌∷◌, ◌++◌, map}
-use Rattle.std.specs.List.{AllByRecursion, flat_map, list_all}
+use Rattle.std.specs.Prelude.{ℕ, List, [], ◌∷◌, ◌++◌, map}
+use Rattle.std.specs.List.{AllByRecursion, flat_map}
 use Rattle.lp_values.specs.declared.escaped.EscapedStr.{EscapedStr}
 use Rattle.lp_values.specs.declared.values.FieldValue.{FieldValue}
-use Rattle.lp_lines.specs.declared.parsed.ParsedLine.{ParsedLine}
 use Rattle.lp_build.specs.declared.builder.lines.Parts.{Parts}
 use Rattle.lp_format.specs.format.Bytes.{newline, space}
 use Rattle.lp_values.specs.declared.values.FieldValue.TheVariants.{String}
 use Rattle.lp_format.specs.format.Names.{a_measurement, a_tag_key, a_tag_value, a_field_key, escapable}
-use Rattle.lp_format.specs.format.Values.{Value, quotable, string}
-use Rattle.lp_format.specs.format.Readings.{Text}
+use Rattle.lp_format.specs.format.Values.{quotable}
 use Rattle.lp_values.specs.code.Texts.{text_of}
 use Rattle.lp_build.specs.code.Built.{IsPlainText}
-use Rattle.lp_format.specs.format.Points.{Point, Tag, Field, is_admitted_name, is_admitted_tag, spelling, built_tag}
+use Rattle.lp_format.specs.format.Points.{Tag, Field, spelling, built_tag}
 use Rattle.lp_format.specs.format.Points.{built_value, built_fields, built_timestamp}
 use Rattle.lp_format.specs.format.Lines.{logical_tag, logical_field, logical_value}
 use Rattle.lp_lines.specs.code.Parsed.{tag_of, field_of}
@@ -66,33 +64,3 @@ pub record ArePlainParts (p : Parts) : Type 0 where
   pub measurement : IsPlainText (escapable a_measurement) p.measurement.now
   pub tags : AllByRecursion IsPlainTag p.tags.now
   pub fields : AllByRecursion IsPlainField p.fields.now
-
--- no byte of a field's key gets a backslash
-abbrev pub IsPlainKey : EscapedStr × FieldValue → Type 0
-IsPlainKey f = IsPlainText (escapable a_field_key) (text_of f.0)
-
--- a string as it can be read: where it is a part of the input, and not one byte, no byte of it gets a backslash
-abbrev pub IsReadString : Text → Type 0
-IsReadString t = t.is_single ≡ true → length t.bytes ≢ 1 → IsPlainText quotable t.bytes
-
--- a value as it can be read
-abbrev pub IsReadValue : Value Text → Type 0
-IsReadValue (string t) = IsReadString t
-IsReadValue other = Unit {0}
-
--- a field whose value is one that can be read
-abbrev pub HasReadValue : EscapedStr × FieldValue → Type 0
-HasReadValue f = IsReadValue (value_of f.1)
-
--- whether the names of the measurement and the tags of a point are admitted
-abbrev pub is_admitted_head : Point → Bool
-is_admitted_head p = is_admitted_name a_measurement p.measurement && list_all is_admitted_tag p.tags
-
--- they are, and a text is what the builder writes for them
-pub record IsHeadOf (text : List ℕ) (p : Point) : Type 0 where
-  pub is : text ≡ spelling a_measurement p.measurement ++ flat_map built_tag p.tags
-  pub admitted : is_admitted_head p ≡ true
-
--- what the builder writes for a line whose measurement and tags are written so
-abbrev pub text_after : List ℕ → ParsedLine → List ℕ
-text_after head l = head ++ fields_text space l.field_set.items ++ built_timestamp l.timestamp ++ newline ∷ []

@@ -68,7 +68,7 @@ fn may_hold_all(kind: NameKind, bytes: &[u8]) -> bool
 
 // Whether the name is admitted as one of this kind.
 #[tactic(auto, unfolding(lp_format::specs::format::Points::is_admitted_name))]
-pub(super) fn is_admitted_name(kind: NameKind, name: &EscapedStr<'_>) -> bool
+fn is_admitted_name(kind: NameKind, name: &EscapedStr<'_>) -> bool
     ensures { result ≡ is_admitted_name (kind_of kind) (text_of name.now) }
 {
     let bytes = name.as_str().as_bytes();
@@ -80,7 +80,7 @@ pub(super) fn is_admitted_name(kind: NameKind, name: &EscapedStr<'_>) -> bool
 }
 
 // Whether the key and the value of each tag are admitted.
-pub(super) fn are_tags_admitted(tags: &[(EscapedStr<'_>, EscapedStr<'_>)]) -> bool
+fn are_tags_admitted(tags: &[(EscapedStr<'_>, EscapedStr<'_>)]) -> bool
     ensures { result ≡ list_all (λ t. is_admitted_tag (point_tag t)) tags.now }
 {
     tags.iter().all(|(key, value)| {
@@ -89,7 +89,7 @@ pub(super) fn are_tags_admitted(tags: &[(EscapedStr<'_>, EscapedStr<'_>)]) -> bo
 }
 
 // Whether the key of each field is admitted.
-pub(super) fn are_fields_admitted(fields: &[(EscapedStr<'_>, values::FieldValue<'_>)]) -> bool
+fn are_fields_admitted(fields: &[(EscapedStr<'_>, values::FieldValue<'_>)]) -> bool
     ensures { result ≡ list_all (λ f. is_admitted_field (point_field f)) fields.now }
 {
     fields
@@ -112,9 +112,9 @@ pub fn is_admitted(line: &ParsedLine<'_>) -> bool
 
 // A value of a parsed line, as the builder takes it, and whether its text is known to get no backslash.
 #[derive(Clone, Copy)]
-pub(super) struct ReadValue<'l, 'a> {
-    pub(super) value: &'l values::FieldValue<'a>,
-    pub(super) is_plain: bool,
+struct ReadValue<'l, 'a> {
+    value: &'l values::FieldValue<'a>,
+    is_plain: bool,
     ghost told: { is_plain ≡ true → IsPlainValue value.now },
 }
 
@@ -158,7 +158,7 @@ fn measure_tag(tag: &(EscapedStr<'_>, EscapedStr<'_>)) -> Option<Extent>
 }
 
 // The length of the tags, each with its comma, where a `usize` holds it, and whether none gets a backslash.
-pub(super) fn measure_tags(tags: &[(EscapedStr<'_>, EscapedStr<'_>)]) -> Option<Extent>
+fn measure_tags(tags: &[(EscapedStr<'_>, EscapedStr<'_>)]) -> Option<Extent>
     ensures len { let text = flat_map tag_text tags.now in
         SomeIff (option_map (λ m. m.len) result) (length text < 2 ^ 64) (length text) }
     ensures plain { IfSome result (λ m. m.is_plain ≡ true → AllByRecursion IsPlainTag tags.now) }
@@ -274,7 +274,7 @@ fn put_fields<B: BufMut>(
 }
 
 // The length of the timestamp with the space before it: 0, where there is none.
-pub(super) fn timestamp_len(timestamp: Option<i64>) -> usize
+fn timestamp_len(timestamp: Option<i64>) -> usize
     ensures value { result ≡ length (built_timestamp timestamp) }
     ensures few { result ≤ 21 }
 {
@@ -286,7 +286,7 @@ pub(super) fn timestamp_len(timestamp: Option<i64>) -> usize
 }
 
 // Appends the timestamp, where there is one, with the space before it.
-pub(super) fn put_timestamp<B: BufMut>(buf: &mut B, timestamp: Option<i64>)
+fn put_timestamp<B: BufMut>(buf: &mut B, timestamp: Option<i64>)
     requires { length (built_timestamp timestamp) ≤ B.room buf.old }
     ensures bytes { B.bytes buf.new ≡ B.bytes buf.old ++ built_timestamp timestamp }
     ensures room { B.room buf.old ≤ B.room buf.new + length (built_timestamp timestamp) }

@@ -32,7 +32,7 @@ fn marks(kind: TokenKind) -> Marks
 
 // How many bytes of `text` get a backslash.
 #[inline(always)]
-pub(super) fn backslashes(kind: TokenKind, text: &[u8]) -> usize
+fn backslashes(kind: TokenKind, text: &[u8]) -> usize
     ensures { result ≡ count_by (is_one_of (known_of kind)) text.now }
 {
     marks::count(marks(kind), text)

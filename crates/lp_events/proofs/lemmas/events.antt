@@ -1,2 +1,1 @@
-pub mod EventLemmas
 pub mod LineEvents

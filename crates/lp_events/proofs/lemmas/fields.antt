@@ -1,2 +1,1 @@
 pub mod ManyLemmas
-pub mod SeriesEnds

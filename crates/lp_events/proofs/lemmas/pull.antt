@@ -1,2 +1,1 @@
 pub mod EventSteps
-pub mod NextEvents

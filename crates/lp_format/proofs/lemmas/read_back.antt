@@ -1,4 +1,2 @@
-pub mod FloatReadsBack
 pub mod IntegerReadsBack
 pub mod NameReadsBack
-pub mod ReadLines

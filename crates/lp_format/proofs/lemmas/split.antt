@@ -1,4 +1,2 @@
 pub mod SplitBare
-pub mod SplitMachine
 pub mod SplitPieces
-pub mod SplitShape

@@ -1,3 +1,2 @@
-pub mod StringLemmas
 pub mod ValueForms
 pub mod ValueLemmas

@@ -121,3 +121,10 @@ built_if_admitted p = if is_admitted_point p then built p else []
 -- what the builder writes for points
 abbrev pub built_all : List Point → List ℕ
 built_all points = flat_map built points
+
+-- a text is as written if the builder writes it, before a newline, for a point whose names are all admitted
+pub record IsAsWritten (text : List ℕ) : Type 0 where
+  pub point : Point
+  pub is_point : IsPoint point
+  pub admitted : is_admitted_point point ≡ true
+  pub written : line_of point ≡ text

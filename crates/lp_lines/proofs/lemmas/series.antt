@@ -1,4 +1,3 @@
 pub mod BaseLemmas
-pub mod BaseOrder
 pub mod BasesTellSeries
 pub mod SortedTags

@@ -1,5 +1,5 @@
 -- What a line is filled with as its parts are told.
-use Rattle.std.specs.Prelude.{◌≡◌, ◌<◌, ◌≤◌, ◌⊎◌, ◌++◌, ◌∷◌, ℕ, List, [], length, map, true, false, Option, Some, Result, Ok, Err}
+use Rattle.std.specs.Prelude.{◌≡◌, ◌≤◌, ◌⊎◌, ◌++◌, ◌∷◌, ℕ, List, [], length, map, true, false, Option, Some, Result, Ok, Err}
 use Rattle.std.specs.Option.{option_map}
 use Rattle.lp_format.specs.format.Lines.{Line, some_tags}
 use Rattle.lp_format.specs.format.Points.{Pair}
@@ -88,8 +88,8 @@ pub record HasRead (line : ParsedLine) (l : Line) : Type 0 where
 pub record FilledLine (old : Filling) (l : Line) (new : Filling) : Type 0 where
   pub fault : new.fault ≡ old.fault
   pub read : new.refused ≡ false → HasRead new.line.now l
-  pub needs : new.refused ≡ true → (is_single_line l ≡ false)
-      ⊎ ((tag_room old.line.now < length (some_tags l.tags)) ⊎ (field_room old.line.now < length l.fields))
+  pub fits : is_single_line l ≡ true → length (some_tags l.tags) ≤ tag_room old.line.now → length l.fields ≤ field_room old.line.now
+      → new.refused ≡ false
 
 -- the events of an answer were told: its line is filled, or its fault is kept
 abbrev pub FillsAnswer : Filling → Result Line Fault → Filling → Type 0

@@ -2,4 +2,3 @@ pub mod BareMasks
 pub mod EscapedMasks
 pub mod MaskBits
 pub mod MaskLemmas
-pub mod MaskPlaces

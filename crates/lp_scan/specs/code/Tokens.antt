@@ -2,7 +2,7 @@
 use Rattle.std.specs.Prelude.{ℕ, ◌==◌, ◌||◌, Bool, not, List}
 use Rattle.lp_scan.specs.declared.sets.TokenKind.{TokenKind}
 use Rattle.lp_scan.specs.declared.sets.TokenKind.TheVariants.{Measurement, TagKey, TagValue, FieldKey, String}
-use Rattle.lp_format.specs.format.Bytes.{quote, backslash}
+use Rattle.lp_format.specs.format.Bytes.{quote, backslash, is_one_of}
 use Rattle.lp_format.specs.format.Names.{a_measurement, a_tag_key, a_tag_value, a_field_key, is_stop, escapable}
 use Rattle.lp_format.specs.format.Values.{quotable}
 
@@ -29,3 +29,7 @@ is_end stops b = stops b || b == backslash
 -- whether a byte neither passes the test nor is a backslash
 abbrev pub is_plain : (ℕ → Bool) → ℕ → Bool
 is_plain stops b = not (is_end stops b)
+
+-- whether a byte ends a token of this kind where it is bare, or gets a backslash in it
+abbrev pub is_mark : TokenKind → ℕ → Bool
+is_mark kind b = stops_of kind b || is_one_of (known_of kind) b

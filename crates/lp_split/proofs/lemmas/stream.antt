@@ -1,2 +1,1 @@
-pub mod BoundedStreams
-pub mod LongerTexts
+pub mod HeldTexts

@@ -1,17 +1,22 @@
 -- What the bytes of a piece that are not kept say of the byte after them.
-use Rattle.std.specs.Prelude.{◌≡◌, ◌⊎◌, ℕ, ◌<◌, max, List, [], ◌∷◌, ◌++◌, length, take, slice_index, Option, Some, None, Result, Ok, Err}
-use Rattle.std.specs.List.{All}
-use Rattle.lp_format.specs.format.Dialects.{Dialect, Strict}
+use Rattle.std.specs.Prelude.{◌≡◌, ◌⊎◌, ℕ, ◌+◌, ◌<◌, ◌≤◌, ◌==◌, false, max, List, [], ◌∷◌, ◌++◌, length, take}
+use Rattle.std.specs.Prelude.{slice_index, Option, Some, None, Result, Ok, Err}
+use Rattle.std.specs.List.{All, count_by}
+use Rattle.lp_format.specs.format.Dialects.{Dialect, Crate, Strict}
 use Rattle.lp_split.specs.declared.split.resumed.Part.{Part}
 use Rattle.lp_split.specs.declared.split.resumed.Part.TheVariants.{Head, Plain, Quoted}
 use Rattle.lp_split.specs.declared.split.tracked.Place.{Place}
 use Rattle.lp_split.specs.declared.split.tracked.Track.{Track}
 use Rattle.lp_split.specs.declared.split.tracked.Track.TheVariants.{Comment, Blanks, Line}
-use Rattle.lp_format.specs.format.Bytes.{newline, space, tab}
+use Rattle.lp_format.specs.format.Bytes.{comma, equals, newline, space, tab}
 use Rattle.lp_format.specs.format.Escapes.{is_escaped_after, IsBareAfter}
 use Rattle.lp_format.specs.format.Piece.{EndsPlain, EndsQuoted, IsClosed, IsHead}
-use Rattle.lp_format.specs.format.Pieces.{IsComment, IsCutPiece}
-use Rattle.lp_split.specs.code.Searches.{IsCountOf, NeverComment}
+use Rattle.lp_format.specs.format.Pieces.{begins_comment, IsComment, IsCutPiece}
+
+-- as many `=` and as many `,` are counted
+pub record IsCountOf (counted : List ℕ) (equal_signs commas : ℕ) : Type 0 where
+  pub equals_is : equal_signs ≡ count_by (λ b. b == equals) counted
+  pub commas_is : commas ≡ count_by (λ b. b == comma) counted
 
 -- the bytes of a piece end in this part of it, with these counts
 abbrev pub EndsIn : Part → ℕ → ℕ → List ℕ → Type 0
@@ -29,6 +34,11 @@ abbrev pub Steps : Place → ℕ → Option Place → Type 0
 Steps place b None = (b ≡ newline) × ((bytes : List ℕ) → IsPlace bytes place → IsClosed bytes × IsBareAfter bytes)
 Steps place b (Some next) = (bytes : List ℕ) → IsPlace bytes place → IsPlace (bytes ++ b ∷ []) next
 
+-- whatever comes after it, the text begins no comment by the rules of the dialect
+abbrev pub NeverComment : Dialect → List ℕ → Type 0
+NeverComment Crate text = Unit {0}
+NeverComment Strict text = (rest : List ℕ) → begins_comment (text ++ rest) ≡ false
+
 -- the track of these bytes by the rules of a dialect: they begin a comment, or are blanks, which may yet begin one, or
 -- never do
 abbrev pub IsTrackOf : Dialect → List ℕ → Track → Type 0
@@ -42,6 +52,10 @@ Leads track b None = (b ≡ newline) × ((dialect : Dialect) (bytes : List ℕ) 
 Leads track b (Some next) =
     (dialect : Dialect) (bytes : List ℕ) → IsTrackOf dialect bytes track → IsTrackOf dialect (bytes ++ b ∷ []) next
 
+-- bytes that come after those of a track lead to another
+abbrev pub LeadsTo : List ℕ → Track → Track → Type 0
+LeadsTo text from to = (dialect : Dialect) (bytes : List ℕ) → IsTrackOf dialect bytes from → IsTrackOf dialect (bytes ++ text) to
+
 -- the greater one of its counts
 abbrev pub most_counted : Track → ℕ
 most_counted Comment = 0
@@ -53,5 +67,4 @@ abbrev pub TracksOn : List ℕ → Track → Result ℕ Track → Type 0
 TracksOn text from (Ok i) =
     (i < length text) × (slice_index text i ≡ newline)
     × ((dialect : Dialect) (bytes : List ℕ) → IsTrackOf dialect bytes from → IsCutPiece dialect (bytes ++ take i text))
-TracksOn text from (Err track) =
-    (dialect : Dialect) (bytes : List ℕ) → IsTrackOf dialect bytes from → IsTrackOf dialect (bytes ++ text) track
+TracksOn text from (Err track) = (most_counted track ≤ most_counted from + length text) × LeadsTo text from track

@@ -1,11 +1,14 @@
 //! The track of a piece whose bytes are not kept: what they say of the byte that comes next.
 
-ghost use Rattle.std.specs.Prelude.{◌≡◌, ◌+◌, ◌<◌, ◌≤◌, ◌^◌, [], false, true, length, IfSome};
+ghost use Rattle.std.specs.Prelude.{◌≡◌, ◌+◌, ◌<◌, ◌≤◌, ◌^◌, [], false, true, length, take, IfSome};
 ghost use Rattle.lp_split.specs.code.Rules.{rules_of};
-ghost use Rattle.lp_split.specs.code.Tracks.{IsTrackOf, Leads, most_counted, Steps, TracksOn};
+ghost use Rattle.lp_split.specs.declared.split.resumed.Part.TheVariants.{Plain};
+ghost use Rattle.lp_split.specs.declared.split.tracked.Track.TheVariants.{Line};
+ghost use Rattle.lp_split.specs.code.Tracks.{IsTrackOf, Leads, LeadsTo, most_counted, Steps, TracksOn};
 
-use super::Dialect;
 use super::resumed::Part;
+use super::{Dialect, HEAD, QUOTED, bare_len, load_ahead};
+use lp_scan::scan::{WIDE, ones_below};
 
 /// A place in a piece: in which part it is, whether its byte is escaped, and how many bare `=` and `,` the plain
 /// stretches before it hold.
@@ -151,6 +154,19 @@ impl Track {
         }
     }
 
+    /// The track of the bytes of a line up to a bare place of a plain stretch, with these counts.
+    #[inline(always)]
+    pub(crate) fn in_plain(equals: usize, commas: usize) -> Track
+        ensures { result ≡ Line (record { part = Plain; is_escaped = false; equals = equals; commas = commas }) }
+    {
+        Track::Line(Place {
+            part: Part::Plain,
+            is_escaped: false,
+            equals,
+            commas,
+        })
+    }
+
     /// Whether so many bytes more can be counted.
     pub(crate) fn has_room(self, len: usize) -> bool
         ensures { result ≡ true → most_counted self + len < 2 ^ 64 }
@@ -164,17 +180,77 @@ impl Track {
     }
 }
 
+// How many bytes of a plain stretch a load at the start of the text shows, and the place after them: those up to the first
+// bare newline or quote, or all that it tells of. A text that is no longer than a load is not looked at.
+#[inline(always)]
+fn plain_leap(place: Place, text: &[u8]) -> (usize, Place)
+    requires plain { place.part ≡ Part.Plain }
+    requires is_bare { place.is_escaped ≡ false }
+    requires room { (place.equals + length text.now < 2 ^ 64) × (place.commas + length text.now < 2 ^ 64) }
+    ensures within { result.0 ≤ length text.now }
+    ensures leads { LeadsTo (take result.0 text.now) (Line place) (Line result.1) }
+    ensures few { (result.1.equals ≤ place.equals + result.0) × (result.1.commas ≤ place.commas + result.0) }
+{
+    if text.len() <= WIDE {
+        return (0, place);
+    }
+    let ahead = load_ahead(text, 0);
+    if ahead.stops == 0 {
+        let next = Place {
+            equals: place.equals + ones_below(ahead.equals, WIDE),
+            commas: place.commas + ones_below(ahead.commas, WIDE),
+            ..place
+        };
+        return (ahead.end, next);
+    }
+    let run = ahead.stops.trailing_zeros() as usize;
+    let next = Place {
+        equals: place.equals + ones_below(ahead.equals, run),
+        commas: place.commas + ones_below(ahead.commas, run),
+        ..place
+    };
+    (run, next)
+}
+
+// How many bytes can be passed together, and the track after them: in a head or a quoted stretch those up to the bare byte that
+// ends it, or to the last bare place; in a plain stretch those that a load shows.
+#[inline(always)]
+fn leap(track: Track, text: &[u8]) -> (usize, Track)
+    requires room { most_counted track + length text.now < 2 ^ 64 }
+    ensures within { result.0 ≤ length text.now }
+    ensures leads { LeadsTo (take result.0 text.now) track result.1 }
+    ensures few { most_counted result.1 ≤ most_counted track + result.0 }
+{
+    match track {
+        Track::Line(place) if !place.is_escaped => match place.part {
+            Part::Head => (bare_len(HEAD, text), track),
+            Part::Plain => {
+                let (len, next) = plain_leap(place, text);
+                (len, Track::Line(next))
+            }
+            Part::Quoted => (bare_len(QUOTED, text), track),
+        },
+        _ => (0, track),
+    }
+}
+
 /// The place of the newline that ends the piece, among the bytes that come after those of its track; or the track of all.
 pub(crate) fn track_on(text: &[u8], from: Track) -> Result<usize, Track>
     requires room { most_counted from + length text.now < 2 ^ 64 }
     ensures { TracksOn text.now from result }
 {
-    let mut track = from;
-    for at in 0..text.len() {
+    let (mut track, mut at) = (from, 0);
+    loop {
+        let (len, next) = leap(track, &text[at..]);
+        track = next;
+        at += len;
+        if at == text.len() {
+            return Err(track);
+        }
         match after(track, text[at]) {
             Some(next) => track = next,
             None => return Ok(at),
         }
+        at += 1;
     }
-    Err(track)
 }

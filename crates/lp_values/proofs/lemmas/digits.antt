@@ -1,3 +1,1 @@
 pub mod DigitLemmas
-pub mod LaneNumbers
-pub mod WindowLemmas

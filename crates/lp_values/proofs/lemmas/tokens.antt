@@ -1,4 +1,2 @@
-pub mod WalkLemmas
-pub mod WalkMasks
-pub mod CopyLemmas
 pub mod TokenLemmas
+pub mod WalkLemmas

@@ -4,8 +4,8 @@ use Rattle.lp_format.specs.format.Names.{is_stop}
 use Rattle.lp_split.proofs.lemmas.split.StopMeaning.{before_stop}
 use Rattle.influxdb_line_protocol.proofs.laws.first_bare_stop_ends.Goals as goal
 
-pub returns-clause-name : goal.returns-clause-name
-returns-clause-name c = λ kind front after. before_stop (is_stop kind) front after
-
-pub returns-clause-body : goal.returns-clause-body
-returns-clause-body c = λ front after. before_stop (λ b. b == quote) front after
+pub returns : goal.returns
+returns c = record {
+  name = λ kind front after. before_stop (is_stop kind) front after;
+  body = λ front after. before_stop (λ b. b == quote) front after;
+}

@@ -1,4 +1,4 @@
-use Rattle.lp_format.proofs.lemmas.meanings.LogicalMeaning.{logical_is}
+use Rattle.lp_format.proofs.lemmas.names.NameLemmas.{logical_is}
 use Rattle.influxdb_line_protocol.proofs.laws.logical_text_is_unique.Goals as goal
 
 pub returns : goal.returns

@@ -1,14 +1,22 @@
--- The pieces that a stream gives are those of all that was pushed.
-use Rattle.std.proofs.Common.{◌≡◌, ℕ, ◌+◌, ◌<◌, List, [], ◌∷◌, ◌++◌, length, drop, subst, sym, ◌∙◌, arith, append_assoc, length-append}
-use Rattle.std.proofs.Common.{append-nil, refl}
-use Rattle.std.specs.Str.{IsUtf8}
-use Rattle.std.proofs.Math.Seq.{get_or-append_seam, drop-append_seam}
-use Rattle.std.proofs.lemmas.List.{get_or_append_left, take_at, take-append-le}
-use Rattle.std.proofs.lemmas.Str.{IsUtf8-append, IsUtf8-take, IsUtf8-drop, IsCharBoundary-after_ascii, IsCharBoundary-at_seam}
-use Rattle.lp_format.specs.format.Pieces.{IsCutPiece, Pieces, Pieces.cut, Pieces.last}
+-- The pieces that a stream gives, and their answers, are those of all that was pushed.
+use Rattle.std.proofs.Common.{◌≡◌, ℕ, List, [], ◌∷◌, ◌++◌, subst, sym, ◌∙◌, arith, append_assoc}
+use Rattle.std.proofs.Common.{length-append, append-nil, refl, ap, Result}
+use Rattle.std.proofs.lemmas.List.{get_or_append_left, take-append-le}
+use Rattle.std.proofs.lemmas.Str.{IsUtf8-append}
+use Rattle.lp_format.specs.format.Pieces.{IsCutPiece, Pieces, Pieces.cut, Pieces.last, IsLastPiece}
 use Rattle.influxdb_line_protocol.specs.laws.StreamLaws.{FrontsKeepTheirCuts, TakenIsFirst, RunsGivePieces, RunsEnd, Utf8ByPieces}
-use Rattle.influxdb_line_protocol.specs.laws.StreamLaws.{Run.begun, Run.pushed, Run.taken}
+use Rattle.influxdb_line_protocol.specs.laws.StreamLaws.{Run.begun, Run.pushed, Run.taken, HaveAnswers, StreamsGiveAnswers}
+use Rattle.influxdb_line_protocol.specs.laws.StreamLaws.{StreamsAnswerAll, Run}
 use Rattle.lp_format.specs.format.Bytes.{newline}
+use Rattle.std.specs.List.{All}
+use Rattle.std.proofs.lemmas.Grind.{flat_map-append}
+use Rattle.std.proofs.lemmas.List.Elements.{All-head, All-nil, All-push, All-tail}
+use Rattle.lp_format.specs.format.Dialects.{Dialect}
+use Rattle.lp_format.specs.format.Readings.{Fault}
+use Rattle.lp_format.specs.format.Lines.{Line}
+use Rattle.lp_format.specs.format.Items.{HasAnswers, answers_of, answers_of_piece}
+use Rattle.lp_format.proofs.lemmas.split.SplitPieces.{IsLastPiece-cut, same_pieces}
+use Rattle.influxdb_line_protocol.proofs.lemmas.laws.NamesInLines.{utf8_around, utf8_push}
 
 -- whatever comes then, the piece that was taken is the first
 pub taken_is_first : TakenIsFirst
@@ -39,26 +47,61 @@ runs_end dialect given pieces held r h =
     (runs_give_pieces dialect given pieces held [] (held ∷ []) r
     (subst (λ text. Pieces dialect text (held ∷ [])) (sym (append-nil held)) (last held h)))
 
--- what comes after the byte between two texts
-after_seam : (u t : List ℕ) (b : ℕ) → drop (length u + 1) (u ++ b ∷ t) ≡ t
-after_seam u t b = rw (length-append, append_assoc) at (drop-append_seam (u ++ b ∷ []) t)
-
--- a newline alone is UTF-8
-newline_is_utf8 : IsUtf8 (newline ∷ [])
-unfolding lib.Utf8.encode
-newline_is_utf8 = (newline ∷ [], (refl, refl))
-
 -- two texts with a newline between them are UTF-8 exactly where both are
 pub utf8_by_pieces : Utf8ByPieces
 utf8_by_pieces u t = (
-  λ h.
-      let bs = u ++ newline ∷ t in
-      let within : length u < length bs = omega (arith, length-append u (newline ∷ t)) in
-      let at = get_or-append_seam u 10 t 0 in
-      let after = IsUtf8-drop bs (length u + 1) h (IsCharBoundary-after_ascii bs (length u) h within (omega (arith, at))) in
-      let rest = subst IsUtf8 (after_seam u t 10) after in
-      let front = IsUtf8-take bs (length u) h
-      (IsCharBoundary-at_seam bs u (newline ∷ t) refl (IsUtf8-append (newline ∷ []) t newline_is_utf8 rest)) in
-      (rw take_at at front, rest),
-  λ h. IsUtf8-append u (newline ∷ t) h.0 (IsUtf8-append (newline ∷ []) t newline_is_utf8 h.1),
+  λ h. utf8_around u t newline h (omega arith),
+  λ h. IsUtf8-append u (newline ∷ t) h.0 (utf8_push newline t (omega arith) h.1),
 )
+
+-- each piece that was given is one piece
+given_are_single : (dialect : Dialect) (given : List ℕ) (pieces : List (List ℕ)) (held : List ℕ) → Run dialect given pieces held
+    → All (IsLastPiece dialect) pieces
+given_are_single dialect given pieces held begun = All-nil (IsLastPiece dialect)
+given_are_single dialect given pieces held (pushed g ps l part r) = given_are_single dialect g ps l r
+given_are_single dialect given pieces held (taken g ps piece l r c) =
+    All-push (IsLastPiece dialect) ps piece (given_are_single dialect g ps (piece ++ newline ∷ l) r) (IsLastPiece-cut dialect piece c)
+
+-- the answers of a text that is one piece
+single_answers : (dialect : Dialect) (text : List ℕ) (answers : List (Result Line Fault)) → IsLastPiece dialect text
+    → HasAnswers dialect text answers → answers ≡ answers_of_piece dialect text
+single_answers dialect text answers h k =
+    k.answered ∙ ap (answers_of dialect) (same_pieces dialect refl k.are (last text h)) ∙ append-nil (answers_of_piece dialect text)
+
+-- the answers of such texts
+answers_alone : (dialect : Dialect) (texts : List (List ℕ)) (answers : List (Result Line Fault)) → All (IsLastPiece dialect) texts
+    → HaveAnswers dialect texts answers → answers ≡ answers_of dialect texts
+answers_alone dialect [] answers h k = k
+answers_alone dialect (text ∷ texts) answers h k =
+    k.4 ∙ ap (λ xs. xs ++ k.1) (single_answers dialect text k.0 (All-head (IsLastPiece dialect) text texts h) k.2)
+    ∙ ap (λ xs. answers_of_piece dialect text ++ xs) (answers_alone dialect texts k.1 (All-tail (IsLastPiece dialect) text texts h) k.3)
+
+-- the answers of the pieces, and of what is held and comes, are those of all
+pub streams_give_answers : StreamsGiveAnswers
+streams_give_answers dialect given pieces held t first others r h k =
+    record {
+      pieces = pieces ++ k.pieces;
+      are = runs_give_pieces dialect given pieces held t k.pieces r k.are;
+      answered = ap (λ xs. xs ++ others) (answers_alone dialect pieces first (given_are_single dialect given pieces held r) h)
+          ∙ ap (λ xs. answers_of dialect pieces ++ xs) k.answered
+          ∙ sym (flat_map-append (answers_of_piece dialect) pieces k.pieces);
+    }
+
+-- the answers of the last text are those after the others
+last_answers : (dialect : Dialect) (texts : List (List ℕ)) (text : List ℕ) (answers : List (Result Line Fault))
+    → HaveAnswers dialect (texts ++ text ∷ []) answers
+    → (first others : List (Result Line Fault)) × HaveAnswers dialect texts first × HasAnswers dialect text others
+    × (answers ≡ first ++ others)
+last_answers dialect [] text answers h = ([], h.0, refl, h.2, h.4 ∙ ap (λ xs. h.0 ++ xs) h.3 ∙ append-nil h.0)
+last_answers dialect (piece ∷ texts) text answers h =
+    let w = last_answers dialect texts text h.1 h.3 in
+    (h.0 ++ w.0, w.1, (h.0, w.0, h.2, w.2, refl), w.3, h.4 ∙ ap (λ xs. h.0 ++ xs) w.4 ∙ sym (append_assoc h.0 w.0 w.1))
+
+-- at the end they are the answers of all
+pub streams_answer_all : StreamsAnswerAll
+streams_answer_all dialect given pieces held answers r h =
+    let w = last_answers dialect pieces held answers h in
+    let all = streams_give_answers dialect given pieces held [] w.0 w.1 r w.2
+    (subst (λ text. HasAnswers dialect text w.1) (sym (append-nil held)) w.3) in
+    subst (λ text. HasAnswers dialect text answers) (append-nil given)
+    (subst (λ xs. HasAnswers dialect (given ++ []) xs) (sym w.4) all)

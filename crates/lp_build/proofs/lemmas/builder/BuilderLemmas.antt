@@ -40,7 +40,7 @@ uncounted p b true text h none = absurd (grind (arith, common_steps))
 uncounted p b false text h none = (refl, grind (arith, common_steps))
 
 -- a text stays where no byte of it gets a backslash
-pub escaped_uncounted : (bytes text : List ℕ) → count_by (is_one_of bytes) text ≡ 0 → escaped bytes text ≡ text
+escaped_uncounted : (bytes text : List ℕ) → count_by (is_one_of bytes) text ≡ 0 → escaped bytes text ≡ text
 unfolding escaped
 escaped_uncounted bytes [] none = refl
 escaped_uncounted bytes (b ∷ text) none =

@@ -15,21 +15,19 @@ use Rattle.lp_format.specs.format.Values.{Value, integer, unsigned, float, strin
 use Rattle.lp_format.specs.format.Values.{word_len, body_len, quotable, true_words, false_words, fits_i64, side_of, integer_at}
 use Rattle.lp_format.specs.format.Values.{unsigned_at, float_at, string_at, boolean_at, value}
 use Rattle.lp_format.specs.format.Points.{Pair, IsValue}
-use Rattle.lp_format.specs.format.Lines.{Line, answer, logical_field, logical_value, field, separated_list, field_set}
+use Rattle.lp_format.specs.format.Lines.{logical_field, logical_value, field, separated_list, field_set}
 use Rattle.lp_format.specs.format.Lines.{without_comma, spaces, timestamp}
 use Rattle.lp_format.specs.laws.PointsOfLines.{LinesArePoints}
-use Rattle.lp_build.specs.code.WrittenAgain.{IsReadValue}
 use Rattle.lp_format.proofs.lemmas.literals.FloatLemmas.{float_len_float}
-use Rattle.lp_build.proofs.lemmas.builder.ReadStrings.{body_read}
 use Rattle.lp_format.proofs.lemmas.names.Inversions.{joined_of}
 use Rattle.lp_format.proofs.lemmas.meanings.ShorterRests.{field_no_longer}
 use Rattle.lp_values.proofs.lemmas.fields.ReadingLemmas.{bind_reads, pair_parts}
 use Rattle.lp_lines.proofs.lemmas.names.ParsedNames.{ok_same, answer_parts}
-use Rattle.lp_lines.proofs.lemmas.line.SomeTags.{joined_some}
+use Rattle.lp_lines.proofs.lemmas.line.AnsweredLines.{joined_some}
 
--- a value that was read is one of its type, and one that can be read
+-- a value that was read is one of its type
 abbrev pub Fits : Value Text → Type 0
-Fits x = IsValue (logical_value x) × IsReadValue x
+Fits x = IsValue (logical_value x)
 
 -- what is read under two tests passes the second
 both_tests : {A : Type 0} (a b : Bool) (y x : A) (e : Fault) (after rest : List ℕ)
@@ -60,7 +58,7 @@ integer_fits line x rest h =
     let z = signed_digits_value 10 number in
     let parts = both_tests (not (integer_len line == 0) && slice_index line (integer_len line) == letter_i)
     (fits_i64 z) (integer z) x (integer_value_invalid (side_of number) number) (drop (integer_len line + 1) line) rest h in
-    subst Fits parts.1 (parts.0, tt)
+    subst Fits parts.1 parts.0
 
 -- so is an unsigned one
 unsigned_fits : (line : List ℕ) (x : Value Text) (rest : List ℕ) → unsigned_at line ≡ reads x rest → Fits x
@@ -70,7 +68,7 @@ unsigned_fits line x rest h =
     let n = digits_value 10 number in
     let parts = both_tests (not (digits_len line == 0) && slice_index line (digits_len line) == letter_u)
     (nat_lt n (2 ^ 64)) (unsigned n) x (uinteger_value_invalid above number) (drop (digits_len line + 1) line) rest h in
-    subst Fits parts.1 (below n (2 ^ 64) parts.0, tt)
+    subst Fits parts.1 (below n (2 ^ 64) parts.0)
 
 -- a float is a literal
 float_fits : (line : List ℕ) (x : Value Text) (rest : List ℕ) → float_at line ≡ reads x rest → Fits x
@@ -78,7 +76,7 @@ unfolding float_at
 float_fits line x rest h =
     let parts = no_test (float_len line == 0) (float (take (float_len line) line)) x (drop (float_len line) line) rest h in
     let some : float_len line ≢ 0 = eqb-false (float_len line) 0 parts.0 in
-    subst Fits parts.1 (float_len_float line (omega arith), tt)
+    subst Fits parts.1 (float_len_float line (omega arith))
 
 -- any string will do
 string_fits : (line : List ℕ) (x : Value Text) (rest : List ℕ) → string_at line ≡ reads x rest → Fits x
@@ -87,7 +85,7 @@ string_fits [] x rest h = absurd (cc)
 string_fits (b ∷ after) x rest h =
     let body = string (read_text quotable (take (body_len after) after)) in
     let same = one_test (b == quote && nat_lt (body_len after) (length after)) body x (drop (body_len after + 1) after) rest h in
-    subst Fits same (tt, body_read after)
+    subst Fits same tt
 
 -- and either boolean
 boolean_fits : (b : Bool) (words : List (List ℕ)) (line : List ℕ) (x : Value Text) (rest : List ℕ)
@@ -95,7 +93,7 @@ boolean_fits : (b : Bool) (words : List (List ℕ)) (line : List ℕ) (x : Value
 unfolding boolean_at
 boolean_fits b words line x rest h =
     let parts = no_test (word_len words line == 0) (let v : Value Text = boolean b in v) x (drop (word_len words line) line) rest h in
-    subst Fits parts.1 (tt, tt)
+    subst Fits parts.1 tt
 
 -- what holds of either holds of the first that does not miss
 either_fits : (r s : Reading (Value Text)) → ((x : Value Text) (rest : List ℕ) → r ≡ reads x rest → Fits x)
@@ -171,19 +169,12 @@ stamp_fits line rest t h =
 fields_fit : (fs : List (Pair Text (Value Text))) → AllByRecursion FieldFits fs
     → AllByRecursion (λ f. IsValue f.value) (map logical_field fs)
 fields_fit [] all = tt
-fields_fit (f ∷ fs) all = (all.0.0, fields_fit fs all.1)
+fields_fit (f ∷ fs) all = (all.0, fields_fit fs all.1)
 
 -- are as many
 fields_some : (fs : List (Pair Text (Value Text))) → 0 < length fs → 0 < length (map logical_field fs)
 fields_some [] h = h
 fields_some (f ∷ fs) h = omega arith
-
--- the fields of a line that is answered
-pub line_fields_fit : (dialect : Dialect) (text : List ℕ) (line : Line) → answer dialect text ≡ Ok line
-    → AllByRecursion FieldFits line.fields
-line_fields_fit dialect text line h =
-    let parts = answer_parts dialect text line h in
-    (field_set_fits dialect (drop (spaces parts.tags_rest) parts.tags_rest) parts.fields_rest line.fields parts.fields).fit
 
 -- the logical texts of each line that is answered are a point
 pub lines_are_points : LinesArePoints

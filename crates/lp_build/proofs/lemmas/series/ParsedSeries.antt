@@ -11,7 +11,7 @@ use Rattle.lp_format.specs.format.Names.{NameKind, a_measurement, a_tag_key, a_t
 use Rattle.lp_format.specs.format.Names.{is_stop, logical, name, read_text, spelled, spelled_len}
 use Rattle.lp_format.specs.format.Points.{Pair}
 use Rattle.lp_format.specs.format.Readings.{Reading, Text, reads}
-use Rattle.lp_lines.proofs.lemmas.series.BasesTellSeries.{set_separated}
+use Rattle.lp_events.proofs.lemmas.fields.ManyLemmas.{set_separated}
 use Rattle.lp_lines.proofs.lemmas.read_back.LineReadsBack.{front_is}
 use Rattle.lp_lines.proofs.lemmas.names.ParsedNames.{answer_parts}
 use Rattle.lp_values.proofs.lemmas.fields.ReadingLemmas.{name_parts, pair_parts, reads_parts}

@@ -2,7 +2,7 @@ use Rattle.std.proofs.Common.{◌<◌, length, rules, arith}
 use Rattle.std.proofs.lemmas.Result.{err_from_is_err_and}
 use Rattle.lp_format.specs.format.Lines.{tag}
 use Rattle.lp_events.specs.code.Events.{spelled_tag, tagged}
-use Rattle.lp_events.proofs.lemmas.events.EventLemmas.{told_all, told_fatal, told_last, told_next}
+use Rattle.lp_events.proofs.lemmas.events.LineEvents.{told_all, told_fatal, told_last, told_next}
 use Rattle.lp_values.specs.code.SpelledParts.{spelled_fault}
 use Rattle.lp_events.proofs.events.tags.Goals as goal
 

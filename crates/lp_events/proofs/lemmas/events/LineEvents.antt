@@ -1,117 +1,140 @@
--- What was told of a line, and of the pieces of a text.
-use Rattle.std.proofs.Common.{◌≡◌, ℕ, ◌<◌, List, [], ◌∷◌, ◌++◌, length, map, drop, true, false, refl, sym, ◌∙◌, ap, arith, inr, append_assoc}
-use Rattle.std.specs.Prelude.{ℤ, ◌==◌, Option, Some, Result, Ok, Err}
+-- What a sink was told of a line, one event after another, and of the pieces of a text.
+use Rattle.std.proofs.Common.{◌≡◌, ℕ, ◌+◌, ◌<◌, List, [], ◌∷◌, ◌++◌, length, length-append, map, refl, arith, inl, inr, true, false}
+use Rattle.std.proofs.Common.{sym, ◌∙◌, ap, append_assoc}
+use Rattle.std.specs.Prelude.{Some, Ok, ℤ, ◌==◌, Option, Result, Err}
 use Rattle.std.specs.Borrow.{Bor}
-use Rattle.std.proofs.lemmas.List.{append-nil}
+use Rattle.std.proofs.lemmas.List.{map_push, append-nil}
 use Rattle.std.proofs.lemmas.List.Concat.{flat_map-append}
-use Rattle.lp_format.specs.format.Bytes.{space}
+use Rattle.lp_format.specs.format.Bytes.{comma}
+use Rattle.lp_format.specs.format.Readings.{Fault, Reading, fatal, miss, reads, Text, cannot_parse_entire_line}
+use Rattle.lp_format.specs.format.Lines.{byte, separated_list, Line, answer, some_tags}
+use Rattle.lp_format.specs.format.Lines.{complete}
 use Rattle.lp_format.specs.format.Dialects.{Dialect}
 use Rattle.lp_format.specs.format.Items.{answers_of, answers_of_piece}
-use Rattle.lp_format.specs.format.Lines.{Line, answer, byte, field_set, front_before, some_tags, spaces, tag_set, timestamp}
-use Rattle.lp_format.specs.format.Names.{a_measurement, name}
 use Rattle.lp_format.specs.format.Pieces.{GivesPiece, Left, Pieces, PiecesLeft}
 use Rattle.lp_format.specs.format.Points.{Pair}
-use Rattle.lp_format.specs.format.Readings.{Fault, Text, cannot_parse_entire_line, fatal, miss, reads}
 use Rattle.lp_format.specs.format.Trimming.{trimmed}
 use Rattle.lp_format.specs.format.Values.{Value}
-use Rattle.lp_values.specs.declared.error.ErrorKind.TheVariants.{TakeWhile1}
 use Rattle.lp_values.specs.declared.spelled.SpelledFault.{SpelledFault}
-use Rattle.lp_values.specs.declared.spelled.SpelledFault.TheVariants.{CannotParseEntireLine, FieldSetMissing, GenericParsingError}
 use Rattle.lp_values.specs.code.SpelledParts.{spelled_fault}
-use Rattle.lp_events.specs.code.Events.{AreEventsOf, AreEventsOfAll, AreEventsOfText, AreToldBefore, Event, TakesAll, WasTold, ended}
-use Rattle.lp_events.specs.code.Events.{front_events, named, tagged, valued}
-use Rattle.lp_events.proofs.lemmas.events.EventLemmas.{takes_append, takes_more}
+use Rattle.lp_events.specs.code.Events.{AreCounted, Event, TakesAll, WasToldParts, AreEventsOf, AreEventsOfAll}
+use Rattle.lp_events.specs.code.Events.{AreToldBefore, WasTold, ended, front_events, named, tagged, valued}
+use Rattle.lp_events.specs.code.EventsLeft.{SoFar}
+use Rattle.lp_events.proofs.lemmas.fields.ManyLemmas.{Reached, last_read, reached_all, reached_fatal, reached_more}
 
--- the measurement of a line was told, and then these tags
-module _ {S : Type 0} (takes : S → Event → S → Type 0) (dialect : Dialect) (line : List ℕ) (before named_one mid : S)
-    (m : Text) (rest : List ℕ) (tags : List (Pair Text Text)) (e : name a_measurement line ≡ reads m rest)
-    (begun : takes before (named m) named_one) (told_tags : TakesAll takes named_one (map tagged tags) mid) where
-  -- a fault after the measurement and tags comes after a front of events
-  with_tags : (fault : SpelledFault) → answer dialect line ≡ Err (spelled_fault fault)
-      → WasTold takes before mid (AreToldBefore {X = Unit {0}} (Err fault) (answer dialect line))
-  with_tags fault is =
+-- some events and then others
+pub takes_append : {S : Type 0} (takes : S → Event → S → Type 0) (before mid after : S) (events others : List Event)
+    → TakesAll takes before events mid → TakesAll takes mid others after → TakesAll takes before (events ++ others) after
+takes_append takes before mid after [] others same told = rw same told
+takes_append takes before mid after (event ∷ events) others (next, first, more) told =
+    (next, first, takes_append takes next mid after events others more told)
+
+-- one event more
+pub takes_more : {S : Type 0} (takes : S → Event → S → Type 0) (before mid after : S) (events : List Event) (event : Event)
+    → TakesAll takes before events mid → takes mid event after → TakesAll takes before (events ++ event ∷ []) after
+takes_more takes before mid after events event told one =
+    takes_append takes before mid after events (event ∷ []) told (after, one, refl)
+
+-- the parts that were told are so many, and all that was read so far; the next one may be at the place
+abbrev pub ToldSoFar : {S A : Type 0} → (S → Event → S → Type 0) → (A → Event) → (List ℕ → Reading A)
+    → S → S → List ℕ → ℕ → List ℕ → List ℕ → Type 0
+ToldSoFar takes event one before after text count rest place =
+    WasToldParts takes event before after (λ parts. (count ≡ length parts) × Reached one text parts rest place)
+
+module _ {S A : Type 0} (takes : S → Event → S → Type 0) (event : A → Event) (one : List ℕ → Reading A) where
+  -- nothing was told yet
+  pub told_none : (before : S) (text : List ℕ) → ToldSoFar takes event one before before text 0 text text
+  told_none before text = record { parts = []; told = refl; are = (refl, inl (refl, refl)) }
+
+  -- one part more was told
+  pub told_more : (before mid after : S) (text : List ℕ) (count : ℕ) (rest place : List ℕ) (x : A) (end : List ℕ)
+      → ToldSoFar takes event one before mid text count rest place → one place ≡ reads x end → length end < length place
+      → takes mid (event x) after
+      → WasToldParts takes event before after (λ parts. (count + 1 ≡ length parts) × SoFar one text parts end)
+  told_more before mid after text count rest place x end so_far is less told =
+      let parts = so_far.parts in
       record {
-        events = front_events m tags [];
-        told = takes_append takes before mid mid (named m ∷ map tagged tags) [] (named_one, begun, told_tags) refl;
-        are = (is, inr (m, tags, [], refl));
+        parts = parts ++ x ∷ [];
+        told = rw (map_push event parts x) (takes_more takes before mid after (map event parts) (event x) so_far.told told);
+        are = (
+          (let count = so_far.are.0 in omega (arith, count, length-append parts (x ∷ []))),
+          reached_more one end x so_far.are.1 is less,
+        );
       }
 
-  -- the tags are at fault
-  pub tags_fault : (fault : SpelledFault) → tag_set rest ≡ Err (spelled_fault fault)
-      → WasTold takes before mid (AreToldBefore {X = Unit {0}} (Err fault) (answer dialect line))
-  unfolding answer
-  tags_fault fault t = with_tags fault (rw (e, t) refl)
+  -- one part more was told, and a comma comes after it
+  pub told_next : (before mid after : S) (text : List ℕ) (count : ℕ) (rest place : List ℕ) (x : A) (end next : List ℕ)
+      → ToldSoFar takes event one before mid text count rest place → one place ≡ reads x end → length end < length place
+      → takes mid (event x) after → byte comma end ≡ reads comma next → ToldSoFar takes event one before after text (count + 1) end next
+  told_next before mid after text count rest place x end next so_far is less told mark =
+      let more = told_more before mid after text count rest place x end so_far is less told in
+      record {
+        parts = more.parts;
+        told = more.told;
+        are = (more.are.0, inr (record { so_far = more.are.1; mark = mark; some = (let count = more.are.0 in omega arith) }));
+      }
 
-  module _ (set : Option (List (Pair Text Text))) (after_tags : List ℕ)
-      (t : tag_set rest ≡ Ok (record { value = set; rest = after_tags })) (same : some_tags set ≡ tags) where
-    -- no space comes after them
-    pub space_fault : byte space after_tags ≡ miss
-        → WasTold takes before mid (AreToldBefore {X = Unit {0}} (Err (GenericParsingError TakeWhile1)) (answer dialect line))
-    unfolding answer
-    space_fault s = with_tags (GenericParsingError TakeWhile1) (rw (e, t, s) refl)
+  -- one part more was told, and no comma comes after it
+  pub told_last : (before mid after : S) (text : List ℕ) (count : ℕ) (rest place : List ℕ) (x : A) (end : Bor (List ℕ))
+      → ToldSoFar takes event one before mid text count rest place → one place ≡ reads x end.now → length end.now < length place
+      → takes mid (event x) after → byte comma end.now ≡ miss
+      → WasToldParts takes event before after (AreCounted (Ok (Some (count + 1, end))) (separated_list one text))
+  told_last before mid after text count rest place x end so_far is less told none =
+      let more = told_more before mid after text count rest place x end.now so_far is less told in
+      record { parts = more.parts; told = more.told; are = (more.are.0, last_read one more.are.1 none) }
 
-    -- these fields were told too
-    module _ (gap : List ℕ) (s : byte space after_tags ≡ reads space gap) (fields : List (Pair Text (Value Text))) (after : S)
-        (told_fields : TakesAll takes mid (map valued fields) after) where
-      -- a measurement and tags that were told are a front of events
-      told_front : TakesAll takes before (front_events m tags fields) after
-      told_front = takes_append takes before mid after (named m ∷ map tagged tags) (map valued fields) (named_one, begun, told_tags) told_fields
+  -- no part reads at the place: these were all
+  pub told_all : (before after : S) (text : List ℕ) (count : ℕ) (rest : Bor (List ℕ)) (place : List ℕ)
+      → ToldSoFar takes event one before after text count rest.now place → one place ≡ miss → 0 < count
+      → WasToldParts takes event before after (AreCounted (Ok (Some (count, rest))) (separated_list one text))
+  told_all before after text count rest place so_far none some =
+      record {
+        parts = so_far.parts;
+        told = so_far.told;
+        are = (so_far.are.0, reached_all one so_far.are.1 none (let count = so_far.are.0 in omega arith));
+      }
 
-      -- a fault after the fields comes after a front of events
-      with_fields : (fault : SpelledFault) → answer dialect line ≡ Err (spelled_fault fault)
-          → WasTold takes before after (AreToldBefore {X = Unit {0}} (Err fault) (answer dialect line))
-      with_fields fault is = record { events = front_events m tags fields; told = told_front; are = (is, inr (m, tags, fields, refl)) }
+  -- what is at the place is fatal
+  pub told_fatal : (before after : S) (text : List ℕ) (count : ℕ) (rest place : List ℕ) (fault : Fault)
+      → ToldSoFar takes event one before after text count rest place → one place ≡ fatal fault
+      → WasToldParts takes event before after (λ parts. separated_list one text ≡ fatal fault)
+  told_fatal before after text count rest place fault so_far is =
+      record { parts = so_far.parts; told = so_far.told; are = reached_fatal one fault so_far.are.1 is }
 
-      -- the fields are at fault
-      pub fields_fault : (fault : SpelledFault) → field_set dialect (drop (spaces after_tags) after_tags) ≡ fatal (spelled_fault fault)
-          → WasTold takes before after (AreToldBefore {X = Unit {0}} (Err fault) (answer dialect line))
-      unfolding answer
-      fields_fault fault f = with_fields fault (rw (e, t, s, f) refl)
+-- a line is complete where nothing is left
+pub complete_none : (l : Line) (rest : List ℕ) → length rest ≡ 0 → complete l rest ≡ Ok l
+complete_none l [] none = refl
+complete_none l (b ∷ rest) none = absurd (omega arith)
 
-      -- there is no field
-      pub no_field : field_set dialect (drop (spaces after_tags) after_tags) ≡ miss
-          → WasTold takes before after (AreToldBefore {X = Unit {0}} (Err FieldSetMissing) (answer dialect line))
-      unfolding answer
-      no_field f = with_fields FieldSetMissing (rw (e, t, s, f) refl)
+-- what is left is its fault
+pub complete_some : (l : Line) (rest : List ℕ) → 0 < length rest → complete l rest ≡ Err (cannot_parse_entire_line rest)
+complete_some l [] some = absurd (omega arith)
+complete_some l (b ∷ rest) some = refl
 
-      module _ (left : List ℕ) (f : field_set dialect (drop (spaces after_tags) after_tags) ≡ reads fields left) where
-        -- the timestamp is at fault
-        pub time_fault : (fault : SpelledFault) → timestamp left ≡ Err (spelled_fault fault)
-            → WasTold takes before after (AreToldBefore {X = Unit {0}} (Err fault) (answer dialect line))
-        unfolding answer
-        time_fault fault n = with_fields fault (rw (e, t, s, f, n) refl)
+-- the measurement of a line was told, and then these tags and fields
+module _ {S : Type 0} (takes : S → Event → S → Type 0) (before begun mid after : S) (m : Text) (tags : List (Pair Text Text))
+    (fields : List (Pair Text (Value Text))) (first : takes before (named m) begun) (tags_told : TakesAll takes begun (map tagged tags) mid)
+    (fields_told : TakesAll takes mid (map valued fields) after) where
+  -- they are a front of events
+  front_told : TakesAll takes before (front_events m tags fields) after
+  front_told = takes_append takes before mid after (named m ∷ map tagged tags) (map valued fields) (begun, first, tags_told) fields_told
 
-        -- what is left of a line after its parts is its fault
-        more_left : (time : Option ℤ) (more : List ℕ) → timestamp left ≡ Ok (record { value = time; rest = more })
-            → 0 < length more → (fault : SpelledFault) → spelled_fault fault ≡ cannot_parse_entire_line more
-            → answer dialect line ≡ Err (spelled_fault fault)
-        unfolding answer
-        more_left time [] n some fault is = absurd (omega arith)
-        more_left time (b ∷ more) n some fault is = rw (e, t, s, f, n, is) refl
+  -- the line is at fault after them
+  pub fault_told : (dialect : Dialect) (line : List ℕ) (fault : SpelledFault) → answer dialect line ≡ Err (spelled_fault fault)
+      → WasTold takes before after (AreToldBefore {X = Unit {0}} (Err fault) (answer dialect line))
+  fault_told dialect line fault is = record { events = front_events m tags fields; told = front_told; are = (is, inr (m, tags, fields, refl)) }
 
-        -- something is left
-        pub left_fault : (time : Option ℤ) (more : Bor (List ℕ)) → timestamp left ≡ Ok (record { value = time; rest = more.now })
-            → 0 < length more.now
-            → WasTold takes before after (AreToldBefore {X = Unit {0}} (Err (CannotParseEntireLine more)) (answer dialect line))
-        left_fault time more n some = with_fields (CannotParseEntireLine more)
-            (more_left time more.now n some (CannotParseEntireLine more) refl)
-
-        -- the whole line was told
-        pub all_told : (time : Option ℤ) (more : List ℕ) (last : S) → timestamp left ≡ Ok (record { value = time; rest = more })
-            → length more ≡ 0 → takes after (ended (front_before line after_tags) time) last
-            → WasTold takes before last (AreToldBefore {X = Unit {0}} (Ok (tt {0})) (answer dialect line))
-        unfolding answer
-        all_told time (b ∷ more) last n none done = absurd (omega arith)
-        all_told time [] last n none done =
-            record {
-              events = front_events m tags fields ++ ended (front_before line after_tags) time ∷ [];
-              told = takes_more takes before after last (front_events m tags fields) (ended (front_before line after_tags) time) told_front done;
-              are = (
-                record { series = front_before line after_tags; measurement = m; tags = set; fields = fields; timestamp = time },
-                rw (e, t, s, f, n) refl,
-                rw same refl,
-              );
-            }
+  -- the line ends after them
+  pub line_told : (last : S) (set : Option (List (Pair Text Text))) (series : List ℕ) (time : Option ℤ) (dialect : Dialect) (line : List ℕ)
+      → some_tags set ≡ tags → takes after (ended series time) last
+      → answer dialect line ≡ Ok (record { series = series; measurement = m; tags = set; fields = fields; timestamp = time })
+      → WasTold takes before last (AreToldBefore {X = Unit {0}} (Ok (tt {0})) (answer dialect line))
+  line_told last set series time dialect line tags_are done is =
+      record {
+        events = front_events m tags fields ++ ended series time ∷ [];
+        told = takes_more takes before after last (front_events m tags fields) (ended series time) front_told done;
+        are = (record { series = series; measurement = m; tags = set; fields = fields; timestamp = time }, is, rw tags_are refl);
+      }
 
 -- the events of a piece that is not blank are those of its line
 pub told_piece : {S : Type 0} (takes : S → Event → S → Type 0) (before after : S) (dialect : Dialect) (piece : List ℕ)
@@ -148,12 +171,6 @@ abbrev pub ToldUpTo : {S : Type 0} → (S → Event → S → Type 0) → S → 
 ToldUpTo takes before after dialect text left =
     (others : List (List ℕ)) → PiecesLeft left others → ToldPieces takes before after dialect text others
 
--- no piece was told yet
-pub told_no_piece : {S : Type 0} (takes : S → Event → S → Type 0) (before : S) (dialect : Dialect) (text : List ℕ)
-    → ToldUpTo takes before before dialect text (record { dialect = dialect; text = Some text })
-told_no_piece takes before dialect text others left =
-    record { pieces = []; left = left; was = record { events = []; told = refl; are = refl } }
-
 -- one piece more was told
 pub told_next_piece : {S : Type 0} (takes : S → Event → S → Type 0) (before mid after : S) (dialect : Dialect) (text : List ℕ)
     (left next : Left) (piece : Bor (List ℕ)) → ToldUpTo takes before mid dialect text left → GivesPiece left (Some piece) next
@@ -170,20 +187,5 @@ told_next_piece takes before mid after dialect text left next piece so_far given
         told = takes_append takes before mid after told.was.events was.events told.was.told was.told;
         are = rw (flat_map-append (answers_of_piece dialect) told.pieces (piece.now ∷ []))
             (all_append told.was.events was.events (answers_of dialect told.pieces) (answers_of dialect (piece.now ∷ [])) told.was.are one);
-      };
-    }
-
--- all pieces were told
-pub told_text : {S : Type 0} (takes : S → Event → S → Type 0) (before after : S) (dialect : Dialect) (text : List ℕ) (left : Left)
-    → ToldUpTo takes before after dialect text left → PiecesLeft left [] → WasTold takes before after (AreEventsOfText dialect text)
-told_text takes before after dialect text left so_far none =
-    let told = so_far [] none in
-    record {
-      events = told.was.events;
-      told = told.was.told;
-      are = record {
-        answers = answers_of dialect told.pieces;
-        has = record { pieces = told.pieces; are = rw append-nil at told.left; answered = refl };
-        are = told.was.are;
       };
     }

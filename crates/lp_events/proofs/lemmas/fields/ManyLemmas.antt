@@ -1,17 +1,23 @@
--- How many that are joined by commas are read one after another.
-use Rattle.std.proofs.Common.{◌≡◌, ℕ, zero, suc, ◌<◌, ◌≤◌, List, [], ◌∷◌, ◌++◌, length, length-append}
-use Rattle.std.proofs.Common.{refl, sym, ap, ◌∙◌, arith, inl, inr}
-use Rattle.std.specs.Prelude.{◌⊎◌}
-use Rattle.std.proofs.lemmas.List.{append_assoc, append-nil}
+-- Values that commas join are read one after another; and what a tag set was read from.
+use Rattle.std.proofs.Common.{◌≡◌, ℕ, zero, suc, ◌<◌, ◌≤◌, List, [], ◌∷◌, ◌++◌, length, length-append, refl, sym, ap, ◌∙◌, arith, inl, inr}
+use Rattle.std.proofs.Common.{append_assoc, subst}
+use Rattle.std.specs.Prelude.{◌⊎◌, ◌==◌, Option, Some, None, Result, Ok}
+use Rattle.std.proofs.lemmas.Bool.{cases_Bool}
+use Rattle.std.proofs.lemmas.List.{append-nil}
 use Rattle.lp_format.specs.format.Bytes.{comma}
-use Rattle.lp_format.specs.format.Readings.{Fault, Reading, miss, fatal, reads}
-use Rattle.lp_format.specs.format.Lines.{after_comma, byte, separated_list, many, prepend}
+use Rattle.lp_format.specs.format.Dialects.{Dialect}
+use Rattle.lp_format.specs.format.Readings.{Fault, Text, Read, Reading, miss, fatal, reads}
+use Rattle.lp_format.specs.format.Names.{name, a_measurement}
+use Rattle.lp_format.specs.format.Points.{Pair}
+use Rattle.lp_format.specs.format.Values.{Value}
+use Rattle.lp_format.specs.format.Lines.{after_comma, byte, field, field_set, many, prepend, separated_list, some_tags, tag, tag_set}
+use Rattle.lp_format.specs.format.Lines.{without_comma}
+use Rattle.lp_format.specs.laws.Meanings.{SeparatedBy, SeparatedAfterComma}
+use Rattle.lp_format.proofs.lemmas.meanings.JoinedMeaning.{the_most_is_read}
+use Rattle.lp_format.proofs.lemmas.meanings.ShorterRests.{tag_no_longer}
+use Rattle.lp_values.proofs.lemmas.fields.ReadingLemmas.{EndsIn, EndsIn-end, EndsIn-self, bind_reads, byte_ends, byte_parts}
+use Rattle.lp_values.proofs.lemmas.fields.ReadingLemmas.{name_ends, tag_ends}
 use Rattle.lp_events.specs.code.EventsLeft.{SoFar}
-use Rattle.lp_values.specs.code.Outcomes.{IsFault}
-use Rattle.lp_values.specs.declared.error.Error.{Error}
-use Rattle.lp_values.specs.declared.error.Error.TheVariants as error
-use Rattle.lp_values.proofs.lemmas.fields.ReadingLemmas.{EndsIn, EndsIn-end, EndsIn-self, bind_reads, byte_ends}
-use Rattle.lp_values.proofs.lemmas.fields.ReadingLemmas.{after_comma_ends}
 
 -- those that are read after others
 prepend-prepend : {A : Type 0} (xs ys : List A) (r : Reading (List A)) → prepend xs (prepend ys r) ≡ prepend (xs ++ ys) r
@@ -23,20 +29,6 @@ prepend-prepend xs ys (reads more rest) = ap (λ zs. reads zs rest) (sym (append
 many_miss : {A : Type 0} (one : List ℕ → Reading A) (n : ℕ) (rest : List ℕ) → one rest ≡ miss → many one n rest ≡ reads [] rest
 many_miss one zero rest e = refl
 many_miss one (suc n) rest e = rw e refl
-
--- a fault is carried on
-pub carried_on : (e : Error) (P Q : Fault → Type 0) → ((f : Fault) → P f → Q f) → IsFault e P → IsFault e Q
-carried_on (error.DuplicateTag key) P Q on h = elim h [ ]
-carried_on error.MeasurementValueInvalid P Q on h = on _ h
-carried_on error.FieldSetMissing P Q on h = on _ h
-carried_on (error.IntegerValueInvalid source value) P Q on h = on _ h
-carried_on (error.UIntegerValueInvalid source value) P Q on h = on _ h
-carried_on (error.TimestampValueInvalid source value) P Q on h = on _ h
-carried_on error.EndsWithBackslash P Q on h = on _ h
-carried_on (error.CannotParseEntireLine trailing_content) P Q on h = on _ h
-carried_on error.TagSetMalformed P Q on h = on _ h
-carried_on (error.GenericParsingError kind) P Q on h = on _ h
-carried_on error.OutOfMemory P Q on h = tt
 
 -- some were read, and a comma after them: the next one may come after it
 pub record AtNext {A : Type 0} (one : List ℕ → Reading A) (text : List ℕ) (done : List A) (rest place : List ℕ) : Type 0 where
@@ -121,33 +113,80 @@ module _ {A : Type 0} (one : List ℕ → Reading A) where
       → byte comma rest ≡ miss → separated_list one text ≡ reads done rest
   last_read {text} {done} {rest} so_far none = so_far_end text done rest so_far (rw none refl)
 
-module _ {A : Type 0} (one : List ℕ → Reading A)
-    (ends : (text : List ℕ) (x : A) (rest : List ℕ) → one text ≡ reads x rest → EndsIn text rest) where
-  -- what is after as many as are at the start ends the text
-  onto_reads : (xs : List A) (r : Reading (List A)) (ys : List A) (rest : List ℕ) → prepend xs r ≡ reads ys rest
-      → (more : List A) × (r ≡ reads more rest)
-  onto_reads xs miss ys rest e = absurd (cc)
-  onto_reads xs (fatal f) ys rest e = absurd (cc)
-  onto_reads xs (reads more end) ys rest e = let same : end ≡ rest = cc in (more, ap (λ (x : List ℕ). reads more x) same)
+-- a text begins with a comma, or does not
+pub comma_cases : (text : List ℕ) → (byte comma text ≡ miss) ⊎ ((place : List ℕ) × (byte comma text ≡ reads comma place))
+comma_cases [] = inl refl
+comma_cases (b ∷ text) = elim (cases_Bool (b == comma)) [ inl is ↦ inr (text, rw is refl) | inr other ↦ inl (rw other refl) ]
 
-  -- a text ends in what is left after many elements
-  many_ends : (n : ℕ) (text : List ℕ) (xs : List A) (rest : List ℕ) → many (after_comma one) n text ≡ reads xs rest → EndsIn text rest
-  many_ends zero text xs rest e = let same : text ≡ rest = cc in rw same (EndsIn-self rest)
-  many_ends (suc n) text xs rest e = go (after_comma one text) refl (λ after more f. many_ends n after more rest f)
-    where
-      -- a text ends in what is left after an element and those after it
-      go : (r : Reading A) → after_comma one text ≡ r
-          → ((after : List ℕ) (more : List A) → many (after_comma one) n after ≡ reads more rest
-          → EndsIn after rest) → EndsIn text rest
-      go miss f more = let m = rw f at e in let same : text ≡ rest = cc in rw same (EndsIn-self rest)
-      go (fatal g) f more = absurd (let m = rw f at e in cc)
-      go (reads x after) f more =
-          let m = onto_reads (x ∷ []) (many (after_comma one) n after) xs rest (rw f at e) in
-          EndsIn-end text after rest (after_comma_ends one ends text x after f) (more after m.0 m.1)
+-- what a tag set is read from: a text without a comma at its start, or tags after a comma
+pub data TagSetRead (text : List ℕ) : Option (List (Pair Text Text)) → List ℕ → Type 0 where
+  no_set : byte comma text ≡ miss → TagSetRead text None text
+  some_set : (mark : List ℕ) (tags : List (Pair Text Text)) (rest : List ℕ) → byte comma text ≡ reads comma mark
+      → separated_list tag mark ≡ reads tags rest → TagSetRead text (Some tags) rest
 
-  -- so does what is after those that are joined by commas
-  pub joined_ends : (text : List ℕ) (xs : List A) (rest : List ℕ) → separated_list one text ≡ reads xs rest → EndsIn text rest
-  joined_ends text xs rest e =
-      let first = bind_reads (one text) _ xs rest e in
-      let m = onto_reads (first.first ∷ []) (many (after_comma one) (length first.mid) first.mid) xs rest first.next in
-      EndsIn-end text first.mid rest (ends text first.first first.mid first.was) (many_ends (length first.mid) first.mid m.0 rest m.1)
+-- each tag set is read from such a text
+pub tag_set_read : (text rest : List ℕ) (set : Option (List (Pair Text Text))) → tag_set text ≡ Ok (record { value = set; rest = rest })
+    → TagSetRead text set rest
+tag_set_read text rest set e = elim (comma_cases text) [
+  | inl none ↦ same None text (no_set none) (rw none at e)
+  | inr mark ↦ after mark.0 mark.1 (separated_list tag mark.0) refl
+]
+  where
+    -- what was read is what the set says
+    same : (x : Option (List (Pair Text Text))) (r : List ℕ) → TagSetRead text x r
+        → (let y : Result (Read (Option (List (Pair Text Text)))) Fault = Ok (record { value = x; rest = r }) in y) ≡ Ok
+        (record { value = set; rest = rest })
+        → TagSetRead text set rest
+    same x r h is =
+        let both : (let y : Read (Option (List (Pair Text Text))) = record { value = x; rest = r } in y) ≡ record { value = set; rest = rest } = cc in
+        subst (λ (y : Read (Option (List (Pair Text Text)))). TagSetRead text y.value y.rest) both h
+
+    -- tags come after a comma
+    after : (mark : List ℕ) → byte comma text ≡ reads comma mark → (r : Reading (List (Pair Text Text)))
+        → separated_list tag mark ≡ r → TagSetRead text set rest
+    after mark m miss j = absurd (let h = rw (m, j) at e in cc)
+    after mark m (fatal f) j = absurd (let h = rw (m, j) at e in cc)
+    after mark m (reads xs end) j = same (Some xs) end (some_set mark xs end m j) (rw (m, j) at e)
+
+-- joined tags come after commas, with the comma before them
+separated_after : (tags : List (Pair Text Text)) (text mark rest : List ℕ) → text ≡ comma ∷ mark → 0 < length tags
+    → SeparatedBy tag tags mark rest → SeparatedAfterComma tag tags text rest
+separated_after [] text mark rest e some h = absurd (omega arith)
+separated_after (t ∷ tags) text mark rest e some h = (mark, h.0, e, h.1, h.2)
+
+-- the tags of a set are there, each after a comma, before what it leaves
+pub set_separated : (text rest : List ℕ) (set : Option (List (Pair Text Text)))
+    → tag_set text ≡ Ok (record { value = set; rest = rest }) → SeparatedAfterComma tag (some_tags set) text rest
+set_separated text rest set e = by_read (tag_set_read text rest set e)
+  where
+    -- there is none, or each comes after a comma
+    by_read : {set : Option (List (Pair Text Text))} {rest : List ℕ} → TagSetRead text set rest
+        → SeparatedAfterComma tag (some_tags set) text rest
+    by_read (no_set none) = refl
+    by_read (some_set mark tags rest sign read) =
+        let full = (the_most_is_read tag (λ t. (tag_no_longer t).holds) mark tags rest).0 read in
+        separated_after tags text mark rest (byte_parts comma text comma mark sign).1 full.some full.longest.separated
+
+-- a text ends in what is left after tags that come after commas
+tags_end : (tags : List (Pair Text Text)) (text rest : List ℕ) → SeparatedAfterComma tag tags text rest → EndsIn text rest
+tags_end [] text rest h = rw h (EndsIn-self rest)
+tags_end (t ∷ tags) text rest h =
+    let first = EndsIn-end text h.0 h.1 (record { front = comma ∷ []; is = h.2 }) (tag_ends h.0 t h.1 h.3) in
+    EndsIn-end text h.1 rest first (tags_end tags h.1 rest h.4)
+
+-- what comes after a tag set ends the text
+pub tag_set_ends : (text : List ℕ) (t : Read (Option (List (Pair Text Text)))) → tag_set text ≡ Ok t → EndsIn text t.rest
+tag_set_ends text t e = tags_end (some_tags t.value) text t.rest (set_separated text t.rest t.value e)
+
+-- what a field set was read from: fields that commas join
+pub fields_joined : (dialect : Dialect) (text rest : List ℕ) (fs : List (Pair Text (Value Text))) → field_set dialect text ≡ reads fs rest
+    → (end : List ℕ) × (separated_list field text ≡ reads fs end)
+fields_joined dialect text rest fs e =
+    let parts = bind_reads (separated_list field text) (λ xs. reads xs.value (without_comma dialect xs.value xs.rest)) fs rest e in
+    let same : parts.first ≡ fs = cc (parts.next) in
+    (parts.mid, subst (λ xs. separated_list field text ≡ reads xs parts.mid) same parts.was)
+
+-- the raw text of a series is at the start of its line
+pub series_ends : (line : List ℕ) (m : Text) (rest : List ℕ) (tags : Read (Option (List (Pair Text Text))))
+    → name a_measurement line ≡ reads m rest → tag_set rest ≡ Ok tags → EndsIn line tags.rest
+series_ends line m rest tags e t = EndsIn-end line rest tags.rest (name_ends a_measurement line m rest e) (tag_set_ends rest tags t)

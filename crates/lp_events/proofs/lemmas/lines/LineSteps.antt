@@ -1,13 +1,17 @@
--- The pieces that a call of `next_line` skips, and how many items are left after it.
-use Rattle.std.proofs.Common.{◌≡◌, ℕ, ◌<◌, ◌≤◌, List, [], ◌∷◌, ◌++◌, length, ap, refl, arith, append_assoc, length-append}
-use Rattle.std.specs.Prelude.{Option, Some, None}
+-- The pieces that a call of `next_line` skips, and how many bytes, pieces and items are left after it.
+use Rattle.std.proofs.Common.{◌≡◌, ℕ, ◌+◌, ◌<◌, ◌≤◌, List, [], ◌∷◌, ◌++◌, length, Bool, true, false, ap, refl, sym, arith, append_assoc, cond}
+use Rattle.std.proofs.Common.{length-append}
+use Rattle.std.specs.Prelude.{◌==◌, ◌||◌, Option, Some, None}
+use Rattle.std.specs.Borrow.{Bor}
 use Rattle.std.specs.List.{All}
 use Rattle.std.proofs.lemmas.List.Elements.{All-push}
+use Rattle.lp_format.specs.format.Bytes.{hash, newline}
 use Rattle.lp_format.specs.format.Dialects.{Dialect}
 use Rattle.lp_format.specs.format.Pieces.{Left, Pieces, Pieces.last, Pieces.cut, PiecesLeft, most_pieces}
 use Rattle.lp_format.specs.format.Trimming.{trimmed}
-use Rattle.lp_events.specs.code.LineSteps.{IsBlankPiece, most_items}
-use Rattle.lp_format.specs.format.Bytes.{newline}
+use Rattle.lp_format.proofs.lemmas.line.TrimLemmas.{is_blank, left_of, trimmed_is}
+use Rattle.lp_format.proofs.lemmas.split.SplitPieces.{pieces_exist}
+use Rattle.lp_events.specs.code.LineSteps.{GivesLine, IsBlankPiece, most_items}
 
 -- blank pieces were left before these
 pub record Skipped (before : Left) (others : List (List ℕ)) : Type 0 where
@@ -25,36 +29,91 @@ Skipped-more before piece others e h =
       blank = All-push IsBlankPiece h.skipped piece h.blank e;
     }
 
--- where something is left of a piece, it is not empty
-some_before_trimming : (piece : List ℕ) → 0 < length (trimmed piece) → 0 < length piece
-unfolding trimmed
-some_before_trimming [] h = let none : length (trimmed []) ≡ 0 = refl in absurd (omega arith)
-some_before_trimming (b ∷ piece) h = omega arith
+-- how many bytes pieces have, with one for each
+abbrev total : List (List ℕ) → ℕ
+total [] = 0
+total (piece ∷ pieces) = length piece + 1 + total pieces
 
--- a piece is no longer than its text
-piece_fits : (dialect : Dialect) {text : List ℕ} {pieces : List (List ℕ)} → Pieces dialect text pieces
-    → (xs : List (List ℕ)) (p : List ℕ) (ys : List (List ℕ)) → pieces ≡ xs ++ p ∷ ys → length p ≤ length text
-piece_fits dialect (last piece h) [] p ys e = let same : piece ≡ p = cc in let n = ap length same in omega arith
-piece_fits dialect (last piece h) (x ∷ []) p ys e = absurd (cc)
-piece_fits dialect (last piece h) (x ∷ y ∷ xs) p ys e = absurd (cc)
-piece_fits dialect (cut piece text pieces c h) [] p ys e =
-    let same : piece ≡ p = cc in let n = ap length same in omega (arith, length-append piece (newline ∷ text))
-piece_fits dialect (cut piece text pieces c h) (x ∷ xs) p ys e =
-    let others : pieces ≡ xs ++ p ∷ ys = cc in
-    omega (arith, piece_fits dialect h xs p ys others, length-append piece (newline ∷ text))
+-- the pieces of a text have its bytes, each with a newline, but for one
+pieces_total : (dialect : Dialect) {text : List ℕ} {pieces : List (List ℕ)} → Pieces dialect text pieces → total pieces ≡ length text + 1
+pieces_total dialect (last piece h) = omega arith
+pieces_total dialect (cut piece text pieces c h) = omega (arith, pieces_total dialect h, length-append piece (newline ∷ text))
+
+-- a piece among others, with the bytes of those after it
+total_after : (skipped : List (List ℕ)) (piece : List ℕ) (pieces : List (List ℕ))
+    → length piece + 1 + total pieces ≤ total (skipped ++ piece ∷ pieces)
+total_after [] piece pieces = omega arith
+total_after (p ∷ skipped) piece pieces = omega (arith, total_after skipped piece pieces)
+
+-- the pieces that are left have the bytes that are left
+left_total : (left : Left) (pieces : List (List ℕ)) → PiecesLeft left pieces → total pieces ≡ most_pieces left.text
+left_total left pieces h = go left.dialect left.text h
+  where
+    -- no text has no pieces
+    go : (dialect : Dialect) (text : Option (List ℕ)) → PiecesLeft (record { dialect = dialect; text = text }) pieces
+        → total pieces ≡ most_pieces text
+    go dialect None none = rw none refl
+    go dialect (Some text) h = pieces_total dialect h
+
+-- what is left has pieces
+pub left_pieces : (left : Left) → (pieces : List (List ℕ)) × PiecesLeft left pieces
+left_pieces left = go left.dialect left.text
+  where
+    -- each text has pieces
+    go : (dialect : Dialect) (text : Option (List ℕ)) → (pieces : List (List ℕ)) × PiecesLeft (record { dialect = dialect; text = text }) pieces
+    go dialect None = ([], refl)
+    go dialect (Some text) = pieces_exist dialect text
+
+-- where no piece is left, none can come
+pub none_comes : (left : Left) → PiecesLeft left [] → most_pieces left.text ≡ 0
+none_comes left none = sym (left_total left [] none)
+
+-- the bytes of a piece that was given are no longer left
+pieces_less : (before after : Left) (skipped : List (List ℕ)) (piece : List ℕ) (others : List (List ℕ))
+    → PiecesLeft before (skipped ++ piece ∷ others) → PiecesLeft after others → length piece + 1 + most_pieces after.text ≤ most_pieces before.text
+pieces_less before after skipped piece others h k =
+    omega (arith, left_total after others k, left_total before (skipped ++ piece ∷ others) h, total_after skipped piece others)
+
+-- either of two texts
+either_fits : (b : Bool) (xs ys : List ℕ) (n : ℕ) → length xs ≤ n → length ys ≤ n → length (cond b xs ys) ≤ n
+either_fits true xs ys n h k = h
+either_fits false xs ys n h k = k
+
+-- what is left of a text when it is trimmed is no longer than the text
+left_fits : (in_comment : Bool) (text : List ℕ) → length (left_of in_comment text) ≤ length text
+left_fits in_comment [] = omega arith
+left_fits in_comment (b ∷ rest) =
+    let n = length (b ∷ rest) in
+    let outside : length (left_of false rest) ≤ n = omega (arith, left_fits false rest) in
+    let inside : length (left_of true rest) ≤ n = omega (arith, left_fits true rest) in
+    either_fits (b == newline) _ _ n outside
+    (either_fits (in_comment || b == hash) _ _ n inside (either_fits (is_blank b) _ (b ∷ rest) n outside (omega arith)))
+
+-- a piece is no shorter than what is left of it when it is trimmed
+trimmed_fits : (piece : List ℕ) → length (trimmed piece) ≤ length piece
+trimmed_fits piece = rw (trimmed_is piece) (left_fits false piece)
+
+-- the bytes of a line that was found are no longer left
+pub line_less : (before after : Left) (line : Bor (List ℕ)) → GivesLine before (Some line) after
+    → length line.now + 1 + most_pieces after.text ≤ most_pieces before.text
+line_less before after line found =
+    let some = left_pieces after in
+    let gave = found.1 some.0 some.1 in
+    let less = pieces_less before after gave.skipped gave.piece some.0 gave.left some.1 in
+    omega (arith, less, trimmed_fits gave.piece, ap length gave.line_is)
 
 -- after an item fewer items are left
-pub items_less : (before after : Left) (piece : List ℕ) → most_pieces after.text < most_pieces before.text → 0 < length (trimmed piece)
+pub items_less : (before after : Left) (piece : List ℕ) → 0 < length (trimmed piece)
     → ((others : List (List ℕ)) → PiecesLeft after others → Skipped before (piece ∷ others))
     → most_items after.text < most_items before.text
-items_less before after piece less some h = go before.dialect after.dialect before.text after.text less h
+items_less before after piece some h =
+    let left = left_pieces after in
+    let gave = h left.0 left.1 in
+    let less = pieces_less before after gave.skipped piece left.0 gave.left left.1 in
+    go before.text after.text (omega (arith, less, trimmed_fits piece))
   where
-    -- after an item fewer items can follow
-    go : (d e : Dialect) (t u : Option (List ℕ)) → most_pieces u < most_pieces t
-        → ((others : List (List ℕ)) → PiecesLeft (record { dialect = e; text = u }) others
-        → Skipped (record { dialect = d; text = t }) (piece ∷ others)) → most_items u < most_items t
-    go d e None u less h = absurd (omega arith)
-    go d e (Some t) (Some u) less h = omega arith
-    go d e (Some t) None less h =
-        let s = h [] refl in
-        omega (arith, piece_fits d s.left s.skipped piece [] refl, some_before_trimming piece some)
+    -- fewer pieces are left, and one of them is not empty
+    go : (t u : Option (List ℕ)) → 1 + most_pieces u < most_pieces t → most_items u < most_items t
+    go None u less = absurd (omega arith)
+    go (Some t) None less = omega arith
+    go (Some t) (Some u) less = omega arith

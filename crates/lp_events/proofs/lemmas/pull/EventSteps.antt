@@ -1,34 +1,44 @@
--- What one step of a reader means for the events that are left.
+-- What one step of a reader means for the events that are left, and what a sink was told of those that came.
 use Rattle.std.proofs.Common.{◌≡◌, ℕ, ◌-◌, ◌<◌, List, [], ◌∷◌, ◌++◌, length, map, drop, Bool, true, false, refl, sym, ◌∙◌, ap, subst, arith}
-use Rattle.std.proofs.Common.{append_assoc, inl, inr, length-append, length-drop, length-take}
-use Rattle.std.specs.Prelude.{ℤ, ◌⊎◌, ◌==◌, MatchOption, Option, Some, None, Result, Ok, Err, is_some}
+use Rattle.std.proofs.Common.{append_assoc, inl, inr, length-append, length-drop, length-take, ◌+◌, ◌≤◌, eq-eqb}
+use Rattle.std.specs.Prelude.{ℤ, ◌==◌, MatchOption, Option, Some, None, Result, Ok, Err, is_some, IfOk, MatchResult}
 use Rattle.std.specs.Borrow.{Bor}
 use Rattle.std.proofs.lemmas.Bool.{cases_Bool, ne_eqb}
 use Rattle.std.proofs.lemmas.Bool.Decides.{nat_tests}
 use Rattle.std.proofs.lemmas.List.{append-nil, map_push}
 use Rattle.std.proofs.Math.Seq.{take-append_seam}
+use Rattle.std.specs.List.{All}
+use Rattle.std.proofs.lemmas.List.Elements.{All-head, All-tail}
+use Rattle.lp_events.specs.declared.pull.Event as given
 use Rattle.lp_format.specs.format.Bytes.{comma, space}
 use Rattle.lp_format.specs.format.Dialects.{Dialect}
 use Rattle.lp_format.specs.format.Lines.{after_comma, answer, byte, field, field_set, front_before, spaces, tag, timestamp, without_comma}
-use Rattle.lp_format.specs.format.Names.{NameKind, a_measurement, name, spelled, spelled_len}
+use Rattle.lp_format.specs.format.Lines.{complete}
+use Rattle.lp_format.specs.format.Names.{NameKind, name, spelled, spelled_len}
 use Rattle.lp_format.specs.format.Pieces.{Left}
 use Rattle.lp_format.specs.format.Points.{Pair}
-use Rattle.lp_format.specs.format.Readings.{Fault, Text, cannot_parse_entire_line, fatal, field_set_missing, measurement_value_invalid}
-use Rattle.lp_format.specs.format.Readings.{miss, reads, tag_set_malformed, take_while1}
+use Rattle.lp_format.specs.format.Readings.{Fault, Text, cannot_parse_entire_line, fatal}
+use Rattle.lp_format.specs.format.Readings.{miss, reads, tag_set_malformed}
 use Rattle.lp_format.specs.format.Values.{Value}
+use Rattle.lp_format.specs.format.Items.{answers_of, answers_of_piece}
+use Rattle.lp_format.specs.format.Trimming.{trimmed}
 use Rattle.lp_values.proofs.lemmas.fields.ReadingLemmas.{EndsIn, bind_reads, byte_parts, name_parts}
-use Rattle.lp_events.specs.code.Events.{AreEventsOf, AreFrontEvents, Event, ended, failed, front_events, named, tagged, valued}
-use Rattle.lp_events.specs.code.EventsLeft.{AreEventsLeft, Completes, FieldsRead, NamesRead, SeriesRead, Steps, told}
-use Rattle.lp_events.specs.declared.place.Place.{Place}
-use Rattle.lp_events.specs.declared.pull.Event as given
 use Rattle.lp_values.specs.code.SpelledParts.{spelled_fault}
 use Rattle.lp_values.specs.declared.spelled.SpelledFault.{SpelledFault}
-use Rattle.lp_events.proofs.lemmas.fields.ManyLemmas.{so_far_end, so_far_fatal, so_far_more, so_far_start}
+use Rattle.lp_events.specs.code.Events.{AreEventsOf, AreFrontEvents, Event, ended, failed, front_events, named, tagged, valued}
+use Rattle.lp_events.specs.code.Events.{AreEventsOfAll, TakesAll}
+use Rattle.lp_events.specs.code.EventsLeft.{AreEventsLeft, Completes, FieldsRead, NamesRead, SeriesRead, Steps, told, GivesEvent}
+use Rattle.lp_events.specs.code.EventsLeft.{HasEventsLeft, most_of_line}
+use Rattle.lp_events.specs.declared.place.Place.{Place}
+use Rattle.lp_events.proofs.lemmas.fields.ManyLemmas.{so_far_end, so_far_fatal, so_far_more, so_far_start, comma_cases}
+use Rattle.lp_events.specs.code.LineSteps.{GivesLine, IsBlankPiece}
+use Rattle.lp_events.specs.declared.pull.ParseEvents.{ParseEvents}
+use Rattle.lp_events.proofs.lemmas.events.LineEvents.{takes_more, complete_none, complete_some}
 
 -- a line that is completed after one event more is completed with that event
-pub completes_more : (line : List ℕ) (front : List Event) (event : Event) (left : Left) (others : List Event)
+pub completes_more : {line : List ℕ} {front : List Event} {event : Event} {left : Left} {others : List Event}
     → Completes line (front ++ event ∷ []) left others → Completes line front left (event ∷ others)
-completes_more line front event left others h =
+completes_more {line} {front} {event} {left} h =
     record {
       first = event ∷ h.first;
       others = h.others;
@@ -38,9 +48,9 @@ completes_more line front event left others h =
     }
 
 -- a fault completes its line
-pub completes_fault : (line : List ℕ) (front : List Event) (fault : Fault) (left : Left) (others : List Event) → AreFrontEvents front
+pub completes_fault : {line : List ℕ} {front : List Event} {fault : Fault} {left : Left} {others : List Event} → AreFrontEvents front
     → answer left.dialect line ≡ Err fault → AreEventsLeft left others → Completes line front left (failed fault ∷ others)
-completes_fault line front fault left others is_front is h =
+completes_fault {front = front} {fault = fault} {others = others} is_front is h =
     record {
       first = failed fault ∷ [];
       others = others;
@@ -70,21 +80,6 @@ front_is line rest h =
     let n : length (h.front ++ rest) - length rest ≡ length h.front = omega (arith, length-append h.front rest) in
     let front : front_before (h.front ++ rest) rest ≡ h.front = rw n (take-append_seam h.front rest) in
     subst (λ l. front_before l rest ++ rest ≡ l) (sym h.is) (ap (λ (x : List ℕ). x ++ rest) front)
-
--- a measurement that is fatal
-pub begin_fatal : (dialect : Dialect) (line : List ℕ) (fault : Fault) → name a_measurement line ≡ fatal fault → answer dialect line ≡ Err fault
-unfolding answer
-begin_fatal dialect line fault e = rw e refl
-
--- a line without a measurement
-pub begin_miss : (dialect : Dialect) (line : List ℕ) → name a_measurement line ≡ miss → answer dialect line ≡ Err measurement_value_invalid
-unfolding answer
-begin_miss dialect line e = rw e refl
-
--- a text begins with a comma, or does not
-comma_cases : (text : List ℕ) → (byte comma text ≡ miss) ⊎ ((place : List ℕ) × (byte comma text ≡ reads comma place))
-comma_cases [] = inl refl
-comma_cases (b ∷ text) = elim (cases_Bool (b == comma)) [ inl is ↦ inr (text, rw is refl) | inr other ↦ inl (rw other refl) ]
 
 -- what was stripped of a text, if it begins with a comma
 pub stripped : (result : Option (Bor (List ℕ))) (text : List ℕ)
@@ -144,42 +139,25 @@ module _ (line : List ℕ) (m : Text) (tags : List (Pair Text Text)) (rest : Lis
   names_end false (start, place, e, mark, so_far) bare is =
       record { start = start; set = Some tags; name_is = e; set_is = rw (mark, so_far_end tag place tags rest so_far is) refl; tags_are = refl }
 
-  module _ (h : SeriesRead line m tags rest) where
-    -- no space comes after the tags
-    pub no_space : (dialect : Dialect) → byte space rest ≡ miss → answer dialect line ≡ Err take_while1
-    unfolding answer
-    no_space dialect s = rw (h.name_is, h.set_is, s) refl
+-- the first field after the tags
+pub first_read : {line : List ℕ} {m : Text} {tags : List (Pair Text Text)} {rest : List ℕ} → SeriesRead line m tags rest
+    → (gap : List ℕ) (x : Pair Text (Value Text)) (after : List ℕ) → byte space rest ≡ reads space gap
+    → field (drop (spaces rest) rest) ≡ reads x after
+    → FieldsRead line (front_before line rest) m tags (x ∷ []) after true
+first_read {rest = rest} h gap x after s f =
+    record {
+      after = rest;
+      gap = gap;
+      series_read = h;
+      series_is = refl;
+      gap_is = s;
+      so_far = so_far_start field x (drop (spaces rest) rest) after f;
+      some = omega arith;
+      first_is = refl;
+    }
 
-    -- no field comes after the tags
-    pub no_field : (dialect : Dialect) (gap : List ℕ) → byte space rest ≡ reads space gap → field (drop (spaces rest) rest) ≡ miss
-        → answer dialect line ≡ Err field_set_missing
-    unfolding answer
-    no_field dialect gap s f = rw (h.name_is, h.set_is, s, f) refl
-
-    -- the first field is fatal
-    pub first_fatal : (dialect : Dialect) (gap : List ℕ) (fault : Fault) → byte space rest ≡ reads space gap
-        → field (drop (spaces rest) rest) ≡ fatal fault → answer dialect line ≡ Err fault
-    unfolding answer
-    first_fatal dialect gap fault s f = rw (h.name_is, h.set_is, s, f) refl
-
-    -- the first field
-    pub first_read : (gap : List ℕ) (x : Pair Text (Value Text)) (after : List ℕ) → byte space rest ≡ reads space gap
-        → field (drop (spaces rest) rest) ≡ reads x after
-        → FieldsRead line (front_before line rest) m tags (x ∷ []) after true
-    first_read gap x after s f =
-        record {
-          after = rest;
-          gap = gap;
-          series_read = h;
-          series_is = refl;
-          gap_is = s;
-          so_far = so_far_start field x (drop (spaces rest) rest) after f;
-          some = omega arith;
-          first_is = refl;
-        }
-
-module _ (line series : List ℕ) (m : Text) (tags : List (Pair Text Text)) (fields : List (Pair Text (Value Text))) (rest : List ℕ)
-    (is_first : Bool) (h : FieldsRead line series m tags fields rest is_first) where
+module _ {line series : List ℕ} {m : Text} {tags : List (Pair Text Text)} {fields : List (Pair Text (Value Text))} {rest : List ℕ}
+    {is_first : Bool} (h : FieldsRead line series m tags fields rest is_first) where
   -- one field more
   pub fields_more : (x : Pair Text (Value Text)) (after : List ℕ) → after_comma field rest ≡ reads x after
       → length after < length rest → FieldsRead line series m tags (fields ++ x ∷ []) after false
@@ -215,26 +193,35 @@ module _ (line series : List ℕ) (m : Text) (tags : List (Pair Text Text)) (fie
     unfolding answer
     time_fault fault t = rw (h.series_read.name_is, h.series_read.set_is, h.gap_is, all_fields, t) refl
 
-    -- something is left after it
+    -- what is left after it decides
+    time_read : (time : Option ℤ) (more : List ℕ)
+        → timestamp (without_comma dialect fields rest) ≡ Ok (record { value = time; rest = more })
+        → answer dialect line ≡ complete (record {
+          series = series;
+          measurement = m;
+          tags = h.series_read.set;
+          fields = fields;
+          timestamp = time;
+        }) more
+    unfolding answer
+    time_read time more t = rw (h.series_read.name_is, h.series_read.set_is, h.gap_is, all_fields, t, h.series_is) refl
+
+    -- something is left
     pub left_fault : (time : Option ℤ) (more : List ℕ)
         → timestamp (without_comma dialect fields rest) ≡ Ok (record { value = time; rest = more }) → 0 < length more
         → answer dialect line ≡ Err (cannot_parse_entire_line more)
-    unfolding answer
-    left_fault time [] t some = absurd (omega arith)
-    left_fault time (b ∷ more) t some = rw (h.series_read.name_is, h.series_read.set_is, h.gap_is, all_fields, t) refl
+    left_fault time more t some = time_read time more t ∙ complete_some _ more some
 
     -- nothing is left: the end completes the line
     pub completes_end : (left : Left) (others : List Event) (time : Option ℤ) (more : List ℕ) → left.dialect ≡ dialect
         → timestamp (without_comma dialect fields rest) ≡ Ok (record { value = time; rest = more }) → length more ≡ 0
         → AreEventsLeft left others → Completes line (front_events m tags fields) left (ended series time ∷ others)
-    unfolding answer
-    completes_end left others time (b ∷ more) d t empty later = absurd (omega arith)
-    completes_end left others time [] d t empty later =
+    completes_end left others time more d t empty later =
         record {
           first = ended series time ∷ [];
           others = others;
           events_are = refl;
-          line_is = rw (d, h.series_read.name_is, h.series_read.set_is, h.gap_is, all_fields, t, h.series_is, h.series_read.tags_are) refl;
+          line_is = rw (d, time_read time more t ∙ complete_none _ more empty, h.series_read.tags_are) refl;
           others_are = later;
         }
 
@@ -250,3 +237,57 @@ tag_after m tags t =
 pub field_after : (m : Text) (tags : List (Pair Text Text)) (fields : List (Pair Text (Value Text))) (x : Pair Text (Value Text))
     → front_events m tags (fields ++ x ∷ []) ≡ front_events m tags fields ++ valued x ∷ []
 field_after m tags fields x = simp (append_assoc, map_push)
+
+-- blank pieces have no events
+pub blank_events : (dialect : Dialect) (skipped : List (List ℕ)) → All IsBlankPiece skipped → AreEventsOfAll [] (answers_of dialect skipped)
+unfolding answers_of_piece
+blank_events dialect [] blank = refl
+blank_events dialect (p ∷ skipped) blank =
+    let e : (length (trimmed p) == 0) ≡ true = eq-eqb (length (trimmed p)) 0 (All-head IsBlankPiece p skipped blank) in
+    rw e (blank_events dialect skipped (All-tail IsBlankPiece p skipped blank))
+
+-- the events of a line after blank pieces, and of the pieces after it
+line_first : (dialect : Dialect) (skipped : List (List ℕ)) (piece : List ℕ) (pieces : List (List ℕ)) (first others events : List Event)
+    → All IsBlankPiece skipped → 0 < length (trimmed piece) → events ≡ first ++ others → AreEventsOf first (answer dialect (trimmed piece))
+    → AreEventsOfAll others (answers_of dialect pieces) → AreEventsOfAll events (answers_of dialect (skipped ++ piece ∷ pieces))
+unfolding answers_of_piece
+line_first dialect [] piece pieces first others events blank some is one all =
+    let e : (length (trimmed piece) == 0) ≡ false = ne_eqb (length (trimmed piece)) 0 (λ none. absurd (omega arith)) in
+    rw e (first, others, is, one, all)
+line_first dialect (p ∷ skipped) piece pieces first others events blank some is one all =
+    let e : (length (trimmed p) == 0) ≡ true = eq-eqb (length (trimmed p)) 0 (All-head IsBlankPiece p skipped blank) in
+    rw e (line_first dialect skipped piece pieces first others events (All-tail IsBlankPiece p skipped blank) some is one all)
+
+-- what completes the line that was found was left before it
+pub line_left : (before after : Left) (line : Bor (List ℕ)) (events : List Event) → GivesLine before (Some line) after
+    → Completes line.now [] after events → AreEventsLeft before events
+line_left before after line events found h =
+    let later = h.others_are in
+    let gave = found.1 later.pieces later.are_left in
+    record {
+      pieces = gave.skipped ++ gave.piece ∷ later.pieces;
+      are_left = gave.left;
+      are =
+          line_first before.dialect gave.skipped gave.piece later.pieces h.first h.others events gave.blank
+          (rw gave.line_is at gave.some) h.events_are (rw (found.0, gave.line_is) at h.line_is) (rw found.0 at later.are);
+    }
+
+-- after a step that leaves fewer events of a line, fewer are left
+pub step_less : (result : Result (given.Event × Place) SpelledFault) (line after before : ℕ) → IfOk result (λ p. most_of_line p.1 < line + 1)
+    → line + 1 + after ≤ before → MatchResult result (λ p. most_of_line p.1 + after < before) (λ fault. after < before)
+step_less (Ok p) line after before less fits = omega arith
+step_less (Err fault) line after before less fits = omega arith
+
+-- a sink was told of events, and with those that are left now they were left at the start
+abbrev pub ToldFrom : {S : Type 0} → (S → Event → S → Type 0) → S → S → ParseEvents → ParseEvents → Type 0
+ToldFrom takes before after start reader =
+    (others : List Event) → HasEventsLeft reader others
+    → (events : List Event) × TakesAll takes before events after × HasEventsLeft start (events ++ others)
+
+-- it was told of one event more
+pub told_from_more : {S : Type 0} (takes : S → Event → S → Type 0) (before mid after : S) (start reader next : ParseEvents)
+    (event : given.Event) → ToldFrom takes before mid start reader → GivesEvent reader (Some event) next → takes mid (told event) after
+    → ToldFrom takes before after start next
+told_from_more takes before mid after start reader next event so_far given one = λ others later.
+    let was = so_far (told event ∷ others) (given others later) in
+    (was.0 ++ told event ∷ [], takes_more takes before mid after was.0 (told event) was.1 one, rw append_assoc was.2)

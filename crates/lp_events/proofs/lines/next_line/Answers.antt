@@ -6,9 +6,8 @@ use Rattle.lp_events.proofs.lines.next_line.Goals as goal
 
 pub returns-then-not-is_empty-clause-fewer : goal.returns-then-not-is_empty-clause-fewer
 returns-then-not-is_empty-clause-fewer c =
-    let g = (c.in-Some.ensures.goes.on tt).2 in
     let some : 0 < length c.trimmed-line.result.now = grind (arith, nat_tests) in
-    items_less c.args.lines.now c.next.new.self c.in-Some.piece.now (omega arith) (rw (← c.trimmed-line.ensures) some)
+    items_less c.args.lines.now c.next.new.self c.in-Some.piece.now (rw (← c.trimmed-line.ensures) some)
     (λ others h. c.loop-piece.invariant.skipped _ (c.in-Some.ensures.steps.1 others h))
 
 pub loop-piece-preserved : goal.loop-piece-preserved

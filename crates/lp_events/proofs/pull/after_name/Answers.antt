@@ -2,10 +2,9 @@ use Rattle.std.proofs.Common.{◌≡◌, [], ◌∷◌, ◌++◌, true, refl, sy
 use Rattle.std.proofs.lemmas.Result.{err_from_is_err_and}
 use Rattle.lp_format.specs.format.Bytes.{comma}
 use Rattle.lp_format.specs.format.Lines.{byte, tag}
-use Rattle.lp_format.specs.format.Readings.{miss, tag_set_malformed}
-use Rattle.lp_values.specs.code.SpelledParts.{spelled_fault}
+use Rattle.lp_format.specs.format.Readings.{miss}
 use Rattle.lp_values.proofs.lemmas.fields.ReadingLemmas.{EndsIn, EndsIn-end, after_comma_ends, tag_ends}
-use Rattle.lp_events.specs.code.Events.{front_events, spelled_tag, tagged}
+use Rattle.lp_events.specs.code.Events.{spelled_tag}
 use Rattle.lp_events.specs.code.EventsLeft.{AreLeftAfterSeries, AreLeftFrom}
 use Rattle.lp_events.specs.declared.place.Place.TheVariants.{Names}
 use Rattle.lp_events.proofs.lemmas.pull.EventSteps.{completes_fault, completes_more, front_is, names_end, names_fatal, names_malformed}
@@ -18,18 +17,16 @@ returns-in_err-key-clause-steps c =
     let p = err_from_is_err_and c.from_residual.result c.from_residual.ensures.1 in
     rw (p.1, p.2)
     (λ left others later m tags h.
-    completes_fault c.args.names.line.now (front_events m tags []) (spelled_fault c.in_err-key.field-0.0) left others
-    (inr (m, tags, [], refl))
-    (names_fatal c.args.names.line.now m tags c.args.names.rest.now left.dialect c.args.names.is_first _ h c.in_err-key.ensures.value)
-    later)
+    completes_fault (inr (m, tags, [], refl))
+    (names_fatal _ m tags c.args.names.rest.now left.dialect c.args.names.is_first _ h c.in_err-key.ensures.value) later)
 
 pub returns-then-is_some-clause-steps : goal.returns-then-is_some-clause-steps
 returns-then-is_some-clause-steps c = λ left others later m tags h.
-    let mark = stripped c.strip_byte.result c.args.names.rest.now c.strip_byte.ensures.value
-    (sym c.is_some.ensures ∙ c.if-is_some.true) in
-    completes_fault c.args.names.line.now (front_events m tags []) tag_set_malformed left others (inr (m, tags, [], refl))
-    (names_malformed c.args.names.line.now m tags c.args.names.rest.now left.dialect c.args.names.is_first mark.0 h
-    c.if-names.true mark.1 (rw c.in_default.is at c.in_ok-key.ensures.value)) later
+    let names = c.args.names in
+    let mark = stripped c.strip_byte.result names.rest.now c.strip_byte.ensures.value (sym c.is_some.ensures ∙ c.if-is_some.true) in
+    let no_tag = rw c.in_default.is at c.in_ok-key.ensures.value in
+    completes_fault (inr (m, tags, [], refl))
+    (names_malformed _ m tags names.rest.now left.dialect names.is_first mark.0 h c.if-names.true mark.1 no_tag) later
 
 pub returns-in_default-clause-steps : goal.returns-in_default-clause-steps
 returns-in_default-clause-steps c =
@@ -39,10 +36,9 @@ returns-in_default-clause-steps c =
           not_stripped w.strip_byte.result names.rest.now w.strip_byte.ensures.value (sym w.is_some.ensures ∙ w.if-is_some.false)
       | else-names-via-else-names w ↦ λ first. absurd (cc)
     ] in
+    let no_tag = rw c.in_default.is at c.in_ok-key.ensures.value in
     steps_from (AreLeftAfterSeries names.line.now names.rest.now) (AreLeftFrom (Names names)) c.first_field.result
-    (λ left events after m tags h. after m tags
-    (names_end names.line.now m tags names.rest.now names.is_first h bare (rw c.in_default.is at c.in_ok-key.ensures.value)))
-    c.first_field.ensures.steps
+    (λ left events after m tags h. after m tags (names_end _ m tags names.rest.now names.is_first h bare no_tag)) c.first_field.ensures.steps
 
 pub invariant_of-names : goal.invariant_of-names
 invariant_of-names c =
@@ -57,8 +53,8 @@ invariant_of-names c =
 pub returns-clause-steps : goal.returns-clause-steps
 returns-clause-steps c = λ left others later m tags h.
     let t = spelled_tag (c.in-Some.key, c.in-Some.value) in
-    completes_more c.args.names.line.now (front_events m tags []) (tagged t) left others
+    completes_more
     (rw (← tag_after m tags t)
     (later m (tags ++ t ∷ [])
-    (names_more c.args.names.line.now m tags c.args.names.rest.now c.args.names.is_first t c.in-Some.rest.now h
+    (names_more _ m tags c.args.names.rest.now c.args.names.is_first t c.in-Some.rest.now h
     (rw c.in-Some.is at c.in_ok-key.ensures.value) (rw c.in-Some.is at c.in_ok-key.ensures.less))))

@@ -1,14 +1,16 @@
--- Trimming from left to right.
-use Rattle.std.proofs.Common.{◌≡◌, ◌≢◌, ℕ, ◌+◌, ◌<◌, ◌≤◌, List, [], ◌∷◌, length, drop, slice_index, Bool, true, false, ◌||◌, refl, sym, ap}
-use Rattle.std.proofs.Common.{◌∙◌, arith, inl, inr, one-add}
+-- Trimming from left to right: it drops the longest front of blanks and comments.
+use Rattle.std.proofs.Common.{◌≡◌, ◌≢◌, ℕ, ◌+◌, ◌<◌, ◌≤◌, List, [], ◌∷◌, length, drop, slice_index, Bool, true, false, ◌||◌, refl}
+use Rattle.std.proofs.Common.{sym, ap, ◌∙◌, arith, inl, inr, one-add, suc, ◌++◌, subst, length-append, append_assoc}
 use Rattle.std.specs.Prelude.{◌==◌, if◌then◌else◌}
-use Rattle.std.specs.List.{join_with_byte, slice_split}
-use Rattle.std.proofs.lemmas.Bool.{cases_Bool, eqb-true, ne_eqb, or_right}
+use Rattle.std.specs.List.{join_with_byte, slice_split, All}
+use Rattle.std.proofs.lemmas.Bool.{cases_Bool, eqb-true, ne_eqb, or_right, eqb-false}
 use Rattle.std.proofs.lemmas.Grind.{common_steps}
 use Rattle.std.proofs.lemmas.List.Splits.{join_with_byte-slice_split}
 use Rattle.std.proofs.lemmas.List.{drop_all, drop_more}
 use Rattle.lp_format.specs.format.Bytes.{hash, is_one_of, newline, space, tab}
 use Rattle.lp_format.specs.format.Trimming.{is_comment_or_empty, trimmed, without_blanks, without_front}
+use Rattle.std.proofs.lemmas.List.Elements.{All-cons, All-nil}
+use Rattle.lp_format.specs.laws.Meanings.{IsBlankFront, IsLineEnd, empty, blank, comment}
 
 abbrev pub is_blank : ℕ → Bool
 is_blank b = is_one_of (space ∷ tab ∷ []) b
@@ -32,14 +34,6 @@ left_of in_comment (b ∷ rest) =
     else if is_blank b then left_of false rest
     else b ∷ rest
 
--- a first element that passes is dropped
-front_yes : {X : Type 0} (p : X → Bool) (x : X) (xs : List X) → p x ≡ true → without_front p (x ∷ xs) ≡ without_front p xs
-front_yes p x xs h = rw (h, one-add) refl
-
--- a first element that does not pass ends the front
-front_no : {X : Type 0} (p : X → Bool) (x : X) (xs : List X) → p x ≡ false → without_front p (x ∷ xs) ≡ x ∷ xs
-front_no p x xs h = rw h refl
-
 -- a line that goes on with what follows it
 join_first : (b : ℕ) (l : List ℕ) (ls : List (List ℕ)) → join_with_byte newline ((b ∷ l) ∷ ls) ≡ b ∷ join_with_byte newline (l ∷ ls)
 join_first b l [] = refl
@@ -49,28 +43,18 @@ module _ (b : ℕ) (l : List ℕ) (ls : List (List ℕ)) where
   -- a blank at the start changes nothing
   blank_first : is_blank b ≡ true → from_lines ((b ∷ l) ∷ ls) ≡ from_lines (l ∷ ls)
   blank_first h =
-      let same : is_skipped (b ∷ l) ≡ is_skipped l = ap is_comment_or_empty (front_yes is_blank b l h) in
       elim (cases_Bool (is_skipped l)) [
-        | inl skip ↦
-            ap (λ (xs : List (List ℕ)). without_blanks (join_with_byte newline xs))
-            (front_yes is_skipped (b ∷ l) ls (same ∙ skip) ∙ sym (front_yes is_skipped l ls skip))
-        | inr keep ↦
-            ap (λ (xs : List (List ℕ)). without_blanks (join_with_byte newline xs)) (front_no is_skipped (b ∷ l) ls (same ∙ keep))
-            ∙ ap without_blanks (join_first b l ls) ∙ front_yes is_blank b (join_with_byte newline (l ∷ ls)) h
-            ∙ sym (ap (λ (xs : List (List ℕ)). without_blanks (join_with_byte newline xs)) (front_no is_skipped l ls keep))
+        | inl skip ↦ simp (h, skip, one-add)
+        | inr keep ↦ simp (h, keep, join_first b l ls, one-add)
       ]
 
   -- a comment takes its line
   comment_first : b ≡ hash → from_lines ((b ∷ l) ∷ ls) ≡ from_lines ls
-  comment_first e =
-      ap (λ (xs : List (List ℕ)). without_blanks (join_with_byte newline xs)) (front_yes is_skipped (b ∷ l) ls (rw e refl))
+  comment_first e = rw (e, one-add) refl
 
   -- anything else is kept
   kept_first : is_blank b ≡ false → (b == hash) ≡ false → from_lines ((b ∷ l) ∷ ls) ≡ b ∷ join_with_byte newline (l ∷ ls)
-  kept_first no_blank no_hash =
-      let keep : is_skipped (b ∷ l) ≡ false = ap is_comment_or_empty (front_no is_blank b l no_blank) ∙ no_hash in
-      ap (λ (xs : List (List ℕ)). without_blanks (join_with_byte newline xs)) (front_no is_skipped (b ∷ l) ls keep)
-      ∙ ap without_blanks (join_first b l ls) ∙ front_no is_blank b (join_with_byte newline (l ∷ ls)) no_blank
+  kept_first no_blank no_hash = rw (no_blank, no_hash, join_first b l ls, no_blank) refl
 
 -- a text has a first line
 record Lines (text : List ℕ) : Type 0 where
@@ -88,23 +72,10 @@ has_lines (b ∷ text) =
       | inr on ↦ record { first = b ∷ more.first; others = more.others; are = rw (on, more.are) refl }
     ]
 
--- a byte that is no newline belongs to the first line
-first_more : (b : ℕ) (text : List ℕ) (h : (b == newline) ≡ false) → lines_of (b ∷ text) ≡ (b ∷ (has_lines text).first) ∷ (has_lines text).others
-first_more b text h = rw (h, (has_lines text).are) refl
-
 -- a text is trimmed from left to right, and in a comment from the next line on
 record Left (text : List ℕ) : Type 0 where
   outside : from_lines (lines_of text) ≡ left_of false text
   inside : from_lines (drop 1 (lines_of text)) ≡ left_of true text
-
--- what is left of a text that begins with a newline is what is left after it
-newline_left : (b : ℕ) (text : List ℕ) → (b == newline) ≡ true → Left text → Left (b ∷ text)
-newline_left b text cut more =
-    record {
-      outside = rw cut (ap (λ (ls : List (List ℕ)). without_blanks (join_with_byte newline ls))
-          (front_yes is_skipped [] (lines_of text) refl) ∙ more.outside);
-      inside = rw cut more.outside;
-    }
 
 -- what is left of a text that begins with another byte, from what is left after it
 other_left : (b : ℕ) (text : List ℕ) → (b == newline) ≡ false → Left text → Left (b ∷ text)
@@ -112,7 +83,7 @@ other_left b text on more =
     let l = (has_lines text).first in
     let ls = (has_lines text).others in
     let are = (has_lines text).are in
-    let split = first_more b text on in
+    let split : lines_of (b ∷ text) ≡ (b ∷ l) ∷ ls = rw (on, are) refl in
     let after : from_lines ls ≡ left_of true text = sym (ap (λ (ls : List (List ℕ)). from_lines (drop 1 ls)) are) ∙ more.inside in
     let separated_list : join_with_byte newline
     (l ∷ ls) ≡ text = ap (λ (ls : List (List ℕ)). join_with_byte newline ls) (sym are) ∙ join_with_byte-slice_split 10 text in
@@ -122,7 +93,7 @@ other_left b text on more =
             | inl sharp ↦ comment_first b l ls (eqb-true b hash sharp) ∙ after ∙ rw (on, sharp) refl
             | inr plain ↦
                 elim (cases_Bool (is_blank b)) [
-                  | inl blank ↦ blank_first b l ls blank ∙ ap from_lines (sym are) ∙ more.outside ∙ rw (on, plain, blank) refl
+                  | inl white ↦ blank_first b l ls white ∙ ap from_lines (sym are) ∙ more.outside ∙ rw (on, plain, white) refl
                   | inr kept ↦ kept_first b l ls kept plain ∙ ap (λ (xs : List ℕ). b ∷ xs) separated_list ∙ rw (on, plain, kept) refl
                 ]
           ];
@@ -134,7 +105,7 @@ left_is : (text : List ℕ) → Left text
 left_is [] = record { outside = refl; inside = refl }
 left_is (b ∷ text) =
     elim (cases_Bool (b == newline)) [
-      | inl cut ↦ newline_left b text cut (left_is text)
+      | inl cut ↦ record { outside = rw (cut, one-add) (left_is text).outside; inside = rw cut (left_is text).outside }
       | inr on ↦ other_left b text on (left_is text)
     ]
 
@@ -178,3 +149,113 @@ left_kept text i lt a b c d =
 -- nothing is left after the last byte
 pub left_end : (in_comment : Bool) (text : List ℕ) (i : ℕ) → length text ≤ i → left_of in_comment (drop i text) ≡ []
 left_end in_comment text i past = rw (drop_all i text past) refl
+
+-- a space, a tab or a newline
+abbrev is_white : ℕ → Type 0
+is_white b = is_one_of (space ∷ tab ∷ newline ∷ []) b ≡ true
+
+-- the text is a front of blanks and comments, and then this
+abbrev Outside : List ℕ → List ℕ → Type 0
+Outside text after = (front : List ℕ) × (text ≡ front ++ after) × IsBlankFront front after
+
+-- the text is the rest of a comment, such a front, and then this
+abbrev Inside : List ℕ → List ℕ → Type 0
+Inside text after =
+    (end front : List ℕ) × (text ≡ end ++ (front ++ after)) × All (λ b. b ≢ newline) end × IsLineEnd (front ++ after)
+    × IsBlankFront front after
+
+module _ (b : ℕ) (text after : List ℕ) where
+  -- a blank before such a front
+  front_blank : is_white b → Outside text after → Outside (b ∷ text) after
+  front_blank h f = (b ∷ f.0, ap (λ t. b ∷ t) f.1, blank b f.0 after h f.2)
+
+  -- a comment before such a front
+  front_comment : b ≡ hash → Inside text after → Outside (b ∷ text) after
+  front_comment h f = (
+    hash ∷ f.0 ++ f.1,
+    ap (λ c. c ∷ text) h ∙ ap (λ t. hash ∷ t) (f.2 ∙ sym (append_assoc f.0 f.1 after)),
+    comment f.0 f.1 after f.3 f.4 f.5,
+  )
+
+  -- a comment ends before a newline
+  comment_ends : b ≡ newline → Outside (b ∷ text) after → Inside (b ∷ text) after
+  comment_ends h f = ([], f.0, f.1, All-nil (λ c. c ≢ newline), subst IsLineEnd f.1 h, f.2)
+
+  -- a comment goes on with any other byte
+  comment_more : b ≢ newline → Inside text after → Inside (b ∷ text) after
+  comment_more h f = (b ∷ f.0, f.1, ap (λ t. b ∷ t) f.2, All-cons (λ c. c ≢ newline) b f.0 h f.3, f.4, f.5)
+
+-- a space or a tab is a blank
+blank_known : (b : ℕ) → is_blank b ≡ true → is_white b
+blank_known b h = grind (arith, common_steps)
+
+-- outside a comment and inside one, what is left of a text follows such a front
+fronts_are : (text : List ℕ) → Outside text (left_of false text) × Inside text (left_of true text)
+fronts_are [] = (([], refl, empty []), ([], [], refl, All-nil (λ c. c ≢ newline), tt, empty []))
+fronts_are (b ∷ text) =
+    let f = fronts_are text in
+    elim (cases_Bool (b == newline)) [
+      | inl h ↦
+          let known : is_white b = rw (eqb-true b newline h) refl in
+          let outside = front_blank b text (left_of false text) known f.0 in
+          rw h (outside, comment_ends b text (left_of false text) (eqb-true b newline h) outside)
+      | inr h ↦
+          let inside = comment_more b text (left_of true text) (eqb-false b newline h) f.1 in
+          elim (cases_Bool (b == hash)) [
+            | inl sharp ↦ rw (h, sharp) (front_comment b text (left_of true text) (eqb-true b hash sharp) f.1, inside)
+            | inr plain ↦ elim (cases_Bool (is_blank b)) [
+              | inl m ↦ rw (h, plain, m) (front_blank b text (left_of false text) (blank_known b m) f.0, inside)
+              | inr m ↦ rw (h, plain, m) (([], refl, empty (b ∷ text)), inside)
+            ]
+          ]
+    ]
+
+-- the trimmed text is after such a front
+pub trimmed_is_after : (piece : List ℕ) → Outside piece (trimmed piece)
+trimmed_is_after piece = subst (Outside piece) (sym (trimmed_is piece)) (fronts_are piece).0
+
+-- a comment's text is skipped
+pub skip_comment : (end rest : List ℕ) → All (λ b. b ≢ newline) end → left_of true (end ++ rest) ≡ left_of true rest
+skip_comment [] rest plain = refl
+skip_comment (b ∷ end) rest plain =
+    rw (ne_eqb b newline (plain 0 0 (omega arith))) (skip_comment end rest (λ k d l. plain (suc k) d (omega arith)))
+
+-- at the end of a line a comment ends
+at_line_end : (text : List ℕ) → IsLineEnd text → left_of true text ≡ left_of false text
+at_line_end [] h = refl
+at_line_end (b ∷ text) h = rw h refl
+
+-- a blank is no `#`, and one that is no newline is a space or a tab
+white_forms : (b : ℕ) → is_white b → ((b == hash) ≡ false) × ((b == newline) ≡ false → is_blank b ≡ true)
+white_forms b h = (grind (arith, common_steps), (λ on. grind (arith, common_steps)))
+
+-- a front of blanks and comments is skipped
+front_skipped : (front after : List ℕ) → IsBlankFront front after → left_of false (front ++ after) ≡ left_of false after
+front_skipped _ _ (empty after) = refl
+front_skipped _ _ (blank b front after h more) =
+    let forms = white_forms b h in
+    elim (cases_Bool (b == newline)) [
+      | inl cut ↦ rw cut (front_skipped front after more)
+      | inr on ↦ rw (on, forms.0, forms.1 on) (front_skipped front after more)
+    ]
+front_skipped _ _ (comment text front after plain stops more) =
+    ap (left_of true) (append_assoc text front after) ∙ skip_comment text (front ++ after) plain ∙ at_line_end (front ++ after) stops
+    ∙ front_skipped front after more
+
+-- no such front is longer
+pub trimmed_is_longest : (piece front other after : List ℕ) → piece ≡ front ++ trimmed piece
+    → piece ≡ other ++ after → IsBlankFront other after
+    → length other ≤ length front
+trimmed_is_longest piece front other after e d h =
+    let same : trimmed piece ≡ left_of false after = trimmed_is piece ∙ ap (left_of false) d ∙ front_skipped other after h in
+    let left = (fronts_are after).0 in
+    omega (
+      arith,
+      ap length e,
+      ap length d,
+      ap length same,
+      ap length left.1,
+      length-append front (trimmed piece),
+      length-append other after,
+      length-append left.0 (left_of false after),
+    )

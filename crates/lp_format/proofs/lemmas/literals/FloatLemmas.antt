@@ -1,24 +1,28 @@
 -- Floats at the start of a text.
-use Rattle.std.proofs.Common.{◌≡◌, subst, if◌then◌else◌, ℕ, suc, ◌+◌, ◌<◌, ◌≤◌, List, [], ◌∷◌, ◌++◌, length, take, drop, slice_index, true}
-use Rattle.std.proofs.Common.{false, refl, sym, ap, ◌∙◌, arith, inl, inr, one-add, zero-add, add-zero}
-use Rattle.std.specs.Prelude.{◌==◌, ◌&&◌, codes, nat_lt, IsUtf8, IsCharBoundary}
+use Rattle.std.proofs.Common.{◌≡◌, ◌≢◌, subst, if◌then◌else◌, ℕ, suc, ◌+◌, ◌-◌, Bool, ◌<◌, ◌≤◌, List, [], ◌∷◌, ◌++◌, length, take}
+use Rattle.std.proofs.Common.{drop, slice_index, get_or, true, false, refl, sym, ap, ◌∙◌, arith, inl, inr, one-add, zero-add}
+use Rattle.std.proofs.Common.{add-zero}
+use Rattle.std.specs.Prelude.{◌==◌, ◌&&◌, ◌||◌, codes, nat_lt, IsUtf8, IsCharBoundary}
 use Rattle.std.specs.Char.{is_ascii_digit, digit_value}
 use Rattle.std.specs.Str.{IsAscii}
 use Rattle.std.specs.Str.Parse.{AllDigits, IsNumeral}
 use Rattle.std.proofs.Math.Seq.{take-add, take-nil}
-use Rattle.std.proofs.lemmas.Bool.{cases_Bool, and_parts, and_from, eqb-true, eqb-false, eq-eqb, ne_eqb, le-leb, lt-ltb, ltb-true}
+use Rattle.std.proofs.lemmas.Bool.{both_ways, cases_lt, cases_Bool, and_parts, and_from, eqb-true, eqb-false, eq-eqb, ne_eqb}
+use Rattle.std.proofs.lemmas.Bool.{le-leb, lt-ltb, ltb-true}
+use Rattle.std.proofs.lemmas.Bool.Decides.{nat_tests}
 use Rattle.std.proofs.lemmas.Grind.{common_steps}
-use Rattle.std.proofs.lemmas.List.{append_assoc, take_all, take-append-drop, drop_at, drop-drop, length-append, length-drop, length-take-le}
-use Rattle.std.proofs.lemmas.List.Sums.{prefix_len-le-length}
-use Rattle.std.proofs.lemmas.Str.{IsAscii-append, IsCharBoundary-start, IsCharBoundary-from_take, IsUtf8-from_ascii}
+use Rattle.std.proofs.lemmas.List.{append_assoc, take_all, take-append-drop, drop_at, drop-drop, length-append, length-drop}
+use Rattle.std.proofs.lemmas.List.{length-take-le, get_or_append_left, get_or-append-add, get_or-take, get_or_past, take_at}
+use Rattle.std.proofs.lemmas.List.Sums.{prefix_len-le-length, AllPass-from_list_all}
+use Rattle.std.proofs.lemmas.List.Folds.{list_all-append}
+use Rattle.std.specs.List.{list_all, AllPass}
+use Rattle.lp_format.specs.format.Bytes.{comma, space, letter_i, letter_u, is_one_of}
+use Rattle.std.proofs.lemmas.Str.{IsCharBoundary-start, IsCharBoundary-from_take, IsUtf8-from_ascii}
 use Rattle.std.proofs.lemmas.Str.Parse.{digit_from_value}
-use Rattle.lp_format.specs.format.Bytes.{is_one_of}
 use Rattle.lp_format.specs.format.Readings.{miss, reads}
-use Rattle.lp_format.specs.format.Values.{IsFloat, IsMarked, IsSigned, float, float_at, digits_len, number_len, marked_len}
-use Rattle.lp_format.specs.format.Values.{integer_len, fraction_len, exponent_len, float_len}
-use Rattle.lp_format.proofs.lemmas.values.ValueLemmas.{front_numeral}
-use Rattle.std.proofs.lemmas.Fmt.{IsAscii-from_digits}
-use Rattle.std.proofs.lemmas.Str.Ascii.{IsAscii-cons}
+use Rattle.lp_format.specs.format.Values.{value, IsFloat, IsMarked, IsSigned, float, float_at, digits_len, number_len, marked_len}
+use Rattle.lp_format.specs.format.Values.{integer_len, fraction_len, exponent_len, float_len, sign_len, unsigned_at}
+use Rattle.lp_format.proofs.lemmas.values.ValueLemmas.{front_numeral, digits_no_more, integer_unmarked, unsigned_unmarked}
 
 -- a digit passes the test
 pub digit_passes : (b : ℕ) → digit_value b < 10 → is_ascii_digit b ≡ true
@@ -72,65 +76,69 @@ point_no_digit d h = grind (arith, common_steps)
 mark_no_digit : (d : ℕ) → is_one_of (codes "eE") d ≡ true → (is_ascii_digit d ≡ false) × (is_one_of (codes ".") d ≡ false)
 mark_no_digit d h = (grind (arith, common_steps), grind (arith, common_steps))
 
--- the length of a float by its parts
-float_len_parts : (text suffix after : List ℕ) (w f : ℕ) → integer_len text ≡ w → 0 < w → drop w text ≡ suffix → fraction_len suffix ≡ f
-    → drop (w + f) text ≡ after → float_len text ≡ w + f + exponent_len after
-float_len_parts text suffix after w f whole some past_whole fraction past_fraction =
-    rw (whole, past_whole, fraction, past_fraction, ne_eqb w 0 (λ e. absurd (omega arith))) refl
+-- the longest float is no shorter than the integer at the start
+integer_or_more : (t : List ℕ) → integer_len t ≤ float_len t
+integer_or_more t =
+    elim (cases_Bool (integer_len t == 0)) [
+      | inl none ↦ omega (arith, eqb-true (integer_len t) 0 none)
+      | inr some ↦ rw some (omega arith)
+    ]
+
+-- how many bytes a fraction and an exponent take
+abbrev tail_len : List ℕ → ℕ
+tail_len suffix = fraction_len suffix + exponent_len (drop (fraction_len suffix) suffix)
+
+-- the length of a float where no digit follows the digits before the point
+float_len_after : (whole suffix : List ℕ) → IsSigned (codes "-") whole → digits_len suffix ≡ 0
+    → float_len (whole ++ suffix) ≡ length whole + tail_len suffix
+float_len_after whole suffix w ends =
+    let len : integer_len (whole ++ suffix) ≡ length whole = signed_before (codes "-") whole suffix minus_no_digit w
+    ∙ rw ends (add-zero (length whole)) in
+    let past : drop (length whole) (whole ++ suffix) ≡ suffix = drop_at whole suffix (length whole) refl in
+    let past_fraction = sym (drop-drop (fraction_len suffix) (length whole) (whole ++ suffix)) ∙ ap (drop (fraction_len suffix)) past in
+    let some : (length whole == 0) ≡ false = ne_eqb (length whole) 0 (λ e. absurd (omega (arith, signed_some (codes "-") whole w))) in
+    rw (len, past, past_fraction, some) (omega arith)
+
+-- an exponent takes its bytes at least
+exponent_at_least : (m : ℕ) (x rest : List ℕ) → IsMarked (codes "eE") (IsSigned (codes "+-")) (m ∷ x)
+    → suc (length x) ≤ exponent_len (m ∷ (x ++ rest))
+exponent_at_least m x rest (mark, part) =
+    omega (
+      arith,
+      marked_before (codes "eE") (number_len (codes "+-")) m x rest mark
+          (signed_before (codes "+-") x rest sign_no_digit part) (signed_some (codes "+-") x part),
+    )
+
+-- a fraction and an exponent take their bytes at least
+tail_at_least : (fraction exponent rest : List ℕ) → IsMarked (codes ".") (IsNumeral 10) fraction
+    → IsMarked (codes "eE") (IsSigned (codes "+-")) exponent
+    → length fraction + length exponent ≤ tail_len (fraction ++ (exponent ++ rest))
+tail_at_least [] [] rest f e = omega arith
+tail_at_least [] (m ∷ x) rest f e =
+    let none : fraction_len (m ∷ (x ++ rest)) ≡ 0 = rw (mark_no_digit m e.0).1 refl in
+    rw none (omega (arith, exponent_at_least m x rest e))
+tail_at_least (p ∷ y) [] rest (point, digits) e =
+    omega (arith, marked_before (codes ".") digits_len p y rest point (digits_before y rest digits.1) digits.0)
+tail_at_least (p ∷ y) (m ∷ x) rest (point, digits) e =
+    let after = m ∷ (x ++ rest) in
+    let fraction : fraction_len (p ∷ (y ++ after)) ≡ suc (length y) =
+    marked_before (codes ".") digits_len p y after point (digits_before y after digits.1) digits.0
+    ∙ rw (mark_no_digit m e.0).0 (add-zero (suc (length y))) in
+    let past : drop (suc (length y)) (p ∷ (y ++ after)) ≡ after = drop_at (p ∷ y) after (suc (length y)) refl in
+    rw (fraction, past) (omega (arith, exponent_at_least m x rest e))
 
 -- the parts of a float at the start of a text take no more than its longest float
 float_at_least : (whole fraction exponent rest : List ℕ) → IsSigned (codes "-") whole → IsMarked (codes ".") (IsNumeral 10) fraction
     → IsMarked (codes "eE") (IsSigned (codes "+-")) exponent
     → length whole + length fraction + length exponent ≤ float_len (whole ++ (fraction ++ (exponent ++ rest)))
 float_at_least whole [] [] rest w f e =
-    let len = signed_before (codes "-") whole rest minus_no_digit w in
-    let text = whole ++ rest in
-    let parts = float_len_parts text (drop (integer_len text) text)
-    (drop (integer_len text + fraction_len (drop (integer_len text) text)) text)
-    (integer_len text) (fraction_len (drop (integer_len text) text)) refl
-    (omega (arith, len, signed_some (codes "-") whole w)) refl refl refl in
-    omega (arith, parts, len)
-float_at_least whole [] (m ∷ x) rest w f (mark, part) =
-    let text = whole ++ (m ∷ (x ++ rest)) in
-    let head = mark_no_digit m mark in
-    let len : integer_len text ≡ length whole = signed_before (codes "-") whole (m ∷ (x ++ rest)) minus_no_digit w
-    ∙ rw head.0 (add-zero (length whole)) in
-    let none : fraction_len (m ∷ (x ++ rest)) ≡ 0 = rw head.1 refl in
-    let power = marked_before (codes "eE") (number_len (codes "+-")) m x rest mark
-    (signed_before (codes "+-") x rest sign_no_digit part) (signed_some (codes "+-") x part) in
-    let past = drop_at whole (m ∷ (x ++ rest)) (length whole) refl in
-    let parts = float_len_parts text (m ∷ (x ++ rest)) (m ∷ (x ++ rest)) (length whole) 0 len
-    (signed_some (codes "-") whole w) past none (rw (add-zero (length whole)) past) in
-    omega (arith, parts, power)
-float_at_least whole (p ∷ y) [] rest w (mark, part) e =
-    let suffix = p ∷ (y ++ rest) in
-    let text = whole ++ suffix in
-    let len : integer_len text ≡ length whole = signed_before (codes "-") whole suffix minus_no_digit w
-    ∙ rw (point_no_digit p mark) (add-zero (length whole)) in
-    let fraction = marked_before (codes ".") digits_len p y rest mark (digits_before y rest part.1) part.0 in
-    let past = drop_at whole suffix (length whole) refl in
-    let parts = float_len_parts text suffix (drop (length whole + fraction_len suffix) text) (length whole)
-    (fraction_len suffix) len (signed_some (codes "-") whole w) past refl refl in
-    omega (arith, parts, fraction)
-float_at_least whole (p ∷ y) (m ∷ x) rest w (point, digits) (mark, part) =
-    let after = m ∷ (x ++ rest) in
-    let suffix = p ∷ (y ++ after) in
-    let text = whole ++ suffix in
-    let head = mark_no_digit m mark in
-    let len : integer_len text ≡ length whole = signed_before (codes "-") whole suffix minus_no_digit w
-    ∙ rw (point_no_digit p point) (add-zero (length whole)) in
-    let fraction : fraction_len suffix ≡ suc (length y) =
-    marked_before (codes ".") digits_len p y after point (digits_before y after digits.1) digits.0
-    ∙ rw head.0 (add-zero (suc (length y))) in
-    let power = marked_before (codes "eE") (number_len (codes "+-")) m x rest mark
-    (signed_before (codes "+-") x rest sign_no_digit part) (signed_some (codes "+-") x part) in
-    let past = drop_at whole suffix (length whole) refl in
-    let past_fraction : drop (length whole + suc (length y)) text ≡ after =
-    sym (drop-drop (suc (length y)) (length whole) text) ∙ ap (λ (xs : List ℕ). drop (suc (length y)) xs) past
-    ∙ drop_at (p ∷ y) after (suc (length y)) refl in
-    let parts = float_len_parts text suffix after (length whole) (suc (length y)) len
-    (signed_some (codes "-") whole w) past fraction past_fraction in
-    omega (arith, parts, power)
+    omega (arith, integer_or_more (whole ++ rest), signed_before (codes "-") whole rest minus_no_digit w)
+float_at_least whole [] (m ∷ x) rest w f e =
+    let len = float_len_after whole (m ∷ (x ++ rest)) w (rw (mark_no_digit m e.0).0 refl) in
+    omega (arith, len, tail_at_least [] (m ∷ x) rest f e)
+float_at_least whole (p ∷ y) exponent rest w f e =
+    let len = float_len_after whole (p ∷ (y ++ (exponent ++ rest))) w (rw (point_no_digit p f.0) refl) in
+    omega (arith, len, tail_at_least (p ∷ y) exponent rest f e)
 
 -- no front that is a float is longer than the longest one
 pub float_len_longest : (t : List ℕ) (n : ℕ) → n ≤ length t → IsFloat (take n t) → n ≤ float_len t
@@ -145,36 +153,34 @@ float_len_longest t n fits parts =
     ∙ omega (arith, length-append whole (fraction ++ exponent), length-append fraction exponent) in
     omega (arith, size, float_at_least whole fraction exponent (drop n t) parts.4 parts.5 parts.6, ap float_len text)
 
+-- a number takes no more than there is
+number_len_fits : (signs t : List ℕ) → number_len signs t ≤ length t
+number_len_fits signs t = fits_after (sign_len signs t)
+  where
+    -- a sign and the digits after it fit the text
+    fits_after : (sign : ℕ) → (if digits_len (drop sign t) == 0 then 0 else sign + digits_len (drop sign t)) ≤ length t
+    fits_after sign = grind (arith, nat_tests, prefix_len-le-length is_ascii_digit (drop sign t), length-drop sign t)
+
 -- a number at the start of a text is a sign or none, and digits
 pub signed_front : (signs t : List ℕ) → 0 < number_len signs t → IsSigned signs (take (number_len signs t) t)
-signed_front signs [] some =
-    elim (cases_Bool (is_one_of signs 0)) [
-      | inl sign ↦ let none : 0 < 0 = rw sign at some in absurd (omega arith)
-      | inr other ↦ let none : 0 < 0 = rw other at some in absurd (omega arith)
-    ]
-signed_front signs (b ∷ rest) some =
-    elim (cases_Bool (is_one_of signs b)) [
-      | inl sign ↦
-          elim (cases_Bool (digits_len rest == 0)) [
-            | inl none ↦ let nothing : 0 < 0 = rw (sign, none) at some in absurd (omega arith)
-            | inr digits ↦ rw (sign, digits, one-add) (inl (sign, front_numeral rest (eqb-false (digits_len rest) 0 digits)))
-          ]
-      | inr other ↦
-          elim (cases_Bool (digits_len (b ∷ rest) == 0)) [
-            | inl none ↦ let nothing : 0 < 0 = rw (other, none) at some in absurd (omega arith)
-            | inr digits ↦ plain_front signs b rest other digits
-          ]
-    ]
+signed_front signs [] some = absurd (omega (arith, number_len_fits signs []))
+signed_front signs (b ∷ rest) some = elim (cases_Bool (is_one_of signs b)) [
+  | inl sign ↦
+      let h = some_digits 1 (digits_len rest) (rw sign at some) in
+      rw (sign, h.1, one-add) (inl (sign, front_numeral rest h.0))
+  | inr other ↦
+      let h = some_digits 0 (digits_len (b ∷ rest)) (rw other at some) in
+      let numeral = front_numeral (b ∷ rest) h.0 in
+      rw (other, h.1, zero-add)
+      (elim (cases_Bool (is_ascii_digit b)) [
+        | inl first ↦ rw (first, one-add) (inr (rw (first, one-add) at numeral))
+        | inr none ↦ absurd (h.0 (rw none refl))
+      ])
+]
   where
-    -- digits without a sign are a signed number
-    plain_front : (signs : List ℕ) (b : ℕ) (rest : List ℕ) → is_one_of signs b ≡ false → (digits_len (b ∷ rest) == 0) ≡ false
-        → IsSigned signs (take (number_len signs (b ∷ rest)) (b ∷ rest))
-    plain_front signs b rest other digits =
-        let numeral = front_numeral (b ∷ rest) (eqb-false (digits_len (b ∷ rest)) 0 digits) in
-        elim (cases_Bool (is_ascii_digit b)) [
-          | inl first ↦ rw (other, digits, zero-add, first, one-add) (inr (rw (first, one-add) at numeral))
-          | inr none ↦ cc
-        ]
+    -- a number that takes bytes has digits, and takes them and its sign
+    some_digits : (sign n : ℕ) → 0 < (if n == 0 then 0 else sign + n) → (n ≢ 0) × ((if n == 0 then 0 else sign + n) ≡ sign + n)
+    some_digits sign n some = ((λ e. grind (arith, nat_tests)), grind (arith, nat_tests))
 
 -- a mark and a part at the start of a text, or nothing
 marked_front : (marks : List ℕ) (part : List ℕ → ℕ) (Part : List ℕ → Type 0) (t : List ℕ)
@@ -215,54 +221,71 @@ float_len_float t some =
           )
     ]
 
--- a signed number is ASCII
-signed_ascii : (signs text : List ℕ) → ((d : ℕ) → is_one_of signs d ≡ true → d < 128) → IsSigned signs text → IsAscii text
-signed_ascii signs [] small never = absurd never
-signed_ascii signs (b ∷ ds) small (inl signed) = IsAscii-cons b ds (small b signed.0) (IsAscii-from_digits ds signed.1.1)
-signed_ascii signs (b ∷ ds) small (inr numeral) = IsAscii-from_digits (b ∷ ds) numeral.1
+-- a byte that a float can hold
+abbrev in_float : ℕ → Bool
+in_float b = is_ascii_digit b || is_one_of (codes "+-.eE") b
 
--- what is absent, or a mark and an ASCII part, is ASCII
-marked_ascii : (marks : List ℕ) (Part : List ℕ → Type 0) (text : List ℕ) → ((d : ℕ) → is_one_of marks d ≡ true → d < 128)
-    → ((x : List ℕ) → Part x → IsAscii x) → IsMarked marks Part text → IsAscii text
-marked_ascii marks Part [] small of_part marked = λ i. omega arith
-marked_ascii marks Part (b ∷ x) small of_part marked = IsAscii-cons b x (small b marked.0) (of_part x marked.1)
+-- a float can hold digits
+digits_float : (ds : List ℕ) → AllDigits 10 ds → list_all in_float ds ≡ true
+digits_float [] all = refl
+digits_float (d ∷ ds) all = rw (digit_passes d all.0, digits_float ds all.1) refl
+
+-- and signed numbers
+signed_float : (signs text : List ℕ) → ((d : ℕ) → is_one_of signs d ≡ true → in_float d ≡ true) → IsSigned signs text
+    → list_all in_float text ≡ true
+signed_float signs [] sign never = absurd never
+signed_float signs (b ∷ ds) sign (inl signed) = rw (sign b signed.0, digits_float ds signed.1.1) refl
+signed_float signs (b ∷ ds) sign (inr numeral) = digits_float (b ∷ ds) numeral.1
+
+-- and a mark with such a part
+marked_float : (marks : List ℕ) (Part : List ℕ → Type 0) (text : List ℕ) → ((d : ℕ) → is_one_of marks d ≡ true → in_float d ≡ true)
+    → ((x : List ℕ) → Part x → list_all in_float x ≡ true) → IsMarked marks Part text → list_all in_float text ≡ true
+marked_float marks Part [] mark of_part marked = refl
+marked_float marks Part (b ∷ x) mark of_part marked = rw (mark b marked.0, of_part x marked.1) refl
+
+-- each byte of a float is such a byte
+float_bytes : (t : List ℕ) → IsFloat t → AllPass in_float t
+float_bytes t parts =
+    let whole = signed_float (codes "-") parts.0 (λ d h. grind (arith, common_steps)) parts.4 in
+    let fraction = marked_float (codes ".") (IsNumeral 10) parts.1 (λ d h. grind (arith, common_steps))
+    (λ x n. digits_float x n.1) parts.5 in
+    let exponent = marked_float (codes "eE") (IsSigned (codes "+-")) parts.2 (λ d h. grind (arith, common_steps))
+    (λ x n. signed_float (codes "+-") x (λ d h. grind (arith, common_steps)) n) parts.6 in
+    AllPass-from_list_all in_float t (rw (parts.3, list_all-append, list_all-append, whole, fraction, exponent) refl)
 
 -- a float is ASCII
-float_ascii : (text : List ℕ) → IsFloat text → IsAscii text
-float_ascii text parts =
-    let whole = parts.0 in
-    let fraction = parts.1 in
-    let exponent = parts.2 in
-    let ascii : IsAscii (whole ++ (fraction ++ exponent)) =
-    IsAscii-append whole (fraction ++ exponent) (signed_ascii (codes "-") whole (λ d h. grind (arith, common_steps)) parts.4)
-    (IsAscii-append fraction exponent
-    (marked_ascii (codes ".") (IsNumeral 10) fraction (λ d h. grind (arith, common_steps)) (λ x n. IsAscii-from_digits x n.1) parts.5)
-    (marked_ascii (codes "eE") (IsSigned (codes "+-")) exponent (λ d h. grind (arith, common_steps))
-    (λ x signed. signed_ascii (codes "+-") x (λ d h. grind (arith, common_steps)) signed) parts.6)) in
-    let P : List ℕ → Type 0 = IsAscii in
-    subst P (sym parts.3) ascii
-
--- a number takes no more than there is
-number_len_fits : (signs t : List ℕ) → number_len signs t ≤ length t
-number_len_fits signs t =
-    elim (cases_Bool (is_one_of signs (slice_index t 0))) [
-      | inl sign ↦ rw sign (fits_after 1 t)
-      | inr other ↦ rw other (fits_after 0 t)
-    ]
-  where
-    -- a sign and the digits after it fit the text
-    fits_after : (sign : ℕ) (t : List ℕ) → (if digits_len (drop sign t) == 0 then 0 else sign + digits_len (drop sign t)) ≤ length t
-    fits_after sign t =
-        elim (cases_Bool (digits_len (drop sign t) == 0)) [
-          | inl none ↦ rw none (omega arith)
-          | inr some ↦
-              let positive = eqb-false (digits_len (drop sign t)) 0 some in
-              rw some (omega (arith, prefix_len-le-length is_ascii_digit (drop sign t), length-drop sign t))
-        ]
+float_ascii : (t : List ℕ) → IsFloat t → IsAscii t
+float_ascii t parts i = elim (cases_lt i (length t)) [
+  | inl within ↦ let byte = float_bytes t parts i 0 within in grind (arith, common_steps)
+  | inr past ↦ omega (arith, get_or_past t i 0 past)
+]
 
 -- the integer at the start of a text fits the text
 pub integer_len_fits : (t : List ℕ) → integer_len t ≤ length t
 integer_len_fits t = number_len_fits (codes "-") t
+
+-- a mark and a part fit the text
+marked_len_fits : (marks : List ℕ) (part : List ℕ → ℕ) (t : List ℕ) → ((x : List ℕ) → part x ≤ length x)
+    → marked_len marks part t ≤ length t
+marked_len_fits marks part t fits = go (is_one_of marks (slice_index t 0)) (part (drop 1 t)) (fits (drop 1 t))
+  where
+    -- a mark fits before a part that is not empty
+    go : (mark : Bool) (n : ℕ) → n ≤ length (drop 1 t) → (if mark && nat_lt 0 n then 1 + n else 0) ≤ length t
+    go mark n less = grind (arith, nat_tests, length-drop 1 t)
+
+-- the longest float at the start of a text fits the text
+float_len_fits : (t : List ℕ) → float_len t ≤ length t
+float_len_fits t =
+    let w = integer_len t in
+    let f = fraction_len (drop w t) in
+    let fraction = marked_len_fits (codes ".") digits_len (drop w t) (prefix_len-le-length is_ascii_digit) in
+    let exponent = marked_len_fits (codes "eE") (number_len (codes "+-")) (drop (w + f) t) (number_len_fits (codes "+-")) in
+    go w f (exponent_len (drop (w + f) t)) (integer_len_fits t)
+    (omega (arith, fraction, length-drop w t)) (omega (arith, exponent, length-drop (w + f) t))
+  where
+    -- parts that fit after one another fit together
+    go : (w f e : ℕ) → w ≤ length t → f ≤ length t - w → e ≤ length t - (w + f) → (if w == 0 then 0 else w + f + e) ≤ length t
+    go w f e a b c = grind (arith, nat_tests)
 
 -- after the longest float a text may be cut
 pub float_boundary : (t : List ℕ) → IsUtf8 t → float_len t ≤ length t → IsCharBoundary t (float_len t)
@@ -300,3 +323,90 @@ float_misses t none = rw (eq-eqb (float_len t) 0 none) refl
 pub float_reads : (t : List ℕ) → 0 < float_len t → float_at t ≡ reads (float (take (float_len t) t)) (drop (float_len t) t)
 unfolding float_at
 float_reads t some = rw (ne_eqb (float_len t) 0 (λ e. absurd (omega arith))) refl
+
+-- what no value can go on with: the end, a comma or a space
+abbrev pub Ends : List ℕ → Type 0
+Ends rest = is_one_of (0 ∷ comma ∷ space ∷ []) (slice_index rest 0) ≡ true
+
+-- no mark of an integer is in a float
+float_byte : (b : ℕ) → in_float b ≡ true → (b ≢ letter_i) × (b ≢ letter_u)
+float_byte b e = ((λ i. grind (arith, common_steps)), (λ i. grind (arith, common_steps)))
+
+-- what no value can go on with is neither in a float nor such a mark
+no_float_byte : (b : ℕ) → is_one_of (0 ∷ comma ∷ space ∷ []) b ≡ true → (in_float b ≡ false) × (b ≢ letter_i) × (b ≢ letter_u)
+no_float_byte b e = (grind (arith, common_steps), (λ i. grind (arith, common_steps)), (λ i. grind (arith, common_steps)))
+
+-- the byte after a front
+byte_after : (front after : List ℕ) → slice_index (front ++ after) (length front) ≡ slice_index after 0
+byte_after front after = rw add-zero at (get_or-append-add front after 0 0)
+
+-- the longest float at the start of a text ends where a float ends and no value can go on
+float_ends : (t rest : List ℕ) → IsFloat t → Ends rest → float_len (t ++ rest) ≡ length t
+float_ends t rest parts ends =
+    let P : List ℕ → Type 0 = IsFloat in
+    let text = t ++ rest in
+    let least = float_len_longest text (length t) (omega (arith, length-append t rest))
+    (subst P (sym (take_at t rest (length t) refl)) parts) in
+    elim (cases_lt (length t) (float_len text)) [
+      | inl longer ↦
+          let fits = length-take-le (float_len text) text (float_len_fits text) in
+          let byte = float_bytes (take (float_len text) text) (float_len_float text (omega arith)) (length t) 0 (omega arith) in
+          let same = get_or-take (float_len text) text (length t) 0 longer ∙ byte_after t rest in
+          let held : in_float (slice_index rest 0) ≡ true = rw same at byte in
+          absurd (both_ways (in_float (slice_index rest 0)) (no_float_byte (slice_index rest 0) ends).0 held)
+      | inr shorter ↦ omega arith
+    ]
+
+-- no mark of an integer is in a float or after it
+unmarked : (t rest : List ℕ) (n : ℕ) → IsFloat t → Ends rest → n ≤ length t
+    → (slice_index (t ++ rest) n ≢ letter_i) × (slice_index (t ++ rest) n ≢ letter_u)
+unmarked t rest n parts ends fits = elim (cases_lt n (length t)) [
+  | inl within ↦
+      let byte = float_bytes t parts n 0 within in
+      let same = get_or_append_left t rest 0 n within in
+      rw same (float_byte (get_or t n 0) byte)
+  | inr past ↦
+      let at : n ≡ length t = omega arith in
+      let other = no_float_byte (slice_index rest 0) ends in
+      rw (at, byte_after t rest) (other.1, other.2)
+]
+
+-- a float at the start of a text: its whole part, after which no mark of an integer is, and what it is read as
+pub record FloatFront (text t rest : List ℕ) : Type 0 where
+  pub some : 0 < integer_len text
+  pub no_i : slice_index text (integer_len text) ≢ 105
+  pub no_u : slice_index text (integer_len text) ≢ 117
+  pub unsigned : unsigned_at text ≡ miss
+  pub reads_it : float_at text ≡ reads (float t) rest
+
+-- a float has a whole part
+whole_of_float : (text : List ℕ) → 0 < float_len text → 0 < integer_len text
+whole_of_float text some = elim (cases_Bool (integer_len text == 0)) [
+  | inl none ↦ absurd (omega (arith, rw none at some))
+  | inr whole ↦ let apart = eqb-false (integer_len text) 0 whole in omega (arith, apart)
+]
+
+-- each float before the end, a comma or a space is at the start
+pub float_front : (t rest : List ℕ) → IsFloat t → Ends rest → FloatFront (t ++ rest) t rest
+float_front t rest parts ends =
+    let text = t ++ rest in
+    let len = float_ends t rest parts ends in
+    let filled : 0 < float_len text = omega (arith, len, (float_fills t parts).0, float_len_fits t) in
+    let whole = integer_or_more text in
+    let digits = digits_no_more text in
+    let marks = unmarked t rest (integer_len text) parts ends (omega arith) in
+    record {
+      some = whole_of_float text filled;
+      no_i = marks.0;
+      no_u = marks.1;
+      unsigned = unsigned_unmarked text (unmarked t rest (digits_len text) parts ends (omega arith)).1;
+      reads_it = float_reads text filled
+          ∙ rw (len, take_at t rest (length t) refl, drop_at t rest (length t) refl) refl;
+    }
+
+-- a float reads back before the end, a comma or a space
+pub float_reads_back : (t rest : List ℕ) → IsFloat t → Ends rest → value (t ++ rest) ≡ reads (float t) rest
+unfolding value
+float_reads_back t rest parts ends =
+    let front = float_front t rest parts ends in
+    rw (integer_unmarked (t ++ rest) front.no_i, front.unsigned, front.reads_it) refl

@@ -1,13 +1,13 @@
 -- What is joined by commas is read as the most that are at the start.
-use Rattle.std.proofs.Common.{◌≡◌, ◌≢◌, ℕ, zero, suc, ◌<◌, ◌≤◌, List, [], ◌∷◌, ◌++◌, length, refl, sym, ap, ◌∙◌, subst, inl, inr, arith}
-use Rattle.std.proofs.Common.{length-append}
+use Rattle.std.proofs.Common.{◌≡◌, ◌≢◌, ℕ, zero, suc, ◌<◌, ◌≤◌, List, [], ◌∷◌, ◌++◌, length, refl, sym, ap, ◌∙◌, subst, inl, inr}
+use Rattle.std.proofs.Common.{arith, length-append}
 use Rattle.std.specs.Prelude.{◌==◌}
 use Rattle.std.proofs.lemmas.Bool.{cases_Bool, eqb-true}
 use Rattle.lp_format.specs.format.Readings.{Fault, Reading, miss, fatal, reads}
 use Rattle.lp_format.specs.format.Lines.{after_comma, separated_list, many, prepend}
-use Rattle.lp_format.specs.laws.Meanings.{SeparatedBy, SeparatedAfterComma, LongestList, WholeList, NextHasFault}
-use Rattle.lp_format.specs.laws.Meanings.{TheMostIsRead, TheNextHasTheFault, TheFirstMisses}
-use Rattle.lp_format.proofs.lemmas.line.LineLemmas.{byte_reads}
+use Rattle.lp_format.specs.laws.Meanings.{SeparatedBy, SeparatedAfterComma, LongestList, WholeList, NextHasFault, TheMostIsRead}
+use Rattle.lp_format.specs.laws.Meanings.{TheNextHasTheFault, TheFirstMisses}
+use Rattle.lp_format.proofs.lemmas.meanings.ShorterRests.{byte_reads}
 
 module _ {A : Type 0} where
   -- one value that the first gives, and each other that the second gives
@@ -59,63 +59,49 @@ module _ {A : Type 0} where
   chain_push f g (x ∷ xs) text a y after h e = (h.0, h.1, chain_push g g xs h.0 a y after h.2 e)
 
   -- what is given for as many, by what reads after them
-  pub ended : List A → List ℕ → Reading A → Reading (List A)
-  ended xs rest miss = reads xs rest
+  abbrev ended : List A → List ℕ → Reading A → Reading (List A)
   ended xs rest (fatal e) = fatal e
-  ended xs rest (reads y after) = reads xs rest
+  ended xs rest other = reads xs rest
 
   -- one more at the start
   ended_more : (x : A) (xs : List A) (rest : List ℕ) (r : Reading A) → prepend (x ∷ []) (ended xs rest r) ≡ ended (x ∷ xs) rest r
-  unfolding ended
-  ended_more x xs rest miss = refl
   ended_more x xs rest (fatal e) = refl
-  ended_more x xs rest (reads y after) = refl
+  ended_more x xs rest other = refl
 
   -- what is given for one and as many more, by what reads after them
-  pub outcome : List A → List ℕ → Reading A → Reading (List A)
-  outcome [] rest miss = miss
+  abbrev pub outcome : List A → List ℕ → Reading A → Reading (List A)
   outcome [] rest (fatal e) = fatal e
-  outcome [] rest (reads y after) = miss
+  outcome [] rest other = miss
   outcome (x ∷ xs) rest r = ended (x ∷ xs) rest r
 
   -- where values are given, none reads after them, and they are one or more
   outcome_reads : (xs ys : List A) (rest suffix : List ℕ) (r : Reading A) → GivesNone r → outcome xs rest r ≡ reads ys suffix
       → (xs ≡ ys) × (rest ≡ suffix) × (0 < length xs) × (r ≡ miss)
-  unfolding outcome ended
-  outcome_reads [] ys rest suffix miss none e = absurd (cc)
-  outcome_reads [] ys rest suffix (fatal f) none e = absurd (cc)
   outcome_reads xs ys rest suffix (reads y after) none e = absurd (none y after refl)
   outcome_reads (x ∷ xs) ys rest suffix miss none e = (cc, cc, omega arith, refl)
-  outcome_reads (x ∷ xs) ys rest suffix (fatal f) none e = absurd (cc)
+  outcome_reads [] ys rest suffix other none e = absurd (cc)
+  outcome_reads (x ∷ xs) ys rest suffix other none e = absurd (cc)
 
   -- a fault is that of the next
   outcome_fatal : (xs : List A) (rest : List ℕ) (r : Reading A) (f : Fault) → outcome xs rest r ≡ fatal f → r ≡ fatal f
-  unfolding outcome ended
-  outcome_fatal [] rest miss f e = absurd (cc)
   outcome_fatal [] rest (fatal d) f e = cc
-  outcome_fatal [] rest (reads y after) f e = absurd (cc)
-  outcome_fatal (x ∷ xs) rest miss f e = absurd (cc)
   outcome_fatal (x ∷ xs) rest (fatal d) f e = cc
-  outcome_fatal (x ∷ xs) rest (reads y after) f e = absurd (cc)
+  outcome_fatal xs rest other f e = absurd (cc)
 
   -- a miss is that of the first
   outcome_miss : (xs : List A) (rest : List ℕ) (r : Reading A) → GivesNone r → outcome xs rest r ≡ miss → (xs ≡ []) × (r ≡ miss)
-  unfolding outcome ended
-  outcome_miss [] rest miss none e = (refl, refl)
-  outcome_miss [] rest (fatal d) none e = absurd (cc)
   outcome_miss xs rest (reads y after) none e = absurd (none y after refl)
-  outcome_miss (x ∷ xs) rest miss none e = absurd (cc)
-  outcome_miss (x ∷ xs) rest (fatal d) none e = absurd (cc)
+  outcome_miss [] rest miss none e = (refl, refl)
+  outcome_miss [] rest other none e = absurd (cc)
+  outcome_miss (x ∷ xs) rest other none e = absurd (cc)
 
   -- one or more values after which the next misses
   outcome_is_reads : (xs : List A) (rest : List ℕ) → 0 < length xs → outcome xs rest miss ≡ reads xs rest
-  unfolding outcome ended
   outcome_is_reads [] rest h = absurd (omega arith)
   outcome_is_reads (x ∷ xs) rest h = refl
 
   -- values after which the next has a fault
   outcome_is_fatal : (xs : List A) (rest : List ℕ) (e : Fault) → outcome xs rest (fatal e) ≡ fatal e
-  unfolding outcome ended
   outcome_is_fatal [] rest e = refl
   outcome_is_fatal (x ∷ xs) rest e = refl
 
@@ -132,11 +118,6 @@ module _ {A : Type 0} where
     -- the elements after a comma, from those after the first of them
     tail_more : (n : ℕ) (text : List ℕ) → length text ≤ suc n → ((after : List ℕ) → length after ≤ n → Tail g n after)
         → (r : Reading A) → g text ≡ r → Tail g (suc n) text
-    unfolding ended
-    tail_more n text room more miss e =
-        record { xs = []; rest = text; chain = refl; none = λ y after is. cc; ends = rw e refl }
-    tail_more n text room more (fatal f) e =
-        record { xs = []; rest = text; chain = refl; none = λ y after is. cc; ends = rw e refl }
     tail_more n text room more (reads x after) e =
         let less = shorter text x after e in
         let t = more after (omega arith) in
@@ -147,10 +128,10 @@ module _ {A : Type 0} where
           none = t.none;
           ends = rw e (ap (prepend (x ∷ [])) t.ends ∙ ended_more x t.xs t.rest (g t.rest));
         }
+    tail_more n text room more other e = record { xs = []; rest = text; chain = refl; none = λ y after is. cc; ends = rw e refl }
 
     -- what is read after a first element is a chain of elements, each after a comma
     tail_is : (n : ℕ) (text : List ℕ) → length text ≤ n → Tail g n text
-    unfolding ended
     tail_is zero [] room = record { xs = []; rest = []; chain = refl; none = λ y after is. cc; ends = rw nothing refl }
     tail_is zero (b ∷ text) room = absurd (omega arith)
     tail_is (suc n) text room = tail_more n text room (λ after less. tail_is n after less) (g text) refl
@@ -244,9 +225,6 @@ module _ {A : Type 0} where
 
     -- the outcome of a list, by what its first element is read as
     whole_by : (text : List ℕ) (r : Reading A) → one text ≡ r → Whole one text
-    unfolding outcome
-    whole_by text miss e = record { xs = []; rest = text; chain = refl; none = λ y after is. cc; ends = rw e refl }
-    whole_by text (fatal f) e = record { xs = []; rest = text; chain = refl; none = λ y after is. cc; ends = rw e refl }
     whole_by text (reads x after) e =
         let t = tail_is (after_comma one) refl after_shorter (length after) after (omega arith) in
         let last = next_same (after_comma one) t.xs t.rest in
@@ -258,6 +236,7 @@ module _ {A : Type 0} where
           ends = rw e (ap (prepend (x ∷ [])) t.ends ∙ ended_more x t.xs t.rest (after_comma one t.rest)
               ∙ ap (ended (x ∷ t.xs) t.rest) (sym last));
         }
+    whole_by text other e = record { xs = []; rest = text; chain = refl; none = λ y after is. cc; ends = rw e refl }
 
     -- each text has an outcome as a list joined by commas
     pub whole_is : (text : List ℕ) → Whole one text

@@ -1,11 +1,29 @@
 -- What is left after what was read is no longer than the text.
-use Rattle.std.proofs.Common.{◌≡◌, ℕ, ◌+◌, ◌≤◌, List, [], ◌∷◌, length, drop, Bool, true, false, cond, refl, ap, arith, length-drop}
-use Rattle.lp_format.specs.format.Readings.{Fault, Read, Reading, miss, fatal, reads, ◌>>=◌, ◌otherwise◌}
+use Rattle.std.proofs.Common.{◌≡◌, ℕ, zero, suc, add-one, List, ◌∷◌, get_or, true, refl, arith, ◌+◌, ◌≤◌, [], length, drop, Bool}
+use Rattle.std.proofs.Common.{false, cond, ap, length-drop}
+use Rattle.std.specs.Prelude.{◌==◌, IsUtf8, IsCharBoundary}
+use Rattle.std.proofs.lemmas.Bool.{eq-eqb, eqb-true}
+use Rattle.std.proofs.lemmas.List.Sums.{prefix_len_passes, prefix_len-le-length}
+use Rattle.std.proofs.lemmas.Str.{IsCharBoundary-after_ascii, IsCharBoundary-start}
+use Rattle.lp_format.specs.format.Lines.{byte, spaces, key_value, tag, field}
+use Rattle.lp_format.specs.format.Readings.{reads, Fault, Read, Reading, miss, fatal, ◌>>=◌, ◌otherwise◌}
+use Rattle.lp_format.specs.format.Bytes.{space, equals}
 use Rattle.lp_format.specs.format.Names.{NameKind, a_tag_key, a_tag_value, a_field_key, name}
-use Rattle.lp_format.specs.format.Values.{value, integer_at, unsigned_at, float_at, string_at, boolean_at, body_len}
-use Rattle.lp_format.specs.format.Values.{true_words, false_words}
-use Rattle.lp_format.specs.format.Lines.{byte, key_value, tag, field}
-use Rattle.lp_format.specs.format.Bytes.{equals}
+use Rattle.lp_format.specs.format.Values.{value, integer_at, unsigned_at, float_at, string_at, boolean_at, body_len, true_words}
+use Rattle.lp_format.specs.format.Values.{false_words}
+
+-- a byte at the start, by what the text is
+pub byte_reads : (b : ℕ) (text rest : List ℕ) → text ≡ b ∷ rest → byte b text ≡ reads b rest
+byte_reads b text rest e = rw (e, eq-eqb b b refl) refl
+
+-- after spaces a text may be cut
+pub spaces_boundary : (text : List ℕ) (n : ℕ) → IsUtf8 text → n ≡ spaces text → IsCharBoundary text n
+spaces_boundary text zero utf8 e = IsCharBoundary-start text utf8
+spaces_boundary text (suc n) utf8 e =
+    let last : (get_or text n 0 == space) ≡ true = prefix_len_passes (λ b. b == space) text n 0 (omega arith) in
+    let byte : get_or text n 0 ≡ space = eqb-true (get_or text n 0) space last in
+    let within = prefix_len-le-length (λ b. b == space) text in
+    rw (← add-one n) (IsCharBoundary-after_ascii text n utf8 (omega arith) (omega arith))
 
 -- what the reading leaves is no longer than the text
 pub record IsNoLonger {A : Type 0} (text : List ℕ) (r : Reading A) : Type 0 where
@@ -61,21 +79,6 @@ name_no_longer : (kind : NameKind) (text : List ℕ) → IsNoLonger text (name k
 unfolding name
 name_no_longer kind text = either text _ _ _ (none_left text) (either text _ _ _ (fault_left text _) (dropped text _ _))
 
--- an integer
-integer_no_longer : (text : List ℕ) → IsNoLonger text (integer_at text)
-unfolding integer_at
-integer_no_longer text = either text _ _ _ (either text _ _ _ (dropped text _ _) (fault_left text _)) (none_left text)
-
--- an unsigned integer
-unsigned_no_longer : (text : List ℕ) → IsNoLonger text (unsigned_at text)
-unfolding unsigned_at
-unsigned_no_longer text = either text _ _ _ (either text _ _ _ (dropped text _ _) (fault_left text _)) (none_left text)
-
--- a float
-float_no_longer : (text : List ℕ) → IsNoLonger text (float_at text)
-unfolding float_at
-float_no_longer text = either text _ _ _ (none_left text) (dropped text _ _)
-
 -- a string
 string_no_longer : (text : List ℕ) → IsNoLonger text (string_at text)
 unfolding string_at
@@ -83,20 +86,20 @@ string_no_longer [] = none_left []
 string_no_longer (b ∷ after) =
     either (b ∷ after) _ _ _ (some_left (b ∷ after) _ _ (omega (arith, length-drop (body_len after + 1) after))) (none_left (b ∷ after))
 
--- a boolean
-boolean_no_longer : (b : Bool) (words : List (List ℕ)) (text : List ℕ) → IsNoLonger text (boolean_at b words text)
-unfolding boolean_at
-boolean_no_longer b words text = either text _ _ _ (none_left text) (dropped text _ _)
-
 -- a value
 value_no_longer : (text : List ℕ) → IsNoLonger text (value text)
-unfolding value
+unfolding value integer_at unsigned_at float_at boolean_at
 value_no_longer text =
-    let two = one_of_two text (integer_at text) (unsigned_at text) (integer_no_longer text) (unsigned_no_longer text) in
-    let three = one_of_two text _ (float_at text) two (float_no_longer text) in
-    let four = one_of_two text _ (string_at text) three (string_no_longer text) in
-    let five = one_of_two text _ (boolean_at true true_words text) four (boolean_no_longer true true_words text) in
-    one_of_two text _ (boolean_at false false_words text) five (boolean_no_longer false false_words text)
+    let word : (b : Bool) (words : List (List ℕ)) → IsNoLonger text (boolean_at b words text) =
+    λ b words. either text _ _ _ (none_left text) (dropped text _ _) in
+    let integer : IsNoLonger text (integer_at text) =
+    either text _ _ _ (either text _ _ _ (dropped text _ _) (fault_left text _)) (none_left text) in
+    let unsigned : IsNoLonger text (unsigned_at text) =
+    either text _ _ _ (either text _ _ _ (dropped text _ _) (fault_left text _)) (none_left text) in
+    let float : IsNoLonger text (float_at text) = either text _ _ _ (none_left text) (dropped text _ _) in
+    let numbers = one_of_two text _ _ (one_of_two text _ _ integer unsigned) float in
+    let texts = one_of_two text _ _ numbers (string_no_longer text) in
+    one_of_two text _ _ (one_of_two text _ _ texts (word true true_words)) (word false false_words)
 
 -- the rest after a key and such a value
 key_value_no_longer : {V : Type 0} (kind : NameKind) (part : List ℕ → Reading V) → ((text : List ℕ) → IsNoLonger text (part text))

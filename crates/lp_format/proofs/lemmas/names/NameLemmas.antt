@@ -1,13 +1,14 @@
--- How a spelling is read from left to right.
-use Rattle.std.proofs.Common.{◌≡◌, ◌≢◌, ℕ, suc, zero, ◌-◌, ◌<◌, List, [], ◌∷◌, length, drop, get_or, true, false, refl, sym, ap, ◌∙◌, arith}
-use Rattle.std.proofs.Common.{inl, inr}
+-- How a spelling is read from left to right, and what its logical text is.
+use Rattle.std.proofs.Common.{◌≡◌, ◌≢◌, ℕ, suc, zero, ◌-◌, ◌<◌, List, [], ◌∷◌, length, drop, get_or, true, false, refl, sym, ap}
+use Rattle.std.proofs.Common.{◌∙◌, arith, inl, inr, ◌↔◌, subst}
 use Rattle.std.specs.Prelude.{◌==◌}
-use Rattle.std.proofs.lemmas.Bool.{cases_Bool, or_parts, eqb-false, eq-eqb, ne_eqb}
+use Rattle.std.proofs.lemmas.Bool.{cases_Bool, or_parts, eqb-false, eq-eqb, ne_eqb, eqb-true}
 use Rattle.lp_format.specs.format.Bytes.{backslash, is_one_of}
-use Rattle.lp_format.specs.format.Names.{NameKind, a_measurement, a_tag_key, a_tag_value, a_field_key, ends_in_backslash}
-use Rattle.lp_format.specs.format.Names.{escapable, is_escapable, read_text, logical, name, spelled, spelled_len}
+use Rattle.lp_format.specs.format.Names.{NameKind, a_measurement, ends_in_backslash, escapable}
+use Rattle.lp_format.specs.format.Names.{is_escapable, read_text, logical, name, spelled, spelled_len}
 use Rattle.lp_format.specs.format.Escapes.{without_escapes}
 use Rattle.lp_format.specs.format.Readings.{miss, fatal, reads, ends_with_backslash}
+use Rattle.lp_format.specs.laws.Meanings.{IsLogical, empty, plain, escape, other, end}
 
 -- a byte that is no backslash stays
 pub without_escapes_plain_byte : (known : List ℕ) (b : ℕ) (rest : List ℕ) → b ≢ backslash
@@ -37,9 +38,7 @@ without_escapes_same known (b ∷ text) none =
 -- a backslash may escape a backslash
 pub escapable_backslash : (kind : NameKind) → is_escapable kind backslash ≡ true
 escapable_backslash a_measurement = refl
-escapable_backslash a_tag_key = refl
-escapable_backslash a_tag_value = refl
-escapable_backslash a_field_key = refl
+escapable_backslash kind = refl
 
 -- the last byte of a longer text
 ends_cons : (b : ℕ) (xs : List ℕ) → 0 < length xs → ends_in_backslash (b ∷ xs) ≡ ends_in_backslash xs
@@ -109,3 +108,55 @@ unfolding name
 name_reads kind text some h =
     let ne : length (spelled kind text) ≡ 0 → ⊥ = λ e. absurd (omega arith) in
     rw (ne_eqb _ _ ne, logical_ends kind (spelled kind text), h) refl
+
+-- a backslash and a byte that is not known stay
+pub without_escapes_other : (known : List ℕ) (c : ℕ) (rest : List ℕ) → is_one_of known c ≡ false
+    → without_escapes known (backslash ∷ c ∷ rest) ≡ backslash ∷ c ∷ without_escapes known rest
+unfolding without_escapes
+without_escapes_other known c rest h = rw h refl
+
+-- a text has no logical text but that without escapes
+pub logical_is_unique : (known : List ℕ) (spelled logical : List ℕ) → IsLogical known spelled logical
+    → logical ≡ without_escapes known spelled
+unfolding without_escapes
+logical_is_unique known _ _ empty = refl
+logical_is_unique known _ _ (plain b s l differs more) =
+    ap (λ (xs : List ℕ). b ∷ xs) (logical_is_unique known s l more) ∙ sym (without_escapes_plain_byte known b s differs)
+logical_is_unique known _ _ (escape c s l is more) = rw is (ap (λ (xs : List ℕ). c ∷ xs) (logical_is_unique known s l more))
+logical_is_unique known _ _ (other c s l is more) = rw is (ap (λ (xs : List ℕ). backslash ∷ c ∷ xs) (logical_is_unique known s l more))
+logical_is_unique known _ _ end = refl
+
+-- what begins with a backslash and another byte, from what follows them
+logical_escaped : (known : List ℕ) (c : ℕ) (rest : List ℕ) → IsLogical known rest (without_escapes known rest)
+    → IsLogical known (backslash ∷ c ∷ rest) (without_escapes known (backslash ∷ c ∷ rest))
+unfolding without_escapes
+logical_escaped known c rest more =
+    elim (cases_Bool (is_one_of known c)) [ inl is ↦ rw is (escape c rest _ is more) | inr is ↦ rw is (other c rest _ is more) ]
+
+-- what begins with another byte, from what follows it
+logical_plain : (known : List ℕ) (b : ℕ) (rest : List ℕ) → b ≢ backslash → IsLogical known rest (without_escapes known rest)
+    → IsLogical known (b ∷ rest) (without_escapes known (b ∷ rest))
+logical_plain known b rest differs more =
+    subst (IsLogical known (b ∷ rest)) (sym (without_escapes_plain_byte known b rest differs)) (plain b rest _ differs more)
+
+-- the text without escapes is a logical text
+pub has_logical : (known : List ℕ) (spelled : List ℕ) → IsLogical known spelled (without_escapes known spelled)
+unfolding without_escapes
+has_logical known [] = empty
+has_logical known (b ∷ []) =
+    elim (cases_Bool (b == backslash)) [
+      | inl e ↦ rw (eqb-true b backslash e) end
+      | inr e ↦ logical_plain known b [] (eqb-false b backslash e) (has_logical known [])
+    ]
+has_logical known (b ∷ c ∷ rest) =
+    elim (cases_Bool (b == backslash)) [
+      | inl e ↦ rw (eqb-true b backslash e) (logical_escaped known c rest (has_logical known rest))
+      | inr e ↦ logical_plain known b (c ∷ rest) (eqb-false b backslash e) (has_logical known (c ∷ rest))
+    ]
+
+-- so it has exactly that one
+pub logical_is : (known spelled logical : List ℕ) → IsLogical known spelled logical ↔ (logical ≡ without_escapes known spelled)
+logical_is known spelled logical = (
+  logical_is_unique known spelled logical,
+  (λ e. subst (IsLogical known spelled) (sym e) (has_logical known spelled)),
+)

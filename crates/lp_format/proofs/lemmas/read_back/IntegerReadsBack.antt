@@ -1,43 +1,25 @@
 -- An integer reads back as it was written.
-use Rattle.std.proofs.Common.{◌≡◌, ℕ, suc, ◌^◌, ◌<◌, List, [], ◌∷◌, ◌++◌, length, true, false, refl, sym, ap, ◌∙◌, arith, one-add, zero-add}
+use Rattle.std.proofs.Common.{◌≡◌, ℕ, suc, ◌^◌, ◌<◌, List, [], ◌∷◌, ◌++◌, length, true, false, refl, sym, ap, ◌∙◌, arith}
 use Rattle.std.proofs.Common.{inl, inr}
 use Rattle.std.specs.Prelude.{◌==◌, ℤ, pos, negsuc, decimal, codes}
-use Rattle.std.specs.Char.{is_ascii_digit}
 use Rattle.std.specs.Fmt.{signed_decimal}
-use Rattle.std.specs.Str.Parse.{AllDigits, IsNumeral, digits_value, signed_digits_value}
+use Rattle.std.specs.Str.Parse.{IsNumeral, digits_value, signed_digits_value}
 use Rattle.std.proofs.lemmas.Bool.{ne_eqb}
 use Rattle.std.proofs.lemmas.Fmt.{decimal_is_IsNumeral}
 use Rattle.std.proofs.lemmas.Str.Parse.{digit_from_value}
 use Rattle.std.proofs.lemmas.List.{take_at, drop_at}
 use Rattle.lp_format.specs.format.Lines.{spaces}
 use Rattle.lp_format.specs.format.Readings.{reads}
-use Rattle.lp_format.specs.format.Values.{IsSigned, digits_len, fits_i64, integer, integer_at, integer_len, number_len}
-use Rattle.lp_format.specs.format.Bytes.{is_one_of, space}
+use Rattle.lp_format.specs.format.Values.{digits_len, fits_i64, integer, integer_at, integer_len}
+use Rattle.lp_format.specs.format.Bytes.{space}
 use Rattle.lp_format.proofs.lemmas.values.ValueLemmas.{fits_from_test, integer_parsed}
-use Rattle.lp_format.proofs.lemmas.literals.FloatLemmas.{digit_passes, minus_no_digit}
-
--- digits end where no digit follows
-pub digits_before : (ds tail : List ℕ) → AllDigits 10 ds → digits_len tail ≡ 0 → digits_len (ds ++ tail) ≡ length ds
-digits_before [] tail all ends = ends
-digits_before (d ∷ ds) tail all ends = rw (digit_passes d all.0, digits_before ds tail all.1 ends, one-add) refl
-
--- a sign or none, and digits
-pub signed_len : (signs text tail : List ℕ) → ((d : ℕ) → is_ascii_digit d ≡ true → is_one_of signs d ≡ false)
-    → IsSigned signs text → digits_len tail ≡ 0
-    → number_len signs (text ++ tail) ≡ length text
-signed_len signs [] tail apart never ends = absurd never
-signed_len signs (b ∷ ds) tail apart (inl signed) ends =
-    let some_digit : (length ds == 0) ≡ false = ne_eqb (length ds) 0 (λ e. absurd (omega (arith, signed.1.0))) in
-    rw (signed.0, digits_before ds tail signed.1.1 ends, some_digit, one-add) refl
-signed_len signs (b ∷ ds) tail apart (inr numeral) ends =
-    let first = digit_passes b numeral.1.0 in
-    let some_digit : (suc (length ds) == 0) ≡ false = ne_eqb (suc (length ds)) 0 (λ e. absurd (omega arith)) in
-    rw (apart b first, first, digits_before ds tail numeral.1.1 ends, one-add, some_digit, zero-add) refl
+use Rattle.lp_format.proofs.lemmas.literals.FloatLemmas.{minus_no_digit, signed_before}
 
 -- digits have no sign at the start
 pub unsigned_len : (ds tail : List ℕ) → IsNumeral 10 ds → digits_len tail ≡ 0 → integer_len (ds ++ tail) ≡ length ds
 unsigned_len [] tail numeral ends = absurd (omega arith)
-unsigned_len (d ∷ ds) tail numeral ends = signed_len (codes "-") (d ∷ ds) tail minus_no_digit (inr numeral) ends
+unsigned_len (d ∷ ds) tail numeral ends =
+    omega (arith, signed_before (codes "-") (d ∷ ds) tail minus_no_digit (inr numeral), ends)
 
 -- digits without a sign have their value
 unsigned_value : (ds : List ℕ) → IsNumeral 10 ds → signed_digits_value 10 ds ≡ pos (digits_value 10 ds)
@@ -78,7 +60,8 @@ integer_written (negsuc n) fits =
     let written = decimal_is_IsNumeral (suc n) (omega arith) in
     record {
       some = omega arith;
-      len = λ tail ends. signed_len (codes "-") (45 ∷ decimal (suc n)) tail minus_no_digit (inl (refl, written.0)) ends;
+      len = λ tail ends.
+          omega (arith, signed_before (codes "-") (45 ∷ decimal (suc n)) tail minus_no_digit (inl (refl, written.0)), ends);
       value = rw written.1 refl;
       no_space = refl;
     }

@@ -1,17 +1,19 @@
--- A name that is admitted reads back as it was spelled.
+-- A name that is admitted reads back as it was spelled, and the line of a point as that point.
 use Rattle.std.proofs.Common.{◌≡◌, ◌≢◌, ℕ, ◌<◌, List, [], ◌∷◌, length, slice_index, Bool, true, false, not, refl, ap, arith, inl}
-use Rattle.std.proofs.Common.{inr}
-use Rattle.std.specs.List.{list_all}
+use Rattle.std.proofs.Common.{inr, ◌++◌, map, Option, Some, None}
+use Rattle.std.specs.List.{list_all, flat_map}
 use Rattle.std.proofs.lemmas.Bool.{cases_Bool, and_parts, eqb-false, not-true}
 use Rattle.std.proofs.lemmas.Grind.{common_steps}
 use Rattle.lp_format.specs.format.Bytes.{backslash, hash, is_one_of, space}
-use Rattle.lp_format.specs.format.Names.{NameKind, a_measurement, a_tag_key, a_tag_value, a_field_key, ends_in_backslash}
-use Rattle.lp_format.specs.format.Names.{escapable, is_escapable, is_stop, logical, read_text}
+use Rattle.lp_format.specs.format.Names.{NameKind, a_measurement, a_tag_key, a_tag_value, a_field_key, ends_in_backslash, escapable}
+use Rattle.lp_format.specs.format.Names.{is_escapable, is_stop, logical, read_text}
 use Rattle.lp_format.specs.format.Readings.{Text}
 use Rattle.lp_format.specs.format.Escapes.{escaped, without_escapes}
-use Rattle.lp_format.specs.format.Points.{is_admitted_name, never_in, spelling}
+use Rattle.lp_format.specs.format.Points.{is_admitted_name, never_in, spelling, Pair, Point, Tag, Field, built_tag}
 use Rattle.lp_format.proofs.lemmas.names.NameLemmas.{escapable_backslash, without_escapes_same, without_escapes_known}
 use Rattle.lp_format.proofs.lemmas.names.NameLemmas.{without_escapes_plain_byte}
+use Rattle.lp_format.specs.format.Values.{Value, integer, unsigned, float, string, boolean, quotable}
+use Rattle.lp_format.specs.format.Lines.{Line, point_of, logical_value, logical_tag, logical_field, some_tags}
 
 -- a byte that may be in a name
 abbrev pub may_hold : NameKind → ℕ → Bool
@@ -20,23 +22,18 @@ may_hold kind b = not (is_one_of (never_in kind) b)
 -- a stop byte that may be in a name is escaped there
 pub stop_escapable : (kind : NameKind) (b : ℕ) → may_hold kind b ≡ true → is_escapable kind b ≡ false → is_stop kind b ≡ false
 stop_escapable a_measurement b may plain = grind (arith, common_steps)
-stop_escapable a_tag_key b may plain = grind (arith, common_steps)
 stop_escapable a_tag_value b may plain = grind (arith, common_steps)
-stop_escapable a_field_key b may plain = grind (arith, common_steps)
+stop_escapable other b may plain = grind (arith, common_steps)
 
 -- a backslash ends no name
 pub backslash_no_stop : (kind : NameKind) → is_stop kind backslash ≡ false
 backslash_no_stop a_measurement = refl
-backslash_no_stop a_tag_key = refl
-backslash_no_stop a_tag_value = refl
-backslash_no_stop a_field_key = refl
+backslash_no_stop other = refl
 
 -- a space in a name is escaped
 pub space_escapable : (kind : NameKind) → is_escapable kind space ≡ true
 space_escapable a_measurement = refl
-space_escapable a_tag_key = refl
-space_escapable a_tag_value = refl
-space_escapable a_field_key = refl
+space_escapable other = refl
 
 -- the text of a name or a string, a byte further
 pub escaped_found : (known text : List ℕ) (b : ℕ) → is_one_of known b ≡ true → escaped known (b ∷ text) ≡ backslash ∷ b ∷ escaped known text
@@ -88,3 +85,64 @@ begins_otherwise n ok = λ e. let h : false ≡ true = (and_parts _ false (rw e 
 -- what the spelling of a name is read as
 abbrev pub read_name : NameKind → List ℕ → Text
 read_name kind n = read_text (escapable kind) (spelling kind n)
+
+-- what the text of a value is read as
+abbrev pub read_value : Value (List ℕ) → Value Text
+read_value (integer z) = integer z
+read_value (unsigned n) = unsigned n
+read_value (float t) = float t
+read_value (string t) = string (read_text quotable (escaped quotable t))
+read_value (boolean b) = boolean b
+
+abbrev pub read_tag : Tag → Pair Text Text
+read_tag t = record { key = read_name a_tag_key t.key; value = read_name a_tag_value t.value }
+
+abbrev pub read_field : Field → Pair Text (Value Text)
+read_field f = record { key = read_name a_field_key f.key; value = read_value f.value }
+
+-- tags after a comma, and no set of tags where there are none
+abbrev pub read_tags : List Tag → Option (List (Pair Text Text))
+read_tags [] = None
+read_tags (t ∷ ts) = Some (map read_tag (t ∷ ts))
+
+-- what the line of a point is read as
+abbrev pub read_line : Point → Line
+read_line p =
+    record {
+      series = spelling a_measurement p.measurement ++ flat_map built_tag p.tags;
+      measurement = read_name a_measurement p.measurement;
+      tags = read_tags p.tags;
+      fields = map read_field p.fields;
+      timestamp = p.timestamp;
+    }
+
+-- each part is what was written
+read_value_is : (v : Value (List ℕ)) → logical_value (read_value v) ≡ v
+read_value_is (integer z) = refl
+read_value_is (unsigned n) = refl
+read_value_is (float t) = refl
+read_value_is (string t) = ap string (without_escapes_escaped quotable t refl)
+read_value_is (boolean b) = refl
+
+-- a tag by its texts
+read_tag_is : (t : Tag) → logical_tag (read_tag t) ≡ t
+read_tag_is t = rw (logical_spelling a_tag_key t.key, logical_spelling a_tag_value t.value) refl
+
+-- a field by its texts
+read_field_is : (f : Field) → logical_field (read_field f) ≡ f
+read_field_is f = rw (logical_spelling a_field_key f.key, read_value_is f.value) refl
+
+-- there and back again
+map_back : {A B : Type 0} (there : A → B) (back : B → A) → ((x : A) → back (there x) ≡ x) → (xs : List A) → map back (map there xs) ≡ xs
+map_back there back same [] = refl
+map_back there back same (x ∷ xs) = rw (same x, map_back there back same xs) refl
+
+-- the tags, or none
+read_tags_are : (ts : List Tag) → map logical_tag (some_tags (read_tags ts)) ≡ ts
+read_tags_are [] = refl
+read_tags_are (t ∷ ts) = map_back read_tag logical_tag read_tag_is (t ∷ ts)
+
+-- the point of the line is this one
+pub read_line_is : (p : Point) → point_of (read_line p) ≡ p
+read_line_is p =
+    rw (logical_spelling a_measurement p.measurement, read_tags_are p.tags, map_back read_field logical_field read_field_is p.fields) refl

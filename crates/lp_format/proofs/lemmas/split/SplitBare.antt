@@ -1,12 +1,16 @@
--- What a backslash does, a byte further.
-use Rattle.std.proofs.Common.{◌≡◌, ◌≢◌, ℕ, ◌+◌, ◌%◌, Bool, true, false, cond, not, eqb, List, [], ◌∷◌, ◌++◌, reverse, sym, ◌∙◌, ap, refl}
-use Rattle.std.proofs.Common.{arith, append_assoc, append-nil}
-use Rattle.std.specs.List.{prefix_len}
+-- Bare bytes: what a backslash does to the byte after it, and the shape of a piece by its bare bytes, which determine the cut.
+use Rattle.std.proofs.Common.{◌≡◌, ◌≢◌, ℕ, ◌+◌, ◌%◌, Bool, true, false, cond, not, eqb, List, [], ◌∷◌, ◌++◌, reverse, sym, ◌∙◌, ap}
+use Rattle.std.proofs.Common.{refl, arith, append_assoc, append-nil, ◌⊎◌, inl, inr, subst, ◌&&◌}
+use Rattle.std.specs.List.{prefix_len, All, count_by}
 use Rattle.std.proofs.lemmas.List.{reverse-append}
-use Rattle.std.proofs.lemmas.Bool.{ne_eqb}
+use Rattle.std.proofs.lemmas.Bool.{ne_eqb, lt-ltb, le-ltb, cases_eq, and_left, and_right}
 use Rattle.std.proofs.lemmas.Bool.Decides.{nat_tests}
-use Rattle.lp_format.specs.format.Escapes.{is_escaped_after, bare_after, bare}
-use Rattle.lp_format.specs.format.Bytes.{backslash}
+use Rattle.lp_format.specs.format.Escapes.{is_escaped_after, bare_after, bare, IsBareAfter}
+use Rattle.lp_format.specs.format.Bytes.{backslash, newline, quote, space, comma, equals}
+use Rattle.std.proofs.lemmas.List.Elements.{All-append, All-cons, All-nil, All-push, All-head, All-tail}
+use Rattle.lp_format.specs.format.Piece.{IsHead, HasMoreEquals, IsPlain, EndsPlain, EndsPlain.first, EndsPlain.later, EndsQuoted}
+use Rattle.lp_format.specs.format.Piece.{EndsQuoted.opened, Opens, IsQuoted, IsClosed, IsOpen}
+use Rattle.std.specs.Prelude.{◌==◌, if◌then◌else◌, nat_lt}
 
 -- a byte more: only a backslash escapes, and only a bare one
 pub is_escaped-nil : is_escaped_after [] ≡ false
@@ -23,7 +27,8 @@ run-push b n true = odd-suc n
 run-push b n false = refl
 
 -- after a byte something is escaped if that byte is a bare backslash
-pub is_escaped-push : (front : List ℕ) (b : ℕ) → is_escaped_after (front ++ b ∷ []) ≡ cond (eqb b backslash) (not (is_escaped_after front)) false
+pub is_escaped-push : (front : List ℕ) (b : ℕ)
+    → is_escaped_after (front ++ b ∷ []) ≡ cond (eqb b backslash) (not (is_escaped_after front)) false
 unfolding is_escaped_after
 is_escaped-push front b = rw reverse-append (run-push b (prefix_len (λ c. eqb c backslash) (reverse front)) (eqb b backslash))
 
@@ -40,7 +45,8 @@ is_escaped-append front (b ∷ bs) =
     ∙ ap (λ f. flag_after f bs) (is_escaped-push front b)
 
 -- no run of backslashes reaches past another byte
-pub is_escaped-after_other : (front text : List ℕ) (b : ℕ) → eqb b backslash ≡ false → is_escaped_after (front ++ b ∷ text) ≡ is_escaped_after text
+pub is_escaped-after_other : (front text : List ℕ) (b : ℕ) → eqb b backslash ≡ false
+    → is_escaped_after (front ++ b ∷ text) ≡ is_escaped_after text
 is_escaped-after_other front text b h =
     is_escaped-append front (b ∷ text) ∙ ap (λ t. flag_after (cond t (not (is_escaped_after front)) false) text) h
     ∙ ap (λ f. flag_after f text) (sym is_escaped-nil) ∙ sym (is_escaped-append [] text)
@@ -76,3 +82,285 @@ bare-push_escaped text b h = bare_after-push [] text b ∙ ap (λ f. bare text +
 -- a byte that is not escaped is bare
 pub bare-push_bare : (text : List ℕ) (b : ℕ) → is_escaped_after text ≡ false → bare (text ++ b ∷ []) ≡ bare text ++ b ∷ []
 bare-push_bare text b h = bare_after-push [] text b ∙ ap (λ f. bare text ++ cond f [] (b ∷ [])) h
+
+-- of what comes before, only whether it escapes matters
+same_bare : (front other text : List ℕ) → is_escaped_after front ≡ is_escaped_after other → bare_after front text ≡ bare_after other text
+same_bare front other [] e = refl
+same_bare front other (b ∷ text) e =
+    let f = is_escaped-push front b ∙ ap (λ t. cond (eqb b backslash) (not t) false) e ∙ sym (is_escaped-push other b) in
+    ap (λ t. cond t [] (b ∷ []) ++ bare_after (front ++ b ∷ []) text) e
+    ∙ ap (λ xs. cond (is_escaped_after other) [] (b ∷ []) ++ xs) (same_bare (front ++ b ∷ []) (other ++ b ∷ []) text f)
+
+-- the bare bytes of two texts are those of the first and those of the second after it
+bare_after-append : (front xs ys : List ℕ) → bare_after front (xs ++ ys) ≡ bare_after front xs ++ bare_after (front ++ xs) ys
+bare_after-append front [] ys = ap (λ t. bare_after t ys) (sym (append-nil front))
+bare_after-append front (x ∷ xs) ys =
+    rw (bare_after-append (front ++ x ∷ []) xs ys, append_assoc front (x ∷ []) xs)
+    (sym (append_assoc (cond (is_escaped_after front) [] (x ∷ [])) (bare_after (front ++ x ∷ []) xs)
+    (bare_after (front ++ x ∷ xs) ys)))
+
+-- the bare bytes of two texts, if nothing is escaped after the first
+pub bare-append : (xs ys : List ℕ) → IsBareAfter xs → bare (xs ++ ys) ≡ bare xs ++ bare ys
+bare-append xs ys h = bare_after-append [] xs ys ∙ ap (λ t. bare xs ++ t) (same_bare xs [] ys (h ∙ sym is_escaped-nil))
+
+-- a place in joined lists is in one of them
+pub place_in_append : (xs ys : List ℕ) (c : ℕ) (before after : List ℕ) → xs ++ ys ≡ before ++ c ∷ after
+    → ((rest : List ℕ) × (xs ≡ before ++ c ∷ rest)) ⊎ ((front : List ℕ) × (before ≡ xs ++ front) × (ys ≡ front ++ c ∷ after))
+place_in_append [] ys c before after e = inr (before, refl, e)
+place_in_append (x ∷ xs) ys c [] after e =
+    let h : x ≡ c = cc in
+    inl (xs, ap (λ z. z ∷ xs) h)
+place_in_append (x ∷ xs) ys c (y ∷ before) after e =
+    let t : xs ++ ys ≡ before ++ c ∷ after = cc in
+    elim (place_in_append xs ys c before after t) [
+      | inl w ↦ let k = w.1 in inl (w.0, cc)
+      | inr w ↦ let k = w.1 in inr (w.0, cc, w.2)
+    ]
+
+-- an empty list has no place
+pub nil_has_no_place : {X : Type 0} (before : List X) (c : X) (after : List X) → [] ≡ before ++ c ∷ after → ⊥
+nil_has_no_place [] c after e = cc
+nil_has_no_place (y ∷ before) c after e = cc
+
+-- an escaped byte leaves a head a head
+pub IsHead-escaped : (text : List ℕ) (b : ℕ) → IsHead text → is_escaped_after text ≡ true → IsHead (text ++ b ∷ [])
+IsHead-escaped text b h e = rw bare-push_escaped h
+
+-- a bare byte that is no space and no newline leaves a head a head
+pub IsHead-bare : (text : List ℕ) (b : ℕ) → IsHead text → is_escaped_after text ≡ false → b ≢ space → b ≢ newline → IsHead (text ++ b ∷ [])
+IsHead-bare text b h e s n = rw bare-push_bare (All-push (λ c. (c ≢ space) × (c ≢ newline)) (bare text) b h (s, n))
+
+-- no quote opens a string where `added` are the bare bytes that follow those that are counted
+abbrev pub NoOpening : List ℕ → List ℕ → Type 0
+NoOpening counted added = (before after : List ℕ) → added ≡ before ++ quote ∷ after → ¬ HasMoreEquals (counted ++ before)
+
+-- one byte opens none, unless it is a quote after more `=` than `,`
+NoOpening-one : (counted : List ℕ) (b : ℕ) → (b ≡ quote → ¬ HasMoreEquals counted) → NoOpening counted (b ∷ [])
+NoOpening-one counted b q [] after p = rw append-nil (q (cc))
+NoOpening-one counted b q (c ∷ before) after p = absurd (nil_has_no_place before quote after (cc))
+
+-- one byte is no newline
+no_newline : (b : ℕ) → b ≢ newline → All (λ c. c ≢ newline) (b ∷ [])
+no_newline b n = All-cons (λ c. c ≢ newline) b [] n (All-nil (λ c. c ≢ newline))
+
+-- a byte that is no newline and opens no string is a plain stretch
+IsPlain-one : (counted : List ℕ) (b : ℕ) → b ≢ newline → (b ≡ quote → ¬ HasMoreEquals counted) → IsPlain counted (b ∷ [])
+IsPlain-one counted b n q =
+    let one : bare (b ∷ []) ≡ b ∷ [] = bare-push_bare [] b is_escaped-nil in
+    record { no_newline = rw one (no_newline b n); no_opening = λ before after p. NoOpening-one counted b q before after (sym one ∙ p) }
+
+-- a plain stretch stays plain where no byte after it ends the piece or opens a string
+IsPlain-extend : (counted xs ys added : List ℕ) → IsPlain counted xs → bare_after xs ys ≡ added → All (λ c. c ≢ newline) added
+    → NoOpening (counted ++ bare xs) added → IsPlain counted (xs ++ ys)
+IsPlain-extend counted xs ys added h e n q =
+    let more = bare_after-append [] xs ys ∙ ap (λ t. bare xs ++ t) e in
+    record {
+      no_newline = rw more (All-append (λ c. c ≢ newline) (bare xs) added h.no_newline n);
+      no_opening = λ before after p. elim (place_in_append (bare xs) added quote before after (sym more ∙ p)) [
+        | inl w ↦ h.no_opening before w.0 w.1
+        | inr w ↦ λ m. q w.0 after w.2 (rw append_assoc (rw w.1 at m))
+      ];
+    }
+
+-- no bytes are a plain stretch
+IsPlain-nil : (counted : List ℕ) → IsPlain counted []
+IsPlain-nil counted = record {
+  no_newline = All-nil (λ c. c ≢ newline);
+  no_opening = λ before after p. absurd (nil_has_no_place before quote after p);
+}
+
+-- equal texts end in a plain stretch alike
+pub EndsPlain-same : {text more counted seen : List ℕ} → text ≡ more → counted ≡ seen → EndsPlain text counted → EndsPlain more seen
+EndsPlain-same {text} {more} {counted} e f h = subst (λ s. EndsPlain more s) f (subst (λ t. EndsPlain t counted) e h)
+
+-- the place after the last stretch is bare in the piece where it is bare in the stretch
+pub last_place : (front text : List ℕ) (b : ℕ) → b ≢ backslash → is_escaped_after (front ++ b ∷ text) ≡ is_escaped_after text
+last_place front text b h = is_escaped-after_other front text b (ne_eqb b backslash h)
+
+-- what ends in a plain stretch still does where no byte after it ends the piece or opens a string
+EndsPlain-extend : {piece counted : List ℕ} (text added : List ℕ) → EndsPlain piece counted → bare_after piece text ≡ added
+    → All (λ c. c ≢ newline) added → NoOpening counted added → EndsPlain (piece ++ text) (counted ++ added)
+EndsPlain-extend text added (first head plain h i p) e n q =
+    let same = last_place [] plain space (omega arith) ∙ sym (last_place head plain space (omega arith)) in
+    let f = same_bare (space ∷ plain) (head ++ space ∷ plain) text same ∙ e in
+    EndsPlain-same (sym (append_assoc head (space ∷ plain) text))
+    (bare_after-append [] (space ∷ plain) text ∙ ap (λ t. bare (space ∷ plain) ++ t) f)
+    (first head (plain ++ text) h i (IsPlain-extend [] (space ∷ plain) text added p f n q))
+EndsPlain-extend text added (later piece counted quoted plain h o k i p) e n q =
+    let same = sym (last_place (piece ++ quote ∷ quoted) plain quote (omega arith)) in
+    let f = same_bare plain ((piece ++ quote ∷ quoted) ++ quote ∷ plain) text same ∙ e in
+    EndsPlain-same (sym (append_assoc (piece ++ quote ∷ quoted) (quote ∷ plain) text))
+    (ap (λ t. counted ++ t) (bare_after-append [] plain text ∙ ap (λ t. bare plain ++ t) f) ∙ sym (append_assoc counted (bare plain) added))
+    (later piece counted quoted (plain ++ text) h o k i (IsPlain-extend counted plain text added p f n q))
+
+-- an escaped byte leaves the end in a plain stretch
+pub EndsPlain-escaped : {text counted : List ℕ} (b : ℕ) → EndsPlain text counted → is_escaped_after text ≡ true
+    → EndsPlain (text ++ b ∷ []) counted
+EndsPlain-escaped {text} {counted} b h e =
+    EndsPlain-same refl (append-nil counted)
+    (EndsPlain-extend (b ∷ []) [] h (rw e refl) (All-nil (λ c. c ≢ newline))
+    (λ before after p. absurd (nil_has_no_place before quote after p)))
+
+-- a plain stretch after a plain stretch is one, and so a builder can lengthen a piece by whole names
+pub EndsPlain-append : {piece counted : List ℕ} (text : List ℕ) → EndsPlain piece counted → IsBareAfter piece
+    → IsPlain counted text → EndsPlain (piece ++ text) (counted ++ bare text)
+EndsPlain-append {piece} {counted} text h e k =
+    EndsPlain-extend text (bare text) h (same_bare piece [] text (e ∙ sym is_escaped-nil)) k.no_newline k.no_opening
+
+-- a bare byte that neither ends the piece nor opens a string leaves the end in a plain stretch
+pub EndsPlain-bare : {text counted : List ℕ} (b : ℕ) → EndsPlain text counted → IsBareAfter text → b ≢ newline
+    → (b ≡ quote → ¬ HasMoreEquals counted) → EndsPlain (text ++ b ∷ []) (counted ++ b ∷ [])
+EndsPlain-bare {text} {counted} b h e n m =
+    EndsPlain-extend (b ∷ []) (b ∷ []) h (rw e refl) (no_newline b n) (NoOpening-one counted b m)
+
+-- the first space
+pub EndsPlain-start : (head : List ℕ) → IsHead head → IsBareAfter head → EndsPlain (head ++ space ∷ []) (space ∷ [])
+EndsPlain-start head h i =
+    EndsPlain-same refl (bare-push_bare [] space is_escaped-nil)
+    (first head [] h i (IsPlain-one [] space (omega arith) (λ e. absurd (omega arith))))
+
+-- what ends in a string still does where no bare byte after it is a quote
+EndsQuoted-extend : {text counted : List ℕ} (more : List ℕ) → EndsQuoted text counted → All (λ c. c ≢ quote) (bare_after text more)
+    → EndsQuoted (text ++ more) counted
+EndsQuoted-extend more (opened piece counted quoted h o q) n =
+    let same = same_bare (piece ++ quote ∷ quoted) quoted more (last_place piece quoted quote (omega arith)) in
+    let all = subst (All (λ c. c ≢ quote)) same n in
+    let quotes = All-append (λ c. c ≢ quote) (bare quoted) (bare_after quoted more) q all in
+    subst (λ t. EndsQuoted t counted) (sym (append_assoc piece (quote ∷ quoted) more))
+    (opened piece counted (quoted ++ more) h o (subst (All (λ c. c ≢ quote)) (sym (bare_after-append [] quoted more)) quotes))
+
+-- an escaped byte leaves the end in a string
+pub EndsQuoted-escaped : {text counted : List ℕ} (b : ℕ) → EndsQuoted text counted → is_escaped_after text ≡ true
+    → EndsQuoted (text ++ b ∷ []) counted
+EndsQuoted-escaped b h e = EndsQuoted-extend (b ∷ []) h (rw e (All-nil (λ c. c ≢ quote)))
+
+-- a bare byte that is no quote leaves the end in a string
+pub EndsQuoted-bare : {text counted : List ℕ} (b : ℕ) → EndsQuoted text counted → IsBareAfter text → b ≢ quote
+    → EndsQuoted (text ++ b ∷ []) counted
+EndsQuoted-bare b h e n = EndsQuoted-extend (b ∷ []) h (rw e (All-cons (λ c. c ≢ quote) b [] n (All-nil (λ c. c ≢ quote))))
+
+-- a quote that opens, and one that closes
+pub EndsQuoted-start : {text counted : List ℕ} → EndsPlain text counted → IsBareAfter text → HasMoreEquals counted
+    → EndsQuoted (text ++ quote ∷ []) counted
+EndsQuoted-start {text} {counted} h i m = opened text counted [] h (i, m) (All-nil (λ c. c ≢ quote))
+
+-- a bare quote closes a string
+pub EndsQuoted-close : {text counted : List ℕ} → EndsQuoted text counted → IsBareAfter text → EndsPlain (text ++ quote ∷ []) counted
+EndsQuoted-close (opened piece counted quoted h o q) e = EndsPlain-same refl (append-nil counted)
+    (later piece counted quoted [] h o q e (IsPlain-nil counted))
+
+-- where the machine is, with the bare bytes of the plain stretches so far
+data State : Type 0 where
+  in_head : State
+  in_plain in_quoted : List ℕ → State
+  ended : State
+
+-- more `=` than `,`
+abbrev more_equals : List ℕ → Bool
+more_equals counted = nat_lt (count_by (λ b. b == comma) counted) (count_by (λ b. b == equals) counted)
+
+-- a byte in a plain stretch
+abbrev plain_step : List ℕ → ℕ → State
+plain_step counted b =
+    if b == newline then ended else if b == quote && more_equals counted then in_quoted counted else in_plain (counted ++ b ∷ [])
+
+abbrev step : State → ℕ → State
+step in_head b = if b == newline then ended else if b == space then plain_step [] b else in_head
+step (in_plain counted) b = plain_step counted b
+step (in_quoted counted) b = if b == quote then in_plain counted else in_quoted counted
+step ended b = ended
+
+abbrev run : State → List ℕ → State
+run s [] = s
+run s (b ∷ bs) = run (step s b) bs
+
+-- the machine reads two texts one after the other
+run-append : (s : State) (xs ys : List ℕ) → run s (xs ++ ys) ≡ run (run s xs) ys
+run-append s [] ys = refl
+run-append s (x ∷ xs) ys = run-append (step s x) xs ys
+
+-- a machine that has ended stays so
+run-ended : (xs : List ℕ) → run ended xs ≡ ended
+run-ended [] = refl
+run-ended (x ∷ xs) = run-ended xs
+
+-- the bare bytes of a text whose first byte is no backslash
+bare-cons : (b : ℕ) (text : List ℕ) → b ≢ backslash → bare (b ∷ text) ≡ b ∷ bare text
+bare-cons b text h =
+    bare-append (b ∷ []) text (is_escaped-push_other [] b h) ∙ ap (λ t. t ++ bare text) (bare-push_bare [] b is_escaped-nil)
+
+-- a front, a bare byte that is no backslash, and more
+run-around : (s : State) (front : List ℕ) (b : ℕ) (text : List ℕ) → IsBareAfter front → b ≢ backslash
+    → run s (bare (front ++ b ∷ text)) ≡ run (step (run s (bare front)) b) (bare text)
+run-around s front b text i h =
+    ap (run s) (bare-append front (b ∷ text) i ∙ ap (λ t. bare front ++ t) (bare-cons b text h)) ∙ run-append s (bare front) (b ∷ bare text)
+
+-- bytes that are no spaces and no newlines leave the machine in the head
+run_head : (xs : List ℕ) → All (λ b. (b ≢ space) × (b ≢ newline)) xs → run in_head xs ≡ in_head
+run_head [] h = refl
+run_head (b ∷ xs) h =
+    let here = All-head (λ c. (c ≢ space) × (c ≢ newline)) b xs h in
+    rw (ne_eqb b newline here.1, ne_eqb b space here.0) (run_head xs (All-tail (λ c. (c ≢ space) × (c ≢ newline)) b xs h))
+
+-- a byte that neither ends the piece nor opens a string is counted
+plain_step_is : (counted : List ℕ) (b : ℕ) → b ≢ newline → (b ≡ quote → ¬ HasMoreEquals counted)
+    → plain_step counted b ≡ in_plain (counted ++ b ∷ [])
+plain_step_is counted b n q =
+    let closed : (b == quote && more_equals counted) ≡ false =
+    elim (cases_eq b quote) [
+      | inl e ↦ and_right (b == quote) (more_equals counted) (le-ltb _ _ (omega (arith, q e)))
+      | inr e ↦ and_left (b == quote) (more_equals counted) (ne_eqb b quote e)
+    ] in
+    rw (ne_eqb b newline n, closed) refl
+
+-- bytes that neither end the piece nor open a string leave the machine in a plain stretch
+run_plain : (counted xs : List ℕ) → All (λ b. b ≢ newline) xs
+    → NoOpening counted xs → run (in_plain counted) xs ≡ in_plain (counted ++ xs)
+run_plain counted [] n q = rw append-nil refl
+run_plain counted (b ∷ xs) n q =
+    let opens_none : b ≡ quote → ¬ HasMoreEquals counted = λ e. rw append-nil at (q [] xs (ap (λ c. c ∷ xs) e)) in
+    ap (λ s. run s xs) (plain_step_is counted b (All-head (λ c. c ≢ newline) b xs n) opens_none)
+    ∙ run_plain (counted ++ b ∷ []) xs (All-tail (λ c. c ≢ newline) b xs n)
+    (λ before after e. rw append_assoc (q (b ∷ before) after (ap (λ t. b ∷ t) e)))
+    ∙ ap in_plain (append_assoc counted (b ∷ []) xs)
+
+-- bytes that are no quotes leave the machine in a string
+run_quoted : (counted xs : List ℕ) → All (λ b. b ≢ quote) xs → run (in_quoted counted) xs ≡ in_quoted counted
+run_quoted counted [] n = refl
+run_quoted counted (b ∷ xs) n =
+    rw (ne_eqb b quote (All-head (λ c. c ≢ quote) b xs n)) (run_quoted counted xs (All-tail (λ c. c ≢ quote) b xs n))
+
+-- a quote after more `=` than `,` opens a string
+opening : (piece counted quoted : List ℕ) → run in_head (bare piece) ≡ in_plain counted → Opens piece counted → IsQuoted quoted
+    → run in_head (bare (piece ++ quote ∷ quoted)) ≡ in_quoted counted
+opening piece counted quoted r o q =
+    run-around in_head piece quote quoted o.0 (omega arith) ∙ rw (r, lt-ltb _ _ o.1) (run_quoted counted (bare quoted) q)
+
+-- what ends in a plain stretch leaves the machine in one
+ends_plain : {text counted : List ℕ} → EndsPlain text counted → run in_head (bare text) ≡ in_plain counted
+ends_plain (first head plain h i p) =
+    let same = bare-cons space plain (omega arith) in
+    let counted = run_plain [] (bare (space ∷ plain)) p.no_newline p.no_opening in
+    run-around in_head head space plain i (omega arith)
+    ∙ rw (run_head (bare head) h) (subst (λ t. run (in_plain []) t ≡ in_plain t) same counted ∙ ap in_plain (sym same))
+ends_plain (later piece counted quoted plain h o q i p) =
+    run-around in_head (piece ++ quote ∷ quoted) quote plain i (omega arith)
+    ∙ rw (opening piece counted quoted (ends_plain h) o q) (run_plain counted (bare plain) p.no_newline p.no_opening)
+
+-- what ends in a string leaves the machine in one
+ends_quoted : {text counted : List ℕ} → EndsQuoted text counted → run in_head (bare text) ≡ in_quoted counted
+ends_quoted (opened piece counted quoted h o q) = opening piece counted quoted (ends_plain h) o q
+
+-- a newline that is a cut is in no piece
+cut_ends : (piece rest : List ℕ) → IsClosed piece → IsBareAfter piece → run in_head (bare (piece ++ newline ∷ rest)) ≡ ended
+cut_ends piece rest (inl h) i =
+    run-around in_head piece newline rest i (omega arith) ∙ rw (run_head (bare piece) h) (run-ended (bare rest))
+cut_ends piece rest (inr h) i =
+    run-around in_head piece newline rest i (omega arith) ∙ rw (ends_plain h.1) (run-ended (bare rest))
+
+-- a piece that ends before a newline is no beginning of a longer one
+pub cut_not_within : (piece rest : List ℕ) → IsClosed piece → IsBareAfter piece → IsClosed (piece ++ newline ∷ rest)
+    ⊎ IsOpen (piece ++ newline ∷ rest) → ⊥
+cut_not_within piece rest c i (inl (inl h)) = let e = cut_ends piece rest c i in let f = run_head (bare (piece ++ newline ∷ rest)) h in cc
+cut_not_within piece rest c i (inl (inr h)) = let e = cut_ends piece rest c i in let f = ends_plain h.1 in cc
+cut_not_within piece rest c i (inr h) = let e = cut_ends piece rest c i in let f = ends_quoted h.1 in cc

@@ -1,9 +1,9 @@
 -- Each text has exactly one list of pieces, and the pieces of joined texts are joined.
-use Rattle.std.proofs.Common.{◌≡◌, ◌≢◌, ℕ, ◌+◌, ◌<◌, Bool, true, false, ◌&&◌, ◌||◌, ◌⊎◌, inl, inr, eqb, List, [], ◌∷◌, ◌++◌, length, get_or}
-use Rattle.std.proofs.Common.{take, drop, Option, Some, None, MatchOption, slice_range, sym, ◌∙◌, ap, refl, subst, arith, append_assoc}
-use Rattle.std.proofs.Common.{append-nil}
+use Rattle.std.proofs.Common.{◌≡◌, ◌≢◌, ℕ, ◌+◌, ◌<◌, Bool, true, false, ◌&&◌, ◌||◌, ◌⊎◌, inl, inr, eqb, List, [], ◌∷◌, ◌++◌, length}
+use Rattle.std.proofs.Common.{get_or, take, drop, Option, Some, None, MatchOption, slice_range, sym, ◌∙◌, ap, refl, subst, arith}
+use Rattle.std.proofs.Common.{append_assoc, append-nil}
 use Rattle.std.specs.List.{All, count_by}
-use Rattle.std.proofs.lemmas.List.{append_cancel_left, take_at, drop_more, take-append-drop}
+use Rattle.std.proofs.lemmas.List.{take_at, drop_more, take-append-drop}
 use Rattle.std.proofs.lemmas.List.Elements.{All-head, All-tail, All-nil, All-cons, All-push, All-take, All-append}
 use Rattle.std.proofs.lemmas.Bool.{cases_lt, cases_eq, cases_Bool, false≢true, both_ways}
 use Rattle.lp_format.specs.format.Dialects.{Dialect, Crate, Strict}
@@ -11,23 +11,22 @@ use Rattle.lp_format.specs.format.Escapes.{is_escaped_after}
 use Rattle.lp_format.specs.format.Piece.{IsHead, EndsPlain, EndsQuoted}
 use Rattle.lp_format.specs.format.Pieces.{begins_comment, IsComment, IsCutPiece, IsLastPiece, IsFirstCut, Pieces, Pieces.last}
 use Rattle.lp_format.specs.format.Pieces.{Pieces.cut}
-use Rattle.lp_format.proofs.lemmas.split.SplitShape.{IsHead-escaped, IsHead-bare, EndsPlain-escaped, EndsPlain-bare}
-use Rattle.lp_format.proofs.lemmas.split.SplitShape.{EndsPlain-start, EndsQuoted-escaped, EndsQuoted-bare, EndsQuoted-start}
-use Rattle.lp_format.proofs.lemmas.split.SplitShape.{EndsQuoted-close}
-use Rattle.lp_format.proofs.lemmas.split.SplitMachine.{cut_not_within}
-use Rattle.lp_format.specs.format.Bytes.{comma, equals, hash, quote, space, tab}
+use Rattle.lp_format.proofs.lemmas.split.SplitBare.{IsHead-escaped, IsHead-bare, EndsPlain-escaped, EndsPlain-bare, EndsPlain-start}
+use Rattle.lp_format.proofs.lemmas.split.SplitBare.{EndsQuoted-escaped, EndsQuoted-bare, EndsQuoted-start, EndsQuoted-close}
+use Rattle.lp_format.proofs.lemmas.split.SplitBare.{place_in_append, nil_has_no_place, cut_not_within}
+use Rattle.lp_format.specs.format.Bytes.{comma, equals, hash, newline, quote, space, tab}
 
 -- a byte more is a cut, or lengthens the piece
 abbrev GoesOn : Dialect → List ℕ → ℕ → Type 0
-GoesOn dialect front b = ((b ≡ 10) × IsCutPiece dialect front) ⊎ IsLastPiece dialect (front ++ b ∷ [])
+GoesOn dialect front b = ((b ≡ newline) × IsCutPiece dialect front) ⊎ IsLastPiece dialect (front ++ b ∷ [])
 
 -- a head and a byte are cut, or go on
 head_goes_on : (front : List ℕ) (b : ℕ) → IsHead front → GoesOn Crate front b
 head_goes_on front b h = elim (cases_Bool (is_escaped_after front)) [
   | inl e ↦ inr (inl (inl (IsHead-escaped front b h e)))
-  | inr e ↦ elim (cases_eq b 10) [
+  | inr e ↦ elim (cases_eq b newline) [
     | inl n ↦ inl (n, (inl h, e))
-    | inr n ↦ elim (cases_eq b 32) [
+    | inr n ↦ elim (cases_eq b space) [
       | inl s ↦ inr (inl (inr (space ∷ [], rw s (EndsPlain-start front h e))))
       | inr s ↦ inr (inl (inl (IsHead-bare front b h e s n)))
     ]
@@ -38,7 +37,7 @@ head_goes_on front b h = elim (cases_Bool (is_escaped_after front)) [
 plain_goes_on : (front counted : List ℕ) (b : ℕ) → EndsPlain front counted → GoesOn Crate front b
 plain_goes_on front counted b h = elim (cases_Bool (is_escaped_after front)) [
   | inl e ↦ inr (inl (inr (counted, EndsPlain-escaped b h e)))
-  | inr e ↦ elim (cases_eq b 10) [
+  | inr e ↦ elim (cases_eq b newline) [
     | inl n ↦ inl (n, (inr (counted, h), e))
     | inr n ↦ elim (cases_lt (count_by (λ x. eqb x comma) counted) (count_by (λ x. eqb x equals) counted)) [
       | inl m ↦ elim (cases_eq b quote) [
@@ -69,49 +68,42 @@ crate_goes_on front b (inr h) = quoted_goes_on front h.0 b h.1
 -- a comment is told by its bytes up to the `#`
 pub begins_comment-append : (front more : List ℕ) → begins_comment front ≡ true → begins_comment (front ++ more) ≡ true
 begins_comment-append [] more e = absurd (false≢true e)
-begins_comment-append (b ∷ front) more e = go (eqb b hash) (eqb b space || eqb b tab) e (begins_comment-append front more)
+begins_comment-append (b ∷ front) more e =
+    go (eqb b hash) (eqb b space || eqb b tab) (begins_comment front) _ e (begins_comment-append front more)
   where
     -- what begins a comment still does with more after it
-    go : (h s : Bool) → (h || s && begins_comment front) ≡ true
-        → (begins_comment front ≡ true → begins_comment (front ++ more) ≡ true)
-        → (h || s && begins_comment (front ++ more)) ≡ true
-    go true s e k = refl
-    go false true e k = k e
-    go false false e k = e
+    go : (h s p q : Bool) → (h || s && p) ≡ true → (p ≡ true → q ≡ true) → (h || s && q) ≡ true
+    go h s p q e k = grind arith
 
 -- the byte after blanks and no `#` that makes a comment is no newline, nor are the blanks
 becomes_comment : (front : List ℕ) (b : ℕ) → begins_comment front ≡ false → begins_comment (front ++ b ∷ []) ≡ true
-    → All (λ c. c ≢ 10) (front ++ b ∷ [])
+    → All (λ c. c ≢ newline) (front ++ b ∷ [])
 becomes_comment [] b e f =
-    All-cons (λ c. c ≢ 10) b [] (λ i. false≢true (subst (λ c. begins_comment (c ∷ []) ≡ true) i f)) (All-nil (λ c. c ≢ 10))
+    All-cons (λ c. c ≢ newline) b [] (λ i. false≢true (subst (λ c. begins_comment (c ∷ []) ≡ true) i f)) (All-nil (λ c. c ≢ newline))
 becomes_comment (x ∷ front) b e f =
     let w = go (eqb x hash) (eqb x space || eqb x tab) (begins_comment front) (begins_comment (front ++ b ∷ [])) e f in
-    All-cons (λ c. c ≢ 10) x (front ++ b ∷ [])
+    All-cons (λ c. c ≢ newline) x (front ++ b ∷ [])
     (λ i. false≢true (subst (λ c. begins_comment (c ∷ front ++ b ∷ []) ≡ true) i f)) (becomes_comment front b w.0 w.1)
   where
     -- what becomes a comment by more bytes was none before
     go : (h s p q : Bool) → (h || s && p) ≡ false → (h || s && q) ≡ true → (p ≡ false) × (q ≡ true)
-    go true s p q e f = absurd (false≢true (sym e))
-    go false true p q e f = (e, f)
-    go false false p q e f = absurd (false≢true f)
+    go h s p q e f = (grind arith, grind arith)
 
 -- a newline makes no comment
-begins_comment-newline : (front more : List ℕ) → begins_comment front ≡ false → begins_comment (front ++ 10 ∷ more) ≡ false
+begins_comment-newline : (front more : List ℕ) → begins_comment front ≡ false → begins_comment (front ++ newline ∷ more) ≡ false
 begins_comment-newline [] more e = refl
 begins_comment-newline (x ∷ front) more e =
-    go (eqb x hash) (eqb x space || eqb x tab) (begins_comment front) (begins_comment (front ++ 10 ∷ more)) e (begins_comment-newline front more)
+    go (eqb x hash) (eqb x space || eqb x tab) (begins_comment front) _ e (begins_comment-newline front more)
   where
     -- what is no comment with more after it was none before
     go : (h s p q : Bool) → (h || s && p) ≡ false → (p ≡ false → q ≡ false) → (h || s && q) ≡ false
-    go true s p q e k = e
-    go false true p q e k = k e
-    go false false p q e k = refl
+    go h s p q e k = grind arith
 
 -- a piece that is open, and a byte, are cut or go on, in the strict dialect
 strict_goes_on : (front : List ℕ) (b : ℕ) → IsLastPiece Strict front → GoesOn Strict front b
-strict_goes_on front b (inl h) = elim (cases_eq b 10) [
+strict_goes_on front b (inl h) = elim (cases_eq b newline) [
   | inl n ↦ inl (n, inl h)
-  | inr n ↦ inr (inl (begins_comment-append front (b ∷ []) h.0, All-push (λ c. c ≢ 10) front b h.1 n))
+  | inr n ↦ inr (inl (begins_comment-append front (b ∷ []) h.0, All-push (λ c. c ≢ newline) front b h.1 n))
 ]
 strict_goes_on front b (inr h) = elim (cases_Bool (begins_comment (front ++ b ∷ []))) [
   | inl c ↦ inr (inl (c, becomes_comment front b h.0 c))
@@ -127,19 +119,19 @@ goes_on Crate front b h = crate_goes_on front b h
 goes_on Strict front b h = strict_goes_on front b h
 
 -- bytes without a newline cut nothing
-pub IsLastPiece-extend : (dialect : Dialect) (front more : List ℕ) → IsLastPiece dialect front → All (λ b. b ≢ 10) more
+pub IsLastPiece-extend : (dialect : Dialect) (front more : List ℕ) → IsLastPiece dialect front → All (λ b. b ≢ newline) more
     → IsLastPiece dialect (front ++ more)
 IsLastPiece-extend dialect front [] h n = rw append-nil h
 IsLastPiece-extend dialect front (b ∷ more) h n = elim (goes_on dialect front b h) [
-  | inl w ↦ absurd (All-head (λ c. c ≢ 10) b more n w.0)
+  | inl w ↦ absurd (All-head (λ c. c ≢ newline) b more n w.0)
   | inr w ↦ subst (IsLastPiece dialect) (append_assoc front (b ∷ []) more)
-      (IsLastPiece-extend dialect (front ++ b ∷ []) more w (All-tail (λ c. c ≢ 10) b more n))
+      (IsLastPiece-extend dialect (front ++ b ∷ []) more w (All-tail (λ c. c ≢ newline) b more n))
 ]
 
 -- no bytes are a last piece
 pub IsLastPiece-nil : (dialect : Dialect) → IsLastPiece dialect []
-IsLastPiece-nil Crate = inl (inl (All-nil (λ b. (b ≢ space) × (b ≢ 10))))
-IsLastPiece-nil Strict = inr (refl, inl (inl (All-nil (λ b. (b ≢ space) × (b ≢ 10)))))
+IsLastPiece-nil Crate = inl (inl (All-nil (λ b. (b ≢ space) × (b ≢ newline))))
+IsLastPiece-nil Strict = inr (refl, inl (inl (All-nil (λ b. (b ≢ space) × (b ≢ newline)))))
 
 -- what is cut could have been the last piece
 pub IsLastPiece-cut : (dialect : Dialect) (piece : List ℕ) → IsCutPiece dialect piece → IsLastPiece dialect piece
@@ -148,15 +140,15 @@ IsLastPiece-cut Strict piece (inl h) = inl h
 IsLastPiece-cut Strict piece (inr h) = inr (h.0, inl h.1)
 
 -- a text with a newline in it is not free of newlines
-has_newline : (piece rest : List ℕ) → All (λ c. c ≢ 10) (piece ++ 10 ∷ rest) → ⊥
-has_newline [] rest h = All-head (λ c. c ≢ 10) 10 rest h refl
-has_newline (b ∷ piece) rest h = has_newline piece rest (All-tail (λ c. c ≢ 10) b (piece ++ 10 ∷ rest) h)
+has_newline : (piece rest : List ℕ) → All (λ c. c ≢ newline) (piece ++ newline ∷ rest) → ⊥
+has_newline [] rest h = All-head (λ c. c ≢ newline) newline rest h refl
+has_newline (b ∷ piece) rest h = has_newline piece rest (All-tail (λ c. c ≢ newline) b (piece ++ newline ∷ rest) h)
 
 -- a cut is within no piece
-pub no_cut_within : (dialect : Dialect) (piece rest : List ℕ) → IsCutPiece dialect piece → IsLastPiece dialect (piece ++ 10 ∷ rest) → ⊥
+pub no_cut_within : (dialect : Dialect) (piece rest : List ℕ) → IsCutPiece dialect piece → IsLastPiece dialect (piece ++ newline ∷ rest) → ⊥
 no_cut_within Crate piece rest c h = cut_not_within piece rest c.0 c.1 h
 no_cut_within Strict piece rest (inl c) (inl h) = has_newline piece rest h.1
-no_cut_within Strict piece rest (inl c) (inr h) = false≢true (sym h.0 ∙ begins_comment-append piece (10 ∷ rest) c.0)
+no_cut_within Strict piece rest (inl c) (inr h) = false≢true (sym h.0 ∙ begins_comment-append piece (newline ∷ rest) c.0)
 no_cut_within Strict piece rest (inr c) (inl h) = false≢true (sym (begins_comment-newline piece rest c.0) ∙ h.0)
 no_cut_within Strict piece rest (inr c) (inr h) = cut_not_within piece rest c.1 c.2 h.1
 
@@ -184,7 +176,7 @@ Pieces-nil dialect text h = elim h [ ]
 
 abbrev Cuts : Dialect → List ℕ → List ℕ → List (List ℕ) → Type 0
 Cuts dialect text piece pieces =
-    (rest : List ℕ) × (text ≡ piece ++ 10 ∷ rest) × IsCutPiece dialect piece × Pieces dialect rest pieces
+    (rest : List ℕ) × (text ≡ piece ++ newline ∷ rest) × IsCutPiece dialect piece × Pieces dialect rest pieces
 
 -- a first piece is the whole text, or is cut from it
 uncons : (dialect : Dialect) {text piece : List ℕ} {pieces : List (List ℕ)} → Pieces dialect text (piece ∷ pieces)
@@ -193,17 +185,15 @@ uncons dialect (last piece h) = inl (refl, refl, h)
 uncons dialect (cut piece text pieces c h) = inr (text, refl, c, h)
 
 -- two splits at newlines of one text are the same, or one is further on
-same_split : (p t q s : List ℕ) → p ++ 10 ∷ t ≡ q ++ 10 ∷ s → ((p ≡ q) × (t ≡ s))
-    ⊎ (((x : List ℕ) × (p ≡ q ++ 10 ∷ x)) ⊎ ((x : List ℕ) × (q ≡ p ++ 10 ∷ x)))
-same_split [] t [] s e = inl (refl, cc)
-same_split [] t (y ∷ q) s e = let h : 10 ≡ y = cc in inr (inr (q, ap (λ c. c ∷ q) (sym h)))
-same_split (x ∷ p) t [] s e = let h : x ≡ 10 = cc in inr (inl (p, ap (λ c. c ∷ p) h))
-same_split (x ∷ p) t (y ∷ q) s e =
-    let k : p ++ 10 ∷ t ≡ q ++ 10 ∷ s = cc in
-    elim (same_split p t q s k) [
-      | inl w ↦ let i : p ≡ q = w.0 in inl (cc, w.1)
-      | inr w ↦ elim w [ inl v ↦ inr (inl (v.0, cc (v.1))) | inr v ↦ inr (inr (v.0, cc (v.1))) ]
-    ]
+same_split : (p t q s : List ℕ) → p ++ newline ∷ t ≡ q ++ newline ∷ s → ((p ≡ q) × (t ≡ s))
+    ⊎ (((x : List ℕ) × (p ≡ q ++ newline ∷ x)) ⊎ ((x : List ℕ) × (q ≡ p ++ newline ∷ x)))
+same_split p t q s e = elim (place_in_append p (newline ∷ t) newline q s e) [ inl w ↦ inr (inl w) | inr w ↦ go w.0 w.1 w.2 ]
+  where
+    -- the second split is where the first is, or further on
+    go : (front : List ℕ) → q ≡ p ++ front → newline ∷ t ≡ front ++ newline ∷ s → ((p ≡ q) × (t ≡ s))
+        ⊎ (((x : List ℕ) × (p ≡ q ++ newline ∷ x)) ⊎ ((x : List ℕ) × (q ≡ p ++ newline ∷ x)))
+    go [] is at = inl (sym (is ∙ append-nil p), cc)
+    go (x ∷ front) is at = let h : x ≡ newline = cc in inr (inr (front, is ∙ ap (λ c. p ++ c ∷ front) h))
 
 -- a text has one list of pieces
 pub same_pieces : (dialect : Dialect) {t u : List ℕ} {ps qs : List (List ℕ)} → t ≡ u → Pieces dialect t ps → Pieces dialect u qs → ps ≡ qs
@@ -218,101 +208,98 @@ same_pieces dialect e (cut p t ps c h) (cut q u qs d k) = elim (same_split p t q
   ]
 ]
 
--- a list with an element is not empty
-push_is_not_nil : (before : List (List ℕ)) (piece : List ℕ) (after : List (List ℕ)) → before ++ piece ∷ after ≡ [] → ⊥
-push_is_not_nil [] piece after e = cc
-push_is_not_nil (x ∷ before) piece after e = cc
+-- the pieces of a text from one of them on, in whose place other pieces may stand
+record From (dialect : Dialect) (text : List ℕ) (before : List (List ℕ)) (piece : List ℕ) (after : List (List ℕ)) : Type 0 where
+  front : List ℕ
+  rest : List ℕ
+  is : text ≡ front ++ rest
+  are : Pieces dialect rest (piece ∷ after)
+  others : (other : List ℕ) (pieces : List (List ℕ)) → Pieces dialect other pieces → Pieces dialect (front ++ other) (before ++ pieces)
 
--- some text that has these pieces
-abbrev HasText : List (List ℕ) → Type 0
-HasText pieces = (text : List ℕ) × Pieces Strict text pieces
+-- each piece of a text has such a place
+from_piece : (dialect : Dialect) (text : List ℕ) (before : List (List ℕ)) (piece : List ℕ) (after : List (List ℕ))
+    → Pieces dialect text (before ++ piece ∷ after) → From dialect text before piece after
+from_piece dialect text [] piece after h = record { front = []; rest = text; is = refl; are = h; others = λ t ps k. k }
+from_piece dialect text (p ∷ before) piece after h = elim (uncons dialect h) [
+  | inl w ↦ absurd (nil_has_no_place before piece after (sym w.0))
+  | inr w ↦
+      let f = from_piece dialect w.0 before piece after w.3 in
+      record {
+        front = p ++ newline ∷ f.front;
+        rest = f.rest;
+        is = w.1 ∙ ap (λ t. p ++ newline ∷ t) f.is ∙ sym (append_assoc p (newline ∷ f.front) f.rest);
+        are = f.are;
+        others = λ t ps k. rw append_assoc (cut p (f.front ++ t) (before ++ ps) w.2 (f.others t ps k));
+      }
+]
 
--- the last piece of u before a newline
+-- where the last piece of a text may be cut, the pieces of a text after a newline follow it
 pub join_from_cut : (dialect : Dialect) (u t : List ℕ) (before : List (List ℕ)) (piece : List ℕ)
     (after : List (List ℕ)) → Pieces dialect u (before ++ piece ∷ []) → Pieces dialect t after
-    → IsCutPiece dialect piece → Pieces dialect (u ++ 10 ∷ t) (before ++ piece ∷ after)
-join_from_cut dialect u t [] piece after h k c = elim (uncons dialect h) [
-  | inl w ↦ rw w.1 (cut piece t after c k)
-  | inr w ↦ absurd (Pieces-nil dialect w.0 w.3)
-]
-join_from_cut dialect u t (p ∷ before) piece after h k c = elim (uncons dialect h) [
-  | inl w ↦ absurd (push_is_not_nil before piece [] w.0)
-  | inr w ↦ rw (w.1, append_assoc)
-      (cut p (w.0 ++ 10 ∷ t) (before ++ piece ∷ after) w.2 (join_from_cut dialect w.0 t before piece after w.3 k c))
-]
+    → IsCutPiece dialect piece → Pieces dialect (u ++ newline ∷ t) (before ++ piece ∷ after)
+join_from_cut dialect u t before piece after h k c =
+    let f = from_piece dialect u before piece [] h in
+    elim (uncons dialect f.are) [
+      | inl w ↦ rw (f.is, w.1, append_assoc) (f.others (piece ++ newline ∷ t) (piece ∷ after) (cut piece t after c k))
+      | inr w ↦ absurd (Pieces-nil dialect w.0 w.3)
+    ]
 
 -- the last piece of a text is cut where the text goes on after a newline with pieces of their own
 pub cut_from_join : (dialect : Dialect) (u t : List ℕ) (before : List (List ℕ)) (piece : List ℕ)
-    (after : List (List ℕ)) → Pieces dialect u (before ++ piece ∷ []) → Pieces dialect t after
-    → Pieces dialect (u ++ 10 ∷ t) (before ++ piece ∷ after) → IsCutPiece dialect piece
-cut_from_join dialect u t [] piece after h k j = elim (uncons dialect j) [
-  | inl w ↦ absurd (Pieces-nil dialect t (subst (Pieces dialect t) w.0 k))
-  | inr w ↦ w.2
-]
-cut_from_join dialect u t (p ∷ before) piece after h k j = elim (uncons dialect h) [
-  | inl w ↦ absurd (push_is_not_nil before piece [] w.0)
-  | inr w ↦ elim (uncons dialect j) [
-    | inl v ↦ absurd (push_is_not_nil before piece after v.0)
-    | inr v ↦
-        let e : 10 ∷ (w.0 ++ 10 ∷ t) ≡ 10 ∷ v.0 = append_cancel_left p (10 ∷ (w.0 ++ 10 ∷ t)) (10 ∷ v.0)
-        (sym (append_assoc p (10 ∷ w.0) (10 ∷ t)) ∙ ap (λ x. x ++ 10 ∷ t) (sym w.1) ∙ v.1) in
-        let f : v.0 ≡ w.0 ++ 10 ∷ t = cc in
-        cut_from_join dialect w.0 t before piece after w.3 k (subst (λ x. Pieces dialect x (before ++ piece ∷ after)) f v.3)
-  ]
-]
+    (after : List (List ℕ)) → Pieces dialect t after
+    → Pieces dialect (u ++ newline ∷ t) (before ++ piece ∷ after) → IsCutPiece dialect piece
+cut_from_join dialect u t before piece after k j =
+    elim (uncons dialect (from_piece dialect (u ++ newline ∷ t) before piece after j).are) [
+      | inl w ↦ absurd (Pieces-nil dialect t (subst (Pieces dialect t) w.0 k))
+      | inr w ↦ w.2
+    ]
 
 -- what is in a comment
-another_comment : (front old new : List ℕ) → begins_comment front ≡ true → All (λ b. b ≢ 10) new
+another_comment : (front old new : List ℕ) → begins_comment front ≡ true → All (λ b. b ≢ newline) new
     → IsLastPiece Strict (front ++ old) → IsComment (front ++ new)
 another_comment front old new f n (inl h) =
-    let q : All (λ b. b ≢ 10) front = rw take_at at (All-take (λ b. b ≢ 10) (length front) (front ++ old) h.1) in
-    (begins_comment-append front new f, All-append (λ b. b ≢ 10) front new q n)
+    let q : All (λ b. b ≢ newline) front = rw take_at at (All-take (λ b. b ≢ newline) (length front) (front ++ old) h.1) in
+    (begins_comment-append front new f, All-append (λ b. b ≢ newline) front new q n)
 another_comment front old new f n (inr h) = absurd (both_ways (begins_comment (front ++ old)) h.0 (begins_comment-append front old f))
 
 -- in the strict dialect the rest of a comment can be any other without newlines
 pub comment_replaced : (before : List (List ℕ)) (front old new : List ℕ) (after : List (List ℕ)) (text : List ℕ)
-    → begins_comment front ≡ true → All (λ b. b ≢ 10) new → Pieces Strict text (before ++ (front ++ old) ∷ after)
-    → HasText (before ++ (front ++ new) ∷ after)
-comment_replaced [] front old new after text f n h = elim (uncons Strict h) [
-  | inl w ↦ (front ++ new, rw w.0 (last (front ++ new) (inl (another_comment front old new f n w.2))))
-  | inr w ↦ (
-    (front ++ new) ++ 10 ∷ w.0,
-    cut (front ++ new) w.0 after (inl (another_comment front old new f n (IsLastPiece-cut Strict (front ++ old) w.2))) w.3,
-  )
-]
-comment_replaced (p ∷ before) front old new after text f n h = elim (uncons Strict h) [
-  | inl w ↦ absurd (push_is_not_nil before (front ++ old) after w.0)
-  | inr w ↦
-      let r = comment_replaced before front old new after w.0 f n w.3 in
-      (p ++ 10 ∷ r.0, cut p r.0 (before ++ (front ++ new) ∷ after) w.2 r.1)
-]
+    → begins_comment front ≡ true → All (λ b. b ≢ newline) new → Pieces Strict text (before ++ (front ++ old) ∷ after)
+    → (other : List ℕ) × Pieces Strict other (before ++ (front ++ new) ∷ after)
+comment_replaced before front old new after text c n h =
+    let f = from_piece Strict text before (front ++ old) after h in
+    elim (uncons Strict f.are) [
+      | inl w ↦ (f.front ++ (front ++ new), f.others _ _ (rw w.0 (last (front ++ new) (inl (another_comment front old new c n w.2)))))
+      | inr w ↦ (
+        f.front ++ ((front ++ new) ++ newline ∷ w.0),
+        f.others _ _ (cut (front ++ new) w.0 after
+            (inl (another_comment front old new c n (IsLastPiece-cut Strict (front ++ old) w.2))) w.3),
+      )
+    ]
 
--- a piece that begins as a comment is one
-last_is_comment : (piece : List ℕ) → begins_comment piece ≡ true → IsLastPiece Strict piece → IsComment piece
-last_is_comment piece f (inl h) = h
-last_is_comment piece f (inr h) = absurd (both_ways (begins_comment piece) h.0 f)
-
--- so is each piece of a text that begins as one
+-- a piece of a text that begins as a comment is one
 pub piece_is_comment : (before : List (List ℕ)) (piece : List ℕ) (after : List (List ℕ)) (text : List ℕ)
     → begins_comment piece ≡ true → Pieces Strict text (before ++ piece ∷ after) → IsComment piece
-piece_is_comment [] piece after text f h = elim (uncons Strict h) [
-  | inl w ↦ last_is_comment piece f w.2
-  | inr w ↦ last_is_comment piece f (IsLastPiece-cut Strict piece w.2)
-]
-piece_is_comment (p ∷ before) piece after text f h = elim (uncons Strict h) [
-  | inl w ↦ absurd (push_is_not_nil before piece after w.0)
-  | inr w ↦ piece_is_comment before piece after w.0 f w.3
-]
+piece_is_comment before piece after text c h =
+    elim (uncons Strict (from_piece Strict text before piece after h).are) [
+      | inl w ↦ is_comment w.2
+      | inr w ↦ is_comment (IsLastPiece-cut Strict piece w.2)
+    ]
+  where
+    -- what begins as a comment is no other piece
+    is_comment : IsLastPiece Strict piece → IsComment piece
+    is_comment (inl h) = h
+    is_comment (inr h) = absurd (both_ways (begins_comment piece) h.0 c)
 
 -- a text up to a place, and after it
-pub split_at : (text : List ℕ) (i : ℕ) → i < length text → get_or text i 0 ≡ 10 → text ≡ take i text ++ 10 ∷ drop (i + 1) text
+pub split_at : (text : List ℕ) (i : ℕ) → i < length text → get_or text i 0 ≡ newline → text ≡ take i text ++ newline ∷ drop (i + 1) text
 split_at text i l e = sym (ap (λ x. take i text ++ x ∷ drop (i + 1) text) (sym e)
     ∙ ap (λ t. take i text ++ t) (sym (drop_more text i 0 l)) ∙ take-append-drop i text)
 
 -- the first newline ends a comment
 pub cut_of_comment : (text : List ℕ) (place : Option ℕ) → begins_comment text ≡ true
-    → MatchOption place (All (λ b. b ≢ 10) text)
-    (λ i. (i < length text) × (get_or text i 0 ≡ 10) × All (λ b. b ≢ 10) (take i text)) → IsFirstCut Strict text place
+    → MatchOption place (All (λ b. b ≢ newline) text)
+    (λ i. (i < length text) × (get_or text i 0 ≡ newline) × All (λ b. b ≢ newline) (take i text)) → IsFirstCut Strict text place
 cut_of_comment text None e h = inl (e, h)
 cut_of_comment text (Some i) e h = (
   h.0,
@@ -347,14 +334,14 @@ cut_of_other text (Some i) e h = (
 
 -- what a call of `next` gives, by the bytes that it searched
 pub Pieces-cut_at : (dialect : Dialect) (bytes text piece rest : List ℕ) (i : ℕ) (others : List (List ℕ))
-    → bytes ≡ text → (i < length bytes) × (get_or bytes i 0 ≡ 10) × IsCutPiece dialect (take i bytes)
+    → bytes ≡ text → (i < length bytes) × (get_or bytes i 0 ≡ newline) × IsCutPiece dialect (take i bytes)
     → piece ≡ slice_range text 0 i → rest ≡ drop (i + 1) text → Pieces dialect rest others → Pieces dialect text (piece ∷ others)
 Pieces-cut_at dialect bytes text piece rest i others same h p r left =
     let first : take i bytes ≡ piece = ap (take i) same ∙ sym (p ∙ from_start text i) in
     let after : rest ≡ drop (i + 1) bytes = r ∙ ap (drop (i + 1)) (sym same) in
     let made = cut (take i bytes) (drop (i + 1) bytes) others h.2 (subst (λ t. Pieces dialect t others) after left) in
     subst (λ t. Pieces dialect t (piece ∷ others)) (sym (split_at bytes i h.0 h.1) ∙ same)
-    (subst (λ q. Pieces dialect (take i bytes ++ 10 ∷ drop (i + 1) bytes) (q ∷ others)) first made)
+    (subst (λ q. Pieces dialect (take i bytes ++ newline ∷ drop (i + 1) bytes) (q ∷ others)) first made)
   where
     -- a range from the start is a front
     from_start : (xs : List ℕ) (n : ℕ) → slice_range xs 0 n ≡ take n xs

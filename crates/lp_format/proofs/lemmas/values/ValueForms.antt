@@ -1,30 +1,78 @@
--- The first bytes of a value decide its form.
-use Rattle.std.proofs.Common.{◌≡◌, ◌≢◌, ◌⊎◌, ◌∙◌, ℕ, ◌<◌, ◌≤◌, List, [], ◌∷◌, true, false, slice_index, refl, sym, arith, inl, inr}
-use Rattle.std.specs.Prelude.{◌==◌, ◌||◌}
-use Rattle.std.specs.Char.{is_ascii_digit}
-use Rattle.std.proofs.lemmas.Bool.{cases_eq, eq-eqb, eqb-false, ne_eqb, or_parts}
-use Rattle.std.proofs.lemmas.Grind.{common_steps}
-use Rattle.lp_format.specs.format.Readings.{Reading, Text, miss, fatal, reads, ◌otherwise◌}
-use Rattle.lp_format.specs.format.Values.{Value, value, integer_at, unsigned_at, float_at, string_at, boolean_at, integer_len}
-use Rattle.lp_format.specs.format.Values.{digits_len, float_len, longer_front, true_words, false_words}
-use Rattle.lp_format.proofs.lemmas.literals.FloatLemmas.{float_misses}
-use Rattle.lp_format.proofs.lemmas.values.ValueLemmas.{boolean_misses, digits_of_minus, digits_of_plain, integer_misses}
-use Rattle.lp_format.proofs.lemmas.values.ValueLemmas.{integer_unmarked, unsigned_decides, unsigned_misses, unsigned_unmarked}
+-- The first bytes of a value decide its form; strings at the start of a text.
+use Rattle.std.proofs.Common.{◌≡◌, ◌≢◌, ℕ, ◌<◌, List, [], ◌∷◌, length, take, drop, get_or, slice_index, true, false, refl, ap, ◌∙◌}
+use Rattle.std.proofs.Common.{arith, zero-add, ◌⊎◌, ◌≤◌, sym, inl, inr}
+use Rattle.std.specs.Prelude.{◌==◌, nat_lt, ◌||◌}
+use Rattle.std.proofs.lemmas.Bool.{and_parts, eq-eqb, eqb-true, ne_eqb, lt-ltb, ltb-true, false_from_ne_true, cases_eq, eqb-false}
+use Rattle.std.proofs.lemmas.Bool.{or_parts}
+use Rattle.std.specs.List.{range_with_len}
+use Rattle.std.proofs.lemmas.List.{length-drop}
+use Rattle.std.proofs.lemmas.List.FromFn.{length-range_with_len, get_or-range_with_len}
+use Rattle.std.proofs.lemmas.List.Sums.{passes_at_first}
 use Rattle.lp_format.specs.format.Bytes.{quote}
+use Rattle.lp_format.specs.format.Escapes.{first_bare, is_bare_at}
+use Rattle.lp_format.specs.format.Lines.{byte}
+use Rattle.lp_format.specs.format.Names.{read_text}
+use Rattle.lp_format.specs.format.Readings.{miss, reads, Reading, Text, fatal, ◌otherwise◌}
+use Rattle.lp_format.specs.format.Values.{quotable, body_len, string, string_at, Value, value, integer_at, unsigned_at, float_at}
+use Rattle.lp_format.specs.format.Values.{boolean_at, integer_len, float_len, longer_front, true_words, false_words}
+use Rattle.lp_format.proofs.lemmas.values.ValueLemmas.{byte_at_drop, after_byte, boolean_misses, digits_no_more, digits_of_minus}
+use Rattle.lp_format.proofs.lemmas.values.ValueLemmas.{digits_of_plain, integer_misses, integer_unmarked, unsigned_decides}
+use Rattle.lp_format.proofs.lemmas.values.ValueLemmas.{unsigned_misses, unsigned_unmarked}
+use Rattle.std.specs.Char.{is_ascii_digit}
+use Rattle.std.proofs.lemmas.Grind.{common_steps}
+use Rattle.lp_format.proofs.lemmas.literals.FloatLemmas.{float_misses}
 
--- where no integer is, no digits are
-no_digits : (text : List ℕ) → integer_len text ≡ 0 → digits_len text ≡ 0
-no_digits text none =
-    elim (cases_eq (slice_index text 0) 45) [
-      | inl minus ↦ digits_of_minus text minus
-      | inr plain ↦ digits_of_plain text plain ∙ none
-    ]
+-- where a byte misses, the text does not begin with it
+pub byte_missing : (b : ℕ) (text : List ℕ) → byte b text ≡ miss → (rest : List ℕ) → text ≢ b ∷ rest
+byte_missing b [] none rest e = cc
+byte_missing b (c ∷ cs) none rest e =
+    let same : c ≡ b = cc in
+    let found = rw (same, eq-eqb b b refl) at none in
+    cc
 
--- and no number
+-- the outcomes of a string
+pub string_misses : (text : List ℕ) → ((after : List ℕ) → text ≢ quote ∷ after) → string_at text ≡ miss
+unfolding string_at
+string_misses [] other = refl
+string_misses (b ∷ after) other = rw (ne_eqb b quote (λ e. other after (ap (λ x. x ∷ after) e))) refl
+
+-- a body that ends before the text does ends in a quote
+closing_quote : (after : List ℕ) → body_len after < length after → slice_index after (body_len after) ≡ quote
+unfolding first_bare
+closing_quote after closes =
+    let len : length (range_with_len 0 (length after)) ≡ length after = length-range_with_len 0 (length after) in
+    let bare : is_bare_at (λ b. b == quote) after (get_or (range_with_len 0 (length after)) (body_len after) 0) ≡ true =
+    passes_at_first (is_bare_at (λ b. b == quote) after) (range_with_len 0 (length after)) 0 (omega arith) in
+    let here : get_or (range_with_len 0 (length after)) (body_len after) 0 ≡ body_len after = get_or-range_with_len
+    0 (length after) (body_len after) 0 closes ∙ zero-add (body_len after) in
+    let found = rw here at bare in
+    eqb-true (slice_index after (body_len after)) quote (and_parts _ _ found).0
+
+-- a string that no quote closes is not there
+pub string_open : (text after : List ℕ) → text ≡ quote ∷ after
+    → ((rest : List ℕ) → drop (body_len after) after ≢ quote ∷ rest) → string_at text ≡ miss
+unfolding string_at
+string_open text after e unclosed =
+    let never : body_len after < length after
+    → ⊥ = λ closes. unclosed _ (after_byte after (body_len after) 33 (closing_quote after closes)) in
+    let test : nat_lt (body_len after) (length after) ≡ false = false_from_ne_true _ (λ t. never (ltb-true _ _ t)) in
+    rw (e, test) refl
+
+-- a string between quotes is read
+pub string_reads : (text after rest : List ℕ) → text ≡ quote ∷ after → drop (body_len after) after ≡ quote ∷ rest
+    → string_at text ≡ reads (string (read_text quotable (take (body_len after) after))) rest
+unfolding string_at
+string_reads text after rest e closed =
+    let byte = byte_at_drop after rest (body_len after) quote closed in
+    let test : nat_lt (body_len after) (length after) ≡ true = lt-ltb _ _
+    (omega (arith, length-drop (body_len after) after, ap length closed)) in
+    rw (e, test, byte.1) refl
+
+-- where no integer is, no number is
 pub no_number : (text : List ℕ) → integer_len text ≡ 0 → (integer_at text otherwise unsigned_at text otherwise float_at text) ≡ miss
 no_number text none =
     let no_float : float_len text ≡ 0 = rw (eq-eqb (integer_len text) 0 none) refl in
-    rw (integer_misses text none, unsigned_misses text (no_digits text none), float_misses text no_float) refl
+    rw (integer_misses text none, unsigned_misses text (omega (arith, digits_no_more text)), float_misses text no_float) refl
 
 -- digits and `u`, without `-`
 pub unsigned_is : (text : List ℕ) → 0 < integer_len text → slice_index text (integer_len text) ≢ 105
@@ -80,9 +128,7 @@ no_boolean text below =
 
 -- no string is where the first byte is no quote
 no_string : (text : List ℕ) → slice_index text 0 ≢ quote → string_at text ≡ miss
-unfolding string_at
-no_string [] other = refl
-no_string (b ∷ rest) other = rw (ne_eqb b quote other) refl
+no_string text other = string_misses text (λ after e. other (ap (λ t. slice_index t 0) e))
 
 -- a digit or `-` at the start: a number
 pub number_form : (text : List ℕ) → (is_ascii_digit (slice_index text 0) || slice_index text 0 == 45) ≡ true

@@ -1,15 +1,16 @@
 -- Numbers at the start of a text.
 use Rattle.std.proofs.Common.{◌≡◌, ◌≢◌, ℕ, zero, suc, ◌+◌, ◌-◌, ◌^◌, ◌<◌, ◌≤◌, List, [], ◌∷◌, length, take, drop, get_or, Bool, slice_index}
 use Rattle.std.proofs.Common.{true, false, refl, sym, ap, subst, arith, inl, inr, add-zero, zero-add, one-add}
-use Rattle.std.specs.Prelude.{◌==◌, if◌then◌else◌, IsUtf8, IsCharBoundary, ℤ, pos, negsuc, FitsSigned, leb, nat_lt}
+use Rattle.std.specs.Prelude.{◌==◌, ◌&&◌, not, if◌then◌else◌, IsUtf8, IsCharBoundary, ℤ, pos, negsuc, FitsSigned, leb}
 use Rattle.std.specs.Char.{is_ascii_digit, digit_value}
 use Rattle.std.specs.Int.{w64}
 use Rattle.std.specs.Str.Parse.{AllDigits, IsNumeral, digits_value, signed_digits_value}
-use Rattle.std.proofs.lemmas.Bool.{cases_Bool, cases_lt, false_from_ne_true, and_parts, eqb-false, eqb-true, eq-eqb, ne_eqb, leb-true}
-use Rattle.std.proofs.lemmas.Bool.{ltb-true, lt-ltb, le-leb, and_from}
+use Rattle.std.proofs.lemmas.Bool.{cases_Bool, cases_eq, cases_lt, and_parts, eqb-false, eqb-true, eq-eqb, ne_eqb, leb-true}
+use Rattle.std.proofs.lemmas.Bool.{ltb-true, lt-ltb, le-ltb, le-leb, and_from}
 use Rattle.std.proofs.lemmas.List.{drop-drop, drop_more, get_or-drop, get_or_past, length-drop, length-take, length-take-le}
 use Rattle.std.proofs.lemmas.List.Sums.{prefix_len_passes, prefix_len-le-length}
 use Rattle.std.proofs.lemmas.Grind.{common_steps}
+use Rattle.std.proofs.lemmas.Bool.Decides.{nat_tests}
 use Rattle.std.proofs.lemmas.Str.{IsCharBoundary-after_ascii, IsCharBoundary-start, digit_value_digit}
 use Rattle.lp_format.specs.format.Values.{Value, digits_len, integer, integer_at, integer_len, side_of, fits_i64, boolean}
 use Rattle.lp_format.specs.format.Values.{boolean_at, unsigned, unsigned_at, word_len}
@@ -35,11 +36,8 @@ all_digits (b ∷ text) =
 -- what fits an i64, by its test
 pub fits_from_test : (z : ℤ) → fits_i64 z ≡ true → FitsSigned w64 z
 fits_from_test (pos n) h = record { sfits = ltb-true n (2 ^ 63) h }
-fits_from_test (negsuc n) h = record { sfits = negative_fits n (and_parts (leb n 9223372036854775807) true h).0 }
-  where
-    -- the negative of a number up to 2^63 - 1 fits an i64
-    negative_fits : (n : ℕ) → leb n 9223372036854775807 ≡ true → n < 9223372036854775808
-    negative_fits n h = omega (arith, leb-true n 9223372036854775807 h)
+fits_from_test (negsuc n) h =
+    record { sfits = omega (arith, leb-true n 9223372036854775807 (and_parts (leb n 9223372036854775807) true h).0) }
 
 -- the test says yes of an integer that fits an i64
 pub test_from_fits : (z : ℤ) → FitsSigned w64 z → fits_i64 z ≡ true
@@ -79,6 +77,14 @@ front_numeral text some =
     let len = length-take-le (digits_len text) text (prefix_len-le-length is_ascii_digit text) in
     (omega arith, all_digits text)
 
+-- digits and their mark
+marked : (n b mark : ℕ) → 0 < n → b ≡ mark → (not (n == 0) && b == mark) ≡ true
+marked n b mark some e = grind (arith, nat_tests)
+
+-- digits or none, and no mark
+unmarked : (n b mark : ℕ) → b ≢ mark → (not (n == 0) && b == mark) ≡ false
+unmarked n b mark other = grind (arith, nat_tests)
+
 -- the outcomes of an integer
 pub integer_misses : (text : List ℕ) → integer_len text ≡ 0 → integer_at text ≡ miss
 unfolding integer_at
@@ -87,29 +93,21 @@ integer_misses text e = rw (eq-eqb (integer_len text) 0 e) refl
 -- digits without `i` are no integer
 pub integer_unmarked : (text : List ℕ) → slice_index text (integer_len text) ≢ 105 → integer_at text ≡ miss
 unfolding integer_at
-integer_unmarked text other =
-    elim (cases_Bool (integer_len text == 0)) [
-      | inl none ↦ rw none refl
-      | inr some ↦ rw (some, ne_eqb (slice_index text (integer_len text)) 105 other) refl
-    ]
+integer_unmarked text other = rw (unmarked (integer_len text) _ 105 other) refl
 
 -- digits in range and `i` are an integer
 pub integer_reads : (text : List ℕ) → 0 < integer_len text → slice_index text (integer_len text) ≡ 105
     → fits_i64 (signed_digits_value 10 (take (integer_len text) text)) ≡ true
     → integer_at text ≡ reads (integer (signed_digits_value 10 (take (integer_len text) text))) (drop (integer_len text + 1) text)
 unfolding integer_at
-integer_reads text some mark fits =
-    let ne : integer_len text ≡ 0 → ⊥ = λ e. absurd (omega arith) in
-    rw (ne_eqb (integer_len text) 0 ne, eq-eqb (slice_index text (integer_len text)) 105 mark, fits) refl
+integer_reads text some mark fits = rw (marked (integer_len text) _ 105 some mark, fits) refl
 
 -- digits out of range and `i` are a fault
 pub integer_overflows : (text : List ℕ) → 0 < integer_len text → slice_index text (integer_len text) ≡ 105
     → fits_i64 (signed_digits_value 10 (take (integer_len text) text)) ≡ false
     → integer_at text ≡ fatal (integer_value_invalid (side_of (take (integer_len text) text)) (take (integer_len text) text))
 unfolding integer_at
-integer_overflows text some mark fits =
-    let ne : integer_len text ≡ 0 → ⊥ = λ e. absurd (omega arith) in
-    rw (ne_eqb (integer_len text) 0 ne, eq-eqb (slice_index text (integer_len text)) 105 mark, fits) refl
+integer_overflows text some mark fits = rw (marked (integer_len text) _ 105 some mark, fits) refl
 
 -- the byte at a place, from what follows it
 pub byte_at_drop : (text rest : List ℕ) (n b : ℕ) → drop n text ≡ b ∷ rest → (slice_index text n ≡ b) × (drop (n + 1) text ≡ rest)
@@ -118,13 +116,16 @@ byte_at_drop text rest n b e =
     let after = ap (λ (xs : List ℕ). drop 1 xs) e in
     (rw (get_or-drop n text 0 0, add-zero n) at at, rw (drop-drop 1 n text) at after)
 
+-- a byte that is not 0 is in the text
+in_text : (text : List ℕ) (n b : ℕ) → slice_index text n ≡ suc b → n < length text
+in_text text n b e = elim (cases_lt n (length text)) [
+  | inl within ↦ within
+  | inr past ↦ let past_end : 0 ≡ suc b = rw (get_or_past text n 0 past) at e in absurd (omega arith)
+]
+
 -- and what follows a place, from its byte
 pub after_byte : (text : List ℕ) (n b : ℕ) → slice_index text n ≡ suc b → drop n text ≡ suc b ∷ drop (n + 1) text
-after_byte text n b e =
-    elim (cases_lt n (length text)) [
-      | inl within ↦ rw (drop_more text n 0 within, e) refl
-      | inr past ↦ let past_end : 0 ≡ suc b = rw (get_or_past text n 0 past) at e in absurd (omega arith)
-    ]
+after_byte text n b e = rw (drop_more text n 0 (in_text text n b e), e) refl
 
 -- what a parse of the number gives: where it fits
 pub integer_parsed : (text number rest : List ℕ) (z : ℤ) → number ≡ take (integer_len text) text → drop (integer_len text) text ≡ 105 ∷ rest
@@ -140,19 +141,15 @@ pub integer_decides : (text : List ℕ) (other : Reading (Value Text)) → 0 < i
     → (integer_at text otherwise other) ≡ integer_at text
 unfolding integer_at
 integer_decides text other some mark =
-    let taken = ne_eqb (integer_len text) 0 (λ e. absurd (omega arith)) in
-    elim (cases_Bool (fits_i64 (signed_digits_value 10 (take (integer_len text) text)))) [
-      | inl fits ↦ rw (taken, eq-eqb (slice_index text (integer_len text)) 105 mark, fits) refl
-      | inr none ↦ rw (taken, eq-eqb (slice_index text (integer_len text)) 105 mark, none) refl
-    ]
+    rw (marked (integer_len text) _ 105 some mark)
+    (elim (cases_Bool (fits_i64 (signed_digits_value 10 (take (integer_len text) text)))) [
+      | inl fits ↦ rw fits refl
+      | inr none ↦ rw none refl
+    ])
 
 -- after a letter a text may be cut
 pub letter_boundary : (text : List ℕ) (n b : ℕ) → IsUtf8 text → slice_index text n ≡ suc b → suc b < 128 → IsCharBoundary text (n + 1)
-letter_boundary text n b utf8 e small =
-    elim (cases_lt n (length text)) [
-      | inl within ↦ IsCharBoundary-after_ascii text n utf8 within (omega (arith, e))
-      | inr past ↦ let past_end : 0 ≡ suc b = rw (get_or_past text n 0 past) at e in absurd (omega arith)
-    ]
+letter_boundary text n b utf8 e small = IsCharBoundary-after_ascii text n utf8 (in_text text n b e) (omega (arith, e))
 
 -- the digits at the start and the integer at the start
 pub digits_of_plain : (text : List ℕ) → slice_index text 0 ≢ 45 → digits_len text ≡ integer_len text
@@ -168,6 +165,13 @@ pub digits_of_minus : (text : List ℕ) → slice_index text 0 ≡ 45 → digits
 digits_of_minus [] e = refl
 digits_of_minus (b ∷ rest) e = rw e refl
 
+-- the digits at the start take no more than the integer there
+pub digits_no_more : (text : List ℕ) → digits_len text ≤ integer_len text
+digits_no_more text = elim (cases_eq (slice_index text 0) 45) [
+  | inl minus ↦ omega (arith, digits_of_minus text minus)
+  | inr plain ↦ omega (arith, digits_of_plain text plain)
+]
+
 -- the outcomes of an unsigned integer
 pub unsigned_misses : (text : List ℕ) → digits_len text ≡ 0 → unsigned_at text ≡ miss
 unfolding unsigned_at
@@ -176,31 +180,21 @@ unsigned_misses text e = rw (eq-eqb (digits_len text) 0 e) refl
 -- digits without `u` are no unsigned integer
 pub unsigned_unmarked : (text : List ℕ) → slice_index text (digits_len text) ≢ 117 → unsigned_at text ≡ miss
 unfolding unsigned_at
-unsigned_unmarked text other =
-    elim (cases_Bool (digits_len text == 0)) [
-      | inl none ↦ rw none refl
-      | inr some ↦ rw (some, ne_eqb (slice_index text (digits_len text)) 117 other) refl
-    ]
+unsigned_unmarked text other = rw (unmarked (digits_len text) _ 117 other) refl
 
 -- digits in range and `u` are an unsigned integer
 pub unsigned_reads : (text : List ℕ) → 0 < digits_len text → slice_index text (digits_len text) ≡ 117
     → digits_value 10 (take (digits_len text) text) < 2 ^ 64
     → unsigned_at text ≡ reads (unsigned (digits_value 10 (take (digits_len text) text))) (drop (digits_len text + 1) text)
 unfolding unsigned_at
-unsigned_reads text some mark small =
-    let ne : digits_len text ≡ 0 → ⊥ = λ e. absurd (omega arith) in
-    rw (ne_eqb (digits_len text) 0 ne, eq-eqb (slice_index text (digits_len text)) 117 mark, lt-ltb _ (2 ^ 64) small) refl
+unsigned_reads text some mark small = rw (marked (digits_len text) _ 117 some mark, lt-ltb _ (2 ^ 64) small) refl
 
 -- digits out of range and `u` are a fault
 pub unsigned_overflows : (text : List ℕ) → 0 < digits_len text → slice_index text (digits_len text) ≡ 117
     → 2 ^ 64 ≤ digits_value 10 (take (digits_len text) text)
     → unsigned_at text ≡ fatal (uinteger_value_invalid above (take (digits_len text) text))
 unfolding unsigned_at
-unsigned_overflows text some mark large =
-    let ne : digits_len text ≡ 0 → ⊥ = λ e. absurd (omega arith) in
-    let test : nat_lt (digits_value 10 (take (digits_len text) text)) (2 ^ 64) ≡ false =
-    false_from_ne_true _ (λ t. absurd (omega (arith, large, ltb-true _ (2 ^ 64) t))) in
-    rw (ne_eqb (digits_len text) 0 ne, eq-eqb (slice_index text (digits_len text)) 117 mark, test) refl
+unsigned_overflows text some mark large = rw (marked (digits_len text) _ 117 some mark, le-ltb _ (2 ^ 64) large) refl
 
 -- digits and their mark decide
 pub unsigned_decides : (text : List ℕ) (other : Reading (Value Text)) → integer_at text ≡ miss → 0 < digits_len text

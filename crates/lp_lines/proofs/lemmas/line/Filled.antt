@@ -1,20 +1,31 @@
--- A line is filled by the events of a line that was read, unless it is not light.
-use Rattle.std.proofs.Common.{◌≡◌, ℕ, ◌+◌, ◌<◌, ◌≤◌, List, [], ◌∷◌, ◌++◌, length, length-append, map, Bool, true, false, ◌&&◌, refl, sym, ap, ◌∙◌}
-use Rattle.std.proofs.Common.{arith, inl, inr, append_assoc}
-use Rattle.std.specs.Prelude.{◌⊎◌, Result, Ok, Err}
+-- A line is filled by the events of its text, and what filling it answers.
+use Rattle.std.proofs.Common.{◌≡◌, ℕ, ◌+◌, ◌<◌, ◌≤◌, List, [], ◌∷◌, ◌++◌, length, length-append, map, Bool, true, false, ◌&&◌, refl, sym}
+use Rattle.std.proofs.Common.{ap, ◌∙◌, arith, inl, inr, append_assoc}
+use Rattle.std.specs.Prelude.{◌⊎◌, Result, Ok, Err, ◌≢◌, Option, Some, None, IfSome}
 use Rattle.std.specs.List.{list_all}
-use Rattle.std.proofs.lemmas.Bool.{cases_Bool, and_left, and_right}
-use Rattle.std.proofs.lemmas.List.{append-nil}
-use Rattle.lp_format.specs.code.Light.{is_single_field, is_single_line, is_single_tag}
-use Rattle.lp_format.specs.format.Lines.{Line, some_tags}
+use Rattle.std.proofs.lemmas.Bool.{cases_Bool, and_parts}
+use Rattle.std.proofs.lemmas.List.{append-nil, length-map}
+use Rattle.std.specs.Option.{option_map}
+use Rattle.smallvec.specs.SmallVec.{SmallVec}
+use Rattle.lp_format.specs.code.Light.{is_single_field, is_single_line, is_single_tag, carries_no_text, is_light_in}
+use Rattle.lp_format.specs.format.Lines.{Line, some_tags, answer}
 use Rattle.lp_format.specs.format.Points.{Pair}
 use Rattle.lp_format.specs.format.Readings.{Fault, Text}
 use Rattle.lp_format.specs.format.Values.{Value}
+use Rattle.lp_format.specs.format.Dialects.{Dialect}
+use Rattle.lp_values.specs.declared.error.Error.{Error}
+use Rattle.lp_values.specs.declared.error.Error.TheVariants.{OutOfMemory}
+use Rattle.lp_values.specs.declared.escaped.EscapedStr.{EscapedStr}
+use Rattle.lp_values.specs.declared.spelled.SpelledFault.{SpelledFault}
+use Rattle.lp_values.specs.code.SpelledParts.{spelled_fault}
+use Rattle.lp_events.specs.code.Events.{AreEventsOf, Event, TakesAll, ended, events_of_line, failed, named, tagged, valued}
 use Rattle.lp_lines.specs.declared.filling.Filling.{Filling}
 use Rattle.lp_lines.specs.declared.parsed.ParsedLine.{ParsedLine}
-use Rattle.lp_events.specs.code.Events.{AreEventsOf, Event, TakesAll, ended, events_of_line, failed, named, tagged, valued}
 use Rattle.lp_lines.specs.code.Filling.{FilledLine, FillsAnswer, FillsBy, HasRead, KeepsRooms, beside_fields, beside_tags, field_room}
 use Rattle.lp_lines.specs.code.Filling.{fields_so_far, tag_room, tags_so_far}
+use Rattle.lp_lines.specs.code.Lookups.{some_items}
+use Rattle.lp_lines.specs.code.Parsed.{line_read, tag_of, tags_of}
+use Rattle.lp_lines.proofs.lemmas.line.AnsweredLines.{light_fault, light_line, HasSome, line_some_tags}
 
 -- what takes some events and then others takes the first ones before the others
 pub takes_parted : {S : Type 0} (takes : S → Event → S → Type 0) (before after : S) (events others : List Event)
@@ -43,8 +54,8 @@ record FilledBy {A X : Type 0} (set : ParsedLine → List A) (room : ParsedLine 
   pub fault : new.fault ≡ old.fault
   pub puts : new.refused ≡ false
       → (old.refused ≡ false) × (set new.line.now ≡ set old.line.now ++ xs) × (others new.line.now ≡ others old.line.now)
-  pub needs : new.refused ≡ true → (old.refused ≡ true)
-      ⊎ ((list_all is_single xs ≡ false) ⊎ (room old.line.now < length (set old.line.now) + length xs))
+  pub fits : old.refused ≡ false → list_all is_single xs ≡ true → length (set old.line.now) + length xs ≤ room old.line.now
+      → new.refused ≡ false
 
 module _ {A X : Type 0} (event : A → Event) (set : ParsedLine → List A) (room : ParsedLine → ℕ) (is_single : A → Bool) (others : ParsedLine → X)
     (grows : (old new : Filling) (x : A) → FillsBy old (event x) new → room old.line.now ≤ room new.line.now)
@@ -53,30 +64,21 @@ module _ {A X : Type 0} (event : A → Event) (set : ParsedLine → List A) (roo
     → (old.refused ≡ false) × (set new.line.now ≡ set old.line.now ++ x ∷ []) × (others new.line.now ≡ others old.line.now))
     (needs : (old new : Filling) (x : A) → FillsBy old (event x) new → new.refused ≡ true
     → (old.refused ≡ true) ⊎ ((is_single x ≡ false) ⊎ (room old.line.now ≤ length (set old.line.now)))) where
-  -- a first part that needs memory needs it for all
-  first_needs : (old : Filling) (x : A) (xs : List A)
-      → (old.refused ≡ true) ⊎ ((is_single x ≡ false) ⊎ (room old.line.now ≤ length (set old.line.now)))
-      → (old.refused ≡ true)
-      ⊎ ((list_all is_single (x ∷ xs) ≡ false) ⊎ (room old.line.now < length (set old.line.now) + length (x ∷ xs)))
-  first_needs old x xs (inl before) = inl before
-  first_needs old x xs (inr (inl copied)) = inr (inl (and_left (is_single x) (list_all is_single xs) copied))
-  first_needs old x xs (inr (inr full)) = inr (inr (omega arith))
-
-  -- later parts that need memory need it for all
-  later_needs : (old mid : Filling) (x : A) (xs : List A) → FillsBy old (event x) mid → mid.refused ≡ false
-      → (mid.refused ≡ true) ⊎ ((list_all is_single xs ≡ false) ⊎ (room mid.line.now < length (set mid.line.now) + length xs))
-      → (old.refused ≡ true)
-      ⊎ ((list_all is_single (x ∷ xs) ≡ false) ⊎ (room old.line.now < length (set old.line.now) + length (x ∷ xs)))
-  later_needs old mid x xs first taken (inl was) = absurd (let both = sym was ∙ taken in cc)
-  later_needs old mid x xs first taken (inr (inl copied)) = inr (inl (and_right (is_single x) (list_all is_single xs) copied))
-  later_needs old mid x xs first taken (inr (inr over)) =
-      let one = ap length (puts old mid x first taken).1 in
-      inr (inr (omega (arith, grows old mid x first, one, length-append (set old.line.now) (x ∷ []))))
+  -- memory is not refused for a part that is no copy, where there is room
+  one_fits : (old new : Filling) (x : A) → FillsBy old (event x) new → old.refused ≡ false → is_single x ≡ true
+      → length (set old.line.now) < room old.line.now → new.refused ≡ false
+  one_fits old new x by taken single less = elim (cases_Bool new.refused) [ inl refused ↦ absurd (no (needs old new x by refused)) | inr free ↦ free ]
+    where
+      -- it would need some
+      no : (old.refused ≡ true) ⊎ ((is_single x ≡ false) ⊎ (room old.line.now ≤ length (set old.line.now))) → ⊥
+      no (inl was) = let both = sym was ∙ taken in cc
+      no (inr (inl copied)) = let both = sym copied ∙ single in cc
+      no (inr (inr full)) = omega arith
 
   -- parts of one kind that were told were put
   filled_by : (old new : Filling) (xs : List A) → TakesAll FillsBy old (map event xs) new → FilledBy set room is_single others old xs new
   filled_by old new [] same = rw (← same)
-      (record { fault = refl; puts = λ taken. (taken, sym (append-nil (set old.line.now)), refl); needs = λ refused. inl refused })
+      (record { fault = refl; puts = λ taken. (taken, sym (append-nil (set old.line.now)), refl); fits = λ taken single room. taken })
   filled_by old new (x ∷ xs) (mid, first, more) =
       let later = filled_by mid new xs more in
       record {
@@ -88,10 +90,11 @@ module _ {A X : Type 0} (event : A → Event) (set : ParsedLine → List A) (roo
               rest.1 ∙ ap (λ (ys : List A). ys ++ xs) one.1 ∙ append_assoc (set old.line.now) (x ∷ []) xs,
               rest.2 ∙ one.2,
             );
-        needs = λ refused. elim (cases_Bool mid.refused) [
-          | inl was ↦ first_needs old x xs (needs old mid x first was)
-          | inr taken ↦ later_needs old mid x xs first taken (later.needs refused)
-        ];
+        fits = λ taken single enough.
+            let parts = and_parts (is_single x) (list_all is_single xs) single in
+            let free = one_fits old mid x first taken parts.0 (omega arith) in
+            let one = ap length (puts old mid x first free).1 in
+            later.fits free parts.1 (omega (arith, enough, grows old mid x first, one, length-append (set old.line.now) (x ∷ [])));
       }
 
 -- what tags fill
@@ -111,11 +114,6 @@ module _ (old : Filling) (l : Line) (begun told_tags told_fields new : Filling) 
     (fields_told : TakesAll FillsBy told_tags (map valued l.fields) told_fields)
     (last : FillsBy told_fields (ended l.series l.timestamp) new) (not_refused : old.refused ≡ false)
     (no_tags : tags_so_far old.line.now ≡ []) (no_fields : fields_so_far old.line.now ≡ []) where
-  -- what needs memory is a copy, a tag or a field too many
-  abbrev NeedsSome : Type 0
-  NeedsSome = (is_single_line l ≡ false)
-      ⊎ ((tag_room old.line.now < length (some_tags l.tags)) ⊎ (field_room old.line.now < length l.fields))
-
   -- what the tags filled
   tags : FilledBy tags_so_far tag_room is_single_tag beside_tags begun (some_tags l.tags) told_tags
   tags = filled_tags begun told_tags (some_tags l.tags) tags_told
@@ -124,51 +122,37 @@ module _ (old : Filling) (l : Line) (begun told_tags told_fields new : Filling) 
   fields : FilledBy fields_so_far field_room is_single_field beside_fields told_tags l.fields told_fields
   fields = filled_fields told_tags told_fields l.fields fields_told
 
-  -- the measurement needed memory
-  by_name : (old.refused ≡ true) ⊎ (l.measurement.is_single ≡ false) → NeedsSome
-  by_name (inl before) = absurd (let both = sym before ∙ not_refused in cc)
-  by_name (inr copied) = inl (and_left (l.measurement.is_single && list_all is_single_tag (some_tags l.tags)) (list_all is_single_field l.fields)
-      (and_left l.measurement.is_single (list_all is_single_tag (some_tags l.tags)) copied))
+  -- memory is not refused for the measurement where it is no copy
+  name_fits : l.measurement.is_single ≡ true → begun.refused ≡ false
+  name_fits single = elim (cases_Bool begun.refused) [ inl refused ↦ absurd (no (first.needs refused)) | inr free ↦ free ]
+    where
+      -- it would need some
+      no : (old.refused ≡ true) ⊎ (l.measurement.is_single ≡ false) → ⊥
+      no (inl was) = let both = sym was ∙ not_refused in cc
+      no (inr copied) = let both = sym copied ∙ single in cc
 
-  -- it did where memory was refused then
-  name_needs : begun.refused ≡ true → NeedsSome
-  name_needs refused = by_name (first.needs refused)
+  -- nor for the end
+  end_fits : told_fields.refused ≡ false → new.refused ≡ false
+  end_fits taken = elim (cases_Bool new.refused) [ inl refused ↦ absurd (no (last.needs refused)) | inr free ↦ free ]
+    where
+      -- it needs none
+      no : (told_fields.refused ≡ true) ⊎ ⊥ → ⊥
+      no (inl was) = let both = sym was ∙ taken in cc
+      no (inr none) = none
 
-  -- the tags needed memory
-  by_tags : (begun.refused ≡ true) ⊎ ((list_all is_single_tag (some_tags l.tags) ≡ false)
-      ⊎ (tag_room begun.line.now < length (tags_so_far begun.line.now) + length (some_tags l.tags))) → NeedsSome
-  by_tags (inl before) = name_needs before
-  by_tags (inr (inl copied)) = inl (and_left (l.measurement.is_single && list_all is_single_tag (some_tags l.tags))
-      (list_all is_single_field l.fields) (and_right l.measurement.is_single (list_all is_single_tag (some_tags l.tags)) copied))
-  by_tags (inr (inr over)) = elim (cases_Bool begun.refused) [
-    | inl refused ↦ name_needs refused
-    | inr taken ↦
-        let none = ap length ((first.puts taken).1.1 ∙ no_tags) in
-        inr (inl (omega (arith, over, none, first.rooms.tags)))
-  ]
-
-  -- they did where memory was refused then
-  tags_need : told_tags.refused ≡ true → NeedsSome
-  tags_need refused = by_tags (tags.needs refused)
-
-  -- the fields needed memory
-  by_fields : (told_tags.refused ≡ true) ⊎ ((list_all is_single_field l.fields ≡ false)
-      ⊎ (field_room told_tags.line.now < length (fields_so_far told_tags.line.now) + length l.fields)) → NeedsSome
-  by_fields (inl before) = tags_need before
-  by_fields (inr (inl copied)) = inl (and_right (l.measurement.is_single && list_all is_single_tag (some_tags l.tags))
-      (list_all is_single_field l.fields) copied)
-  by_fields (inr (inr over)) = elim (cases_Bool told_tags.refused) [
-    | inl refused ↦ tags_need refused
-    | inr taken ↦
-        let put = tags.puts taken in
-        let none = ap length (ap (λ p. p.1) put.2 ∙ (first.puts put.0).1.2 ∙ no_fields) in
-        inr (inr (omega (arith, over, none, first.rooms.fields, (rooms_kept begun told_tags (map tagged (some_tags l.tags)) tags_told).fields)))
-  ]
-
-  -- the end needs none
-  by_end : (told_fields.refused ≡ true) ⊎ ⊥ → NeedsSome
-  by_end (inl before) = by_fields (fields.needs before)
-  by_end (inr none) = absurd none
+  -- so it is not refused for a line without a copy, where there is room
+  line_fits : is_single_line l ≡ true → length (some_tags l.tags) ≤ tag_room old.line.now → length l.fields ≤ field_room old.line.now
+      → new.refused ≡ false
+  line_fits single few_tags few_fields =
+      let parts = and_parts (l.measurement.is_single && list_all is_single_tag (some_tags l.tags)) (list_all is_single_field l.fields) single in
+      let names = and_parts l.measurement.is_single (list_all is_single_tag (some_tags l.tags)) parts.0 in
+      let free = name_fits names.0 in
+      let put = (first.puts free).1 in
+      let no_tag = ap length (put.1 ∙ no_tags) in
+      let tags_free = tags.fits free names.1 (omega (arith, few_tags, no_tag, first.rooms.tags)) in
+      let no_field = ap length (ap (λ p. p.1) (tags.puts tags_free).2 ∙ put.2 ∙ no_fields) in
+      let kept = (rooms_kept begun told_tags (map tagged (some_tags l.tags)) tags_told).fields in
+      end_fits (fields.fits tags_free parts.1 (omega (arith, few_fields, no_field, first.rooms.fields, kept)))
 
   -- the line is filled
   filled_read : new.refused ≡ false → HasRead new.line.now l
@@ -193,7 +177,7 @@ module _ (old : Filling) (l : Line) (begun told_tags told_fields new : Filling) 
       record {
         fault = last.fault ∙ fields.fault ∙ tags.fault ∙ first.fault;
         read = filled_read;
-        needs = λ refused. by_end (last.needs refused);
+        fits = line_fits;
       }
 
 -- the events of a line fill it
@@ -214,3 +198,71 @@ filled_answer old new events (Err fault) (front, parts, is) told not_refused no_
     let parted = takes_parted FillsBy old new front (failed fault ∷ []) (rw is at told) in
     let last : FillsBy parted.0 (failed fault) new = rw parted.2.2 at parted.2.1 in
     last.fault
+
+-- the code's tag set is that of the line, if neither is an empty set
+same_tags : (tags : Option (List (Pair Text Text))) (set : Option (SmallVec (EscapedStr × EscapedStr))) → HasSome tags
+    → IfSome set (λ s. 0 < length s.items) → map tag_of (some_items set) ≡ some_tags tags → option_map tags_of set ≡ tags
+same_tags None None some kept same = refl
+same_tags None (Some set) some kept same = absurd (omega (arith, kept, ap length same, length-map set.items tag_of))
+same_tags (Some tags) None some kept same = absurd (omega (arith, some, ap length same))
+same_tags (Some tags) (Some set) some kept same = ap Some same
+
+-- a line that has what was read, and its tag set if it has tags, is the line
+pub is_line : (dialect : Dialect) (text : List ℕ) (l : Line) (line : ParsedLine) (set : Option (SmallVec (EscapedStr × EscapedStr)))
+    → answer dialect text ≡ Ok l → HasRead line l → some_items set ≡ some_items line.series.tag_set
+    → IfSome set (λ s. 0 < length s.items)
+    → line_read (record {
+      series = record { raw_input = line.series.raw_input; measurement = line.series.measurement; tag_set = set };
+      field_set = line.field_set;
+      timestamp = line.timestamp;
+    }) ≡ l
+is_line dialect text l line set answered read kept some =
+    let tags = same_tags l.tags set (line_some_tags dialect text l answered) some (ap (map tag_of) kept ∙ read.tags) in
+    rw (read.series, read.measurement, tags, read.fields, read.timestamp) refl
+
+module _ (old new : Filling) (none : old.fault ≡ None) where
+  -- a fault that was kept is the answer
+  fault_is : (answer : Result Line Fault) (fault : SpelledFault) → FillsAnswer old answer new → new.fault ≡ Some fault
+      → answer ≡ Err (spelled_fault fault)
+  fault_is (Ok l) fault filled some = absurd (let both = sym none ∙ sym filled.fault ∙ some in cc)
+  fault_is (Err f) fault filled some = let same = rw some at filled in let is : spelled_fault fault ≡ f = cc in ap Err (sym is)
+
+  -- where no fault was kept, the answer is a line
+  line_is : (answer : Result Line Fault) → FillsAnswer old answer new → ((fault : SpelledFault) → new.fault ≡ Some fault → ⊥)
+      → (l : Line) × (answer ≡ Ok l) × FilledLine old l new
+  line_is (Ok l) filled without = (l, refl, filled)
+  line_is (Err f) filled without = go new.fault refl
+    where
+      -- a fault was kept
+      go : (kept : Option SpelledFault) → new.fault ≡ kept → (l : Line) × (Err f ≡ Ok l) × FilledLine old l new
+      go None is = absurd (let no = rw is at filled in cc)
+      go (Some fault) is = absurd (without fault is)
+
+  module _ (dialect : Dialect) (text : List ℕ) (filled : FillsAnswer old (answer dialect text) new) where
+    -- the error that is made of the fault of a light line is not `OutOfMemory`
+    pub fault_is_light : (p q : ℕ) (fault : SpelledFault) (e : Error) → new.fault ≡ Some fault
+        → (carries_no_text (spelled_fault fault) ≡ true → e ≢ OutOfMemory) → is_light_in p q dialect text ≡ true → e ≢ OutOfMemory
+    fault_is_light p q fault e some made light =
+        made (light_fault dialect text p q (spelled_fault fault) (fault_is (answer dialect text) fault filled some) light)
+
+    -- memory is not refused for a light line
+    pub light_is_not_refused : ((fault : SpelledFault) → new.fault ≡ Some fault → ⊥) → new.refused ≡ true
+        → is_light_in (tag_room old.line.now) (field_room old.line.now) dialect text ≡ true → ⊥
+    light_is_not_refused without refused light =
+        let read = line_is (answer dialect text) filled without in
+        let fits = light_line dialect text (tag_room old.line.now) (field_room old.line.now) read.0 read.1 light in
+        let taken = read.2.fits fits.2 fits.0 fits.1 in
+        cc
+
+    -- the line that is filled is the answer
+    pub line_answers : (set : Option (SmallVec (EscapedStr × EscapedStr)))
+        → ((fault : SpelledFault) → new.fault ≡ Some fault → ⊥) → new.refused ≡ false
+        → some_items set ≡ some_items new.line.now.series.tag_set → IfSome set (λ s. 0 < length s.items)
+        → answer dialect text ≡ Ok (line_read (record {
+          series = record { raw_input = new.line.now.series.raw_input; measurement = new.line.now.series.measurement; tag_set = set };
+          field_set = new.line.now.field_set;
+          timestamp = new.line.now.timestamp;
+        }))
+    line_answers set without taken kept some =
+        let read = line_is (answer dialect text) filled without in
+        read.1 ∙ ap Ok (sym (is_line dialect text read.0 new.line.now set read.1 (read.2.read taken) kept some))

@@ -22,48 +22,44 @@ use Rattle.lp_format.specs.laws.MeaningsOfAnswers.{IsAnswer.no_measurement, IsAn
 use Rattle.lp_format.specs.laws.MeaningsOfAnswers.{IsAnswer.no_space, IsAnswer.fatal_field, IsAnswer.no_field}
 use Rattle.lp_format.specs.laws.MeaningsOfAnswers.{IsAnswer.fatal_timestamp, IsAnswer.left, IsAnswer.all_read, AnswerIsByRows}
 use Rattle.lp_format.proofs.lemmas.meanings.JoinedMeaning.{the_most_is_read, the_next_has_the_fault, the_first_misses}
-use Rattle.lp_events.proofs.lemmas.fields.SeriesEnds.{tag_set_ends}
+use Rattle.lp_events.proofs.lemmas.fields.ManyLemmas.{tag_set_ends}
 use Rattle.lp_lines.proofs.lemmas.read_back.LineReadsBack.{front_is}
 use Rattle.lp_values.proofs.lemmas.fields.ReadingLemmas.{EndsIn, EndsIn-end, name_ends}
 use Rattle.lp_format.proofs.lemmas.meanings.ShorterRests.{tag_no_longer, field_no_longer}
 
 -- the one fault that a name can have is that it ends in a backslash
-record FailsByBackslash {A : Type 0} (r : Reading A) : Type 0 where
-  holds : (e : Fault) → r ≡ fatal e → e ≡ ends_with_backslash
+abbrev FailsByBackslash : {A : Type 0} → Reading A → Type 0
+FailsByBackslash r = (e : Fault) → r ≡ fatal e → e ≡ ends_with_backslash
 
 -- of a name
 name_fault : (kind : NameKind) (text : List ℕ) → FailsByBackslash (name kind text)
 unfolding name
-name_fault kind text = record {
-  holds = λ e h. elim (cases_Bool (length (spelled kind text) == 0)) [
-    | inl none ↦ absurd (let m = rw none at h in cc)
-    | inr some ↦ elim (cases_Bool (ends_in_backslash (logical kind (spelled kind text)))) [
-      | inl ends ↦ let m = rw (some, ends) at h in cc
-      | inr other ↦ absurd (let m = rw (some, other) at h in cc)
-    ]
-  ];
-}
+name_fault kind text e h = elim (cases_Bool (length (spelled kind text) == 0)) [
+  | inl none ↦ absurd (let m = rw none at h in cc)
+  | inr some ↦ elim (cases_Bool (ends_in_backslash (logical kind (spelled kind text)))) [
+    | inl ends ↦ let m = rw (some, ends) at h in cc
+    | inr other ↦ absurd (let m = rw (some, other) at h in cc)
+  ]
+]
 
 -- of two parts
 fault_of_two : {A B : Type 0} (r : Reading A) (f : Read A → Reading B) → FailsByBackslash r → ((x : Read A) → FailsByBackslash (f x))
     → FailsByBackslash (r >>= f)
-fault_of_two miss f h k = record { holds = λ e m. absurd (cc) }
-fault_of_two (fatal d) f h k = record { holds = λ e m. let same : d ≡ e = cc in sym same ∙ h.holds d refl }
-fault_of_two (reads x rest) f h k = k (record { value = x; rest = rest })
+fault_of_two miss f h k e m = absurd (cc)
+fault_of_two (fatal d) f h k e m = let same : d ≡ e = cc in sym same ∙ h d refl
+fault_of_two (reads x rest) f h k e m = k (record { value = x; rest = rest }) e m
 
 -- a byte has none
 byte_fault : (b : ℕ) (text : List ℕ) → FailsByBackslash (byte b text)
-byte_fault b [] = record { holds = λ e m. absurd (cc) }
-byte_fault b (c ∷ rest) = record {
-  holds = λ e m. elim (cases_Bool (c == b)) [
-    | inl same ↦ absurd (let h = rw same at m in cc)
-    | inr other ↦ absurd (let h = rw other at m in cc)
-  ];
-}
+byte_fault b [] e m = absurd (cc)
+byte_fault b (c ∷ rest) e m = elim (cases_Bool (c == b)) [
+  | inl same ↦ absurd (let h = rw same at m in cc)
+  | inr other ↦ absurd (let h = rw other at m in cc)
+]
 
 -- nor what is read
 reads_fault : {A : Type 0} (x : A) (rest : List ℕ) → FailsByBackslash (reads x rest)
-reads_fault x rest = record { holds = λ e m. absurd (cc) }
+reads_fault x rest e m = absurd (cc)
 
 -- of a tag
 tag_fault : (text : List ℕ) → FailsByBackslash (tag text)
@@ -76,8 +72,8 @@ tag_fault text =
 
 -- so of the next tag
 next_tag_fault : (tags : List (Pair Text Text)) (rest : List ℕ) (e : Fault) → NextHasFault tag tags rest e → e ≡ ends_with_backslash
-next_tag_fault [] rest e h = (tag_fault rest).holds e h
-next_tag_fault (t ∷ tags) rest e h = (tag_fault h.0).holds e h.2
+next_tag_fault [] rest e h = tag_fault rest e h
+next_tag_fault (t ∷ tags) rest e h = tag_fault h.0 e h.2
 
 -- the fault of a timestamp is that it is out of range
 stamp_fault : (text : List ℕ) (e : Fault) → timestamp text ≡ Err e → (side : Side) × (number : List ℕ)
@@ -137,7 +133,7 @@ module _ (dialect : Dialect) (text : List ℕ) where
   -- each row gives its answer, by what the parts read
   row_answers : {a : Result Line Fault} → IsAnswer dialect text a → answer dialect text ≡ a
   unfolding answer
-  row_answers (fatal_measurement e h) = rw h (ap Err ((name_fault a_measurement text).holds e h))
+  row_answers (fatal_measurement e h) = rw h (ap Err (name_fault a_measurement text e h))
   row_answers (no_measurement h) = rw h refl
   row_answers (fatal_tag m after tags rest e named most next) =
       let fault = (the_next_has_the_fault tag (λ t. (tag_no_longer t).holds) after e).1 (tags, rest, most, next) in

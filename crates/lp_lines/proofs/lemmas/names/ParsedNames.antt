@@ -13,7 +13,7 @@ use Rattle.lp_format.specs.format.Values.{Value, value}
 use Rattle.lp_format.specs.format.Points.{Pair, Point, Tag}
 use Rattle.lp_format.specs.format.Trimming.{trimmed}
 use Rattle.lp_format.specs.format.Lines.{Line, point_of, logical_tag, logical_field, some_tags, tag, field}
-use Rattle.lp_format.specs.format.Lines.{separated_list, tag_set, field_set, without_comma, spaces, timestamp}
+use Rattle.lp_format.specs.format.Lines.{tag_set, field_set, spaces, timestamp}
 use Rattle.lp_format.specs.format.Lines.{front_before, answer}
 use Rattle.lp_format.specs.format.Items.{HasAnswers, answers_of_piece, answers_of}
 use Rattle.lp_format.specs.laws.NamesOfLines.{names_of, IsParsedName, IsNothingOrSpaced}
@@ -24,9 +24,9 @@ use Rattle.lp_format.proofs.lemmas.names.Inversions.{after_all, joined_of}
 use Rattle.lp_format.specs.laws.MeaningsOfAnswers.{after_spaces, IsAnswer, IsAnswer.all_read}
 use Rattle.lp_lines.proofs.lemmas.meanings.AnswerMeaning.{answer_is_by_rows, fields_read, series_parts}
 use Rattle.lp_format.proofs.lemmas.meanings.ShorterRests.{field_no_longer}
-use Rattle.lp_lines.proofs.lemmas.series.BasesTellSeries.{set_separated}
+use Rattle.lp_events.proofs.lemmas.fields.ManyLemmas.{fields_joined, set_separated}
 use Rattle.lp_lines.proofs.lemmas.read_back.LineReadsBack.{front_is}
-use Rattle.lp_values.proofs.lemmas.fields.ReadingLemmas.{bind_reads, pair_parts}
+use Rattle.lp_values.proofs.lemmas.fields.ReadingLemmas.{pair_parts}
 use Rattle.lp_format.proofs.lemmas.lists.Elements.{first_or_later}
 use Rattle.lp_format.specs.format.Bytes.{equals, hash, newline, space}
 
@@ -64,10 +64,8 @@ tag_set_parsed line rest ts h = after_all ParsedTag tag tag_parsed (some_tags ts
 field_set_parsed : (dialect : Dialect) (line rest : List ℕ) (fs : List (Pair Text (Value Text)))
     → field_set dialect line ≡ reads fs rest → AllByRecursion ParsedField fs
 field_set_parsed dialect line rest fs h =
-    let parts = bind_reads (separated_list field line) (λ xs. reads xs.value (without_comma dialect xs.value xs.rest)) fs rest h in
-    let same : parts.first ≡ fs = cc (parts.next) in
-    subst (AllByRecursion ParsedField) same
-    (joined_of ParsedField field field_parsed (λ t. (field_no_longer t).holds) line parts.mid parts.first parts.was)
+    let joined = fields_joined dialect line rest fs h in
+    joined_of ParsedField field field_parsed (λ t. (field_no_longer t).holds) line joined.0 fs joined.1
 
 -- what the parts of an answer were read from
 pub record Parts (dialect : Dialect) (line : List ℕ) (l : Line) : Type 0 where

@@ -1,34 +1,96 @@
--- Names by any of their spellings.
-use Rattle.std.proofs.Common.{◌≡◌, ◌≢◌, ℕ, ◌<◌, List, [], ◌∷◌, ◌++◌, length, drop, slice_index, Bool, true, false, ◌||◌, refl, sym, ap, ◌∙◌}
-use Rattle.std.proofs.Common.{subst, arith, inl, inr, append_assoc, append-nil}
+-- Names by any of their spellings: a reader reads each back, and a splitter that is within a stretch stays within it.
+use Rattle.std.proofs.Common.{◌≡◌, ◌≢◌, ℕ, List, [], ◌∷◌, ◌++◌, true, false, refl, ap, subst, append_assoc, ◌<◌, length, drop, slice_index}
+use Rattle.std.proofs.Common.{Bool, ◌||◌, sym, ◌∙◌, arith, inl, inr, append-nil}
+use Rattle.std.proofs.lemmas.List.Elements.{All-nil}
 use Rattle.std.specs.Prelude.{◌==◌}
 use Rattle.std.specs.List.{list_all}
 use Rattle.std.proofs.lemmas.Bool.{cases_Bool, false≢true, and_parts, and_right, eqb-true, ne_eqb}
 use Rattle.std.proofs.lemmas.Grind.{common_steps}
 use Rattle.std.proofs.lemmas.List.{take_at, drop_at}
-use Rattle.lp_split.specs.declared.split.resumed.Part.{Part}
-use Rattle.lp_split.specs.declared.split.resumed.Part.TheVariants.{Head, Plain}
-use Rattle.lp_split.proofs.lemmas.split.SplitWalk.{Head-other, Head-space, Plain-other}
-use Rattle.lp_format.specs.format.Bytes.{backslash, comma, equals, hash, is_one_of, newline, tab}
-use Rattle.lp_format.specs.format.Escapes.{escaped, without_escapes}
+use Rattle.lp_format.specs.format.Escapes.{IsBareAfter, escaped, without_escapes}
+use Rattle.lp_format.specs.format.Names.{NameKind, a_measurement, a_tag_key, a_tag_value, a_field_key, is_escapable, ends_in_backslash}
+use Rattle.lp_format.specs.format.Names.{escapable, is_stop, logical, name, read_text, spelled, spelled_len}
+use Rattle.lp_format.proofs.lemmas.split.SplitBare.{is_escaped-nil, is_escaped-push_backslash, is_escaped-push_escaped}
+use Rattle.lp_format.proofs.lemmas.split.SplitBare.{is_escaped-push_other}
+use Rattle.lp_format.proofs.lemmas.names.NameLemmas.{escapable_backslash, without_escapes_plain_byte, without_escapes_known, logical_ends}
+use Rattle.lp_format.proofs.lemmas.names.NameLemmas.{name_fatal, name_reads}
+use Rattle.lp_format.proofs.lemmas.read_back.NameReadsBack.{may_hold, space_escapable, stop_escapable, backslash_no_stop, escaped_found}
+use Rattle.lp_format.proofs.lemmas.read_back.NameReadsBack.{escaped_plain, admitted_parts, begins_otherwise, read_name}
+use Rattle.lp_format.specs.format.Bytes.{newline, space, backslash, comma, equals, hash, is_one_of, tab}
 use Rattle.lp_format.specs.format.Readings.{fatal, reads, ends_with_backslash}
-use Rattle.lp_format.specs.format.Names.{NameKind, a_measurement, a_tag_key, a_tag_value, a_field_key, ends_in_backslash}
-use Rattle.lp_format.specs.format.Names.{escapable, is_escapable, is_stop, logical, name, read_text, spelled, spelled_len}
 use Rattle.lp_format.specs.format.Points.{is_admitted_name, never_in, spelling}
 use Rattle.lp_format.specs.format.Pieces.{begins_comment}
 use Rattle.lp_format.specs.format.Trimming.{trimmed}
 use Rattle.lp_format.specs.format.Lines.{spaces}
-use Rattle.lp_format.proofs.lemmas.names.NameLemmas.{escapable_backslash, without_escapes_plain_byte, without_escapes_known}
-use Rattle.lp_format.proofs.lemmas.names.NameLemmas.{logical_ends, name_fatal, name_reads}
-use Rattle.lp_format.proofs.lemmas.read_back.NameReadsBack.{may_hold, stop_escapable}
-use Rattle.lp_format.proofs.lemmas.read_back.NameReadsBack.{backslash_no_stop, escaped_found, escaped_plain}
-use Rattle.lp_format.proofs.lemmas.read_back.NameReadsBack.{admitted_parts, begins_otherwise, read_name}
-use Rattle.lp_split.proofs.lemmas.split.ScanLemmas.{bare_len, first_bare_len}
 use Rattle.lp_format.proofs.lemmas.line.TrimLemmas.{is_blank, trimmed_is}
-use Rattle.lp_lines.proofs.lemmas.read_back.Reaches.{Reaches, ChangesNothing, reaches_pair, reaches_byte}
-use Rattle.lp_lines.proofs.lemmas.read_back.Reaches.{no_backslash, no_newline, no_space}
-use Rattle.lp_format.proofs.lemmas.split.SplitBare.{is_escaped-push_other}
+use Rattle.lp_split.specs.declared.split.resumed.Part.{Part}
+use Rattle.lp_split.specs.declared.split.resumed.Part.TheVariants.{Head, Plain}
+use Rattle.lp_split.specs.code.Tracks.{EndsIn as IsIn}
+use Rattle.lp_split.proofs.lemmas.split.SplitWalk.{IsIn-escaped, IsIn-backslash, Head-other, Head-space, Plain-other}
+use Rattle.lp_split.proofs.lemmas.split.ScanLemmas.{bare_len, first_bare_len}
 use Rattle.lp_lines.proofs.lemmas.names.KeptNames.{is_kept}
+
+-- what comes after these bytes is bare, and it is in this part, with these counts
+abbrev pub Reaches : Part → ℕ → ℕ → List ℕ → Type 0
+Reaches part e c piece = IsBareAfter piece × IsIn part e c piece
+
+-- nothing was read yet
+pub reaches_start : Reaches Head 0 0 []
+reaches_start = (is_escaped-nil, (All-nil (λ b. (b ≢ space) × (b ≢ newline)), record { equals_is = refl; commas_is = refl }))
+
+-- a text leads from one place of a line to another, whatever was read before it
+abbrev pub Leads : (List ℕ → Type 0) → (List ℕ → Type 0) → List ℕ → Type 0
+Leads From To text = (piece : List ℕ) → From piece → To (piece ++ text)
+
+-- no text leads nowhere else
+pub leads_by_none : (From : List ℕ → Type 0) → Leads From From []
+leads_by_none From piece r = subst From (sym (append-nil piece)) r
+
+-- one text and another
+pub leads_then : {From Mid : List ℕ → Type 0} (To : List ℕ → Type 0) (xs ys : List ℕ) → Leads From Mid xs → Leads Mid To ys
+    → Leads From To (xs ++ ys)
+leads_then To xs ys first second piece r = subst To (append_assoc piece xs ys) (second (piece ++ xs) (first piece r))
+
+-- a byte that turns one part into another wherever it is
+pub turns : (part : Part) (e c : ℕ) (next : Part) (f d b : ℕ) → b ≢ backslash
+    → ((q : List ℕ) → IsBareAfter q → IsIn part e c q → IsIn next f d (q ++ b ∷ [])) → Leads (Reaches part e c) (Reaches next f d) (b ∷ [])
+turns part e c next f d b no_backslash after piece r = (is_escaped-push_other piece b no_backslash, after piece r.0 r.1)
+
+-- a byte with a backslash before it changes nothing
+pub reaches_pair : (part : Part) (e c b : ℕ) → Leads (Reaches part e c) (Reaches part e c) (92 ∷ b ∷ [])
+reaches_pair part e c b piece r =
+    let flag = is_escaped-push_backslash piece r.0 in
+    subst (Reaches part e c) (append_assoc piece (92 ∷ []) (b ∷ [])) (
+      is_escaped-push_escaped (piece ++ 92 ∷ []) b flag,
+      IsIn-escaped part e c (piece ++ 92 ∷ []) b flag (IsIn-backslash part e c piece r.0 r.1),
+    )
+
+-- a byte that changes nothing wherever it is
+abbrev pub ChangesNothing : Part → ℕ → ℕ → ℕ → Type 0
+ChangesNothing part e c b = (b ≢ 92) × ((q : List ℕ) → IsBareAfter q → IsIn part e c q → IsIn part e c (q ++ b ∷ []))
+
+-- such a byte leads on from there
+pub reaches_byte : (part : Part) (e c b : ℕ) → ChangesNothing part e c b → Leads (Reaches part e c) (Reaches part e c) (b ∷ [])
+reaches_byte part e c b same = turns part e c part e c b same.0 same.1
+
+-- a name holds no newline, and its spaces and backslashes are escaped
+newline_never : (kind : NameKind) → may_hold kind newline ≡ false
+newline_never a_measurement = refl
+newline_never a_tag_key = refl
+newline_never a_tag_value = refl
+newline_never a_field_key = refl
+
+-- so its bare bytes are none of these
+pub no_newline : (kind : NameKind) (b : ℕ) → may_hold kind b ≡ true → b ≢ newline
+no_newline kind b may = λ e. cc (may, newline_never kind, ap (may_hold kind) e)
+
+-- nor is one a backslash
+pub no_backslash : (kind : NameKind) (b : ℕ) → is_escapable kind b ≡ false → b ≢ 92
+no_backslash kind b plain = λ e. cc (plain, escapable_backslash kind, ap (is_escapable kind) e)
+
+-- or a space
+pub no_space : (kind : NameKind) (b : ℕ) → is_escapable kind b ≡ false → b ≢ space
+no_space kind b plain = λ e. cc (plain, space_escapable kind, ap (is_escapable kind) e)
 
 -- a spelling of a name: each byte is escaped where it can be, but a backslash alone may come before a byte that no
 -- escape keeps
@@ -190,17 +252,14 @@ spelled_fatal {kind = kind} {n = n} {s = s} h some last rest ends =
 -- a spelling after a piece
 pub reaches_spelled : (part : Part) (e c : ℕ) {kind : NameKind} {n s : List ℕ}
     → ((b : ℕ) → may_hold kind b ≡ true → is_escapable kind b ≡ false → ChangesNothing part e c b)
-    → SpelledAs kind n s → (piece : List ℕ) → Reaches part e c piece → Reaches part e c (piece ++ s)
-reaches_spelled part e c same done piece r = subst (Reaches part e c) (sym (append-nil piece)) r
-reaches_spelled part e c same (escape b n s known more) piece r =
-    subst (Reaches part e c) (append_assoc piece (backslash ∷ b ∷ []) s)
-    (reaches_spelled part e c same more (piece ++ backslash ∷ b ∷ []) (reaches_pair part e c piece b r))
-reaches_spelled part e c same (plain b n s other may more) piece r =
-    subst (Reaches part e c) (append_assoc piece (b ∷ []) s)
-    (reaches_spelled part e c same more (piece ++ b ∷ []) (reaches_byte part e c piece b (same b may other) r))
-reaches_spelled part e c same (pair b n s never more) piece r =
-    subst (Reaches part e c) (append_assoc piece (backslash ∷ b ∷ []) s)
-    (reaches_spelled part e c same more (piece ++ backslash ∷ b ∷ []) (reaches_pair part e c piece b r))
+    → SpelledAs kind n s → Leads (Reaches part e c) (Reaches part e c) s
+reaches_spelled part e c same done = leads_by_none (Reaches part e c)
+reaches_spelled part e c same (escape b n s known more) =
+    leads_then (Reaches part e c) (backslash ∷ b ∷ []) s (reaches_pair part e c b) (reaches_spelled part e c same more)
+reaches_spelled part e c same (plain b n s other may more) =
+    leads_then (Reaches part e c) (b ∷ []) s (reaches_byte part e c b (same b may other)) (reaches_spelled part e c same more)
+reaches_spelled part e c same (pair b n s never more) =
+    leads_then (Reaches part e c) (backslash ∷ b ∷ []) s (reaches_pair part e c b) (reaches_spelled part e c same more)
 
 -- a text that begins with no blank, no newline and no `#`
 abbrev pub BeginsLine : List ℕ → Type 0
@@ -256,11 +315,10 @@ line_some [] h = absurd h
 line_some (b ∷ text) h = ne_eqb (length (b ∷ text)) 0 (λ e. absurd (omega arith))
 
 -- a spelling in a head
-pub reaches_head : {kind : NameKind} {n s : List ℕ} → SpelledAs kind n s → (piece : List ℕ) → Reaches Head 0 0 piece
-    → Reaches Head 0 0 (piece ++ s)
-reaches_head {kind = kind} h piece r =
+pub reaches_head : {kind : NameKind} {n s : List ℕ} → SpelledAs kind n s → Leads (Reaches Head 0 0) (Reaches Head 0 0) s
+reaches_head {kind = kind} h =
     reaches_spelled Head 0 0 (λ b may other.
-    (no_backslash kind b other, λ q f i. Head-other 0 0 q b f (no_space kind b other) (no_newline kind b may) i)) h piece r
+    (no_backslash kind b other, λ q f i. Head-other 0 0 q b f (no_space kind b other) (no_newline kind b may) i)) h
 
 -- a name in the head
 pub reaches_name : (kind : NameKind) (n piece : List ℕ) → is_admitted_name kind n ≡ true → Reaches Head 0 0 piece
@@ -268,24 +326,23 @@ pub reaches_name : (kind : NameKind) (n piece : List ℕ) → is_admitted_name k
 reaches_name kind n piece ok r = reaches_head (admitted_spelled kind n ok) piece r
 
 -- a byte that means nothing there
-pub reaches_other : (b : ℕ) → b ≢ backslash → b ≢ 32 → b ≢ newline → (piece : List ℕ) → Reaches Head 0 0 piece → Reaches Head 0 0 (piece ++ b ∷ [])
-reaches_other b no_backslash no_space no_newline piece r = reaches_byte Head 0 0 piece b
-    (no_backslash, λ q f h. Head-other 0 0 q b f no_space no_newline h) r
+pub reaches_other : (b : ℕ) → b ≢ backslash → b ≢ 32 → b ≢ newline → Leads (Reaches Head 0 0) (Reaches Head 0 0) (b ∷ [])
+reaches_other b no_backslash no_space no_newline =
+    turns Head 0 0 Head 0 0 b no_backslash (λ q f h. Head-other 0 0 q b f no_space no_newline h)
 
 -- the space after it
-pub reaches_gap : (piece : List ℕ) → Reaches Head 0 0 piece → Reaches Plain 0 0 (piece ++ 32 ∷ [])
-reaches_gap piece r = (is_escaped-push_other piece 32 (omega arith), Head-space 0 0 piece r.0 r.1)
+pub reaches_gap : Leads (Reaches Head 0 0) (Reaches Plain 0 0) (32 ∷ [])
+reaches_gap = turns Head 0 0 Plain 0 0 32 (omega arith) (Head-space 0 0)
 
 -- a spelling of a field key where no quote can open
-pub reaches_field_key : (m : ℕ) {n s : List ℕ} → SpelledAs a_field_key n s → (piece : List ℕ)
-    → Reaches Plain m m piece → Reaches Plain m m (piece ++ s)
-reaches_field_key m h piece r =
+pub reaches_field_key : (m : ℕ) {n s : List ℕ} → SpelledAs a_field_key n s → Leads (Reaches Plain m m) (Reaches Plain m m) s
+reaches_field_key m h =
     reaches_spelled Plain m m
     (λ b may other. (
       no_backslash a_field_key b other,
       λ q f i. Plain-other m m q b f (no_equals b other) (no_comma b other) (no_newline a_field_key b may)
           (λ _. omega arith) i,
-    )) h piece r
+    )) h
   where
     -- a byte that a field key does not escape is no `=`
     no_equals : (b : ℕ) → is_escapable a_field_key b ≡ false → b ≢ equals

@@ -1,6 +1,6 @@
 -- The line of an admitted point is a piece that a newline ends.
 use Rattle.std.proofs.Common.{◌≡◌, ◌≢◌, ℕ, suc, ◌+◌, ◌^◌, ◌<◌, ◌≤◌, List, [], ◌∷◌, ◌++◌, length, Bool, true, false, ◌&&◌, refl, sym, ap}
-use Rattle.std.proofs.Common.{◌∙◌, subst, arith, inl, inr, append_assoc, append-nil, Option, Some, None}
+use Rattle.std.proofs.Common.{◌∙◌, subst, arith, inl, inr, append_assoc, Option, Some, None}
 use Rattle.std.specs.Prelude.{◌==◌, ℤ, pos, negsuc, not, codes, decimal, IfSome}
 use Rattle.std.specs.List.{AllByRecursion, list_all, flat_map}
 use Rattle.std.specs.Fmt.{signed_decimal}
@@ -12,7 +12,7 @@ use Rattle.std.proofs.lemmas.Str.Parse.{digit_from_value}
 use Rattle.std.proofs.lemmas.List.Folds.{list_all-append}
 use Rattle.lp_split.specs.declared.split.resumed.Part.{Part}
 use Rattle.lp_split.specs.declared.split.resumed.Part.TheVariants.{Head, Plain, Quoted}
-use Rattle.lp_split.proofs.lemmas.split.SplitWalk.{Head-space, Head-other, Plain-equals}
+use Rattle.lp_split.proofs.lemmas.split.SplitWalk.{Plain-equals}
 use Rattle.lp_split.proofs.lemmas.split.SplitWalk.{Plain-comma, Plain-opens, Plain-other, Quoted-closes, Quoted-other}
 use Rattle.lp_format.specs.format.Dialects.{Dialect, Crate, Strict}
 use Rattle.lp_format.specs.format.Bytes.{backslash, is_one_of, newline, quote}
@@ -24,12 +24,9 @@ use Rattle.lp_format.specs.format.Points.{Point, IsPoint, Tag, Field, IsValue, i
 use Rattle.lp_format.specs.format.Points.{is_admitted_point, line_of, built_tag, built_field, built_fields, built_timestamp}
 use Rattle.lp_format.specs.format.Points.{built_value, spelling, is_admitted_name}
 use Rattle.lp_format.specs.format.Pieces.{IsCutPiece, begins_comment}
-use Rattle.lp_format.proofs.lemmas.split.SplitBare.{is_escaped-push_other}
 use Rattle.lp_format.proofs.lemmas.values.ValueLemmas.{fits_from_test}
-use Rattle.lp_lines.proofs.lemmas.read_back.Reaches.{Reaches, reaches_start, ChangesNothing, reaches_byte}
-use Rattle.lp_lines.proofs.lemmas.read_back.Reaches.{reaches_pair}
-use Rattle.lp_lines.proofs.lemmas.names.Spellings.{admitted_spelled, measurement_begins, reaches_name}
-use Rattle.lp_lines.proofs.lemmas.names.Spellings.{reaches_field_key, BeginsLine, line_no_comment}
+use Rattle.lp_lines.proofs.lemmas.names.Spellings.{Leads, leads_by_none, leads_then, turns, reaches_gap, reaches_other, Reaches, reaches_start, ChangesNothing, reaches_byte, reaches_pair, admitted_spelled}
+use Rattle.lp_lines.proofs.lemmas.names.Spellings.{measurement_begins, reaches_name, reaches_field_key, BeginsLine, line_no_comment}
 
 -- a byte that means nothing in a plain stretch
 abbrev is_simple : ℕ → Bool
@@ -52,11 +49,11 @@ IsSimple-append xs ys h k = list_all-append is_simple xs ys ∙ and_from _ _ h k
 
 -- nor does a text of such bytes
 pub reaches_simple : (e c : ℕ) (text piece : List ℕ) → IsSimple text → Reaches Plain e c piece → Reaches Plain e c (piece ++ text)
-reaches_simple e c [] piece all r = subst (Reaches Plain e c) (sym (append-nil piece)) r
+reaches_simple e c [] piece all r = leads_by_none (Reaches Plain e c) piece r
 reaches_simple e c (b ∷ text) piece all r =
     let parts = and_parts (is_simple b) (list_all is_simple text) all in
-    subst (Reaches Plain e c) (append_assoc piece (b ∷ []) text)
-    (reaches_simple e c text (piece ++ b ∷ []) parts.1 (reaches_byte Plain e c piece b (simple_same e c b parts.0) r))
+    leads_then (Reaches Plain e c) (b ∷ []) text (reaches_byte Plain e c b (simple_same e c b parts.0))
+    (λ q h. reaches_simple e c text q parts.1 h) piece r
 
 -- numbers are simple
 simple_digit : (b : ℕ) → 48 ≤ b → b ≤ 57 → is_simple b ≡ true
@@ -115,15 +112,15 @@ simple_float t parts =
     (λ x signed. simple_sign (codes "+-") x refl signed) parts.6)))
 
 -- a byte of a string, with a backslash or without
-reaches_quotable : (e c : ℕ) (s piece : List ℕ) → Reaches Quoted e c piece → Reaches Quoted e c (piece ++ escaped quotable s)
+reaches_quotable : (e c : ℕ) (s : List ℕ) → Leads (Reaches Quoted e c) (Reaches Quoted e c) (escaped quotable s)
 unfolding escaped
-reaches_quotable e c [] piece r = subst (Reaches Quoted e c) (sym (append-nil piece)) r
-reaches_quotable e c (b ∷ s) piece r =
+reaches_quotable e c [] = leads_by_none (Reaches Quoted e c)
+reaches_quotable e c (b ∷ s) =
     elim (cases_Bool (is_one_of quotable b)) [
-      | inl found ↦ rw found (subst (Reaches Quoted e c) (append_assoc piece (backslash ∷ b ∷ []) (escaped quotable s))
-          (reaches_quotable e c s (piece ++ backslash ∷ b ∷ []) (reaches_pair Quoted e c piece b r)))
-      | inr plain ↦ rw plain (subst (Reaches Quoted e c) (append_assoc piece (b ∷ []) (escaped quotable s))
-          (reaches_quotable e c s (piece ++ b ∷ []) (reaches_byte Quoted e c piece b (same plain) r)))
+      | inl found ↦ rw found
+          (leads_then (Reaches Quoted e c) (backslash ∷ b ∷ []) (escaped quotable s) (reaches_pair Quoted e c b) (reaches_quotable e c s))
+      | inr plain ↦ rw plain
+          (leads_then (Reaches Quoted e c) (b ∷ []) (escaped quotable s) (reaches_byte Quoted e c b (same plain)) (reaches_quotable e c s))
     ]
   where
     -- a byte that a string does not escape changes nothing in it
@@ -134,18 +131,12 @@ reaches_quotable e c (b ∷ s) piece r =
     )
 
 -- a string opens after an `=`, and closes
-reaches_string : (m : ℕ) (s piece : List ℕ) → Reaches Plain (m + 1) m piece → Reaches Plain (m + 1) m (piece ++ built_value (string s))
-reaches_string m s piece r =
-    let opened : Reaches Quoted (m + 1) m
-    (piece ++ quote ∷ []) = (is_escaped-push_other piece quote (omega arith), Plain-opens (m + 1) m piece r.0 (omega arith) r.1) in
-    let body : Reaches Quoted (m + 1) m ((piece ++ quote ∷ []) ++ escaped quotable s) =
-    reaches_quotable (m + 1) m s (piece ++ quote ∷ []) opened in
-    let text = (piece ++ quote ∷ []) ++ escaped quotable s in
-    let closed : Reaches Plain (m + 1) m
-    (text ++ quote ∷ []) = (is_escaped-push_other text quote (omega arith), Quoted-closes (m + 1) m text body.0 body.1) in
-    subst (Reaches Plain (m + 1) m)
-    (append_assoc (piece ++ quote ∷ []) (escaped quotable s) (quote ∷ [])
-    ∙ append_assoc piece (quote ∷ []) (escaped quotable s ++ quote ∷ [])) closed
+reaches_string : (m : ℕ) (s : List ℕ) → Leads (Reaches Plain (m + 1) m) (Reaches Plain (m + 1) m) (built_value (string s))
+reaches_string m s =
+    leads_then (Reaches Plain (m + 1) m) (quote ∷ []) _
+    (turns Plain (m + 1) m Quoted (m + 1) m quote (omega arith) (λ q f h. Plain-opens (m + 1) m q f (omega arith) h))
+    (leads_then (Reaches Plain (m + 1) m) (escaped quotable s) _ (reaches_quotable (m + 1) m s)
+    (turns Quoted (m + 1) m Plain (m + 1) m quote (omega arith) (Quoted-closes (m + 1) m)))
 
 -- a value, after its `=`
 reaches_value : (m : ℕ) (v : Value (List ℕ)) (piece : List ℕ) → IsValue v → Reaches Plain (m + 1) m piece
@@ -169,37 +160,28 @@ AdmittedField f = (is_admitted_name a_field_key f.key ≡ true) × IsValue f.val
 pub reaches_field : (m : ℕ) (f : Field) (piece : List ℕ) → AdmittedField f → Reaches Plain m m piece
     → Reaches Plain (m + 1) m (piece ++ built_field f)
 reaches_field m f piece ok r =
-    let key = reaches_field_key m (admitted_spelled a_field_key f.key ok.0) piece r in
-    let text = piece ++ spelling a_field_key f.key in
-    let sign : Reaches Plain (m + 1) m
-    (text ++ 61 ∷ []) = (is_escaped-push_other text 61 (omega arith), Plain-equals m m text key.0 key.1) in
-    subst (Reaches Plain (m + 1) m)
-    (append_assoc text (61 ∷ []) (built_value f.value)
-    ∙ append_assoc piece (spelling a_field_key f.key) (61 ∷ built_value f.value))
-    (reaches_value m f.value (text ++ 61 ∷ []) ok.1 sign)
+    leads_then (Reaches Plain (m + 1) m) (spelling a_field_key f.key) _ (reaches_field_key m (admitted_spelled a_field_key f.key ok.0))
+    (leads_then (Reaches Plain (m + 1) m) (61 ∷ []) _ (turns Plain m m Plain (m + 1) m 61 (omega arith) (Plain-equals m m))
+    (λ q h. reaches_value m f.value q ok.1 h)) piece r
 
 -- the fields after the first
 abbrev pub AfterFields : List ℕ → Type 0
 AfterFields piece = (m : ℕ) × Reaches Plain (m + 1) m piece
 
 -- as many fields after commas as there are
-pub reaches_fields : (fs : List Field) (piece : List ℕ) → AllByRecursion AdmittedField fs → AfterFields piece
-    → AfterFields (piece ++ built_fields 44 fs)
-reaches_fields [] piece all r = subst AfterFields (sym (append-nil piece)) r
-reaches_fields (f ∷ fs) piece all r =
-    let m = r.0 in
-    let after_comma : Reaches Plain (m + 1) (m + 1)
-    (piece ++ 44 ∷ []) = (is_escaped-push_other piece 44 (omega arith), Plain-comma (m + 1) m piece r.1.0 r.1.1) in
-    let field = reaches_field (m + 1) f (piece ++ 44 ∷ []) all.0 after_comma in
-    subst AfterFields
-    (append_assoc (piece ++ 44 ∷ []) (built_field f) (built_fields 44 fs)
-    ∙ append_assoc piece (44 ∷ []) (built_field f ++ built_fields 44 fs))
-    (reaches_fields fs ((piece ++ 44 ∷ []) ++ built_field f) all.1 (m + 1, field))
+pub reaches_fields : (fs : List Field) → AllByRecursion AdmittedField fs → Leads AfterFields AfterFields (built_fields 44 fs)
+reaches_fields [] all = leads_by_none AfterFields
+reaches_fields (f ∷ fs) all = leads_then AfterFields (44 ∷ built_field f) _
+    (λ q h.
+    let m = h.0 + 1 in
+    let comma = turns Plain m h.0 Plain m m 44 (omega arith) (Plain-comma m h.0) in
+    (m, leads_then (Reaches Plain (m + 1) m) (44 ∷ []) _ comma (λ p k. reaches_field m f p all.0 k) q h.1))
+    (reaches_fields fs all.1)
 
 -- the timestamp
 reaches_timestamp : (t : Option ℤ) (piece : List ℕ) → IfSome t (λ z. fits_i64 z ≡ true) → AfterFields piece
     → AfterFields (piece ++ built_timestamp t)
-reaches_timestamp None piece ok r = subst AfterFields (sym (append-nil piece)) r
+reaches_timestamp None piece ok r = leads_by_none AfterFields piece r
 reaches_timestamp (Some z) piece ok r = (
   r.0,
   reaches_simple (r.0 + 1) r.0 (32 ∷ signed_decimal z) piece
@@ -209,26 +191,14 @@ reaches_timestamp (Some z) piece ok r = (
 -- the tags
 pub reaches_tags : (ts : List Tag) (piece : List ℕ) → AllByRecursion AdmittedTag ts → Reaches Head 0 0 piece
     → Reaches Head 0 0 (piece ++ flat_map built_tag ts)
-reaches_tags [] piece all r = subst (Reaches Head 0 0) (sym (append-nil piece)) r
+reaches_tags [] piece all r = leads_by_none (Reaches Head 0 0) piece r
 reaches_tags (t ∷ ts) piece all r =
-    let comma : Reaches Head 0 0 (piece ++ 44 ∷ []) = reaches_byte Head 0 0 piece 44
-    (other 44 (omega arith) (omega arith) (omega arith)) r in
-    let key = reaches_name a_tag_key t.key (piece ++ 44 ∷ []) all.0.0 comma in
-    let text = (piece ++ 44 ∷ []) ++ spelling a_tag_key t.key in
-    let sign : Reaches Head 0 0 (text ++ 61 ∷ []) = reaches_byte Head 0 0 text 61
-    (other 61 (omega arith) (omega arith) (omega arith)) key in
-    let value = reaches_name a_tag_value t.value (text ++ 61 ∷ []) all.0.1 sign in
-    subst (Reaches Head 0 0) (append_assoc piece (built_tag t) (flat_map built_tag ts))
-    (reaches_tags ts (piece ++ built_tag t) all.1
-    (subst (Reaches Head 0 0)
-    (append_assoc text (61 ∷ []) (spelling a_tag_value t.value)
-    ∙ append_assoc (piece ++ 44 ∷ []) (spelling a_tag_key t.key) (61 ∷ spelling a_tag_value t.value)
-    ∙ append_assoc piece (44 ∷ []) (spelling a_tag_key t.key ++ 61 ∷ spelling a_tag_value t.value))
-    value))
-  where
-    -- a byte that ends no head changes nothing in it
-    other : (b : ℕ) → b ≢ backslash → b ≢ 32 → b ≢ newline → ChangesNothing Head 0 0 b
-    other b no_backslash no_space no_newline = (no_backslash, λ q f h. Head-other 0 0 q b f no_space no_newline h)
+    leads_then (Reaches Head 0 0) (44 ∷ []) _ (reaches_other 44 (omega arith) (omega arith) (omega arith))
+    (leads_then (Reaches Head 0 0) (spelling a_tag_key t.key ++ 61 ∷ spelling a_tag_value t.value) _
+    (leads_then (Reaches Head 0 0) (spelling a_tag_key t.key) _ (λ q h. reaches_name a_tag_key t.key q all.0.0 h)
+    (leads_then (Reaches Head 0 0) (61 ∷ []) _ (reaches_other 61 (omega arith) (omega arith) (omega arith))
+    (λ q h. reaches_name a_tag_value t.value q all.0.1 h)))
+    (λ q h. reaches_tags ts q all.1 h)) piece r
 
 -- the line
 pub reaches_line : (n : List ℕ) (ts : List Tag) (f : Field) (fs : List Field) (t : Option ℤ)
@@ -236,14 +206,12 @@ pub reaches_line : (n : List ℕ) (ts : List Tag) (f : Field) (fs : List Field) 
     → AllByRecursion AdmittedField fs → IfSome t (λ z. fits_i64 z ≡ true)
     → AfterFields (spelling a_measurement n ++ (flat_map built_tag ts ++ (built_fields 32 (f ∷ fs) ++ built_timestamp t)))
 reaches_line n ts f fs t named tagged first more stamped =
-    let front = spelling a_measurement n ++ flat_map built_tag ts in
-    let head : Reaches Head 0 0 front = reaches_tags ts (spelling a_measurement n) tagged
-    (reaches_name a_measurement n [] named reaches_start) in
-    let gap : Reaches Plain 0 0 (front ++ 32 ∷ []) = (is_escaped-push_other front 32 (omega arith), Head-space 0 0 front head.0 head.1) in
-    let field = reaches_field 0 f (front ++ 32 ∷ []) first gap in
-    let fields = reaches_fields fs ((front ++ 32 ∷ []) ++ built_field f) more (0, field) in
-    let whole = reaches_timestamp t (((front ++ 32 ∷ []) ++ built_field f) ++ built_fields 44 fs) stamped fields in
-    subst AfterFields (simp append_assoc) whole
+    leads_then AfterFields (spelling a_measurement n) _ (λ q h. reaches_name a_measurement n q named h)
+    (leads_then AfterFields (flat_map built_tag ts) _ (λ q h. reaches_tags ts q tagged h)
+    (leads_then AfterFields (built_fields 32 (f ∷ fs)) _
+    (leads_then AfterFields (32 ∷ []) _ reaches_gap
+    (leads_then AfterFields (built_field f) _ (λ q h. (0, reaches_field 0 f q first h)) (reaches_fields fs more)))
+    (λ q h. reaches_timestamp t q stamped h))) [] reaches_start
 
 -- what a newline may end, in both dialects
 is_cut_piece : (dialect : Dialect) (text : List ℕ) → begins_comment text ≡ false → AfterFields text → IsCutPiece dialect text

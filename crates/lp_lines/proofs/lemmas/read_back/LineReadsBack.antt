@@ -1,24 +1,220 @@
--- The line of a point reads back as the point.
-use Rattle.std.proofs.Common.{◌≡◌, ℕ, ◌-◌, ◌<◌, List, [], ◌∷◌, ◌++◌, length, map, true, refl, sym, ap, ◌∙◌, arith, Ok}
-use Rattle.std.proofs.Common.{Option}
-use Rattle.std.specs.Prelude.{ℤ, IfSome}
-use Rattle.std.specs.List.{flat_map, AllByRecursion}
-use Rattle.lp_format.specs.format.Dialects.{Dialect}
-use Rattle.std.proofs.lemmas.List.{append_assoc, length-append}
+-- Values, tags, fields, timestamps and lines read back as they were written.
+use Rattle.std.proofs.Common.{◌≡◌, ℕ, ◌+◌, ◌^◌, ◌<◌, List, [], ◌∷◌, ◌++◌, length, take, drop, slice_index, Bool, true, false, refl, sym, ap}
+use Rattle.std.proofs.Common.{◌∙◌, arith, inl, inr, zero, suc, ◌≤◌, map, Ok, Option, Some, None, ◌-◌}
+use Rattle.std.specs.Prelude.{◌==◌, ℤ, decimal, nat_lt, codes, IfSome}
+use Rattle.std.specs.Fmt.{signed_decimal}
+use Rattle.std.proofs.lemmas.Bool.{cases_Bool, and_right, ne_eqb, lt-ltb}
+use Rattle.std.proofs.lemmas.Fmt.{decimal_is_IsNumeral}
+use Rattle.std.proofs.lemmas.Grind.{common_steps}
+use Rattle.std.proofs.lemmas.List.{append_assoc, take_at, drop_at, get_or_at, length-append, drop-drop, append-nil, take_all, drop_all}
+use Rattle.std.specs.List.{AllByRecursion, flat_map}
 use Rattle.std.proofs.Math.Seq.{take-append_seam}
-use Rattle.lp_format.specs.format.Names.{a_measurement, a_field_key, name}
-use Rattle.lp_format.specs.format.Readings.{Text, reads}
-use Rattle.lp_format.specs.format.Values.{Value, fits_i64}
-use Rattle.lp_format.specs.format.Points.{Pair, Point, Tag, Field, built_value, built_field, built_fields, built_tag}
-use Rattle.lp_format.specs.format.Points.{built_timestamp, line_of, is_admitted_name, spelling}
-use Rattle.lp_format.specs.format.Lines.{answer, field_set, front_before, spaces, tag_set, timestamp}
-use Rattle.lp_format.proofs.lemmas.read_back.NameReadsBack.{admitted_parts, read_name}
-use Rattle.lp_lines.proofs.lemmas.names.Spellings.{admitted_spelled, name_reads_back, spelled_spaces}
-use Rattle.lp_format.proofs.lemmas.read_back.ReadLines.{read_line, read_tags, read_field}
+use Rattle.lp_format.specs.format.Bytes.{backslash, is_one_of, quote, comma, equals, space}
+use Rattle.lp_format.specs.format.Readings.{Reading, reads, Text, miss}
+use Rattle.lp_format.specs.format.Points.{IsValue, built_value, Pair, Tag, Field, built_tag, built_field, built_fields, built_timestamp}
+use Rattle.lp_format.specs.format.Points.{spelling, Point, line_of, is_admitted_name}
+use Rattle.lp_format.specs.format.Escapes.{escaped}
+use Rattle.lp_format.specs.format.Values.{Value, value, integer, unsigned, float, string, boolean, integer_at, unsigned_at, float_at}
+use Rattle.lp_format.specs.format.Values.{string_at, boolean_at, body_len, digits_len, integer_len, fits_i64, quotable}
+use Rattle.lp_format.proofs.lemmas.read_back.NameReadsBack.{read_value, read_tag, read_tags, read_field, read_line, admitted_parts}
+use Rattle.lp_format.proofs.lemmas.read_back.NameReadsBack.{read_name}
+use Rattle.lp_format.proofs.lemmas.values.ValueLemmas.{integer_unmarked}
+use Rattle.lp_format.proofs.lemmas.literals.FloatLemmas.{Ends, float_reads_back, digits_before}
+use Rattle.lp_format.proofs.lemmas.read_back.IntegerReadsBack.{unsigned_len, integer_reads_back, integer_written}
+use Rattle.lp_format.specs.format.Dialects.{Dialect, Crate, Strict}
+use Rattle.lp_format.specs.format.Names.{a_tag_key, a_tag_value, a_field_key, is_stop, a_measurement, name}
+use Rattle.lp_format.specs.format.Lines.{byte, tag, field, after_comma, many, tag_set, field_set, timestamp, without_comma, answer}
+use Rattle.lp_format.specs.format.Lines.{front_before, separated_list, spaces}
+use Rattle.lp_split.proofs.lemmas.split.ScanLemmas.{bare_len, first_bare_len}
+use Rattle.lp_lines.proofs.lemmas.names.Spellings.{name_reads_back, admitted_spelled, spelled_spaces}
 use Rattle.lp_lines.proofs.lemmas.read_back.LinePieces.{AdmittedTag, AdmittedField, IsAdmitted, line_parts}
-use Rattle.lp_lines.proofs.lemmas.read_back.PartsReadBack.{tag_text, tag_set_reads_back, field_set_reads_back}
-use Rattle.lp_lines.proofs.lemmas.read_back.PartsReadBack.{timestamp_reads_back}
-use Rattle.lp_format.specs.format.Bytes.{comma, equals, space}
+
+-- the body of a string ends at the quote after it
+body_ends : (s rest : List ℕ) → bare_len (λ b. b == quote) false (escaped quotable s ++ quote ∷ rest) ≡ length (escaped quotable s)
+unfolding escaped
+body_ends [] rest = refl
+body_ends (b ∷ s) rest =
+    elim (cases_Bool (is_one_of quotable b)) [
+      | inl found ↦ rw (found, and_right (b == quote) false refl, body_ends s rest) refl
+      | inr plain ↦
+          let no_quote : (b == quote) ≡ false = grind (arith, common_steps) in
+          let no_backslash : (b == backslash) ≡ false = grind (arith, common_steps) in
+          rw (plain, no_quote, no_backslash, body_ends s rest) refl
+    ]
+
+-- a string reads back
+pub string_reads_back : (s rest : List ℕ) → string_at (quote ∷ (escaped quotable s ++ quote ∷ rest)) ≡ reads (read_value (string s)) rest
+unfolding string_at
+string_reads_back s rest =
+    let suffix = escaped quotable s ++ quote ∷ rest in
+    let len : body_len suffix ≡ length (escaped quotable s) = first_bare_len (λ b. b == quote) suffix ∙ body_ends s rest in
+    let closed : nat_lt (body_len suffix) (length suffix) ≡ true =
+    rw len (lt-ltb _ _ (omega (arith, length-append (escaped quotable s) (quote ∷ rest)))) in
+    let body : take (body_len suffix) suffix ≡ escaped quotable s = rw len (take_at (escaped quotable s) (quote ∷ rest) _ refl) in
+    let after : drop (body_len suffix) suffix ≡ quote ∷ rest = rw len (drop_at (escaped quotable s) (quote ∷ rest) _ refl) in
+    let last : drop (body_len suffix + 1) suffix ≡ rest = sym (drop-drop 1 (body_len suffix) suffix)
+    ∙ ap (λ (xs : List ℕ). drop 1 xs) after in
+    rw (closed, body, last) refl
+
+-- an unsigned number and its mark
+unsigned_reads_back : (n : ℕ) (rest : List ℕ) → n < 2 ^ 64 → value (built_value (unsigned n) ++ rest) ≡ reads (unsigned n) rest
+unfolding value unsigned_at
+unsigned_reads_back n rest fits =
+    let written = decimal_is_IsNumeral n fits in
+    let text = decimal n ++ 117 ∷ rest in
+    let whole : built_value (unsigned n) ++ rest ≡ text = append_assoc (decimal n) (codes "u") rest in
+    let len : integer_len text ≡ length (decimal n) = unsigned_len (decimal n) (117 ∷ rest) written.0 refl in
+    let digits : digits_len text ≡ length (decimal n) = omega (arith, digits_before (decimal n) (117 ∷ rest) written.0.1) in
+    let mark : slice_index text (length (decimal n)) ≡ 117 = get_or_at (decimal n) 117 rest 0 (length (decimal n)) refl in
+    let no_integer = integer_unmarked text (rw (len, mark) (λ e. absurd (omega arith))) in
+    let some : (length (decimal n) == 0) ≡ false = ne_eqb _ 0 (λ e. absurd (omega (arith, written.0.0))) in
+    let front : take (length (decimal n)) text ≡ decimal n = take_at (decimal n) (117 ∷ rest) _ refl in
+    let after : drop (length (decimal n)) text ≡ 117 ∷ rest = drop_at (decimal n) (117 ∷ rest) _ refl in
+    let last : drop (length (decimal n) + 1) text ≡ rest = sym (drop-drop 1 (length (decimal n)) text)
+    ∙ ap (λ (xs : List ℕ). drop 1 xs) after in
+    rw (whole, no_integer, digits, some, mark, front, written.1, lt-ltb n (2 ^ 64) fits, last) refl
+
+-- the first case of a value
+integer_value_reads : (z : ℤ) (rest : List ℕ) → fits_i64 z ≡ true → value (built_value (integer z) ++ rest) ≡ reads (integer z) rest
+unfolding value
+integer_value_reads z rest fits = rw (append_assoc (signed_decimal z) (codes "i") rest, integer_reads_back z rest fits) refl
+
+-- a string is no number
+string_value_reads : (s rest : List ℕ) → value (built_value (string s) ++ rest) ≡ reads (read_value (string s)) rest
+unfolding value integer_at unsigned_at float_at
+string_value_reads s rest = rw (append_assoc (escaped quotable s) (quote ∷ []) rest, string_reads_back s rest) refl
+
+-- a word is neither
+boolean_value_reads : (b : Bool) (rest : List ℕ) → value (built_value (boolean b) ++ rest) ≡ reads (boolean b) rest
+unfolding value integer_at unsigned_at float_at string_at boolean_at
+boolean_value_reads true rest = refl
+boolean_value_reads false rest = refl
+
+-- a value reads back before the end, a comma or a space
+pub value_reads_back : (v : Value (List ℕ)) (rest : List ℕ) → IsValue v → Ends rest
+    → value (built_value v ++ rest) ≡ reads (read_value v) rest
+value_reads_back (integer z) rest fits ends = integer_value_reads z rest fits
+value_reads_back (unsigned n) rest fits ends = unsigned_reads_back n rest fits
+value_reads_back (float t) rest parts ends = float_reads_back t rest parts ends
+value_reads_back (string s) rest any ends = string_value_reads s rest
+value_reads_back (boolean b) rest any ends = boolean_value_reads b rest
+
+-- a tag without the comma before it
+abbrev pub tag_text : Tag → List ℕ
+tag_text t = spelling a_tag_key t.key ++ equals ∷ spelling a_tag_value t.value
+
+-- a tag reads back before each byte that ends its value
+pub tag_reads_back : (t : Tag) (rest : List ℕ) (stop : ℕ) → AdmittedTag t → is_stop a_tag_value stop ≡ true
+    → tag (tag_text t ++ stop ∷ rest) ≡ reads (read_tag t) (stop ∷ rest)
+unfolding tag
+tag_reads_back t rest stop ok ends =
+    rw (
+      append_assoc (spelling a_tag_key t.key) (equals ∷ spelling a_tag_value t.value) (stop ∷ rest),
+      name_reads_back a_tag_key t.key (spelling a_tag_value t.value ++ stop ∷ rest) equals ok.0 refl,
+      name_reads_back a_tag_value t.value rest stop ok.1 ends,
+    ) refl
+
+-- a tag before the others, or before the fields
+tag_before : (t : Tag) (ts : List Tag) (rest : List ℕ) → AdmittedTag t
+    → tag (tag_text t ++ (flat_map built_tag ts ++ space ∷ rest)) ≡ reads (read_tag t) (flat_map built_tag ts ++ space ∷ rest)
+tag_before t [] rest ok = tag_reads_back t rest 32 ok refl
+tag_before t (u ∷ us) rest ok =
+    let after = flat_map built_tag us ++ space ∷ rest in
+    let regrouped : flat_map built_tag (u ∷ us) ++ space ∷ rest ≡ comma ∷ (tag_text u ++ after) = append_assoc
+    (built_tag u) (flat_map built_tag us) (space ∷ rest) in
+    rw regrouped (tag_reads_back t (tag_text u ++ after) comma ok refl)
+
+module _ {X Y : Type 0} (one : List ℕ → Reading Y) (text : X → List ℕ) (read : X → Y) (Admitted : X → Type 0) (after : List X → List ℕ)
+    (begins : (x : X) (xs : List X) → after (x ∷ xs) ≡ comma ∷ (text x ++ after xs)) (ends : byte comma (after []) ≡ miss)
+    (each : (x : X) (xs : List X) → Admitted x → one (text x ++ after xs) ≡ reads (read x) (after xs)) where
+  -- parts that come after commas
+  more_read : (xs : List X) (n : ℕ) → AllByRecursion Admitted xs → length xs ≤ n
+      → many (after_comma one) n (after xs) ≡ reads (map read xs) (after [])
+  more_read [] zero all room = refl
+  more_read [] (suc n) all room = rw ends refl
+  more_read (x ∷ xs) zero all room = absurd (omega arith)
+  more_read (x ∷ xs) (suc n) all room = rw (begins x xs, each x xs all.0, more_read xs n all.1 (omega arith)) refl
+
+  -- a part is at least one byte
+  parts_room : (xs : List X) → length xs ≤ length (after xs)
+  parts_room [] = omega arith
+  parts_room (x ∷ xs) = omega (arith, parts_room xs, ap length (begins x xs), length-append (text x) (after xs))
+
+  -- parts that commas join
+  joined_read : (x : X) (xs : List X) → Admitted x → AllByRecursion Admitted xs
+      → separated_list one (text x ++ after xs) ≡ reads (map read (x ∷ xs)) (after [])
+  joined_read x xs ok all = rw (each x xs ok, more_read xs (length (after xs)) all (parts_room xs)) refl
+
+-- the tags of a line read back before its fields
+pub tag_set_reads_back : (ts : List Tag) (rest : List ℕ) → AllByRecursion AdmittedTag ts
+    → tag_set (flat_map built_tag ts ++ space ∷ rest) ≡ Ok (record { value = read_tags ts; rest = space ∷ rest })
+tag_set_reads_back [] rest all = refl
+tag_set_reads_back (t ∷ ts) rest all =
+    let joined = joined_read tag tag_text read_tag AdmittedTag (λ us. flat_map built_tag us ++ space ∷ rest)
+    (λ u us. append_assoc (built_tag u) (flat_map built_tag us) (space ∷ rest)) refl (λ u us ok. tag_before u us rest ok) t ts all.0 all.1 in
+    ap tag_set (append_assoc (built_tag t) (flat_map built_tag ts) (space ∷ rest)) ∙ rw joined refl
+
+-- a field, before the end, a comma or a space
+pub field_reads_back : (f : Field) (rest : List ℕ) → AdmittedField f → Ends rest → field (built_field f ++ rest) ≡ reads (read_field f) rest
+unfolding field
+field_reads_back f rest ok ends =
+    rw (
+      append_assoc (spelling a_field_key f.key) (equals ∷ built_value f.value) rest,
+      name_reads_back a_field_key f.key (built_value f.value ++ rest) equals ok.0 refl,
+      value_reads_back f.value rest ok.1 ends,
+    ) refl
+
+-- what comes after a field
+fields_end : (fs : List Field) (rest : List ℕ) → Ends rest → Ends (built_fields comma fs ++ rest)
+fields_end [] rest ends = ends
+fields_end (f ∷ fs) rest ends = refl
+
+-- no comma is taken before a timestamp or at the end
+no_comma : (dialect : Dialect) (fs : List (Pair Text (Value Text))) (t : Option ℤ)
+    → without_comma dialect fs (built_timestamp t) ≡ built_timestamp t
+no_comma Crate [] t = refl
+no_comma Crate (f ∷ []) None = refl
+no_comma Crate (f ∷ []) (Some z) = refl
+no_comma Crate (f ∷ g ∷ gs) t = refl
+no_comma Strict fs t = refl
+
+-- what ends the fields of a built line is no comma
+timestamp_ends : (dialect : Dialect) (fs : List (Pair Text (Value Text))) (t : Option ℤ)
+    → (byte comma (built_timestamp t) ≡ miss) × Ends (built_timestamp t)
+    × (without_comma dialect fs (built_timestamp t) ≡ built_timestamp t)
+timestamp_ends dialect fs None = (refl, refl, no_comma dialect fs None)
+timestamp_ends dialect fs (Some z) = (refl, refl, no_comma dialect fs (Some z))
+
+-- the fields of a line read back before its timestamp
+pub field_set_reads_back : (dialect : Dialect) (f : Field) (fs : List Field) (t : Option ℤ) → AdmittedField f
+    → AllByRecursion AdmittedField fs
+    → field_set dialect (built_field f ++ (built_fields comma fs ++ built_timestamp t)) ≡ reads
+    (map read_field (f ∷ fs)) (built_timestamp t)
+field_set_reads_back dialect f fs t ok all =
+    let ends = timestamp_ends dialect (map read_field (f ∷ fs)) t in
+    let joined = joined_read field built_field read_field AdmittedField (λ gs. built_fields comma gs ++ built_timestamp t)
+    (λ g gs. ap (λ (xs : List ℕ). comma ∷ xs) (append_assoc (built_field g) (built_fields comma gs) (built_timestamp t))) ends.0
+    (λ g gs good. field_reads_back g (built_fields comma gs ++ built_timestamp t) good (fields_end gs (built_timestamp t) ends.1)) f fs ok all in
+    rw (joined, ends.2) refl
+
+-- a timestamp at the end of a line
+pub timestamp_reads_back : (t : Option ℤ) → IfSome t (λ z. fits_i64 z ≡ true)
+    → timestamp (built_timestamp t) ≡ Ok (record { value = t; rest = [] })
+timestamp_reads_back None ok = refl
+timestamp_reads_back (Some z) ok =
+    let written = integer_written z ok in
+    let number = signed_decimal z in
+    let len : integer_len number ≡ length number = rw append-nil at (written.len [] refl) in
+    let some : (length number == 0) ≡ false = ne_eqb (length number) 0 (λ e. absurd (omega (arith, written.some))) in
+    rw (
+      written.no_space,
+      len,
+      some,
+      take_all (length number) number (omega arith),
+      drop_all (length number) number (omega arith),
+      written.value,
+      ok,
+    ) refl
 
 -- the front before a rest of the line
 pub front_is : (line front rest : List ℕ) → line ≡ front ++ rest → front_before line rest ≡ front

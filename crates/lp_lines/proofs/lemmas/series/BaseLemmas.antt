@@ -1,6 +1,6 @@
 -- Bases: keys that rise, the first repeated key, and tags by their keys.
 use Rattle.std.proofs.Common.{◌≡◌, ℕ, suc, zero, ◌+◌, ◌<◌, ◌≤◌, Bool, true, false, not, cond, ◌&&◌, ◌||◌, List, [], ◌∷◌, length, take, drop}
-use Rattle.std.proofs.Common.{get_or, map, Some, Option, Result, Ok, Err, refl, ap, sym, ◌∙◌, arith, zero-add}
+use Rattle.std.proofs.Common.{get_or, map, Some, Option, refl, ap, sym, ◌∙◌, arith, zero-add}
 use Rattle.std.specs.Borrow.{Bor}
 use Rattle.std.specs.declared.cmp.Ordering.{Ordering}
 use Rattle.std.specs.declared.cmp.Ordering.TheVariants.{Less, Equal, Greater}
@@ -8,20 +8,16 @@ use Rattle.std.specs.BTreeMap.{BTreeMap, UpdatesBy, get_by, insert_entry}
 use Rattle.std.specs.Cmp.Lexicographic.{slice_cmp, nat_list_eq_equiv}
 use Rattle.std.specs.List.{list_all, list_any, range_with_len}
 use Rattle.std.specs.Option.{is_some}
-use Rattle.std.specs.Result.{IsErrAnd}
-use Rattle.std.specs.declared.borrow.CowStr.{CowStr}
-use Rattle.lp_values.specs.declared.error.Error.{Error}
 use Rattle.std.specs.Ordering.{is_lt, is_ge, match_ordering, nat_cmp}
 use Rattle.std.specs.Str.{bytes_eq}
 use Rattle.std.proofs.Common.{length-drop}
 use Rattle.std.proofs.lemmas.List.{map_more, length-map}
-use Rattle.std.proofs.lemmas.List.Folds.{list_any_more}
+use Rattle.std.proofs.lemmas.List.Folds.{list_all-map, list_any_more}
 use Rattle.std.proofs.lemmas.List.FromFn.{length-range_with_len, get_or-range_with_len}
 use Rattle.std.proofs.lemmas.List.Sums.{fold_push, position_or_len_is}
 use Rattle.std.proofs.lemmas.Map.Text.{btree_map_updates_str}
 use Rattle.lp_values.specs.declared.escaped.EscapedStr.{EscapedStr}
-use Rattle.lp_lines.specs.code.Bases.{Base, FailsForBase, GivesBase, base_by_key, base_of, base_text, in_order, is_borrowed}
-use Rattle.lp_lines.specs.code.Bases.{borrowed, owned, duplicate_key, by_key, entry_bytes, first_repeated, is_repeated_at}
+use Rattle.lp_lines.specs.code.Bases.{by_key, entry_bytes, first_repeated, is_repeated_at}
 use Rattle.lp_lines.specs.code.Bases.{is_ambiguous_tag, keys_of, is_strictly_sorted}
 use Rattle.lp_format.specs.code.Light.{is_single_tag}
 use Rattle.lp_lines.specs.code.Parsed.{tag_of}
@@ -157,47 +153,10 @@ entries_more old new k v tags i t within is key value goes_in so_far =
 -- the test of tags, as the code has it
 pub all_single : (tags : List (EscapedStr × EscapedStr))
     → list_all is_single_tag (map tag_of tags) ≡ list_all (λ t. is_single_tag (tag_of t)) tags
-all_single [] = refl
-all_single (t ∷ tags) = ap (λ (b : Bool). is_single_tag (tag_of t) && b) (all_single tags)
+all_single tags = list_all-map is_single_tag tag_of tags
 
 -- the test of ambiguous tags, as the code has it
 pub any_ambiguous : (tags : List (EscapedStr × EscapedStr))
     → list_any is_ambiguous_tag (map tag_of tags) ≡ list_any (λ t. is_ambiguous_tag (tag_of t)) tags
 any_ambiguous [] = refl
 any_ambiguous (t ∷ tags) = ap (λ (b : Bool). is_ambiguous_tag (tag_of t) || b) (any_ambiguous tags)
-
--- the rows: keys that do not rise
-pub base_falls : (raw : List ℕ) (m : Text) (tags : List (Pair Text Text))
-    → is_strictly_sorted (keys_of tags) ≡ false → base_of raw m tags ≡ base_by_key m.bytes tags
-unfolding base_of
-base_falls raw m tags falls = rw falls refl
-
--- keys that rise, and no copy
-pub base_part : (raw : List ℕ) (m : Text) (tags : List (Pair Text Text)) → is_strictly_sorted (keys_of tags) ≡ true
-    → (m.is_single && list_all is_single_tag tags) ≡ true
-    → base_of raw m tags ≡ borrowed raw
-unfolding base_of
-base_part raw m tags rise single = rw (rise, single) refl
-
--- keys that rise, and a copy
-pub base_owned : (raw : List ℕ) (m : Text) (tags : List (Pair Text Text)) → is_strictly_sorted (keys_of tags) ≡ true
-    → (m.is_single && list_all is_single_tag tags) ≡ false
-    → base_of raw m tags ≡ owned (base_text m.bytes (in_order tags))
-unfolding base_of
-base_owned raw m tags rise copied = rw (rise, copied) refl
-
--- a base by the order of the keys is no part of the input
-no_borrowed : (b : Bool) (text key : List ℕ) → is_borrowed (cond b (owned text) (duplicate_key key)) ≡ false
-no_borrowed true text key = refl
-no_borrowed false text key = refl
-
--- a base that is put in order is no part of the input
-pub by_key_is_no_part : (m : List ℕ) (tags : List (Pair Text Text)) → is_borrowed (base_by_key m tags) ≡ false
-unfolding base_by_key
-by_key_is_no_part m tags = no_borrowed _ _ _
-
--- an error that is passed on stays what it was
-pub base_fails : {A : Type 0} (r : Result (CowStr A) Error) (e : Error) (base : Base) → IsErrAnd r (λ d. d ≡ e)
-    → FailsForBase e base → GivesBase r base
-base_fails (Err d) e base same fails = rw same fails
-base_fails (Ok x) e base same fails = absurd same

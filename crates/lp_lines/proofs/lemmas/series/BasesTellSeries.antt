@@ -1,28 +1,26 @@
 -- Bases tell parsed series from one another.
-use Rattle.std.proofs.Common.{◌≡◌, ℕ, zero, suc, ◌+◌, ◌<◌, true, false, not, List, [], ◌∷◌, ◌++◌, ◌&&◌, length, drop, refl, sym, ap, ◌∙◌}
-use Rattle.std.proofs.Common.{subst, inl, inr, arith, append_assoc, add-one, Option, Some, None, Result, Ok}
+use Rattle.std.proofs.Common.{◌≡◌, ℕ, zero, suc, ◌+◌, true, false, not, List, [], ◌∷◌, ◌++◌, ◌&&◌, length, drop, refl, sym, ap, ◌∙◌}
+use Rattle.std.proofs.Common.{inl, inr, append_assoc, add-one, Some}
 use Rattle.std.specs.List.{flat_map, list_all, list_any}
 use Rattle.std.specs.Option.{is_some}
 use Rattle.std.proofs.lemmas.Bool.{and_parts, cases_Bool, eq-eqb, false≢true, not-true, or_cases, or_parts}
 use Rattle.std.proofs.lemmas.List.{take-append-drop}
 use Rattle.lp_lines.specs.laws.BaseLaws.{IsClearSeries, IsParsedSeries, ClearSeriesHaveBases, SameSeriesHaveOneBase}
 use Rattle.lp_lines.specs.laws.BaseLaws.{base_bytes, is_tag_one_escape, spelled_tags}
-use Rattle.lp_lines.specs.code.Bases.{owned, base_by_key, base_of, base_text, based_tag, by_key, first_repeated, in_order}
+use Rattle.lp_lines.specs.code.Bases.{base_by_key, base_of, base_text, based_tag, by_key, first_repeated, in_order}
 use Rattle.lp_lines.specs.code.Bases.{keys_of, is_strictly_sorted}
 use Rattle.lp_format.specs.code.Light.{is_single_tag}
 use Rattle.lp_format.specs.format.Bytes.{backslash, comma, equals, is_one_of}
 use Rattle.lp_format.specs.format.Escapes.{without_escapes}
-use Rattle.lp_format.specs.format.Lines.{byte, separated_list, some_tags, tag, tag_set}
-use Rattle.lp_format.specs.laws.Meanings.{SeparatedBy, SeparatedAfterComma}
+use Rattle.lp_format.specs.format.Lines.{tag}
+use Rattle.lp_format.specs.laws.Meanings.{SeparatedAfterComma}
 use Rattle.lp_format.specs.format.Names.{a_measurement, a_tag_key, a_tag_value, escapable, is_one_escape, is_shared, name}
 use Rattle.lp_format.specs.format.Names.{read_text, spelled, spelled_len}
 use Rattle.lp_format.specs.format.Points.{Pair}
-use Rattle.lp_format.specs.format.Readings.{Fault, Read, Reading, Text, fatal, miss, reads}
-use Rattle.lp_lines.proofs.lemmas.series.BaseLemmas.{base_falls, base_owned, base_part}
-use Rattle.lp_format.proofs.lemmas.meanings.JoinedMeaning.{the_most_is_read}
+use Rattle.lp_format.specs.format.Readings.{Text, reads}
 use Rattle.lp_format.proofs.lemmas.names.NameLemmas.{without_escapes_same, no_backslash}
-use Rattle.lp_values.proofs.lemmas.fields.ReadingLemmas.{byte_parts, name_parts, pair_parts}
-use Rattle.lp_format.proofs.lemmas.meanings.ShorterRests.{tag_no_longer}
+use Rattle.lp_values.proofs.lemmas.fields.ReadingLemmas.{name_parts, pair_parts}
+use Rattle.lp_events.proofs.lemmas.fields.ManyLemmas.{set_separated}
 use Rattle.lp_lines.proofs.lemmas.series.SortedTags.{by_key_in_order, by_key_same}
 
 -- a part of the text that is no escape alone is its own logical text
@@ -103,48 +101,6 @@ spells (t ∷ tags) text h apart single =
     t.key.bytes t.value.bytes
     h.2 p.text_is split more key value
 
--- the parts of what is answered
-ok_parts : (x y : Option (List (Pair Text Text))) (r s : List ℕ)
-    → (let a : Result (Read (Option (List (Pair Text Text)))) Fault = Ok (record { value = x; rest = r }) in a) ≡ Ok
-    (record { value = y; rest = s })
-    → (x ≡ y) × (r ≡ s)
-ok_parts x y r s e =
-    let same : (let a : Read (Option (List (Pair Text Text))) = record { value = x; rest = r } in
-    a) ≡ record { value = y; rest = s } = cc in
-    (ap (λ (a : Read (Option (List (Pair Text Text)))). a.value) same, ap (λ (a : Read (Option (List (Pair Text Text)))). a.rest) same)
-
--- joined tags come after commas, with the comma before them
-separated_after : (tags : List (Pair Text Text)) (text mark rest : List ℕ) → text ≡ comma ∷ mark → 0 < length tags
-    → SeparatedBy tag tags mark rest → SeparatedAfterComma tag tags text rest
-separated_after [] text mark rest e some h = absurd (omega arith)
-separated_after (t ∷ tags) text mark rest e some h = (mark, h.0, e, h.1, h.2)
-
--- the tags of a set are there, each after a comma, before what it leaves
-pub set_separated : (text left : List ℕ) (set : Option (List (Pair Text Text)))
-    → tag_set text ≡ Ok (record { value = set; rest = left }) → SeparatedAfterComma tag (some_tags set) text left
-set_separated text left set e = go (byte comma text) refl
-  where
-    -- a series without a comma has no tags
-    none : text ≡ left → None ≡ set → SeparatedAfterComma tag (some_tags set) text left
-    none is same = rw (← same) is
-
-    -- the tags of a series follow its first comma
-    after : (c : ℕ) (mark : List ℕ) (r : Reading (List (Pair Text Text))) → byte comma text ≡ reads c mark
-        → separated_list tag mark ≡ r → SeparatedAfterComma tag (some_tags set) text left
-    after c mark miss m j = absurd (let h = rw (m, j) at e in cc)
-    after c mark (fatal f) m j = absurd (let h = rw (m, j) at e in cc)
-    after c mark (reads xs rest) m j =
-        let same = ok_parts (Some xs) set rest left (rw (m, j) at e) in
-        let full = (the_most_is_read tag (λ t. (tag_no_longer t).holds) mark xs rest).0 j in
-        let separated = separated_after xs text mark rest (byte_parts comma text c mark m).1 full.some full.longest.separated in
-        rw (← same.0) (subst (λ (r : List ℕ). SeparatedAfterComma tag xs text r) same.1 separated)
-
-    -- the tags of a series are those that are read of its text
-    go : (r : Reading ℕ) → byte comma text ≡ r → SeparatedAfterComma tag (some_tags set) text left
-    go miss m = let same = ok_parts None set text left (rw m at e) in none same.1 same.0
-    go (fatal f) m = let same = ok_parts None set text left (rw m at e) in none same.1 same.0
-    go (reads c mark) m = after c mark (separated_list tag mark) m refl
-
 -- the tags of a parsed series come after its measurement
 pub tags_separated : {raw : List ℕ} {m : Text} {tags : List (Pair Text Text)} (h : IsParsedSeries raw m tags)
     → SeparatedAfterComma tag tags h.after []
@@ -171,24 +127,17 @@ raw_is raw m tags h single =
     split ∙ ap (λ (r : List ℕ). spelled a_measurement raw ++ r) more
     ∙ ap (λ (r : List ℕ). r ++ flat_map based_tag (in_order tags)) (sym first)
 
--- a base by the order of the keys, where none is repeated
-by_key_is : (m : List ℕ) (tags : List (Pair Text Text)) → first_repeated (keys_of tags) ≡ length tags
-    → base_by_key m tags ≡ owned (base_text m (by_key tags))
-unfolding base_by_key
-by_key_is m tags once = rw (eq-eqb (first_repeated (keys_of tags)) (length tags) once) refl
-
 -- the base of a clear series is its measurement and its tags by their keys
 pub base_is : (raw : List ℕ) (m : Text) (tags : List (Pair Text Text)) → IsClearSeries raw m tags
     → base_bytes (base_of raw m tags) ≡ Some (base_text m.bytes (by_key tags))
+unfolding base_of base_by_key
 base_is raw m tags h = elim (cases_Bool (is_strictly_sorted (keys_of tags))) [
-  | inr falls ↦ ap base_bytes (base_falls raw m tags falls ∙ by_key_is m.bytes tags h.repeats_none)
+  | inr falls ↦ rw (falls, eq-eqb (first_repeated (keys_of tags)) (length tags) h.repeats_none) refl
   | inl rise ↦
       let sorted = by_key_in_order tags h.repeats_none rise in
       elim (cases_Bool (m.is_single && list_all is_single_tag tags)) [
-        | inl single ↦ ap base_bytes (base_part raw m tags rise single)
-            ∙ ap (λ (x : List ℕ). Some x) (raw_is raw m tags h single ∙ ap (λ (es : List (List ℕ × List ℕ)). base_text m.bytes es) sorted)
-        | inr copied ↦ ap base_bytes (base_owned raw m tags rise copied)
-            ∙ ap (λ (es : List (List ℕ × List ℕ)). Some (base_text m.bytes es)) sorted
+        | inl single ↦ rw (rise, single, ← sorted) (ap (λ (x : List ℕ). Some x) (raw_is raw m tags h single))
+        | inr copied ↦ rw (rise, copied, sorted) refl
       ]
 ]
 

@@ -1,6 +1,6 @@
 use Rattle.std.proofs.Common.{rules, ◌≡◌, refl}
 use Rattle.lp_split.specs.code.Rules.{rules_of}
-use Rattle.lp_lines.proofs.lemmas.line.Fills.{fault_is_light, light_is_not_refused, line_answers}
+use Rattle.lp_lines.proofs.lemmas.line.Filled.{fault_is_light, light_is_not_refused, line_answers}
 use Rattle.lp_lines.proofs.line.fill.Goals as goal
 
 pub returns-in-Some-clause-light : goal.returns-in-Some-clause-light

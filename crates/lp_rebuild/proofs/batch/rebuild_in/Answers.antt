@@ -1,34 +1,27 @@
 use Rattle.influxdb_line_protocol.specs.code.Rules.{rules_of}
 use Rattle.std.proofs.Common.{arith, ap, refl, ◌∙◌}
-use Rattle.influxdb_line_protocol.specs.code.ReadInto.{item_in}
-use Rattle.lp_rebuild.proofs.RebuildLemmas.{SoFar-item, SoFar-end}
-use Rattle.lp_rebuild.proofs.BatchLemmas.{item_is_read, batch_reads_back}
+use Rattle.lp_rebuild.proofs.RebuildLemmas.{SoFar-piece, SoFar-end}
+use Rattle.lp_rebuild.proofs.BatchLemmas.{batch_reads_back}
 use Rattle.lp_rebuild.proofs.batch.rebuild_in.Goals as goal
 
-pub loop-answer-preserved : goal.loop-answer-preserved
-loop-answer-preserved c =
-    let h = c.loop-answer.invariant in
-    let s = c.in-Some.ensures.gives in
-    let item = item_in c.next_into.new.line c.in-Some.answer in
+pub loop-piece-preserved : goal.loop-piece-preserved
+loop-piece-preserved c =
+    let h = c.loop-piece.invariant in
+    let given = c.in-Some.ensures.steps in
+    let taken = c.in_ok-take_piece.ensures in
     record {
-      dialect = s.0 ∙ h.dialect;
-      room = omega (arith, c.in_ok-taken.ensures.counted, c.in-Some.ensures.fewer);
-      numbered = c.in_ok-taken.ensures.place ∙ h.numbered;
+      dialect = given.0 ∙ h.dialect;
+      room = omega (arith, taken.counted, (c.in-Some.ensures.goes.on tt).2);
+      numbered = taken.place ∙ h.numbered;
       done = λ others left.
-          SoFar-item (rules_of c.args.dialect) c.args.input.now c.loop-answer.lines item others c.loop-answer.so_far
-          c.take-taken.new.so_far h.dialect h.numbered h.done (s.1 others left) c.in_ok-taken.ensures.taken;
+          SoFar-piece (rules_of c.args.dialect) c.args.input.now c.in-Some.piece.now others c.loop-piece.so_far c.take_piece.new.so_far
+          h.numbered (h.done _ (given.1 others left)) taken.blank taken.taken;
     }
-
-pub take-taken-requires-clause-read : goal.take-taken-requires-clause-read
-take-taken-requires-clause-read c =
-    let item = item_in c.next_into.new.line c.in-Some.answer in
-    item_is_read c.items_are_answers.ensures.read c.loop-answer.lines c.next_into.new.self item c.in-Some.ensures.gives
 
 pub returns-clause-rebuilds : goal.returns-clause-rebuilds
 returns-clause-rebuilds c =
-    let h = c.loop-answer.invariant in
-    let s = c.in_default.ensures.gives.0 in
-    SoFar-end (rules_of c.args.dialect) c.args.input.now s.skipped c.loop-answer.so_far s.blank (h.done s.skipped s.left) _
+    SoFar-end (rules_of c.args.dialect) c.args.input.now c.loop-piece.so_far
+    (c.loop-piece.invariant.done _ c.in_default.ensures.steps.0) _
     refl (ap (λ v. v.items) c.into_bytes.ensures.value) refl refl
 
 pub returns-clause-reads_back : goal.returns-clause-reads_back

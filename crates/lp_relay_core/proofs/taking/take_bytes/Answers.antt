@@ -14,10 +14,10 @@ returns-then-is_empty-clause-taken c =
 
 pub returns-in-Ok-clause-taken : goal.returns-in-Ok-clause-taken
 returns-in-Ok-clause-taken c =
-    on_ok_weaker c.take_text.result
-    (takes_bytes (rules_of c.args.dialect) c.in-Ok.text.now c.args.piece.now (made c.args.so_far.now) (made c.take_text.new.so_far)
+    on_ok_weaker c.take_trimmed.result
+    (takes_bytes (rules_of c.args.dialect) c.in-Ok.text.now c.args.piece.now (made c.args.so_far.now) (made c.take_trimmed.new.so_far)
     c.in-Ok.ensures.cases.0 c.in-Ok.ensures.cases.1)
-    c.take_text.ensures.taken
+    c.take_trimmed.ensures.taken
 
 pub returns-in-Err-clause-taken : goal.returns-in-Err-clause-taken
 returns-in-Err-clause-taken c =

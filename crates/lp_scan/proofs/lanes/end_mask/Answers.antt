@@ -1,45 +1,29 @@
 -- A lane is set just where its byte ends a token of the kind or is a backslash, at each of the 256 bytes.
 use Rattle.std.proofs.Common.{◌≡◌, refl, arith, inl, inr}
-use Rattle.std.proofs.lemmas.Simd.{length-chunk}
-use lib.Lanes.{chunk}
+use Rattle.lp_format.specs.format.Bytes.{backslash, comma, newline, quote, space, tab}
 use Rattle.lp_scan.specs.code.Tokens.{is_end, stops_of}
 use Rattle.lp_scan.specs.declared.sets.TokenKind.TheVariants.{Measurement, TagKey, TagValue, String}
-use Rattle.lp_scan.proofs.lemmas.lanes.LaneLemmas.{lanes_looked, lanes_of, lanes_or}
-use Rattle.lp_scan.proofs.lemmas.scan.MaskLemmas.{mask_is}
+use Rattle.lp_scan.proofs.lemmas.lanes.LaneLemmas.{either, looked, mask_as, one}
 use Rattle.lp_scan.proofs.lanes.end_mask.Goals as goal
-use Rattle.lp_format.specs.format.Bytes.{backslash, comma, quote}
 
 pub returns-in-Measurement : goal.returns-in-Measurement
 returns-in-Measurement c =
-    let v = chunk c.args.at 16 c.args.bytes.now in
-    let long = length-chunk c.args.at 16 c.args.bytes.now c.requires in
-    let blanks = lanes_or _ _ v (lanes_of v 32 long) (lanes_of v 9 long) in
-    let stops = lanes_or _ _ v (lanes_or _ _ v blanks (lanes_of v 10 long)) (lanes_of v backslash long) in
-    rw c.in-Measurement.is
-    (mask_is (is_end (stops_of Measurement)) c.args.bytes.now c.args.at 16 c.requires (omega arith) _ _
-    (lanes_or _ _ v stops (lanes_or _ _ v (lanes_of v comma long) (lanes_of v 0 long))) (λ k. (c.type_inv.bytes k).fits) refl)
+    rw c.in-Measurement.is (mask_as
+    (either (either (either (either (one space) (one tab)) (one newline)) (one backslash)) (either (one comma) (one 0)))
+    c.args.bytes.now c.args.at 16 c.requires (omega arith) (is_end (stops_of Measurement)) (λ k. (c.type_inv.bytes k).fits) refl)
 
 pub returns-in-TagKey : goal.returns-in-TagKey
 returns-in-TagKey c =
-    let v = chunk c.args.at 16 c.args.bytes.now in
     let same : stops_of c.args.kind ≡ stops_of TagKey = elim c.in-TagKey.is [ inl e ↦ rw e refl | inr e ↦ rw e refl ] in
-    rw same
-    (mask_is (is_end (stops_of TagKey)) c.args.bytes.now c.args.at 16 c.requires (omega arith) _ _
-    (lanes_looked _ v c.by_low_half.ensures) (λ k. (c.type_inv.bytes k).fits) refl)
+    rw (same, c.by_low_half.ensures) (mask_as (looked _) c.args.bytes.now c.args.at 16 c.requires (omega arith) (is_end (stops_of TagKey))
+    (λ k. (c.type_inv.bytes k).fits) refl)
 
 pub returns-in-TagValue : goal.returns-in-TagValue
 returns-in-TagValue c =
-    let v = chunk c.args.at 16 c.args.bytes.now in
-    let long = length-chunk c.args.at 16 c.args.bytes.now c.requires in
-    rw c.in-TagValue.is
-    (mask_is (is_end (stops_of TagValue)) c.args.bytes.now c.args.at 16 c.requires (omega arith) _ _
-    (lanes_or _ _ v (lanes_looked _ v c.by_low_half-in-TagValue.ensures) (lanes_of v backslash long))
-    (λ k. (c.type_inv.bytes k).fits) refl)
+    rw (c.in-TagValue.is, c.by_low_half-in-TagValue.ensures) (mask_as (either (looked _) (one backslash)) c.args.bytes.now c.args.at 16
+    c.requires (omega arith) (is_end (stops_of TagValue)) (λ k. (c.type_inv.bytes k).fits) refl)
 
 pub returns-in-String : goal.returns-in-String
 returns-in-String c =
-    let v = chunk c.args.at 16 c.args.bytes.now in
-    let long = length-chunk c.args.at 16 c.args.bytes.now c.requires in
-    rw c.in-String.is
-    (mask_is (is_end (stops_of String)) c.args.bytes.now c.args.at 16 c.requires (omega arith) _ _
-    (lanes_or _ _ v (lanes_of v backslash long) (lanes_of v quote long)) (λ k. (c.type_inv.bytes k).fits) refl)
+    rw c.in-String.is (mask_as (either (one backslash) (one quote)) c.args.bytes.now c.args.at 16 c.requires (omega arith)
+    (is_end (stops_of String)) (λ k. (c.type_inv.bytes k).fits) refl)

@@ -1,42 +1,27 @@
 -- A lane is set just where its byte passes the test, at each of the 256 bytes.
 use Rattle.std.proofs.Common.{◌≡◌, refl, arith, inl, inr}
-use Rattle.std.proofs.lemmas.Simd.{length-chunk}
-use lib.Lanes.{chunk}
-use Rattle.lp_format.specs.format.Bytes.{backslash, comma, equals, is_one_of, quote}
+use Rattle.lp_format.specs.format.Bytes.{backslash, comma, equals, is_one_of, quote, space}
 use Rattle.lp_scan.specs.code.Tokens.{known_of}
 use Rattle.lp_scan.specs.declared.sets.TokenKind.TheVariants.{Measurement, TagKey, String}
-use Rattle.lp_scan.proofs.lemmas.lanes.LaneLemmas.{lanes_of, lanes_or}
-use Rattle.lp_scan.proofs.lemmas.scan.MaskLemmas.{mask_is}
+use Rattle.lp_scan.proofs.lemmas.lanes.LaneLemmas.{either, mask_as, one}
 use Rattle.lp_scan.proofs.lanes.known_in.Goals as goal
 
 pub returns-in-Measurement : goal.returns-in-Measurement
 returns-in-Measurement c =
-    let v = chunk c.args.at 64 c.args.bytes.now in
-    let long = length-chunk c.args.at 64 c.args.bytes.now c.requires in
-    let name = lanes_or _ _ v (lanes_of v comma long) (lanes_of v 32 long) in
-    rw c.in-Measurement.is
-    (mask_is (is_one_of (known_of Measurement)) c.args.bytes.now c.args.at 64 c.requires (omega arith) _ _
-    (lanes_or _ _ v name (lanes_of v backslash long)) (λ k. (c.type_inv.bytes k).fits) refl)
+    rw c.in-Measurement.is (mask_as (either (either (one comma) (one space)) (one backslash)) c.args.bytes.now c.args.at 64 c.requires
+    (omega arith) (is_one_of (known_of Measurement)) (λ k. (c.type_inv.bytes k).fits) refl)
 
 pub returns-in-TagKey : goal.returns-in-TagKey
 returns-in-TagKey c =
-    let v = chunk c.args.at 64 c.args.bytes.now in
-    let long = length-chunk c.args.at 64 c.args.bytes.now c.requires in
-    let name = lanes_or _ _ v (lanes_of v comma long) (lanes_of v 32 long) in
-    let lanes = lanes_or _ _ v name (lanes_or _ _ v (lanes_of v equals long) (lanes_of v backslash long)) in
     let same : known_of c.args.kind ≡ known_of TagKey = elim c.in-TagKey.is [
       | inl e ↦ rw e refl
       | inr (inl e) ↦ rw e refl
       | inr (inr e) ↦ rw e refl
     ] in
-    rw same
-    (mask_is (is_one_of (known_of TagKey)) c.args.bytes.now c.args.at 64 c.requires (omega arith) _ _ lanes
-    (λ k. (c.type_inv.bytes k).fits) refl)
+    rw same (mask_as (either (either (one comma) (one space)) (either (one equals) (one backslash))) c.args.bytes.now c.args.at 64
+    c.requires (omega arith) (is_one_of (known_of TagKey)) (λ k. (c.type_inv.bytes k).fits) refl)
 
 pub returns-in-String : goal.returns-in-String
 returns-in-String c =
-    let v = chunk c.args.at 64 c.args.bytes.now in
-    let long = length-chunk c.args.at 64 c.args.bytes.now c.requires in
-    rw c.in-String.is
-    (mask_is (is_one_of (known_of String)) c.args.bytes.now c.args.at 64 c.requires (omega arith) _ _
-    (lanes_or _ _ v (lanes_of v quote long) (lanes_of v backslash long)) (λ k. (c.type_inv.bytes k).fits) refl)
+    rw c.in-String.is (mask_as (either (one quote) (one backslash)) c.args.bytes.now c.args.at 64 c.requires (omega arith)
+    (is_one_of (known_of String)) (λ k. (c.type_inv.bytes k).fits) refl)

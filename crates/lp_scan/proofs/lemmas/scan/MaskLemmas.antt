@@ -1,15 +1,20 @@
--- Masks of loads: what is left of one without its lowest bits, and what its bits tell.
-use Rattle.std.proofs.Common.{◌≡◌, ℕ, zero, suc, ◌+◌, ◌-◌, ◌*◌, ◌/◌, ◌^◌, ◌<◌, ◌≤◌, Bool, true, cond, not, List, [], ◌∷◌, map}
-use Rattle.std.proofs.Common.{length, take, drop, sym, ap, ◌∙◌, arith, ◌%◌, ◌++◌, get_or, refl, inl, inr, take-append-drop}
+-- Masks of loads and of places: what is left of one without its lowest bits, and what its bits tell.
+use Rattle.std.proofs.Common.{◌≡◌, ℕ, zero, suc, ◌+◌, ◌-◌, ◌*◌, ◌/◌, ◌^◌, ◌<◌, ◌≤◌, Bool, true, cond, not, List, [], ◌∷◌, map, length, take}
+use Rattle.std.proofs.Common.{drop, sym, ap, ◌∙◌, arith, ◌%◌, ◌++◌, get_or, refl, inl, inr, take-append-drop, subst, ap₂}
 use native.Mathlib.Nat.{pow-suc, mul_comm, zero-div, div-one, div-div-eq-div-mul, add-mul-mod_self_right}
 use Rattle.std.proofs.lemmas.Simd.{ones-mask_l, length-chunk, first_set_mask_l, run_in_chunk_le, run_in_chunk_fails, run_in_chunk_stops}
-use Rattle.std.proofs.lemmas.Simd.{map-map, mask_l-mod, get_or-chunk}
+use Rattle.std.proofs.lemmas.Simd.{map-map, mask_l-mod, get_or-chunk, mask_l-lt}
 use Rattle.std.proofs.lemmas.List.{drop-drop, drop-take, drop-map, drop_all, length-map, length-take, get_or_past}
-use Rattle.std.specs.List.{count_by, prefix_len}
+use Rattle.std.specs.List.{count_by, prefix_len, range_with_len}
 use Rattle.std.specs.Prelude.{count_ones}
 use lib.Lanes.{chunk, mask_l, top}
 use Rattle.lp_scan.specs.code.Lanes.{first_set, mask_of, IsRunIn}
 use Rattle.std.proofs.lemmas.Bool.{cases_lt, agree_below, agree_below_at}
+use Rattle.std.specs.Int.{w64, bit_at, trailing_zeros}
+use Rattle.std.proofs.Math.Nat.{pow-le-pow_right}
+use Rattle.std.proofs.lemmas.Nat.Bits.{bit_at-trailing_zeros, bit_at_above}
+use Rattle.std.proofs.lemmas.List.FromFn.{length-map-range_with_len}
+use Rattle.lp_scan.specs.code.Scan.{mask_at}
 
 -- half of a mask is the mask without its lowest bit
 pub half : (b : Bool) (n : ℕ) → (cond b 1 0 + 2 * n) / 2 ≡ n
@@ -127,3 +132,35 @@ mask_mod ms k within =
     ∙ ap (λ (n : ℕ). mask_l (take k ms) + mask_l (drop k ms) * 2 ^ n) long in
     ap (λ (n : ℕ). n % 2 ^ k) whole ∙ add-mul-mod_self_right (mask_l (take k ms)) (mask_l (drop k ms)) (2 ^ k)
     ∙ mask_l-mod (take k ms) k (omega (arith, long))
+
+-- numbers from a place on, without the first ones
+drop_range : (k at n m : ℕ) → k + m ≡ n → drop k (range_with_len at n) ≡ range_with_len (at + k) m
+drop_range zero at n m e =
+    let same : n ≡ m = omega arith in
+    let place : at ≡ at + 0 = omega arith in
+    ap₂ (λ (a b : ℕ). range_with_len a b) place same
+drop_range (suc k) at zero m e = absurd (omega arith)
+drop_range (suc k) at (suc n) m e =
+    let place : at + 1 + k ≡ at + suc k = omega arith in
+    drop_range k (at + 1) n m (omega arith) ∙ ap (λ (a : ℕ). range_with_len a m) place
+
+-- a mask of so many places is below that power
+pub mask_fits : (p : ℕ → Bool) (at n : ℕ) → mask_at p at n < 2 ^ n
+mask_fits p at n = subst (λ (k : ℕ). mask_at p at n < 2 ^ k) (length-map-range_with_len p at n) (mask_l-lt (map p (range_with_len at n)))
+
+-- a mask without its lowest bits
+pub mask_after : (p : ℕ → Bool) (at n k m : ℕ) → k + m ≡ n → mask_at p at n / 2 ^ k ≡ mask_at p (at + k) m
+mask_after p at n k m e =
+    mask_l-drop (map p (range_with_len at n)) k
+    ∙ ap mask_l (drop-map p k (range_with_len at n) ∙ ap (map p) (drop_range k at n m e))
+
+-- the lowest bit of a mask below a power is below its exponent
+pub tz_below : (m n r : ℕ) → m < 2 ^ n → n ≤ 64 → 0 < m → r ≡ trailing_zeros w64 m → r < n
+tz_below m n r below few some lowest = elim (cases_lt r n) [
+  | inl inside ↦ inside
+  | inr past ↦
+      let fits : m < 2 ^ 64 = omega (arith, below, pow-le-pow_right {n = 2} (omega arith) few) in
+      let set : bit_at m r ≡ 1 = ap (bit_at m) lowest ∙ (bit_at-trailing_zeros w64 m some fits).1 in
+      let clear = bit_at_above m n r below past in
+      absurd (omega (arith, set, clear))
+]

@@ -1,21 +1,23 @@
--- What a walk knows, a byte further.
-use Rattle.std.proofs.Common.{◌≡◌, ◌≢◌, ℕ, ◌+◌, ◌<◌, ◌≤◌, Bool, true, cond, eqb, List, [], ◌∷◌, ◌++◌, ◌∙◌, ap, arith, add-zero, take}
-use Rattle.std.proofs.Common.{length, slice_index, inl, inr}
+-- What a walk knows of a piece, a byte further.
+use Rattle.std.proofs.Common.{◌≡◌, ◌≢◌, ℕ, ◌+◌, ◌<◌, ◌≤◌, Bool, true, false, cond, eqb, List, [], ◌∷◌, ◌++◌, ◌∙◌, ap, arith, add-zero, ◌&&◌}
+use Rattle.std.proofs.Common.{not, sym, subst, Some}
 use Rattle.std.specs.List.{count_by}
-use Rattle.std.proofs.lemmas.List.{take_more}
 use Rattle.std.proofs.lemmas.List.Sums.{sum_by-append}
-use Rattle.std.proofs.lemmas.Bool.{ne_eqb, cases_Bool}
+use Rattle.std.proofs.lemmas.Bool.{ne_eqb}
+use Rattle.std.proofs.lemmas.Bool.Decides.{nat_tests}
+use Rattle.std.specs.Prelude.{◌==◌, ◌||◌}
+use Rattle.lp_split.specs.code.Tracks.{IsCountOf, EndsIn, Steps}
+use Rattle.lp_format.specs.format.Escapes.{is_escaped_after, IsBareAfter}
+use Rattle.lp_format.specs.format.Piece.{HasMoreEquals}
+use Rattle.lp_format.proofs.lemmas.split.SplitBare.{IsHead-escaped, IsHead-bare, EndsPlain-escaped, EndsPlain-bare, EndsPlain-start}
+use Rattle.lp_format.proofs.lemmas.split.SplitBare.{EndsQuoted-escaped, EndsQuoted-bare, EndsQuoted-start, EndsQuoted-close}
+use Rattle.lp_format.specs.format.Bytes.{newline, quote, backslash}
+use Rattle.lp_split.specs.declared.split.resumed.Part.{Part}
+use Rattle.lp_split.specs.declared.split.tracked.Place.{Place}
+use Rattle.lp_format.proofs.lemmas.tokens.EscapeLemmas.{is_escaped_push}
 pub use Rattle.lp_split.specs.declared.split.resumed.Part.{Part}
 pub use Rattle.lp_split.specs.declared.split.resumed.Part.TheVariants.{Head, Plain, Quoted}
-use Rattle.lp_split.specs.code.Searches.{IsCountOf}
 pub use Rattle.lp_split.specs.code.Tracks.{EndsIn as IsIn}
-use Rattle.lp_format.specs.format.Escapes.{is_escaped_after, bare, IsBareAfter}
-use Rattle.lp_format.specs.format.Piece.{HasMoreEquals}
-use Rattle.lp_format.proofs.lemmas.split.SplitBare.{bare-push_escaped, bare-push_bare}
-use Rattle.lp_format.proofs.lemmas.split.SplitShape.{IsHead-escaped, IsHead-bare, EndsPlain-escaped, EndsPlain-bare}
-use Rattle.lp_format.proofs.lemmas.split.SplitShape.{EndsPlain-start, EndsQuoted-escaped, EndsQuoted-bare, EndsQuoted-start}
-use Rattle.lp_format.proofs.lemmas.split.SplitShape.{EndsQuoted-close}
-use Rattle.lp_format.specs.format.Bytes.{newline, quote}
 
 -- one byte more that is counted
 pub count_by-push : (p : ℕ → Bool) (xs : List ℕ) (b : ℕ) → count_by p (xs ++ b ∷ []) ≡ count_by p xs + cond (p b) 1 0
@@ -38,14 +40,6 @@ IsCountOf-other counted e c b h n m =
           (arith, count_by-push (λ x. eqb x 61) counted b, ap (λ (t : Bool). cond {A = ℕ} t 1 0) (ne_eqb b 61 n));
       commas_is = h.commas_is ∙ omega
           (arith, count_by-push (λ x. eqb x 44) counted b, ap (λ (t : Bool). cond {A = ℕ} t 1 0) (ne_eqb b 44 m));
-    }
-
--- the counts of joined bytes
-pub IsCountOf-append : (xs ys : List ℕ) (e c x y : ℕ) → IsCountOf xs e c → IsCountOf ys x y → IsCountOf (xs ++ ys) (e + x) (c + y)
-IsCountOf-append xs ys e c x y h k =
-    record {
-      equals_is = omega (arith, h.equals_is, k.equals_is, sum_by-append (λ b. cond (eqb b 61) 1 0) xs ys);
-      commas_is = omega (arith, h.commas_is, k.commas_is, sum_by-append (λ b. cond (eqb b 44) 1 0) xs ys);
     }
 
 -- more counted `=` than `,` are more of them
@@ -102,6 +96,15 @@ pub Plain-other : (e c : ℕ) (piece : List ℕ) (b : ℕ) → IsBareAfter piece
 Plain-other e c piece b f n m l q h =
     (h.0 ++ b ∷ [], EndsPlain-bare b h.1 f l (λ i. not_more h.0 e c h.2 (q i)), IsCountOf-other h.0 e c b h.2 n m)
 
+-- a bare byte that is no newline or quote stays in the plain stretch, and counts if it is `=` or `,`
+pub Plain-any : (e c : ℕ) (piece : List ℕ) (b : ℕ) → IsBareAfter piece → (b == newline || b == quote) ≡ false → IsIn Plain e c piece
+    → IsIn Plain (e + cond (eqb b 61) 1 0) (c + cond (eqb b 44) 1 0) (piece ++ b ∷ [])
+Plain-any e c piece b f none h = (
+  h.0 ++ b ∷ [],
+  EndsPlain-bare b h.1 f (grind (arith, nat_tests)) (λ q. absurd (grind (arith, nat_tests))),
+  IsCountOf-push h.0 e c b h.2,
+)
+
 -- a bare quote closes a string
 pub Quoted-closes : (e c : ℕ) (piece : List ℕ) → IsBareAfter piece → IsIn Quoted e c piece → IsIn Plain e c (piece ++ quote ∷ [])
 Quoted-closes e c piece f h = (h.0, EndsQuoted-close h.1 f, h.2)
@@ -111,13 +114,33 @@ pub Quoted-other : (e c : ℕ) (piece : List ℕ) (b : ℕ) → IsBareAfter piec
     → IsIn Quoted e c (piece ++ b ∷ [])
 Quoted-other e c piece b f n h = (h.0, EndsQuoted-bare b h.1 f n, h.2)
 
--- the bare bytes that pass a test, one byte further
-pub count_bare_more : (p : ℕ → Bool) (text : List ℕ) (i : ℕ) → i < length text
-    → count_by p (bare (take (i + 1) text)) ≡ count_by p (bare (take i text)) + cond
-    (is_escaped_after (take i text)) 0 (cond (p (slice_index text i)) 1 0)
-count_bare_more p text i h =
-    elim (cases_Bool (is_escaped_after (take i text))) [
-      | inl e ↦ rw (take_more text i 0 h, bare-push_escaped (take i text) (slice_index text i) e, e) (omega arith)
-      | inr e ↦ rw (take_more text i 0 h, bare-push_bare (take i text) (slice_index text i) e, e)
-          (count_by-push p (bare (take i text)) (slice_index text i))
-    ]
+-- a bare byte escapes the next one where it is a backslash
+escapes_next : (bytes : List ℕ) (b : ℕ) → IsBareAfter bytes → is_escaped_after (bytes ++ b ∷ []) ≡ (b == backslash)
+escapes_next bytes b h = is_escaped_push bytes b ∙ ap (λ (t : Bool). not t && b == backslash) h
+
+-- an escaped byte escapes nothing
+then_bare : (bytes : List ℕ) (b : ℕ) → is_escaped_after bytes ≡ true → IsBareAfter (bytes ++ b ∷ [])
+then_bare bytes b h = is_escaped_push bytes b ∙ ap (λ (t : Bool). not t && b == backslash) h
+
+-- a bare byte leads to another place, where it leads to this part and these counts
+pub bare_step : (place : Place) (part next to : Part) (b e c : ℕ) (flag : Bool) → place.part ≡ part → place.is_escaped ≡ false
+    → to ≡ next → flag ≡ (b == backslash)
+    → ((bytes : List ℕ) → IsBareAfter bytes → EndsIn part place.equals place.commas bytes → EndsIn next e c (bytes ++ b ∷ []))
+    → Steps place b (Some (record { part = to; is_escaped = flag; equals = e; commas = c }))
+bare_step place part next to b e c flag is_part is_bare is_next flag_is step = λ bytes h.
+    let bare_here : IsBareAfter bytes = h.escaped_is ∙ is_bare in
+    record {
+      escaped_is = escapes_next bytes b bare_here ∙ sym flag_is;
+      ends_in = subst (λ (p : Part). EndsIn p e c (bytes ++ b ∷ [])) (sym is_next)
+          (step bytes bare_here (subst (λ (p : Part). EndsIn p place.equals place.commas bytes) is_part h.ends_in));
+    }
+
+-- so does an escaped one, to the same part
+pub after_escape : (place : Place) (b : ℕ) → place.is_escaped ≡ true
+    → Steps place b (Some (record { part = place.part; is_escaped = false; equals = place.equals; commas = place.commas }))
+after_escape place b is_escaped = λ bytes h.
+    let escaped = h.escaped_is ∙ is_escaped in
+    record {
+      escaped_is = then_bare bytes b escaped;
+      ends_in = IsIn-escaped place.part place.equals place.commas bytes b escaped h.ends_in;
+    }

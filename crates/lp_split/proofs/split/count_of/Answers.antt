@@ -1,7 +1,7 @@
 use Rattle.std.proofs.Common.{◌==◌, ◌∙◌, ℕ, ◌+◌, ap, ap₂, sym, arith}
 use Rattle.std.specs.List.{count_by}
 use Rattle.std.proofs.lemmas.List.{take_rest}
-use Rattle.lp_split.proofs.lemmas.split.SplitCounts.{count_load, count_whole, load_at_most}
+use Rattle.lp_split.proofs.lemmas.split.SplitSearches.{count_load, count_whole, load_at_most}
 use Rattle.lp_split.proofs.split.count_of.Goals as goal
 
 pub loop-at-preserved : goal.loop-at-preserved

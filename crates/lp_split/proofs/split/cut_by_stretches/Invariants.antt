@@ -1,14 +1,20 @@
-use Rattle.std.proofs.Common.{◌≤◌, ◌-◌, drop, length}
+use Rattle.std.proofs.Common.{◌+◌, ◌-◌, ◌≤◌, length, take}
+use Rattle.lp_format.specs.format.Escapes.{IsBareAfter}
+use Rattle.lp_split.specs.declared.split.resumed.Part.TheVariants.{Plain}
 use Rattle.lp_split.specs.code.Ahead.{IsAhead}
-use Rattle.lp_split.specs.code.Searches.{IsPlainTo}
+use Rattle.lp_split.specs.code.Tracks.{EndsIn}
 use Rattle.lp_split.proofs.split.cut_by_stretches.Given as goal
 
-abbrev pub invariant-loop-equals : goal.invariant-loop-equals
-invariant-loop-equals l = record {
-  plain : IsPlainTo l.text l.equals l.commas l.at;
-  seen : IsAhead (drop l.at l.text) l.ahead;
+-- the place is a bare one of a plain stretch
+abbrev pub invariant-loop-ahead : goal.invariant-loop-ahead
+invariant-loop-ahead l = record {
+  within : l.at ≤ length l.text;
+  is_bare : IsBareAfter (take l.at l.text);
+  plain : EndsIn Plain l.equals l.commas (take l.at l.text);
+  seen : IsAhead l.text l.at l.ahead;
   counts : (l.equals ≤ l.at) × (l.commas ≤ l.at);
 }
 
-abbrev pub decreases-loop-equals : goal.decreases-loop-equals
-decreases-loop-equals l = length l.initial.text - l.at
+-- a load goes on where nothing was seen
+abbrev pub decreases-loop-ahead : goal.decreases-loop-ahead
+decreases-loop-ahead l = (length l.initial.text - l.at) + (length l.initial.text - l.at) + (1 - (l.ahead.end - l.at))

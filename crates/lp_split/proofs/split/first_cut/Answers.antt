@@ -1,5 +1,5 @@
 use Rattle.lp_split.specs.code.Rules.{rules_of}
-use Rattle.lp_split.proofs.lemmas.split.QuietCuts.{cut_at_newline, no_cut}
+use Rattle.lp_split.proofs.lemmas.split.FirstMarks.{cut_at_newline, no_cut}
 use Rattle.lp_split.proofs.split.first_cut.Goals as goal
 
 pub returns-in_err-found-clause-cut : goal.returns-in_err-found-clause-cut

@@ -1,8 +1,7 @@
 use Rattle.std.proofs.Common.{refl, arith}
 use Rattle.std.proofs.lemmas.List.{take_rest}
 use Rattle.memchr.specs.Find.{is_byte3}
-use Rattle.lp_split.proofs.lemmas.split.SeenMarks.{first_is, seen_later, none_seen}
-use Rattle.lp_split.proofs.lemmas.split.WideSearch.{found_after, none_after}
+use Rattle.lp_split.proofs.lemmas.split.FirstMarks.{first_is, seen_later, none_seen, found_after, none_after}
 use Rattle.lp_split.proofs.split.first_mark.Goals as goal
 use Rattle.lp_format.specs.format.Bytes.{backslash, quote}
 

@@ -1,24 +1,24 @@
 use Rattle.std.proofs.Common.{arith}
 use Rattle.std.specs.Prelude.{◌==◌}
 use Rattle.lp_scan.proofs.lemmas.scan.BareMasks.{at_most_one}
-use Rattle.lp_split.proofs.lemmas.split.AheadMasks.{load_ahead}
+use Rattle.lp_split.proofs.lemmas.split.SplitStretches.{ends_plain, load_shows}
 use Rattle.lp_split.proofs.split.load_ahead.Goals as goal
 use Rattle.lp_format.specs.format.Bytes.{comma, equals}
 
-pub overflow_add-result : goal.overflow_add-result
-overflow_add-result c =
+pub overflow_add-result-2 : goal.overflow_add-result-2
+overflow_add-result-2 c =
     let text = c.args.text.now in
-    let at = c.args.at in
-    let last = c.escapes_next.ensures text at (omega arith) c.requires.starts_bare c.requires.given in
-    omega (arith, at_most_one text at c.requires.room c.escapes_next.result last)
+    let last = c.escapes_next.ensures text c.args.at (omega arith) c.requires.starts_bare c.places_of-backslashes.ensures in
+    omega (arith, at_most_one text c.args.at c.requires.room c.escapes_next.result last)
 
-pub returns : goal.returns
-returns c =
+pub returns-clause-seen : goal.returns-clause-seen
+returns-clause-seen c =
     let text = c.args.text.now in
     let at = c.args.at in
     let is_bare = c.requires.starts_bare in
-    let given = c.requires.given in
-    load_ahead text at c.args.stops c.bare.result c.bare-2.result c.escapes_next.result c.requires.room is_bare c.requires.stops
-    (c.bare.ensures (λ b. b == equals) text at (omega arith) is_bare given c.places_of.ensures)
-    (c.bare-2.ensures (λ b. b == comma) text at (omega arith) is_bare given c.places_of-2.ensures)
+    let given = c.places_of-backslashes.ensures in
+    load_shows text at c.bare.result c.bare-2.result c.bare-3.result c.escapes_next.result c.requires.room is_bare
+    (c.bare.ensures ends_plain text at (omega arith) is_bare given c.stops_in.ensures)
+    (c.bare-2.ensures (λ b. b == equals) text at (omega arith) is_bare given c.places_of.ensures)
+    (c.bare-3.ensures (λ b. b == comma) text at (omega arith) is_bare given c.places_of-2.ensures)
     (c.escapes_next.ensures text at (omega arith) is_bare given)

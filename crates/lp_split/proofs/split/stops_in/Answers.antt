@@ -1,5 +1,6 @@
-use Rattle.lp_split.proofs.lemmas.split.SplitMasks.{mask_of_stops}
+use Rattle.std.proofs.Common.{arith}
+use Rattle.lp_scan.proofs.lemmas.lanes.LaneLemmas.{either, mask_in, one}
 use Rattle.lp_split.proofs.split.stops_in.Goals as goal
 
 pub returns : goal.returns
-returns c = mask_of_stops c.args.stops c.args.text.now c.args.at c.requires
+returns c = mask_in (either (one c.args.stops.first) (one c.args.stops.second)) c.args.text.now c.args.at 64 c.requires (omega arith)

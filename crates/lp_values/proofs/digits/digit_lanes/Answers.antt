@@ -1,4 +1,4 @@
-use Rattle.lp_values.proofs.lemmas.digits.LaneNumbers.{lanes_are_digits}
+use Rattle.lp_values.proofs.lemmas.digits.DigitLemmas.{lanes_are_digits}
 use Rattle.lp_values.proofs.digits.digit_lanes.Goals as goal
 
 pub returns-clause-value : goal.returns-clause-value

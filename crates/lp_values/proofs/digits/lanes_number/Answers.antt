@@ -1,7 +1,7 @@
 use Rattle.std.proofs.Common.{◌∙◌, get_or, ap, arith}
 use lib.LanesLaws.{pairs_below}
 use Rattle.std.specs.Simd.Lanes.{products}
-use Rattle.lp_values.proofs.lemmas.digits.LaneNumbers.{are_groups, by_groups, firsts, others}
+use Rattle.lp_values.proofs.lemmas.digits.DigitLemmas.{are_groups, by_groups, firsts, others}
 use Rattle.lp_values.proofs.digits.lanes_number.Goals as goal
 
 pub dot4-firsts : goal.dot4-firsts

@@ -1,5 +1,5 @@
 use Rattle.std.proofs.Common.{◌∙◌, ◌-◌}
-use Rattle.lp_values.proofs.lemmas.digits.LaneNumbers.{moved_below, moved_number}
+use Rattle.lp_values.proofs.lemmas.digits.DigitLemmas.{moved_below, moved_number}
 use Rattle.lp_values.proofs.digits.loaded_value.Goals as goal
 
 pub lanes_number-requires-clause-digits : goal.lanes_number-requires-clause-digits

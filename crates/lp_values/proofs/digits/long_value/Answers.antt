@@ -1,7 +1,6 @@
 use Rattle.std.proofs.Common.{◌≡◌, ◌∙◌, ◌-◌, length, sym, ap, subst, arith}
 use Rattle.std.specs.Str.Parse.{AllDigits, digits_value}
-use Rattle.lp_values.proofs.lemmas.digits.DigitLemmas.{few_fit}
-use Rattle.lp_values.proofs.lemmas.digits.LaneNumbers.{by_last, digits_parts, whole_lanes}
+use Rattle.lp_values.proofs.lemmas.digits.DigitLemmas.{few_fit, by_last, digits_parts, whole_lanes}
 use Rattle.lp_values.proofs.digits.long_value.Goals as goal
 
 pub value_after-requires-clause-digits : goal.value_after-requires-clause-digits

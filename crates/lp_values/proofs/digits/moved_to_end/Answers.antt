@@ -1,4 +1,4 @@
-use Rattle.lp_values.proofs.lemmas.digits.WindowLemmas.{window_fits, window_moves}
+use Rattle.lp_values.proofs.lemmas.digits.DigitLemmas.{window_fits, window_moves}
 use Rattle.lp_values.proofs.digits.moved_to_end.Goals as goal
 
 pub swizzle : goal.swizzle

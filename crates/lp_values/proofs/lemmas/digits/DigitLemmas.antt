@@ -1,21 +1,30 @@
--- Digits at the start of a text, by lanes and by groups.
+-- Digits at the start of a text, by lanes and by groups, and the window of the table that moves lanes to the end.
 use Rattle.std.proofs.Common.{◌≡◌, ◌∙◌, ℕ, suc, ◌+◌, ◌-◌, ◌*◌, ◌^◌, ◌%◌, ◌<◌, ◌≤◌, Bool, true, false, not, eqb, List, [], ◌∷◌, map, length}
-use Rattle.std.proofs.Common.{take, drop, get_or, refl, sym, ap, arith}
+use Rattle.std.proofs.Common.{take, drop, get_or, refl, sym, ap, arith, zero, ◌++◌, replicate, ap₂, subst, ◌/◌, cond, ◌||◌, inl, inr, w8}
 use Rattle.std.specs.Prelude.{◌==◌, if◌then◌else◌}
 use Rattle.std.specs.Int.{w64, trailing_zeros}
-use Rattle.std.specs.List.{prefix_len}
+use Rattle.std.specs.List.{prefix_len, range_with_len}
 use Rattle.std.specs.Char.{is_ascii_digit, digit_value}
 use Rattle.std.specs.Str.Parse.{AllDigits, digits_value, digits_value_after}
-use Rattle.std.proofs.lemmas.Bool.{agree_below, agree_below_at, ne_eqb}
-use Rattle.std.proofs.lemmas.Simd.{map-map, mask_l-mod, first_set_mask_l}
-use Rattle.std.proofs.lemmas.List.{length-map, length-take-le, take-append-drop}
+use Rattle.std.proofs.lemmas.Bool.{agree_below, agree_below_at, ne_eqb, cases_lt}
+use Rattle.std.proofs.lemmas.Simd.{map-map, mask_l-mod, first_set_mask_l, zip2_splat, Each1-from_get_or, SwzOk-from_Each1, get_or-chunk}
+use Rattle.std.proofs.lemmas.Simd.{get_or-replicate, get_or-swz_l, get_or-swz_l_below, length-chunk, length-replicate, length-swz_l, swz_l}
+use Rattle.std.proofs.lemmas.Simd.{SwzOk}
+use Rattle.std.proofs.lemmas.List.{length-map, length-take-le, take-append-drop, length-drop, take-map, take-take, take_all, ext_get_or}
+use Rattle.std.proofs.lemmas.List.{get_or_append_left, get_or-append_right, get_or-take, length-append}
 use Rattle.std.proofs.lemmas.List.Folds.{prefix_len-append}
 use Rattle.std.proofs.lemmas.Str.Parse.{digit_from_value}
 use Rattle.std.proofs.lemmas.Str.{digit_value_digit}
-use Rattle.std.proofs.lemmas.Int.Digits.{digits_value-lt}
-use Rattle.std.proofs.Math.Nat.{pow-le-pow_right}
-use lib.Lanes.{mask_l, top}
+use Rattle.std.proofs.lemmas.Int.Digits.{digits_value-lt, all_below_base_from_digits, digits_value_is, number_lt}
+use Rattle.std.proofs.Math.Nat.{pow-le-pow_right, mul_assoc, pow-succ'}
+use lib.Lanes.{mask_l, top, zip2, Each1, chunk}
 use Rattle.lp_format.specs.format.Values.{digits_len}
+use Rattle.std.specs.Int.Digits.{AllBelowBase, number_from_digits, number_from_digits_after}
+use Rattle.std.specs.Simd.Lanes.{dots, products}
+use Rattle.lp_format.specs.format.Bytes.{newline}
+use Rattle.std.proofs.lemmas.List.FromFn.{get_or-range_with_len}
+use lib.Dec.{T, ltb}
+use mir.Val.{zeroes}
 
 -- two tests that agree on each item pass fronts of one length
 prefix_same : (p q : ℕ → Bool) (xs : List ℕ) → ((k : ℕ) → k < length xs → p (get_or xs k 0) ≡ q (get_or xs k 0))
@@ -100,3 +109,227 @@ few_fit ds digits few =
     let bound : digits_value 10 ds < 10 ^ length ds = digits_value-lt 10 ds digits in
     let more : 10 ^ length ds ≤ 10 ^ 19 = pow-le-pow_right (omega arith) few in
     omega (arith, bound, more)
+
+-- what the first digit of each four is worth, by eights
+abbrev pub firsts : ℕ → List ℕ
+firsts zero = []
+firsts (suc k) = 125 ∷ (0 ∷ (0 ∷ (0 ∷ firsts k)))
+
+-- what the others are worth
+abbrev pub others : ℕ → List ℕ
+others zero = []
+others (suc k) = 0 ∷ (100 ∷ (newline ∷ (1 ∷ others k)))
+
+-- the numbers of each four digits
+abbrev pub groups : List ℕ → List ℕ
+groups [] = []
+groups (a ∷ []) = []
+groups (a ∷ (b ∷ [])) = []
+groups (a ∷ (b ∷ (c ∷ []))) = []
+groups (a ∷ (b ∷ (c ∷ (d ∷ ds)))) = (a * 1000 + b * 100 + c * 10 + d) ∷ groups ds
+
+-- what the code's sums over 4k digits are
+pub record AreGroups (k : ℕ) (ds : List ℕ) : Type 0 where
+  pub firsts_fit : Each1 (λ p. p ≤ 16320) (products ds (firsts k))
+  pub others_fit : Each1 (λ p. p ≤ 16320) (products ds (others k))
+  pub sums : zip2 {C = ℕ} (λ a b. (a + b) % 2 ^ 32) (zip2 {C = ℕ} (λ a b. (a * 2 ^ b) % 2 ^ 32) (dots ds (firsts k)) (replicate k 3))
+      (dots ds (others k)) ≡ groups ds
+  pub number : (n : ℕ) → number_from_digits_after 10 n ds ≡ number_from_digits_after 10000 n (groups ds)
+  pub below : AllBelowBase 10000 (groups ds)
+  pub size : length (groups ds) ≡ k
+
+-- the two sums over four digits are their number
+four_sum : (a b c d : ℕ) → a < 10 → b < 10 → c < 10 → d < 10
+    → ((a * 125 + b * 0 + (c * 0 + d * 0)) * 2 ^ 3 % 2 ^ 32 + (a * 0 + b * 100 + (c * 10 + d * 1))) % 2 ^ 32
+    ≡ a * 1000 + b * 100 + c * 10 + d
+four_sum a b c d ha hb hc hd = omega (arith, ha, hb, hc, hd)
+
+-- digits, four and four, make the numbers of their groups
+pub are_groups : (k : ℕ) (ds : List ℕ) → length ds ≡ 4 * k → AllBelowBase 10 ds → AreGroups k ds
+are_groups zero [] e small = record { firsts_fit = tt; others_fit = tt; sums = refl; number = λ n. refl; below = tt; size = refl }
+are_groups zero (a ∷ ds) e small = absurd (omega (arith, e))
+are_groups (suc k) [] e small = absurd (omega (arith, e))
+are_groups (suc k) (a ∷ []) e small = absurd (omega (arith, e))
+are_groups (suc k) (a ∷ (b ∷ [])) e small = absurd (omega (arith, e))
+are_groups (suc k) (a ∷ (b ∷ (c ∷ []))) e small = absurd (omega (arith, e))
+are_groups (suc k) (a ∷ (b ∷ (c ∷ (d ∷ ds)))) e (ha, (hb, (hc, (hd, small)))) =
+    let rest = are_groups k ds (omega (arith, e)) small in
+    let group = a * 1000 + b * 100 + c * 10 + d in
+    record {
+      firsts_fit = (omega (arith, ha), (omega arith, (omega arith, (omega arith, rest.firsts_fit))));
+      others_fit = (omega arith, (omega (arith, hb), (omega (arith, hc), (omega (arith, hd), rest.others_fit))));
+      sums = ap₂ (λ (x : ℕ) l. x ∷ l) (four_sum a b c d ha hb hc hd) rest.sums;
+      number = λ n. ap (λ m. number_from_digits_after 10 m ds) (omega arith) ∙ rest.number (n * 10000 + group);
+      below = (omega (arith, ha, hb, hc, hd), rest.below);
+      size = ap suc rest.size;
+    }
+
+-- four numbers below 10000, two and two
+two_and_two : (gs : List ℕ) → length gs ≡ 4
+    → (get_or gs 0 0 * 10000 + get_or gs 1 0) * 100000000 + (get_or gs 2 0 * 10000 + get_or gs 3 0) ≡ number_from_digits 10000 gs
+two_and_two [] e = absurd (omega (arith, e))
+two_and_two (a ∷ []) e = absurd (omega (arith, e))
+two_and_two (a ∷ (b ∷ [])) e = absurd (omega (arith, e))
+two_and_two (a ∷ (b ∷ (c ∷ []))) e = absurd (omega (arith, e))
+two_and_two (a ∷ (b ∷ (c ∷ (d ∷ [])))) e = omega arith
+two_and_two (a ∷ (b ∷ (c ∷ (d ∷ (f ∷ gs))))) e = absurd (omega (arith, e))
+
+-- the number of 16 digits, by those of each four, and how large it is
+pub by_groups : (ds : List ℕ) → AreGroups 4 ds
+    → ((get_or (groups ds) 0 0 * 10000 + get_or (groups ds) 1 0) * 100000000 + (get_or (groups ds) 2 0 * 10000 + get_or (groups ds) 3 0)
+    ≡ number_from_digits 10 ds) × (number_from_digits 10 ds < 10 ^ 16)
+by_groups ds are =
+    let same = are.number 0 in
+    let bound = number_lt 10000 (groups ds) are.below in
+    let size = ap (λ k. 10000 ^ k) are.size in
+    (two_and_two (groups ds) are.size ∙ sym same, omega (arith, same, bound, size))
+
+-- zeros before the digits change no number
+zeros_before : (k : ℕ) (ds : List ℕ) → number_from_digits 10 (replicate k 0 ++ ds) ≡ number_from_digits 10 ds
+zeros_before zero ds = refl
+zeros_before (suc k) ds = zeros_before k ds
+
+-- and are digits
+zeros_below : (k : ℕ) (ds : List ℕ) → AllBelowBase 10 ds → AllBelowBase 10 (replicate k 0 ++ ds)
+zeros_below zero ds small = small
+zeros_below (suc k) ds small = (omega arith, zeros_below k ds small)
+
+-- the lanes of digits that were moved to the end are digits
+pub moved_below : (k n : ℕ) (bytes lanes moved : List ℕ) → moved ≡ replicate k 0 ++ take n lanes
+    → take n lanes ≡ map digit_value (take n bytes) → AllDigits 10 (take n bytes) → AllBelowBase 10 moved
+moved_below k n bytes lanes moved is are digits =
+    let small = all_below_base_from_digits 10 (take n bytes) digits in
+    subst (AllBelowBase 10) (sym (is ∙ ap (λ l. replicate k 0 ++ l) are)) (zeros_below k _ small)
+
+-- and their number is what the bytes write
+pub moved_number : (k n : ℕ) (bytes lanes moved : List ℕ) → moved ≡ replicate k 0 ++ take n lanes
+    → take n lanes ≡ map digit_value (take n bytes) → number_from_digits 10 moved ≡ digits_value 10 (take n bytes)
+moved_number k n bytes lanes moved is are =
+    ap (number_from_digits 10) (is ∙ ap (λ l. replicate k 0 ++ l) are)
+    ∙ zeros_before k (map digit_value (take n bytes)) ∙ sym (digits_value_is 10 (take n bytes))
+
+-- a byte less the code of zero is the value of its digit
+less_zero : (ds : List ℕ) → AllDigits 10 ds → map (λ b. (b + (2 ^ 8 - 48)) % 2 ^ 8) ds ≡ map digit_value ds
+less_zero [] digits = refl
+less_zero (d ∷ ds) (small, digits) =
+    let range = digit_from_value d small in
+    ap₂ (λ (x : ℕ) l. x ∷ l) (omega (arith, digit_value_digit d range, range)) (less_zero ds digits)
+
+-- so the lanes of bytes less the code of zero are digits, as far as the bytes are
+pub lanes_are_digits : (n : ℕ) (bytes : List ℕ) → 16 ≤ length bytes → n ≤ 16 → AllDigits 10 (take n bytes)
+    → take n (zip2 {C = ℕ} (λ a b. (a + (2 ^ 8 - b)) % 2 ^ 8) (take 16 bytes) (replicate 16 48)) ≡ map digit_value (take n bytes)
+lanes_are_digits n bytes room few digits =
+    let less : ℕ → ℕ = λ b. (b + (2 ^ 8 - 48)) % 2 ^ 8 in
+    ap (take n) (zip2_splat (λ (a b : ℕ). (a + (2 ^ 8 - b)) % 2 ^ 8) (take 16 bytes) 16 48 (length-take-le 16 bytes room))
+    ∙ take-map less n (take 16 bytes) ∙ ap (map less) (take-take n 16 bytes few) ∙ less_zero (take n bytes) digits
+
+-- the lanes of 16 digits are digits, and their number is what those write
+pub whole_lanes : (bytes lanes : List ℕ) → length bytes ≡ 16 → length lanes ≡ 16 → AllDigits 10 bytes
+    → ((n : ℕ) → n ≤ 16 → AllDigits 10 (take n bytes) → take n lanes ≡ map digit_value (take n bytes))
+    → AllBelowBase 10 lanes × (number_from_digits 10 lanes ≡ digits_value 10 bytes)
+whole_lanes bytes lanes long wide digits are =
+    let all = take_all 16 bytes (omega (arith, long)) in
+    let every : AllDigits 10 (take 16 bytes) = subst (AllDigits 10) (sym all) digits in
+    let is = sym (take_all 16 lanes (omega (arith, wide))) in
+    let same = are 16 (omega arith) every in
+    (moved_below 0 16 bytes lanes lanes is same every, moved_number 0 16 bytes lanes lanes is same ∙ ap (digits_value 10) all)
+
+-- digits at the start and the rest are digits
+pub digits_parts : (n : ℕ) (ds : List ℕ) → AllDigits 10 ds → AllDigits 10 (take n ds) × AllDigits 10 (drop n ds)
+digits_parts zero ds digits = (tt, digits)
+digits_parts (suc n) [] digits = (tt, tt)
+digits_parts (suc n) (d ∷ ds) (small, digits) = let parts = digits_parts n ds digits in ((small, parts.0), parts.1)
+
+-- a number before digits is worth as many places as those are
+number_before : (m k : ℕ) (ds : List ℕ) → digits_value_after 10 (m + k) ds ≡ m * 10 ^ length ds + digits_value_after 10 k ds
+number_before m k [] = omega arith
+number_before m k (d ∷ ds) =
+    let places : m * 10 * 10 ^ length ds ≡ m * 10 ^ length (d ∷ ds) = mul_assoc m 10 (10 ^ length ds)
+    ∙ ap (λ x. m * x) (sym (pow-succ' 10 (length ds))) in
+    ap (λ x. digits_value_after 10 x ds) (omega arith) ∙ number_before (m * 10) (k * 10 + digit_value d) ds
+    ∙ ap (λ x. x + digits_value_after 10 (k * 10 + digit_value d) ds) places
+
+-- digits write on after others
+digits_append : (n : ℕ) (xs ys : List ℕ) → digits_value_after 10 n (xs ++ ys) ≡ digits_value_after 10 (digits_value_after 10 n xs) ys
+digits_append n [] ys = refl
+digits_append n (x ∷ xs) ys = digits_append (n * 10 + digit_value x) xs ys
+
+-- a number by its last 16 digits and those before
+pub by_last : (n : ℕ) (ds : List ℕ) → length ds ≡ n + 16
+    → digits_value 10 (take n ds) * 10 ^ 16 + digits_value 10 (drop n ds) ≡ digits_value 10 ds
+by_last n ds long =
+    let first = digits_value 10 (take n ds) in
+    let size : length (drop n ds) ≡ 16 = omega (arith, length-drop n ds, long) in
+    sym (
+    ap (digits_value 10) (sym (take-append-drop n ds)) ∙ digits_append 0 (take n ds) (drop n ds)
+    ∙ ap (λ x. digits_value_after 10 x (drop n ds)) (omega arith) ∙ number_before first 0 (drop n ds)
+    ∙ ap (λ x. first * 10 ^ x + digits_value 10 (drop n ds)) size)
+
+-- 16 places that make a lane 0, and then those of the 16 lanes
+abbrev pub moves : List ℕ
+moves = replicate 16 255 ++ range_with_len 0 16
+
+-- 16 of them, from one place on
+abbrev pub window : ℕ → List ℕ
+window n = chunk 0 16 (chunk n (32 - n) moves)
+
+-- a window has a place for each lane
+window_len : (n : ℕ) → n ≤ 16 → length (window n) ≡ 16
+window_len n fits = length-chunk 0 16 (chunk n (32 - n) moves) (omega (arith, length-chunk n (32 - n) moves (omega arith)))
+
+-- a place of a window is a place of the table
+window_at : (n i : ℕ) → n ≤ 16 → i < 16 → get_or (window n) i 0 ≡ get_or moves (n + i) 0
+window_at n i fits within =
+    get_or-take 16 (chunk n (32 - n) moves) i 0 within ∙ get_or-chunk n (32 - n) moves i 0 (omega (arith, within, fits))
+
+-- `swizzle_dyn` takes each of its entries
+pub window_fits : (n : ℕ) → n ≤ 16 → SwzOk w8 16 16 0 (window n)
+window_fits n fits =
+    let size = window_len n fits in
+    SwzOk-from_Each1 w8 16 1 16 0 (window n) refl (omega (arith, size))
+    (Each1-from_get_or (λ j. T (zeroes 16 w8 j || ltb j 16)) (window n) 0 (λ i lt.
+    let at = window_at n i fits (omega (arith, lt, size)) in
+    let fine = agree_below_at (λ k. zeroes 16 w8 (get_or moves k 0) || ltb (get_or moves k 0) 16) (λ k. true) 32 (n + i) refl
+    (omega (arith, lt, size, fits)) in
+    subst T (sym (ap (λ j. zeroes 16 w8 j || ltb j 16) at ∙ fine)) tt))
+
+-- a lane before those that were moved is 0
+moved_front : (n i : ℕ) (lanes : List ℕ) → n ≤ 16 → n + i < 16 → get_or (swz_l w8 16 lanes 0 (window n)) i 0 ≡ 0
+moved_front n i lanes fits before =
+    let size = window_len n fits in
+    let at : get_or (window n) i 0 ≡ 255 = window_at n i fits (omega (arith, before))
+    ∙ get_or_append_left (replicate 16 255) (range_with_len 0 16) 0 (n + i) before ∙ get_or-replicate 16 (n + i) 255 0 before in
+    get_or-swz_l w8 16 lanes 0 (window n) i (omega (arith, size, before))
+    ∙ ap (λ j. cond (zeroes 16 w8 j) 0 (get_or lanes (16 * ((0 + i) / 16) + j) 0)) at
+
+-- the others are those from the first on
+moved_back : (n i : ℕ) (lanes : List ℕ) → n ≤ 16 → i < 16 → 16 ≤ n + i
+    → get_or (swz_l w8 16 lanes 0 (window n)) i 0 ≡ get_or lanes (n + i - 16) 0
+moved_back n i lanes fits within after =
+    let size = window_len n fits in
+    let at : get_or (window n) i 0 ≡ n + i - 16 = window_at n i fits within
+    ∙ get_or-append_right (replicate 16 255) (range_with_len 0 16) 16 (n + i) 0 refl after
+    ∙ get_or-range_with_len 0 16 (n + i - 16) 0 (omega (arith, fits, within)) ∙ omega arith in
+    get_or-swz_l_below w8 16 lanes 0 (window n) i (omega (arith, size, within)) (omega (arith, at, fits, within))
+    ∙ ap (λ j. get_or lanes j 0) (omega (arith, at, within))
+
+-- so the window of n moves the first n lanes to the end, after zeros
+pub window_moves : (n : ℕ) (lanes : List ℕ) → n ≤ 16 → length lanes ≡ 16
+    → swz_l w8 16 lanes 0 (window n) ≡ replicate (16 - n) 0 ++ take n lanes
+window_moves n lanes fits long =
+    let zeros : List ℕ = replicate (16 - n) 0 in
+    let some : length zeros ≡ 16 - n = length-replicate (16 - n) 0 in
+    let rest = length-take-le n lanes (omega (arith, fits, long)) in
+    let size : length (swz_l w8 16 lanes 0 (window n)) ≡ 16 = length-swz_l w8 16 lanes 0 (window n) ∙ window_len n fits in
+    ext_get_or 0 (swz_l w8 16 lanes 0 (window n)) (zeros ++ take n lanes)
+    (omega (arith, size, length-append zeros (take n lanes), some, rest, fits)) (λ i lt.
+    elim (cases_lt (n + i) 16) [
+      | inl before ↦
+          let left = get_or_append_left zeros (take n lanes) 0 i (omega (arith, some, before)) in
+          moved_front n i lanes fits before ∙ sym (left ∙ get_or-replicate (16 - n) i 0 0 (omega (arith, before)))
+      | inr after ↦
+          let right = get_or-append_right zeros (take n lanes) (16 - n) i 0 some (omega (arith, after)) in
+          let taken = get_or-take n lanes (i - (16 - n)) 0 (omega (arith, lt, size, after, fits)) in
+          moved_back n i lanes fits (omega (arith, lt, size)) after
+          ∙ sym (right ∙ taken ∙ ap (λ j. get_or lanes j 0) (omega (arith, after, fits)))
+    ])

@@ -1,16 +1,22 @@
--- The kinds of token.
-use Rattle.std.proofs.Common.{◌≡◌, ℕ, ◌<◌, Bool, List, [], ◌∷◌, drop, true, false, refl, sym, ◌∙◌, arith}
-use Rattle.std.specs.Prelude.{◌==◌}
-use Rattle.std.proofs.lemmas.Bool.{and_parts, or_right}
-use Rattle.std.proofs.lemmas.Grind.{common_steps}
+-- The kinds of token, and the logical text of a token, stretch by stretch.
+use Rattle.std.proofs.Common.{◌≡◌, ℕ, ◌<◌, Bool, List, [], ◌∷◌, drop, true, false, refl, sym, ◌∙◌, arith, ◌≢◌, suc, ◌+◌, ◌-◌, ◌≤◌, ◌++◌}
+use Rattle.std.proofs.Common.{take, length, slice_index, ap, ap₂, inl, inr, append_assoc, length-append, add-one, add-zero, drop-cons}
+use Rattle.std.specs.Prelude.{◌==◌, ◌&&◌}
+use Rattle.std.proofs.lemmas.Bool.{and_parts, or_right, cases_Bool, eq-eqb, eqb-true, ne_eqb, or_parts}
 use Rattle.lp_scan.specs.declared.sets.TokenKind.{TokenKind}
 use Rattle.lp_scan.specs.declared.sets.TokenKind.TheVariants.{Measurement, TagKey, TagValue, FieldKey, String}
 use Rattle.lp_format.specs.format.Bytes.{backslash, is_one_of}
 use Rattle.lp_format.specs.format.Escapes.{without_escapes}
-use Rattle.lp_scan.specs.code.Tokens.{stops_of, known_of}
+use Rattle.lp_scan.specs.code.Tokens.{stops_of, known_of, is_plain}
 use Rattle.lp_format.specs.format.Names.{is_one_escape, is_shared, read_text}
 use Rattle.lp_format.specs.format.Readings.{Text}
 use Rattle.lp_format.proofs.lemmas.names.NameLemmas.{no_backslash, without_escapes_same}
+use Rattle.std.specs.Str.{bytes_eq}
+use Rattle.std.proofs.lemmas.Slice.Eq.{bytes_eq-Decides}
+use Rattle.std.proofs.lemmas.List.{append-nil, drop_all, drop_at, drop-drop, get_or-drop, length-drop, length-take-le, take-append-drop}
+use Rattle.std.proofs.lemmas.List.{take_at}
+use Rattle.lp_scan.specs.code.Lanes.{IsRunAt}
+use Rattle.lp_values.proofs.lemmas.tokens.WalkLemmas.{run_is_plain}
 
 -- a backslash ends no token
 pub backslash_goes_on : (kind : TokenKind) → stops_of kind backslash ≡ false
@@ -27,14 +33,6 @@ zero_is_not_known TagKey = refl
 zero_is_not_known TagValue = refl
 zero_is_not_known FieldKey = refl
 zero_is_not_known String = refl
-
--- a byte that a backslash may escape is a character
-pub known_is_ascii : (kind : TokenKind) (b : ℕ) → is_one_of (known_of kind) b ≡ true → b < 128
-known_is_ascii Measurement b h = grind (arith, common_steps)
-known_is_ascii TagKey b h = grind (arith, common_steps)
-known_is_ascii TagValue b h = grind (arith, common_steps)
-known_is_ascii FieldKey b h = grind (arith, common_steps)
-known_is_ascii String b h = grind (arith, common_steps)
 
 -- two texts with the same bytes and the same variant
 same_text : (a b : List ℕ) (s t : Bool) → a ≡ b → s ≡ t → let x : Text = record { bytes = a; is_single = s } in
@@ -64,3 +62,181 @@ read_plain known text part none e =
     same_text part (without_escapes known text) true (is_shared known text)
     (e ∙ sym (without_escapes_same known text (no_backslash text none)))
     (sym (rw none (or_right (is_one_escape known text) true refl)))
+
+-- a backslash may be escaped in each kind of token
+backslash_is_known : (kind : TokenKind) → is_one_of (known_of kind) backslash ≡ true
+backslash_is_known Measurement = refl
+backslash_is_known TagKey = refl
+backslash_is_known TagValue = refl
+backslash_is_known FieldKey = refl
+backslash_is_known String = refl
+
+-- a byte that may not be escaped is no backslash
+other_byte : (kind : TokenKind) (c : ℕ) → is_one_of (known_of kind) c ≡ false → (c == backslash) ≡ false
+other_byte kind c h = elim (cases_Bool (c == backslash)) [
+  | inr other ↦ other
+  | inl same ↦ absurd (let e = eqb-true c backslash same in let k = backslash_is_known kind in let l = rw e at h in cc)
+]
+
+-- a known escape stands for its second byte
+byte_of_escape : (kind : TokenKind) (text : List ℕ)
+    → (slice_index text 0 == backslash && is_one_of (known_of kind) (slice_index text 1)) ≡ true
+    → without_escapes (known_of kind) text ≡ slice_index text 1 ∷ without_escapes (known_of kind) (drop 2 text)
+unfolding without_escapes
+byte_of_escape kind [] h = cc
+byte_of_escape kind (b ∷ []) h =
+    let parts = and_parts (b == backslash) (is_one_of (known_of kind) 0) h in
+    let none = zero_is_not_known kind in
+    absurd (let k = parts.1 in cc)
+byte_of_escape kind (b ∷ c ∷ text) h =
+    let parts = and_parts (b == backslash) (is_one_of (known_of kind) c) h in
+    rw (parts.0, parts.1) refl
+
+-- a byte that is no backslash stands for itself
+plain_byte : (known : List ℕ) (c : ℕ) (text : List ℕ) → (c == backslash) ≡ false
+    → without_escapes known (c ∷ text) ≡ c ∷ without_escapes known text
+unfolding without_escapes
+plain_byte known c [] h = refl
+plain_byte known c (d ∷ text) h = rw h refl
+
+-- bytes without a backslash stand for themselves
+run_itself : (known front back : List ℕ) → is_one_of front backslash ≡ false
+    → without_escapes known (front ++ back) ≡ front ++ without_escapes known back
+run_itself known [] back h = refl
+run_itself known (b ∷ front) back h =
+    let parts = or_parts (b == backslash) (is_one_of front backslash) h in
+    plain_byte known b (front ++ back) parts.0 ∙ ap (λ l. b ∷ l) (run_itself known front back parts.1)
+
+-- any other byte stands for itself
+byte_itself : (kind : TokenKind) (b : ℕ) (text : List ℕ)
+    → (b == backslash && is_one_of (known_of kind) (slice_index text 0)) ≡ false
+    → without_escapes (known_of kind) (b ∷ text) ≡ b ∷ without_escapes (known_of kind) text
+unfolding without_escapes
+byte_itself kind b [] h = refl
+byte_itself kind b (c ∷ text) h = elim (cases_Bool (b == backslash)) [
+  | inr other ↦ rw other refl
+  | inl slash ↦ (
+      let unknown : is_one_of (known_of kind) c ≡ false = rw slash at h in
+      rw (plain_byte (known_of kind) c text (other_byte kind c unknown), slash, unknown) refl
+      )
+]
+
+-- so does the first byte of a text
+byte_of_itself : (kind : TokenKind) (text : List ℕ) → 0 < length text
+    → (slice_index text 0 == backslash && is_one_of (known_of kind) (slice_index text 1)) ≡ false
+    → without_escapes (known_of kind) text ≡ slice_index text 0 ∷ without_escapes (known_of kind) (drop 1 text)
+byte_of_itself kind [] some h = absurd (omega arith)
+byte_of_itself kind (b ∷ text) some h = byte_itself kind b text h
+
+-- a byte of a text from a place on, and what comes after it
+from_place : (known text : List ℕ) (at n : ℕ) → slice_index (drop at text) n ∷ without_escapes known (drop (n + 1) (drop at text))
+    ≡ slice_index text (at + n) ∷ without_escapes known (drop (at + n + 1) text)
+from_place known text at n =
+    ap₂ (λ (b : ℕ) (l : List ℕ). b ∷ without_escapes known l) (get_or-drop at text n 0)
+    (drop-drop (n + 1) at text ∙ ap (λ (k : ℕ). drop k text) (omega arith))
+
+-- from the place of a known escape on, the logical text begins with its second byte
+pub escape_at : (kind : TokenKind) (text : List ℕ) (at : ℕ)
+    → (slice_index (drop at text) 0 == backslash && is_one_of (known_of kind) (slice_index (drop at text) 1)) ≡ true
+    → without_escapes (known_of kind) (drop at text) ≡ slice_index text (at + 1) ∷ without_escapes (known_of kind) (drop (at + 1 + 1) text)
+escape_at kind text at h = byte_of_escape kind (drop at text) h ∙ from_place (known_of kind) text at 1
+
+-- from any other place on, with its byte
+pub byte_at : (kind : TokenKind) (text : List ℕ) (at : ℕ) → at < length text
+    → (slice_index (drop at text) 0 == backslash && is_one_of (known_of kind) (slice_index (drop at text) 1)) ≡ false
+    → without_escapes (known_of kind) (drop at text) ≡ slice_index text at ∷ without_escapes (known_of kind) (drop (at + 1) text)
+byte_at kind text at within h =
+    byte_of_itself kind (drop at text) (omega (arith, length-drop at text)) h ∙ rw add-zero at (from_place (known_of kind) text at 0)
+
+-- bytes up to a backslash stand for themselves
+run_stays : (known text : List ℕ) (at end : ℕ) → IsRunAt (is_plain (λ b. false)) text at end
+    → without_escapes known (drop at text) ≡ take (end - at) (drop at text) ++ without_escapes known (drop end text)
+run_stays known text at end run =
+    let rest = drop at text in
+    let place : at + (end - at) ≡ end = omega (arith, run.ordered) in
+    let own : IsRunAt (is_plain (λ b. false)) rest 0 (end - at) = record {
+      ordered = omega arith;
+      within = omega (arith, length-drop at text, run.within);
+      passes = λ k low high. rw (get_or-drop at text k 0) (run.passes (at + k) (omega arith) (omega (arith, place, high)));
+      stops = λ more. rw (get_or-drop at text (end - at) 0, place) (run.stops (omega (arith, more, length-drop at text, place)));
+    } in
+    ap (without_escapes known) (sym (take-append-drop (end - at) rest))
+    ∙ run_itself known (take (end - at) rest) (drop (end - at) rest) (run_is_plain known (λ b. false) rest (end - at) own)
+    ∙ ap (λ l. take (end - at) rest ++ without_escapes known l) (drop-drop (end - at) at text ∙ ap (λ (k : ℕ). drop k text) place)
+
+-- so a byte and the bytes after it, up to a backslash, are a stretch
+pub stretch_stays : (known text : List ℕ) (from end : ℕ) → from < length text → IsRunAt (is_plain (λ b. false)) text (from + 1) end
+    → slice_index text from ∷ without_escapes known (drop (from + 1) text)
+    ≡ take (end - from) (drop from text) ++ without_escapes known (drop end text)
+stretch_stays known text from end within run =
+    let size : end - from ≡ suc (end - (from + 1)) = omega (arith, run.ordered) in
+    let here : drop from text ≡ slice_index text from ∷ drop (from + 1) text = rw add-one (drop-cons text from 0 within) in
+    rw (size, here) (ap (λ l. slice_index text from ∷ l) (run_stays known text (from + 1) end run))
+
+-- nothing is left after the end of a spelling
+pub nothing_left : (known text : List ℕ) (at : ℕ) → length text ≤ at → without_escapes known (drop at text) ≡ []
+unfolding without_escapes
+nothing_left known text at past = ap (without_escapes known) (drop_all at text past)
+
+-- a stretch was put: what was put and what is left make the whole as before, and what comes after it is as it was
+pub record IsPut (whole left start to : List ℕ) (place : ℕ) : Type 0 where
+  pub within : place ≤ length to
+  pub front : take place to ++ left ≡ whole
+  pub back : drop place to ≡ drop place start
+  pub len : length to ≡ length start
+
+-- there is room for the next stretch
+pub room_left : (whole left start to stretch after : List ℕ) (place : ℕ) → IsPut whole left start to place → length whole ≤ length start
+    → left ≡ stretch ++ after → place + length stretch ≤ length to
+room_left whole left start to stretch after place was fits parts =
+    omega (
+      arith,
+      ap length was.front,
+      ap length parts,
+      length-append (take place to) left,
+      length-append stretch after,
+      length-take-le place to was.within,
+      was.len,
+    )
+
+-- so it is put
+pub stretch_put : (whole left start to stretch after new : List ℕ) (place n : ℕ) → IsPut whole left start to place
+    → left ≡ stretch ++ after → length stretch ≡ n → place + n ≤ length to
+    → new ≡ take place to ++ stretch ++ drop (place + length stretch) to → IsPut whole after start new (place + n)
+stretch_put whole left start to stretch after new place n was parts size room is =
+    let front : List ℕ = take place to ++ stretch in
+    let back : List ℕ = drop (place + length stretch) to in
+    let len : length front ≡ place + n = omega (arith, length-append (take place to) stretch, length-take-le place to was.within, size) in
+    let all = ap length is ∙ length-append front back in
+    record {
+      within = omega (arith, all, len);
+      front = ap (λ l. l ++ after) (ap (take (place + n)) is ∙ take_at front back (place + n) len)
+          ∙ append_assoc (take place to) stretch after ∙ ap (λ l. take place to ++ l) (sym parts) ∙ was.front;
+      back = ap (drop (place + n)) is ∙ drop_at front back (place + n) len ∙ ap (λ (k : ℕ). drop (place + k) to) size
+          ∙ sym (drop-drop n place to) ∙ ap (drop n) was.back ∙ drop-drop n place start;
+      len = omega (arith, all, len, length-drop (place + length stretch) to, was.len, room, size);
+    }
+
+-- once nothing is left, the whole is put
+pub whole_put : (whole start to : List ℕ) (place : ℕ) → IsPut whole [] start to place → to ≡ whole ++ drop (length whole) start
+whole_put whole start to place was =
+    let front : take place to ≡ whole = sym (append-nil (take place to)) ∙ was.front in
+    let len : length whole ≡ place = omega (arith, ap length front, length-take-le place to was.within) in
+    sym (take-append-drop place to) ∙ ap₂ (λ (a b : List ℕ). a ++ b) front (was.back ∙ ap (λ (k : ℕ). drop k start) (sym len))
+
+-- two texts that begin with the same stretch are the same if the others are
+pub same_after : (stretch xs ys : List ℕ) → bytes_eq (stretch ++ xs) (stretch ++ ys) ≡ bytes_eq xs ys
+same_after [] xs ys = refl
+same_after (b ∷ stretch) xs ys = rw (eq-eqb b b refl) (same_after stretch xs ys)
+
+-- a text that does not begin with a stretch is none that does
+pub other_front : (stretch xs ys : List ℕ) → ((rest : List ℕ) → ys ≢ stretch ++ rest) → bytes_eq (stretch ++ xs) ys ≡ false
+other_front stretch xs ys other = elim (cases_Bool (bytes_eq (stretch ++ xs) ys)) [
+  | inl same ↦ absurd (other xs (sym ((bytes_eq-Decides (stretch ++ xs) ys).0 same)))
+  | inr differs ↦ differs
+]
+
+-- an empty text is the same as a text without bytes
+pub nothing_same : (ys : List ℕ) → bytes_eq [] ys ≡ (length ys == 0)
+nothing_same [] = refl
+nothing_same (y ∷ ys) = sym (ne_eqb (length (y ∷ ys)) 0 (λ e. absurd (omega (arith, e))))

@@ -1,24 +1,36 @@
-use Rattle.std.proofs.Common.{arith, length, ◌≤◌}
-use Rattle.std.proofs.lemmas.Grind.{common_steps}
-use Rattle.lp_format.specs.format.Escapes.{without_escapes}
+use Rattle.std.proofs.Common.{◌≡◌, ◌+◌, ◌-◌, ◌≤◌, length, take, drop, refl, arith}
+use Rattle.std.proofs.lemmas.List.{length-drop, length-take-le}
 use Rattle.lp_scan.specs.code.Tokens.{known_of}
-use Rattle.lp_values.proofs.lemmas.spelled.SpelledRuns.{room_left, step_back, step_front}
+use Rattle.lp_values.proofs.lemmas.tokens.TokenLemmas.{nothing_left, room_left, stretch_put, whole_put}
 use Rattle.lp_values.proofs.spelled.put_front.Goals as goal
 
-pub loop-byte-preserved : goal.loop-byte-preserved
-loop-byte-preserved c =
-    let known = known_of c.args.kind in
-    let whole = without_escapes known c.args.spelling.now in
-    let put = c.put_plain-run-in-Some.ensures in
-    let was = c.loop-byte.invariant in
-    let fits : length whole ≤ length c.loop-byte.to = omega (arith, was.len, c.requires) in
-    let room = room_left known whole c.loop-byte.rest.now c.in-Some.after.now c.loop-byte.to c.in-Some.byte c.loop-byte.place fits
-    was.front c.in-Some.ensures.value in
+pub loop-at-init : goal.loop-at-init
+loop-at-init c = record {
+  within = omega arith;
+  put = record { within = omega arith; front = refl; back = refl; len = refl };
+}
+
+pub put_run-requires : goal.put_run-requires
+put_run-requires c =
+    room_left _ _ c.args.to.now c.loop-at.to _ _ c.loop-at.place c.loop-at.invariant.put c.requires c.stretch_at-from.ensures.value
+
+pub loop-at-preserved : goal.loop-at-preserved
+loop-at-preserved c =
+    let was = c.loop-at.invariant.put in
+    let next = c.stretch_at-from in
+    let from = next.result.0 in
+    let n = next.result.1 - from in
+    let rest = drop from c.args.spelling.now in
+    let size : length (take n rest) ≡ n = length-take-le n rest (omega (arith, length-drop from c.args.spelling.now, next.ensures.within)) in
+    let room : c.loop-at.place + length (take n rest) ≤ length c.loop-at.to =
+    room_left _ _ c.args.to.now c.loop-at.to _ _ c.loop-at.place was c.requires next.ensures.value in
     record {
-      front = step_front known whole c.loop-byte.rest.now c.in-Some.after.now c.loop-byte.to
-          c.put_plain-run-in-Some.new.to c.in-Some.byte c.loop-byte.place c.put_plain-run-in-Some.result room was.front
-          c.in-Some.ensures.value put.front;
-      back = step_back c.args.to.now c.loop-byte.to c.put_plain-run-in-Some.new.to c.in-Some.byte c.loop-byte.place
-          c.put_plain-run-in-Some.result put.back was.back;
-      len = grind (arith, common_steps);
+      within = next.ensures.within;
+      put = stretch_put _ _ c.args.to.now c.loop-at.to _ _ c.put_run.new.to c.loop-at.place n was next.ensures.value size
+          (omega (arith, size, room)) c.put_run.ensures;
     }
+
+pub returns : goal.returns
+returns c =
+    let none = nothing_left (known_of c.args.kind) c.args.spelling.now c.loop-at.at (omega arith) in
+    whole_put _ c.args.to.now c.loop-at.to c.loop-at.place (rw none at c.loop-at.invariant.put)

@@ -1,8 +1,8 @@
 use Rattle.std.proofs.Common.{sym, ◌∙◌}
 use Rattle.lp_values.proofs.lemmas.fields.ReadingLemmas.{byte_parts}
-use Rattle.lp_format.proofs.lemmas.values.StringLemmas.{byte_missing, string_misses, string_open, string_reads}
-use Rattle.lp_values.proofs.spelled_parts.string.Goals as goal
+use Rattle.lp_format.proofs.lemmas.values.ValueForms.{byte_missing, string_misses, string_open, string_reads}
 use Rattle.lp_format.specs.format.Bytes.{quote}
+use Rattle.lp_values.proofs.spelled_parts.string.Goals as goal
 
 pub returns-in_default-clause-value : goal.returns-in_default-clause-value
 returns-in_default-clause-value c = string_misses c.args.text.now (byte_missing quote c.args.text.now c.in_default.ensures.value)

@@ -2,7 +2,7 @@ use Rattle.std.proofs.Common.{◌==◌, ℕ, ◌%◌, ◌^◌, ◌∙◌, ap, co
 use Rattle.lp_scan.specs.code.Tokens.{known_of, stops_of}
 use Rattle.lp_scan.specs.code.Lanes.{first_set}
 use Rattle.lp_values.proofs.lemmas.tokens.TokenLemmas.{backslash_goes_on}
-use Rattle.lp_values.proofs.lemmas.tokens.WalkMasks.{escapes_mask, load_stops, load_goes_on}
+use Rattle.lp_values.proofs.lemmas.tokens.WalkLemmas.{escapes_mask, load_stops, load_goes_on}
 use Rattle.lp_values.proofs.tokens.escapes_in_load.Goals as goal
 use Rattle.lp_format.specs.format.Bytes.{backslash}
 

@@ -4,8 +4,8 @@ use Rattle.lp_split.specs.code.Rules.{rules_of}
 use Rattle.lp_events.specs.code.EventsLeft.{AreLeftFrom, Completes, HasEventsLeft}
 use Rattle.lp_events.specs.code.LineSteps.{GivesLine}
 use Rattle.lp_events.specs.declared.place.Place.TheVariants.{Fields, Names}
-use Rattle.lp_events.proofs.lemmas.pull.EventSteps.{steps_from}
-use Rattle.lp_events.proofs.lemmas.pull.NextEvents.{blank_events, line_left, line_less, none_comes, step_less}
+use Rattle.lp_events.proofs.lemmas.pull.EventSteps.{steps_from, blank_events, line_left, step_less}
+use Rattle.lp_events.proofs.lemmas.lines.LineSteps.{line_less, none_comes}
 use Rattle.lp_events.proofs.pull.ParseEvents.step.Goals as goal
 
 pub returns-in_err-next_line-in-Between-clause-steps : goal.returns-in_err-next_line-in-Between-clause-steps

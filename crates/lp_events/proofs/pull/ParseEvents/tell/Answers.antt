@@ -1,4 +1,4 @@
-use Rattle.lp_events.proofs.lemmas.pull.NextEvents.{told_from_more}
+use Rattle.lp_events.proofs.lemmas.pull.EventSteps.{told_from_more}
 use Rattle.lp_events.proofs.pull.ParseEvents.tell.Goals as goal
 
 pub loop-event-preserved : goal.loop-event-preserved

@@ -1,4 +1,4 @@
-use Rattle.lp_events.proofs.lemmas.pull.NextEvents.{ToldFrom}
+use Rattle.lp_events.proofs.lemmas.pull.EventSteps.{ToldFrom}
 use Rattle.lp_events.proofs.pull.ParseEvents.tell.Given as goal
 
 abbrev pub invariant-loop-event : goal.invariant-loop-event

@@ -1,4 +1,4 @@
-use Rattle.std.proofs.Common.{refl, inl, inr}
+use Rattle.std.proofs.Common.{refl, inr}
 use Rattle.lp_lines.proofs.filling.FillingEventSink.field.Goals as goal
 
 pub returns-then-not-put_field : goal.returns-then-not-put_field
@@ -9,14 +9,4 @@ returns-then-not-put_field c =
       fault = refl;
       puts = λ taken. absurd (cc);
       needs = λ refused. inr (c.put_field.ensures.needs c.if-not-put_field.true);
-    }
-
-pub returns-else-not-put_field : goal.returns-else-not-put_field
-returns-else-not-put_field c =
-    record {
-      same = refl;
-      rooms = c.put_field.ensures.rooms;
-      fault = refl;
-      puts = λ taken. (taken, c.put_field.ensures.puts c.if-not-put_field.false);
-      needs = λ refused. inl refused;
     }

@@ -1,4 +1,4 @@
-use Rattle.std.proofs.Common.{refl, inl, inr}
+use Rattle.std.proofs.Common.{refl, inr}
 use Rattle.lp_lines.proofs.filling.FillingEventSink.tag.Goals as goal
 
 pub returns-then-not-put_tag : goal.returns-then-not-put_tag
@@ -9,14 +9,4 @@ returns-then-not-put_tag c =
       fault = refl;
       puts = λ taken. absurd (cc);
       needs = λ refused. inr (c.put_tag.ensures.needs c.if-not-put_tag.true);
-    }
-
-pub returns-else-not-put_tag : goal.returns-else-not-put_tag
-returns-else-not-put_tag c =
-    record {
-      same = refl;
-      rooms = c.put_tag.ensures.rooms;
-      fault = refl;
-      puts = λ taken. (taken, c.put_tag.ensures.puts c.if-not-put_tag.false);
-      needs = λ refused. inl refused;
     }

@@ -3,7 +3,7 @@ use Rattle.lp_format.specs.code.Light.{is_light}
 use Rattle.lp_values.specs.code.Outcomes.{IsNotOutOfMemory}
 use Rattle.lp_lines.specs.code.Parsed.{Answers}
 use Rattle.lp_format.specs.format.Lines.{answer}
-use Rattle.lp_lines.proofs.lemmas.line.GivenLines.{gave_item}
+use Rattle.lp_lines.proofs.lemmas.line.AnsweredLines.{gave_item}
 use Rattle.lp_lines.proofs.line.ParseLinesIterator.next.Goals as goal
 
 pub returns-clause-steps : goal.returns-clause-steps

@@ -1,4 +1,4 @@
-use Rattle.lp_split.proofs.lemmas.split.PieceTracks.{after_escape}
+use Rattle.lp_split.proofs.lemmas.split.SplitWalk.{after_escape}
 use Rattle.lp_split.proofs.split.tracked.after_byte.Goals as goal
 
 pub returns-then-place-clause-steps : goal.returns-then-place-clause-steps

@@ -1,7 +1,6 @@
 use Rattle.std.proofs.Common.{refl, arith}
 use Rattle.lp_split.specs.declared.split.resumed.Part.TheVariants.{Head, Plain}
-use Rattle.lp_split.proofs.lemmas.split.SplitWalk.{Head-other, Head-space}
-use Rattle.lp_split.proofs.lemmas.split.PieceTracks.{bare_step}
+use Rattle.lp_split.proofs.lemmas.split.SplitWalk.{Head-other, Head-space, bare_step}
 use Rattle.lp_split.proofs.split.tracked.after_head.Goals as goal
 
 pub returns-in-32-clause-steps : goal.returns-in-32-clause-steps

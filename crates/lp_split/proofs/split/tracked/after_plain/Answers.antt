@@ -1,7 +1,6 @@
 use Rattle.std.proofs.Common.{◌+◌, refl, arith}
 use Rattle.lp_split.specs.declared.split.resumed.Part.TheVariants.{Plain, Quoted}
-use Rattle.lp_split.proofs.lemmas.split.SplitWalk.{Plain-comma, Plain-equals, Plain-opens, Plain-other}
-use Rattle.lp_split.proofs.lemmas.split.PieceTracks.{bare_step}
+use Rattle.lp_split.proofs.lemmas.split.SplitWalk.{Plain-comma, Plain-equals, Plain-opens, Plain-other, bare_step}
 use Rattle.lp_split.proofs.split.tracked.after_plain.Goals.{in_default-via-in-34+else-place, in_default-via-in_default-1}
 use Rattle.lp_split.proofs.split.tracked.after_plain.Goals as goal
 use Rattle.lp_format.specs.format.Bytes.{quote}

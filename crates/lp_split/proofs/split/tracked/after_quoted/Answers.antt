@@ -1,7 +1,6 @@
 use Rattle.std.proofs.Common.{refl}
 use Rattle.lp_split.specs.declared.split.resumed.Part.TheVariants.{Plain, Quoted}
-use Rattle.lp_split.proofs.lemmas.split.SplitWalk.{Quoted-closes, Quoted-other}
-use Rattle.lp_split.proofs.lemmas.split.PieceTracks.{bare_step}
+use Rattle.lp_split.proofs.lemmas.split.SplitWalk.{Quoted-closes, Quoted-other, bare_step}
 use Rattle.lp_split.proofs.split.tracked.after_quoted.Goals as goal
 use Rattle.lp_format.specs.format.Bytes.{quote}
 

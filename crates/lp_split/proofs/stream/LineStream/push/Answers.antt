@@ -2,7 +2,7 @@ use Rattle.std.proofs.Common.{◌≡◌, sym, subst, List, ℕ, length, vec_len,
 use Rattle.lp_split.specs.code.Rules.{rules_of}
 use Rattle.lp_split.specs.code.Searches.{IsKnown}
 use Rattle.lp_split.specs.code.Streams.{IsHeldAt}
-use Rattle.lp_split.proofs.lemmas.stream.LongerTexts.{held_longer}
+use Rattle.lp_split.proofs.lemmas.stream.HeldTexts.{held_longer}
 use Rattle.lp_split.proofs.stream.LineStream.push.Goals as goal
 
 pub invariant_of-self : goal.invariant_of-self

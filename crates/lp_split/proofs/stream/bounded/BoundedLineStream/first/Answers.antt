@@ -4,7 +4,8 @@ use Rattle.lp_format.specs.format.Pieces.{IsLastPiece}
 use Rattle.lp_split.specs.code.Bounded.{CutsTo, HeldWithin, Holds, HoldsBy, IsTooLong, kept}
 use Rattle.lp_split.specs.code.Streams.{Held, TakesPiece}
 use Rattle.lp_split.specs.declared.stream.bounded.Skipped.TheVariants.{Within}
-use Rattle.lp_split.proofs.lemmas.stream.BoundedStreams.{takes_within, tracked_is_last}
+use Rattle.lp_split.proofs.lemmas.split.TrackedPieces.{tracked_is_last}
+use Rattle.lp_split.proofs.lemmas.stream.HeldTexts.{takes_within}
 use Rattle.lp_split.proofs.stream.bounded.BoundedLineStream.first.Goals as goal
 
 pub returns-in-Within-clause-finds : goal.returns-in-Within-clause-finds

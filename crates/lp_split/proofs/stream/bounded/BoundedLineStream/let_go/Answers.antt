@@ -5,7 +5,7 @@ use Rattle.lp_format.specs.format.Bytes.{newlines_in}
 use Rattle.lp_format.specs.format.Pieces.{IsLastPiece}
 use Rattle.lp_split.specs.code.Bounded.{HeldWithin, HoldsBy, IsTooLong}
 use Rattle.lp_split.specs.declared.stream.bounded.Skipped.TheVariants.{Within}
-use Rattle.lp_split.proofs.lemmas.stream.BoundedStreams.{goes_within, no_end_within}
+use Rattle.lp_split.proofs.lemmas.stream.HeldTexts.{goes_within, no_end_within}
 use Rattle.lp_split.proofs.stream.bounded.BoundedLineStream.let_go.Goals as goal
 
 pub returns-in-Err-clause-holds : goal.returns-in-Err-clause-holds
@@ -13,7 +13,7 @@ returns-in-Err-clause-holds c =
     let s = c.self.inside in
     let after = c.take_all.follows.lender-at-none in
     let long : IsTooLong s.limit c.held.result.now = (c.if-held-self.false, omega (arith, c.if-held-self.false)) in
-    let tracked = c.in-Err.ensures (rules_of c.dialect.result) [] c.new-first.ensures.track in
+    let tracked = c.in-Err.ensures.1 (rules_of c.dialect.result) [] c.new-first.ensures.track in
     subst (λ (v : HeldWithin). HoldsBy s.limit after (Within c.in-Err.track c.newlines_in-newlines.result) v.held.bytes) c.self.view_is
     (goes_within s.limit s.stream after c.held-2.result.now (rules_of c.dialect.result) c.in-Err.track c.newlines_in-newlines.result
     c.held-2.ensures c.dialect.ensures

@@ -3,7 +3,7 @@ use Rattle.lp_split.specs.declared.split.Mark.{Mark}
 use Rattle.lp_split.specs.declared.stream.bounded.PieceTooLong.{PieceTooLong}
 use Rattle.lp_split.specs.declared.stream.bounded.Skipped.TheVariants.{Nothing}
 use Rattle.lp_split.specs.code.Bounded.{CutsTo, FindsWithin, HeldWithin, Holds, HoldsBy, faults_to_come, kept, most_given}
-use Rattle.lp_split.proofs.lemmas.stream.BoundedStreams.{takes_within, taking_keeps_fewer}
+use Rattle.lp_split.proofs.lemmas.stream.HeldTexts.{takes_within, taking_keeps_fewer}
 use Rattle.lp_split.proofs.stream.bounded.BoundedLineStream.next.Goals as goal
 
 pub returns-in-Ok : goal.returns-in-Ok

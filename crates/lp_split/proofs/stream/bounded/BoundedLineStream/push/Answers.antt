@@ -1,7 +1,7 @@
 use Rattle.std.proofs.Common.{◌++◌, ◌+◌, ◌∙◌, ap, sym, subst, List, ℕ}
 use Rattle.std.proofs.lemmas.List.{take_rest}
 use Rattle.lp_split.specs.code.Bounded.{HeldWithin, Holds}
-use Rattle.lp_split.proofs.lemmas.stream.BoundedStreams.{skips_more, skips_to_end}
+use Rattle.lp_split.proofs.lemmas.stream.HeldTexts.{skips_more, skips_to_end}
 use Rattle.lp_split.proofs.stream.bounded.BoundedLineStream.push.Goals as goal
 
 pub returns-in_ok-push-in-Ok-clause-ok : goal.returns-in_ok-push-in-Ok-clause-ok

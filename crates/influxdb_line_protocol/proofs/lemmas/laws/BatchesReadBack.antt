@@ -1,0 +1,340 @@
+-- Batches of points: those with admitted names read back, and no others do.
+use Rattle.std.proofs.Common.{◌≡◌, [], ◌∷◌, ◌++◌, refl, ap, subst, append_assoc, Ok, ℕ, ◌+◌, List, map, true, false, ◌&&◌, sym, ◌∙◌, arith}
+use Rattle.std.proofs.Common.{inl, inr, Err, Result, ◌<◌, length}
+use Rattle.lp_format.specs.format.Dialects.{Dialect}
+use Rattle.lp_format.specs.format.Points.{Point, line_of, built_all, IsPoint, Tag, Field, IsValue, is_admitted_name, is_admitted_tag}
+use Rattle.lp_format.specs.format.Points.{is_admitted_field, is_admitted_point, spelling, built, built_tag, built_field, built_fields}
+use Rattle.lp_format.specs.format.Points.{built_value, built_timestamp}
+use Rattle.lp_format.specs.format.Pieces.{Pieces}
+use Rattle.lp_format.specs.format.Items.{answers_of_piece, HasAnswers, item_of, answers_of}
+use Rattle.lp_format.specs.laws.Laws.{IsAdmittedPoint, BatchesReadBack, OtherBatchesDoNotReadBack, ItemsHaveReadableNames}
+use Rattle.lp_format.specs.laws.Laws.{OtherPointsEndWithBackslash}
+use Rattle.lp_lines.proofs.lemmas.read_back.LinePieces.{IsAdmitted, admitted_point, line_begins, line_is_cut_piece, reaches_tags}
+use Rattle.lp_lines.proofs.lemmas.read_back.LinePieces.{reaches_field, AdmittedTag, AdmittedField, admitted_tags, line_parts}
+use Rattle.lp_format.proofs.lemmas.read_back.NameReadsBack.{read_line, read_line_is, admitted_parts, read_field}
+use Rattle.lp_lines.proofs.lemmas.read_back.LineReadsBack.{line_reads_back, measurement_reads_back, tag_set_reads_back, field_reads_back}
+use Rattle.lp_lines.proofs.lemmas.names.Spellings.{line_trimmed, line_some, admitted_spelled, name_reads_back, measurement_begins}
+use Rattle.lp_lines.proofs.lemmas.names.Spellings.{spelled_spaces, reaches_name, reaches_other, reaches_gap, reaches_field_key, Reaches}
+use Rattle.lp_lines.proofs.lemmas.names.Spellings.{reaches_start}
+use Rattle.lp_format.specs.format.Bytes.{newline, equals, space, comma}
+use Rattle.std.specs.List.{AllByRecursion, Contains, list_all, flat_map}
+use Rattle.std.proofs.lemmas.Bool.{and_parts, cases_Bool, false≢true, and_from, both_ways}
+use Rattle.std.proofs.lemmas.List.{length-append, length-map, get_or-map}
+use Rattle.lp_split.specs.declared.split.resumed.Part.TheVariants.{Head, Plain}
+use Rattle.lp_split.proofs.lemmas.split.SplitWalk.{Plain-comma}
+use Rattle.lp_format.specs.format.Readings.{Fault, ends_with_backslash}
+use Rattle.lp_format.specs.format.Names.{a_measurement, a_field_key, NameKind, a_tag_key, a_tag_value, ends_in_backslash}
+use Rattle.lp_format.specs.format.Piece.{EndsPlain}
+use Rattle.lp_format.specs.format.Lines.{Line, point_of, field, spaces, answer}
+use Rattle.lp_format.specs.laws.NamesOfLines.{IsParsedName, names_of, BeginsNoComment}
+use Rattle.lp_format.proofs.lemmas.split.SplitPieces.{pieces_exist, same_pieces}
+use Rattle.lp_format.proofs.lemmas.split.SplitBare.{is_escaped-push_other}
+use Rattle.lp_lines.proofs.lemmas.names.ParsedNames.{ParsedPoint, names_are_parsed, nothing_in_nil}
+use Rattle.influxdb_line_protocol.proofs.lemmas.laws.FatalLines.{Fails, first_fails, NameStops, name_stops, measurement_fails, StopsEarly}
+use Rattle.influxdb_line_protocol.proofs.lemmas.laws.FatalLines.{and_more, and_before, stops_as, ManyFail, first_of_many, later_of_many}
+use Rattle.influxdb_line_protocol.proofs.lemmas.laws.FatalLines.{first_failing, second_fails, TagsFail, tags_fail}
+use Rattle.std.proofs.lemmas.Grind.{flat_map-append}
+use Rattle.lp_format.specs.laws.UnreadableNames.{IsUnreadable, HasReadableNames}
+use Rattle.lp_format.proofs.lemmas.lists.Elements.{first_element, first_or_later, later_element}
+use Rattle.lp_format.specs.format.Pieces.{Pieces.cut}
+use Rattle.lp_format.specs.laws.UnreadableNames.{IsUnreadable.empty, IsUnreadable.ends, IsUnreadable.begins}
+use Rattle.lp_format.specs.laws.UnreadableNames.{IsUnreadable.alone}
+
+-- the line of an admitted point has one answer
+line_answers : (dialect : Dialect) (p : Point) → IsAdmitted p → answers_of_piece dialect (line_of p) ≡ Ok (read_line p) ∷ []
+unfolding answers_of_piece
+line_answers dialect p ok =
+    let begins = line_begins p ok in
+    rw (line_trimmed (line_of p) begins, line_some (line_of p) begins, line_reads_back dialect p ok) refl
+
+-- batches of points with admitted names read back
+pub admitted_batches_read_back : BatchesReadBack IsAdmittedPoint
+admitted_batches_read_back dialect [] t answers all h = ([], refl, h)
+admitted_batches_read_back dialect (p ∷ points) t answers all h =
+    let more = admitted_batches_read_back dialect points t answers all.1 h in
+    let ok = admitted_point p all.0.is_point all.0.names_are in
+    let pieces = more.2.pieces in
+    let regrouped : line_of p ++ newline ∷ (built_all points ++ t) ≡ built_all (p ∷ points) ++ t = simp append_assoc in (
+      read_line p ∷ more.0,
+      rw more.1 (ap (λ q. q ∷ points) (read_line_is p)),
+      record {
+        pieces = line_of p ∷ pieces;
+        are = subst (λ x. Pieces dialect x (line_of p ∷ pieces)) regrouped
+            (cut (line_of p) (built_all points ++ t) pieces (line_is_cut_piece dialect p ok) more.2.are);
+        answered = rw (line_answers dialect p ok) (ap (λ xs. Ok (read_line p) ∷ xs) more.2.answered);
+      },
+    )
+
+-- a line whose tags stop too early
+tags_line_fails : (m : List ℕ) (ts : List Tag) (more : List ℕ) → is_admitted_name a_measurement m ≡ true
+    → TagsFail ts → Fails (spelling a_measurement m ++ (flat_map built_tag ts ++ more))
+unfolding answer
+tags_line_fails m ts more named f =
+    let first = spelling a_measurement m in
+    let sign = reaches_other comma (omega arith) (omega arith) (omega arith) first (reaches_name a_measurement m [] named reaches_start) in
+    subst Fails (ap (λ (xs : List ℕ). first ++ (xs ++ more)) (sym f.1))
+    (and_before first comma
+    (λ front r. inl (subst (Reaches Head 0 0) (append_assoc first (comma ∷ []) front) (r (first ++ comma ∷ []) sign)).1.0)
+    (λ front rest r e. (
+      measurement_begins m (comma ∷ (front ++ rest)) named,
+      λ dialect. rw (name_reads_back a_measurement m (front ++ rest) comma named refl, e.at_first) refl,
+    )) (and_more more f.2))
+
+-- a text that ends in a plain stretch
+abbrev InPlain : List ℕ → Type 0
+InPlain piece = (counted : List ℕ) × EndsPlain piece counted
+
+-- fields of which one stops too early, without the byte before them
+abbrev FieldsFail : List Field → Type 0
+FieldsFail fs =
+    (text : List ℕ) × ((c : ℕ) → built_fields c fs ≡ c ∷ text)
+    × StopsEarly (λ front. (m : ℕ) (piece : List ℕ) → Reaches Plain m m piece → InPlain (piece ++ front))
+    (λ at. (spaces at ≡ 0) × ManyFail field at) text
+
+-- the first field stops too early
+first_field_fails : (f : Field) (fs : List Field) → NameStops a_field_key f.key → FieldsFail (f ∷ fs)
+unfolding field
+first_field_fails f fs g = (
+  built_field f ++ built_fields comma fs,
+  (λ c. refl),
+  and_more (built_fields comma fs) (and_more (equals ∷ built_value f.value)
+      (stops_as (λ front r m piece h. let named = reaches_field_key m r.spelled piece h in (named.1.0, named.1.1))
+      (λ front rest r e. (spelled_spaces r.spelled r.some rest, first_of_many field (front ++ rest) (rw e refl))) g)),
+)
+
+-- a field is read, and a later one stops too early
+later_field_fails : (f : Field) (fs : List Field) → AdmittedField f → FieldsFail fs → FieldsFail (f ∷ fs)
+later_field_fails f fs ok g =
+    let text = built_field f in (
+      text ++ comma ∷ g.0,
+      (λ c. ap (λ (xs : List ℕ). c ∷ (text ++ xs)) (g.1 comma)),
+      and_before text comma
+          (λ front r m piece h.
+          let first = reaches_field m f piece ok h in
+          let sign : Reaches Plain (m + 1) (m + 1) ((piece ++ text) ++ comma ∷ []) =
+          (is_escaped-push_other (piece ++ text) comma (omega arith), Plain-comma (m + 1) m (piece ++ text) first.0 first.1) in
+          subst InPlain (append_assoc (piece ++ text) (comma ∷ []) front ∙ append_assoc piece text (comma ∷ front))
+          (r (m + 1) ((piece ++ text) ++ comma ∷ []) sign))
+          (λ front rest r e.
+          let more = front ++ rest in (
+            ap spaces (append_assoc (spelling a_field_key f.key) (equals ∷ built_value f.value) (comma ∷ more))
+                ∙ spelled_spaces (admitted_spelled a_field_key f.key ok.0) (admitted_parts a_field_key f.key ok.0).some _,
+            later_of_many field (text ++ comma ∷ more) more (read_field f) (field_reads_back f (comma ∷ more) ok refl)
+                (omega (arith, length-append text (comma ∷ more))) e.1,
+          )) g.2,
+    )
+
+-- fields whose keys are parsed names, not all of them admitted
+fields_fail : (fs : List Field) → AllByRecursion (λ f. IsParsedName a_field_key f.key) fs
+    → AllByRecursion (λ f. IsValue f.value) fs → list_all is_admitted_field fs ≡ false → FieldsFail fs
+fields_fail [] names values bad = absurd (false≢true (sym bad))
+fields_fail (f ∷ fs) names values bad =
+    elim (cases_Bool (is_admitted_field f)) [
+      | inl ok ↦ later_field_fails f fs (ok, values.0)
+          (fields_fail fs names.1 values.1 (second_fails (is_admitted_field f) (list_all is_admitted_field fs) bad ok))
+      | inr refused ↦ first_field_fails f fs (name_stops a_field_key f.key names.0 refused)
+    ]
+
+-- a line whose fields stop too early
+fields_line_fails : (m : List ℕ) (ts : List Tag) (fs : List Field) (more : List ℕ)
+    → is_admitted_name a_measurement m ≡ true → AllByRecursion AdmittedTag ts → FieldsFail fs
+    → Fails (spelling a_measurement m ++ (flat_map built_tag ts ++ (built_fields space fs ++ more)))
+unfolding answer
+fields_line_fails m ts fs more named tagged f =
+    let first = spelling a_measurement m in
+    let tags = flat_map built_tag ts in
+    let head = reaches_tags ts first tagged (reaches_name a_measurement m [] named reaches_start) in
+    let regrouped : (first ++ tags) ++ space ∷ (f.0 ++ more) ≡ first ++ (tags ++ (built_fields space fs ++ more)) =
+    append_assoc first tags (space ∷ (f.0 ++ more)) ∙ ap (λ (xs : List ℕ). first ++ (tags ++ (xs ++ more))) (sym (f.1 space)) in
+    subst Fails regrouped
+    (and_before (first ++ tags) space
+    (λ front r. inr (subst InPlain (append_assoc (first ++ tags) (space ∷ []) front)
+    (r 0 ((first ++ tags) ++ space ∷ []) (reaches_gap (first ++ tags) head))))
+    (λ front rest r e.
+    rw append_assoc (
+      measurement_begins m (tags ++ space ∷ (front ++ rest)) named,
+      λ dialect. rw (
+        measurement_reads_back m ts (front ++ rest) named,
+        tag_set_reads_back ts (front ++ rest) tagged,
+        e.0,
+        e.1.at_first,
+      ) refl,
+    )) (and_more more f.2))
+
+-- the line of a point whose names are parsed names, not all of them admitted
+pub point_fails : (p : Point) → IsPoint p → ParsedPoint p → is_admitted_point p ≡ false → Fails (line_of p)
+unfolding is_admitted_point
+point_fails p h names bad =
+    let end = built_timestamp p.timestamp in
+    let parts : Fails (spelling a_measurement p.measurement ++ (flat_map built_tag p.tags ++ (built_fields space p.fields ++ end))) =
+    elim (cases_Bool (is_admitted_name a_measurement p.measurement)) [
+      | inl named ↦ elim (cases_Bool (list_all is_admitted_tag p.tags)) [
+        | inl tagged ↦
+            let last = second_fails (is_admitted_name a_measurement p.measurement && list_all is_admitted_tag
+            p.tags) (list_all is_admitted_field p.fields) bad (and_from _ _ named tagged) in
+            fields_line_fails p.measurement p.tags p.fields end named (admitted_tags p.tags tagged)
+            (fields_fail p.fields names.fields h.values last)
+        | inr refused ↦
+            tags_line_fails p.measurement p.tags (built_fields space p.fields ++ end) named (tags_fail p.tags names.tags refused)
+      ]
+      | inr refused ↦ measurement_fails p.measurement
+          (flat_map built_tag p.tags ++ (built_fields space p.fields ++ end)) names.measurement
+          (name_stops a_measurement p.measurement names.measurement refused)
+    ] in
+    subst Fails (sym (line_parts p)) parts
+
+-- a text has one list of answers
+pub same_answers : (dialect : Dialect) (text : List ℕ) (answers others : List (Result Line Fault))
+    → HasAnswers dialect text answers → HasAnswers dialect text others → answers ≡ others
+same_answers dialect text answers others h k = h.answered ∙ ap (answers_of dialect) (same_pieces dialect refl h.are k.are) ∙ sym k.answered
+
+-- the items of lines and of what follows them
+items_of_lines : (lines : List Line) (answers : List (Result Line Fault))
+    → map item_of (map Ok lines ++ answers) ≡ map Ok (map point_of lines) ++ map item_of answers
+items_of_lines [] answers = refl
+items_of_lines (line ∷ lines) answers = ap (λ xs. Ok (point_of line) ∷ xs) (items_of_lines lines answers)
+
+-- a name as a line can have it is not unreadable
+parsed_is_readable : {kind : NameKind} {n : List ℕ} → IsParsedName kind n → ¬ IsUnreadable kind n
+parsed_is_readable h (empty kind) = absurd (omega (arith, h.some))
+parsed_is_readable h (ends kind n e) = both_ways (ends_in_backslash n) h.ends e
+parsed_is_readable h (begins n e) = h.begins e
+parsed_is_readable h (alone kind front back b never e) = both_ways (ends_in_backslash front) e (h.after_backslash front back b refl never)
+
+-- a name that is not unreadable is not empty
+readable_some : (kind : NameKind) (n : List ℕ) → ¬ IsUnreadable kind n → 0 < length n
+readable_some kind [] h = absurd (h (empty kind))
+readable_some kind (b ∷ n) h = omega arith
+
+-- and, as a measurement, does not begin with `#`
+readable_begins : (kind : NameKind) (n : List ℕ) → ¬ IsUnreadable kind n → BeginsNoComment kind n
+readable_begins a_measurement n h = λ e. h (begins n e)
+readable_begins kind n h = tt
+
+-- so it is a name as a line can have it
+readable_is_parsed : (kind : NameKind) (n : List ℕ) → ¬ IsUnreadable kind n → IsParsedName kind n
+readable_is_parsed kind n h =
+    record {
+      some = readable_some kind n h;
+      ends = elim (cases_Bool (ends_in_backslash n)) [ inl e ↦ absurd (h (ends kind n e)) | inr e ↦ e ];
+      begins = readable_begins kind n h;
+      after_backslash = λ front back b is never. elim (cases_Bool (ends_in_backslash front)) [
+        | inl e ↦ e
+        | inr e ↦ absurd (h (subst (IsUnreadable kind) (sym is) (alone kind front back b never e)))
+      ];
+    }
+
+-- what holds of each element holds of all
+all_elements : {X : Type 0} (P : X → Type 0) (xs : List X) → ((x : X) → Contains xs x → P x) → AllByRecursion P xs
+all_elements P [] each = tt
+all_elements P (x ∷ xs) each = (each x (first_element x xs), all_elements P xs (λ y h. each y (later_element x y xs h)))
+
+-- what is made of an element is among what is made of all
+made_element : {X Y : Type 0} (make : X → Y) (xs : List X) (x : X) → Contains xs x → Contains (map make xs) (make x)
+made_element make xs x h =
+    let within = h.1 in
+    (h.0, omega (arith, length-map xs make), get_or-map make xs h.0 x (make x) within ∙ ap make h.2)
+
+-- a point whose names lines can have, by its lists
+readable_point : (p : Point) → HasReadableNames p → ParsedPoint p
+readable_point p h =
+    let parsed : (kind : NameKind) (n : List ℕ) → Contains (names_of kind p) n → IsParsedName kind n =
+    λ kind n here. readable_is_parsed kind n (h kind n here) in
+    record {
+      measurement = parsed a_measurement p.measurement (first_element p.measurement []);
+      tags = all_elements _ p.tags (λ t here. (
+        parsed a_tag_key t.key (made_element (λ t. t.key) p.tags t here),
+        parsed a_tag_value t.value (made_element (λ t. t.value) p.tags t here),
+      ));
+      fields = all_elements _ p.fields (λ f here. parsed a_field_key f.key (made_element (λ f. f.key) p.fields f here));
+    }
+
+-- the line of a point among the items
+line_of_item : (answers : List (Result Line Fault)) (p : Point) → Contains (map item_of answers) (Ok p) → (line : Line)
+    × Contains answers (Ok line) × (point_of line ≡ p)
+line_of_item [] p h = absurd (nothing_in_nil _ h)
+line_of_item (Ok line ∷ answers) p h =
+    elim (first_or_later (item_of (Ok line)) (Ok p) (map item_of answers) h) [
+      | inl same ↦ (line, first_element (Ok line) answers, cc)
+      | inr later ↦ let more = line_of_item answers p later in (more.0, later_element (Ok line) (Ok more.0) answers more.1, more.2)
+    ]
+line_of_item (Err fault ∷ answers) p h =
+    elim (first_or_later (item_of (Err fault)) (Ok p) (map item_of answers) h) [
+      | inl same ↦ absurd (cc)
+      | inr later ↦ let more = line_of_item answers p later in (more.0, later_element (Err fault) (Ok more.0) answers more.1, more.2)
+    ]
+
+-- no item is a point with an unreadable name
+pub items_have_readable_names : ItemsHaveReadableNames
+items_have_readable_names dialect text items p h here kind n named =
+    let found = line_of_item h.0 p (subst (λ xs. Contains xs (Ok p)) h.2 here) in
+    parsed_is_readable
+    (names_are_parsed dialect text h.0 found.0 kind n h.1 found.1 (subst (λ q. Contains (names_of kind q) n) (sym found.2) named))
+
+-- the lines of two lists of points
+built_of_two : (before others : List Point) (t : List ℕ) → built_all (before ++ others) ++ t ≡ built_all before ++ (built_all others ++ t)
+built_of_two before others t = ap (λ (l : List ℕ). l ++ t) (flat_map-append built before others)
+    ∙ append_assoc (built_all before) (built_all others) t
+
+-- the answers for the line of such a point, and for what follows it
+point_answered : (dialect : Dialect) (p : Point) (u : List ℕ) (answers : List (Result Line Fault)) → IsPoint p
+    → is_admitted_point p ≡ false → HasReadableNames p
+    → HasAnswers dialect (built p ++ u) answers → (others : List (Result Line Fault)) × (answers ≡ Err ends_with_backslash ∷ others)
+point_answered dialect p u answers is_point bad names h =
+    let f = point_fails p is_point (readable_point p names) bad in
+    let is : built p ++ u ≡ f.front ++ f.stop ∷ (f.after ++ newline ∷ u) =
+    append_assoc (line_of p) (newline ∷ []) u ∙ ap (λ (xs : List ℕ). xs ++ newline ∷ u) f.is
+    ∙ append_assoc f.front (f.stop ∷ f.after) (newline ∷ u) in
+    let fails = first_fails dialect (line_of p) f (f.after ++ newline ∷ u) is h.are in
+    (fails.0, h.answered ∙ fails.1)
+
+-- the first point that is not admitted is answered in its place
+pub other_points_end_with_backslash : OtherPointsEndWithBackslash
+other_points_end_with_backslash dialect before p after t answers ok is_point bad names h =
+    let u = built_all (p ∷ after) ++ t in
+    let suffix = pieces_exist dialect u in
+    let more = answers_of dialect suffix.0 in
+    let alone : HasAnswers dialect u more = record { pieces = suffix.0; are = suffix.1; answered = refl } in
+    let batch = admitted_batches_read_back dialect before u more ok alone in
+    let same : answers ≡ map Ok batch.0 ++ more =
+    same_answers dialect (built_all (before ++ p ∷ after) ++ t) answers (map Ok batch.0 ++ more) h
+    (subst (λ x. HasAnswers dialect x (map Ok batch.0 ++ more)) (sym (built_of_two before (p ∷ after) t)) batch.2) in
+    let one =
+    point_answered dialect p (built_all after ++ t) more is_point bad names
+    (subst (λ x. HasAnswers dialect x more) (append_assoc (built p) (built_all after) t) alone) in
+    (batch.0, one.0, batch.1, same ∙ ap (λ xs. map Ok batch.0 ++ xs) one.1)
+
+-- points before one that is not admitted, which all are
+admitted_before : (before : List Point) (p : Point) (after : List Point) → AllByRecursion IsPoint (before ++ p ∷ after)
+    → list_all is_admitted_point before ≡ true → AllByRecursion IsAdmittedPoint before × IsPoint p
+admitted_before [] p after all pass = (tt, all.0)
+admitted_before (q ∷ before) p after all pass =
+    let parts = and_parts (is_admitted_point q) (list_all is_admitted_point before) pass in
+    let more = admitted_before before p after all.1 parts.1 in
+    ((record { is_point = all.0; names_are = parts.0 }, more.0), more.1)
+
+-- a point is among others
+among : (before : List Point) (p : Point) (after : List Point) (others : List (Result Point Fault))
+    → Contains (map Ok (before ++ p ∷ after) ++ others) (Ok p)
+among [] p after others = first_element (Ok p) (map Ok after ++ others)
+among (q ∷ before) p after others = later_element (Ok q) (Ok p) (map Ok (before ++ p ∷ after) ++ others) (among before p after others)
+
+-- points before one that is answered with a fault are not all points
+not_all : (before : List Point) (p : Point) (after : List Point) (fault : Fault) (more others : List (Result Point Fault))
+    → map Ok before ++ Err fault ∷ more ≡ map Ok (before ++ p ∷ after) ++ others → ⊥
+not_all [] p after fault more others e = cc
+not_all (q ∷ before) p after fault more others e = not_all before p after fault more others (cc)
+
+-- no batch with another name reads back
+pub other_batches_do_not : OtherBatchesDoNotReadBack
+other_batches_do_not dialect points t items others all bad h k e =
+    let f = first_failing is_admitted_point points bad in
+    let points_are = admitted_before f.front f.stop f.after (subst (AllByRecursion IsPoint) f.is all) f.pass in
+    let are : items ≡ map Ok (f.front ++ f.stop ∷ f.after) ++ others = e ∙ ap (λ ps. map Ok ps ++ others) f.is in
+    let here = subst (λ xs. Contains xs (Ok f.stop)) (sym are) (among f.front f.stop f.after others) in
+    let names = items_have_readable_names dialect (built_all points ++ t) items f.stop h here in
+    let has = subst (λ ps. HasAnswers dialect (built_all ps ++ t) h.0) f.is h.1 in
+    let w = other_points_end_with_backslash dialect f.front f.stop f.after t h.0 points_are.0 points_are.1 f.fails names has in
+    not_all f.front f.stop f.after ends_with_backslash (map item_of w.1) others
+    (ap (λ ps. map Ok ps ++ Err ends_with_backslash ∷ map item_of w.1) (sym w.2)
+    ∙ sym (items_of_lines w.0 (Err ends_with_backslash ∷ w.1)) ∙ ap (map item_of) (sym w.3) ∙ sym h.2 ∙ are)

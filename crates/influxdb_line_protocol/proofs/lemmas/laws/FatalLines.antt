@@ -1,0 +1,335 @@
+-- A line with a name whose spelling stops too early: the name is fatal, and so is the line, at a measurement or a tag.
+use Rattle.std.proofs.Common.{◌≡◌, ◌≢◌, ℕ, ◌<◌, List, [], ◌∷◌, ◌++◌, length, slice_index, true, false, refl, sym, ap, ◌∙◌, subst, arith}
+use Rattle.std.proofs.Common.{inl, inr, append_assoc, append-nil, Err, Result, zero, suc, Bool, ◌&&◌}
+use Rattle.std.specs.Prelude.{◌==◌}
+use Rattle.std.specs.List.{list_all, AllByRecursion, flat_map}
+use Rattle.std.proofs.lemmas.Bool.{cases_Bool, false≢true, both_ways, and_from, and_right, ne_eqb, and_parts}
+use Rattle.std.proofs.lemmas.Grind.{flat_map-append}
+use Rattle.lp_format.specs.format.Dialects.{Dialect, Crate, Strict}
+use Rattle.lp_format.specs.format.Bytes.{hash, is_one_of, newline, comma, equals, space, backslash}
+use Rattle.lp_format.specs.format.Escapes.{escaped, escaped_byte}
+use Rattle.lp_format.specs.format.Readings.{Fault, ends_with_backslash, fatal, Reading, reads}
+use Rattle.lp_format.specs.format.Names.{NameKind, a_measurement, a_tag_key, a_tag_value, ends_in_backslash, escapable, is_stop, name}
+use Rattle.lp_format.specs.format.Piece.{IsClosed}
+use Rattle.lp_format.specs.format.Points.{never_in, is_admitted_name, spelling, Tag, is_admitted_tag, built_tag}
+use Rattle.lp_format.specs.format.Pieces.{IsLastPiece, Pieces}
+use Rattle.lp_format.specs.format.Lines.{Line, answer, tag, after_comma, many, separated_list}
+use Rattle.lp_format.specs.format.Items.{answers_of_piece, answers_of}
+use Rattle.lp_format.specs.laws.NamesOfLines.{IsParsedName}
+use Rattle.lp_format.proofs.lemmas.split.SplitPieces.{no_cut_within}
+use Rattle.lp_format.proofs.lemmas.split.SplitBare.{place_in_append}
+use Rattle.lp_format.proofs.lemmas.read_back.NameReadsBack.{may_hold, escaped_plain, read_tag}
+use Rattle.lp_lines.proofs.lemmas.names.Spellings.{reaches_start, Reaches, SpelledAs, never_unescapable, never_stops, spelling_as, Stops}
+use Rattle.lp_lines.proofs.lemmas.names.Spellings.{spelled_fatal, spelled_begins, reaches_head, BeginsLine, line_no_comment, line_trimmed}
+use Rattle.lp_lines.proofs.lemmas.names.Spellings.{line_some, name_reads_back, reaches_name, reaches_other}
+use Rattle.std.proofs.lemmas.List.{length-append}
+use Rattle.lp_split.specs.declared.split.resumed.Part.TheVariants.{Head}
+use Rattle.lp_lines.proofs.lemmas.read_back.LineReadsBack.{tag_text, tag_reads_back}
+use Rattle.lp_lines.proofs.lemmas.read_back.LinePieces.{AdmittedTag}
+use Rattle.lp_format.specs.format.Pieces.{Pieces.last, Pieces.cut}
+
+-- nothing, or this byte at the start
+abbrev pub StopsWith : ℕ → List ℕ → Type 0
+StopsWith stop [] = Unit {0}
+StopsWith stop (b ∷ rest) = b ≡ stop
+
+-- a text that stops too early: `Reached` holds of a front of it, and `AtStop` of each text that ends after that front or goes on
+-- with the same byte as this text
+pub record StopsEarly (Reached AtStop : List ℕ → Type 0) (text : List ℕ) : Type 0 where
+  pub front : List ℕ
+  pub stop : ℕ
+  pub after : List ℕ
+  pub is : text ≡ front ++ stop ∷ after
+  pub reached : Reached front
+  pub fails : (rest : List ℕ) → StopsWith stop rest → AtStop (front ++ rest)
+
+-- so does a text that goes on after it
+pub and_more : {R A : List ℕ → Type 0} {text : List ℕ} (more : List ℕ) → StopsEarly R A text → StopsEarly R A (text ++ more)
+and_more more f =
+    record {
+      front = f.front;
+      stop = f.stop;
+      after = f.after ++ more;
+      is = ap (λ (xs : List ℕ). xs ++ more) f.is ∙ append_assoc f.front (f.stop ∷ f.after) more;
+      reached = f.reached;
+      fails = f.fails;
+    }
+
+module _ {R A S B : List ℕ → Type 0} {text : List ℕ} where
+  -- and a text with a front and a byte before it
+  pub and_before : (before : List ℕ) (b : ℕ) → ((front : List ℕ) → R front → S (before ++ b ∷ front))
+      → ((front rest : List ℕ) → R front → A (front ++ rest) → B (before ++ b ∷ (front ++ rest)))
+      → StopsEarly R A text → StopsEarly S B (before ++ b ∷ text)
+  and_before before b reached fails f =
+      record {
+        front = before ++ b ∷ f.front;
+        stop = f.stop;
+        after = f.after;
+        is = ap (λ (xs : List ℕ). before ++ b ∷ xs) f.is ∙ sym (append_assoc before (b ∷ f.front) (f.stop ∷ f.after));
+        reached = reached f.front f.reached;
+        fails = λ rest stops. subst B (sym (append_assoc before (b ∷ f.front) rest)) (fails f.front rest f.reached (f.fails rest stops));
+      }
+
+  -- what holds of its front and of the texts at its stop, said in another way
+  pub stops_as : ((front : List ℕ) → R front → S front) → ((front rest : List ℕ) → R front → A (front ++ rest) → B (front ++ rest))
+      → StopsEarly R A text → StopsEarly S B text
+  stops_as reached fails f =
+      record {
+        front = f.front;
+        stop = f.stop;
+        after = f.after;
+        is = f.is;
+        reached = reached f.front f.reached;
+        fails = λ rest stops. fails f.front rest f.reached (f.fails rest stops);
+      }
+
+-- a line whose front is not cut, and is answered with a fault
+abbrev pub Fails : List ℕ → Type 0
+Fails line =
+    StopsEarly IsClosed (λ text. BeginsLine text × ((dialect : Dialect) → answer dialect text ≡ Err ends_with_backslash)) line
+
+-- the piece that holds such a front
+piece_fails : (dialect : Dialect) (line : List ℕ) (f : Fails line) (rest : List ℕ) → StopsWith f.stop rest
+    → answers_of_piece dialect (f.front ++ rest) ≡ Err ends_with_backslash ∷ []
+unfolding answers_of_piece
+piece_fails dialect line f rest stops =
+    let w = f.fails rest stops in
+    rw (line_trimmed (f.front ++ rest) w.0, line_some (f.front ++ rest) w.0, w.1 dialect) refl
+
+-- such a front is a piece of its own
+front_is_piece : (dialect : Dialect) (line : List ℕ) (f : Fails line) → IsLastPiece dialect f.front
+front_is_piece Crate line f = inl f.reached
+front_is_piece Strict line f = inr (line_no_comment f.front (subst BeginsLine (append-nil f.front) (f.fails [] tt).0), inl f.reached)
+
+-- what comes after it in the piece
+stops_here : (stop : ℕ) (y t after : List ℕ) → y ++ newline ∷ t ≡ stop ∷ after → StopsWith stop y
+stops_here stop [] t after e = tt
+stops_here stop (b ∷ y) t after e = cc
+
+-- the first answer for such a line is a fault
+pub first_fails : (dialect : Dialect) (line : List ℕ) (f : Fails line) (after : List ℕ) {text : List ℕ}
+    {pieces : List (List ℕ)} → text ≡ f.front ++ f.stop ∷ after → Pieces dialect text pieces
+    → (others : List (Result Line Fault)) × (answers_of dialect pieces ≡ Err ends_with_backslash ∷ others)
+first_fails dialect line f after e (last piece h) =
+    ([], ap (λ xs. answers_of_piece dialect xs ++ []) e ∙ ap (λ xs. xs ++ []) (piece_fails dialect line f (f.stop ∷ after) refl))
+first_fails dialect line f after e (cut piece t more c h) =
+    elim (place_in_append f.front (f.stop ∷ after) newline piece t (sym e)) [
+      | inl w ↦ absurd (no_cut_within dialect piece w.0 c (subst (IsLastPiece dialect) w.1 (front_is_piece dialect line f)))
+      | inr w ↦
+          let stops = stops_here f.stop w.0 t after (sym w.2) in (
+            answers_of dialect more,
+            ap (λ xs. answers_of_piece dialect xs ++ answers_of dialect more) w.1
+                ∙ ap (λ xs. xs ++ answers_of dialect more) (piece_fails dialect line f w.0 stops),
+          )
+    ]
+
+-- the spelling of a front of a name, that is not empty
+pub record SpelledFront (kind : NameKind) (n spelling : List ℕ) : Type 0 where
+  pub name : List ℕ
+  pub spelled : SpelledAs kind name spelling
+  pub some : 0 < length name
+  pub first : slice_index name 0 ≡ slice_index n 0
+
+-- a name whose spelling stops too early, after a backslash
+abbrev pub NameStops : NameKind → List ℕ → Type 0
+NameStops kind n = StopsEarly (SpelledFront kind n) (λ text. name kind text ≡ fatal ends_with_backslash) (spelling kind n)
+
+-- the second of two tests that fail together
+pub second_fails : (x y : Bool) → (x && y) ≡ false → x ≡ true → y ≡ false
+second_fails true y h e = h
+second_fails false y h e = absurd (false≢true e)
+
+-- a list up to the first element that fails a test, and from it on
+pub record FirstFailing {X : Type 0} (test : X → Bool) (xs : List X) : Type 0 where
+  pub front : List X
+  pub stop : X
+  pub after : List X
+  pub is : xs ≡ front ++ stop ∷ after
+  pub pass : list_all test front ≡ true
+  pub fails : test stop ≡ false
+
+-- where not all elements pass, there is a first that fails
+pub first_failing : {X : Type 0} (test : X → Bool) (xs : List X) → list_all test xs ≡ false → FirstFailing test xs
+first_failing test [] h = absurd (false≢true (sym h))
+first_failing test (x ∷ xs) h = elim (cases_Bool (test x)) [
+  | inl ok ↦
+      let more = first_failing test xs (second_fails (test x) (list_all test xs) h ok) in
+      record {
+        front = x ∷ more.front;
+        stop = more.stop;
+        after = more.after;
+        is = ap (λ ys. x ∷ ys) more.is;
+        pass = and_from (test x) _ ok more.pass;
+        fails = more.fails;
+      }
+  | inr failing ↦ record { front = []; stop = x; after = xs; is = refl; pass = refl; fails = failing }
+]
+
+-- a text that is not empty, by its test
+some_test : (n : List ℕ) → 0 < length n → (length n == 0) ≡ false
+some_test n h = ne_eqb (length n) 0 (λ e. absurd (omega arith))
+
+-- a parsed name without such bytes is admitted
+admitted_from : (kind : NameKind) (n : List ℕ) → IsParsedName kind n → list_all (may_hold kind) n ≡ true → is_admitted_name kind n ≡ true
+unfolding is_admitted_name
+admitted_from a_measurement n h all = rw (some_test n h.some, h.ends, all, ne_eqb (slice_index n 0) hash h.begins) refl
+admitted_from kind n h all = rw (some_test n h.some, h.ends, all, and_right (slice_index n 0 == hash) false refl) refl
+
+-- the spelling around a byte that is not escaped
+spelling_around : (kind : NameKind) (front after : List ℕ) (stop : ℕ) → is_one_of (never_in kind) stop ≡ true
+    → spelling kind (front ++ stop ∷ after) ≡ spelling kind front ++ stop ∷ spelling kind after
+unfolding escaped
+spelling_around kind front after stop never =
+    flat_map-append (escaped_byte (escapable kind)) front (stop ∷ after)
+    ∙ ap (λ (xs : List ℕ). spelling kind front ++ xs) (escaped_plain (escapable kind) after stop (never_unescapable kind stop never))
+
+-- a text that ends in a backslash is not empty, and begins as each longer one does
+backslash_some : (text : List ℕ) → ends_in_backslash text ≡ true → 0 < length text
+backslash_some [] h = absurd (false≢true h)
+backslash_some (b ∷ text) h = omega arith
+
+-- the first byte of a longer text
+first_same : (text more : List ℕ) → 0 < length text → slice_index text 0 ≡ slice_index (text ++ more) 0
+first_same [] more h = absurd (omega (arith, h))
+first_same (b ∷ text) more h = refl
+
+-- the stop ends the name
+stops_with : (kind : NameKind) (stop : ℕ) (rest : List ℕ) → is_one_of (never_in kind) stop ≡ true → StopsWith stop rest → Stops kind rest
+stops_with kind stop [] never h = tt
+stops_with kind stop (b ∷ rest) never h = ap (is_stop kind) h ∙ never_stops kind stop never
+
+-- a parsed name that is not admitted stops too early
+pub name_stops : (kind : NameKind) (n : List ℕ) → IsParsedName kind n → is_admitted_name kind n ≡ false → NameStops kind n
+name_stops kind n h bad =
+    let none : list_all (may_hold kind) n ≡ false = elim (cases_Bool (list_all (may_hold kind) n)) [
+      | inl all ↦ absurd (both_ways (is_admitted_name kind n) bad (admitted_from kind n h all))
+      | inr some ↦ some
+    ] in
+    let place = first_failing (may_hold kind) n none in
+    let never : is_one_of (never_in kind) place.stop ≡ true = grind (arith, place.fails) in
+    let ends = h.after_backslash place.front place.after place.stop place.is never in
+    let some = backslash_some place.front ends in
+    let spelled = spelling_as kind place.front place.pass in
+    record {
+      front = spelling kind place.front;
+      stop = place.stop;
+      after = spelling kind place.after;
+      is = ap (spelling kind) place.is ∙ spelling_around kind place.front place.after place.stop never;
+      reached = record {
+        name = place.front;
+        spelled = spelled;
+        some = some;
+        first = first_same place.front (place.stop ∷ place.after) some ∙ ap (λ (xs : List ℕ). slice_index xs 0) (sym place.is);
+      };
+      fails = λ rest stops. spelled_fatal spelled some ends rest (stops_with kind place.stop rest never stops);
+    }
+
+-- a line whose measurement stops too early
+pub measurement_fails : (n more : List ℕ) → IsParsedName a_measurement n → NameStops a_measurement n
+    → Fails (spelling a_measurement n ++ more)
+unfolding answer
+measurement_fails n more h f =
+    and_more more (stops_as (λ front r. inl (reaches_head r.spelled [] reaches_start).1.0)
+    (λ front rest r e. (spelled_begins r.spelled r.some (λ i. h.begins (sym r.first ∙ i)) rest, λ dialect. rw e refl)) f)
+
+-- what is fatal for all that are joined by commas, the first of which this is or which come after others
+pub record ManyFail {A : Type 0} (one : List ℕ → Reading A) (text : List ℕ) : Type 0 where
+  pub at_first : separated_list one text ≡ fatal ends_with_backslash
+  pub at_later : (n : ℕ) → length text < n → many (after_comma one) n (comma ∷ text) ≡ fatal ends_with_backslash
+
+module _ {A : Type 0} (one : List ℕ → Reading A) where
+  -- the first of them is fatal
+  pub first_of_many : (text : List ℕ) → one text ≡ fatal ends_with_backslash → ManyFail one text
+  first_of_many text e = record { at_first = rw e refl; at_later = fails }
+    where
+      -- a fatal tag after a comma is fatal for the tags
+      fails : (n : ℕ) → length text < n → many (after_comma one) n (comma ∷ text) ≡ fatal ends_with_backslash
+      fails zero room = absurd (omega arith)
+      fails (suc n) room = rw e refl
+
+  -- one is read, and then one is fatal
+  pub later_of_many : (text more : List ℕ) (x : A) → one text ≡ reads x (comma ∷ more) → length more < length text
+      → ManyFail one more → ManyFail one text
+  later_of_many text more x e less h = record { at_first = rw (e, h.at_later (length (comma ∷ more)) (omega arith)) refl; at_later = fails }
+    where
+      -- a fatal tag further on is fatal for the tags
+      fails : (n : ℕ) → length text < n → many (after_comma one) n (comma ∷ text) ≡ fatal ends_with_backslash
+      fails zero room = absurd (omega arith)
+      fails (suc n) room = rw (e, h.at_later n (omega arith)) refl
+
+-- what leaves a text in its head
+abbrev ReachesHead : List ℕ → Type 0
+ReachesHead front = (piece : List ℕ) → Reaches Head 0 0 piece → Reaches Head 0 0 (piece ++ front)
+
+-- a tag that stops too early, without the comma before it
+abbrev TagFails : Tag → Type 0
+TagFails t = StopsEarly ReachesHead (λ text. tag text ≡ fatal ends_with_backslash) (tag_text t)
+
+-- a key, a byte that neither ends a head nor escapes, and what comes after it
+reaches_after : (front : List ℕ) (b : ℕ) (more : List ℕ) → b ≢ backslash → b ≢ space → b ≢ newline → ReachesHead front → ReachesHead more
+    → ReachesHead (front ++ b ∷ more)
+reaches_after front b more e s n before after piece r =
+    let sign = reaches_other b e s n (piece ++ front) (before piece r) in
+    subst (Reaches Head 0 0) (simp append_assoc) (after ((piece ++ front) ++ b ∷ []) sign)
+
+-- a tag whose value is fatal
+value_fatal : (key text : List ℕ) → is_admitted_name a_tag_key key ≡ true → name a_tag_value text ≡ fatal ends_with_backslash
+    → tag (spelling a_tag_key key ++ equals ∷ text) ≡ fatal ends_with_backslash
+unfolding tag
+value_fatal key text ok e = rw (name_reads_back a_tag_key key text equals ok refl, e) refl
+
+-- a tag whose names are parsed names, not both of them admitted
+tag_fails : (t : Tag) → IsParsedName a_tag_key t.key × IsParsedName a_tag_value t.value → is_admitted_tag t ≡ false → TagFails t
+unfolding tag
+tag_fails t names bad =
+    let key = spelling a_tag_key t.key in
+    elim (cases_Bool (is_admitted_name a_tag_key t.key)) [
+      | inl ok ↦
+          let refused = second_fails (is_admitted_name a_tag_key t.key) (is_admitted_name a_tag_value t.value) bad ok in
+          and_before key equals
+          (λ front r. reaches_after key equals front (omega arith) (omega arith) (omega arith)
+          (λ piece h. reaches_name a_tag_key t.key piece ok h) (λ piece h. reaches_head r.spelled piece h))
+          (λ front rest r e. value_fatal t.key (front ++ rest) ok e)
+          (name_stops a_tag_value t.value names.1 refused)
+      | inr refused ↦ and_more (equals ∷ spelling a_tag_value t.value)
+          (stops_as (λ front r piece h. reaches_head r.spelled piece h) (λ front rest r e. rw e refl)
+          (name_stops a_tag_key t.key names.0 refused))
+    ]
+
+-- tags of which one stops too early, without the first comma
+abbrev pub TagsFail : List Tag → Type 0
+TagsFail ts = (text : List ℕ) × (flat_map built_tag ts ≡ comma ∷ text) × StopsEarly ReachesHead (ManyFail tag) text
+
+-- a tag is read, and a later one stops too early
+later_tag_fails : (t : Tag) (ts : List Tag) → AdmittedTag t → TagsFail ts → TagsFail (t ∷ ts)
+later_tag_fails t ts ok f =
+    let text = tag_text t in
+    let here : ReachesHead text =
+    reaches_after (spelling a_tag_key t.key) equals (spelling a_tag_value t.value) (omega arith) (omega arith) (omega arith)
+    (λ piece h. reaches_name a_tag_key t.key piece ok.0 h) (λ piece h. reaches_name a_tag_value t.value piece ok.1 h) in (
+      text ++ comma ∷ f.0,
+      ap (λ (xs : List ℕ). comma ∷ (text ++ xs)) f.1,
+      and_before text comma (λ front r. reaches_after text comma front (omega arith) (omega arith) (omega arith) here r)
+          (λ front rest r e.
+          let more = front ++ rest in
+          later_of_many tag (text ++ comma ∷ more) more (read_tag t) (tag_reads_back t more comma ok refl)
+          (omega (arith, length-append text (comma ∷ more))) e) f.2,
+    )
+
+-- tags whose names are parsed names, not all of them admitted
+pub tags_fail : (ts : List Tag)
+    → AllByRecursion (λ t. IsParsedName a_tag_key t.key × IsParsedName a_tag_value t.value) ts
+    → list_all is_admitted_tag ts ≡ false → TagsFail ts
+tags_fail [] names bad = absurd (false≢true (sym bad))
+tags_fail (t ∷ ts) names bad =
+    elim (cases_Bool (is_admitted_tag t)) [
+      | inl ok ↦ later_tag_fails t ts
+          (and_parts (is_admitted_name a_tag_key t.key) (is_admitted_name a_tag_value t.value) ok)
+          (tags_fail ts names.1 (second_fails (is_admitted_tag t) (list_all is_admitted_tag ts) bad ok))
+      | inr refused ↦ (
+        tag_text t ++ flat_map built_tag ts,
+        refl,
+        and_more (flat_map built_tag ts) (stops_as (λ front r. r) (λ front rest r e. first_of_many tag (front ++ rest) e)
+            (tag_fails t names.0 refused)),
+      )
+    ]

@@ -1,0 +1,121 @@
+-- The items and the events that calls of `next` give are those of the text, one after another.
+use Rattle.std.proofs.Common.{◌≡◌, ℕ, ◌<◌, ◌==◌, true, false, List, [], ◌∷◌, ◌++◌, length, map, refl, sym, ap, ◌∙◌, subst, arith}
+use Rattle.std.proofs.Common.{append_assoc, append-nil, inl, inr, Some, Result}
+use Rattle.std.specs.Iterator.{Yields}
+use Rattle.std.specs.List.{All}
+use Rattle.std.proofs.lemmas.Bool.{cases_Bool, eq-eqb, ne_eqb}
+use Rattle.std.proofs.lemmas.Grind.{flat_map-append}
+use Rattle.std.proofs.lemmas.List.Elements.{All-tail}
+use Rattle.lp_format.specs.format.Dialects.{Dialect}
+use Rattle.lp_values.specs.declared.error.Error.{Error}
+use Rattle.lp_lines.specs.declared.parsed.ParsedLine.{ParsedLine}
+use Rattle.lp_format.specs.format.Trimming.{trimmed}
+use Rattle.lp_format.specs.format.Pieces.{Left, PiecesLeft}
+use Rattle.lp_format.specs.format.Items.{answers_of, answers_of_piece}
+use Rattle.lp_lines.specs.code.ParseSteps.{GivesItem}
+use Rattle.lp_events.specs.code.LineSteps.{IsBlankPiece}
+use Rattle.influxdb_line_protocol.specs.laws.GivenItems.{trimmed_line, trimmed_lines, AreItemsOf, AreAnswers, ItemsAreOfPieces}
+use Rattle.influxdb_line_protocol.specs.laws.GivenItems.{ItemsAreAnswers, GivenLinesWereRead, ItemsSoFar}
+use Rattle.lp_format.specs.format.Lines.{answer}
+use Rattle.lp_format.proofs.lemmas.split.SplitPieces.{same_pieces}
+use Rattle.lp_events.proofs.lemmas.lines.LineSteps.{left_pieces}
+use Rattle.lp_events.specs.code.EventsLeft.{HasEventsLeft, told}
+use Rattle.influxdb_line_protocol.specs.laws.GivenEvents.{AllEventsCome, EventsSoFar}
+
+-- nothing is left of blank pieces
+blank_lines : (pieces : List (List ℕ)) → All IsBlankPiece pieces → trimmed_lines pieces ≡ []
+blank_lines [] h = refl
+blank_lines (p ∷ pieces) h =
+    let e : (length (trimmed p) == 0) ≡ true = eq-eqb (length (trimmed p)) 0 (h 0 p (omega arith)) in
+    rw e (blank_lines pieces (All-tail IsBlankPiece p pieces h))
+
+-- of a piece that is not blank, its trimmed text is left
+one_line : (piece : List ℕ) → 0 < length (trimmed piece) → trimmed_line piece ≡ trimmed piece ∷ []
+one_line piece h =
+    let e : (length (trimmed piece) == 0) ≡ false = ne_eqb (length (trimmed piece)) 0 (λ none. absurd (omega arith)) in
+    rw e refl
+
+-- what is left of blank pieces, one that is not blank, and others
+lines_from : (skipped : List (List ℕ)) (piece : List ℕ) (front : List (List ℕ)) → All IsBlankPiece skipped → 0 < length (trimmed piece)
+    → trimmed_lines (skipped ++ piece ∷ front) ≡ trimmed piece ∷ trimmed_lines front
+lines_from skipped piece front blank some =
+    flat_map-append trimmed_line skipped (piece ∷ front)
+    ∙ ap (λ (l : List (List ℕ)). l ++ trimmed_lines (piece ∷ front)) (blank_lines skipped blank)
+    ∙ ap (λ (l : List (List ℕ)). l ++ trimmed_lines front) (one_line piece some)
+
+-- the items that calls gave are those of the pieces before the ones that are left
+given_items : (items : List (Result ParsedLine Error)) (before left : Left) (others : List (List ℕ)) → Yields GivesItem before items left
+    → PiecesLeft left others
+    → (front : List (List ℕ)) × PiecesLeft before (front ++ others) × AreItemsOf before.dialect (trimmed_lines front) items
+given_items [] before left others steps h = ([], subst (λ l. PiecesLeft l others) (sym steps) h, tt)
+given_items (item ∷ items) before left others steps h =
+    let more = given_items items steps.0 left others steps.2 h in
+    let gave = steps.1.1 (more.0 ++ others) more.1 in
+    let front = gave.skipped ++ gave.piece ∷ more.0 in
+    let same : steps.0.dialect ≡ before.dialect = steps.1.0 in
+    let later = subst (λ d. AreItemsOf d (trimmed_lines more.0) items) same more.2 in (
+      front,
+      subst (PiecesLeft before) (sym (append_assoc gave.skipped (gave.piece ∷ more.0) others)) gave.left,
+      subst (λ ls. AreItemsOf before.dialect ls (item ∷ items)) (sym (lines_from gave.skipped gave.piece more.0 gave.blank gave.some))
+          (gave.item_is, later),
+    )
+
+-- up to any call
+pub items_so_far : ItemsSoFar
+items_so_far dialect text items left others steps h = given_items items (record { dialect = dialect; text = Some text }) left others steps h
+
+-- and up to the last one
+pub items_are_of_pieces : ItemsAreOfPieces
+items_are_of_pieces dialect text pieces items h drained =
+    let last = drained.1 in
+    let ended = last.2.0 in
+    let found = items_so_far dialect text items last.0 ended.skipped last.1 ended.left in
+    let same : found.0 ++ ended.skipped ≡ pieces = same_pieces dialect refl found.1 h in
+    let none : trimmed_lines pieces ≡ trimmed_lines found.0 =
+    ap trimmed_lines (sym same) ∙ flat_map-append trimmed_line found.0 ended.skipped
+    ∙ ap (λ (l : List (List ℕ)). trimmed_lines found.0 ++ l) (blank_lines ended.skipped ended.blank)
+    ∙ append-nil (trimmed_lines found.0) in
+    subst (λ ls. AreItemsOf dialect ls items) (sym none) found.2
+
+-- the answers for pieces are those for what is left of them
+answers_of_lines : (dialect : Dialect) (pieces : List (List ℕ))
+    → answers_of dialect pieces ≡ map (answer dialect) (trimmed_lines pieces)
+unfolding answers_of_piece
+answers_of_lines dialect [] = refl
+answers_of_lines dialect (p ∷ pieces) =
+    elim (cases_Bool (length (trimmed p) == 0)) [
+      | inl none ↦ rw none (answers_of_lines dialect pieces)
+      | inr some ↦ rw some (ap (λ answers. answer dialect (trimmed p) ∷ answers) (answers_of_lines dialect pieces))
+    ]
+
+-- items of trimmed texts are the answers for them
+items_answer : (dialect : Dialect) (lines : List (List ℕ)) (items : List (Result ParsedLine Error)) → AreItemsOf dialect lines items
+    → AreAnswers items (map (answer dialect) lines)
+items_answer dialect [] [] h = tt
+items_answer dialect [] (item ∷ items) h = absurd h
+items_answer dialect (line ∷ lines) [] h = absurd h
+items_answer dialect (line ∷ lines) (item ∷ items) h = (h.0.answers, items_answer dialect lines items h.1)
+
+-- so the items of a text are its answers
+pub items_are_answers : ItemsAreAnswers
+items_are_answers dialect text answers items has drained =
+    let items_of = items_are_of_pieces dialect text has.pieces items has.are drained in
+    subst (AreAnswers items) (sym (has.answered ∙ answers_of_lines dialect has.pieces))
+    (items_answer dialect (trimmed_lines has.pieces) items items_of)
+
+-- a line that is given was read
+pub given_lines_were_read : GivenLinesWereRead
+given_lines_were_read before after line gives =
+    let left = left_pieces after in
+    let gave = gives.1 left.0 left.1 in
+    record { dialect = before.dialect; text = gave.piece; answered = gave.item_is.answers }
+
+-- the events that came were left, and those that are left after them
+pub so_far : EventsSoFar
+so_far start reader [] others same left = subst (λ r. HasEventsLeft r others) (sym same) left
+so_far start reader (event ∷ came) others (next, given, more) left =
+    given (map told came ++ others) (so_far next reader came others more left)
+
+-- so all come before `None`
+pub all_come : AllEventsCome
+all_come start came (end, (reader, more, none)) = rw append-nil at (so_far start reader came [] more none.0)

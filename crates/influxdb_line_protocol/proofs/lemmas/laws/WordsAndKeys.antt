@@ -1,0 +1,120 @@
+-- The word at the start of a text is the longest that is there; tags by their keys are the one list of them whose keys rise.
+use Rattle.std.proofs.Common.{◌≡◌, ◌⊎◌, ℕ, ◌≤◌, List, [], ◌∷◌, ◌++◌, length, take, drop, true, false, eqb, refl, sym, ap, ◌∙◌}
+use Rattle.std.proofs.Common.{subst, inl, inr, arith}
+use Rattle.std.specs.Prelude.{nat_lt}
+use Rattle.std.specs.List.{Contains, fold, starts_with}
+use Rattle.std.proofs.lemmas.Bool.{cases_Bool, both_ways, ltb-true, ltb-false, and_from}
+use Rattle.std.proofs.lemmas.Bool.Decides.{Decides-eqb}
+use Rattle.std.proofs.lemmas.List.{length-take-le, take-append-drop, take_at}
+use Rattle.std.proofs.lemmas.Slice.Eq.{starts_is}
+use Rattle.lp_format.specs.format.Values.{longer_front}
+use Rattle.lp_format.specs.laws.Meanings.{WordFrontIsWord, WordFrontIsLongest}
+use Rattle.lp_lines.proofs.lemmas.names.ParsedNames.{nothing_in_nil}
+use Rattle.lp_format.proofs.lemmas.lists.Elements.{first_element, first_or_later, later_element}
+use Rattle.std.specs.Cmp.Lexicographic.{slice_cmp}
+use Rattle.std.specs.List.Sorted.{IsPermutation}
+use Rattle.std.specs.Ordering.{is_lt, nat_cmp}
+use Rattle.std.proofs.lemmas.List.Sorted.{IsPermutation-sym, IsPermutation-trans}
+use Rattle.lp_lines.specs.code.Bases.{by_key, in_order, is_strictly_sorted}
+use Rattle.lp_lines.specs.laws.BaseLaws.{entry_keys, TagsByKeyAreSorted}
+use Rattle.lp_lines.proofs.lemmas.series.SortedTags.{Rise, by_key_permutes, by_key_rises, passes_rise, same_moved}
+
+-- what is known of the longer of a front and a word
+record Step (text : List ℕ) (n : ℕ) (word : List ℕ) (m : ℕ) : Type 0 where
+  more : n ≤ m
+  front : (k : ℕ) → k ≤ length text → word ≡ take k text → k ≤ m
+  one : (m ≡ n) ⊎ (word ≡ take m text)
+
+-- a word at the start of the text
+starts : (text word : List ℕ) → starts_with eqb text word ≡ true → word ≡ take (length word) text
+starts text word h =
+    let is = (starts_is Decides-eqb text word (starts_with eqb text word) refl).0 h in
+    sym (ap (take (length word)) is ∙ take_at word (drop (length word) text) (length word) refl)
+
+-- and one that is not there
+starts_not : (text word : List ℕ) (k : ℕ) → k ≤ length text → starts_with eqb text word ≡ false → word ≡ take k text → ⊥
+starts_not text word k fits h e =
+    let is : text ≡ word ++ drop k text = sym (take-append-drop k text) ∙ ap (λ (w : List ℕ). w ++ drop k text) (sym e) in
+    both_ways (starts_with eqb text word) h ((starts_is Decides-eqb text word (starts_with eqb text word) refl).1 (drop k text) is)
+
+-- each step is such
+step_is : (text : List ℕ) (n : ℕ) (word : List ℕ) → Step text n word (longer_front text n word)
+step_is text n word =
+    elim (cases_Bool (starts_with eqb text word)) [
+      | inl here ↦ elim (cases_Bool (nat_lt n (length word))) [
+        | inl longer ↦ rw (here, longer) (record {
+          more = let less = ltb-true n (length word) longer in omega arith;
+          front = λ k fits e. omega (arith, ap length e, length-take-le k text fits);
+          one = inr (starts text word here);
+        })
+        | inr short ↦ rw (here, short) (record {
+          more = omega arith;
+          front = λ k fits e. omega (arith, ap length e, length-take-le k text fits, ltb-false n (length word) short);
+          one = inl refl;
+        })
+      ]
+      | inr other ↦
+          rw other (record { more = omega arith; front = λ k fits e. absurd (starts_not text word k fits other e); one = inl refl })
+    ]
+
+-- what is known of the longest of a front and words
+record Longest (text : List ℕ) (n : ℕ) (words : List (List ℕ)) (len : ℕ) : Type 0 where
+  more : n ≤ len
+  front : (k : ℕ) → k ≤ length text → Contains words (take k text) → k ≤ len
+  one : (len ≡ n) ⊎ Contains words (take len text)
+
+-- each longest is such
+longest_is : (text : List ℕ) (n : ℕ) (words : List (List ℕ)) → Longest text n words (fold (λ n word. longer_front text n word) n words)
+longest_is text n [] = record { more = omega arith; front = λ k fits h. absurd (nothing_in_nil (take k text) h); one = inl refl }
+longest_is text n (word ∷ words) =
+    let m = longer_front text n word in
+    let s = step_is text n word in
+    let more = longest_is text m words in
+    let len = fold (λ n word. longer_front text n word) m words in
+    record {
+      more = let a = s.more in let b = more.more in omega arith;
+      front = λ k fits h. elim (first_or_later word (take k text) words h) [
+        | inl same ↦ let a = s.front k fits same in let b = more.more in omega arith
+        | inr later ↦ more.front k fits later
+      ];
+      one = elim more.one [
+        | inl same ↦ elim s.one [
+          | inl none ↦ inl (same ∙ none)
+          | inr here ↦
+              let is : word ≡ take len text = here ∙ ap (λ (k : ℕ). take k text) (sym same) in
+              inr (subst (λ (w : List ℕ). Contains (w ∷ words) (take len text)) (sym is) (first_element (take len text) words))
+        ]
+        | inr later ↦ inr (later_element word (take len text) words later)
+      ];
+    }
+
+-- a front that is taken is one of the words
+pub word_front_is_word : WordFrontIsWord
+word_front_is_word words text some =
+    elim (longest_is text 0 words).one [ inl none ↦ absurd (omega arith) | inr here ↦ here ]
+
+-- and no longer front is one
+pub word_front_is_longest : WordFrontIsLongest
+word_front_is_longest words text n fits here = (longest_is text 0 words).front n fits here
+
+-- keys that rise pass the test
+rise_passes : (es : List (List ℕ × List ℕ)) → Rise es → is_strictly_sorted (entry_keys es) ≡ true
+rise_passes [] h = refl
+rise_passes (e ∷ []) h = refl
+rise_passes (e ∷ f ∷ es) h =
+    and_from (is_lt (slice_cmp nat_cmp e.0 f.0)) (is_strictly_sorted (entry_keys (f ∷ es))) (ap is_lt h.0.0) (rise_passes (f ∷ es) h.1)
+
+-- the tags by their keys, and no other list
+pub tags_by_key_are_sorted : TagsByKeyAreSorted
+tags_by_key_are_sorted tags entries once = (
+  (λ e. (
+    ap (λ es. is_strictly_sorted (entry_keys es)) e
+        ∙ rise_passes (by_key tags) (by_key_rises tags),
+    subst (IsPermutation (in_order tags)) (sym e) (by_key_permutes tags once),
+  )),
+  (λ h.
+      let moves =
+      IsPermutation-trans entries (in_order tags) (by_key tags) (IsPermutation-sym (in_order tags) entries h.1)
+      (by_key_permutes tags once) in
+      same_moved entries (by_key tags) (passes_rise entries h.0) (by_key_rises tags) moves),
+)

@@ -1,2 +1,0 @@
-pub mod BasesApart
-pub mod SafeBases

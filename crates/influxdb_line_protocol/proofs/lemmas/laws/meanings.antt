@@ -1,2 +1,0 @@
-pub mod WordMeaning
-pub mod ByKeyMeaning

@@ -1,2 +1,0 @@
-pub mod Utf8Spellings
-pub mod NamesInLines

@@ -1,0 +1,4 @@
+pub mod WrittenTokens
+pub mod WrittenNames
+pub mod WrittenNumbers
+pub mod WrittenLines

@@ -1,5 +1,0 @@
-use Rattle.std.proofs.Common.{refl}
-use Rattle.lp_lines.proofs.filling.put_field.Goals as goal
-
-pub returns-clause-puts : goal.returns-clause-puts
-returns-clause-puts c = λ taken. (c.push_field.ensures.pushed taken, refl)

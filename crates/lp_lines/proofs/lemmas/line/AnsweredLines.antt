@@ -1,0 +1,237 @@
+-- What a line that is answered has: a tag in its tag set, no more columns than bytes, and no need of memory if it is light; and the
+-- item of a line that was given.
+use Rattle.std.proofs.Common.{◌≡◌, ℕ, ◌<◌, List, [], ◌∷◌, length, refl, ap, subst, arith, Option, Some, None, Ok, Err, Result, ◌+◌, ◌≤◌}
+use Rattle.std.proofs.Common.{◌^◌, drop, length-append, length-drop, true, not, ◌&&◌}
+use Rattle.std.specs.Prelude.{IfSome, Option, Some, None, Ok, Err, nat_le}
+use Rattle.std.specs.Option.{option_map}
+use Rattle.std.proofs.lemmas.Bool.{and_parts, le-leb, leb-true}
+use Rattle.std.proofs.lemmas.List.{length-map}
+use Rattle.smallvec.specs.SmallVec.{SmallVec}
+use Rattle.lp_format.specs.format.Dialects.{Dialect}
+use Rattle.lp_format.specs.format.Readings.{Fault, Text, Reading, miss, fatal, reads}
+use Rattle.lp_format.specs.format.Points.{Pair}
+use Rattle.lp_format.specs.format.Lines.{Line, tag, after_comma, prepend, many, separated_list, tag_set, answer, field, field_set}
+use Rattle.lp_format.specs.format.Lines.{some_tags, spaces, byte}
+use Rattle.lp_format.proofs.lemmas.names.Inversions.{prepend_parts, count_is_of_the_most}
+use Rattle.lp_format.specs.format.Bytes.{comma, backslash, is_one_of, space}
+use Rattle.lp_format.specs.format.Names.{a_measurement}
+use Rattle.lp_format.specs.format.Values.{Value}
+use Rattle.lp_format.specs.laws.Meanings.{SeparatedBy, SeparatedAfterComma}
+use Rattle.lp_format.proofs.lemmas.meanings.JoinedMeaning.{the_most_is_read}
+use Rattle.lp_format.proofs.lemmas.meanings.ShorterRests.{tag_no_longer, field_no_longer}
+use Rattle.lp_format.specs.code.Light.{carries_no_text, count_after, fields_in, is_light_answer, is_light_in, is_single_line, read_count}
+use Rattle.lp_format.specs.code.Light.{tags_in, is_light}
+use Rattle.lp_format.specs.format.Pieces.{Left}
+use Rattle.lp_values.specs.declared.error.Error.{Error}
+use Rattle.lp_values.specs.declared.escaped.EscapedStr.{EscapedStr}
+use Rattle.lp_values.proofs.lemmas.fields.ReadingLemmas.{bind_reads, name_ends}
+use Rattle.lp_values.specs.code.Outcomes.{IsNotOutOfMemory}
+use Rattle.lp_events.specs.code.LineSteps.{GaveLine}
+use Rattle.lp_events.proofs.lemmas.fields.ManyLemmas.{TagSetRead, fields_joined, set_separated, tag_set_read}
+use Rattle.lp_lines.specs.declared.parsed.ParsedLine.{ParsedLine}
+use Rattle.lp_lines.specs.code.Parsed.{Answers, FillsLine, line_read, tag_of, tags_of, field_of}
+use Rattle.lp_lines.specs.code.ParseSteps.{HasNoEmptyTagSet, CanCountColumns, IsItemOf, GaveItem}
+use Rattle.lp_lines.proofs.lemmas.names.ParsedNames.{answer_parts, Parts}
+use Rattle.lp_lines.specs.code.Lookups.{some_items}
+use Rattle.lp_lines.specs.code.ReadInto.{item_in}
+use Rattle.lp_events.proofs.lemmas.fields.ManyLemmas.{TagSetRead.no_set, TagSetRead.some_set}
+
+-- what commas join is at least one
+pub joined_some : {A : Type 0} (one : List ℕ → Reading A) (line rest : List ℕ) (xs : List A)
+    → separated_list one line ≡ reads xs rest → 0 < length xs
+joined_some one line rest xs h =
+    let parts = bind_reads (one line) (λ x. prepend (x.value ∷ []) (many (after_comma one) (length x.rest) x.rest)) xs rest h in
+    let more = prepend_parts (parts.first ∷ []) (many (after_comma one) (length parts.mid) parts.mid) xs rest parts.next in
+    omega (arith, ap length more.all)
+
+-- a set that may be missing holds at least one, where it is there
+abbrev pub HasSome : {T : Type 0} → Option (List T) → Type 0
+HasSome o = IfSome o (λ ts. 0 < length ts)
+
+-- a tag set that is read holds at least one tag
+tag_set_some : (line rest : List ℕ) (ts : Option (List (Pair Text Text))) → tag_set line ≡ Ok (record { value = ts; rest = rest })
+    → HasSome ts
+tag_set_some line rest ts h = by_read (tag_set_read line rest ts h)
+  where
+    -- there is none, or it has those that commas join
+    by_read : {ts : Option (List (Pair Text Text))} {rest : List ℕ} → TagSetRead line ts rest → HasSome ts
+    by_read (no_set none) = tt
+    by_read (some_set mark tags rest sign read) = joined_some tag mark rest tags read
+
+-- so does that of each line that is answered
+pub line_some_tags : (dialect : Dialect) (text : List ℕ) (l : Line) → answer dialect text ≡ Ok l → HasSome l.tags
+line_some_tags dialect text l h = let parts =
+    answer_parts dialect text l h in tag_set_some parts.measurement_rest parts.tags_rest l.tags parts.tags
+
+-- the tags of the code's set, seen as they were read
+code_tags_some : (o : Option (SmallVec (EscapedStr × EscapedStr))) → HasSome (option_map tags_of o)
+    → IfSome o (λ tags. 0 < length tags.items)
+code_tags_some None h = tt
+code_tags_some (Some tags) h = omega (arith, h, length-map tags.items tag_of)
+
+-- the tag set of an item is not empty
+pub item_has_tags : (dialect : Dialect) (line : List ℕ) (item : Result ParsedLine Error) → Answers item (answer dialect line)
+    → HasNoEmptyTagSet item
+item_has_tags dialect line (Ok parsed) h = code_tags_some parsed.series.tag_set (line_some_tags dialect line (line_read parsed) h)
+item_has_tags dialect line (Err e) h = tt
+
+module _ {A : Type 0} (one : List ℕ → Reading A)
+    (no_longer : (text : List ℕ) (x : A) (rest : List ℕ) → one text ≡ reads x rest → length rest ≤ length text) where
+  -- values that come after commas are no more than the bytes before the rest
+  room_after : (xs : List A) (text rest : List ℕ) → SeparatedAfterComma one xs text rest → length xs + length rest ≤ length text
+  room_after [] text rest h = omega (arith, ap length h)
+  room_after (x ∷ xs) text rest h =
+      let more = room_after xs h.1 rest h.4 in
+      omega (arith, ap length h.2, no_longer h.0 x h.1 h.3)
+
+  -- with a first one they are at most one more
+  room_of : (xs : List A) (text rest : List ℕ) → SeparatedBy one xs text rest → length xs ≤ length text + 1
+  room_of [] text rest h = omega arith
+  room_of (x ∷ xs) text rest h =
+      let more = room_after xs h.0 rest h.2 in
+      omega (arith, no_longer text x h.0 h.1)
+
+-- the fields of a text
+field_room : (dialect : Dialect) (text rest : List ℕ) (fs : List (Pair Text (Value Text))) → field_set dialect text ≡ reads fs rest
+    → length fs ≤ length text + 1
+field_room dialect text rest fs h =
+    let joined = fields_joined dialect text rest fs h in
+    let full = (the_most_is_read field (λ t. (field_no_longer t).holds) text fs joined.0).0 joined.1 in
+    room_of field (λ t. (field_no_longer t).holds) fs text joined.0 full.longest.separated
+
+-- the tags and the fields of a line
+pub line_room : (dialect : Dialect) (text : List ℕ) (l : Line) → answer dialect text ≡ Ok l
+    → length (some_tags l.tags) + length l.fields ≤ length text + 1
+line_room dialect text l h =
+    let parts = answer_parts dialect text l h in
+    let front = name_ends a_measurement text l.measurement parts.measurement_rest parts.measurement in
+    let separated = set_separated parts.measurement_rest parts.tags_rest l.tags parts.tags in
+    let tags = room_after tag (λ t. (tag_no_longer t).holds) (some_tags l.tags) parts.measurement_rest parts.tags_rest separated in
+    let fields = field_room dialect (drop (spaces parts.tags_rest) parts.tags_rest) parts.fields_rest l.fields parts.fields in
+    let after = length-drop (spaces parts.tags_rest) parts.tags_rest in
+    omega (arith, ap length front.is, length-append front.front parts.measurement_rest, after)
+
+-- as many tags as were read
+tags_as_read : (o : Option (SmallVec (EscapedStr × EscapedStr))) → length (some_tags (option_map tags_of o)) ≡ length (some_items o)
+tags_as_read None = refl
+tags_as_read (Some tags) = length-map tags.items tag_of
+
+-- the columns of an item can be counted
+pub item_columns_fit : (dialect : Dialect) (line : List ℕ) (item : Result ParsedLine Error) → length line < 2 ^ 63
+    → Answers item (answer dialect line) → CanCountColumns item
+item_columns_fit dialect line (Ok parsed) short h =
+    let room = line_room dialect line (line_read parsed) h in
+    omega (arith, room, tags_as_read parsed.series.tag_set, length-map parsed.field_set.items field_of)
+item_columns_fit dialect line (Err e) short h = tt
+
+-- as many are counted as commas join
+joined_counted : {A : Type 0} (one : List ℕ → Reading A)
+    (no_longer : (text : List ℕ) (x : A) (rest : List ℕ) → one text ≡ reads x rest → length rest ≤ length text)
+    (text : List ℕ) (xs : List A) (rest : List ℕ) → separated_list one text ≡ reads xs rest → read_count one text ≡ length xs
+joined_counted one no_longer text xs rest h =
+    let read = ((the_most_is_read one no_longer text xs rest).0 h).longest in
+    let counted = count_is_of_the_most one no_longer text in
+    omega (arith, counted.3, read.most counted.0 counted.1 counted.2.separated, counted.2.most xs rest read.separated)
+
+-- and the tags of a set
+tags_counted : (text : List ℕ) (tags : Option (List (Pair Text Text))) (rest : List ℕ)
+    → tag_set text ≡ Ok (record { value = tags; rest = rest })
+    → count_after (byte comma text) (λ after. read_count tag after) ≡ length (some_tags tags)
+tags_counted text tags rest e = by_read (tag_set_read text rest tags e)
+  where
+    -- there are none, or those that commas join
+    by_read : {tags : Option (List (Pair Text Text))} {rest : List ℕ} → TagSetRead text tags rest
+        → count_after (byte comma text) (λ after. read_count tag after) ≡ length (some_tags tags)
+    by_read (no_set none) = rw none refl
+    by_read (some_set mark tags rest sign read) = rw sign (joined_counted tag (λ t. (tag_no_longer t).holds) mark tags rest read)
+
+module _ (dialect : Dialect) (line : List ℕ) where
+  -- what the test of a line that needs no memory in some room says
+  record IsLightIn (p q : ℕ) : Type 0 where
+    tags : tags_in line ≤ p
+    fields : fields_in line ≤ q
+    answered : is_light_answer line (answer dialect line) ≡ true
+
+  -- each line that passes the test has that
+  light_in : (p q : ℕ) → is_light_in p q dialect line ≡ true → IsLightIn p q
+  unfolding is_light_in
+  light_in p q light =
+      let parts = and_parts (nat_le (tags_in line) p && nat_le (fields_in line) q) (is_light_answer line (answer dialect line)) light in
+      let counts = and_parts (nat_le (tags_in line) p) (nat_le (fields_in line) q) parts.0 in
+      record { tags = leb-true (tags_in line) p counts.0; fields = leb-true (fields_in line) q counts.1; answered = parts.1 }
+
+  -- a line that needs no memory in some room needs none in more
+  pub more_room : (p q more_tags more_fields : ℕ) → p ≤ more_tags → q ≤ more_fields → is_light_in p q dialect line ≡ true
+      → is_light_in more_tags more_fields dialect line ≡ true
+  unfolding is_light_in
+  more_room p q more_tags more_fields h k light =
+      let fits = light_in p q light in
+      rw (le-leb (tags_in line) more_tags (omega arith), le-leb (fields_in line) more_fields (omega arith)) fits.answered
+
+  -- as many tags were counted as the line has
+  tags_are : (l : Line) → answer dialect line ≡ Ok l → tags_in line ≡ length (some_tags l.tags)
+  unfolding tags_in
+  tags_are l h =
+      let parts = answer_parts dialect line l h in
+      rw parts.measurement (tags_counted parts.measurement_rest l.tags parts.tags_rest parts.tags)
+
+  -- as many fields were counted as the line has
+  fields_are : (l : Line) → answer dialect line ≡ Ok l → (parts : Parts dialect line l) (r : Reading ℕ)
+      → byte space parts.tags_rest ≡ r → fields_in line ≡ length l.fields
+  unfolding answer fields_in
+  fields_are l h parts miss s = absurd (let no = rw (parts.measurement, parts.tags, s) at h in cc)
+  fields_are l h parts (fatal f) s = absurd (let no = rw (parts.measurement, parts.tags, s) at h in cc)
+  fields_are l h parts (reads c gap) s =
+      let text = drop (spaces parts.tags_rest) parts.tags_rest in
+      let joined = fields_joined dialect text parts.fields_rest l.fields parts.fields in
+      rw (parts.measurement, parts.tags, s) (joined_counted field (λ t. (field_no_longer t).holds) text l.fields joined.0 joined.1)
+
+  -- a light line that is read has no copy, and fits the room
+  pub light_line : (p q : ℕ) (l : Line) → answer dialect line ≡ Ok l → is_light_in p q dialect line ≡ true
+      → (length (some_tags l.tags) ≤ p) × (length l.fields ≤ q) × (is_single_line l ≡ true)
+  light_line p q l h light =
+      let fits = light_in p q light in
+      let read = answer_parts dialect line l h in (
+        omega (arith, fits.tags, tags_are l h),
+        omega (arith, fits.fields, fields_are l h read (byte space read.tags_rest) refl),
+        rw h at fits.answered,
+      )
+
+  -- the fault of a light line carries no text
+  pub light_fault : (p q : ℕ) (fault : Fault) → answer dialect line ≡ Err fault → is_light_in p q dialect line ≡ true
+      → carries_no_text fault ≡ true
+  light_fault p q fault h light =
+      (and_parts (not (is_one_of line backslash)) (carries_no_text fault) (rw h at (light_in p q light).answered)).1
+
+-- the item of the line that was given
+pub gave_item : (before : Left) (line : List ℕ) (item : Result ParsedLine Error) (others : List (List ℕ)) → GaveLine before line others
+    → length line < 2 ^ 63 → Answers item (answer before.dialect line) → (is_light before.dialect line ≡ true → IsNotOutOfMemory item)
+    → GaveItem before item others
+gave_item before line item others g short answers light =
+    record {
+      skipped = g.skipped;
+      piece = g.piece;
+      left = g.left;
+      blank = g.blank;
+      some = subst (λ (l : List ℕ). 0 < length l) g.line_is g.some;
+      item_is =
+          subst (λ l. IsItemOf before.dialect l item) g.line_is
+          (record {
+            answers = answers;
+            light = light;
+            tags = item_has_tags before.dialect line item answers;
+            columns_fit = item_columns_fit before.dialect line item short answers;
+          });
+    }
+
+-- a line that was filled is the item
+pub filled_answers : {X : Type 0} (line : ParsedLine) (read : Result X Error) (answer : Result Line Fault)
+    → FillsLine line read answer → Answers (item_in line read) answer
+filled_answers line (Ok done) answer filled = filled
+filled_answers line (Err e) answer filled = filled
+
+-- `OutOfMemory` is not the item where it is not the answer
+pub item_is_no_refusal : {X : Type 0} (line : ParsedLine) (read : Result X Error) → IsNotOutOfMemory read
+    → IsNotOutOfMemory (item_in line read)
+item_is_no_refusal line (Ok done) h = λ same. cc
+item_is_no_refusal line (Err e) h = λ same. h (cc)

@@ -1,0 +1,10 @@
+use Rattle.std.proofs.Common.{arith, ap, ◌∙◌}
+use Rattle.lp_scan.specs.code.Tokens.{is_mark}
+use Rattle.lp_scan.specs.code.Lanes.{first_set}
+use Rattle.lp_scan.proofs.lemmas.scan.MaskLemmas.{run_is}
+use Rattle.lp_scan.proofs.lanes.unmarked_run.Goals as goal
+
+pub returns : goal.returns
+returns c =
+    run_is (is_mark c.args.kind) c.args.bytes.now c.args.at 16 c.requires (omega arith) c.first_set.result
+    (c.first_set.ensures ∙ ap (λ m. first_set m 16) c.mark_mask.ensures)

@@ -1,0 +1,155 @@
+-- The first newline, quote or backslash of a text, as loads and searches find it, and the cut that it tells.
+use Rattle.std.proofs.Common.{◌≡◌, ℕ, ◌+◌, ◌-◌, ◌/◌, ◌^◌, ◌<◌, ◌≤◌, Bool, true, cond, not, List, length, drop, slice_index, Some, sym, ap}
+use Rattle.std.proofs.Common.{subst, ◌∙◌, map, inl, inr, refl, length-drop, arith, None, ◌≢◌, zero, suc, take}
+use Rattle.std.specs.Int.{w64, trailing_zeros}
+use Rattle.std.proofs.lemmas.Bool.{cases_lt, ne_eqb, not-true, not-false, false≢true, cases_Bool}
+use Rattle.std.proofs.lemmas.List.{length-map, get_or-drop, take_all, take_more}
+use Rattle.std.proofs.lemmas.Simd.{length-chunk, mask_l-lt}
+use lib.Lanes.{chunk, mask_l}
+use Rattle.memchr.specs.Find.{IsFirstByte, is_byte3, Nowhere, Passes}
+use Rattle.lp_scan.specs.code.Lanes.{AllPassBetween, IsRunIn, first_set, mask_of}
+use Rattle.lp_split.specs.code.Ahead.{AreSeen}
+use Rattle.lp_scan.proofs.lemmas.scan.MaskLemmas.{run_is, shifted, tz_below}
+use Rattle.lp_format.specs.format.Bytes.{backslash, quote}
+use Rattle.std.specs.List.{All}
+use Rattle.std.proofs.lemmas.List.Elements.{All-nil, All-push}
+use Rattle.lp_format.specs.format.Dialects.{Dialect, Crate, Strict}
+use Rattle.lp_format.specs.format.Pieces.{begins_comment, IsFirstCut}
+use Rattle.lp_format.proofs.lemmas.split.SplitPieces.{cut_of_comment, cut_of_other}
+use Rattle.lp_split.proofs.lemmas.split.SplitStretches.{quiet_cut, quiet_last}
+
+module _ (test : ℕ → Bool) (text : List ℕ) (at n m r : ℕ) (room : at + n ≤ length text) (few : n ≤ 64)
+    (is : m ≡ mask_of test text at n) (some : 0 < m) (lowest : r ≡ trailing_zeros w64 m) where
+  -- the mask is below the power of as many bytes as it tells of
+  below : m < 2 ^ n
+  below =
+      let ms = map test (chunk at n text) in
+      let long : length ms ≡ n = length-map (chunk at n text) test ∙ length-chunk at n text room in
+      let small : mask_l ms < 2 ^ n = rw long at (mask_l-lt ms) in
+      omega (arith, is, small)
+
+  -- the bit is one of those
+  pub one_of : r < n
+  one_of = tz_below m n r below few some lowest
+
+  -- and the bytes before it pass no test
+  run : IsRunIn (λ b. not (test b)) text at n r
+  run =
+      let set : r ≡ first_set m n = lowest ∙ ap (λ (t : Bool). cond t n (trailing_zeros w64 m)) (sym (ne_eqb m 0 (omega (arith, some)))) in
+      run_is test text at n room few r (set ∙ ap (λ (k : ℕ). first_set k n) is)
+
+  -- the byte is a mark
+  pub is_mark : test (slice_index text (at + r)) ≡ true
+  is_mark = not-false _ (run.2 one_of)
+
+  -- where none comes before the mask's bytes, it is the first
+  pub first_is : (place : ℕ) → at + r ≡ place → AllPassBetween (λ b. not (test b)) text 0 at → IsFirstByte test text (Some place)
+  first_is place to_place before = subst (λ (k : ℕ). IsFirstByte test text (Some k)) to_place (
+    record {
+      low = omega arith;
+      high = omega (arith, one_of);
+      before = λ k from to found. elim (cases_lt k at) [
+        | inl early ↦ false≢true (sym (not-true (test (slice_index text k)) (before k from early)) ∙ found)
+        | inr late ↦ false≢true (sym (not-true (test (slice_index text k)) (run.1 k late to)) ∙ found)
+      ];
+    },
+    is_mark,
+  )
+
+  -- the bits above it are the mask of the bytes after it
+  pub later_are : m / 2 ^ r / 2 ≡ mask_of test (drop (at + r + 1) text) 0 (n - (r + 1))
+  later_are =
+      let inside = one_of in
+      let count : n - r - 1 ≡ n - (r + 1) = omega arith in
+      ap (λ (k : ℕ). k / 2 ^ r / 2) is
+      ∙ ap (λ (k : ℕ). k / 2) (shifted test text at n r (omega (arith, inside)))
+      ∙ shifted test text (at + r) (n - r) 1 (omega (arith, inside))
+      ∙ ap (mask_of test text (at + r + 1)) count
+
+-- so are they seen
+pub seen_later : (text : List ℕ) (at n m r place : ℕ) → at + n ≤ length text → n ≤ 64
+    → m ≡ mask_of (is_byte3 backslash 10 quote) text at n → 0 < m → r ≡ trailing_zeros w64 m
+    → at + r ≡ place → AreSeen (drop (place + 1) text) (m / 2 ^ r / 2)
+seen_later text at n m r place room few is some lowest to_place = subst
+    (λ (k : ℕ). AreSeen (drop (k + 1) text) (m / 2 ^ r / 2)) to_place (record {
+      count = n - (r + 1);
+      within = omega (arith, length-drop (at + r + 1) text);
+      few = omega arith;
+      are = later_are (is_byte3 backslash 10 quote) text at n m r room few is some lowest;
+    })
+
+-- of no bytes nothing is seen
+pub none_are_seen : (text : List ℕ) → AreSeen text 0
+none_are_seen text = record { count = 0; within = omega arith; few = omega arith; are = refl }
+
+-- an empty mask tells that no byte is a mark
+pub none_seen : (test : ℕ → Bool) (text : List ℕ) (at n m : ℕ) → at + n ≤ length text → n ≤ 64 → m ≡ mask_of test text at n → m ≡ 0
+    → AllPassBetween (λ b. not (test b)) text 0 at → AllPassBetween (λ b. not (test b)) text 0 (at + n)
+none_seen test text at n m room few is empty before k from to =
+    let run = run_is test text at n room few n (ap (λ (k : ℕ). first_set k n) (sym empty ∙ is)) in
+    elim (cases_lt k at) [
+      | inl early ↦ before k from early
+      | inr late ↦ run.1 k late to
+    ]
+
+module _ (test : ℕ → Bool) (text rest : List ℕ) (at : ℕ) (within : at ≤ length text) (same : rest ≡ drop at text)
+    (quiet : AllPassBetween (λ b. not (test b)) text 0 at) where
+  -- the byte at a place after the loads
+  here : (k : ℕ) → slice_index rest k ≡ slice_index text (at + k)
+  here k = ap (λ (t : List ℕ). slice_index t k) same ∙ get_or-drop at text k 0
+
+  -- what is left is as long as the text after the loads
+  left : length rest ≡ length text - at
+  left = ap length same ∙ length-drop at text
+
+  -- nothing is found before a place after the loads, where nothing is found before it in what is left
+  none_before : (n : ℕ) → Nowhere (Passes test rest) 0 n → Nowhere (Passes test text) 0 (at + n)
+  none_before n none k from to found =
+      elim (cases_lt k at) [
+        | inl early ↦ false≢true (sym (not-true (test (slice_index text k)) (quiet k (omega arith) early)) ∙ found)
+        | inr late ↦
+            let back : at + (k - at) ≡ k = omega arith in
+            let there = here (k - at) ∙ ap (λ (j : ℕ). slice_index text j) back in
+            none (k - at) (omega arith) (omega arith) (ap test there ∙ found)
+      ]
+
+  -- what is found in what is left is found in the text
+  pub found_after : (n : ℕ) → IsFirstByte test rest (Some n) → IsFirstByte test text (Some (at + n))
+  found_after n found = (
+    record { low = omega arith; high = omega (arith, found.0.high, left); before = none_before n found.0.before },
+    ap test (sym (here n)) ∙ found.1,
+  )
+
+  -- where nothing is found in what is left, nothing is found in the text
+  pub none_after : IsFirstByte test rest None → IsFirstByte test text None
+  none_after none k from to found = none_before (length rest) none k from (omega (arith, left)) found
+
+-- the front before the first of them holds no newline
+no_newline : (text : List ℕ) (n : ℕ) → n ≤ length text → Nowhere (Passes (is_byte3 backslash 10 quote) text) 0 n
+    → All (λ b. b ≢ 10) (take n text)
+no_newline text zero h none = All-nil (λ b. b ≢ 10)
+no_newline text (suc n) h none =
+    let before = no_newline text n (omega arith) (λ k l m. none k l (omega arith)) in
+    let next : suc n ≡ n + 1 = omega arith in
+    let other : slice_index text n ≢ 10 = λ e. none n (omega arith) (omega arith) (rw e refl) in
+    rw (ap (λ (k : ℕ). take k text) next ∙ take_more text n 0 (omega arith))
+    (All-push (λ b. b ≢ 10) (take n text) (slice_index text n) before other)
+
+-- a newline that is the first of them is the cut
+pub cut_at_newline : (dialect : Dialect) (text : List ℕ) (n : ℕ) → IsFirstByte (is_byte3 backslash 10 quote) text (Some n)
+    → slice_index text n ≡ 10
+    → IsFirstCut dialect text (Some n)
+cut_at_newline Crate text n found newline = quiet_cut text n found newline
+cut_at_newline Strict text n found newline = elim (cases_Bool (begins_comment text)) [
+  | inl e ↦ cut_of_comment text (Some n) e (found.0.high, newline, no_newline text n (omega (arith, found.0.high)) found.0.before)
+  | inr e ↦ cut_of_other text (Some n) e (quiet_cut text n found newline)
+]
+
+-- a text without any of them is one piece
+pub no_cut : (dialect : Dialect) (text : List ℕ) → IsFirstByte (is_byte3 backslash 10 quote) text None → IsFirstCut dialect text None
+no_cut Crate text none = quiet_last text none
+no_cut Strict text none = elim (cases_Bool (begins_comment text)) [
+  | inl e ↦ cut_of_comment text None e
+      (subst (All (λ b. b ≢ 10)) (take_all (length text) text (omega arith)) (no_newline text (length text) (omega arith) none))
+  | inr e ↦ cut_of_other text None e (quiet_last text none)
+]

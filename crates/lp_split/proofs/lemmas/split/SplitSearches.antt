@@ -1,0 +1,171 @@
+-- What loads and searches tell: the first bare byte that passes a test, how many bytes pass it, and which end a stretch.
+use Rattle.std.proofs.Common.{◌≡◌, ◌≢◌, ℕ, zero, suc, ◌+◌, ◌<◌, ◌≤◌, List, length, take, drop, slice_index, Bool, true, false, ◌||◌, Some}
+use Rattle.std.proofs.Common.{None, length-drop, refl, sym, ap, ◌∙◌, subst, inl, inr, arith, take-append-drop, ◌%◌, ◌^◌, map, cond}
+use Rattle.std.proofs.Common.{count_ones}
+use Rattle.std.specs.Prelude.{◌==◌}
+use Rattle.std.proofs.lemmas.Bool.{and_right, cases_Bool, eqb-true, eqb-false}
+use Rattle.std.proofs.lemmas.Bool.Decides.{nat_tests}
+use Rattle.std.proofs.lemmas.List.{get_or-drop, length-map}
+use Rattle.memchr.specs.Find.{Nowhere, Passes, IsFirstByte}
+use Rattle.lp_format.specs.format.Bytes.{backslash}
+use Rattle.lp_format.specs.format.Escapes.{is_escaped_after, is_bare_at, IsPassed}
+use Rattle.lp_format.proofs.lemmas.tokens.EscapeLemmas.{is_escaped_more}
+use Rattle.lp_format.proofs.lemmas.split.SplitBare.{is_escaped-nil}
+use Rattle.lp_split.specs.code.Stops.{EndsAt, IsBarePassed, IsStretch}
+use Rattle.lp_split.proofs.lemmas.split.SplitStretches.{bare_past}
+use Rattle.std.specs.List.{count_by}
+use Rattle.std.proofs.Math.Seq.{take-add}
+use Rattle.std.proofs.lemmas.List.Sums.{count_by-le-length, sum_by-append}
+use Rattle.std.proofs.lemmas.Simd.{length-chunk, mask_l-mod}
+use lib.Lanes.{chunk}
+use Rattle.lp_scan.specs.code.Lanes.{mask_of}
+use Rattle.lp_scan.proofs.lemmas.scan.MaskLemmas.{ones}
+
+-- a search looks for backslashes and for the bytes that pass
+pub record LooksFor (test passes : ℕ → Bool) : Type 0 where
+  pub others : (b : ℕ) → test b ≡ false → (b ≢ backslash) × (passes b ≡ false)
+  pub stops : (b : ℕ) → test b ≡ true → b ≢ backslash → passes b ≡ true
+  pub escapes : passes backslash ≡ false
+
+module _ (passes : ℕ → Bool) (text : List ℕ) where
+  -- before the first byte
+  pub passed_start : IsBarePassed passes text 0
+  passed_start = record { within = omega arith; is_bare = is_escaped-nil; none = λ k h. absurd (omega arith) }
+
+  -- what is passed up to a bare place
+  pub as_passed : (at : ℕ) → IsBarePassed passes text at → IsPassed passes text at
+  as_passed at p = record { within = p.within; is_bare = λ _. p.is_bare; passed = p.none }
+
+  -- one place more is passed
+  passed_more : (at : ℕ) → ((k : ℕ) → k < at → is_bare_at passes text k ≡ false) → is_bare_at passes text at ≡ false
+      → (k : ℕ) → k < at + 1 → is_bare_at passes text k ≡ false
+  passed_more at before here k h =
+      elim (cases_Bool (k == at)) [
+        | inl e ↦ subst (λ (n : ℕ). is_bare_at passes text n ≡ false) (sym (eqb-true k at e)) here
+        | inr other ↦ before k (omega (arith, eqb-false k at other))
+      ]
+
+  -- several bytes that are no backslashes and do not pass
+  passed_bytes : (at n : ℕ) → at + n ≤ length text
+      → ((k : ℕ) → k < n → (slice_index text (at + k) ≢ backslash) × (passes (slice_index text (at + k)) ≡ false))
+      → IsBarePassed passes text at → IsBarePassed passes text (at + n)
+  passed_bytes at zero h none p = subst (IsBarePassed passes text) (omega arith) p
+  passed_bytes at (suc n) h none p =
+      let before = passed_bytes at n (omega arith) (λ k l. none k (omega arith)) p in
+      let here = none n (omega arith) in
+      let next : at + n + 1 ≡ at + suc n = omega arith in
+      subst (IsBarePassed passes text) next (record {
+        within = omega arith;
+        is_bare = bare_past text (at + n) (omega arith) here.0;
+        none = passed_more (at + n) before.none (rw here.1 refl);
+      })
+
+  -- a backslash and the byte after it
+  passed_escape : (at : ℕ) → at + 1 < length text → slice_index text at ≡ backslash → passes backslash ≡ false
+      → IsBarePassed passes text at → IsBarePassed passes text (at + 2)
+  passed_escape at h here fails p =
+      let flag : is_escaped_after (take (at + 1) text) ≡ true = rw (is_escaped_more text at (omega arith), p.is_bare, here) refl in
+      let escaped : is_bare_at passes text (at + 1) ≡ false = rw flag (and_right (passes (slice_index text (at + 1))) false refl) in
+      let next : (at + 1) + 1 ≡ at + 2 = omega arith in
+      subst (IsBarePassed passes text) next (record {
+        within = omega arith;
+        is_bare = rw (is_escaped_more text (at + 1) h, flag) refl;
+        none = passed_more (at + 1) (passed_more at p.none (rw (here, fails) refl)) escaped;
+      })
+
+  -- a stretch ends where a byte passes, or with the text
+  pub passed_to_stop : (n : ℕ) → IsBarePassed passes text n → (n < length text → passes (slice_index text n) ≡ true)
+      → IsStretch passes text 0 n
+  passed_to_stop n p stops = record {
+    ordered = omega arith;
+    within = p.within;
+    none = λ k from to. p.none k to;
+    stops = λ h. rw (stops h, p.is_bare) refl;
+  }
+
+  -- a stretch ends with a text whose last byte is a bare backslash
+  pub passed_to_backslash : (n : ℕ) → IsBarePassed passes text n → slice_index text n ≡ backslash → n + 1 ≡ length text
+      → passes backslash ≡ false → IsStretch passes text 0 (length text)
+  passed_to_backslash n p here last fails = record {
+    ordered = omega arith;
+    within = omega arith;
+    none = λ k from to. passed_more n p.none (rw (here, fails) refl) k (omega arith);
+    stops = λ h. absurd (omega arith);
+  }
+
+-- what a search after `at` gives
+module _ (test passes : ℕ → Bool) (search : LooksFor test passes) (text rest : List ℕ) (at : ℕ)
+    (same : rest ≡ drop at text) (p : IsBarePassed passes text at) where
+  -- a byte of what is left
+  there : (k : ℕ) → slice_index rest k ≡ slice_index text (at + k)
+  there k = ap (λ (t : List ℕ). slice_index t k) same ∙ get_or-drop at text k 0
+
+  -- the bytes before the first that it finds are passed
+  searched : (n : ℕ) → at + n ≤ length text → Nowhere (Passes test rest) 0 n → IsBarePassed passes text (at + n)
+  searched n h none =
+      passed_bytes passes text at n h
+      (λ k l. elim (cases_Bool (test (slice_index rest k))) [
+        | inl found ↦ absurd (none k (omega arith) l found)
+        | inr other ↦ search.others (slice_index text (at + k)) (subst (λ (b : ℕ). test b ≡ false) (there k) other)
+      ])
+      p
+
+  -- the bytes before a place that it finds are passed
+  pub found_after : (n : ℕ) → IsFirstByte test rest (Some n) → IsBarePassed passes text (at + n) × (at + n < length text)
+  found_after n found =
+      let fits : at + n < length text = omega (arith, found.0.high, ap length same, length-drop at text, p.within) in
+      (searched n (omega arith) found.0.before, fits)
+
+  -- it finds a byte that passes, or a backslash that ends the text
+  pub search_stops : (n : ℕ) → IsFirstByte test rest (Some n) → (slice_index text (at + n) ≡ backslash → at + n + 1 ≡ length text)
+      → EndsAt passes text (at + n)
+  search_stops n found last = elim (cases_Bool (slice_index text (at + n) == backslash)) [
+    | inl is ↦ let here = eqb-true (slice_index text (at + n)) backslash is in inr (here, last here)
+    | inr other ↦ inl (search.stops (slice_index text (at + n)) (subst (λ (b : ℕ). test b ≡ true) (there n) found.1)
+        (eqb-false (slice_index text (at + n)) backslash other))
+  ]
+
+  -- it finds another backslash
+  pub search_goes_on : (n : ℕ) → IsFirstByte test rest (Some n) → slice_index text (at + n) ≡ backslash → at + n + 1 < length text
+      → IsBarePassed passes text (at + n + 2)
+  search_goes_on n found here h = passed_escape passes text (at + n) h here search.escapes (found_after n found).0
+
+  -- it finds nothing
+  pub search_ends : IsFirstByte test rest None → IsBarePassed passes text (length text)
+  search_ends none =
+      let to : at + length rest ≡ length text = omega (arith, ap length same, length-drop at text, p.within) in
+      subst (IsBarePassed passes text) to (searched (length rest) (omega arith) none)
+
+-- the search for the backslash and two bytes more
+pub looks_for_two : (c d : ℕ) → (backslash == c || backslash == d) ≡ false
+    → LooksFor (λ b. b == backslash || b == c || b == d) (λ b. b == c || b == d)
+looks_for_two c d other =
+    record {
+      others = λ b h. grind (arith, nat_tests);
+      stops = λ b h n. grind (arith, nat_tests);
+      escapes = other;
+    }
+
+-- the bytes that pass of a whole text
+pub count_whole : (p : ℕ → Bool) (text : List ℕ) (at : ℕ) → count_by p (take at text) + count_by p (drop at text) ≡ count_by p text
+count_whole p text at =
+    sym (sum_by-append (λ x. cond (p x) 1 0) (take at text) (drop at text)) ∙ ap (count_by p) (take-append-drop at text)
+
+-- one load
+module _ (p : ℕ → Bool) (text : List ℕ) (at m : ℕ) (room : at + 64 ≤ length text) (is : m ≡ mask_of p text at 64) where
+  -- its mask has as many bits as bytes pass
+  load_counts : count_ones (m % 2 ^ 64) ≡ count_by p (chunk at 64 text)
+  load_counts =
+      let ms = map p (chunk at 64 text) in
+      let fits = mask_l-mod ms 64 (omega (arith, length-map (chunk at 64 text) p, length-chunk at 64 text room)) in
+      ap (λ (k : ℕ). count_ones (k % 2 ^ 64)) is ∙ ap count_ones fits ∙ ones p text at 64
+
+  -- at most all
+  pub load_at_most : count_ones (m % 2 ^ 64) ≤ 64
+  load_at_most = omega (arith, load_counts, count_by-le-length p (chunk at 64 text), length-chunk at 64 text room)
+
+  -- the bytes that pass, one load further
+  pub count_load : count_by p (take (at + 64) text) ≡ count_by p (take at text) + count_ones (m % 2 ^ 64)
+  count_load =
+      ap (count_by p) (take-add at 64 text) ∙ sum_by-append (λ x. cond (p x) 1 0) (take at text) (take 64 (drop at text))
+      ∙ ap (λ (k : ℕ). count_by p (take at text) + k) (sym load_counts)

@@ -1,0 +1,44 @@
+use Rattle.std.proofs.Common.{ℕ, take, arith, refl, subst}
+use Rattle.lp_split.specs.declared.split.resumed.Part.TheVariants.{Plain}
+use Rattle.lp_split.proofs.lemmas.split.SplitStretches.{bare_to, few_past, few_to, plain_bytes_past, plain_bytes_to}
+use Rattle.lp_split.proofs.lemmas.split.TrackedPieces.{line_goes_on}
+use Rattle.lp_split.proofs.split.tracked.plain_leap.Goals as goal
+use Rattle.lp_format.specs.format.Escapes.{IsBareAfter}
+use Rattle.lp_format.proofs.lemmas.split.SplitBare.{is_escaped-nil}
+
+pub load_ahead-ahead-requires-clause-starts_bare : goal.load_ahead-ahead-requires-clause-starts_bare
+load_ahead-ahead-requires-clause-starts_bare c = is_escaped-nil
+
+pub returns-then-ahead-eq0-clause-leads : goal.returns-then-ahead-eq0-clause-leads
+returns-then-ahead-eq0-clause-leads c =
+    let p = c.args.place in
+    let text = c.args.text.now in
+    let a = c.load_ahead-ahead.result in
+    let seen = c.load_ahead-ahead.ensures.seen in
+    line_goes_on p _ Plain (take a.end text) c.requires.plain c.requires.plain c.requires.is_bare c.requires.is_bare seen.is_bare
+    (λ bytes is_bare h. plain_bytes_past bytes text is_bare a seen p.equals p.commas _ _ h c.if-ahead-eq0.true c.ones_below.ensures
+    c.ones_below-then-ahead-eq0.ensures)
+
+pub returns-then-ahead-eq0-clause-few : goal.returns-then-ahead-eq0-clause-few
+returns-then-ahead-eq0-clause-few c =
+    let few = few_past c.args.text.now 0 c.load_ahead-ahead.result c.load_ahead-ahead.ensures.seen _ _ c.ones_below.ensures
+    c.ones_below-then-ahead-eq0.ensures in
+    (omega (arith, few.0), omega (arith, few.1))
+
+pub returns-clause-leads : goal.returns-clause-leads
+returns-clause-leads c =
+    let p = c.args.place in
+    let text = c.args.text.now in
+    let a = c.load_ahead-ahead.result in
+    let seen = c.load_ahead-ahead.ensures.seen in
+    let run_bare = bare_to text 0 a seen _ (omega arith) refl in
+    line_goes_on p _ Plain (take _ text) c.requires.plain c.requires.plain c.requires.is_bare c.requires.is_bare
+    (subst (λ (k : ℕ). IsBareAfter (take k text)) (omega arith) run_bare)
+    (λ bytes is_bare h. plain_bytes_to bytes text is_bare a seen p.equals p.commas _ _ h _ (omega arith) refl c.ones_below-2.ensures
+    c.ones_below-3.ensures)
+
+pub returns-clause-few : goal.returns-clause-few
+returns-clause-few c =
+    let few = few_to c.args.text.now 0 c.load_ahead-ahead.result c.load_ahead-ahead.ensures.seen _ (omega arith) refl _ _
+    c.ones_below-2.ensures c.ones_below-3.ensures in
+    (omega (arith, few.0), omega (arith, few.1))

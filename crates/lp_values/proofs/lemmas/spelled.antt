@@ -1,2 +1,0 @@
-pub mod SpelledBytes
-pub mod SpelledRuns
