@@ -21,6 +21,8 @@ version=$(version)
 shared=libinfluxdb_line_protocol.so
 "${CC:-cc}" -O2 -shared -fPIC "$here/c/heap.c" -Wl,--whole-archive "$archive" -Wl,--no-whole-archive \
     -Wl,-soname,"$shared.${version%%.*}" -Wl,--version-script,"$here/c/shown.map" -o "$folder/$shared.$version"
-ln -sf "$shared.$version" "$folder/$shared.${version%%.*}"
-ln -sf "$shared.$version" "$folder/$shared"
+# `rt ci` takes no symbolic links in the repository.
+how=-f
+[ $# -lt 2 ] || how=-sf
+(cd "$folder" && ln "$how" "$shared.$version" "$shared.${version%%.*}" && ln "$how" "$shared.$version" "$shared")
 echo "build: $archive and $folder/$shared"

@@ -5,16 +5,14 @@ ghost use Rattle.std.specs.Prelude.{string_bytes, IsCharBoundary, IfOk, IsOk};
 ghost use Rattle.std.specs.String.{string_capacity};
 ghost use Rattle.lp_format.specs.format.Bytes.{backslash, is_one_of};
 ghost use Rattle.lp_format.specs.format.Escapes.{EscapeScan, first_bare, without_escapes};
-ghost use Rattle.lp_scan.specs.code.Tokens.{stops_of, known_of, is_end, is_plain};
-ghost use Rattle.lp_scan.specs.code.Lanes.{IsRunAt, IsRunIn, mask_of};
-ghost use Rattle.lp_values.specs.code.RawTokens.{IsTold, stops_if};
+ghost use Rattle.lp_scan.specs.code.Tokens.{stops_of, known_of, is_plain};
+ghost use Rattle.lp_scan.specs.code.Lanes.{IsRunAt};
+ghost use Rattle.lp_values.specs.code.RawTokens.{IsTold};
 ghost use Rattle.lp_format.specs.format.Names.{ends_in_backslash, is_shared, read_text};
 ghost use Rattle.lp_values.specs.code.Texts.{read_of};
 
 use crate::escaped::EscapedStr;
-use lp_scan::lanes::{
-    LANES, backslash_run, backslashes, end_mask, first_set, known_in, plain_run, stops_in,
-};
+use lp_scan::lanes::{LANES, backslash_run, backslashes, first_set, known_in, plain_run, stops_in};
 use lp_scan::scan::{WIDE, bare, escapes_next, ones_below, places_of};
 use lp_scan::sets::TokenKind;
 use std::alloc::{AllocError, Global};
@@ -41,76 +39,34 @@ impl<'a> RawToken<'a> {
     }
 }
 
-// The first place from `at` on of a backslash or, with stops, of a byte that ends a token of this kind; else the end. Byte by byte.
+// The first place from `at` on of a backslash or of a byte that ends a token of this kind; else the end. Byte by byte.
 #[inline(always)]
-fn plain_walk(kind: TokenKind, with_stops: bool, bytes: &[u8], at: usize) -> usize
+fn plain_tail(kind: TokenKind, bytes: &[u8], at: usize) -> usize
     requires { at ≤ length bytes.now }
-    ensures { IsRunAt (is_plain (stops_if with_stops kind)) bytes.now at result }
+    ensures { IsRunAt (is_plain (stops_of kind)) bytes.now at result }
 {
     let mut end = at;
-    while end < bytes.len() && bytes[end] != b'\\' && !(with_stops && kind.is_stop(bytes[end])) {
+    while end < bytes.len() && bytes[end] != b'\\' && !kind.is_stop(bytes[end]) {
         end += 1;
     }
     end
 }
 
-// The mask of those of the 16 bytes from `at` on at which such a search stops.
+// The same place, 16 bytes at a time.
 #[inline(always)]
-fn ends_in(kind: TokenKind, with_stops: bool, bytes: &[u8], at: usize) -> u64
-    requires { at + LANES ≤ length bytes.now }
-    ensures { result ≡ mask_of (is_end (stops_if with_stops kind)) bytes.now at LANES }
-{
-    if with_stops {
-        end_mask(kind, bytes, at)
-    } else {
-        backslashes(bytes, at)
-    }
-}
-
-// The place where such a search stops among the last bytes, fewer than 16: by a load that overlaps what was seen, if the text has
-// so many.
-#[inline(always)]
-fn plain_tail(kind: TokenKind, with_stops: bool, bytes: &[u8], at: usize) -> usize
-    requires within { at ≤ length bytes.now }
-    requires few { length bytes.now < at + LANES }
-    ensures { IsRunAt (is_plain (stops_if with_stops kind)) bytes.now at result }
-{
-    if bytes.len() < LANES {
-        return plain_walk(kind, with_stops, bytes, at);
-    }
-    let left = bytes.len() - at;
-    let mask = ends_in(kind, with_stops, bytes, bytes.len() - LANES) >> (LANES - left);
-    at + first_set(mask, left)
-}
-
-// How many of the 16 bytes from `at` on such a search passes.
-#[inline(always)]
-fn run_in(kind: TokenKind, with_stops: bool, bytes: &[u8], at: usize) -> usize
-    requires { at + LANES ≤ length bytes.now }
-    ensures { IsRunIn (is_plain (stops_if with_stops kind)) bytes.now at LANES result }
-{
-    if with_stops {
-        plain_run(kind, bytes, at)
-    } else {
-        backslash_run(bytes, at)
-    }
-}
-
-// The place where such a search stops, 16 bytes at a time.
-#[inline(always)]
-fn plain_end(kind: TokenKind, with_stops: bool, bytes: &[u8], at: usize) -> usize
+fn plain_end(kind: TokenKind, bytes: &[u8], at: usize) -> usize
     requires { at ≤ length bytes.now }
-    ensures { IsRunAt (is_plain (stops_if with_stops kind)) bytes.now at result }
+    ensures { IsRunAt (is_plain (stops_of kind)) bytes.now at result }
 {
     let mut end = at;
     while bytes.len() - end >= LANES {
-        let run = run_in(kind, with_stops, bytes, end);
+        let run = plain_run(kind, bytes, end);
         if run < LANES {
             return end + run;
         }
         end += LANES;
     }
-    plain_tail(kind, with_stops, bytes, end)
+    plain_tail(kind, bytes, end)
 }
 
 // Goes over the 64 bytes from `at` on, up to one that ends the token or to the next bare place after them: how far,
@@ -146,14 +102,14 @@ fn escapes_to_end(kind: TokenKind, bytes: &[u8], at: usize, found: usize) -> (us
     ensures further { at ≤ result.0 }
     ensures moves { at < length bytes.now → slice_index bytes.now at ≡ backslash → at < result.0 }
 {
-    let mut end = plain_end(kind, true, bytes, at);
+    let mut end = plain_end(kind, bytes, at);
     let mut known = found;
     while end < bytes.len() && bytes[end] == b'\\' {
         if end + 1 == bytes.len() {
             return (end + 1, known);
         }
         known += usize::from(kind.is_known(bytes[end + 1]));
-        end = plain_end(kind, true, bytes, end + 2);
+        end = plain_end(kind, bytes, end + 2);
     }
     (end, known)
 }
@@ -211,7 +167,7 @@ fn scan_token(kind: TokenKind, text: &str) -> (usize, usize, bool)
     ensures boundary { IsCharBoundary text.now result.0 }
 {
     let bytes = text.as_bytes();
-    let end = plain_end(kind, true, bytes, 0);
+    let end = plain_end(kind, bytes, 0);
     if end < bytes.len() && bytes[end] == b'\\' {
         let (end, len) = escaped_end(kind, text, end);
         return (end, len, false);
@@ -261,6 +217,54 @@ fn first_byte_at(kind: TokenKind, spelling: &[u8], at: usize) -> usize
     at
 }
 
+// The first backslash from `at` on, or the end, byte by byte.
+#[inline(always)]
+fn backslash_walk(bytes: &[u8], at: usize) -> usize
+    requires { at ≤ length bytes.now }
+    ensures { IsRunAt (is_plain (λ b. false)) bytes.now at result }
+{
+    let mut end = at;
+    while end < bytes.len() && bytes[end] != b'\\' {
+        end += 1;
+    }
+    end
+}
+
+// The first backslash of the last bytes, fewer than 16: by a load that overlaps what was seen, if the text has so many.
+#[inline(always)]
+fn backslash_tail(bytes: &[u8], at: usize) -> usize
+    requires within { at ≤ length bytes.now }
+    requires few { length bytes.now < at + LANES }
+    ensures { IsRunAt (is_plain (λ b. false)) bytes.now at result }
+{
+    if bytes.len() < LANES {
+        return backslash_walk(bytes, at);
+    }
+    let left = bytes.len() - at;
+    let mask = backslashes(bytes, bytes.len() - LANES) >> (LANES - left);
+    at + first_set(mask, left)
+}
+
+// The first backslash from `at` on, or the end, 16 bytes at a time.
+//
+// It is a function beside `plain_end`: one search with and without stops makes the reader of a field so large that the compiler drops
+// `inline(always)` from it, and events take 1.4 times the instructions.
+#[inline(always)]
+fn backslash_at(bytes: &[u8], at: usize) -> usize
+    requires { at ≤ length bytes.now }
+    ensures { IsRunAt (is_plain (λ b. false)) bytes.now at result }
+{
+    let mut end = at;
+    while bytes.len() - end >= LANES {
+        let run = backslash_run(bytes, end);
+        if run < LANES {
+            return end + run;
+        }
+        end += LANES;
+    }
+    backslash_tail(bytes, end)
+}
+
 /// The first stretch from `at` on that a spelling and its logical text have in common: from one place up to a backslash, or the end.
 #[inline(always)]
 pub(crate) fn stretch_at(kind: TokenKind, spelling: &[u8], at: usize) -> (usize, usize)
@@ -274,7 +278,7 @@ pub(crate) fn stretch_at(kind: TokenKind, spelling: &[u8], at: usize) -> (usize,
     ensures end { IsCharBoundary spelling.now result.1 }
 {
     let from = first_byte_at(kind, spelling, at);
-    (from, plain_end(kind, false, spelling, from + 1))
+    (from, backslash_at(spelling, from + 1))
 }
 
 // Puts after `to`, which has room for it, the logical text of `spelled`. It asks for no memory.

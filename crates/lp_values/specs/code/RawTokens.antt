@@ -2,12 +2,6 @@
 use Rattle.std.specs.Prelude.{◌≡◌, ℕ, ◌+◌, ◌==◌, ◌&&◌, Bool, List, length, not, slice_index}
 use Rattle.lp_format.specs.format.Bytes.{backslash, is_one_of}
 use Rattle.lp_format.specs.format.Escapes.{is_bare_at, without_escapes}
-use Rattle.lp_scan.specs.declared.sets.TokenKind.{TokenKind}
-use Rattle.lp_scan.specs.code.Tokens.{stops_of}
-
--- the bytes that stop a search beside the backslash: those that end a token of this kind, or none
-abbrev pub stops_if : Bool → TokenKind → ℕ → Bool
-stops_if with_stops kind b = with_stops && stops_of kind b
 
 -- whether a known escape begins at this place: a bare backslash is there, before a byte that it escapes
 abbrev pub is_escape_at : List ℕ → List ℕ → ℕ → Bool

@@ -1,11 +1,10 @@
 use Rattle.std.proofs.Common.{◌-◌, ◌≤◌, length}
-use Rattle.lp_scan.specs.code.Tokens.{is_plain}
-use Rattle.lp_values.specs.code.RawTokens.{stops_if}
+use Rattle.lp_scan.specs.code.Tokens.{is_plain, stops_of}
 use Rattle.lp_scan.specs.code.Lanes.{AllPassBetween}
 use Rattle.lp_values.proofs.tokens.plain_end.Given as goal
 
 abbrev pub invariant-loop-end : goal.invariant-loop-end
-invariant-loop-end l = (l.at ≤ l.end) × (l.end ≤ length l.bytes) × AllPassBetween (is_plain (stops_if l.with_stops l.kind)) l.bytes l.at l.end
+invariant-loop-end l = (l.at ≤ l.end) × (l.end ≤ length l.bytes) × AllPassBetween (is_plain (stops_of l.kind)) l.bytes l.at l.end
 
 abbrev pub decreases-loop-end : goal.decreases-loop-end
 decreases-loop-end l = length l.bytes - l.end

@@ -7,4 +7,4 @@ pub returns-clause-value : goal.returns-clause-value
 returns-clause-value c =
     let from = c.first_byte_at-from in
     from.ensures.value
-    ∙ stretch_stays (known_of c.args.kind) c.args.spelling.now from.result c.plain_end.result from.ensures.within c.plain_end.ensures
+    ∙ stretch_stays (known_of c.args.kind) c.args.spelling.now from.result c.backslash_at.result from.ensures.within c.backslash_at.ensures
