@@ -1,16 +1,16 @@
 -- The parts of a text that are as the builder writes them.
-use Rattle.std.specs.Prelude.{◌≡◌, ◌&&◌, ◌||◌, ◌==◌, ◌+◌, ◌<◌, ◌^◌, ℕ, ℤ, Bool, true, false, not, nat_lt, Option, List, [], ◌∷◌, ◌++◌, length, MatchOption, IfSome}
+use Rattle.std.specs.Prelude.{◌≡◌, ◌&&◌, ◌||◌, ◌==◌, ◌+◌, ◌^◌, ℕ, ℤ, Bool, true, false, not, nat_lt, Option, List, [], ◌∷◌, ◌++◌, length, MatchOption}
 use Rattle.std.specs.Prelude.{if◌then◌else◌, slice_index}
 use Rattle.std.specs.Borrow.{Bor}
+use Rattle.std.specs.Fmt.{signed_decimal}
 use Rattle.std.specs.Str.Parse.{digits_value, signed_digits_value}
-use Rattle.std.specs.List.{AllByRecursion, flat_map, list_all}
 use Rattle.lp_format.specs.format.Bytes.{backslash, comma, equals, hash, is_one_of, minus, quote, space}
 use Rattle.lp_format.specs.format.Escapes.{escaped}
 use Rattle.lp_format.specs.format.Names.{NameKind, a_measurement, a_tag_key, a_tag_value, a_field_key, ends_in_backslash}
 use Rattle.lp_format.specs.format.Names.{escapable, is_stop}
 use Rattle.lp_format.specs.format.Values.{Value, fits_i64, quotable}
-use Rattle.lp_format.specs.format.Points.{Field, IsValue, Tag, built_fields, built_tag, built_timestamp, built_value}
-use Rattle.lp_format.specs.format.Points.{is_admitted_field, is_admitted_name, is_admitted_tag, spelling}
+use Rattle.lp_format.specs.format.Points.{IsValue, built_value}
+use Rattle.lp_format.specs.format.Points.{is_admitted_name, spelling}
 
 -- how many bytes at the start of a text are those of a token as the builder spells it: up to the first byte that ends it or
 -- that has a backslash in it, unless that is a backslash before such a byte
@@ -76,51 +76,51 @@ begins_false other = false
 abbrev pub EndsValue : List ℕ → Type 0
 EndsValue rest = is_one_of (0 ∷ comma ∷ space ∷ []) (slice_index rest 0) ≡ true
 
+-- an admitted name of this kind, the sign after it and such a value are at the start of the text, and this rest follows
+pub record IsWrittenPair (kind : NameKind) (Value : List ℕ → List ℕ → Type 0) (text rest : List ℕ) : Type 0 where
+  pub after : List ℕ
+  pub key : IsWrittenName kind text (equals ∷ after)
+  pub value : Value after rest
+
 -- the builder writes the text for an admitted tag, without the comma before it, and this rest
-pub record IsWrittenTag (text rest : List ℕ) : Type 0 where
-  pub tag : Tag
-  pub admitted : is_admitted_tag tag ≡ true
-  pub written : spelling a_tag_key tag.key ++ equals ∷ (spelling a_tag_value tag.value ++ rest) ≡ text
+abbrev pub IsWrittenTag : List ℕ → List ℕ → Type 0
+IsWrittenTag text rest = IsWrittenPair a_tag_key (IsWrittenName a_tag_value) text rest
 
 -- the builder writes the text for a field whose key is admitted, and this rest
-pub record IsWrittenField (text rest : List ℕ) : Type 0 where
-  pub field : Field
-  pub admitted : is_admitted_field field ≡ true
-  pub fits : IsValue field.value
-  pub written : spelling a_field_key field.key ++ equals ∷ (built_value field.value ++ rest) ≡ text
+abbrev pub IsWrittenField : List ℕ → List ℕ → Type 0
+IsWrittenField text rest = IsWrittenPair a_field_key IsWrittenValue text rest
 
 -- the builder writes the text for a timestamp, or for none
-pub record IsWrittenTimestamp (text : List ℕ) : Type 0 where
-  pub timestamp : Option ℤ
-  pub fits : IfSome timestamp (λ t. fits_i64 t ≡ true)
-  pub written : built_timestamp timestamp ≡ text
+pub data IsWrittenTimestamp (text : List ℕ) : Type 0 where
+  absent : text ≡ [] → IsWrittenTimestamp text
+  present : (z : ℤ) → fits_i64 z ≡ true → text ≡ space ∷ signed_decimal z → IsWrittenTimestamp text
+
+-- such a front is at the start of the text, and the rest is of this form
+pub record IsFollowed (Front : List ℕ → List ℕ → Type 0) (After : List ℕ → Type 0) (text : List ℕ) : Type 0 where
+  pub rest : List ℕ
+  pub front : Front text rest
+  pub after : After rest
+
+-- items, each after a comma, are at the start of the text, and the rest is of this form
+pub data AreItems (Item : List ℕ → List ℕ → Type 0) (After : List ℕ → Type 0) : List ℕ → Type 0 where
+  no_item : {text : List ℕ} → After text → AreItems Item After text
+  an_item : {text : List ℕ} (after rest : List ℕ) → text ≡ comma ∷ after → Item after rest → AreItems Item After rest → AreItems Item After text
 
 -- the builder writes the text after a field: for the fields that follow, and a timestamp
-pub record IsWrittenAfterField (text : List ℕ) : Type 0 where
-  pub fields : List Field
-  pub admitted : list_all is_admitted_field fields ≡ true
-  pub values : AllByRecursion (λ f. IsValue f.value) fields
-  pub timestamp : Option ℤ
-  pub fits : IfSome timestamp (λ t. fits_i64 t ≡ true)
-  pub written : built_fields comma fields ++ built_timestamp timestamp ≡ text
+abbrev pub IsWrittenAfterField : List ℕ → Type 0
+IsWrittenAfterField text = AreItems IsWrittenField IsWrittenTimestamp text
 
 -- the builder writes the text for a field, and for what comes after it
-pub record AreWrittenFields (text : List ℕ) : Type 0 where
-  pub rest : List ℕ
-  pub first : IsWrittenField text rest
-  pub after : IsWrittenAfterField rest
+abbrev pub AreWrittenFields : List ℕ → Type 0
+AreWrittenFields text = IsFollowed IsWrittenField IsWrittenAfterField text
+
+-- the text is a space and such fields
+abbrev pub IsWrittenAfterTags : List ℕ → Type 0
+IsWrittenAfterTags text = IsFollowed (λ text rest. text ≡ space ∷ rest) AreWrittenFields text
 
 -- the builder writes the text after a measurement: for tags, at least one field, and a timestamp
-pub record IsWrittenAfterName (text : List ℕ) : Type 0 where
-  pub tags : List Tag
-  pub tags_admitted : list_all is_admitted_tag tags ≡ true
-  pub fields : List Field
-  pub some_field : 0 < length fields
-  pub fields_admitted : list_all is_admitted_field fields ≡ true
-  pub values : AllByRecursion (λ f. IsValue f.value) fields
-  pub timestamp : Option ℤ
-  pub fits : IfSome timestamp (λ t. fits_i64 t ≡ true)
-  pub written : flat_map built_tag tags ++ (built_fields space fields ++ built_timestamp timestamp) ≡ text
+abbrev pub IsWrittenAfterName : List ℕ → Type 0
+IsWrittenAfterName text = AreItems IsWrittenTag IsWrittenAfterTags text
 
 -- what is left of a text is the rest that follows such a front, and no other rest that ends it does; or none does
 abbrev pub IsOnlyRest : (List ℕ → Type 0) → (List ℕ → Type 0) → Option (Bor (List ℕ)) → Type 0

@@ -1,5 +1,5 @@
 -- Tags, fields, timestamps and lines as the builder writes them.
-use Rattle.std.proofs.Common.{◌≡◌, ◌≢◌, ℕ, ◌<◌, ◌≤◌, ◌&&◌, true, List, [], ◌∷◌, ◌++◌, length, drop, slice_index, ◌⊎◌, inl, inr, refl, sym}
+use Rattle.std.proofs.Common.{◌≡◌, ◌≢◌, ℕ, ◌<◌, ◌≤◌, Bool, true, List, [], ◌∷◌, ◌++◌, length, drop, slice_index, refl, sym}
 use Rattle.std.proofs.Common.{ap, subst, ◌∙◌, arith, append_assoc, append-nil, length-append, Option, Some, None}
 use Rattle.std.specs.Prelude.{◌↔◌, ℤ, IfSome, MatchOption, codes, not}
 use Rattle.std.specs.Fmt.{signed_decimal}
@@ -9,240 +9,199 @@ use Rattle.std.specs.Str.Parse.{signed_digits_value}
 use Rattle.std.proofs.lemmas.Bool.{and_parts, and_from, not-true}
 use Rattle.std.proofs.lemmas.List.{take_all}
 use Rattle.lp_format.specs.format.Bytes.{comma, equals, space}
-use Rattle.lp_format.specs.format.Names.{a_measurement, a_tag_key, a_tag_value, a_field_key}
+use Rattle.lp_format.specs.format.Names.{NameKind, a_measurement, a_tag_key, a_tag_value, a_field_key, is_stop}
 use Rattle.lp_format.specs.format.Lines.{byte}
 use Rattle.lp_format.specs.format.Readings.{miss, reads}
 use Rattle.lp_format.specs.format.Values.{IsSigned, integer_len, fits_i64}
-use Rattle.lp_format.specs.format.Points.{Field, Tag, IsAsWritten, IsValue, built_field, built_fields, built_tag, built_timestamp}
-use Rattle.lp_format.specs.format.Points.{built_value, is_admitted_field, is_admitted_name, is_admitted_point, is_admitted_tag, spelling}
+use Rattle.lp_format.specs.format.Points.{Field, Point, Tag, IsAsWritten, IsValue, built_field, built_fields, built_tag, built_timestamp}
+use Rattle.lp_format.specs.format.Points.{built_value, is_admitted_field, is_admitted_point, is_admitted_tag, spelling}
 use Rattle.lp_format.proofs.lemmas.literals.FloatLemmas.{signed_front}
 use Rattle.lp_format.proofs.lemmas.read_back.IntegerReadsBack.{integer_written}
 use Rattle.lp_format.proofs.lemmas.values.ValueForms.{byte_missing}
-use Rattle.lp_written.specs.code.AsWritten.{AreWrittenFields, EndsName, EndsValue, IsOnlyRest, IsWrittenAfterField, IsWrittenAfterName}
-use Rattle.lp_written.specs.code.AsWritten.{IsWrittenField, IsWrittenName, IsWrittenTag, IsWrittenTimestamp, IsWrittenValue, has_extra_zero}
-use Rattle.lp_written.specs.code.AsWritten.{is_written_integer}
+use Rattle.lp_written.specs.code.AsWritten.{AreItems, no_item, an_item, AreWrittenFields, EndsName, EndsValue, IsFollowed, IsOnlyRest}
+use Rattle.lp_written.specs.code.AsWritten.{IsWrittenAfterField, IsWrittenAfterName, IsWrittenAfterTags, IsWrittenField, IsWrittenName}
+use Rattle.lp_written.specs.code.AsWritten.{IsWrittenPair, IsWrittenTag, IsWrittenTimestamp, absent, present, has_extra_zero, is_written_integer}
 use Rattle.lp_written.proofs.lemmas.parts.WrittenNames.{byte_left, stop_ends}
 use Rattle.lp_written.proofs.lemmas.parts.WrittenNumbers.{integer_again, signed_zero}
-use Rattle.lp_lines.proofs.lemmas.read_back.LinePieces as pieces
+use Rattle.lp_lines.proofs.lemmas.read_back.LinePieces.{AdmittedField, AdmittedTag, IsAdmitted, admitted_point, line_parts}
+use Rattle.lp_lines.proofs.lemmas.read_back.LineReadsBack.{tag_text}
 
--- the key of a field, before its sign
-field_key : (text rest : List ℕ) (w : IsWrittenField text rest) → IsWrittenName a_field_key text (equals ∷ (built_value w.field.value ++ rest))
-field_key text rest w = record { name = w.field.key; admitted = w.admitted; written = w.written }
+module _ (kind : NameKind) (stops : is_stop kind equals ≡ true) (Value : List ℕ → List ℕ → Type 0) (Ends : List ℕ → Type 0) where
+  -- the sign after a key ends the key
+  sign_ends : (after : List ℕ) → EndsName kind (equals ∷ after)
+  sign_ends after = stop_ends kind equals after stops (λ e. omega (arith, e))
 
--- its value, after the sign
-field_value : (text rest : List ℕ) (w : IsWrittenField text rest) → IsWrittenValue (built_value w.field.value ++ rest) rest
-field_value text rest w = record { value = w.field.value; fits = w.fits; written = refl }
+  -- no pair is where no key is
+  pub pair_no_key : (text : List ℕ) → ((rest : List ℕ) → IsWrittenName kind text rest → EndsName kind rest → ⊥)
+      → (rest : List ℕ) → IsWrittenPair kind Value text rest → Ends rest → ⊥
+  pair_no_key text none rest w ends = none (equals ∷ w.after) w.key (sign_ends w.after)
 
--- no field is where no key is
-pub field_no_key : (text : List ℕ) → ((rest : List ℕ) → IsWrittenName a_field_key text rest → EndsName a_field_key rest → ⊥)
-    → (rest : List ℕ) → IsWrittenField text rest → EndsValue rest → ⊥
-field_no_key text none rest w ends = none _ (field_key text rest w) (stop_ends a_field_key equals _ refl (λ e. omega (arith, e)))
+  -- nor where no sign follows the key
+  pub pair_no_sign : (text key_end : List ℕ) → ((rest : List ℕ) → IsWrittenName kind text rest → EndsName kind rest → rest ≡ key_end)
+      → byte equals key_end ≡ miss → (rest : List ℕ) → IsWrittenPair kind Value text rest → Ends rest → ⊥
+  pair_no_sign text key_end only missed rest w ends =
+      byte_missing equals key_end missed w.after (sym (only (equals ∷ w.after) w.key (sign_ends w.after)))
 
--- what follows the key of a field is its sign and its value
-field_sign : (text key_end : List ℕ) → ((rest : List ℕ) → IsWrittenName a_field_key text rest → EndsName a_field_key rest → rest ≡ key_end)
-    → (rest : List ℕ) (w : IsWrittenField text rest) → equals ∷ (built_value w.field.value ++ rest) ≡ key_end
-field_sign text key_end only rest w = only _ (field_key text rest w) (stop_ends a_field_key equals _ refl (λ e. omega (arith, e)))
+  -- what follows a key, a sign and a value is the only rest of a pair
+  pub pair_answer : (text key_end after : List ℕ) (o : Option (Bor (List ℕ)))
+      → IsWrittenName kind text key_end × ((rest : List ℕ) → IsWrittenName kind text rest → EndsName kind rest → rest ≡ key_end)
+      → byte equals key_end ≡ reads equals after → IsOnlyRest (Value after) Ends o → IsOnlyRest (IsWrittenPair kind Value text) Ends o
+  pair_answer text key_end after o key sign value = go o (byte_left equals key_end after sign) value
+    where
+      -- the same value comes after the sign
+      again : key_end ≡ equals ∷ after → (rest : List ℕ) → IsWrittenPair kind Value text rest → Value after rest
+      again left rest w =
+          let same : w.after ≡ after =
+          ap (λ (xs : List ℕ). drop 1 xs) (key.1 (equals ∷ w.after) w.key (sign_ends w.after) ∙ left) in
+          subst (λ xs. Value xs rest) same w.value
 
--- no field is where no sign follows the key
-pub field_no_sign : (text key_end : List ℕ)
-    → ((rest : List ℕ) → IsWrittenName a_field_key text rest → EndsName a_field_key rest → rest ≡ key_end)
-    → byte equals key_end ≡ miss → (rest : List ℕ) → IsWrittenField text rest → EndsValue rest → ⊥
-field_no_sign text key_end only missed rest w ends = byte_missing equals key_end missed _ (sym (field_sign text key_end only rest w))
-
--- what follows a key, a sign and a value is the only rest of a field
-pub field_answer : (text key_end after : List ℕ) (o : Option (Bor (List ℕ)))
-    → IsWrittenName a_field_key text key_end × ((rest : List ℕ) → IsWrittenName a_field_key text rest → EndsName a_field_key rest → rest ≡ key_end)
-    → byte equals key_end ≡ reads equals after → IsOnlyRest (IsWrittenValue after) EndsValue o → IsOnlyRest (IsWrittenField text) EndsValue o
-field_answer text key_end after o key sign value =
-    let left = byte_left equals key_end after sign in
-    go o value left
-  where
-    -- after the same sign comes the value that the builder writes
-    again : key_end ≡ equals ∷ after → (rest : List ℕ) → IsWrittenField text rest → IsWrittenValue after rest
-    again left rest w =
-        let same : built_value w.field.value ++ rest ≡ after = ap (λ (xs : List ℕ). drop 1 xs) (field_sign text key_end key.1 rest w ∙ left) in
-        subst (λ xs. IsWrittenValue xs rest) same (field_value text rest w)
-
-    -- by what follows the value
-    go : (o : Option (Bor (List ℕ))) → IsOnlyRest (IsWrittenValue after) EndsValue o → key_end ≡ equals ∷ after → IsOnlyRest (IsWrittenField text) EndsValue o
-    go None none left = λ rest w ends. none rest (again left rest w) ends
-    go (Some r) only left = (
-      record {
-        field = record { key = key.0.name; value = only.0.value };
-        admitted = key.0.admitted;
-        fits = only.0.fits;
-        written = rw (only.0.written, ← left) key.0.written;
-      },
-      λ rest w ends. only.1 rest (again left rest w) ends,
-    )
-
--- what follows a field is no longer than the text
-pub field_less : (text rest : List ℕ) → IsWrittenField text rest → length rest ≤ length text
-field_less text rest w =
-    omega (
-      arith,
-      ap length w.written,
-      length-append (spelling a_field_key w.field.key) (equals ∷ (built_value w.field.value ++ rest)),
-      length-append (built_value w.field.value) rest,
-    )
-
--- both names of a tag are admitted
-tag_parts : (t : Tag) → is_admitted_tag t ≡ true → (is_admitted_name a_tag_key t.key ≡ true) × (is_admitted_name a_tag_value t.value ≡ true)
-tag_parts t ok = and_parts (is_admitted_name a_tag_key t.key) (is_admitted_name a_tag_value t.value) ok
-
--- the key of a tag, before its sign
-tag_key : (text rest : List ℕ) (w : IsWrittenTag text rest) → IsWrittenName a_tag_key text (equals ∷ (spelling a_tag_value w.tag.value ++ rest))
-tag_key text rest w = record { name = w.tag.key; admitted = (tag_parts w.tag w.admitted).0; written = w.written }
-
--- its value, after the sign
-tag_value : (text rest : List ℕ) (w : IsWrittenTag text rest) → IsWrittenName a_tag_value (spelling a_tag_value w.tag.value ++ rest) rest
-tag_value text rest w = record { name = w.tag.value; admitted = (tag_parts w.tag w.admitted).1; written = refl }
-
--- no tag is where no key is
-pub tag_no_key : (text : List ℕ) → ((rest : List ℕ) → IsWrittenName a_tag_key text rest → EndsName a_tag_key rest → ⊥)
-    → (rest : List ℕ) → IsWrittenTag text rest → EndsName a_tag_value rest → ⊥
-tag_no_key text none rest w ends = none _ (tag_key text rest w) (stop_ends a_tag_key equals _ refl (λ e. omega (arith, e)))
-
--- what follows the key of a tag is its sign and its value
-tag_sign : (text key_end : List ℕ) → ((rest : List ℕ) → IsWrittenName a_tag_key text rest → EndsName a_tag_key rest → rest ≡ key_end)
-    → (rest : List ℕ) (w : IsWrittenTag text rest) → equals ∷ (spelling a_tag_value w.tag.value ++ rest) ≡ key_end
-tag_sign text key_end only rest w = only _ (tag_key text rest w) (stop_ends a_tag_key equals _ refl (λ e. omega (arith, e)))
-
--- no tag is where no sign follows the key
-pub tag_no_sign : (text key_end : List ℕ) → ((rest : List ℕ) → IsWrittenName a_tag_key text rest → EndsName a_tag_key rest → rest ≡ key_end)
-    → byte equals key_end ≡ miss → (rest : List ℕ) → IsWrittenTag text rest → EndsName a_tag_value rest → ⊥
-tag_no_sign text key_end only missed rest w ends = byte_missing equals key_end missed _ (sym (tag_sign text key_end only rest w))
-
--- what follows a key, a sign and a value is the only rest of a tag
-pub tag_answer : (text key_end after : List ℕ) (o : Option (Bor (List ℕ)))
-    → IsWrittenName a_tag_key text key_end × ((rest : List ℕ) → IsWrittenName a_tag_key text rest → EndsName a_tag_key rest → rest ≡ key_end)
-    → byte equals key_end ≡ reads equals after → IsOnlyRest (IsWrittenName a_tag_value after) (EndsName a_tag_value) o
-    → IsOnlyRest (IsWrittenTag text) (EndsName a_tag_value) o
-tag_answer text key_end after o key sign value =
-    let left = byte_left equals key_end after sign in
-    go o value left
-  where
-    -- after the same sign comes the value that the builder writes
-    again : key_end ≡ equals ∷ after → (rest : List ℕ) → IsWrittenTag text rest → IsWrittenName a_tag_value after rest
-    again left rest w =
-        let same : spelling a_tag_value w.tag.value ++ rest ≡ after =
-        ap (λ (xs : List ℕ). drop 1 xs) (tag_sign text key_end key.1 rest w ∙ left) in
-        subst (λ xs. IsWrittenName a_tag_value xs rest) same (tag_value text rest w)
-
-    -- by what follows the value
-    go : (o : Option (Bor (List ℕ))) → IsOnlyRest (IsWrittenName a_tag_value after) (EndsName a_tag_value) o → key_end ≡ equals ∷ after
-        → IsOnlyRest (IsWrittenTag text) (EndsName a_tag_value) o
-    go None none left = λ rest w ends. none rest (again left rest w) ends
-    go (Some r) only left = (
-      record {
-        tag = record { key = key.0.name; value = only.0.name };
-        admitted = and_from _ _ key.0.admitted only.0.admitted;
-        written = rw (only.0.written, ← left) key.0.written;
-      },
-      λ rest w ends. only.1 rest (again left rest w) ends,
-    )
+      -- by what follows the value
+      go : (o : Option (Bor (List ℕ))) → key_end ≡ equals ∷ after → IsOnlyRest (Value after) Ends o
+          → IsOnlyRest (IsWrittenPair kind Value text) Ends o
+      go None left none = λ rest w ends. none rest (again left rest w) ends
+      go (Some r) left only = (
+        record { after = after; key = subst (IsWrittenName kind text) left key.0; value = only.0 },
+        λ rest w ends. only.1 rest (again left rest w) ends,
+      )
 
 -- what follows a tag is no longer than the text
 pub tag_less : (text rest : List ℕ) → IsWrittenTag text rest → length rest ≤ length text
 tag_less text rest w =
     omega (
       arith,
-      ap length w.written,
-      length-append (spelling a_tag_key w.tag.key) (equals ∷ (spelling a_tag_value w.tag.value ++ rest)),
-      length-append (spelling a_tag_value w.tag.value) rest,
+      ap length w.key.written,
+      length-append (spelling a_tag_key w.key.name) (equals ∷ w.after),
+      ap length w.value.written,
+      length-append (spelling a_tag_value w.value.name) rest,
     )
 
--- what comes after a field ends its value
-after_field_ends : (text : List ℕ) → IsWrittenAfterField text → EndsValue text
-after_field_ends text w = subst EndsValue w.written (go w.fields w.timestamp)
-  where
-    -- by whether a field follows, or a timestamp
-    go : (fs : List Field) (t : Option ℤ) → EndsValue (built_fields comma fs ++ built_timestamp t)
-    go [] None = refl
-    go [] (Some z) = refl
-    go (f ∷ fs) t = refl
+-- nor is what follows a field
+pub field_less : (text rest : List ℕ) → IsWrittenField text rest → length rest ≤ length text
+field_less text rest w =
+    omega (
+      arith,
+      ap length w.key.written,
+      length-append (spelling a_field_key w.key.name) (equals ∷ w.after),
+      ap length w.value.written,
+      length-append (built_value w.value.value) rest,
+    )
 
--- a field after a comma, and what comes after it
-pub with_field : (text rest : List ℕ) → IsWrittenField text rest → IsWrittenAfterField rest → IsWrittenAfterField (comma ∷ text)
-with_field text rest f w =
-    record {
-      fields = f.field ∷ w.fields;
-      admitted = and_from _ _ f.admitted w.admitted;
-      values = (f.fits, w.values);
-      timestamp = w.timestamp;
-      fits = w.fits;
-      written = ap (λ (xs : List ℕ). comma ∷ xs)
-          (append_assoc (built_field f.field) (built_fields comma w.fields) (built_timestamp w.timestamp)
-          ∙ append_assoc (spelling a_field_key f.field.key) (equals ∷ built_value f.field.value)
-          (built_fields comma w.fields ++ built_timestamp w.timestamp)
-          ∙ rw w.written f.written);
-    }
+-- where the rest of the front is known, the text is of this form where the rest is
+pub followed_step : (Front : List ℕ → List ℕ → Type 0) (After Ends : List ℕ → Type 0) → ((text : List ℕ) → After text → Ends text)
+    → (text : List ℕ) (o : Option (Bor (List ℕ))) → IsOnlyRest (Front text) Ends o
+    → MatchOption o (IsFollowed Front After text → ⊥) (λ r. After r.now ↔ IsFollowed Front After text)
+followed_step Front After Ends ends text None none = λ f. none f.rest f.front (ends f.rest f.after)
+followed_step Front After Ends ends text (Some r) only = (
+  (λ w. record { rest = r.now; front = only.0; after = w }),
+  (λ f. subst After (only.1 f.rest f.front (ends f.rest f.after)) f.after),
+)
 
--- what comes after the comma after a field is such a field, and what comes after it
-pub field_after : (text : List ℕ) → IsWrittenAfterField (comma ∷ text) → AreWrittenFields text
-field_after text w = go w.fields w.timestamp w.admitted w.values w.fits w.written
-  where
-    -- by whether a field follows, or a timestamp
-    go : (fs : List Field) (t : Option ℤ) → list_all is_admitted_field fs ≡ true → AllByRecursion (λ f. IsValue f.value) fs
-        → IfSome t (λ z. fits_i64 z ≡ true) → built_fields comma fs ++ built_timestamp t ≡ comma ∷ text → AreWrittenFields text
-    go [] None admitted values fits e = absurd (omega (arith, ap length e))
-    go [] (Some z) admitted values fits e = absurd (omega (arith, ap (λ (xs : List ℕ). slice_index xs 0) e))
-    go (f ∷ fs) t admitted values fits e =
-        let parts = and_parts (is_admitted_field f) (list_all is_admitted_field fs) admitted in
-        let rest = built_fields comma fs ++ built_timestamp t in
-        record {
-          rest = rest;
-          first = record {
-            field = f;
-            admitted = parts.0;
-            fits = values.0;
-            written = sym (append_assoc (built_field f) (built_fields comma fs) (built_timestamp t)
-                ∙ append_assoc (spelling a_field_key f.key) (equals ∷ built_value f.value) rest)
-                ∙ ap (λ (xs : List ℕ). drop 1 xs) e;
-          };
-          after = record { fields = fs; admitted = parts.1; values = values.1; timestamp = t; fits = fits; written = refl };
-        }
+module _ (Item : List ℕ → List ℕ → Type 0) (After Ends : List ℕ → Type 0) (comma_ends : (after : List ℕ) → Ends (comma ∷ after))
+    (after_ends : (text : List ℕ) → After text → Ends text) (no_comma : (after : List ℕ) → After (comma ∷ after) → ⊥) where
+  -- items end the item before them
+  items_end : (text : List ℕ) → AreItems Item After text → Ends text
+  items_end text (no_item after) = after_ends text after
+  items_end text (an_item after rest e item more) = subst Ends (sym e) (comma_ends after)
+
+  -- after a comma an item comes, and then items
+  after_comma : (left text : List ℕ) → left ≡ comma ∷ text → AreItems Item After left → IsFollowed Item (AreItems Item After) text
+  after_comma left text e (no_item after) = absurd (no_comma text (subst After e after))
+  after_comma left text e (an_item after rest f item more) =
+      let same : after ≡ text = ap (λ (xs : List ℕ). drop 1 xs) (sym f ∙ e) in
+      record { rest = rest; front = subst (λ xs. Item xs rest) same item; after = more }
+
+  -- where the rest of an item after a comma is known, the text is items where the rest is
+  pub items_step : (left text : List ℕ) (o : Option (Bor (List ℕ))) → byte comma left ≡ reads comma text → IsOnlyRest (Item text) Ends o
+      → MatchOption o (AreItems Item After left → ⊥) (λ r. AreItems Item After r.now ↔ AreItems Item After left)
+  items_step left text o read only = go o (byte_left comma left text read) only
+    where
+      -- by the rest
+      go : (o : Option (Bor (List ℕ))) → left ≡ comma ∷ text → IsOnlyRest (Item text) Ends o
+          → MatchOption o (AreItems Item After left → ⊥) (λ r. AreItems Item After r.now ↔ AreItems Item After left)
+      go None e none = λ w. followed_step Item (AreItems Item After) Ends items_end text None none (after_comma left text e w)
+      go (Some r) e only =
+          let step = followed_step Item (AreItems Item After) Ends items_end text (Some r) only in (
+            (λ w. an_item text r.now e only.0 w),
+            (λ w. step.1 (after_comma left text e w)),
+          )
+
+  -- where no comma is, what comes after items is there
+  pub items_last : (left : List ℕ) → byte comma left ≡ miss → After left ↔ AreItems Item After left
+  items_last left missed = ((λ w. no_item w), last)
+    where
+      -- no item is there
+      last : AreItems Item After left → After left
+      last (no_item after) = after
+      last (an_item after rest e item more) = absurd (byte_missing comma left missed after e)
+
+-- a timestamp ends a value
+stamp_ends : (text : List ℕ) → IsWrittenTimestamp text → EndsValue text
+stamp_ends text (absent e) = subst EndsValue (sym e) refl
+stamp_ends text (present z fits e) = subst EndsValue (sym e) refl
+
+-- and begins with no comma
+stamp_no_comma : (after : List ℕ) → IsWrittenTimestamp (comma ∷ after) → ⊥
+stamp_no_comma after (absent e) = omega (arith, ap length e)
+stamp_no_comma after (present z fits e) = omega (arith, ap (λ (xs : List ℕ). slice_index xs 0) e)
+
+-- a step of the fields: after a comma
+pub field_step : (left text : List ℕ) (o : Option (Bor (List ℕ))) → byte comma left ≡ reads comma text
+    → IsOnlyRest (IsWrittenField text) EndsValue o
+    → MatchOption o (IsWrittenAfterField left → ⊥) (λ r. IsWrittenAfterField r.now ↔ IsWrittenAfterField left)
+field_step = items_step IsWrittenField IsWrittenTimestamp EndsValue (λ after. refl) stamp_ends stamp_no_comma
 
 -- where no comma is, a timestamp is after a field, or nothing
 pub only_timestamp : (text : List ℕ) → byte comma text ≡ miss → IsWrittenTimestamp text ↔ IsWrittenAfterField text
-only_timestamp text missed = (
-  (λ w. record { fields = []; admitted = refl; values = tt; timestamp = w.timestamp; fits = w.fits; written = w.written }),
-  (λ w. go w.fields w.timestamp w.fits w.written),
-)
-  where
-    -- no field follows where no comma does
-    go : (fs : List Field) (t : Option ℤ) → IfSome t (λ z. fits_i64 z ≡ true) → built_fields comma fs ++ built_timestamp t ≡ text
-        → IsWrittenTimestamp text
-    go [] t fits e = record { timestamp = t; fits = fits; written = e }
-    go (f ∷ fs) t fits e = absurd (byte_missing comma text missed _ (sym e))
-
--- a step of the fields: after a comma
-pub field_step : (text : List ℕ) (o : Option (Bor (List ℕ))) → IsOnlyRest (IsWrittenField text) EndsValue o
-    → MatchOption o (IsWrittenAfterField (comma ∷ text) → ⊥) (λ r. IsWrittenAfterField (comma ∷ text) ↔ IsWrittenAfterField r.now)
-field_step text None none = λ w. let f = field_after text w in none f.rest f.first (after_field_ends f.rest f.after)
-field_step text (Some r) only = (
-  (λ w. let f = field_after text w in subst IsWrittenAfterField (only.1 f.rest f.first (after_field_ends f.rest f.after)) f.after),
-  (λ w. with_field text r.now only.0 w),
-)
+only_timestamp = items_last IsWrittenField IsWrittenTimestamp EndsValue (λ after. refl) stamp_ends stamp_no_comma
 
 -- the first field, and what comes after it
 pub first_step : (text : List ℕ) (o : Option (Bor (List ℕ))) → IsOnlyRest (IsWrittenField text) EndsValue o
     → MatchOption o (AreWrittenFields text → ⊥) (λ r. IsWrittenAfterField r.now ↔ AreWrittenFields text)
-first_step text None none = λ f. none f.rest f.first (after_field_ends f.rest f.after)
-first_step text (Some r) only = (
-  (λ w. record { rest = r.now; first = only.0; after = w }),
-  (λ f. subst IsWrittenAfterField (only.1 f.rest f.first (after_field_ends f.rest f.after)) f.after),
-)
+first_step =
+    followed_step IsWrittenField IsWrittenAfterField EndsValue
+    (items_end IsWrittenField IsWrittenTimestamp EndsValue (λ after. refl) stamp_ends stamp_no_comma)
+
+-- the space before the fields ends a name of each kind that comes before them
+gap_ends : (kind : NameKind) → is_stop kind space ≡ true → (text : List ℕ) → IsWrittenAfterTags text → EndsName kind text
+gap_ends kind stops text w = subst (EndsName kind) (sym w.front) (stop_ends kind space w.rest stops (λ e. omega (arith, e)))
+
+-- and is no comma
+gap_no_comma : (after : List ℕ) → IsWrittenAfterTags (comma ∷ after) → ⊥
+gap_no_comma after w = omega (arith, ap (λ (xs : List ℕ). slice_index xs 0) w.front)
+
+-- so does a comma
+comma_ends : (kind : NameKind) → is_stop kind comma ≡ true → (after : List ℕ) → EndsName kind (comma ∷ after)
+comma_ends kind stops after = stop_ends kind comma after stops (λ e. omega (arith, e))
+
+-- a step of the tags: after a comma
+pub tag_step : (left text : List ℕ) (o : Option (Bor (List ℕ))) → byte comma left ≡ reads comma text
+    → IsOnlyRest (IsWrittenTag text) (EndsName a_tag_value) o
+    → MatchOption o (IsWrittenAfterName left → ⊥) (λ r. IsWrittenAfterName r.now ↔ IsWrittenAfterName left)
+tag_step = items_step IsWrittenTag IsWrittenAfterTags (EndsName a_tag_value) (comma_ends a_tag_value refl) (gap_ends a_tag_value refl) gap_no_comma
+
+-- where no comma is, the fields are after a name
+only_gap : (text : List ℕ) → byte comma text ≡ miss → IsWrittenAfterTags text ↔ IsWrittenAfterName text
+only_gap = items_last IsWrittenTag IsWrittenAfterTags (EndsName a_tag_value) (comma_ends a_tag_value refl) (gap_ends a_tag_value refl) gap_no_comma
+
+-- where neither a comma nor a space is, nothing is after a name
+pub no_gap : (text : List ℕ) → byte comma text ≡ miss → byte space text ≡ miss → IsWrittenAfterName text → ⊥
+no_gap text no_comma no_space w =
+    let gap = (only_gap text no_comma).1 w in byte_missing space text no_space gap.rest gap.front
+
+-- after a space the fields come
+pub fields_after : (text fields : List ℕ) → byte comma text ≡ miss → byte space text ≡ reads space fields
+    → AreWrittenFields fields ↔ IsWrittenAfterName text
+fields_after text fields no_comma read =
+    let left = byte_left space text fields read in
+    let gap = only_gap text no_comma in (
+      (λ w. gap.0 (record { rest = fields; front = left; after = w })),
+      (λ w. let f = gap.1 w in subst AreWrittenFields (ap (λ (xs : List ℕ). drop 1 xs) (sym f.front ∙ left)) f.after),
+    )
 
 -- a timestamp after its space
-pub timestamp_number : (number : List ℕ) → IsWrittenTimestamp (space ∷ number) → (z : ℤ) × (fits_i64 z ≡ true) × (signed_decimal z ≡ number)
-timestamp_number number w = go w.timestamp w.fits w.written
-  where
-    -- the timestamp is there, since its space is
-    go : (t : Option ℤ) → IfSome t (λ z. fits_i64 z ≡ true) → built_timestamp t ≡ space ∷ number
-        → (z : ℤ) × (fits_i64 z ≡ true) × (signed_decimal z ≡ number)
-    go None fits e = absurd (omega (arith, ap length e))
-    go (Some z) fits e = (z, fits, ap (λ (xs : List ℕ). drop 1 xs) e)
+timestamp_number : (number : List ℕ) → IsWrittenTimestamp (space ∷ number) → (z : ℤ) × (fits_i64 z ≡ true) × (signed_decimal z ≡ number)
+timestamp_number number (absent e) = absurd (omega (arith, ap length e))
+timestamp_number number (present z fits e) = (z, fits, ap (λ (xs : List ℕ). drop 1 xs) (sym e))
 
 -- it is a number to its end
 pub timestamp_len : (number : List ℕ) → IsWrittenTimestamp (space ∷ number) → (0 < integer_len number) × (integer_len number ≡ length number)
@@ -263,7 +222,7 @@ timestamp_answer number signed = (
   (λ ok.
       let parts = and_parts (not (has_extra_zero number)) (fits_i64 (signed_digits_value 10 number)) ok in
       let again = integer_again number signed (not-true (has_extra_zero number) parts.0) parts.1 in
-      record { timestamp = Some (signed_digits_value 10 number); fits = parts.1; written = ap (λ (xs : List ℕ). space ∷ xs) again }),
+      present (signed_digits_value 10 number) parts.1 (ap (λ (xs : List ℕ). space ∷ xs) (sym again))),
   (λ w.
       let t = timestamp_number number w in
       subst (λ xs. is_written_integer xs ≡ true) t.2 (rw (signed_zero t.0 t.1, (integer_written t.0 t.1).value, t.1) refl)),
@@ -271,216 +230,182 @@ timestamp_answer number signed = (
 
 -- nothing is a timestamp that is not there
 pub no_timestamp : (text : List ℕ) → length text ≡ 0 → IsWrittenTimestamp text
-no_timestamp [] none = record { timestamp = None; fits = tt; written = refl }
+no_timestamp [] none = absent refl
 no_timestamp (b ∷ text) some = absurd (omega (arith, some))
 
 -- and what begins with no space is none
 pub timestamp_space : (text : List ℕ) → length text ≢ 0 → byte space text ≡ miss → IsWrittenTimestamp text → ⊥
-timestamp_space text some missed w = go w.timestamp w.written
-  where
-    -- a timestamp begins with a space
-    go : (t : Option ℤ) → built_timestamp t ≡ text → ⊥
-    go None e = some (sym (ap length e))
-    go (Some z) e = byte_missing space text missed _ (sym e)
+timestamp_space text some missed (absent e) = some (ap length e)
+timestamp_space text some missed (present z fits e) = byte_missing space text missed (signed_decimal z) e
 
--- a tag after a comma, and what comes after it
-pub with_tag : (text rest : List ℕ) → IsWrittenTag text rest → IsWrittenAfterName rest → IsWrittenAfterName (comma ∷ text)
-with_tag text rest t w =
-    let after = built_fields space w.fields ++ built_timestamp w.timestamp in
+-- the timestamp of a point is one
+stamp_item : (t : Option ℤ) → IfSome t (λ z. fits_i64 z ≡ true) → IsWrittenTimestamp (built_timestamp t)
+stamp_item None fits = absent refl
+stamp_item (Some z) fits = present z fits refl
+
+-- and each timestamp that the builder writes is of a point, or none is there
+stamp_of : (text : List ℕ) → IsWrittenTimestamp text → (t : Option ℤ) × IfSome t (λ z. fits_i64 z ≡ true) × (built_timestamp t ≡ text)
+stamp_of text (absent e) = (None, tt, sym e)
+stamp_of text (present z fits e) = (Some z, fits, sym e)
+
+-- the text of an admitted tag is one
+tag_item : (t : Tag) (rest : List ℕ) → AdmittedTag t → IsWrittenTag (tag_text t ++ rest) rest
+tag_item t rest ok =
     record {
-      tags = t.tag ∷ w.tags;
-      tags_admitted = and_from _ _ t.admitted w.tags_admitted;
-      fields = w.fields;
-      some_field = w.some_field;
-      fields_admitted = w.fields_admitted;
-      values = w.values;
-      timestamp = w.timestamp;
-      fits = w.fits;
-      written = append_assoc (built_tag t.tag) (flat_map built_tag w.tags) after
-          ∙ ap (λ (xs : List ℕ). comma ∷ xs)
-          (append_assoc (spelling a_tag_key t.tag.key) (equals ∷ spelling a_tag_value t.tag.value) (flat_map built_tag w.tags ++ after)
-          ∙ rw w.written t.written);
+      after = spelling a_tag_value t.value ++ rest;
+      key = record { name = t.key; admitted = ok.0; written = sym (append_assoc (spelling a_tag_key t.key) (equals ∷ spelling a_tag_value t.value) rest) };
+      value = record { name = t.value; admitted = ok.1; written = refl };
     }
 
--- a tag, and what comes after it
-pub record TagAnd (text : List ℕ) : Type 0 where
-  pub rest : List ℕ
-  pub tag : IsWrittenTag text rest
-  pub after : IsWrittenAfterName rest
-
--- what comes after the comma after a name is a tag, and what comes after it
-pub tag_after : (text : List ℕ) → IsWrittenAfterName (comma ∷ text) → TagAnd text
-tag_after text w = go w.tags w.fields w.tags_admitted w.some_field w.fields_admitted w.values w.written
-  where
-    -- a tag follows, since a comma does
-    go : (ts : List Tag) (fs : List Field) → list_all is_admitted_tag ts ≡ true → 0 < length fs → list_all is_admitted_field fs ≡ true
-        → AllByRecursion (λ f. IsValue f.value) fs
-        → flat_map built_tag ts ++ (built_fields space fs ++ built_timestamp w.timestamp) ≡ comma ∷ text → TagAnd text
-    go [] [] tagged some fielded values e = absurd (omega (arith, some))
-    go [] (f ∷ fs) tagged some fielded values e = absurd (omega (arith, ap (λ (xs : List ℕ). slice_index xs 0) e))
-    go (t ∷ ts) fs tagged some fielded values e =
-        let parts = and_parts (is_admitted_tag t) (list_all is_admitted_tag ts) tagged in
-        let after = built_fields space fs ++ built_timestamp w.timestamp in
-        let rest = flat_map built_tag ts ++ after in
-        record {
-          rest = rest;
-          tag = record {
-            tag = t;
-            admitted = parts.0;
-            written = sym (append_assoc (spelling a_tag_key t.key) (equals ∷ spelling a_tag_value t.value) rest)
-                ∙ ap (λ (xs : List ℕ). drop 1 xs) (sym (append_assoc (built_tag t) (flat_map built_tag ts) after) ∙ e);
-          };
-          after = record {
-            tags = ts;
-            tags_admitted = parts.1;
-            fields = fs;
-            some_field = some;
-            fields_admitted = fielded;
-            values = values;
-            timestamp = w.timestamp;
-            fits = w.fits;
-            written = refl;
-          };
-        }
-
--- what comes after a name begins with a comma or a space
-after_name_first : (text : List ℕ) → IsWrittenAfterName text → ((rest : List ℕ) × (text ≡ comma ∷ rest)) ⊎ ((rest : List ℕ) × (text ≡ space ∷ rest))
-after_name_first text w = go w.tags w.fields w.some_field w.written
-  where
-    -- by whether a tag follows, or a field
-    go : (ts : List Tag) (fs : List Field) → 0 < length fs
-        → flat_map built_tag ts ++ (built_fields space fs ++ built_timestamp w.timestamp) ≡ text
-        → ((rest : List ℕ) × (text ≡ comma ∷ rest)) ⊎ ((rest : List ℕ) × (text ≡ space ∷ rest))
-    go [] [] some e = absurd (omega (arith, some))
-    go [] (f ∷ fs) some e = inr (_, sym e)
-    go (t ∷ ts) fs some e = inl (_, sym e)
-
--- so it ends a measurement
-pub measurement_ends : (text : List ℕ) → IsWrittenAfterName text → EndsName a_measurement text
-measurement_ends text w =
-    elim (after_name_first text w) [
-      | inl tag ↦ subst (EndsName a_measurement) (sym tag.1) (stop_ends a_measurement comma tag.0 refl (λ e. omega (arith, e)))
-      | inr gap ↦ subst (EndsName a_measurement) (sym gap.1) (stop_ends a_measurement space gap.0 refl (λ e. omega (arith, e)))
-    ]
-
--- and the value of a tag
-pub tag_value_ends : (text : List ℕ) → IsWrittenAfterName text → EndsName a_tag_value text
-tag_value_ends text w =
-    elim (after_name_first text w) [
-      | inl tag ↦ subst (EndsName a_tag_value) (sym tag.1) (stop_ends a_tag_value comma tag.0 refl (λ e. omega (arith, e)))
-      | inr gap ↦ subst (EndsName a_tag_value) (sym gap.1) (stop_ends a_tag_value space gap.0 refl (λ e. omega (arith, e)))
-    ]
-
--- a step of the tags: after a comma
-pub tag_step : (text : List ℕ) (o : Option (Bor (List ℕ))) → IsOnlyRest (IsWrittenTag text) (EndsName a_tag_value) o
-    → MatchOption o (IsWrittenAfterName (comma ∷ text) → ⊥) (λ r. IsWrittenAfterName (comma ∷ text) ↔ IsWrittenAfterName r.now)
-tag_step text None none = λ w. let t = tag_after text w in none t.rest t.tag (tag_value_ends t.rest t.after)
-tag_step text (Some r) only = (
-  (λ w. let t = tag_after text w in subst IsWrittenAfterName (only.1 t.rest t.tag (tag_value_ends t.rest t.after)) t.after),
-  (λ w. with_tag text r.now only.0 w),
+-- and each tag that the builder writes is such a text
+tag_of : (text rest : List ℕ) → IsWrittenTag text rest → (t : Tag) × AdmittedTag t × (tag_text t ++ rest ≡ text)
+tag_of text rest w = (
+  record { key = w.key.name; value = w.value.name },
+  (w.key.admitted, w.value.admitted),
+  append_assoc (spelling a_tag_key w.key.name) (equals ∷ spelling a_tag_value w.value.name) rest
+      ∙ ap (λ (xs : List ℕ). spelling a_tag_key w.key.name ++ equals ∷ xs) w.value.written ∙ w.key.written,
 )
 
--- where neither a comma nor a space is, nothing is after a name
-pub no_gap : (text : List ℕ) → byte comma text ≡ miss → byte space text ≡ miss → IsWrittenAfterName text → ⊥
-no_gap text no_comma no_space w =
-    elim (after_name_first text w) [
-      | inl tag ↦ byte_missing comma text no_comma tag.0 tag.1
-      | inr gap ↦ byte_missing space text no_space gap.0 gap.1
-    ]
-
--- after a space the fields come
-pub fields_after : (text : List ℕ) → AreWrittenFields text ↔ IsWrittenAfterName (space ∷ text)
-fields_after text = (
-  (λ f.
-      let first = f.first in
-      let more = f.after in
-      record {
-        tags = [];
-        tags_admitted = refl;
-        fields = first.field ∷ more.fields;
-        some_field = omega arith;
-        fields_admitted = and_from _ _ first.admitted more.admitted;
-        values = (first.fits, more.values);
-        timestamp = more.timestamp;
-        fits = more.fits;
-        written = ap (λ (xs : List ℕ). space ∷ xs)
-            (append_assoc (built_field first.field) (built_fields comma more.fields) (built_timestamp more.timestamp)
-            ∙ append_assoc (spelling a_field_key first.field.key) (equals ∷ built_value first.field.value)
-            (built_fields comma more.fields ++ built_timestamp more.timestamp)
-            ∙ rw more.written first.written);
-      }),
-  (λ w. go w.tags w.fields w.timestamp w.some_field w.fields_admitted w.values w.fits w.written),
-)
-  where
-    -- no tag follows, since a space does
-    go : (ts : List Tag) (fs : List Field) (t : Option ℤ) → 0 < length fs → list_all is_admitted_field fs ≡ true
-        → AllByRecursion (λ f. IsValue f.value) fs → IfSome t (λ z. fits_i64 z ≡ true)
-        → flat_map built_tag ts ++ (built_fields space fs ++ built_timestamp t) ≡ space ∷ text → AreWrittenFields text
-    go (t ∷ ts) fs stamp some admitted values fits e = absurd (omega (arith, ap (λ (xs : List ℕ). slice_index xs 0) e))
-    go [] [] stamp some admitted values fits e = absurd (omega (arith, some))
-    go [] (f ∷ fs) stamp some admitted values fits e =
-        let parts = and_parts (is_admitted_field f) (list_all is_admitted_field fs) admitted in
-        let rest = built_fields comma fs ++ built_timestamp stamp in
-        record {
-          rest = rest;
-          first = record {
-            field = f;
-            admitted = parts.0;
-            fits = values.0;
-            written = sym (append_assoc (built_field f) (built_fields comma fs) (built_timestamp stamp)
-                ∙ append_assoc (spelling a_field_key f.key) (equals ∷ built_value f.value) rest)
-                ∙ ap (λ (xs : List ℕ). drop 1 xs) e;
-          };
-          after = record { fields = fs; admitted = parts.1; values = values.1; timestamp = stamp; fits = fits; written = refl };
-        }
-
--- the measurement of a line, and what comes after it
-record NameAnd (line : List ℕ) : Type 0 where
-  rest : List ℕ
-  name : IsWrittenName a_measurement line rest
-  after : IsWrittenAfterName rest
-
--- a line that is as written is such parts
-line_parts : (line : List ℕ) → IsAsWritten line → NameAnd line
-unfolding is_admitted_point
-line_parts line w =
-    let p = w.point in
-    let last = and_parts (is_admitted_name a_measurement p.measurement && list_all is_admitted_tag p.tags) (list_all is_admitted_field p.fields) w.admitted in
-    let front = and_parts (is_admitted_name a_measurement p.measurement) (list_all is_admitted_tag p.tags) last.0 in
+-- the text of an admitted field is one
+field_item : (f : Field) (rest : List ℕ) → AdmittedField f → IsWrittenField (built_field f ++ rest) rest
+field_item f rest ok =
     record {
-      rest = flat_map built_tag p.tags ++ (built_fields space p.fields ++ built_timestamp p.timestamp);
-      name = record { name = p.measurement; admitted = front.0; written = sym (pieces.line_parts p) ∙ w.written };
+      after = built_value f.value ++ rest;
+      key = record { name = f.key; admitted = ok.0; written = sym (append_assoc (spelling a_field_key f.key) (equals ∷ built_value f.value) rest) };
+      value = record { value = f.value; fits = ok.1; written = refl };
+    }
+
+-- and each field that the builder writes is such a text
+field_of : (text rest : List ℕ) → IsWrittenField text rest → (f : Field) × AdmittedField f × (built_field f ++ rest ≡ text)
+field_of text rest w = (
+  record { key = w.key.name; value = w.value.value },
+  (w.key.admitted, w.value.fits),
+  append_assoc (spelling a_field_key w.key.name) (equals ∷ built_value w.value.value) rest
+      ∙ ap (λ (xs : List ℕ). spelling a_field_key w.key.name ++ equals ∷ xs) w.value.written ∙ w.key.written,
+)
+
+module _ {X : Type 0} (text_of : X → List ℕ) (Admitted : X → Type 0) (Item : List ℕ → List ℕ → Type 0) (After : List ℕ → Type 0) where
+  -- the texts of such things, each after a comma
+  abbrev texts : List X → List ℕ
+  texts xs = flat_map (λ x. comma ∷ text_of x) xs
+
+  -- are items
+  items_of : ((x : X) (rest : List ℕ) → Admitted x → Item (text_of x ++ rest) rest) → (xs : List X) (rest : List ℕ)
+      → AllByRecursion Admitted xs → After rest → AreItems Item After (texts xs ++ rest)
+  items_of each [] rest all after = no_item after
+  items_of each (x ∷ xs) rest all after =
+      an_item (text_of x ++ (texts xs ++ rest)) (texts xs ++ rest) (append_assoc (comma ∷ text_of x) (texts xs) rest)
+      (each x (texts xs ++ rest) all.0) (items_of each xs rest all.1 after)
+
+  -- such things by their text, and what comes after them
+  record Listed (text : List ℕ) : Type 0 where
+    things : List X
+    admitted : AllByRecursion Admitted things
+    rest : List ℕ
+    after : After rest
+    written : texts things ++ rest ≡ text
+
+  -- items are such texts
+  listed : ((text rest : List ℕ) → Item text rest → (x : X) × Admitted x × (text_of x ++ rest ≡ text)) → (text : List ℕ)
+      → AreItems Item After text → Listed text
+  listed back text (no_item after) = record { things = []; admitted = tt; rest = text; after = after; written = refl }
+  listed back text (an_item after rest e item more) =
+      let x = back after rest item in
+      let m = listed back rest more in
+      record {
+        things = x.0 ∷ m.things;
+        admitted = (x.1, m.admitted);
+        rest = m.rest;
+        after = m.after;
+        written = append_assoc (comma ∷ text_of x.0) (texts m.things) m.rest
+            ∙ ap (λ (ys : List ℕ). comma ∷ (text_of x.0 ++ ys)) m.written ∙ ap (λ (ys : List ℕ). comma ∷ ys) x.2 ∙ sym e;
+      }
+
+-- the fields after the first, each after a comma
+commas : (fs : List Field) → built_fields comma fs ≡ flat_map (λ f. comma ∷ built_field f) fs
+commas [] = refl
+commas (f ∷ fs) = ap (λ (xs : List ℕ). comma ∷ (built_field f ++ xs)) (commas fs)
+
+-- the fields of a point and its timestamp come after its tags
+after_tags : (fs : List Field) (t : Option ℤ) → 0 < length fs → AllByRecursion AdmittedField fs → IfSome t (λ z. fits_i64 z ≡ true)
+    → IsWrittenAfterTags (built_fields space fs ++ built_timestamp t)
+after_tags [] t some all fits = absurd (omega (arith, some))
+after_tags (f ∷ fs) t some all fits =
+    let after = built_fields comma fs ++ built_timestamp t in
+    let more = items_of built_field AdmittedField IsWrittenField IsWrittenTimestamp field_item fs (built_timestamp t) all.1
+    (stamp_item t fits) in
+    record {
+      rest = built_field f ++ after;
+      front = append_assoc (space ∷ built_field f) (built_fields comma fs) (built_timestamp t);
       after = record {
-        tags = p.tags;
-        tags_admitted = front.1;
-        fields = p.fields;
-        some_field = w.is_point.some_field;
-        fields_admitted = last.1;
-        values = w.is_point.values;
-        timestamp = p.timestamp;
-        fits = w.is_point.timestamp;
-        written = refl;
+        rest = after;
+        front = field_item f after all.0;
+        after = subst (λ xs. IsWrittenAfterField (xs ++ built_timestamp t)) (sym (commas fs)) more;
       };
     }
 
--- and such parts are a line that is as written
-parts_line : (line : List ℕ) → NameAnd line → IsAsWritten line
-unfolding is_admitted_point
-parts_line line parts =
-    let w = parts.after in
+-- the line of an admitted point is a measurement, and what comes after it
+line_of_point : (line : List ℕ) (w : IsAsWritten line) → IsAdmitted w.point → IsFollowed (IsWrittenName a_measurement) IsWrittenAfterName line
+line_of_point line w ok =
+    let p = w.point in
+    let after = built_fields space p.fields ++ built_timestamp p.timestamp in
     record {
-      point = record { measurement = parts.name.name; tags = w.tags; fields = w.fields; timestamp = w.timestamp };
-      is_point = record { some_field = w.some_field; values = w.values; timestamp = w.fits };
-      admitted = and_from _ _ (and_from _ _ parts.name.admitted w.tags_admitted) w.fields_admitted;
-      written = pieces.line_parts (record { measurement = parts.name.name; tags = w.tags; fields = w.fields; timestamp = w.timestamp })
-          ∙ rw w.written parts.name.written;
+      rest = flat_map built_tag p.tags ++ after;
+      front = record { name = p.measurement; admitted = ok.measurement; written = sym (line_parts p) ∙ w.written };
+      after = items_of tag_text AdmittedTag IsWrittenTag IsWrittenAfterTags tag_item p.tags after ok.tags
+          (after_tags p.fields p.timestamp ok.some_field ok.fields ok.timestamp);
+    }
+
+-- what each thing passes, all pass
+all_pass : {X : Type 0} (test : X → Bool) (P : X → Type 0) → ((x : X) → P x → test x ≡ true) → (xs : List X) → AllByRecursion P xs
+    → list_all test xs ≡ true
+all_pass test P each [] all = refl
+all_pass test P each (x ∷ xs) all = and_from (test x) (list_all test xs) (each x all.0) (all_pass test P each xs all.1)
+
+-- the values of admitted fields
+field_values : (fs : List Field) → AllByRecursion AdmittedField fs → AllByRecursion (λ f. IsValue f.value) fs
+field_values [] all = tt
+field_values (f ∷ fs) all = (all.0.1, field_values fs all.1)
+
+-- a measurement and what comes after it are the line of an admitted point
+point_of_line : (line : List ℕ) → IsFollowed (IsWrittenName a_measurement) IsWrittenAfterName line → IsAsWritten line
+unfolding is_admitted_point
+point_of_line line w =
+    let tags = listed tag_text AdmittedTag IsWrittenTag IsWrittenAfterTags tag_of w.rest w.after in
+    let gap = tags.after in
+    let f = field_of gap.rest gap.after.rest gap.after.front in
+    let more = listed built_field AdmittedField IsWrittenField IsWrittenTimestamp field_of gap.after.rest gap.after.after in
+    let stamp = stamp_of more.rest more.after in
+    let p : Point = record { measurement = w.front.name; tags = tags.things; fields = f.0 ∷ more.things; timestamp = stamp.0 } in
+    let tagged = all_pass is_admitted_tag AdmittedTag (λ t ok. and_from _ _ ok.0 ok.1) tags.things tags.admitted in
+    let fielded = all_pass is_admitted_field AdmittedField (λ f ok. ok.0) more.things more.admitted in
+    let fields : built_fields space p.fields ++ built_timestamp p.timestamp ≡ tags.rest =
+    append_assoc (space ∷ built_field f.0) (built_fields comma more.things) (built_timestamp stamp.0)
+    ∙ rw (commas more.things, stamp.2, more.written, f.2) (sym gap.front) in
+    record {
+      point = p;
+      is_point = record { some_field = omega arith; values = (f.1.1, field_values more.things more.admitted); timestamp = stamp.1 };
+      admitted = and_from _ _ (and_from _ _ w.front.admitted tagged) (and_from _ _ f.1.0 fielded);
+      written = line_parts p ∙ rw (fields, tags.written) w.front.written;
     }
 
 -- a line that is as written begins with a measurement
 pub line_step : (line : List ℕ) (o : Option (Bor (List ℕ))) → IsOnlyRest (IsWrittenName a_measurement line) (EndsName a_measurement) o
     → MatchOption o (IsAsWritten line → ⊥) (λ r. IsWrittenAfterName r.now ↔ IsAsWritten line)
-line_step line None none = λ w. let p = line_parts line w in none p.rest p.name (measurement_ends p.rest p.after)
-line_step line (Some r) only = (
-  (λ w. parts_line line (record { rest = r.now; name = only.0; after = w })),
-  (λ w. let p = line_parts line w in subst IsWrittenAfterName (only.1 p.rest p.name (measurement_ends p.rest p.after)) p.after),
-)
+line_step line o only = go o (followed_step (IsWrittenName a_measurement) IsWrittenAfterName (EndsName a_measurement) ends line o only)
+  where
+    -- what comes after a measurement ends it
+    ends : (text : List ℕ) → IsWrittenAfterName text → EndsName a_measurement text
+    ends = items_end IsWrittenTag IsWrittenAfterTags (EndsName a_measurement) (comma_ends a_measurement refl) (gap_ends a_measurement refl) gap_no_comma
+
+    -- a line is as written where it is a measurement, and what comes after it
+    parts : IsAsWritten line → IsFollowed (IsWrittenName a_measurement) IsWrittenAfterName line
+    parts w = line_of_point line w (admitted_point w.point w.is_point w.admitted)
+
+    -- by the rest of the measurement
+    go : (o : Option (Bor (List ℕ)))
+        → MatchOption o (IsFollowed (IsWrittenName a_measurement) IsWrittenAfterName line → ⊥)
+        (λ r. IsWrittenAfterName r.now ↔ IsFollowed (IsWrittenName a_measurement) IsWrittenAfterName line)
+        → MatchOption o (IsAsWritten line → ⊥) (λ r. IsWrittenAfterName r.now ↔ IsAsWritten line)
+    go None none = λ w. none (parts w)
+    go (Some r) step = (λ w. point_of_line line (step.0 w), λ w. step.1 (parts w))

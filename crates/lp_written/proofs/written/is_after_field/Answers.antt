@@ -1,8 +1,6 @@
-use Rattle.std.proofs.Common.{◌<◌, length, rules, sym, subst, arith, Some, None}
+use Rattle.std.proofs.Common.{◌<◌, length, rules, arith, Some, None}
 use Rattle.std.proofs.lemmas.Bool.{false≢true}
-use Rattle.lp_written.specs.code.AsWritten.{IsWrittenAfterField}
 use Rattle.lp_written.proofs.lemmas.parts.WrittenLines.{field_less, field_step, only_timestamp}
-use Rattle.lp_written.proofs.lemmas.parts.WrittenNames.{byte_left}
 use Rattle.lp_written.proofs.written.is_after_field.Goals as goal
 
 pub loop-field-init : goal.loop-field-init
@@ -11,12 +9,9 @@ loop-field-init c = record { utf8_left = search rules; same = (λ w. w, λ w. w)
 pub loop-field-preserved : goal.loop-field-preserved
 loop-field-preserved c =
     let now = c.loop-field.invariant.same in
-    let left = byte_left 44 c.loop-field.left.now c.in-Some.field.now c.in-Some.ensures.value in
-    let step = field_step c.in-Some.field.now (Some c.in-Some-after_field.rest) c.in-Some-after_field.ensures in
-    record {
-      utf8_left = search rules;
-      same = (λ w. now.0 (subst IsWrittenAfterField (sym left) (step.1 w)), λ w. step.0 (subst IsWrittenAfterField left (now.1 w)));
-    }
+    let step = field_step c.loop-field.left.now c.in-Some.field.now (Some c.in-Some-after_field.rest) c.in-Some.ensures.value
+    c.in-Some-after_field.ensures in
+    record { utf8_left = search rules; same = (λ w. now.0 (step.0 w), λ w. step.1 (now.1 w)) }
 
 pub loop-field-smaller : goal.loop-field-smaller
 loop-field-smaller c =
@@ -26,11 +21,8 @@ loop-field-smaller c =
 
 pub returns-in_default-after_field : goal.returns-in_default-after_field
 returns-in_default-after_field c =
-    let left = byte_left 44 c.loop-field.left.now c.in-Some.field.now c.in-Some.ensures.value in (
-      λ h. absurd (false≢true h),
-      λ w. absurd (field_step c.in-Some.field.now None c.in_default-after_field.ensures
-          (subst IsWrittenAfterField left (c.loop-field.invariant.same.1 w))),
-    )
+    let none = field_step c.loop-field.left.now c.in-Some.field.now None c.in-Some.ensures.value c.in_default-after_field.ensures in
+    (λ h. absurd (false≢true h), λ w. absurd (none (c.loop-field.invariant.same.1 w)))
 
 pub returns : goal.returns
 returns c =

@@ -1,8 +1,6 @@
-use Rattle.std.proofs.Common.{◌<◌, length, rules, sym, subst, arith, Some, None}
+use Rattle.std.proofs.Common.{◌<◌, length, rules, arith, Some, None}
 use Rattle.std.proofs.lemmas.Bool.{false≢true}
-use Rattle.lp_written.specs.code.AsWritten.{IsWrittenAfterName}
 use Rattle.lp_written.proofs.lemmas.parts.WrittenLines.{fields_after, no_gap, tag_less, tag_step}
-use Rattle.lp_written.proofs.lemmas.parts.WrittenNames.{byte_left}
 use Rattle.lp_written.proofs.written.is_after_name.Goals as goal
 
 pub loop-tag-init : goal.loop-tag-init
@@ -11,12 +9,9 @@ loop-tag-init c = record { utf8_left = search rules; same = (λ w. w, λ w. w) }
 pub loop-tag-preserved : goal.loop-tag-preserved
 loop-tag-preserved c =
     let now = c.loop-tag.invariant.same in
-    let left = byte_left 44 c.loop-tag.left.now c.in-Some.tag.now c.in-Some.ensures.value in
-    let step = tag_step c.in-Some.tag.now (Some c.in-Some-after_tag.rest) c.in-Some-after_tag.ensures in
-    record {
-      utf8_left = search rules;
-      same = (λ w. now.0 (subst IsWrittenAfterName (sym left) (step.1 w)), λ w. step.0 (subst IsWrittenAfterName left (now.1 w)));
-    }
+    let step = tag_step c.loop-tag.left.now c.in-Some.tag.now (Some c.in-Some-after_tag.rest) c.in-Some.ensures.value
+    c.in-Some-after_tag.ensures in
+    record { utf8_left = search rules; same = (λ w. now.0 (step.0 w), λ w. step.1 (now.1 w)) }
 
 pub loop-tag-smaller : goal.loop-tag-smaller
 loop-tag-smaller c =
@@ -26,11 +21,8 @@ loop-tag-smaller c =
 
 pub returns-in_default-after_tag : goal.returns-in_default-after_tag
 returns-in_default-after_tag c =
-    let left = byte_left 44 c.loop-tag.left.now c.in-Some.tag.now c.in-Some.ensures.value in (
-      λ h. absurd (false≢true h),
-      λ w. absurd (tag_step c.in-Some.tag.now None c.in_default-after_tag.ensures
-          (subst IsWrittenAfterName left (c.loop-tag.invariant.same.1 w))),
-    )
+    let none = tag_step c.loop-tag.left.now c.in-Some.tag.now None c.in-Some.ensures.value c.in_default-after_tag.ensures in
+    (λ h. absurd (false≢true h), λ w. absurd (none (c.loop-tag.invariant.same.1 w)))
 
 pub returns-in_default-strip_byte : goal.returns-in_default-strip_byte
 returns-in_default-strip_byte c = (
@@ -41,8 +33,5 @@ returns-in_default-strip_byte c = (
 pub returns : goal.returns
 returns c =
     let now = c.loop-tag.invariant.same in
-    let left = byte_left 32 c.loop-tag.left.now c.in-Some-strip_byte.fields.now c.in-Some-strip_byte.ensures.value in
-    let step = fields_after c.in-Some-strip_byte.fields.now in (
-      λ h. now.0 (subst IsWrittenAfterName (sym left) (step.0 (c.are_fields.ensures.0 h))),
-      λ w. c.are_fields.ensures.1 (step.1 (subst IsWrittenAfterName left (now.1 w))),
-    )
+    let step = fields_after c.loop-tag.left.now c.in-Some-strip_byte.fields.now c.in_default.ensures.value c.in-Some-strip_byte.ensures.value in
+    (λ h. now.0 (step.0 (c.are_fields.ensures.0 h)), λ w. c.are_fields.ensures.1 (step.1 (now.1 w)))
