@@ -1,16 +1,18 @@
 //! Values at the start of a text, where they are as the builder writes them.
 
-ghost use Rattle.std.specs.Prelude.{◌≡◌, ◌≢◌, ◌⊎◌, ◌<◌, codes, length, slice_index, take};
-ghost use Rattle.std.specs.Str.Parse.{IsNumeral};
-ghost use Rattle.lp_format.specs.format.Bytes.{letter_i, letter_u, minus, quote};
-ghost use Rattle.lp_format.specs.format.Values.{IsSigned, digits_len, integer_len};
-ghost use Rattle.lp_written.specs.code.AsWritten.{EndsValue, IsOnlyRest, IsWrittenValue, begins_false, begins_true};
+ghost use Rattle.std.specs.Prelude.{◌≡◌, ◌≢◌, ◌<◌, IsCharBoundary, codes, drop, length, slice_index, take};
+ghost use Rattle.lp_format.specs.format.Bytes.{letter_i, letter_u, quote};
+ghost use Rattle.lp_format.specs.format.Lines.{byte};
+ghost use Rattle.lp_format.specs.format.Readings.{miss};
+ghost use Rattle.lp_format.specs.format.Values.{IsSigned, integer_len};
+ghost use Rattle.lp_written.specs.code.AsWritten.{EndsValue, IsOnlyRest, IsWrittenValue};
 ghost use Rattle.lp_written.specs.code.AsWritten.{has_extra_zero, is_written_integer, is_written_unsigned};
 
 use crate::tokens::after_string;
 use lp_values::FloatText;
 use lp_values::digits::{integer_value, unsigned_value};
 use lp_values::literals::integer_len;
+use lp_values::trim::strip_byte;
 use lp_values::values::has_byte_at;
 
 // A shorter number, with `-` or not, is in the range of an i64.
@@ -40,59 +42,30 @@ pub(crate) fn is_written_integer(number: &str, text: &str) -> bool
     integer_value(number, text).is_some()
 }
 
-// Whether the builder writes the digits `number`, at the start of `text`, so as an unsigned number.
+// Whether the builder writes `number`, at the start of `text`, so as an unsigned number.
 #[inline(always)]
 fn is_written_unsigned(number: &str, text: &str) -> bool
-    requires numeral { IsNumeral 10 number.now }
+    requires signed { IsSigned (codes "-") number.now }
     requires front { number.now ≡ take (length number.now) text.now }
     ensures { result ≡ is_written_unsigned number.now }
 {
-    if has_extra_zero(number.as_bytes()) {
+    let bytes = number.as_bytes();
+    if has_byte_at(bytes, 0, b'-') {
+        return false;
+    }
+    if has_extra_zero(bytes) {
         return false;
     }
     unsigned_value(number, text).is_some()
 }
 
-// What follows an integer and `i` at the start of `text`, where the integer takes `whole` bytes.
-#[inline(always)]
-fn after_integer(text: &str, whole: usize) -> Option<&str>
-    requires whole { whole ≡ integer_len text.now }
-    requires some { 0 < whole }
-    requires mark { slice_index text.now whole ≡ letter_i }
-    ensures { IsOnlyRest (IsWrittenValue text.now) EndsValue result }
-{
-    let (number, _) = text.split_at(whole);
-    if is_written_integer(number, text) {
-        Some(&text[whole + 1..])
-    } else {
-        None
-    }
-}
-
-// What follows digits and `u` at the start of `text`, where the digits take `whole` bytes.
-#[inline(always)]
-fn after_unsigned(text: &str, whole: usize) -> Option<&str>
-    requires whole { whole ≡ integer_len text.now }
-    requires some { 0 < whole }
-    requires mark { slice_index text.now whole ≡ letter_u }
-    requires plain { slice_index text.now 0 ≢ minus }
-    ensures { IsOnlyRest (IsWrittenValue text.now) EndsValue result }
-{
-    let (number, _) = text.split_at(whole);
-    if is_written_unsigned(number, text) {
-        Some(&text[whole + 1..])
-    } else {
-        None
-    }
-}
-
-// What follows the longest float at the start of `text`, where an integer takes `whole` bytes.
+// What follows the longest float at the start of `text`, where an integer takes `whole` bytes, and no mark of it follows.
 #[inline(always)]
 fn after_float(text: &str, whole: usize) -> Option<&str>
     requires whole { whole ≡ integer_len text.now }
     requires some { 0 < whole }
-    requires no_i { slice_index text.now whole ≢ letter_i }
-    requires no_u { (slice_index text.now whole ≢ letter_u) ⊎ (slice_index text.now 0 ≡ minus) }
+    requires no_i { byte letter_i (drop whole text.now) ≡ miss }
+    requires no_u { byte letter_u (drop whole text.now) ≡ miss }
     ensures { IsOnlyRest (IsWrittenValue text.now) EndsValue result }
 {
     let Some((_, rest)) = FloatText::front(text, whole) else {
@@ -106,32 +79,17 @@ fn after_float(text: &str, whole: usize) -> Option<&str>
 fn after_number(text: &str, whole: usize) -> Option<&str>
     requires whole { whole ≡ integer_len text.now }
     requires some { 0 < whole }
+    requires boundary { IsCharBoundary text.now whole }
     ensures { IsOnlyRest (IsWrittenValue text.now) EndsValue result }
 {
-    let bytes = text.as_bytes();
-    if has_byte_at(bytes, whole, b'i') {
-        return after_integer(text, whole);
+    let (number, after) = text.split_at(whole);
+    if let Some(rest) = strip_byte(b'i', after) {
+        return is_written_integer(number, text).then_some(rest);
     }
-    if has_byte_at(bytes, whole, b'u') && !has_byte_at(bytes, 0, b'-') {
-        return after_unsigned(text, whole);
+    if let Some(rest) = strip_byte(b'u', after) {
+        return is_written_unsigned(number, text).then_some(rest);
     }
     after_float(text, whole)
-}
-
-// Whether the builder's word for true is at the start.
-#[inline(always)]
-fn begins_true(bytes: &[u8]) -> bool
-    ensures { result ≡ begins_true bytes.now }
-{
-    matches!(bytes, [b't', b'r', b'u', b'e', ..])
-}
-
-// Whether the one for false is.
-#[inline(always)]
-fn begins_false(bytes: &[u8]) -> bool
-    ensures { result ≡ begins_false bytes.now }
-{
-    matches!(bytes, [b'f', b'a', b'l', b's', b'e', ..])
 }
 
 // What follows the word for a Boolean at the start of `text`, where neither a number nor a string is.
@@ -141,13 +99,10 @@ fn after_word(text: &str) -> Option<&str>
     requires no_string { slice_index text.now 0 ≢ quote }
     ensures { IsOnlyRest (IsWrittenValue text.now) EndsValue result }
 {
-    if begins_true(text.as_bytes()) {
-        return Some(&text[4..]);
+    if let Some(rest) = text.strip_prefix("true") {
+        return Some(rest);
     }
-    if begins_false(text.as_bytes()) {
-        return Some(&text[5..]);
-    }
-    None
+    text.strip_prefix("false")
 }
 
 /// What follows the value at the start of `text`, where that is as the builder writes it.

@@ -58,19 +58,9 @@ has_extra_zero number = false
 abbrev pub is_written_integer : List ℕ → Bool
 is_written_integer number = not (has_extra_zero number) && fits_i64 (signed_digits_value 10 number)
 
--- whether the builder writes digits so as an unsigned number
+-- whether the builder writes a number so as an unsigned number
 abbrev pub is_written_unsigned : List ℕ → Bool
-is_written_unsigned digits = not (has_extra_zero digits) && nat_lt (digits_value 10 digits) (2 ^ 64)
-
--- whether the text begins with the builder's word for true
-abbrev pub begins_true : List ℕ → Bool
-begins_true (a ∷ b ∷ c ∷ d ∷ rest) = a == 116 && b == 114 && c == 117 && d == 101
-begins_true other = false
-
--- whether it begins with the one for false
-abbrev pub begins_false : List ℕ → Bool
-begins_false (a ∷ b ∷ c ∷ d ∷ e ∷ rest) = a == 102 && b == 97 && c == 108 && d == 115 && e == 101
-begins_false other = false
+is_written_unsigned number = not (slice_index number 0 == minus) && not (has_extra_zero number) && nat_lt (digits_value 10 number) (2 ^ 64)
 
 -- a rest with which no value goes on
 abbrev pub EndsValue : List ℕ → Type 0

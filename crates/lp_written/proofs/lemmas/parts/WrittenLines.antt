@@ -1,12 +1,11 @@
 -- Tags, fields, timestamps and lines as the builder writes them.
 use Rattle.std.proofs.Common.{◌≡◌, ◌≢◌, ℕ, ◌<◌, ◌≤◌, Bool, true, List, [], ◌∷◌, ◌++◌, length, drop, slice_index, refl, sym}
 use Rattle.std.proofs.Common.{ap, subst, ◌∙◌, arith, append_assoc, append-nil, length-append, Option, Some, None}
-use Rattle.std.specs.Prelude.{◌↔◌, ℤ, IfSome, MatchOption, codes, not}
+use Rattle.std.specs.Prelude.{◌↔◌, ℤ, IfSome, MatchOption, codes}
 use Rattle.std.specs.Fmt.{signed_decimal}
 use Rattle.std.specs.Borrow.{Bor}
 use Rattle.std.specs.List.{AllByRecursion, flat_map, list_all}
-use Rattle.std.specs.Str.Parse.{signed_digits_value}
-use Rattle.std.proofs.lemmas.Bool.{and_parts, and_from, not-true}
+use Rattle.std.proofs.lemmas.Bool.{and_from}
 use Rattle.std.proofs.lemmas.List.{take_all}
 use Rattle.lp_format.specs.format.Bytes.{comma, equals, space}
 use Rattle.lp_format.specs.format.Names.{NameKind, a_measurement, a_tag_key, a_tag_value, a_field_key, is_stop}
@@ -20,9 +19,9 @@ use Rattle.lp_format.proofs.lemmas.read_back.IntegerReadsBack.{integer_written}
 use Rattle.lp_format.proofs.lemmas.values.ValueForms.{byte_missing}
 use Rattle.lp_written.specs.code.AsWritten.{AreItems, no_item, an_item, AreWrittenFields, EndsName, EndsValue, IsFollowed, IsOnlyRest}
 use Rattle.lp_written.specs.code.AsWritten.{IsWrittenAfterField, IsWrittenAfterName, IsWrittenAfterTags, IsWrittenField, IsWrittenName}
-use Rattle.lp_written.specs.code.AsWritten.{IsWrittenPair, IsWrittenTag, IsWrittenTimestamp, absent, present, has_extra_zero, is_written_integer}
+use Rattle.lp_written.specs.code.AsWritten.{IsWrittenPair, IsWrittenTag, IsWrittenTimestamp, absent, present, is_written_integer}
 use Rattle.lp_written.proofs.lemmas.parts.WrittenNames.{byte_left, stop_ends}
-use Rattle.lp_written.proofs.lemmas.parts.WrittenNumbers.{integer_again, signed_zero}
+use Rattle.lp_written.proofs.lemmas.parts.WrittenNumbers.{integer_tells, integer_told}
 use Rattle.lp_lines.proofs.lemmas.read_back.LinePieces.{AdmittedField, AdmittedTag, IsAdmitted, admitted_point, line_parts}
 use Rattle.lp_lines.proofs.lemmas.read_back.LineReadsBack.{tag_text}
 
@@ -219,13 +218,8 @@ whole_number number some whole =
 -- and is a timestamp where the builder writes it so
 pub timestamp_answer : (number : List ℕ) → IsSigned (codes "-") number → (is_written_integer number ≡ true) ↔ IsWrittenTimestamp (space ∷ number)
 timestamp_answer number signed = (
-  (λ ok.
-      let parts = and_parts (not (has_extra_zero number)) (fits_i64 (signed_digits_value 10 number)) ok in
-      let again = integer_again number signed (not-true (has_extra_zero number) parts.0) parts.1 in
-      present (signed_digits_value 10 number) parts.1 (ap (λ (xs : List ℕ). space ∷ xs) (sym again))),
-  (λ w.
-      let t = timestamp_number number w in
-      subst (λ xs. is_written_integer xs ≡ true) t.2 (rw (signed_zero t.0 t.1, (integer_written t.0 t.1).value, t.1) refl)),
+  (λ ok. let t = integer_told number signed ok in present t.0 t.1 (ap (λ (xs : List ℕ). space ∷ xs) (sym t.2))),
+  (λ w. let t = timestamp_number number w in subst (λ xs. is_written_integer xs ≡ true) t.2 (integer_tells t.0 t.1)),
 )
 
 -- nothing is a timestamp that is not there

@@ -63,25 +63,11 @@ spelled_hash (b ∷ n) =
 
 -- a test that holds does not change the others
 other_tests : (a b x : Bool) → (a && b && not x) ≡ (a && b && true && not (x && true))
-other_tests true true true = refl
-other_tests true true false = refl
-other_tests true false true = refl
-other_tests true false false = refl
-other_tests false true true = refl
-other_tests false true false = refl
-other_tests false false true = refl
-other_tests false false false = refl
+other_tests a b x = grind (arith, common_steps)
 
 -- nor does another that is not asked for
 no_test : (a b x : Bool) → (a && b) ≡ (a && b && true && not (x && false))
-no_test true true true = refl
-no_test true true false = refl
-no_test true false true = refl
-no_test true false false = refl
-no_test false true true = refl
-no_test false true false = refl
-no_test false false true = refl
-no_test false false false = refl
+no_test a b x = grind (arith, common_steps)
 
 -- so the spelling tells whether a name is admitted
 spelling_tells : (kind : NameKind) (n : List ℕ) → list_all (may_hold kind) n ≡ true
@@ -90,14 +76,8 @@ unfolding is_admitted_name
 spelling_tells a_measurement n may =
     rw (spelled_empty (escapable a_measurement) n, spelled_ends a_measurement n, spelled_hash n, may)
     (other_tests (not (length n == 0)) (not (ends_in_backslash n)) (slice_index n 0 == hash))
-spelling_tells a_tag_key n may =
-    rw (spelled_empty (escapable a_tag_key) n, spelled_ends a_tag_key n, may)
-    (no_test (not (length n == 0)) (not (ends_in_backslash n)) (slice_index n 0 == hash))
-spelling_tells a_tag_value n may =
-    rw (spelled_empty (escapable a_tag_value) n, spelled_ends a_tag_value n, may)
-    (no_test (not (length n == 0)) (not (ends_in_backslash n)) (slice_index n 0 == hash))
-spelling_tells a_field_key n may =
-    rw (spelled_empty (escapable a_field_key) n, spelled_ends a_field_key n, may)
+spelling_tells other n may =
+    rw (spelled_empty (escapable other) n, spelled_ends other n, may)
     (no_test (not (length n == 0)) (not (ends_in_backslash n)) (slice_index n 0 == hash))
 
 -- where the bytes of a name end
@@ -202,7 +182,3 @@ string_answer text opened after (Some left) e past closed =
       string_found text opened left.now e (sym past ∙ found),
       λ rest w any. ap (λ (xs : List ℕ). drop 1 xs) (sym (string_only text opened rest e w) ∙ sym past ∙ found),
     )
-
--- where no quote is at the start, no string is
-pub string_none : (text : List ℕ) → byte quote text ≡ miss → (rest : List ℕ) → IsWrittenString text rest → ⊥
-string_none text none rest w = byte_missing quote text none _ (sym w.written)

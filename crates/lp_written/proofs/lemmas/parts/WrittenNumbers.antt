@@ -1,5 +1,5 @@
 -- Numbers as the builder writes them.
-use Rattle.std.proofs.Common.{◌≡◌, ◌≢◌, ◌⊎◌, ℕ, zero, suc, ◌+◌, ◌^◌, ◌<◌, ◌≤◌, ◌&&◌, ◌||◌, Bool, true, false, not, List, [], ◌∷◌, ◌++◌}
+use Rattle.std.proofs.Common.{◌≡◌, ◌≢◌, ◌⊎◌, ℕ, zero, suc, ◌^◌, ◌<◌, ◌≤◌, ◌&&◌, ◌||◌, Bool, true, false, not, List, [], ◌∷◌, ◌++◌}
 use Rattle.std.proofs.Common.{length, take, drop, slice_index, get_or, refl, sym, ap, subst, ◌∙◌, arith, inl, inr, append_assoc, Option}
 use Rattle.std.proofs.Common.{Some, None}
 use Rattle.std.specs.Prelude.{◌==◌, ℤ, pos, negsuc, decimal, codes, nat_lt, neg_ℤ, MatchOption}
@@ -7,6 +7,8 @@ use Rattle.std.specs.Fmt.{signed_decimal}
 use Rattle.std.specs.Str.Parse.{AllDigits, IsNumeral, digits_value, signed_digits_value}
 use Rattle.std.proofs.Math.Nat.{pow-le-pow_right}
 use Rattle.std.specs.Option.{is_some}
+use Rattle.std.specs.Bool.{then_some}
+use Rattle.std.specs.Str.Pattern.{FindsTextPrefix, LacksTextAt, StripsPrefix}
 use Rattle.std.specs.Borrow.{Bor}
 use Rattle.lp_format.specs.format.Escapes.{escaped}
 use Rattle.lp_format.specs.format.Values.{quotable, IsSigned, IsFloat, Value, integer, unsigned, float, string, boolean, integer_len}
@@ -15,15 +17,18 @@ use Rattle.std.proofs.lemmas.Bool.{cases_Bool, cases_lt, and_parts, eqb-true, eq
 use Rattle.std.proofs.lemmas.Bool.{not-true}
 use Rattle.std.proofs.lemmas.Fmt.{decimal_is_IsNumeral, decimal-digits_value, decimal_digit, first_decimal}
 use Rattle.std.proofs.lemmas.Int.Digits.{digits_value-lt}
-use Rattle.std.proofs.lemmas.List.{take_at, drop_at, drop-drop, get_or_at, take-append-drop}
+use Rattle.std.proofs.lemmas.List.{take_at, drop_at, take-append-drop}
 use Rattle.std.proofs.lemmas.Str.Parse.{digit_from_value, numerals_by_value, tells_digits}
 use Rattle.lp_format.specs.format.Bytes.{minus}
 use Rattle.lp_format.specs.format.Readings.{miss, reads}
 use Rattle.lp_format.specs.format.Points.{IsValue, built_value}
 use Rattle.lp_format.proofs.lemmas.literals.FloatLemmas.{float_len_float, signed_front, FloatFront, float_front}
 use Rattle.lp_format.proofs.lemmas.read_back.IntegerReadsBack.{integer_written, unsigned_len}
-use Rattle.lp_format.proofs.lemmas.values.ValueLemmas.{after_byte, digits_of_plain, fits_from_test, front_numeral, test_from_fits}
-use Rattle.lp_written.specs.code.AsWritten.{EndsValue, IsOnlyRest, IsWrittenString, IsWrittenValue, begins_false, begins_true, has_extra_zero}
+use Rattle.lp_format.proofs.lemmas.values.ValueLemmas.{byte_at_drop, fits_from_test, test_from_fits}
+use Rattle.lp_format.proofs.lemmas.values.ValueForms.{byte_missing}
+use Rattle.lp_format.specs.format.Lines.{byte}
+use Rattle.lp_written.proofs.lemmas.parts.WrittenNames.{byte_left}
+use Rattle.lp_written.specs.code.AsWritten.{EndsValue, IsOnlyRest, IsWrittenString, IsWrittenValue, has_extra_zero}
 use Rattle.lp_written.specs.code.AsWritten.{is_written_integer, is_written_unsigned}
 
 -- digits without a zero before more of them are what the builder writes for their number
@@ -148,12 +153,11 @@ pub fits_told : (number : List ℕ) (o : Option ℤ)
 fits_told number None told = sym told
 fits_told number (Some value) told = sym told.0
 
--- a number before its mark, at the start of a text
+-- a number and its mark, at the start of a text
 pub record NumberText (text number rest : List ℕ) (mark : ℕ) : Type 0 where
   pub some : 0 < integer_len text
-  pub mark_is : slice_index text (integer_len text) ≡ mark
   pub front : take (integer_len text) text ≡ number
-  pub after : rest ≡ drop (integer_len text + 1) text
+  pub after : drop (integer_len text) text ≡ mark ∷ rest
 
 -- such a text, by its parts
 number_text : (number rest : List ℕ) (mark : ℕ) → integer_len (number ++ mark ∷ rest) ≡ length number → 0 < length number
@@ -161,24 +165,17 @@ number_text : (number rest : List ℕ) (mark : ℕ) → integer_len (number ++ m
 number_text number rest mark len some =
     record {
       some = rw len some;
-      mark_is = rw len (get_or_at number mark rest 0 (length number) refl);
       front = rw len (take_at number (mark ∷ rest) (length number) refl);
-      after = rw len (ap (λ (xs : List ℕ). drop 1 xs) (sym (drop_at number (mark ∷ rest) (length number) refl))
-          ∙ drop-drop 1 (length number) (number ++ mark ∷ rest));
+      after = rw len (drop_at number (mark ∷ rest) (length number) refl);
     }
 
 -- what a value is that the builder writes at the start of a text
 pub data Shape (text rest : List ℕ) : Type 0 where
   an_integer : (z : ℤ) → fits_i64 z ≡ true → NumberText text (signed_decimal z) rest 105 → Shape text rest
-  an_unsigned : (n : ℕ) → n < 2 ^ 64 → slice_index text 0 ≢ 45 → NumberText text (decimal n) rest 117 → Shape text rest
+  an_unsigned : (n : ℕ) → n < 2 ^ 64 → NumberText text (decimal n) rest 117 → Shape text rest
   a_float : (t : List ℕ) → FloatFront text t rest → Shape text rest
   a_string : integer_len text ≡ 0 → slice_index text 0 ≡ 34 → IsWrittenString text rest → Shape text rest
   a_word : (b : Bool) → integer_len text ≡ 0 → text ≡ built_value (boolean b) ++ rest → Shape text rest
-
--- the first byte of what the builder writes for a number
-no_minus : (ds rest : List ℕ) → IsNumeral 10 ds → slice_index (ds ++ rest) 0 ≢ 45
-no_minus [] rest numeral e = absurd (omega (arith, numeral.0))
-no_minus (d ∷ ds) rest numeral e = let range = digit_from_value d numeral.1.0 in absurd (omega (arith, range, e))
 
 -- each value has its shape
 shape_of : (v : Value (List ℕ)) (rest : List ℕ) → IsValue v → EndsValue rest → Shape (built_value v ++ rest) rest
@@ -189,7 +186,7 @@ shape_of (integer z) rest fits ends =
 shape_of (unsigned n) rest fits ends =
     let written = decimal_is_IsNumeral n fits in
     subst (λ xs. Shape xs rest) (sym (append_assoc (decimal n) (117 ∷ []) rest))
-    (an_unsigned n fits (no_minus (decimal n) (117 ∷ rest) written.0)
+    (an_unsigned n fits
     (number_text (decimal n) rest 117 (unsigned_len (decimal n) (117 ∷ rest) written.0 refl) written.0.0))
 shape_of (float t) rest fits ends = a_float t (float_front t rest fits ends)
 shape_of (string s) rest fits ends =
@@ -201,73 +198,125 @@ shape_of (boolean false) rest fits ends = a_word false refl refl
 pub shape : (text rest : List ℕ) → IsWrittenValue text rest → EndsValue rest → Shape text rest
 shape text rest w ends = subst (λ xs. Shape xs rest) w.written (shape_of w.value rest w.fits ends)
 
--- a text by what comes before a byte, the byte, and what comes after it
-marked_text : (text : List ℕ) (k b : ℕ) → slice_index text k ≡ suc b → take k text ++ suc b ∷ drop (k + 1) text ≡ text
-marked_text text k b e = ap (λ (xs : List ℕ). take k text ++ xs) (sym (after_byte text k b e)) ∙ take-append-drop k text
-
--- an integer in range without a zero too many is one that the builder writes
-pub integer_found : (text : List ℕ) → 0 < integer_len text → slice_index text (integer_len text) ≡ 105
-    → is_written_integer (take (integer_len text) text) ≡ true → IsWrittenValue text (drop (integer_len text + 1) text)
-integer_found text some mark ok =
-    let number = take (integer_len text) text in
-    let after = drop (integer_len text + 1) text in
-    let parts = and_parts (not (has_extra_zero number)) (fits_i64 (signed_digits_value 10 number)) ok in
-    let again = integer_again number (signed_front (codes "-") text some) (not-true (has_extra_zero number) parts.0) parts.1 in
-    record {
-      value = integer (signed_digits_value 10 number);
-      fits = parts.1;
-      written = append_assoc (signed_decimal (signed_digits_value 10 number)) (105 ∷ []) after
-          ∙ ap (λ (xs : List ℕ). xs ++ 105 ∷ after) again ∙ marked_text text (integer_len text) 104 mark;
-    }
-
--- and the builder writes no other there
-pub integer_only : (text rest : List ℕ) → 0 < integer_len text → slice_index text (integer_len text) ≡ 105 → IsWrittenValue text rest
-    → EndsValue rest → (is_written_integer (take (integer_len text) text) ≡ true) × (rest ≡ drop (integer_len text + 1) text)
-integer_only text rest some mark w ends =
-    elim (shape text rest w ends) [
-      | an_integer z fits t ↦
-          (rw (t.front, signed_zero z fits, (integer_written z fits).value, fits) refl, t.after)
-      | an_unsigned n fits plain t ↦ absurd (omega (arith, sym mark ∙ t.mark_is))
-      | a_float x front ↦ absurd (front.no_i mark)
-      | a_string none quote x ↦ absurd (omega (arith, some, none))
-      | a_word b none word ↦ absurd (omega (arith, some, none))
-    ]
-
 -- digits where no sign is
-pub unsigned_numeral : (text : List ℕ) → 0 < integer_len text → slice_index text 0 ≢ 45 → IsNumeral 10 (take (integer_len text) text)
-unsigned_numeral text some plain =
-    let same = digits_of_plain text plain in
-    subst (λ k. IsNumeral 10 (take k text)) same (front_numeral text (λ e. absurd (omega (arith, some, same, e))))
+pub unsigned_numeral : (number : List ℕ) → IsSigned (codes "-") number → (slice_index number 0 == minus) ≡ false → IsNumeral 10 number
+unsigned_numeral [] never plain = absurd never
+unsigned_numeral (b ∷ ds) (inl signed) plain = absurd (eqb-false b 45 plain (sym (eqb-true 45 b (or_one (45 == b) signed.0))))
+unsigned_numeral (b ∷ ds) (inr numeral) plain = numeral
 
--- digits in range without a zero too many are an unsigned number that the builder writes
-pub unsigned_found : (text : List ℕ) → 0 < integer_len text → slice_index text (integer_len text) ≡ 117 → slice_index text 0 ≢ 45
-    → is_written_unsigned (take (integer_len text) text) ≡ true → IsWrittenValue text (drop (integer_len text + 1) text)
-unsigned_found text some mark plain ok =
-    let number = take (integer_len text) text in
-    let after = drop (integer_len text + 1) text in
-    let numeral = unsigned_numeral text some plain in
-    let parts = and_parts (not (has_extra_zero number)) (nat_lt (digits_value 10 number) (2 ^ 64)) ok in
-    let small : digits_value 10 number < 2 ^ 64 = ltb-true (digits_value 10 number) (2 ^ 64) parts.1 in
-    let again = unsigned_again number numeral (not-true (has_extra_zero number) parts.0) small in
+-- digits begin with no sign
+no_minus : (ds : List ℕ) → IsNumeral 10 ds → (slice_index ds 0 == minus) ≡ false
+no_minus [] numeral = refl
+no_minus (d ∷ ds) numeral = let range = digit_from_value d numeral.1.0 in ne_eqb d 45 (λ e. absurd (omega (arith, range, e)))
+
+-- an integer that is written so is that of its number
+pub integer_told : (number : List ℕ) → IsSigned (codes "-") number → is_written_integer number ≡ true
+    → (z : ℤ) × (fits_i64 z ≡ true) × (signed_decimal z ≡ number)
+integer_told number signed ok =
+    let z = signed_digits_value 10 number in
+    let parts = and_parts (not (has_extra_zero number)) (fits_i64 z) ok in
+    (z, parts.1, integer_again number signed (not-true (has_extra_zero number) parts.0) parts.1)
+
+-- and that of each number is written so
+pub integer_tells : (z : ℤ) → fits_i64 z ≡ true → is_written_integer (signed_decimal z) ≡ true
+integer_tells z fits = rw (signed_zero z fits, (integer_written z fits).value, fits) refl
+
+-- so is an unsigned number
+unsigned_told : (number : List ℕ) → IsSigned (codes "-") number → is_written_unsigned number ≡ true
+    → (n : ℕ) × (n < 2 ^ 64) × (decimal n ≡ number)
+unsigned_told number signed ok =
+    let n = digits_value 10 number in
+    let last = and_parts (not (slice_index number 0 == minus) && not (has_extra_zero number)) (nat_lt n (2 ^ 64)) ok in
+    let first = and_parts (not (slice_index number 0 == minus)) (not (has_extra_zero number)) last.0 in
+    let small : n < 2 ^ 64 = ltb-true n (2 ^ 64) last.1 in
+    let numeral = unsigned_numeral number signed (not-true (slice_index number 0 == minus) first.0) in
+    (n, small, unsigned_again number numeral (not-true (has_extra_zero number) first.1) small)
+
+-- and that of each number is written so
+unsigned_tells : (n : ℕ) → n < 2 ^ 64 → is_written_unsigned (decimal n) ≡ true
+unsigned_tells n fits =
+    let written = decimal_is_IsNumeral n fits in
+    rw (no_minus (decimal n) written.0, decimal_zero n fits, written.1, lt-ltb n (2 ^ 64) fits) refl
+
+-- a number that is written so is a value with its mark
+marked_found : (v : Value (List ℕ)) (text number rest : List ℕ) (mark k : ℕ) → IsValue v → built_value v ≡ number ++ mark ∷ []
+    → number ≡ take k text → drop k text ≡ mark ∷ rest → IsWrittenValue text rest
+marked_found v text number rest mark k fits built front after =
     record {
-      value = unsigned (digits_value 10 number);
-      fits = small;
-      written = append_assoc (decimal (digits_value 10 number)) (117 ∷ []) after
-          ∙ ap (λ (xs : List ℕ). xs ++ 117 ∷ after) again ∙ marked_text text (integer_len text) 116 mark;
+      value = v;
+      fits = fits;
+      written = ap (λ (xs : List ℕ). xs ++ rest) built ∙ append_assoc number (mark ∷ []) rest ∙ rw (front, ← after) (take-append-drop k text);
     }
 
--- and the builder writes no other there
-pub unsigned_only : (text rest : List ℕ) → 0 < integer_len text → slice_index text (integer_len text) ≡ 117 → IsWrittenValue text rest
-    → EndsValue rest → (is_written_unsigned (take (integer_len text) text) ≡ true) × (rest ≡ drop (integer_len text + 1) text)
-unsigned_only text rest some mark w ends =
-    elim (shape text rest w ends) [
-      | an_integer z fits t ↦ absurd (omega (arith, sym mark ∙ t.mark_is))
-      | an_unsigned n fits plain t ↦
-          (rw (t.front, decimal_zero n fits, (decimal_is_IsNumeral n fits).1, lt-ltb n (2 ^ 64) fits) refl, t.after)
-      | a_float x front ↦ absurd (front.no_u mark)
-      | a_string none quote x ↦ absurd (omega (arith, some, none))
-      | a_word b none word ↦ absurd (omega (arith, some, none))
-    ]
+-- the rest after a number and its mark is the only one where the number is written so, and else none is
+marked_answer : (text left : List ℕ) (ok : Bool) → (ok ≡ true → IsWrittenValue text left)
+    → ((rest : List ℕ) → IsWrittenValue text rest → EndsValue rest → (ok ≡ true) × (rest ≡ left))
+    → (r : Bor (List ℕ)) → r.now ≡ left → IsOnlyRest (IsWrittenValue text) EndsValue (then_some ok r)
+marked_answer text left true found only r e = rw e (found refl, λ rest w ends. (only rest w ends).1)
+marked_answer text left false found only r e = λ rest w ends. false≢true (only rest w ends).0
+
+-- the integer at the start of a text has a sign or none, and digits
+pub signed_number : (text number : List ℕ) (whole : ℕ) → whole ≡ integer_len text → 0 < whole → number ≡ take whole text → IsSigned (codes "-") number
+signed_number text number whole len some front = rw (front, len) (signed_front (codes "-") text (omega (arith, len, some)))
+
+-- a mark that is read after it
+pub at_mark : (mark : ℕ) (text after left : List ℕ) (whole : ℕ) → whole ≡ integer_len text → after ≡ drop whole text
+    → byte mark after ≡ reads mark left → drop (integer_len text) text ≡ mark ∷ left
+at_mark mark text after left whole len back read = rw (← len, ← back) (byte_left mark after left read)
+
+-- where `i` follows an integer
+pub integer_answer : (text number : List ℕ) (r : Bor (List ℕ)) → 0 < integer_len text → number ≡ take (integer_len text) text
+    → drop (integer_len text) text ≡ 105 ∷ r.now
+    → IsOnlyRest (IsWrittenValue text) EndsValue (then_some (is_written_integer number) r)
+integer_answer text number r some front after =
+    marked_answer text r.now (is_written_integer number) found only r refl
+  where
+    -- the number is signed
+    signed : IsSigned (codes "-") number
+    signed = rw front (signed_front (codes "-") text some)
+
+    -- it is found
+    found : is_written_integer number ≡ true → IsWrittenValue text r.now
+    found ok =
+        let t = integer_told number signed ok in
+        marked_found (integer t.0) text number r.now 105 (integer_len text) t.1 (ap (λ (xs : List ℕ). xs ++ 105 ∷ []) t.2) front after
+
+    -- and the builder writes no other there
+    only : (rest : List ℕ) → IsWrittenValue text rest → EndsValue rest → (is_written_integer number ≡ true) × (rest ≡ r.now)
+    only rest w ends =
+        elim (shape text rest w ends) [
+          | an_integer z fits t ↦
+              (rw (front, t.front) (integer_tells z fits), ap (λ (xs : List ℕ). drop 1 xs) (sym t.after ∙ after))
+          | an_unsigned n fits t ↦ absurd (omega (arith, ap (λ (xs : List ℕ). slice_index xs 0) (sym after ∙ t.after)))
+          | a_float x front ↦ absurd (front.no_i (byte_at_drop text r.now (integer_len text) 105 after).0)
+          | a_string none quote x ↦ absurd (omega (arith, some, none))
+          | a_word b none word ↦ absurd (omega (arith, some, none))
+        ]
+
+-- where `u` does
+pub unsigned_answer : (text number : List ℕ) (r : Bor (List ℕ)) → 0 < integer_len text → number ≡ take (integer_len text) text
+    → drop (integer_len text) text ≡ 117 ∷ r.now
+    → IsOnlyRest (IsWrittenValue text) EndsValue (then_some (is_written_unsigned number) r)
+unsigned_answer text number r some front after =
+    marked_answer text r.now (is_written_unsigned number) found only r refl
+  where
+    -- the number is found
+    found : is_written_unsigned number ≡ true → IsWrittenValue text r.now
+    found ok =
+        let t = unsigned_told number (rw front (signed_front (codes "-") text some)) ok in
+        marked_found (unsigned t.0) text number r.now 117 (integer_len text) t.1 (ap (λ (xs : List ℕ). xs ++ 117 ∷ []) t.2) front after
+
+    -- and the builder writes no other there
+    only : (rest : List ℕ) → IsWrittenValue text rest → EndsValue rest → (is_written_unsigned number ≡ true) × (rest ≡ r.now)
+    only rest w ends =
+        elim (shape text rest w ends) [
+          | an_integer z fits t ↦ absurd (omega (arith, ap (λ (xs : List ℕ). slice_index xs 0) (sym after ∙ t.after)))
+          | an_unsigned n fits t ↦
+              (rw (front, t.front) (unsigned_tells n fits), ap (λ (xs : List ℕ). drop 1 xs) (sym t.after ∙ after))
+          | a_float x front ↦ absurd (front.no_u (byte_at_drop text r.now (integer_len text) 117 after).0)
+          | a_string none quote x ↦ absurd (omega (arith, some, none))
+          | a_word b none word ↦ absurd (omega (arith, some, none))
+        ]
 
 -- what is read as a float is one that the builder writes
 pub float_found : (text t rest : List ℕ) → float_at text ≡ reads (float t) rest → IsWrittenValue text rest
@@ -289,13 +338,12 @@ float_found text t rest read = go (cases_Bool (float_len text == 0)) read
         }
 
 -- and where neither mark of an integer is, the builder writes no other
-pub float_only : (text rest : List ℕ) → 0 < integer_len text → slice_index text (integer_len text) ≢ 105
-    → (slice_index text (integer_len text) ≢ 117) ⊎ (slice_index text 0 ≡ 45) → IsWrittenValue text rest → EndsValue rest
-    → (t : List ℕ) × (float_at text ≡ reads (float t) rest)
-float_only text rest some no_i other w ends =
+pub float_only : (text rest : List ℕ) → 0 < integer_len text → byte 105 (drop (integer_len text) text) ≡ miss
+    → byte 117 (drop (integer_len text) text) ≡ miss → IsWrittenValue text rest → EndsValue rest → (t : List ℕ) × (float_at text ≡ reads (float t) rest)
+float_only text rest some no_i no_u w ends =
     elim (shape text rest w ends) [
-      | an_integer z fits t ↦ absurd (no_i t.mark_is)
-      | an_unsigned n fits plain t ↦ elim other [ inl no_u ↦ absurd (no_u t.mark_is) | inr first ↦ absurd (plain first) ]
+      | an_integer z fits t ↦ absurd (byte_missing 105 (drop (integer_len text) text) no_i rest t.after)
+      | an_unsigned n fits t ↦ absurd (byte_missing 117 (drop (integer_len text) text) no_u rest t.after)
       | a_float x front ↦ (x, front.reads_it)
       | a_string none quote x ↦ absurd (omega (arith, some, none))
       | a_word b none word ↦ absurd (omega (arith, some, none))
@@ -324,7 +372,7 @@ pub value_string : (text rest : List ℕ) → integer_len text ≡ 0 → slice_i
 value_string text rest whole first w ends =
     elim (shape text rest w ends) [
       | an_integer z fits t ↦ absurd (omega (arith, t.some, whole))
-      | an_unsigned n fits plain t ↦ absurd (omega (arith, t.some, whole))
+      | an_unsigned n fits t ↦ absurd (omega (arith, t.some, whole))
       | a_float x front ↦ absurd (omega (arith, front.some, whole))
       | a_string none quote x ↦ x
       | a_word b none word ↦ absurd (no_quote b (sym (ap (λ (xs : List ℕ). slice_index xs 0) word) ∙ first))
@@ -341,37 +389,11 @@ pub value_word : (text rest : List ℕ) → integer_len text ≡ 0 → slice_ind
 value_word text rest whole first w ends =
     elim (shape text rest w ends) [
       | an_integer z fits t ↦ absurd (omega (arith, t.some, whole))
-      | an_unsigned n fits plain t ↦ absurd (omega (arith, t.some, whole))
+      | an_unsigned n fits t ↦ absurd (omega (arith, t.some, whole))
       | a_float x front ↦ absurd (omega (arith, front.some, whole))
       | a_string none quote x ↦ absurd (first quote)
       | a_word b none word ↦ (b, word)
     ]
-
--- the word for true at the start of a text
-pub true_front : (text : List ℕ) → begins_true text ≡ true → text ≡ built_value (boolean true) ++ drop 4 text
-true_front [] h = absurd (false≢true h)
-true_front (a ∷ []) h = absurd (false≢true h)
-true_front (a ∷ b ∷ []) h = absurd (false≢true h)
-true_front (a ∷ b ∷ c ∷ []) h = absurd (false≢true h)
-true_front (a ∷ b ∷ c ∷ d ∷ text) h =
-    let third = and_parts (a == 116 && b == 114 && c == 117) (d == 101) h in
-    let second = and_parts (a == 116 && b == 114) (c == 117) third.0 in
-    let first = and_parts (a == 116) (b == 114) second.0 in
-    rw (eqb-true a 116 first.0, eqb-true b 114 first.1, eqb-true c 117 second.1, eqb-true d 101 third.1) refl
-
--- that for false
-pub false_front : (text : List ℕ) → begins_false text ≡ true → text ≡ built_value (boolean false) ++ drop 5 text
-false_front [] h = absurd (false≢true h)
-false_front (a ∷ []) h = absurd (false≢true h)
-false_front (a ∷ b ∷ []) h = absurd (false≢true h)
-false_front (a ∷ b ∷ c ∷ []) h = absurd (false≢true h)
-false_front (a ∷ b ∷ c ∷ d ∷ []) h = absurd (false≢true h)
-false_front (a ∷ b ∷ c ∷ d ∷ e ∷ text) h =
-    let fourth = and_parts (a == 102 && b == 97 && c == 108 && d == 115) (e == 101) h in
-    let third = and_parts (a == 102 && b == 97 && c == 108) (d == 115) fourth.0 in
-    let second = and_parts (a == 102 && b == 97) (c == 108) third.0 in
-    let first = and_parts (a == 102) (b == 97) second.0 in
-    rw (eqb-true a 102 first.0, eqb-true b 97 first.1, eqb-true c 108 second.1, eqb-true d 115 third.1, eqb-true e 101 fourth.1) refl
 
 -- a word before a rest is a value
 word_value : (text rest : List ℕ) (b : Bool) → text ≡ built_value (boolean b) ++ rest → IsWrittenValue text rest
@@ -392,16 +414,22 @@ word_answer b text left whole first e = (
   λ rest w ends. let x = value_word text rest whole first w ends in word_same x.0 b rest left (sym x.1 ∙ e),
 )
 
--- and where neither word is, no value is
-pub word_none : (text : List ℕ) → integer_len text ≡ 0 → slice_index text 0 ≢ 34 → begins_true text ≡ false → begins_false text ≡ false
-    → (rest : List ℕ) → IsWrittenValue text rest → EndsValue rest → ⊥
-word_none text whole first no_true no_false rest w ends =
-    let x = value_word text rest whole first w ends in go x.0 x.1
+-- what is left of a text after a word
+pub stripped : (word text left : List ℕ) → StripsPrefix (FindsTextPrefix word) text left → text ≡ word ++ left
+stripped word text left s = s.1.1 ∙ ap (λ (xs : List ℕ). word ++ xs) (sym s.2)
+
+-- where the word for true is not there, what is left after that for false is the only rest of a value
+pub last_word : (text : List ℕ) (o : Option (Bor (List ℕ))) → integer_len text ≡ 0 → slice_index text 0 ≢ 34
+    → LacksTextAt (codes "true") text 0
+    → MatchOption o (LacksTextAt (codes "false") text 0) (λ r. StripsPrefix (FindsTextPrefix (codes "false")) text r.now)
+    → IsOnlyRest (IsWrittenValue text) EndsValue o
+last_word text (Some r) whole first no_true found = word_answer false text r.now whole first (stripped (codes "false") text r.now found)
+last_word text None whole first no_true no_false = λ rest w ends. let x = value_word text rest whole first w ends in go rest x.0 x.1
   where
     -- by the word
-    go : (b : Bool) → text ≡ built_value (boolean b) ++ rest → ⊥
-    go true e = false≢true (sym no_true ∙ ap begins_true e)
-    go false e = false≢true (sym no_false ∙ ap begins_false e)
+    go : (rest : List ℕ) (b : Bool) → text ≡ built_value (boolean b) ++ rest → ⊥
+    go rest true e = no_true rest e
+    go rest false e = no_false rest e
 
 -- after a quote, what follows a string is the only rest of a value
 pub string_only_value : (text : List ℕ) (o : Option (Bor (List ℕ))) → integer_len text ≡ 0 → slice_index text 0 ≡ 34
