@@ -14,8 +14,8 @@ from pathlib import Path
 TOP = Path(__file__).resolve().parent.parent
 LIST = TOP / "docs" / "DEFINITIONS.md"
 LIBRARIES = [
-    "lp_format", "lp_scan", "lp_split", "lp_values", "lp_events", "lp_lines", "lp_build", "influxdb_line_protocol",
-    "lp_rebuild", "lp_relay_core", "lp_relay", "lp_c",
+    "lp_format", "lp_scan", "lp_split", "lp_values", "lp_events", "lp_lines", "lp_build", "lp_written",
+    "influxdb_line_protocol", "lp_rebuild", "lp_relay_core", "lp_relay", "lp_c",
 ]
 
 HEAD = """\

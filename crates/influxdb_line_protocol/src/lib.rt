@@ -7,10 +7,10 @@
 //! What a user names is here, and the laws that tie reading and writing. The code is in the crates below, a layer each.
 #![tactic(auto)]
 
+pub mod builder;
 pub mod laws;
 
-pub use lp_build::builder;
-pub use lp_build::builder::{LineProtocolBuilder, is_admitted, is_as_written, write_line};
+pub use builder::{LineProtocolBuilder, is_admitted, is_as_written, write_line};
 pub use lp_events::{
     Event, EventSink, ParseEvents, parse_events, parse_events_in, read_events_in, read_line_events,
 };

@@ -1,4 +1,2 @@
 pub mod builder
-pub mod points
 pub mod series
-pub mod written

@@ -1,4 +1,3 @@
-pub mod AsWritten
 pub mod Built
 pub mod WrittenAgain
 pub mod Marks

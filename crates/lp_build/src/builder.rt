@@ -21,17 +21,13 @@ use std::marker::PhantomData;
 mod buffer;
 mod lines;
 mod marks;
-mod numbers;
 mod texts;
-mod tokens;
 mod values;
-mod written;
 
 pub use buffer::{BufMut, NoRoom};
 pub use lines::{is_admitted, write_line};
 use texts::{escaped_len, put_escaped};
 pub use values::FieldValue;
-pub use written::is_as_written;
 
 // The length of a tag with the comma before it, where a `usize` holds it.
 fn tag_len(key: &[u8], value: &[u8]) -> Option<usize>

@@ -1,4 +1,4 @@
-//! The builder, which writes lines that read back, and what writes a parsed line again or finds that its text is as it would be written.
+//! The builder, which writes lines that read back, and what writes a parsed line again.
 //!
 //! It uses the types of parsed lines and none of their readers. So a change of how lines are read leaves it as it was
 //! proved, and the other way round.
@@ -6,4 +6,4 @@
 
 pub mod builder;
 
-pub use builder::{LineProtocolBuilder, is_admitted, is_as_written, write_line};
+pub use builder::{LineProtocolBuilder, is_admitted, write_line};

@@ -1,4 +1,4 @@
-use Rattle.lp_build.proofs.lemmas.points.WrittenLinesStay.{stayed_lines_are_written, written_lines_stay}
+use Rattle.lp_written.proofs.lemmas.points.WrittenLinesStay.{stayed_lines_are_written, written_lines_stay}
 use Rattle.influxdb_line_protocol.proofs.laws.written_lines_stay.Goals as goal
 
 pub returns-clause-stay : goal.returns-clause-stay

@@ -1,0 +1,441 @@
+-- Numbers as the builder writes them.
+use Rattle.std.proofs.Common.{◌≡◌, ◌≢◌, ◌⊎◌, ℕ, zero, suc, ◌^◌, ◌<◌, ◌≤◌, ◌&&◌, ◌||◌, Bool, true, false, not, List, [], ◌∷◌, ◌++◌}
+use Rattle.std.proofs.Common.{length, take, drop, slice_index, get_or, refl, sym, ap, subst, ◌∙◌, arith, inl, inr, append_assoc, Option}
+use Rattle.std.proofs.Common.{Some, None}
+use Rattle.std.specs.Prelude.{◌==◌, ℤ, pos, negsuc, decimal, codes, nat_lt, neg_ℤ, MatchOption}
+use Rattle.std.specs.Fmt.{signed_decimal}
+use Rattle.std.specs.Str.Parse.{AllDigits, IsNumeral, digits_value, signed_digits_value}
+use Rattle.std.proofs.Math.Nat.{pow-le-pow_right}
+use Rattle.std.specs.Option.{is_some}
+use Rattle.std.specs.Bool.{then_some}
+use Rattle.std.specs.Str.Pattern.{FindsTextPrefix, LacksTextAt, StripsPrefix}
+use Rattle.std.specs.Borrow.{Bor}
+use Rattle.lp_format.specs.format.Escapes.{escaped}
+use Rattle.lp_format.specs.format.Values.{quotable, IsSigned, IsFloat, Value, integer, unsigned, float, string, boolean, integer_len}
+use Rattle.lp_format.specs.format.Values.{fits_i64, float_at, float_len}
+use Rattle.std.proofs.lemmas.Bool.{cases_Bool, cases_lt, and_parts, eqb-true, eqb-false, ne_eqb, or_parts, false≢true, lt-ltb, ltb-true}
+use Rattle.std.proofs.lemmas.Bool.{not-true}
+use Rattle.std.proofs.lemmas.Fmt.{decimal_is_IsNumeral, decimal-digits_value, decimal_digit, first_decimal}
+use Rattle.std.proofs.lemmas.Int.Digits.{digits_value-lt}
+use Rattle.std.proofs.lemmas.List.{take_at, drop_at, take-append-drop}
+use Rattle.std.proofs.lemmas.Str.Parse.{digit_from_value, numerals_by_value, tells_digits}
+use Rattle.lp_format.specs.format.Bytes.{minus}
+use Rattle.lp_format.specs.format.Readings.{miss, reads}
+use Rattle.lp_format.specs.format.Points.{IsValue, built_value}
+use Rattle.lp_format.proofs.lemmas.literals.FloatLemmas.{float_len_float, signed_front, FloatFront, float_front}
+use Rattle.lp_format.proofs.lemmas.read_back.IntegerReadsBack.{integer_written, unsigned_len}
+use Rattle.lp_format.proofs.lemmas.values.ValueLemmas.{byte_at_drop, fits_from_test, test_from_fits}
+use Rattle.lp_format.proofs.lemmas.values.ValueForms.{byte_missing}
+use Rattle.lp_format.specs.format.Lines.{byte}
+use Rattle.lp_written.proofs.lemmas.parts.WrittenNames.{byte_left}
+use Rattle.lp_written.specs.code.AsWritten.{EndsValue, IsOnlyRest, IsWrittenString, IsWrittenValue, has_extra_zero}
+use Rattle.lp_written.specs.code.AsWritten.{is_written_integer, is_written_unsigned}
+
+-- digits without a zero before more of them are what the builder writes for their number
+pub unsigned_again : (ds : List ℕ) → IsNumeral 10 ds → has_extra_zero ds ≡ false → digits_value 10 ds < 2 ^ 64 → decimal (digits_value 10 ds) ≡ ds
+unsigned_again ds numeral plain fits =
+    decimal-digits_value (numerals_by_value (AllDigits 10) tells_digits) ds numeral.1 numeral.0 (alone ds plain numeral.0) fits
+  where
+    -- a zero at the start is the only digit
+    alone : (ds : List ℕ) → has_extra_zero ds ≡ false → 0 < length ds → get_or ds 0 0 ≡ 48 → length ds ≡ 1
+    alone [] plain some first = absurd (omega (arith, some))
+    alone (b ∷ []) plain some first = refl
+    alone (b ∷ c ∷ ds) plain some first = absurd (eqb-false b 48 (or_parts (b == minus && c == 48) (b == 48) plain).1 first)
+
+-- what begins with no zero has none too many
+first_digit : (ds : List ℕ) → 48 < get_or ds 0 0 → has_extra_zero ds ≡ false
+first_digit [] more = refl
+first_digit (b ∷ []) more = refl
+first_digit (b ∷ c ∷ ds) more =
+    rw (ne_eqb b minus (λ e. absurd (omega (arith, more, e))), ne_eqb b 48 (λ e. absurd (omega (arith, more, e)))) refl
+
+-- nor has what the builder writes for a number
+pub decimal_zero : (n : ℕ) → n < 2 ^ 64 → has_extra_zero (decimal n) ≡ false
+decimal_zero zero fits = ap has_extra_zero (decimal_digit 0 (omega arith))
+decimal_zero (suc n) fits = first_digit (decimal (suc n)) (first_decimal (suc n) (omega arith) fits)
+
+-- a sign before a text that begins with no zero
+minus_zero : (ds : List ℕ) → 48 < get_or ds 0 0 → has_extra_zero (45 ∷ ds) ≡ false
+minus_zero [] more = refl
+minus_zero (c ∷ ds) more = rw (ne_eqb c 48 (λ e. absurd (omega (arith, more, e)))) refl
+
+-- nor has that of an integer
+pub signed_zero : (z : ℤ) → fits_i64 z ≡ true → has_extra_zero (signed_decimal z) ≡ false
+signed_zero (pos n) fits = let small : n < 2 ^ 63 = (fits_from_test (pos n) fits).sfits in decimal_zero n (omega arith)
+signed_zero (negsuc n) fits =
+    let small : n < 2 ^ 63 = (fits_from_test (negsuc n) fits).sfits in
+    minus_zero (decimal (suc n)) (first_decimal (suc n) (omega arith) (omega arith))
+
+-- the negative of a number that is not 0
+negated : (n : ℕ) → 0 < n → fits_i64 (neg_ℤ (pos n)) ≡ true → (n < 2 ^ 64) × (signed_decimal (neg_ℤ (pos n)) ≡ 45 ∷ decimal n)
+negated zero some fits = absurd (omega (arith, some))
+negated (suc n) some fits = let small : n < 2 ^ 63 = (fits_from_test (negsuc n) fits).sfits in (omega arith, refl)
+
+-- digits after a sign have no zero at the start
+first_after_minus : (ds : List ℕ) → IsNumeral 10 ds → has_extra_zero (45 ∷ ds) ≡ false → 48 < get_or ds 0 0
+first_after_minus [] numeral plain = absurd (omega (arith, numeral.0))
+first_after_minus (d ∷ ds) numeral plain =
+    let range = digit_from_value d numeral.1.0 in
+    let other : (d == 48) ≡ false = (or_parts (d == 48) false plain).0 in
+    omega (arith, range, eqb-false d 48 other)
+
+-- so they are not those of 0
+some_value : (ds : List ℕ) → IsNumeral 10 ds → 48 < get_or ds 0 0 → 0 < digits_value 10 ds
+some_value ds numeral first =
+    elim (cases_lt 0 (digits_value 10 ds)) [
+      | inl some ↦ some
+      | inr none ↦
+          let nought : digits_value 10 ds ≡ 0 = omega (arith, none) in
+          let again : decimal (digits_value 10 ds) ≡ ds = unsigned_again ds numeral (first_digit ds first) (omega (arith, nought)) in
+          let digit : 48 ∷ [] ≡ ds = sym (ap decimal nought ∙ decimal_digit 0 (omega arith)) ∙ again in
+          absurd (omega (arith, first, ap (λ (xs : List ℕ). get_or xs 0 0) digit))
+    ]
+
+-- digits after a sign are what the builder writes for their number
+minus_again : (ds : List ℕ) → IsNumeral 10 ds → has_extra_zero (45 ∷ ds) ≡ false
+    → fits_i64 (neg_ℤ (pos (digits_value 10 ds))) ≡ true → signed_decimal (neg_ℤ (pos (digits_value 10 ds))) ≡ 45 ∷ ds
+minus_again ds numeral plain fits =
+    let first = first_after_minus ds numeral plain in
+    let parts = negated (digits_value 10 ds) (some_value ds numeral first) fits in
+    parts.1 ∙ ap (λ (xs : List ℕ). 45 ∷ xs) (unsigned_again ds numeral (first_digit ds first) parts.0)
+
+-- digits without a sign have their value
+plain_value : (d : ℕ) (ds : List ℕ) → IsNumeral 10 (d ∷ ds) → signed_digits_value 10 (d ∷ ds) ≡ pos (digits_value 10 (d ∷ ds))
+plain_value d ds numeral =
+    let range = digit_from_value d numeral.1.0 in
+    rw (ne_eqb d 45 (λ e. absurd (omega arith)), ne_eqb d 43 (λ e. absurd (omega arith))) refl
+
+-- a test beside one that fails
+or_one : (t : Bool) → (t || false) ≡ true → t ≡ true
+or_one true h = refl
+or_one false h = absurd (false≢true h)
+
+-- an integer without a zero too many is what the builder writes for its number
+pub integer_again : (number : List ℕ) → IsSigned (codes "-") number → has_extra_zero number ≡ false
+    → fits_i64 (signed_digits_value 10 number) ≡ true → signed_decimal (signed_digits_value 10 number) ≡ number
+integer_again [] never plain fits = absurd never
+integer_again (b ∷ ds) (inl signed) plain fits =
+    let same : b ≡ 45 = sym (eqb-true 45 b (or_one (45 == b) signed.0)) in
+    subst (λ x. has_extra_zero (x ∷ ds) ≡ false → fits_i64 (signed_digits_value 10 (x ∷ ds)) ≡ true
+    → signed_decimal (signed_digits_value 10 (x ∷ ds)) ≡ x ∷ ds) (sym same) (minus_again ds signed.1) plain fits
+integer_again (b ∷ ds) (inr numeral) plain fits =
+    let value = plain_value b ds numeral in
+    let small : digits_value 10 (b ∷ ds) < 2 ^ 63 = (fits_from_test (pos (digits_value 10 (b ∷ ds))) (rw value at fits)).sfits in
+    ap signed_decimal value ∙ unsigned_again (b ∷ ds) numeral plain (omega arith)
+
+-- a number of at most 18 digits
+short_value : (ds : List ℕ) → AllDigits 10 ds → length ds < 19 → digits_value 10 ds < 2 ^ 63
+short_value ds digits short =
+    let power : 10 ^ length ds ≤ 10 ^ 18 = pow-le-pow_right {n = 10} (omega arith) {i = length ds} {j = 18} (omega arith) in
+    omega (arith, digits_value-lt 10 ds digits, power)
+
+-- its negative fits an i64
+negated_fits : (n : ℕ) → n < 2 ^ 63 → fits_i64 (neg_ℤ (pos n)) ≡ true
+negated_fits zero small = refl
+negated_fits (suc n) small = test_from_fits (negsuc n) (record { sfits = omega arith })
+
+-- an integer of less than 19 bytes fits an i64
+pub short_fits : (number : List ℕ) → IsSigned (codes "-") number → length number < 19 → fits_i64 (signed_digits_value 10 number) ≡ true
+short_fits [] never short = absurd never
+short_fits (b ∷ ds) (inl signed) short =
+    let same : b ≡ 45 = sym (eqb-true 45 b (or_one (45 == b) signed.0)) in
+    let negative : fits_i64 (signed_digits_value 10 (45 ∷ ds)) ≡ true =
+    negated_fits (digits_value 10 ds) (short_value ds signed.1.1 (omega (arith, short))) in
+    subst (λ x. fits_i64 (signed_digits_value 10 (x ∷ ds)) ≡ true) (sym same) negative
+short_fits (b ∷ ds) (inr numeral) short =
+    rw (plain_value b ds numeral) (test_from_fits (pos (digits_value 10 (b ∷ ds))) (record { sfits = short_value (b ∷ ds) numeral.1 short }))
+
+-- what a parse of a number tells is whether it fits
+pub fits_told : (number : List ℕ) (o : Option ℤ)
+    → MatchOption o (fits_i64 (signed_digits_value 10 number) ≡ false)
+    (λ value. (fits_i64 (signed_digits_value 10 number) ≡ true) × (value ≡ signed_digits_value 10 number))
+    → is_some o ≡ fits_i64 (signed_digits_value 10 number)
+fits_told number None told = sym told
+fits_told number (Some value) told = sym told.0
+
+-- a number and its mark, at the start of a text
+pub record NumberText (text number rest : List ℕ) (mark : ℕ) : Type 0 where
+  pub some : 0 < integer_len text
+  pub front : take (integer_len text) text ≡ number
+  pub after : drop (integer_len text) text ≡ mark ∷ rest
+
+-- such a text, by its parts
+number_text : (number rest : List ℕ) (mark : ℕ) → integer_len (number ++ mark ∷ rest) ≡ length number → 0 < length number
+    → NumberText (number ++ mark ∷ rest) number rest mark
+number_text number rest mark len some =
+    record {
+      some = rw len some;
+      front = rw len (take_at number (mark ∷ rest) (length number) refl);
+      after = rw len (drop_at number (mark ∷ rest) (length number) refl);
+    }
+
+-- what a value is that the builder writes at the start of a text
+pub data Shape (text rest : List ℕ) : Type 0 where
+  an_integer : (z : ℤ) → fits_i64 z ≡ true → NumberText text (signed_decimal z) rest 105 → Shape text rest
+  an_unsigned : (n : ℕ) → n < 2 ^ 64 → NumberText text (decimal n) rest 117 → Shape text rest
+  a_float : (t : List ℕ) → FloatFront text t rest → Shape text rest
+  a_string : integer_len text ≡ 0 → slice_index text 0 ≡ 34 → IsWrittenString text rest → Shape text rest
+  a_word : (b : Bool) → integer_len text ≡ 0 → text ≡ built_value (boolean b) ++ rest → Shape text rest
+
+-- each value has its shape
+shape_of : (v : Value (List ℕ)) (rest : List ℕ) → IsValue v → EndsValue rest → Shape (built_value v ++ rest) rest
+shape_of (integer z) rest fits ends =
+    let written = integer_written z fits in
+    subst (λ xs. Shape xs rest) (sym (append_assoc (signed_decimal z) (105 ∷ []) rest))
+    (an_integer z fits (number_text (signed_decimal z) rest 105 (written.len (105 ∷ rest) refl) written.some))
+shape_of (unsigned n) rest fits ends =
+    let written = decimal_is_IsNumeral n fits in
+    subst (λ xs. Shape xs rest) (sym (append_assoc (decimal n) (117 ∷ []) rest))
+    (an_unsigned n fits
+    (number_text (decimal n) rest 117 (unsigned_len (decimal n) (117 ∷ rest) written.0 refl) written.0.0))
+shape_of (float t) rest fits ends = a_float t (float_front t rest fits ends)
+shape_of (string s) rest fits ends =
+    a_string refl refl (record { body = s; written = ap (λ (xs : List ℕ). 34 ∷ xs) (sym (append_assoc (escaped quotable s) (34 ∷ []) rest)) })
+shape_of (boolean true) rest fits ends = a_word true refl refl
+shape_of (boolean false) rest fits ends = a_word false refl refl
+
+-- and so has each text that the builder writes for a value and a rest that ends it
+pub shape : (text rest : List ℕ) → IsWrittenValue text rest → EndsValue rest → Shape text rest
+shape text rest w ends = subst (λ xs. Shape xs rest) w.written (shape_of w.value rest w.fits ends)
+
+-- digits where no sign is
+pub unsigned_numeral : (number : List ℕ) → IsSigned (codes "-") number → (slice_index number 0 == minus) ≡ false → IsNumeral 10 number
+unsigned_numeral [] never plain = absurd never
+unsigned_numeral (b ∷ ds) (inl signed) plain = absurd (eqb-false b 45 plain (sym (eqb-true 45 b (or_one (45 == b) signed.0))))
+unsigned_numeral (b ∷ ds) (inr numeral) plain = numeral
+
+-- digits begin with no sign
+no_minus : (ds : List ℕ) → IsNumeral 10 ds → (slice_index ds 0 == minus) ≡ false
+no_minus [] numeral = refl
+no_minus (d ∷ ds) numeral = let range = digit_from_value d numeral.1.0 in ne_eqb d 45 (λ e. absurd (omega (arith, range, e)))
+
+-- an integer that is written so is that of its number
+pub integer_told : (number : List ℕ) → IsSigned (codes "-") number → is_written_integer number ≡ true
+    → (z : ℤ) × (fits_i64 z ≡ true) × (signed_decimal z ≡ number)
+integer_told number signed ok =
+    let z = signed_digits_value 10 number in
+    let parts = and_parts (not (has_extra_zero number)) (fits_i64 z) ok in
+    (z, parts.1, integer_again number signed (not-true (has_extra_zero number) parts.0) parts.1)
+
+-- and that of each number is written so
+pub integer_tells : (z : ℤ) → fits_i64 z ≡ true → is_written_integer (signed_decimal z) ≡ true
+integer_tells z fits = rw (signed_zero z fits, (integer_written z fits).value, fits) refl
+
+-- so is an unsigned number
+unsigned_told : (number : List ℕ) → IsSigned (codes "-") number → is_written_unsigned number ≡ true
+    → (n : ℕ) × (n < 2 ^ 64) × (decimal n ≡ number)
+unsigned_told number signed ok =
+    let n = digits_value 10 number in
+    let last = and_parts (not (slice_index number 0 == minus) && not (has_extra_zero number)) (nat_lt n (2 ^ 64)) ok in
+    let first = and_parts (not (slice_index number 0 == minus)) (not (has_extra_zero number)) last.0 in
+    let small : n < 2 ^ 64 = ltb-true n (2 ^ 64) last.1 in
+    let numeral = unsigned_numeral number signed (not-true (slice_index number 0 == minus) first.0) in
+    (n, small, unsigned_again number numeral (not-true (has_extra_zero number) first.1) small)
+
+-- and that of each number is written so
+unsigned_tells : (n : ℕ) → n < 2 ^ 64 → is_written_unsigned (decimal n) ≡ true
+unsigned_tells n fits =
+    let written = decimal_is_IsNumeral n fits in
+    rw (no_minus (decimal n) written.0, decimal_zero n fits, written.1, lt-ltb n (2 ^ 64) fits) refl
+
+-- a number that is written so is a value with its mark
+marked_found : (v : Value (List ℕ)) (text number rest : List ℕ) (mark k : ℕ) → IsValue v → built_value v ≡ number ++ mark ∷ []
+    → number ≡ take k text → drop k text ≡ mark ∷ rest → IsWrittenValue text rest
+marked_found v text number rest mark k fits built front after =
+    record {
+      value = v;
+      fits = fits;
+      written = ap (λ (xs : List ℕ). xs ++ rest) built ∙ append_assoc number (mark ∷ []) rest ∙ rw (front, ← after) (take-append-drop k text);
+    }
+
+-- the rest after a number and its mark is the only one where the number is written so, and else none is
+marked_answer : (text left : List ℕ) (ok : Bool) → (ok ≡ true → IsWrittenValue text left)
+    → ((rest : List ℕ) → IsWrittenValue text rest → EndsValue rest → (ok ≡ true) × (rest ≡ left))
+    → (r : Bor (List ℕ)) → r.now ≡ left → IsOnlyRest (IsWrittenValue text) EndsValue (then_some ok r)
+marked_answer text left true found only r e = rw e (found refl, λ rest w ends. (only rest w ends).1)
+marked_answer text left false found only r e = λ rest w ends. false≢true (only rest w ends).0
+
+-- the integer at the start of a text has a sign or none, and digits
+pub signed_number : (text number : List ℕ) (whole : ℕ) → whole ≡ integer_len text → 0 < whole → number ≡ take whole text → IsSigned (codes "-") number
+signed_number text number whole len some front = rw (front, len) (signed_front (codes "-") text (omega (arith, len, some)))
+
+-- a mark that is read after it
+pub at_mark : (mark : ℕ) (text after left : List ℕ) (whole : ℕ) → whole ≡ integer_len text → after ≡ drop whole text
+    → byte mark after ≡ reads mark left → drop (integer_len text) text ≡ mark ∷ left
+at_mark mark text after left whole len back read = rw (← len, ← back) (byte_left mark after left read)
+
+-- where `i` follows an integer
+pub integer_answer : (text number : List ℕ) (r : Bor (List ℕ)) → 0 < integer_len text → number ≡ take (integer_len text) text
+    → drop (integer_len text) text ≡ 105 ∷ r.now
+    → IsOnlyRest (IsWrittenValue text) EndsValue (then_some (is_written_integer number) r)
+integer_answer text number r some front after =
+    marked_answer text r.now (is_written_integer number) found only r refl
+  where
+    -- the number is signed
+    signed : IsSigned (codes "-") number
+    signed = rw front (signed_front (codes "-") text some)
+
+    -- it is found
+    found : is_written_integer number ≡ true → IsWrittenValue text r.now
+    found ok =
+        let t = integer_told number signed ok in
+        marked_found (integer t.0) text number r.now 105 (integer_len text) t.1 (ap (λ (xs : List ℕ). xs ++ 105 ∷ []) t.2) front after
+
+    -- and the builder writes no other there
+    only : (rest : List ℕ) → IsWrittenValue text rest → EndsValue rest → (is_written_integer number ≡ true) × (rest ≡ r.now)
+    only rest w ends =
+        elim (shape text rest w ends) [
+          | an_integer z fits t ↦
+              (rw (front, t.front) (integer_tells z fits), ap (λ (xs : List ℕ). drop 1 xs) (sym t.after ∙ after))
+          | an_unsigned n fits t ↦ absurd (omega (arith, ap (λ (xs : List ℕ). slice_index xs 0) (sym after ∙ t.after)))
+          | a_float x front ↦ absurd (front.no_i (byte_at_drop text r.now (integer_len text) 105 after).0)
+          | a_string none quote x ↦ absurd (omega (arith, some, none))
+          | a_word b none word ↦ absurd (omega (arith, some, none))
+        ]
+
+-- where `u` does
+pub unsigned_answer : (text number : List ℕ) (r : Bor (List ℕ)) → 0 < integer_len text → number ≡ take (integer_len text) text
+    → drop (integer_len text) text ≡ 117 ∷ r.now
+    → IsOnlyRest (IsWrittenValue text) EndsValue (then_some (is_written_unsigned number) r)
+unsigned_answer text number r some front after =
+    marked_answer text r.now (is_written_unsigned number) found only r refl
+  where
+    -- the number is found
+    found : is_written_unsigned number ≡ true → IsWrittenValue text r.now
+    found ok =
+        let t = unsigned_told number (rw front (signed_front (codes "-") text some)) ok in
+        marked_found (unsigned t.0) text number r.now 117 (integer_len text) t.1 (ap (λ (xs : List ℕ). xs ++ 117 ∷ []) t.2) front after
+
+    -- and the builder writes no other there
+    only : (rest : List ℕ) → IsWrittenValue text rest → EndsValue rest → (is_written_unsigned number ≡ true) × (rest ≡ r.now)
+    only rest w ends =
+        elim (shape text rest w ends) [
+          | an_integer z fits t ↦ absurd (omega (arith, ap (λ (xs : List ℕ). slice_index xs 0) (sym after ∙ t.after)))
+          | an_unsigned n fits t ↦
+              (rw (front, t.front) (unsigned_tells n fits), ap (λ (xs : List ℕ). drop 1 xs) (sym t.after ∙ after))
+          | a_float x front ↦ absurd (front.no_u (byte_at_drop text r.now (integer_len text) 117 after).0)
+          | a_string none quote x ↦ absurd (omega (arith, some, none))
+          | a_word b none word ↦ absurd (omega (arith, some, none))
+        ]
+
+-- what is read as a float is one that the builder writes
+pub float_found : (text t rest : List ℕ) → float_at text ≡ reads (float t) rest → IsWrittenValue text rest
+unfolding float_at
+float_found text t rest read = go (cases_Bool (float_len text == 0)) read
+  where
+    -- by whether a float is there
+    go : ((float_len text == 0) ≡ true) ⊎ ((float_len text == 0) ≡ false) → float_at text ≡ reads (float t) rest → IsWrittenValue text rest
+    go (inl none) read = let missed : miss ≡ reads (float t) rest = rw none at read in absurd (cc)
+    go (inr some) read =
+        let found : reads (float (take (float_len text) text)) (drop (float_len text) text) ≡ reads (float t) rest = rw some at read in
+        let more : float_len text ≢ 0 = eqb-false (float_len text) 0 some in
+        let same : take (float_len text) text ≡ t = cc in
+        let left : drop (float_len text) text ≡ rest = cc in
+        record {
+          value = float t;
+          fits = subst IsFloat same (float_len_float text (omega arith));
+          written = rw (← same, ← left) (take-append-drop (float_len text) text);
+        }
+
+-- and where neither mark of an integer is, the builder writes no other
+pub float_only : (text rest : List ℕ) → 0 < integer_len text → byte 105 (drop (integer_len text) text) ≡ miss
+    → byte 117 (drop (integer_len text) text) ≡ miss → IsWrittenValue text rest → EndsValue rest → (t : List ℕ) × (float_at text ≡ reads (float t) rest)
+float_only text rest some no_i no_u w ends =
+    elim (shape text rest w ends) [
+      | an_integer z fits t ↦ absurd (byte_missing 105 (drop (integer_len text) text) no_i rest t.after)
+      | an_unsigned n fits t ↦ absurd (byte_missing 117 (drop (integer_len text) text) no_u rest t.after)
+      | a_float x front ↦ (x, front.reads_it)
+      | a_string none quote x ↦ absurd (omega (arith, some, none))
+      | a_word b none word ↦ absurd (omega (arith, some, none))
+    ]
+
+-- a text in which a float reads does not miss
+pub float_misses : (text rest t : List ℕ) → float_at text ≡ reads (float t) rest → float_at text ≡ miss → ⊥
+float_misses text rest t read missed = let both : miss ≡ reads (float t) rest = sym missed ∙ read in cc
+
+-- and one rest is left of it
+pub float_same : (text t u rest left : List ℕ) → float_at text ≡ reads (float t) rest → float_at text ≡ reads (float u) left → rest ≡ left
+float_same text t u rest left read again = let both : reads (float t) rest ≡ reads (float u) left = sym read ∙ again in cc
+
+-- a string is a value
+pub string_value : (text rest : List ℕ) → IsWrittenString text rest → IsWrittenValue text rest
+string_value text rest w =
+    record {
+      value = string w.body;
+      fits = tt;
+      written = ap (λ (xs : List ℕ). 34 ∷ xs) (append_assoc (escaped quotable w.body) (34 ∷ []) rest) ∙ w.written;
+    }
+
+-- and after a quote the builder writes no other
+pub value_string : (text rest : List ℕ) → integer_len text ≡ 0 → slice_index text 0 ≡ 34 → IsWrittenValue text rest → EndsValue rest
+    → IsWrittenString text rest
+value_string text rest whole first w ends =
+    elim (shape text rest w ends) [
+      | an_integer z fits t ↦ absurd (omega (arith, t.some, whole))
+      | an_unsigned n fits t ↦ absurd (omega (arith, t.some, whole))
+      | a_float x front ↦ absurd (omega (arith, front.some, whole))
+      | a_string none quote x ↦ x
+      | a_word b none word ↦ absurd (no_quote b (sym (ap (λ (xs : List ℕ). slice_index xs 0) word) ∙ first))
+    ]
+  where
+    -- no word begins with a quote
+    no_quote : (b : Bool) → slice_index (built_value (boolean b) ++ rest) 0 ≡ 34 → ⊥
+    no_quote true e = omega (arith, e)
+    no_quote false e = omega (arith, e)
+
+-- where neither a number nor a string is, the builder writes a word
+pub value_word : (text rest : List ℕ) → integer_len text ≡ 0 → slice_index text 0 ≢ 34 → IsWrittenValue text rest → EndsValue rest
+    → (b : Bool) × (text ≡ built_value (boolean b) ++ rest)
+value_word text rest whole first w ends =
+    elim (shape text rest w ends) [
+      | an_integer z fits t ↦ absurd (omega (arith, t.some, whole))
+      | an_unsigned n fits t ↦ absurd (omega (arith, t.some, whole))
+      | a_float x front ↦ absurd (omega (arith, front.some, whole))
+      | a_string none quote x ↦ absurd (first quote)
+      | a_word b none word ↦ (b, word)
+    ]
+
+-- a word before a rest is a value
+word_value : (text rest : List ℕ) (b : Bool) → text ≡ built_value (boolean b) ++ rest → IsWrittenValue text rest
+word_value text rest b e = record { value = boolean b; fits = tt; written = sym e }
+
+-- two words at the start of a text are the same, and so is what follows them
+word_same : (a b : Bool) (rest left : List ℕ) → built_value (boolean a) ++ rest ≡ built_value (boolean b) ++ left → rest ≡ left
+word_same true true rest left e = ap (λ (xs : List ℕ). drop 4 xs) e
+word_same true false rest left e = absurd (omega (arith, ap (λ (xs : List ℕ). slice_index xs 0) e))
+word_same false true rest left e = absurd (omega (arith, ap (λ (xs : List ℕ). slice_index xs 0) e))
+word_same false false rest left e = ap (λ (xs : List ℕ). drop 5 xs) e
+
+-- what follows a word is the only rest of a value
+pub word_answer : (b : Bool) (text left : List ℕ) → integer_len text ≡ 0 → slice_index text 0 ≢ 34 → text ≡ built_value (boolean b) ++ left
+    → IsWrittenValue text left × ((rest : List ℕ) → IsWrittenValue text rest → EndsValue rest → rest ≡ left)
+word_answer b text left whole first e = (
+  word_value text left b e,
+  λ rest w ends. let x = value_word text rest whole first w ends in word_same x.0 b rest left (sym x.1 ∙ e),
+)
+
+-- what is left of a text after a word
+pub stripped : (word text left : List ℕ) → StripsPrefix (FindsTextPrefix word) text left → text ≡ word ++ left
+stripped word text left s = s.1.1 ∙ ap (λ (xs : List ℕ). word ++ xs) (sym s.2)
+
+-- where the word for true is not there, what is left after that for false is the only rest of a value
+pub last_word : (text : List ℕ) (o : Option (Bor (List ℕ))) → integer_len text ≡ 0 → slice_index text 0 ≢ 34
+    → LacksTextAt (codes "true") text 0
+    → MatchOption o (LacksTextAt (codes "false") text 0) (λ r. StripsPrefix (FindsTextPrefix (codes "false")) text r.now)
+    → IsOnlyRest (IsWrittenValue text) EndsValue o
+last_word text (Some r) whole first no_true found = word_answer false text r.now whole first (stripped (codes "false") text r.now found)
+last_word text None whole first no_true no_false = λ rest w ends. let x = value_word text rest whole first w ends in go rest x.0 x.1
+  where
+    -- by the word
+    go : (rest : List ℕ) (b : Bool) → text ≡ built_value (boolean b) ++ rest → ⊥
+    go rest true e = no_true rest e
+    go rest false e = no_false rest e
+
+-- after a quote, what follows a string is the only rest of a value
+pub string_only_value : (text : List ℕ) (o : Option (Bor (List ℕ))) → integer_len text ≡ 0 → slice_index text 0 ≡ 34
+    → IsOnlyRest (IsWrittenString text) (λ rest. Unit) o → IsOnlyRest (IsWrittenValue text) EndsValue o
+string_only_value text None whole first none = λ rest w ends. none rest (value_string text rest whole first w ends) tt
+string_only_value text (Some left) whole first only = (
+  string_value text left.now only.0,
+  λ rest w ends. only.1 rest (value_string text rest whole first w ends) tt,
+)

@@ -1,0 +1,10 @@
+use Rattle.std.proofs.Common.{◌-◌, ◌≤◌, length, not}
+use Rattle.lp_scan.specs.code.Tokens.{is_mark}
+use Rattle.lp_scan.specs.code.Lanes.{AllPassBetween}
+use Rattle.lp_written.proofs.tokens.unmarked_end.Given as goal
+
+abbrev pub invariant-loop-end : goal.invariant-loop-end
+invariant-loop-end l = (l.at ≤ l.end) × (l.end ≤ length l.bytes) × AllPassBetween (λ b. not (is_mark l.kind b)) l.bytes l.at l.end
+
+abbrev pub decreases-loop-end : goal.decreases-loop-end
+decreases-loop-end l = length l.bytes - l.end

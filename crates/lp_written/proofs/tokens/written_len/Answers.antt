@@ -1,0 +1,52 @@
+use Rattle.std.proofs.Common.{◌≡◌, ◌+◌, ◌-◌, ◌∙◌, drop, sym, arith}
+use Rattle.std.proofs.lemmas.Bool.{false≢true}
+use Rattle.lp_scan.specs.code.Tokens.{known_of, stops_of}
+use Rattle.lp_written.specs.code.AsWritten.{written_len}
+use Rattle.lp_written.proofs.lemmas.parts.WrittenTokens.{ends_here, escape_passed, run_mark, run_passed}
+use Rattle.lp_written.proofs.tokens.written_len.Goals as goal
+
+pub loop-end-init : goal.loop-end-init
+loop-end-init c =
+    let kind = c.args.kind in
+    let bytes = c.args.bytes.now in
+    let end = c.unmarked_end-end.result in
+    let run = c.unmarked_end-end.ensures in
+    let passed : written_len (known_of kind) (stops_of kind) bytes ≡ end - 0 + written_len (known_of kind) (stops_of kind) (drop end bytes) =
+    run_passed kind bytes 0 end run in
+    record { within = run.within; mark = run_mark kind bytes 0 end run; passed = omega (arith, passed) }
+
+pub loop-end-preserved : goal.loop-end-preserved
+loop-end-preserved c =
+    let kind = c.args.kind in
+    let bytes = c.args.bytes.now in
+    let at = c.loop-end.end in
+    let end = c.unmarked_end-end-in-loop-end.result in
+    let run = c.unmarked_end-end-in-loop-end.ensures in
+    let escape = escape_passed kind bytes at c.loop-end-test.true c.if-bytes-end-eq92.true (sym c.is_known.ensures ∙ c.if-is_known.true) in
+    let passed = run_passed kind bytes (at + 2) end run in
+    record {
+      within = run.within;
+      mark = run_mark kind bytes (at + 2) end run;
+      passed = omega (arith, escape, passed, run.ordered, c.loop-end.invariant.passed);
+    }
+
+pub returns-else-is_known-clause-value : goal.returns-else-is_known-clause-value
+returns-else-is_known-clause-value c =
+    let now = c.loop-end.invariant in
+    let none = ends_here c.args.kind c.args.bytes.now c.loop-end.end now.within now.mark
+    (λ inside here found. false≢true (sym c.if-is_known.false ∙ c.is_known.ensures ∙ found)) in
+    omega (arith, none, now.passed)
+
+pub returns-else-bytes-end-eq92-clause-value : goal.returns-else-bytes-end-eq92-clause-value
+returns-else-bytes-end-eq92-clause-value c =
+    let now = c.loop-end.invariant in
+    let none = ends_here c.args.kind c.args.bytes.now c.loop-end.end now.within now.mark
+    (λ inside here found. c.if-bytes-end-eq92.false here) in
+    omega (arith, none, now.passed)
+
+pub returns-after-loop-end-clause-value : goal.returns-after-loop-end-clause-value
+returns-after-loop-end-clause-value c =
+    let now = c.loop-end.invariant in
+    let none = ends_here c.args.kind c.args.bytes.now c.loop-end.end now.within now.mark
+    (λ inside here found. absurd (omega (arith, inside, c.loop-end-test.false))) in
+    omega (arith, none, now.passed)

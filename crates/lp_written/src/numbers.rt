@@ -1,0 +1,121 @@
+//! Values at the start of a text, where they are as the builder writes them.
+
+ghost use Rattle.std.specs.Prelude.{◌≡◌, ◌≢◌, ◌<◌, IsCharBoundary, codes, drop, length, slice_index, take};
+ghost use Rattle.lp_format.specs.format.Bytes.{letter_i, letter_u, quote};
+ghost use Rattle.lp_format.specs.format.Lines.{byte};
+ghost use Rattle.lp_format.specs.format.Readings.{miss};
+ghost use Rattle.lp_format.specs.format.Values.{IsSigned, integer_len};
+ghost use Rattle.lp_written.specs.code.AsWritten.{EndsValue, IsOnlyRest, IsWrittenValue};
+ghost use Rattle.lp_written.specs.code.AsWritten.{has_extra_zero, is_written_integer, is_written_unsigned};
+
+use crate::tokens::after_string;
+use lp_values::FloatText;
+use lp_values::digits::{integer_value, unsigned_value};
+use lp_values::literals::integer_len;
+use lp_values::trim::strip_byte;
+use lp_values::values::has_byte_at;
+
+// A shorter number, with `-` or not, is in the range of an i64.
+const LEAST_IN_DOUBT: usize = 19;
+
+// Whether a number begins with a zero that the builder does not write.
+#[inline(always)]
+fn has_extra_zero(number: &[u8]) -> bool
+    ensures { result ≡ has_extra_zero number.now }
+{
+    matches!(number, [b'-', b'0', ..] | [b'0', _, ..])
+}
+
+// Whether the builder writes `number`, at the start of `text`, so as an integer.
+#[inline(always)]
+pub(crate) fn is_written_integer(number: &str, text: &str) -> bool
+    requires signed { IsSigned (codes "-") number.now }
+    requires front { number.now ≡ take (length number.now) text.now }
+    ensures { result ≡ is_written_integer number.now }
+{
+    if has_extra_zero(number.as_bytes()) {
+        return false;
+    }
+    if number.len() < LEAST_IN_DOUBT {
+        return true;
+    }
+    integer_value(number, text).is_some()
+}
+
+// Whether the builder writes `number`, at the start of `text`, so as an unsigned number.
+#[inline(always)]
+fn is_written_unsigned(number: &str, text: &str) -> bool
+    requires signed { IsSigned (codes "-") number.now }
+    requires front { number.now ≡ take (length number.now) text.now }
+    ensures { result ≡ is_written_unsigned number.now }
+{
+    let bytes = number.as_bytes();
+    if has_byte_at(bytes, 0, b'-') {
+        return false;
+    }
+    if has_extra_zero(bytes) {
+        return false;
+    }
+    unsigned_value(number, text).is_some()
+}
+
+// What follows the longest float at the start of `text`, where an integer takes `whole` bytes, and no mark of it follows.
+#[inline(always)]
+fn after_float(text: &str, whole: usize) -> Option<&str>
+    requires whole { whole ≡ integer_len text.now }
+    requires some { 0 < whole }
+    requires no_i { byte letter_i (drop whole text.now) ≡ miss }
+    requires no_u { byte letter_u (drop whole text.now) ≡ miss }
+    ensures { IsOnlyRest (IsWrittenValue text.now) EndsValue result }
+{
+    let Some((_, rest)) = FloatText::front(text, whole) else {
+        return None;
+    };
+    Some(rest)
+}
+
+// What follows a number at the start of `text`, where an integer takes `whole` bytes.
+#[inline(always)]
+fn after_number(text: &str, whole: usize) -> Option<&str>
+    requires whole { whole ≡ integer_len text.now }
+    requires some { 0 < whole }
+    requires boundary { IsCharBoundary text.now whole }
+    ensures { IsOnlyRest (IsWrittenValue text.now) EndsValue result }
+{
+    let (number, after) = text.split_at(whole);
+    if let Some(rest) = strip_byte(b'i', after) {
+        return is_written_integer(number, text).then_some(rest);
+    }
+    if let Some(rest) = strip_byte(b'u', after) {
+        return is_written_unsigned(number, text).then_some(rest);
+    }
+    after_float(text, whole)
+}
+
+// What follows the word for a Boolean at the start of `text`, where neither a number nor a string is.
+#[inline(always)]
+fn after_word(text: &str) -> Option<&str>
+    requires no_number { integer_len text.now ≡ 0 }
+    requires no_string { slice_index text.now 0 ≢ quote }
+    ensures { IsOnlyRest (IsWrittenValue text.now) EndsValue result }
+{
+    if let Some(rest) = text.strip_prefix("true") {
+        return Some(rest);
+    }
+    text.strip_prefix("false")
+}
+
+/// What follows the value at the start of `text`, where that is as the builder writes it.
+#[inline(always)]
+pub(crate) fn after_value(text: &str) -> Option<&str>
+    ensures { IsOnlyRest (IsWrittenValue text.now) EndsValue result }
+{
+    let whole = integer_len(text);
+    if whole > 0 {
+        return after_number(text, whole);
+    }
+    if has_byte_at(text.as_bytes(), 0, b'"') {
+        return after_string(text);
+    }
+    after_word(text)
+}

@@ -1,0 +1,121 @@
+//! Lines that are as the builder writes them.
+
+ghost use Rattle.std.specs.Prelude.{◌≡◌, ◌↔◌, true};
+ghost use Rattle.lp_format.specs.format.Names.{a_tag_value};
+ghost use Rattle.lp_format.specs.format.Points.{IsAsWritten};
+ghost use Rattle.lp_written.specs.code.AsWritten.{AreWrittenFields, EndsName, EndsValue, IsOnlyRest, IsWrittenAfterField};
+ghost use Rattle.lp_written.specs.code.AsWritten.{IsWrittenAfterName, IsWrittenField, IsWrittenTag, IsWrittenTimestamp};
+
+use crate::numbers::{after_value, is_written_integer};
+use crate::tokens::after_name;
+use lp_values::literals::integer_len;
+use lp_values::names::NameKind;
+use lp_values::trim::strip_byte;
+
+// What follows the tag at the start of `text`, where that is as the builder writes it.
+#[inline(always)]
+fn after_tag(text: &str) -> Option<&str>
+    ensures { IsOnlyRest (IsWrittenTag text.now) (EndsName a_tag_value) result }
+{
+    let Some(key_end) = after_name(NameKind::TagKey, text) else {
+        return None;
+    };
+    let Some(value) = strip_byte(b'=', key_end) else {
+        return None;
+    };
+    after_name(NameKind::TagValue, value)
+}
+
+// What follows the field at the start of `text`, where that is as the builder writes it.
+#[inline(always)]
+fn after_field(text: &str) -> Option<&str>
+    ensures { IsOnlyRest (IsWrittenField text.now) EndsValue result }
+{
+    let Some(key_end) = after_name(NameKind::FieldKey, text) else {
+        return None;
+    };
+    let Some(value) = strip_byte(b'=', key_end) else {
+        return None;
+    };
+    after_value(value)
+}
+
+// Whether the builder writes `text` for a timestamp, or for none.
+#[inline(always)]
+fn is_timestamp(text: &str) -> bool
+    ensures { (result ≡ true) ↔ IsWrittenTimestamp text.now }
+{
+    if text.is_empty() {
+        return true;
+    }
+    let Some(number) = strip_byte(b' ', text) else {
+        return false;
+    };
+    let whole = integer_len(number);
+    if whole == 0 {
+        return false;
+    }
+    if whole < number.len() {
+        return false;
+    }
+    is_written_integer(number, number)
+}
+
+// Whether the builder writes `text` after a field.
+#[inline(always)]
+fn is_after_field(text: &str) -> bool
+    ensures { (result ≡ true) ↔ IsWrittenAfterField text.now }
+{
+    let mut left = text;
+    while let Some(field) = strip_byte(b',', left) {
+        let Some(rest) = after_field(field) else {
+            return false;
+        };
+        left = rest;
+    }
+    is_timestamp(left)
+}
+
+// Whether the builder writes `text` for the fields after the space before them, and a timestamp.
+#[inline(always)]
+fn are_fields(text: &str) -> bool
+    ensures { (result ≡ true) ↔ AreWrittenFields text.now }
+{
+    let Some(rest) = after_field(text) else {
+        return false;
+    };
+    is_after_field(rest)
+}
+
+// Whether the builder writes `text` after a measurement.
+#[inline(always)]
+fn is_after_name(text: &str) -> bool
+    ensures { (result ≡ true) ↔ IsWrittenAfterName text.now }
+{
+    let mut left = text;
+    while let Some(tag) = strip_byte(b',', left) {
+        let Some(rest) = after_tag(tag) else {
+            return false;
+        };
+        left = rest;
+    }
+    let Some(fields) = strip_byte(b' ', left) else {
+        return false;
+    };
+    are_fields(fields)
+}
+
+/// Whether the builder writes this text, before a newline, for a point whose names are all admitted. It takes no memory.
+///
+/// ```text
+/// m,t=x a=1i 7    is as written
+/// m,t=x  a=01i    is not: the builder writes one space and no leading zero
+/// ```
+pub fn is_as_written(line: &str) -> bool
+    ensures { (result ≡ true) ↔ IsAsWritten line.now }
+{
+    let Some(rest) = after_name(NameKind::Measurement, line) else {
+        return false;
+    };
+    is_after_name(rest)
+}
