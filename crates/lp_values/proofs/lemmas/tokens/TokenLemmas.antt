@@ -13,8 +13,10 @@ use Rattle.lp_format.specs.format.Readings.{Text}
 use Rattle.lp_format.proofs.lemmas.names.NameLemmas.{no_backslash, without_escapes_same}
 use Rattle.std.specs.Str.{bytes_eq}
 use Rattle.std.proofs.lemmas.Slice.Eq.{bytes_eq-Decides}
-use Rattle.std.proofs.lemmas.List.{append-nil, drop_all, drop_at, drop-drop, get_or-drop, length-drop, length-take-le, take-append-drop}
-use Rattle.std.proofs.lemmas.List.{take_at}
+use Rattle.std.proofs.lemmas.List.{append-nil, drop_all, drop-drop, get_or-drop, length-drop, length-take-le, take-append-drop}
+use Rattle.std.proofs.lemmas.List.{length-take}
+use Rattle.std.proofs.lemmas.Slice.{drop-put_mid, take-put_mid}
+use borrow.Rule.Slice.PartMut.{put_mid, same_len_mid}
 use Rattle.lp_scan.specs.code.Lanes.{IsRunAt}
 use Rattle.lp_values.proofs.lemmas.tokens.WalkLemmas.{run_is_plain}
 
@@ -200,21 +202,20 @@ room_left whole left start to stretch after place was fits parts =
     )
 
 -- so it is put
-pub stretch_put : (whole left start to stretch after new : List ℕ) (place n : ℕ) → IsPut whole left start to place
-    → left ≡ stretch ++ after → length stretch ≡ n → place + n ≤ length to
-    → new ≡ take place to ++ stretch ++ drop (place + length stretch) to → IsPut whole after start new (place + n)
-stretch_put whole left start to stretch after new place n was parts size room is =
-    let front : List ℕ = take place to ++ stretch in
-    let back : List ℕ = drop (place + length stretch) to in
-    let len : length front ≡ place + n = omega (arith, length-append (take place to) stretch, length-take-le place to was.within, size) in
-    let all = ap length is ∙ length-append front back in
+pub stretch_put : (whole left start to stretch after new : List ℕ) (place k : ℕ) → IsPut whole left start to place
+    → left ≡ stretch ++ after → place + length stretch ≤ length to → k ≡ length stretch → new ≡ stretch
+    → IsPut whole after start (put_mid place k to new) (place + length stretch)
+stretch_put whole left start to stretch after new place k was parts room as_long is =
+    let end = place + length stretch in
+    let size = ap length is in
+    let whole_len = same_len_mid place k to new (omega (arith, size, length-take k (drop place to), length-drop place to)) in
     record {
-      within = omega (arith, all, len);
-      front = ap (λ l. l ++ after) (ap (take (place + n)) is ∙ take_at front back (place + n) len)
+      within = omega (arith, whole_len);
+      front = ap (λ l. l ++ after) (take-put_mid place k to new end (omega (arith, size)) was.within ∙ ap (λ l. take place to ++ l) is)
           ∙ append_assoc (take place to) stretch after ∙ ap (λ l. take place to ++ l) (sym parts) ∙ was.front;
-      back = ap (drop (place + n)) is ∙ drop_at front back (place + n) len ∙ ap (λ (k : ℕ). drop (place + k) to) size
-          ∙ sym (drop-drop n place to) ∙ ap (drop n) was.back ∙ drop-drop n place start;
-      len = omega (arith, all, len, length-drop (place + length stretch) to, was.len, room, size);
+      back = drop-put_mid place k to new end (omega arith) was.within (omega (arith, size))
+          ∙ sym (drop-drop (length stretch) place to) ∙ ap (drop (length stretch)) was.back ∙ drop-drop (length stretch) place start;
+      len = whole_len ∙ was.len;
     }
 
 -- once nothing is left, the whole is put
