@@ -133,18 +133,13 @@ left_inside text i lt other = rw (drop_more text i 0 lt, ne_eqb (slice_index tex
 pub left_blank : (in_comment : Bool) (text : List ℕ) (i : ℕ) → i < length text
     → is_blank (slice_index text i) ≡ true → left_of in_comment (drop i text) ≡ left_of in_comment (drop (i + 1) text)
 left_blank true text i lt e = left_inside text i lt (λ n. grind (arith, common_steps))
-left_blank false text i lt e =
-    let no_newline : (slice_index text i == newline) ≡ false = grind (arith, common_steps) in
-    let no_hash : (slice_index text i == hash) ≡ false = grind (arith, common_steps) in
-    rw (drop_more text i 0 lt, no_newline, no_hash, e) refl
+left_blank false text i lt e = grind (arith, drop_more)
 
 -- what begins with another byte is kept
 pub left_kept : (text : List ℕ) (i : ℕ) → i < length text → slice_index text i ≢ newline → slice_index text i ≢ hash
     → slice_index text i ≢ space → slice_index text i ≢ tab
     → left_of false (drop i text) ≡ drop i text
-left_kept text i lt a b c d =
-    let no_blank : is_blank (slice_index text i) ≡ false = grind (arith, common_steps) in
-    rw (drop_more text i 0 lt, ne_eqb (slice_index text i) newline a, ne_eqb (slice_index text i) hash b, no_blank) refl
+left_kept text i lt a b c d = grind (arith, drop_more, ne_eqb)
 
 -- nothing is left after the last byte
 pub left_end : (in_comment : Bool) (text : List ℕ) (i : ℕ) → length text ≤ i → left_of in_comment (drop i text) ≡ []

@@ -1,7 +1,6 @@
 -- What is joined by commas is read as the most that are at the start.
-use Rattle.std.proofs.Common.{◌≡◌, ◌≢◌, ℕ, zero, suc, ◌<◌, ◌≤◌, List, [], ◌∷◌, ◌++◌, length, refl, sym, ap, ◌∙◌, subst, inl, inr}
+use Rattle.std.proofs.Common.{◌≡◌, ◌≢◌, ℕ, zero, suc, ◌<◌, ◌≤◌, List, [], ◌∷◌, ◌++◌, length, refl, sym, ap, ◌∙◌, subst}
 use Rattle.std.proofs.Common.{arith, length-append}
-use Rattle.std.specs.Prelude.{◌==◌}
 use Rattle.std.proofs.lemmas.Bool.{cases_Bool, eqb-true}
 use Rattle.lp_format.specs.format.Readings.{Fault, Reading, miss, fatal, reads}
 use Rattle.lp_format.specs.format.Lines.{after_comma, separated_list, many, prepend}
@@ -152,15 +151,7 @@ module _ {A : Type 0} where
   after_parts : (one : List ℕ → Reading A) (text : List ℕ) (r : Reading A) → after_comma one text ≡ r → r ≢ miss
       → (suffix : List ℕ) × (text ≡ 44 ∷ suffix) × (one suffix ≡ r)
   after_parts one [] r e some = absurd (some (sym e))
-  after_parts one (b ∷ suffix) r e some =
-      elim (cases_Bool (b == 44)) [
-        | inl comma ↦ (
-          suffix,
-          ap (λ (c : ℕ). c ∷ suffix) (eqb-true b 44 comma),
-          sym (after_whole one (b ∷ suffix) suffix (ap (λ (c : ℕ). c ∷ suffix) (eqb-true b 44 comma))) ∙ e,
-        )
-        | inr differs ↦ absurd (some (sym (rw differs at e)))
-      ]
+  after_parts one (b ∷ suffix) r e some = grind (arith, cases_Bool, eqb-true, after_whole)
 
   -- the two ways to say what is there
   from_after : (one : List ℕ → Reading A) (xs : List A) (text rest : List ℕ) → SeparatedAfterComma one xs text rest
@@ -218,10 +209,7 @@ module _ {A : Type 0} where
       (no_longer : (text : List ℕ) (x : A) (rest : List ℕ) → one text ≡ reads x rest → length rest ≤ length text) where
     -- what is left after a comma and an element is shorter
     pub after_shorter : (text : List ℕ) (x : A) (rest : List ℕ) → after_comma one text ≡ reads x rest → length rest < length text
-    after_shorter text x rest e =
-        let p = after_parts one text (reads x rest) e (λ k. cc) in
-        let h = no_longer p.0 x rest p.2 in
-        omega (arith, ap length p.1)
+    after_shorter text x rest e = grind (arith, after_parts)
 
     -- the outcome of a list, by what its first element is read as
     whole_by : (text : List ℕ) (r : Reading A) → one text ≡ r → Whole one text
@@ -254,12 +242,7 @@ module _ {A : Type 0} where
     -- they are there, and no more are
     pub longest : (text : List ℕ) (xs : List A) (rest : List ℕ) → Chain one (after_comma one) xs text rest
         → GivesNone (next one (after_comma one) xs rest) → LongestList one text xs rest
-    longest text xs rest h none =
-        record {
-          separated = to_separated one xs text rest h;
-          most = λ others suffix k. chain_most one (after_comma one) xs others text rest suffix h
-              (from_separated one others text suffix k) none;
-        }
+    longest text xs rest h none = grind (arith, to_separated, chain_most, from_separated)
 
     -- a list that is read ends where no comma and element follow
     in_full : (text : List ℕ) (xs : List A) (rest : List ℕ) → separated_list one text ≡ reads xs rest → WholeList one text xs rest
@@ -289,9 +272,7 @@ module _ {A : Type 0} where
     -- a fault of the element after the longest list is the fault of the list
     fault_is : (text : List ℕ) (e : Fault) (xs : List A) (rest : List ℕ) → LongestList one text xs rest
         → NextHasFault one xs rest e → separated_list one text ≡ fatal e
-    fault_is text e xs rest h k =
-        read_is text xs rest (from_separated one xs text rest h.separated) (none_after_most one text xs rest h)
-        ∙ ap (outcome xs rest) (from_fault one xs rest e k) ∙ outcome_is_fatal xs rest e
+    fault_is text e xs rest h k = grind (arith, read_is, from_separated, none_after_most, from_fault, outcome_is_fatal)
 
     -- a list has a fault only by the element after those that are read
     pub the_next_has_the_fault : TheNextHasTheFault one

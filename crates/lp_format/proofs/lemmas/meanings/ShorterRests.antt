@@ -1,5 +1,5 @@
 -- What is left after what was read is no longer than the text.
-use Rattle.std.proofs.Common.{◌≡◌, ℕ, zero, suc, add-one, List, ◌∷◌, get_or, true, refl, arith, ◌+◌, ◌≤◌, [], length, drop, Bool}
+use Rattle.std.proofs.Common.{◌≡◌, ℕ, zero, suc, add-one, List, ◌∷◌, get_or, true, refl, arith, ◌≤◌, [], length, drop, Bool}
 use Rattle.std.proofs.Common.{false, cond, ap, length-drop}
 use Rattle.std.specs.Prelude.{◌==◌, IsUtf8, IsCharBoundary}
 use Rattle.std.proofs.lemmas.Bool.{eq-eqb, eqb-true}
@@ -9,7 +9,7 @@ use Rattle.lp_format.specs.format.Lines.{byte, spaces, key_value, tag, field}
 use Rattle.lp_format.specs.format.Readings.{reads, Fault, Read, Reading, miss, fatal, ◌>>=◌, ◌otherwise◌}
 use Rattle.lp_format.specs.format.Bytes.{space, equals}
 use Rattle.lp_format.specs.format.Names.{NameKind, a_tag_key, a_tag_value, a_field_key, name}
-use Rattle.lp_format.specs.format.Values.{value, integer_at, unsigned_at, float_at, string_at, boolean_at, body_len, true_words}
+use Rattle.lp_format.specs.format.Values.{value, integer_at, unsigned_at, float_at, string_at, boolean_at, true_words}
 use Rattle.lp_format.specs.format.Values.{false_words}
 
 -- a byte at the start, by what the text is
@@ -83,8 +83,7 @@ name_no_longer kind text = either text _ _ _ (none_left text) (either text _ _ _
 string_no_longer : (text : List ℕ) → IsNoLonger text (string_at text)
 unfolding string_at
 string_no_longer [] = none_left []
-string_no_longer (b ∷ after) =
-    either (b ∷ after) _ _ _ (some_left (b ∷ after) _ _ (omega (arith, length-drop (body_len after + 1) after))) (none_left (b ∷ after))
+string_no_longer (b ∷ after) = grind (arith, either, some_left, length-drop, none_left)
 
 -- a value
 value_no_longer : (text : List ℕ) → IsNoLonger text (value text)

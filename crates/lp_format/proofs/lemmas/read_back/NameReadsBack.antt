@@ -70,12 +70,7 @@ pub record Admitted (kind : NameKind) (n : List ℕ) : Type 0 where
 -- the parts of the test of a name
 pub admitted_parts : (kind : NameKind) (n : List ℕ) → is_admitted_name kind n ≡ true → Admitted kind n
 unfolding is_admitted_name
-admitted_parts kind n h =
-    let last = and_parts _ _ h in
-    let third = and_parts _ _ last.0 in
-    let second = and_parts _ _ third.0 in
-    let some : length n ≢ 0 = eqb-false (length n) 0 (not-true _ second.0) in
-    record { some = omega arith; ends = not-true _ second.1; may = third.1 }
+admitted_parts kind n h = grind (arith, and_parts, eqb-false, not-true)
 
 -- a measurement does not begin with `#`
 pub begins_otherwise : (n : List ℕ) → is_admitted_name a_measurement n ≡ true → slice_index n 0 ≢ hash

@@ -78,8 +78,7 @@ begins_comment-append (b ∷ front) more e =
 -- the byte after blanks and no `#` that makes a comment is no newline, nor are the blanks
 becomes_comment : (front : List ℕ) (b : ℕ) → begins_comment front ≡ false → begins_comment (front ++ b ∷ []) ≡ true
     → All (λ c. c ≢ newline) (front ++ b ∷ [])
-becomes_comment [] b e f =
-    All-cons (λ c. c ≢ newline) b [] (λ i. false≢true (subst (λ c. begins_comment (c ∷ []) ≡ true) i f)) (All-nil (λ c. c ≢ newline))
+becomes_comment [] b e f = grind (arith, false≢true)
 becomes_comment (x ∷ front) b e f =
     let w = go (eqb x hash) (eqb x space || eqb x tab) (begins_comment front) (begins_comment (front ++ b ∷ [])) e f in
     All-cons (λ c. c ≢ newline) x (front ++ b ∷ [])
@@ -293,8 +292,7 @@ piece_is_comment before piece after text c h =
 
 -- a text up to a place, and after it
 pub split_at : (text : List ℕ) (i : ℕ) → i < length text → get_or text i 0 ≡ newline → text ≡ take i text ++ newline ∷ drop (i + 1) text
-split_at text i l e = sym (ap (λ x. take i text ++ x ∷ drop (i + 1) text) (sym e)
-    ∙ ap (λ t. take i text ++ t) (sym (drop_more text i 0 l)) ∙ take-append-drop i text)
+split_at text i l e = grind (arith, drop_more, take-append-drop)
 
 -- the first newline ends a comment
 pub cut_of_comment : (text : List ℕ) (place : Option ℕ) → begins_comment text ≡ true
@@ -326,11 +324,7 @@ front_begins_none text n e = elim (cases_Bool (begins_comment (take n text))) [
 pub cut_of_other : (text : List ℕ) (place : Option ℕ) → begins_comment text ≡ false → IsFirstCut Crate text place
     → IsFirstCut Strict text place
 cut_of_other text None e h = inr (e, h)
-cut_of_other text (Some i) e h = (
-  h.0,
-  h.1,
-  inr (front_begins_none text i e, h.2.0, h.2.1),
-)
+cut_of_other text (Some i) e h = grind (arith, front_begins_none)
 
 -- what a call of `next` gives, by the bytes that it searched
 pub Pieces-cut_at : (dialect : Dialect) (bytes text piece rest : List ℕ) (i : ℕ) (others : List (List ℕ))
