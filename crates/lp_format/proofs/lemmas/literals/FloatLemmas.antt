@@ -2,7 +2,7 @@
 use Rattle.std.proofs.Common.{◌≡◌, ◌≢◌, subst, if◌then◌else◌, ℕ, suc, ◌+◌, ◌-◌, Bool, ◌<◌, ◌≤◌, List, [], ◌∷◌, ◌++◌, length, take}
 use Rattle.std.proofs.Common.{drop, slice_index, get_or, true, false, refl, sym, ap, ◌∙◌, arith, inl, inr, one-add, zero-add}
 use Rattle.std.proofs.Common.{add-zero}
-use Rattle.std.specs.Prelude.{◌==◌, ◌&&◌, ◌||◌, codes, nat_lt, IsUtf8, IsCharBoundary}
+use Rattle.std.specs.Prelude.{◌==◌, ◌||◌, codes, IsUtf8, IsCharBoundary}
 use Rattle.std.specs.Char.{is_ascii_digit, digit_value}
 use Rattle.std.specs.Str.{IsAscii}
 use Rattle.std.specs.Str.Parse.{AllDigits, IsNumeral}
@@ -36,18 +36,11 @@ digits_before (d ∷ ds) tail digits = rw (digit_passes d digits.0, digits_befor
 -- so does a sign or none, and digits
 pub signed_before : (signs text tail : List ℕ) → ((d : ℕ) → is_ascii_digit d ≡ true → is_one_of signs d ≡ false) → IsSigned signs text
     → number_len signs (text ++ tail) ≡ length text + digits_len tail
-signed_before signs [] tail apart never = absurd never
-signed_before signs (b ∷ ds) tail apart (inl signed) = grind (arith, ne_eqb, digits_before)
-signed_before signs (b ∷ ds) tail apart (inr numeral) =
-    let first = digit_passes b numeral.1.0 in
-    let some : (suc (length ds + digits_len tail) == 0) ≡ false = ne_eqb (suc (length ds + digits_len tail)) 0
-    (λ e. absurd (omega arith)) in
-    rw (apart b first, first, digits_before ds tail numeral.1.1, one-add, some) (omega arith)
+signed_before signs text tail apart never = grind (arith, ne_eqb, digits_before, digit_passes, one-add)
 
 -- a signed number has a byte
 pub signed_some : (signs text : List ℕ) → IsSigned signs text → 0 < length text
-signed_some signs [] never = absurd never
-signed_some signs (b ∷ ds) any = omega arith
+signed_some signs text never = grind arith
 
 -- and a mark with a part
 pub marked_before : (marks : List ℕ) (part : List ℕ → ℕ) (b : ℕ) (x tail : List ℕ) → is_one_of marks b ≡ true
@@ -170,14 +163,7 @@ signed_front signs (b ∷ rest) some = elim (cases_Bool (is_one_of signs b)) [
 marked_front : (marks : List ℕ) (part : List ℕ → ℕ) (Part : List ℕ → Type 0) (t : List ℕ)
     → ((x : List ℕ) → 0 < part x → Part (take (part x) x))
     → IsMarked marks Part (take (marked_len marks part t) t)
-marked_front marks part Part [] of_part = rw (take-nil (marked_len marks part [])) tt
-marked_front marks part Part (b ∷ x) of_part =
-    elim (cases_Bool (is_one_of marks b && nat_lt 0 (part x))) [
-      | inl found ↦
-          let parts = and_parts (is_one_of marks b) (nat_lt 0 (part x)) found in
-          rw (found, one-add) (parts.0, of_part x (ltb-true 0 (part x) parts.1))
-      | inr none ↦ rw none tt
-    ]
+marked_front marks part Part t of_part = grind (arith, take-nil, cases_Bool, and_parts, one-add, ltb-true)
 
 -- the longest float at the start of a text is one
 pub float_len_float : (t : List ℕ) → 0 < float_len t → IsFloat (take (float_len t) t)
@@ -217,15 +203,12 @@ digits_float (d ∷ ds) all = rw (digit_passes d all.0, digits_float ds all.1) r
 -- and signed numbers
 signed_float : (signs text : List ℕ) → ((d : ℕ) → is_one_of signs d ≡ true → in_float d ≡ true) → IsSigned signs text
     → list_all in_float text ≡ true
-signed_float signs [] sign never = absurd never
-signed_float signs (b ∷ ds) sign (inl signed) = rw (sign b signed.0, digits_float ds signed.1.1) refl
-signed_float signs (b ∷ ds) sign (inr numeral) = digits_float (b ∷ ds) numeral.1
+signed_float signs text sign never = grind (arith, digits_float)
 
 -- and a mark with such a part
 marked_float : (marks : List ℕ) (Part : List ℕ → Type 0) (text : List ℕ) → ((d : ℕ) → is_one_of marks d ≡ true → in_float d ≡ true)
     → ((x : List ℕ) → Part x → list_all in_float x ≡ true) → IsMarked marks Part text → list_all in_float text ≡ true
-marked_float marks Part [] mark of_part marked = refl
-marked_float marks Part (b ∷ x) mark of_part marked = rw (mark b marked.0, of_part x marked.1) refl
+marked_float marks Part text mark of_part marked = grind arith
 
 -- each byte of a float is such a byte
 float_bytes : (t : List ℕ) → IsFloat t → AllPass in_float t

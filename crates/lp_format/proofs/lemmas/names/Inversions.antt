@@ -1,7 +1,7 @@
 -- What a list that is read was read from, what holds of all of it, and how many are counted.
 use Rattle.std.proofs.Common.{◌≡◌, ℕ, ◌≤◌, List, [], ◌∷◌, ◌++◌, length, ap, zero, suc, ◌<◌, refl, ◌∙◌, arith}
 use Rattle.std.specs.List.{AllByRecursion}
-use Rattle.lp_format.specs.format.Readings.{Reading, miss, fatal, reads}
+use Rattle.lp_format.specs.format.Readings.{Reading, reads}
 use Rattle.lp_format.specs.format.Lines.{prepend, separated_list, after_comma}
 use Rattle.lp_format.specs.laws.Meanings.{SeparatedBy, SeparatedAfterComma, CountIsOfTheMost}
 use Rattle.lp_format.proofs.lemmas.meanings.JoinedMeaning.{the_most_is_read, Chain, GivesNone, next, next_same, after_shorter}
@@ -17,9 +17,7 @@ pub record Onto {A : Type 0} (xs : List A) (r : Reading (List A)) (zs : List A) 
 -- each list that was added to is such
 pub prepend_parts : {A : Type 0} (xs : List A) (r : Reading (List A)) (zs : List A) (rest : List ℕ)
     → prepend xs r ≡ reads zs rest → Onto xs r zs rest
-prepend_parts xs miss zs rest h = absurd (cc)
-prepend_parts xs (fatal e) zs rest h = absurd (cc)
-prepend_parts xs (reads more after) zs rest h = grind arith
+prepend_parts xs r zs rest h = grind arith
 
 module _ {A : Type 0} (P : A → Type 0) (one : List ℕ → Reading A)
     (each : (line : List ℕ) (x : A) (rest : List ℕ) → one line ≡ reads x rest → P x) where
@@ -30,8 +28,7 @@ module _ {A : Type 0} (P : A → Type 0) (one : List ℕ → Reading A)
 
   -- and of all that are joined by commas
   joined_all : (xs : List A) (line rest : List ℕ) → SeparatedBy one xs line rest → AllByRecursion P xs
-  joined_all [] line rest h = tt
-  joined_all (x ∷ xs) line rest h = (each line x h.0 h.1, after_all xs h.0 rest h.2)
+  joined_all xs line rest h = grind (arith, after_all)
 
   -- so of all that are read there
   pub joined_of : ((line : List ℕ) (x : A) (rest : List ℕ) → one line ≡ reads x rest → length rest ≤ length line)
@@ -40,9 +37,7 @@ module _ {A : Type 0} (P : A → Type 0) (one : List ℕ → Reading A)
 
 -- none is counted where none is read
 none_counted : {A : Type 0} (r : Reading A) (count : List ℕ → ℕ) → GivesNone r → one_and_after r count ≡ 0
-none_counted miss count none = refl
-none_counted (fatal e) count none = refl
-none_counted (reads x rest) count none = absurd (none x rest refl)
+none_counted r count none = grind arith
 
 -- as many are counted as come one after another, where none is read after them
 chain_counted : {A : Type 0} (g : List ℕ → Reading A)

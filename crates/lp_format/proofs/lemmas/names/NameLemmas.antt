@@ -14,8 +14,7 @@ use Rattle.lp_format.specs.laws.Meanings.{IsLogical, empty, plain, escape, other
 pub without_escapes_plain_byte : (known : List ℕ) (b : ℕ) (rest : List ℕ) → b ≢ backslash
     → without_escapes known (b ∷ rest) ≡ b ∷ without_escapes known rest
 unfolding without_escapes
-without_escapes_plain_byte known b [] h = refl
-without_escapes_plain_byte known b (c ∷ rest) h = rw (ne_eqb b backslash h) refl
+without_escapes_plain_byte known b rest h = grind (arith, ne_eqb)
 
 -- a known escape gives its second byte
 pub without_escapes_known : (known : List ℕ) (c : ℕ) (rest : List ℕ) → is_one_of known c ≡ true
@@ -42,23 +41,18 @@ escapable_backslash kind = refl
 
 -- the last byte of a longer text
 ends_cons : (b : ℕ) (xs : List ℕ) → 0 < length xs → ends_in_backslash (b ∷ xs) ≡ ends_in_backslash xs
-ends_cons b [] h = absurd (omega arith)
-ends_cons b (c ∷ xs) h = grind arith
+ends_cons b xs h = grind arith
 
 -- a spelled name that is not empty means a text that is not empty
 logical_nonempty : (kind : NameKind) (text : List ℕ) → 0 < length text → 0 < length (logical kind text)
 unfolding without_escapes
-logical_nonempty kind [] h = absurd (omega arith)
-logical_nonempty kind (b ∷ []) h = h
-logical_nonempty kind (b ∷ c ∷ rest) h = grind (arith, cases_Bool)
+logical_nonempty kind text h = grind (arith, cases_Bool)
 
 -- a byte before a text does not change whether it ends in a backslash
 logical_ends_cons : (kind : NameKind) (c : ℕ) (rest : List ℕ) → ends_in_backslash (logical kind rest) ≡ ends_in_backslash rest
     → ends_in_backslash (c ∷ logical kind rest) ≡ ends_in_backslash (c ∷ rest)
 unfolding without_escapes
-logical_ends_cons kind c [] h = refl
-logical_ends_cons kind c (d ∷ rest) h =
-    ends_cons c (logical kind (d ∷ rest)) (logical_nonempty kind (d ∷ rest) (omega arith)) ∙ h ∙ sym (ends_cons c (d ∷ rest) (omega arith))
+logical_ends_cons kind c rest h = grind (arith, ends_cons, logical_nonempty)
 
 -- a name ends in a backslash if its spelling does
 pub logical_ends : (kind : NameKind) (text : List ℕ) → ends_in_backslash (logical kind text) ≡ ends_in_backslash text

@@ -22,8 +22,7 @@ unsigned_len (d ∷ ds) tail numeral ends =
 
 -- digits without a sign have their value
 unsigned_value : (ds : List ℕ) → IsNumeral 10 ds → signed_digits_value 10 ds ≡ pos (digits_value 10 ds)
-unsigned_value [] numeral = absurd (omega arith)
-unsigned_value (d ∷ ds) numeral = grind (arith, digit_from_value, ne_eqb)
+unsigned_value ds numeral = grind (arith, digit_from_value, ne_eqb)
 
 -- an integer in range, as it is written: its length before what is no digit, its value, and that no space is at the start
 pub record Written (z : ℤ) : Type 0 where

@@ -113,11 +113,7 @@ read_line p =
 
 -- each part is what was written
 read_value_is : (v : Value (List ℕ)) → logical_value (read_value v) ≡ v
-read_value_is (integer z) = refl
-read_value_is (unsigned n) = refl
-read_value_is (float t) = refl
-read_value_is (string t) = ap string (without_escapes_escaped quotable t refl)
-read_value_is (boolean b) = refl
+read_value_is v = grind (arith, without_escapes_escaped)
 
 -- a tag by its texts
 read_tag_is : (t : Tag) → logical_tag (read_tag t) ≡ t
@@ -134,8 +130,7 @@ map_back there back same (x ∷ xs) = rw (same x, map_back there back same xs) r
 
 -- the tags, or none
 read_tags_are : (ts : List Tag) → map logical_tag (some_tags (read_tags ts)) ≡ ts
-read_tags_are [] = refl
-read_tags_are (t ∷ ts) = map_back read_tag logical_tag read_tag_is (t ∷ ts)
+read_tags_are ts = grind (arith, map_back, read_tag_is)
 
 -- the point of the line is this one
 pub read_line_is : (p : Point) → point_of (read_line p) ≡ p

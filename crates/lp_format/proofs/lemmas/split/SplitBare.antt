@@ -23,8 +23,7 @@ odd-suc n = grind (arith, nat_tests)
 
 -- one more backslash turns the parity of a run, and another byte ends it
 run-push : (b n : ℕ) (t : Bool) → eqb (cond t (1 + n) 0 % 2) 1 ≡ cond t (not (eqb (n % 2) 1)) false
-run-push b n true = odd-suc n
-run-push b n false = refl
+run-push b n t = grind (arith, odd-suc)
 
 -- after a byte something is escaped if that byte is a bare backslash
 pub is_escaped-push : (front : List ℕ) (b : ℕ)
@@ -335,8 +334,7 @@ ends_quoted (opened piece counted quoted h o q) = opening piece counted quoted (
 
 -- a newline that is a cut is in no piece
 cut_ends : (piece rest : List ℕ) → IsClosed piece → IsBareAfter piece → run in_head (bare (piece ++ newline ∷ rest)) ≡ ended
-cut_ends piece rest (inl h) i = grind (arith, run-around, run_head, run-ended)
-cut_ends piece rest (inr h) i = grind (arith, run-around, ends_plain, run-ended)
+cut_ends piece rest h i = grind (arith, run-around, run_head, run-ended, ends_plain)
 
 -- a piece that ends before a newline is no beginning of a longer one
 pub cut_not_within : (piece rest : List ℕ) → IsClosed piece → IsBareAfter piece → IsClosed (piece ++ newline ∷ rest)

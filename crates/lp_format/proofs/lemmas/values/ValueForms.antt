@@ -1,6 +1,6 @@
 -- The first bytes of a value decide its form; strings at the start of a text.
 use Rattle.std.proofs.Common.{◌≡◌, ◌≢◌, ℕ, ◌<◌, List, [], ◌∷◌, length, take, drop, get_or, slice_index, true, false, refl, ap, ◌∙◌}
-use Rattle.std.proofs.Common.{arith, zero-add, ◌⊎◌, ◌≤◌, sym, inl, inr}
+use Rattle.std.proofs.Common.{arith, zero-add, ◌⊎◌, ◌≤◌}
 use Rattle.std.specs.Prelude.{◌==◌, nat_lt, ◌||◌}
 use Rattle.std.proofs.lemmas.Bool.{and_parts, eq-eqb, eqb-true, ne_eqb, lt-ltb, ltb-true, false_from_ne_true, cases_eq, eqb-false}
 use Rattle.std.proofs.lemmas.Bool.{or_parts}
@@ -12,7 +12,7 @@ use Rattle.lp_format.specs.format.Bytes.{quote}
 use Rattle.lp_format.specs.format.Escapes.{first_bare, is_bare_at}
 use Rattle.lp_format.specs.format.Lines.{byte}
 use Rattle.lp_format.specs.format.Names.{read_text}
-use Rattle.lp_format.specs.format.Readings.{miss, reads, Reading, Text, fatal, ◌otherwise◌}
+use Rattle.lp_format.specs.format.Readings.{miss, reads, Reading, Text, ◌otherwise◌}
 use Rattle.lp_format.specs.format.Values.{quotable, body_len, string, string_at, Value, value, integer_at, unsigned_at, float_at}
 use Rattle.lp_format.specs.format.Values.{boolean_at, integer_len, longer_front, true_words, false_words}
 use Rattle.lp_format.proofs.lemmas.values.ValueLemmas.{byte_at_drop, after_byte, boolean_misses, digits_no_more, digits_of_minus}
@@ -25,14 +25,12 @@ use Rattle.std.proofs.lemmas.Bool.Decides.{nat_tests}
 
 -- where a byte misses, the text does not begin with it
 pub byte_missing : (b : ℕ) (text : List ℕ) → byte b text ≡ miss → (rest : List ℕ) → text ≢ b ∷ rest
-byte_missing b [] none rest e = cc
-byte_missing b (c ∷ cs) none rest e = grind (arith, eq-eqb)
+byte_missing b text none rest e = grind (arith, eq-eqb)
 
 -- the outcomes of a string
 pub string_misses : (text : List ℕ) → ((after : List ℕ) → text ≢ quote ∷ after) → string_at text ≡ miss
 unfolding string_at
-string_misses [] other = refl
-string_misses (b ∷ after) other = rw (ne_eqb b quote (λ e. other after (ap (λ x. x ∷ after) e))) refl
+string_misses text other = grind (arith, ne_eqb)
 
 -- a body that ends before the text does ends in a quote
 closing_quote : (after : List ℕ) → body_len after < length after → slice_index after (body_len after) ≡ quote
@@ -76,18 +74,11 @@ unsigned_is text some no_i mark plain = grind (arith, digits_of_plain, unsigned_
 pub float_is : (text : List ℕ) → slice_index text (integer_len text) ≢ 105
     → (slice_index text (integer_len text) ≢ 117) ⊎ (slice_index text 0 ≡ 45)
     → (integer_at text otherwise unsigned_at text otherwise float_at text) ≡ float_at text
-float_is text no_i (inl no_u) =
-    rw (integer_unmarked text no_i) (elim (cases_eq (slice_index text 0) 45) [
-      | inl minus ↦ rw (unsigned_misses text (digits_of_minus text minus)) refl
-      | inr plain ↦ rw (unsigned_unmarked text (λ mark. no_u (rw (digits_of_plain text plain) at mark))) refl
-    ])
-float_is text no_i (inr minus) = rw (integer_unmarked text no_i, unsigned_misses text (digits_of_minus text minus)) refl
+float_is text no_i minus = grind (arith, integer_unmarked, cases_eq, unsigned_misses, digits_of_minus, unsigned_unmarked, digits_of_plain)
 
 -- a miss after a reading changes nothing
 otherwise_miss : (r : Reading (Value Text)) → (r otherwise miss) ≡ r
-otherwise_miss miss = refl
-otherwise_miss (fatal fault) = refl
-otherwise_miss (reads v rest) = refl
+otherwise_miss r = grind arith
 
 -- a digit or `-` is neither a quote nor a letter
 number_byte : (b : ℕ) → (is_ascii_digit b || b == 45) ≡ true → (45 ≤ b) × (b ≤ 57)
@@ -100,8 +91,7 @@ no_integer (b ∷ rest) other = grind (arith, or_parts, ne_eqb, eqb-false)
 
 -- a word that begins with another byte is not at the start
 word_misses : (text word : List ℕ) (n w : ℕ) → slice_index text 0 ≢ w → longer_front text n (w ∷ word) ≡ n
-word_misses [] word n w other = refl
-word_misses (b ∷ rest) word n w other = rw (ne_eqb w b (λ e. absurd (other (sym e)))) refl
+word_misses text word n w other = grind (arith, ne_eqb)
 
 -- no Boolean is at the start of a text that begins with a byte below the letters
 no_boolean : (text : List ℕ) → slice_index text 0 < 70

@@ -1,7 +1,7 @@
 -- Numbers at the start of a text.
 use Rattle.std.proofs.Common.{◌≡◌, ◌≢◌, ℕ, zero, suc, ◌+◌, ◌-◌, ◌^◌, ◌<◌, ◌≤◌, List, [], ◌∷◌, length, take, drop, get_or, Bool, slice_index}
 use Rattle.std.proofs.Common.{true, false, refl, ap, subst, arith, inl, inr, add-zero, zero-add, one-add}
-use Rattle.std.specs.Prelude.{◌==◌, ◌&&◌, not, if◌then◌else◌, IsUtf8, IsCharBoundary, ℤ, pos, negsuc, FitsSigned, leb}
+use Rattle.std.specs.Prelude.{◌==◌, ◌&&◌, not, if◌then◌else◌, IsUtf8, IsCharBoundary, ℤ, FitsSigned}
 use Rattle.std.specs.Char.{is_ascii_digit, digit_value}
 use Rattle.std.specs.Int.{w64}
 use Rattle.std.specs.Str.Parse.{AllDigits, IsNumeral, digits_value, signed_digits_value}
@@ -35,13 +35,11 @@ all_digits (b ∷ text) =
 
 -- what fits an i64, by its test
 pub fits_from_test : (z : ℤ) → fits_i64 z ≡ true → FitsSigned w64 z
-fits_from_test (pos n) h = record { sfits = ltb-true n (2 ^ 63) h }
-fits_from_test (negsuc n) h = grind (arith, leb-true, and_parts)
+fits_from_test z h = grind (arith, ltb-true, leb-true, and_parts)
 
 -- the test says yes of an integer that fits an i64
 pub test_from_fits : (z : ℤ) → FitsSigned w64 z → fits_i64 z ≡ true
-test_from_fits (pos n) h = lt-ltb n (2 ^ 63) h.sfits
-test_from_fits (negsuc n) h = and_from (leb n 9223372036854775807) true (le-leb n 9223372036854775807 (omega (arith, h.sfits))) refl
+test_from_fits z h = grind (arith, lt-ltb, and_from, le-leb)
 
 -- after digits a text may be cut
 pub digits_boundary : (text : List ℕ) (sign d : ℕ) → IsUtf8 text → d ≡ digits_len (drop sign text) → 0 < d → IsCharBoundary text (sign + d)
