@@ -19,6 +19,7 @@ use Rattle.std.proofs.lemmas.Slice.{drop-put_mid, take-put_mid}
 use borrow.Rule.Slice.PartMut.{put_mid, same_len_mid}
 use Rattle.lp_scan.specs.code.Lanes.{IsRunAt}
 use Rattle.lp_values.proofs.lemmas.tokens.WalkLemmas.{run_is_plain}
+use Rattle.std.proofs.lemmas.Bool.Decides.{nat_tests}
 
 -- a backslash ends no token
 pub backslash_goes_on : (kind : TokenKind) → stops_of kind backslash ≡ false
@@ -46,24 +47,18 @@ escape_alone : (known text : List ℕ) → is_one_escape known text ≡ true →
 unfolding without_escapes
 escape_alone known [] h = cc
 escape_alone known (b ∷ []) h = cc
-escape_alone known (b ∷ c ∷ []) h =
-    let parts = and_parts (b == backslash) (is_one_of known c) h in
-    rw (parts.0, parts.1) refl
+escape_alone known (b ∷ c ∷ []) h = grind (arith, nat_tests, and_parts)
 escape_alone known (b ∷ c ∷ d ∷ rest) h = cc
 
 -- a text that is one known escape is read as a part of it
 pub read_escape : (known text part : List ℕ) → is_one_escape known text ≡ true → part ≡ drop 1 text
     → let x : Text = record { bytes = part; is_single = true } in x ≡ read_text known text
-read_escape known text part one e =
-    same_text part (without_escapes known text) true (is_shared known text) (e ∙ escape_alone known text one) (sym (rw one refl))
+read_escape known text part one e = grind (arith, nat_tests, same_text, escape_alone)
 
 -- a text without a backslash is read as itself
 pub read_plain : (known text part : List ℕ) → is_one_of text backslash ≡ false → part ≡ text
     → let x : Text = record { bytes = part; is_single = true } in x ≡ read_text known text
-read_plain known text part none e =
-    same_text part (without_escapes known text) true (is_shared known text)
-    (e ∙ sym (without_escapes_same known text (no_backslash text none)))
-    (sym (rw none (or_right (is_one_escape known text) true refl)))
+read_plain known text part none e = grind (arith, nat_tests, same_text, without_escapes_same, no_backslash, or_right)
 
 -- a backslash may be escaped in each kind of token
 backslash_is_known : (kind : TokenKind) → is_one_of (known_of kind) backslash ≡ true
@@ -75,10 +70,7 @@ backslash_is_known String = refl
 
 -- a byte that may not be escaped is no backslash
 other_byte : (kind : TokenKind) (c : ℕ) → is_one_of (known_of kind) c ≡ false → (c == backslash) ≡ false
-other_byte kind c h = elim (cases_Bool (c == backslash)) [
-  | inr other ↦ other
-  | inl same ↦ absurd (let e = eqb-true c backslash same in let k = backslash_is_known kind in let l = rw e at h in cc)
-]
+other_byte kind c h = grind (arith, nat_tests, cases_Bool, eqb-true, backslash_is_known)
 
 -- a known escape stands for its second byte
 byte_of_escape : (kind : TokenKind) (text : List ℕ)
@@ -86,13 +78,8 @@ byte_of_escape : (kind : TokenKind) (text : List ℕ)
     → without_escapes (known_of kind) text ≡ slice_index text 1 ∷ without_escapes (known_of kind) (drop 2 text)
 unfolding without_escapes
 byte_of_escape kind [] h = cc
-byte_of_escape kind (b ∷ []) h =
-    let parts = and_parts (b == backslash) (is_one_of (known_of kind) 0) h in
-    let none = zero_is_not_known kind in
-    absurd (let k = parts.1 in cc)
-byte_of_escape kind (b ∷ c ∷ text) h =
-    let parts = and_parts (b == backslash) (is_one_of (known_of kind) c) h in
-    rw (parts.0, parts.1) refl
+byte_of_escape kind (b ∷ []) h = grind (arith, nat_tests, and_parts, zero_is_not_known)
+byte_of_escape kind (b ∷ c ∷ text) h = grind (arith, nat_tests, and_parts)
 
 -- a byte that is no backslash stands for itself
 plain_byte : (known : List ℕ) (c : ℕ) (text : List ℕ) → (c == backslash) ≡ false
@@ -115,13 +102,7 @@ byte_itself : (kind : TokenKind) (b : ℕ) (text : List ℕ)
     → without_escapes (known_of kind) (b ∷ text) ≡ b ∷ without_escapes (known_of kind) text
 unfolding without_escapes
 byte_itself kind b [] h = refl
-byte_itself kind b (c ∷ text) h = elim (cases_Bool (b == backslash)) [
-  | inr other ↦ rw other refl
-  | inl slash ↦ (
-      let unknown : is_one_of (known_of kind) c ≡ false = rw slash at h in
-      rw (plain_byte (known_of kind) c text (other_byte kind c unknown), slash, unknown) refl
-      )
-]
+byte_itself kind b (c ∷ text) h = grind (arith, nat_tests, cases_Bool, plain_byte, other_byte)
 
 -- so does the first byte of a text
 byte_of_itself : (kind : TokenKind) (text : List ℕ) → 0 < length text
@@ -133,9 +114,7 @@ byte_of_itself kind (b ∷ text) some h = byte_itself kind b text h
 -- a byte of a text from a place on, and what comes after it
 from_place : (known text : List ℕ) (at n : ℕ) → slice_index (drop at text) n ∷ without_escapes known (drop (n + 1) (drop at text))
     ≡ slice_index text (at + n) ∷ without_escapes known (drop (at + n + 1) text)
-from_place known text at n =
-    ap₂ (λ (b : ℕ) (l : List ℕ). b ∷ without_escapes known l) (get_or-drop at text n 0)
-    (drop-drop (n + 1) at text ∙ ap (λ (k : ℕ). drop k text) (omega arith))
+from_place known text at n = grind (arith, nat_tests, get_or-drop, drop-drop)
 
 -- from the place of a known escape on, the logical text begins with its second byte
 pub escape_at : (kind : TokenKind) (text : List ℕ) (at : ℕ)
@@ -190,16 +169,7 @@ pub record IsPut (whole left start to : List ℕ) (place : ℕ) : Type 0 where
 -- there is room for the next stretch
 pub room_left : (whole left start to stretch after : List ℕ) (place : ℕ) → IsPut whole left start to place → length whole ≤ length start
     → left ≡ stretch ++ after → place + length stretch ≤ length to
-room_left whole left start to stretch after place was fits parts =
-    omega (
-      arith,
-      ap length was.front,
-      ap length parts,
-      length-append (take place to) left,
-      length-append stretch after,
-      length-take-le place to was.within,
-      was.len,
-    )
+room_left whole left start to stretch after place was fits parts = grind (arith, nat_tests, length-append, length-take-le)
 
 -- so it is put
 pub stretch_put : (whole left start to stretch after new : List ℕ) (place k : ℕ) → IsPut whole left start to place
@@ -220,10 +190,7 @@ stretch_put whole left start to stretch after new place k was parts room as_long
 
 -- once nothing is left, the whole is put
 pub whole_put : (whole start to : List ℕ) (place : ℕ) → IsPut whole [] start to place → to ≡ whole ++ drop (length whole) start
-whole_put whole start to place was =
-    let front : take place to ≡ whole = sym (append-nil (take place to)) ∙ was.front in
-    let len : length whole ≡ place = omega (arith, ap length front, length-take-le place to was.within) in
-    sym (take-append-drop place to) ∙ ap₂ (λ (a b : List ℕ). a ++ b) front (was.back ∙ ap (λ (k : ℕ). drop k start) (sym len))
+whole_put whole start to place was = grind (arith, nat_tests, append-nil, length-take-le, take-append-drop)
 
 -- two texts that begin with the same stretch are the same if the others are
 pub same_after : (stretch xs ys : List ℕ) → bytes_eq (stretch ++ xs) (stretch ++ ys) ≡ bytes_eq xs ys
@@ -232,10 +199,7 @@ same_after (b ∷ stretch) xs ys = rw (eq-eqb b b refl) (same_after stretch xs y
 
 -- a text that does not begin with a stretch is none that does
 pub other_front : (stretch xs ys : List ℕ) → ((rest : List ℕ) → ys ≢ stretch ++ rest) → bytes_eq (stretch ++ xs) ys ≡ false
-other_front stretch xs ys other = elim (cases_Bool (bytes_eq (stretch ++ xs) ys)) [
-  | inl same ↦ absurd (other xs (sym ((bytes_eq-Decides (stretch ++ xs) ys).0 same)))
-  | inr differs ↦ differs
-]
+other_front stretch xs ys other = grind (arith, nat_tests, cases_Bool, bytes_eq-Decides)
 
 -- an empty text is the same as a text without bytes
 pub nothing_same : (ys : List ℕ) → bytes_eq [] ys ≡ (length ys == 0)
