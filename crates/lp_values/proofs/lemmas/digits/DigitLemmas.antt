@@ -25,7 +25,6 @@ use Rattle.lp_format.specs.format.Bytes.{newline}
 use Rattle.std.proofs.lemmas.List.FromFn.{get_or-range_with_len}
 use lib.Dec.{T, ltb}
 use mir.Val.{zeroes}
-use Rattle.std.proofs.lemmas.Bool.Decides.{nat_tests}
 
 -- two tests that agree on each item pass fronts of one length
 prefix_same : (p q : ℕ → Bool) (xs : List ℕ) → ((k : ℕ) → k < length xs → p (get_or xs k 0) ≡ q (get_or xs k 0))
@@ -94,7 +93,7 @@ four_more n [] some digits = absurd (omega arith)
 four_more n (a ∷ []) some digits = absurd (omega arith)
 four_more n (a ∷ (b ∷ [])) some digits = absurd (omega arith)
 four_more n (a ∷ (b ∷ (c ∷ []))) some digits = absurd (omega arith)
-four_more n (a ∷ (b ∷ (c ∷ (d ∷ ds)))) some (va, (vb, (vc, (vd, rest)))) = grind (arith, nat_tests, digit_is, digit_from_value)
+four_more n (a ∷ (b ∷ (c ∷ (d ∷ ds)))) some (va, (vb, (vc, (vd, rest)))) = grind (arith, digit_is, digit_from_value)
 
 -- so the number so far is no greater than the whole one
 pub four_fit : (n : ℕ) (ds : List ℕ) → 4 ≤ length ds → AllDigits 10 ds → with_four n ds ≤ digits_value_after 10 n ds
@@ -102,7 +101,7 @@ four_fit n ds some digits = omega (arith, (four_more n ds some digits).1, after_
 
 -- what at most 19 digits write fits a u64
 pub few_fit : (ds : List ℕ) → AllDigits 10 ds → length ds ≤ 19 → digits_value 10 ds < 2 ^ 64
-few_fit ds digits few = grind (arith, nat_tests, digits_value-lt, pow-le-pow_right)
+few_fit ds digits few = grind (arith, digits_value-lt, pow-le-pow_right)
 
 -- what the first digit of each four is worth, by eights
 abbrev pub firsts : ℕ → List ℕ
@@ -172,7 +171,7 @@ two_and_two (a ∷ (b ∷ (c ∷ (d ∷ (f ∷ gs))))) e = absurd (omega (arith,
 pub by_groups : (ds : List ℕ) → AreGroups 4 ds
     → ((get_or (groups ds) 0 0 * 10000 + get_or (groups ds) 1 0) * 100000000 + (get_or (groups ds) 2 0 * 10000 + get_or (groups ds) 3 0)
     ≡ number_from_digits 10 ds) × (number_from_digits 10 ds < 10 ^ 16)
-by_groups ds are = grind (arith, nat_tests, number_lt, two_and_two)
+by_groups ds are = grind (arith, number_lt, two_and_two)
 
 -- zeros before the digits change no number
 zeros_before : (k : ℕ) (ds : List ℕ) → number_from_digits 10 (replicate k 0 ++ ds) ≡ number_from_digits 10 ds
@@ -187,12 +186,12 @@ zeros_below (suc k) ds small = (omega arith, zeros_below k ds small)
 -- the lanes of digits that were moved to the end are digits
 pub moved_below : (k n : ℕ) (bytes lanes moved : List ℕ) → moved ≡ replicate k 0 ++ take n lanes
     → take n lanes ≡ map digit_value (take n bytes) → AllDigits 10 (take n bytes) → AllBelowBase 10 moved
-moved_below k n bytes lanes moved is are digits = grind (arith, nat_tests, all_below_base_from_digits, replicate, zeros_below)
+moved_below k n bytes lanes moved is are digits = grind (arith, all_below_base_from_digits, replicate, zeros_below)
 
 -- and their number is what the bytes write
 pub moved_number : (k n : ℕ) (bytes lanes moved : List ℕ) → moved ≡ replicate k 0 ++ take n lanes
     → take n lanes ≡ map digit_value (take n bytes) → number_from_digits 10 moved ≡ digits_value 10 (take n bytes)
-moved_number k n bytes lanes moved is are = grind (arith, nat_tests, replicate, zeros_before, digits_value_is)
+moved_number k n bytes lanes moved is are = grind (arith, replicate, zeros_before, digits_value_is)
 
 -- a byte less the code of zero is the value of its digit
 less_zero : (ds : List ℕ) → AllDigits 10 ds → map (λ b. (b + (2 ^ 8 - 48)) % 2 ^ 8) ds ≡ map digit_value ds
