@@ -13,10 +13,10 @@ ghost use Rattle.lp_split.specs.code.Rules.{rules_of};
 ghost use Rattle.lp_lines.specs.code.Filling.{FillsAnswer, KeepsRooms, NeedsRoom, Puts, fields_so_far, tags_so_far};
 ghost use Rattle.lp_lines.specs.code.Parsed.{field_of, tag_of};
 
+use crate::freeing::refused;
 use crate::{FieldSet, ParsedLine, TagSet};
 use lp_events::{EventSink, read_line_events};
 use lp_split::Dialect;
-use lp_values::error::refused;
 use lp_values::{FieldValue, Spelled, SpelledFault, SpelledValue};
 use std::alloc::Global;
 

@@ -55,6 +55,7 @@ pub fn escapes_next(backslashes: u64) -> usize
 
 /// The lowest `n` bits.
 #[inline(always)]
+#[tactic(auto, using(crate::proofs::lemmas::scan::MaskBits::below_is))]
 pub fn lowest(mask: u64, n: usize) -> u64
     requires { n ≤ WIDE }
     ensures { result ≡ mask % 2 ^ n }

@@ -115,15 +115,3 @@ impl<T: Drop> From<AllocFailed<T>> for Error {
         Error::OutOfMemory
     }
 }
-
-/// Lets go of what was read, where memory for more of it was refused.
-///
-/// Few lines need it, and it is called apart, so that no drop is where a field is read: its looks at single bytes of
-/// a value would have the compiler carry each value in small pieces.
-#[cold]
-#[inline(never)]
-pub fn refused<T: Drop>(_read: T) -> Error
-    ensures { result ≡ Error.OutOfMemory }
-{
-    Error::OutOfMemory
-}

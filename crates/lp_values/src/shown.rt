@@ -1,8 +1,7 @@
 //! Display of values, and the texts of tokens with their backslashes.
 
-ghost use Rattle.std.specs.Prelude.{◌≡◌, Some};
+ghost use Rattle.std.specs.Prelude.{Some};
 ghost use Rattle.std.specs.Fmt.{DisplaysOnOk};
-ghost use Rattle.lp_format.specs.format.Bytes.{is_one_of};
 ghost use Rattle.lp_format.specs.format.Escapes.{escaped};
 ghost use Rattle.lp_scan.specs.code.Tokens.{known_of};
 ghost use Rattle.lp_format.specs.code.Shown.{shown_escapes};
@@ -10,13 +9,6 @@ ghost use Rattle.lp_format.specs.code.Shown.{shown_escapes};
 use crate::FieldValue;
 use lp_scan::sets::TokenKind;
 use std::fmt;
-
-// Whether a byte of a token is shown with a backslash: one that a backslash escapes, but for the backslash.
-fn gets_backslash(kind: TokenKind, byte: u8) -> bool
-    ensures { result ≡ is_one_of (shown_escapes (known_of kind)) byte }
-{
-    byte != b'\\' && kind.is_known(byte)
-}
 
 /// Writes `text` with its backslashes. What is between two of them is written as one run.
 pub fn show_escaped<W: fmt::Write>(
@@ -29,7 +21,8 @@ pub fn show_escaped<W: fmt::Write>(
     let bytes = text.as_bytes();
     let mut start = 0;
     for at in 0..bytes.len() {
-        if gets_backslash(kind, bytes[at]) {
+        // The bytes that a backslash escapes get one, but for the backslash.
+        if bytes[at] != b'\\' && kind.is_known(bytes[at]) {
             f.write_str(&text[start..at])?;
             f.write_str("\\")?;
             start = at;

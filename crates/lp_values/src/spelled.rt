@@ -1,63 +1,16 @@
 //! Names, strings, values and faults as they are spelled in the input, with no memory.
 
-ghost use Rattle.std.specs.Prelude.{◌≡◌, ◌≤◌, ◌+◌, ◌++◌, true, drop, length, not, take, IfOk, IsOk};
+ghost use Rattle.std.specs.Prelude.{◌≡◌, ◌≤◌, ◌+◌, ◌++◌, true, drop, length, not, IfOk, IsOk};
 ghost use Rattle.std.specs.Str.{bytes_eq};
 ghost use Rattle.lp_format.specs.format.Bytes.{backslash, is_one_of};
-ghost use Rattle.lp_format.specs.format.Escapes.{without_escapes};
-ghost use Rattle.lp_scan.specs.code.Tokens.{known_of};
 ghost use Rattle.lp_values.specs.code.SpelledParts.{spelled_text, spelling_of};
 ghost use Rattle.lp_values.specs.code.Texts.{read_of};
 
 use crate::error::{Error, ErrorKind, OutOfRange};
 use crate::escaped::EscapedStr;
 use crate::literals::FloatText;
-use crate::tokens::{RawToken, escaped_str, stretch_at};
-use lp_scan::sets::TokenKind;
+use crate::tokens::{RawToken, stretch_at, unescaped};
 use std::alloc::{AllocError, Global};
-
-// Whether the logical text of a spelling is `other`, stretch by stretch.
-fn reads_as(kind: TokenKind, spelling: &[u8], other: &[u8]) -> bool
-    ensures { result ≡ bytes_eq (without_escapes (known_of kind) spelling.now) other.now }
-{
-    let mut at = 0;
-    let mut left = other;
-    while at < spelling.len() {
-        let (from, end) = stretch_at(kind, spelling, at);
-        let Some(others) = left.strip_prefix(&spelling[from..end]) else {
-            return false;
-        };
-        at = end;
-        left = others;
-    }
-    left.is_empty()
-}
-
-// Puts bytes into `to` from `place` on.
-#[inline(always)]
-fn put_run(run: &[u8], to: &mut [u8], place: usize)
-    requires { place + length run.now ≤ length to.old }
-    ensures { to.new ≡ take place to.old ++ run.now ++ drop (place + length run.now) to.old }
-{
-    let (_, rest) = to.split_at_mut(place);
-    let (front, _) = rest.split_at_mut(run.len());
-    front.copy_from_slice(run);
-}
-
-/// Puts the logical text of a spelling to the front of `to`, stretch by stretch.
-pub fn put_front(kind: TokenKind, spelling: &[u8], to: &mut [u8])
-    requires { length (without_escapes (known_of kind) spelling.now) ≤ length to.old }
-    ensures { to.new ≡ without_escapes (known_of kind) spelling.now
-        ++ drop (length (without_escapes (known_of kind) spelling.now)) to.old }
-{
-    let mut place = 0;
-    let mut at = 0;
-    while at < spelling.len() {
-        let (from, end) = stretch_at(kind, spelling, at);
-        put_run(&spelling[from..end], to, place);
-        place += end - from;
-        at = end;
-    }
-}
 
 /// A name or a string as it is spelled in the input, with its escapes.
 ///
@@ -114,11 +67,17 @@ impl<'a> Spelled<'a> {
     pub fn eq_text(&self, other: &str) -> bool
         ensures { result ≡ bytes_eq (spelled_text self.now).bytes other.now }
     {
-        reads_as(
-            self.token.kind,
-            self.token.text.as_bytes(),
-            other.as_bytes(),
-        )
+        let spelling = self.token.text.as_bytes();
+        let (mut at, mut left) = (0, other.as_bytes());
+        while at < spelling.len() {
+            let (from, end) = stretch_at(self.token.kind, spelling, at);
+            let Some(others) = left.strip_prefix(&spelling[from..end]) else {
+                return false;
+            };
+            at = end;
+            left = others;
+        }
+        left.is_empty()
     }
 
     /// Puts the logical text to the front of `to`, which has room for it. It takes no memory.
@@ -130,7 +89,15 @@ impl<'a> Spelled<'a> {
         requires { length (spelled_text self.now).bytes ≤ length to.old }
         ensures { to.new ≡ (spelled_text self.now).bytes ++ drop (length (spelled_text self.now).bytes) to.old }
     {
-        put_front(self.token.kind, self.token.text.as_bytes(), to);
+        let spelling = self.token.text.as_bytes();
+        let (mut at, mut place) = (0, 0);
+        while at < spelling.len() {
+            let (from, end) = stretch_at(self.token.kind, spelling, at);
+            let run = &spelling[from..end];
+            to[place..place + run.len()].copy_from_slice(run);
+            place += run.len();
+            at = end;
+        }
     }
 
     /// The logical text. Only a copy takes memory: one request, for just its length.
@@ -147,7 +114,11 @@ impl<'a> Spelled<'a> {
         ensures text { IfOk result (λ text. read_of text ≡ spelled_text self.now) }
         ensures no_memory { (spelled_text self.now).is_single ≡ true → IsOk result }
     {
-        escaped_str(alloc, self.token)
+        let token = self.token;
+        if token.is_plain {
+            return Ok(EscapedStr::SingleSlice(token.text));
+        }
+        unescaped(alloc, token.kind, token.text, token.len)
     }
 }
 

@@ -311,7 +311,7 @@ fn copy(alloc: Global, kind: TokenKind, spelled: &str, len: usize) -> Result<Str
 
 // The logical text of `text`, which holds a backslash, and takes `len` bytes without its escapes.
 #[inline(always)]
-fn unescaped<'a>(
+pub(crate) fn unescaped<'a>(
     alloc: Global,
     kind: TokenKind,
     text: &'a str,
@@ -326,16 +326,4 @@ fn unescaped<'a>(
     }
     let text = copy(alloc, kind, text, len)?;
     Ok(EscapedStr::CopiedValue(text))
-}
-
-/// The logical text of a token. Only a copy takes memory: one request, for just its length.
-#[inline(always)]
-pub fn escaped_str<'a>(alloc: Global, token: RawToken<'a>) -> Result<EscapedStr<'a>, AllocError>
-    ensures text { IfOk result (λ text. read_of text ≡ read_text (known_of token.entry.kind) token.entry.text.now) }
-    ensures no_memory { is_shared (known_of token.entry.kind) token.entry.text.now ≡ true → IsOk result }
-{
-    if token.is_plain {
-        return Ok(EscapedStr::SingleSlice(token.text));
-    }
-    unescaped(alloc, token.kind, token.text, token.len)
 }

@@ -36,8 +36,7 @@ left_of in_comment (b ∷ rest) =
 
 -- a line that goes on with what follows it
 join_first : (b : ℕ) (l : List ℕ) (ls : List (List ℕ)) → join_with_byte newline ((b ∷ l) ∷ ls) ≡ b ∷ join_with_byte newline (l ∷ ls)
-join_first b l [] = refl
-join_first b l (m ∷ ls) = refl
+join_first b l ls = grind arith
 
 module _ (b : ℕ) (l : List ℕ) (ls : List (List ℕ)) where
   -- a blank at the start changes nothing
@@ -132,19 +131,13 @@ left_inside text i lt other = rw (drop_more text i 0 lt, ne_eqb (slice_index tex
 -- a blank is skipped
 pub left_blank : (in_comment : Bool) (text : List ℕ) (i : ℕ) → i < length text
     → is_blank (slice_index text i) ≡ true → left_of in_comment (drop i text) ≡ left_of in_comment (drop (i + 1) text)
-left_blank true text i lt e = left_inside text i lt (λ n. grind (arith, common_steps))
-left_blank false text i lt e =
-    let no_newline : (slice_index text i == newline) ≡ false = grind (arith, common_steps) in
-    let no_hash : (slice_index text i == hash) ≡ false = grind (arith, common_steps) in
-    rw (drop_more text i 0 lt, no_newline, no_hash, e) refl
+left_blank in_comment text i lt e = grind (arith, left_inside, drop_more)
 
 -- what begins with another byte is kept
 pub left_kept : (text : List ℕ) (i : ℕ) → i < length text → slice_index text i ≢ newline → slice_index text i ≢ hash
     → slice_index text i ≢ space → slice_index text i ≢ tab
     → left_of false (drop i text) ≡ drop i text
-left_kept text i lt a b c d =
-    let no_blank : is_blank (slice_index text i) ≡ false = grind (arith, common_steps) in
-    rw (drop_more text i 0 lt, ne_eqb (slice_index text i) newline a, ne_eqb (slice_index text i) hash b, no_blank) refl
+left_kept text i lt a b c d = grind (arith, drop_more, ne_eqb)
 
 -- nothing is left after the last byte
 pub left_end : (in_comment : Bool) (text : List ℕ) (i : ℕ) → length text ≤ i → left_of in_comment (drop i text) ≡ []
@@ -222,8 +215,7 @@ skip_comment (b ∷ end) rest plain =
 
 -- at the end of a line a comment ends
 at_line_end : (text : List ℕ) → IsLineEnd text → left_of true text ≡ left_of false text
-at_line_end [] h = refl
-at_line_end (b ∷ text) h = rw h refl
+at_line_end text h = grind arith
 
 -- a blank is no `#`, and one that is no newline is a space or a tab
 white_forms : (b : ℕ) → is_white b → ((b == hash) ≡ false) × ((b == newline) ≡ false → is_blank b ≡ true)

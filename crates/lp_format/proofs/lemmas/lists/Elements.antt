@@ -1,5 +1,5 @@
 -- Elements of lists: the first one and the others.
-use Rattle.std.proofs.Common.{◌≡◌, ◌⊎◌, ℕ, zero, suc, ◌<◌, List, ◌∷◌, length, get_or, refl, inl, inr, arith}
+use Rattle.std.proofs.Common.{◌≡◌, ◌⊎◌, suc, List, ◌∷◌, refl, arith}
 use Rattle.std.specs.Prelude.{Contains}
 
 -- the first element of a list is one of it
@@ -12,9 +12,4 @@ later_element y x xs h = let at = h.1 in let is = h.2 in (suc h.0, omega arith, 
 
 -- an element is the first, or one of the others
 pub first_or_later : {X : Type 0} (y x : X) (xs : List X) → Contains (y ∷ xs) x → (y ≡ x) ⊎ Contains xs x
-first_or_later y x xs h = go h.0 h.1 h.2
-  where
-    -- an element at some place is the first or one of the others
-    go : (k : ℕ) → k < length (y ∷ xs) → get_or (y ∷ xs) k x ≡ x → (y ≡ x) ⊎ Contains xs x
-    go zero l is = inl is
-    go (suc k) l is = inr (k, omega arith, is)
+first_or_later y x xs h = grind arith

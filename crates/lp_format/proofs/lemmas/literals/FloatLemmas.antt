@@ -2,7 +2,7 @@
 use Rattle.std.proofs.Common.{◌≡◌, ◌≢◌, subst, if◌then◌else◌, ℕ, suc, ◌+◌, ◌-◌, Bool, ◌<◌, ◌≤◌, List, [], ◌∷◌, ◌++◌, length, take}
 use Rattle.std.proofs.Common.{drop, slice_index, get_or, true, false, refl, sym, ap, ◌∙◌, arith, inl, inr, one-add, zero-add}
 use Rattle.std.proofs.Common.{add-zero}
-use Rattle.std.specs.Prelude.{◌==◌, ◌&&◌, ◌||◌, codes, nat_lt, IsUtf8, IsCharBoundary}
+use Rattle.std.specs.Prelude.{◌==◌, ◌||◌, codes, IsUtf8, IsCharBoundary}
 use Rattle.std.specs.Char.{is_ascii_digit, digit_value}
 use Rattle.std.specs.Str.{IsAscii}
 use Rattle.std.specs.Str.Parse.{AllDigits, IsNumeral}
@@ -21,14 +21,12 @@ use Rattle.std.proofs.lemmas.Str.{IsCharBoundary-start, IsCharBoundary-from_take
 use Rattle.std.proofs.lemmas.Str.Parse.{digit_from_value}
 use Rattle.lp_format.specs.format.Readings.{miss, reads}
 use Rattle.lp_format.specs.format.Values.{value, IsFloat, IsMarked, IsSigned, float, float_at, digits_len, number_len, marked_len}
-use Rattle.lp_format.specs.format.Values.{integer_len, fraction_len, exponent_len, float_len, sign_len, unsigned_at}
+use Rattle.lp_format.specs.format.Values.{integer_len, fraction_len, exponent_len, float_len, unsigned_at}
 use Rattle.lp_format.proofs.lemmas.values.ValueLemmas.{front_numeral, digits_no_more, integer_unmarked, unsigned_unmarked}
 
 -- a digit passes the test
 pub digit_passes : (b : ℕ) → digit_value b < 10 → is_ascii_digit b ≡ true
-digit_passes b h =
-    let range = digit_from_value b h in
-    and_from _ _ (le-leb 48 b range.0) (le-leb b 57 range.1)
+digit_passes b h = grind (arith, digit_from_value, and_from, le-leb)
 
 -- digits take those after them too
 pub digits_before : (ds tail : List ℕ) → AllDigits 10 ds → digits_len (ds ++ tail) ≡ length ds + digits_len tail
@@ -38,21 +36,11 @@ digits_before (d ∷ ds) tail digits = rw (digit_passes d digits.0, digits_befor
 -- so does a sign or none, and digits
 pub signed_before : (signs text tail : List ℕ) → ((d : ℕ) → is_ascii_digit d ≡ true → is_one_of signs d ≡ false) → IsSigned signs text
     → number_len signs (text ++ tail) ≡ length text + digits_len tail
-signed_before signs [] tail apart never = absurd never
-signed_before signs (b ∷ ds) tail apart (inl signed) =
-    let some : (length ds + digits_len tail == 0) ≡ false = ne_eqb (length ds + digits_len tail) 0
-    (λ e. absurd (omega (arith, signed.1.0))) in
-    rw (signed.0, digits_before ds tail signed.1.1, some) (omega arith)
-signed_before signs (b ∷ ds) tail apart (inr numeral) =
-    let first = digit_passes b numeral.1.0 in
-    let some : (suc (length ds + digits_len tail) == 0) ≡ false = ne_eqb (suc (length ds + digits_len tail)) 0
-    (λ e. absurd (omega arith)) in
-    rw (apart b first, first, digits_before ds tail numeral.1.1, one-add, some) (omega arith)
+signed_before signs text tail apart never = grind (arith, ne_eqb, digits_before, digit_passes, one-add)
 
 -- a signed number has a byte
 pub signed_some : (signs text : List ℕ) → IsSigned signs text → 0 < length text
-signed_some signs [] never = absurd never
-signed_some signs (b ∷ ds) any = omega arith
+signed_some signs text never = grind arith
 
 -- and a mark with a part
 pub marked_before : (marks : List ℕ) (part : List ℕ → ℕ) (b : ℕ) (x tail : List ℕ) → is_one_of marks b ≡ true
@@ -78,11 +66,7 @@ mark_no_digit d h = (grind (arith, common_steps), grind (arith, common_steps))
 
 -- the longest float is no shorter than the integer at the start
 integer_or_more : (t : List ℕ) → integer_len t ≤ float_len t
-integer_or_more t =
-    elim (cases_Bool (integer_len t == 0)) [
-      | inl none ↦ omega (arith, eqb-true (integer_len t) 0 none)
-      | inr some ↦ rw some (omega arith)
-    ]
+integer_or_more t = grind (arith, cases_Bool, eqb-true)
 
 -- how many bytes a fraction and an exponent take
 abbrev tail_len : List ℕ → ℕ
@@ -114,11 +98,8 @@ tail_at_least : (fraction exponent rest : List ℕ) → IsMarked (codes ".") (Is
     → IsMarked (codes "eE") (IsSigned (codes "+-")) exponent
     → length fraction + length exponent ≤ tail_len (fraction ++ (exponent ++ rest))
 tail_at_least [] [] rest f e = omega arith
-tail_at_least [] (m ∷ x) rest f e =
-    let none : fraction_len (m ∷ (x ++ rest)) ≡ 0 = rw (mark_no_digit m e.0).1 refl in
-    rw none (omega (arith, exponent_at_least m x rest e))
-tail_at_least (p ∷ y) [] rest (point, digits) e =
-    omega (arith, marked_before (codes ".") digits_len p y rest point (digits_before y rest digits.1) digits.0)
+tail_at_least [] (m ∷ x) rest f e = grind (arith, mark_no_digit, exponent_at_least)
+tail_at_least (p ∷ y) [] rest (point, digits) e = grind (arith, marked_before, digits_before)
 tail_at_least (p ∷ y) (m ∷ x) rest (point, digits) e =
     let after = m ∷ (x ++ rest) in
     let fraction : fraction_len (p ∷ (y ++ after)) ≡ suc (length y) =
@@ -155,11 +136,7 @@ float_len_longest t n fits parts =
 
 -- a number takes no more than there is
 number_len_fits : (signs t : List ℕ) → number_len signs t ≤ length t
-number_len_fits signs t = fits_after (sign_len signs t)
-  where
-    -- a sign and the digits after it fit the text
-    fits_after : (sign : ℕ) → (if digits_len (drop sign t) == 0 then 0 else sign + digits_len (drop sign t)) ≤ length t
-    fits_after sign = grind (arith, nat_tests, prefix_len-le-length is_ascii_digit (drop sign t), length-drop sign t)
+number_len_fits signs t = grind (arith, prefix_len-le-length, length-drop)
 
 -- a number at the start of a text is a sign or none, and digits
 pub signed_front : (signs t : List ℕ) → 0 < number_len signs t → IsSigned signs (take (number_len signs t) t)
@@ -186,14 +163,7 @@ signed_front signs (b ∷ rest) some = elim (cases_Bool (is_one_of signs b)) [
 marked_front : (marks : List ℕ) (part : List ℕ → ℕ) (Part : List ℕ → Type 0) (t : List ℕ)
     → ((x : List ℕ) → 0 < part x → Part (take (part x) x))
     → IsMarked marks Part (take (marked_len marks part t) t)
-marked_front marks part Part [] of_part = rw (take-nil (marked_len marks part [])) tt
-marked_front marks part Part (b ∷ x) of_part =
-    elim (cases_Bool (is_one_of marks b && nat_lt 0 (part x))) [
-      | inl found ↦
-          let parts = and_parts (is_one_of marks b) (nat_lt 0 (part x)) found in
-          rw (found, one-add) (parts.0, of_part x (ltb-true 0 (part x) parts.1))
-      | inr none ↦ rw none tt
-    ]
+marked_front marks part Part t of_part = grind (arith, take-nil, cases_Bool, and_parts, one-add, ltb-true)
 
 -- the longest float at the start of a text is one
 pub float_len_float : (t : List ℕ) → 0 < float_len t → IsFloat (take (float_len t) t)
@@ -233,15 +203,12 @@ digits_float (d ∷ ds) all = rw (digit_passes d all.0, digits_float ds all.1) r
 -- and signed numbers
 signed_float : (signs text : List ℕ) → ((d : ℕ) → is_one_of signs d ≡ true → in_float d ≡ true) → IsSigned signs text
     → list_all in_float text ≡ true
-signed_float signs [] sign never = absurd never
-signed_float signs (b ∷ ds) sign (inl signed) = rw (sign b signed.0, digits_float ds signed.1.1) refl
-signed_float signs (b ∷ ds) sign (inr numeral) = digits_float (b ∷ ds) numeral.1
+signed_float signs text sign never = grind (arith, digits_float)
 
 -- and a mark with such a part
 marked_float : (marks : List ℕ) (Part : List ℕ → Type 0) (text : List ℕ) → ((d : ℕ) → is_one_of marks d ≡ true → in_float d ≡ true)
     → ((x : List ℕ) → Part x → list_all in_float x ≡ true) → IsMarked marks Part text → list_all in_float text ≡ true
-marked_float marks Part [] mark of_part marked = refl
-marked_float marks Part (b ∷ x) mark of_part marked = rw (mark b marked.0, of_part x marked.1) refl
+marked_float marks Part text mark of_part marked = grind arith
 
 -- each byte of a float is such a byte
 float_bytes : (t : List ℕ) → IsFloat t → AllPass in_float t
@@ -267,11 +234,7 @@ integer_len_fits t = number_len_fits (codes "-") t
 -- a mark and a part fit the text
 marked_len_fits : (marks : List ℕ) (part : List ℕ → ℕ) (t : List ℕ) → ((x : List ℕ) → part x ≤ length x)
     → marked_len marks part t ≤ length t
-marked_len_fits marks part t fits = go (is_one_of marks (slice_index t 0)) (part (drop 1 t)) (fits (drop 1 t))
-  where
-    -- a mark fits before a part that is not empty
-    go : (mark : Bool) (n : ℕ) → n ≤ length (drop 1 t) → (if mark && nat_lt 0 n then 1 + n else 0) ≤ length t
-    go mark n less = grind (arith, nat_tests, length-drop 1 t)
+marked_len_fits marks part t fits = grind (arith, length-drop)
 
 -- the longest float at the start of a text fits the text
 float_len_fits : (t : List ℕ) → float_len t ≤ length t
@@ -381,10 +344,7 @@ pub record FloatFront (text t rest : List ℕ) : Type 0 where
 
 -- a float has a whole part
 whole_of_float : (text : List ℕ) → 0 < float_len text → 0 < integer_len text
-whole_of_float text some = elim (cases_Bool (integer_len text == 0)) [
-  | inl none ↦ absurd (omega (arith, rw none at some))
-  | inr whole ↦ let apart = eqb-false (integer_len text) 0 whole in omega (arith, apart)
-]
+whole_of_float text some = grind (arith, cases_Bool, eqb-false)
 
 -- each float before the end, a comma or a space is at the start
 pub float_front : (t rest : List ℕ) → IsFloat t → Ends rest → FloatFront (t ++ rest) t rest
@@ -407,6 +367,4 @@ float_front t rest parts ends =
 -- a float reads back before the end, a comma or a space
 pub float_reads_back : (t rest : List ℕ) → IsFloat t → Ends rest → value (t ++ rest) ≡ reads (float t) rest
 unfolding value
-float_reads_back t rest parts ends =
-    let front = float_front t rest parts ends in
-    rw (integer_unmarked (t ++ rest) front.no_i, front.unsigned, front.reads_it) refl
+float_reads_back t rest parts ends = grind (arith, float_front, integer_unmarked)

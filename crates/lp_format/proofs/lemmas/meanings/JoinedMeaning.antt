@@ -1,7 +1,6 @@
 -- What is joined by commas is read as the most that are at the start.
-use Rattle.std.proofs.Common.{◌≡◌, ◌≢◌, ℕ, zero, suc, ◌<◌, ◌≤◌, List, [], ◌∷◌, ◌++◌, length, refl, sym, ap, ◌∙◌, subst, inl, inr}
+use Rattle.std.proofs.Common.{◌≡◌, ◌≢◌, ℕ, zero, suc, ◌<◌, ◌≤◌, List, [], ◌∷◌, ◌++◌, length, refl, sym, ap, ◌∙◌, subst}
 use Rattle.std.proofs.Common.{arith, length-append}
-use Rattle.std.specs.Prelude.{◌==◌}
 use Rattle.std.proofs.lemmas.Bool.{cases_Bool, eqb-true}
 use Rattle.lp_format.specs.format.Readings.{Fault, Reading, miss, fatal, reads}
 use Rattle.lp_format.specs.format.Lines.{after_comma, separated_list, many, prepend}
@@ -65,8 +64,7 @@ module _ {A : Type 0} where
 
   -- one more at the start
   ended_more : (x : A) (xs : List A) (rest : List ℕ) (r : Reading A) → prepend (x ∷ []) (ended xs rest r) ≡ ended (x ∷ xs) rest r
-  ended_more x xs rest (fatal e) = refl
-  ended_more x xs rest other = refl
+  ended_more x xs rest r = grind arith
 
   -- what is given for one and as many more, by what reads after them
   abbrev pub outcome : List A → List ℕ → Reading A → Reading (List A)
@@ -77,33 +75,23 @@ module _ {A : Type 0} where
   -- where values are given, none reads after them, and they are one or more
   outcome_reads : (xs ys : List A) (rest suffix : List ℕ) (r : Reading A) → GivesNone r → outcome xs rest r ≡ reads ys suffix
       → (xs ≡ ys) × (rest ≡ suffix) × (0 < length xs) × (r ≡ miss)
-  outcome_reads xs ys rest suffix (reads y after) none e = absurd (none y after refl)
-  outcome_reads (x ∷ xs) ys rest suffix miss none e = (cc, cc, omega arith, refl)
-  outcome_reads [] ys rest suffix other none e = absurd (cc)
-  outcome_reads (x ∷ xs) ys rest suffix other none e = absurd (cc)
+  outcome_reads xs ys rest suffix r none e = grind arith
 
   -- a fault is that of the next
   outcome_fatal : (xs : List A) (rest : List ℕ) (r : Reading A) (f : Fault) → outcome xs rest r ≡ fatal f → r ≡ fatal f
-  outcome_fatal [] rest (fatal d) f e = cc
-  outcome_fatal (x ∷ xs) rest (fatal d) f e = cc
-  outcome_fatal xs rest other f e = absurd (cc)
+  outcome_fatal xs rest r f e = grind arith
 
   -- a miss is that of the first
   outcome_miss : (xs : List A) (rest : List ℕ) (r : Reading A) → GivesNone r → outcome xs rest r ≡ miss → (xs ≡ []) × (r ≡ miss)
-  outcome_miss xs rest (reads y after) none e = absurd (none y after refl)
-  outcome_miss [] rest miss none e = (refl, refl)
-  outcome_miss [] rest other none e = absurd (cc)
-  outcome_miss (x ∷ xs) rest other none e = absurd (cc)
+  outcome_miss xs rest r none e = grind arith
 
   -- one or more values after which the next misses
   outcome_is_reads : (xs : List A) (rest : List ℕ) → 0 < length xs → outcome xs rest miss ≡ reads xs rest
-  outcome_is_reads [] rest h = absurd (omega arith)
-  outcome_is_reads (x ∷ xs) rest h = refl
+  outcome_is_reads xs rest h = grind arith
 
   -- values after which the next has a fault
   outcome_is_fatal : (xs : List A) (rest : List ℕ) (e : Fault) → outcome xs rest (fatal e) ≡ fatal e
-  outcome_is_fatal [] rest e = refl
-  outcome_is_fatal (x ∷ xs) rest e = refl
+  outcome_is_fatal xs rest e = grind arith
 
   -- what is read by as many as are at the start
   record Tail (g : List ℕ → Reading A) (n : ℕ) (text : List ℕ) : Type 0 where
@@ -151,16 +139,7 @@ module _ {A : Type 0} where
   -- a comma, and one after it
   after_parts : (one : List ℕ → Reading A) (text : List ℕ) (r : Reading A) → after_comma one text ≡ r → r ≢ miss
       → (suffix : List ℕ) × (text ≡ 44 ∷ suffix) × (one suffix ≡ r)
-  after_parts one [] r e some = absurd (some (sym e))
-  after_parts one (b ∷ suffix) r e some =
-      elim (cases_Bool (b == 44)) [
-        | inl comma ↦ (
-          suffix,
-          ap (λ (c : ℕ). c ∷ suffix) (eqb-true b 44 comma),
-          sym (after_whole one (b ∷ suffix) suffix (ap (λ (c : ℕ). c ∷ suffix) (eqb-true b 44 comma))) ∙ e,
-        )
-        | inr differs ↦ absurd (some (sym (rw differs at e)))
-      ]
+  after_parts one text r e some = grind (arith, cases_Bool, eqb-true, after_whole)
 
   -- the two ways to say what is there
   from_after : (one : List ℕ → Reading A) (xs : List A) (text rest : List ℕ) → SeparatedAfterComma one xs text rest
@@ -179,26 +158,22 @@ module _ {A : Type 0} where
   -- with the first
   from_separated : (one : List ℕ → Reading A) (xs : List A) (text rest : List ℕ) → SeparatedBy one xs text rest
       → Chain one (after_comma one) xs text rest
-  from_separated one [] text rest h = h
-  from_separated one (x ∷ xs) text rest h = (h.0, h.1, from_after one xs h.0 rest h.2)
+  from_separated one xs text rest h = grind (arith, from_after)
 
   -- and back
   to_separated : (one : List ℕ → Reading A) (xs : List A) (text rest : List ℕ)
       → Chain one (after_comma one) xs text rest → SeparatedBy one xs text rest
-  to_separated one [] text rest h = h
-  to_separated one (x ∷ xs) text rest h = (h.0, h.1, to_after one xs h.0 rest h.2)
+  to_separated one xs text rest h = grind (arith, to_after)
 
   -- the two ways to say that the next has a fault
   from_fault : (one : List ℕ → Reading A) (xs : List A) (rest : List ℕ) (e : Fault) → NextHasFault one xs rest e
       → next one (after_comma one) xs rest ≡ fatal e
-  from_fault one [] rest e h = h
-  from_fault one (x ∷ xs) rest e h = next_same (after_comma one) xs rest ∙ after_whole one rest h.0 h.1 ∙ h.2
+  from_fault one xs rest e h = grind (arith, next_same, after_whole)
 
   -- and back
   to_fault : (one : List ℕ → Reading A) (xs : List A) (rest : List ℕ) (e : Fault) → next one (after_comma one) xs rest ≡ fatal e
       → NextHasFault one xs rest e
-  to_fault one [] rest e h = h
-  to_fault one (x ∷ xs) rest e h = after_parts one rest (fatal e) (sym (next_same (after_comma one) xs rest) ∙ h) (λ k. cc)
+  to_fault one xs rest e h = grind (arith, after_parts, next_same)
 
   -- after the most that are there none is read
   none_after_most : (one : List ℕ → Reading A) (text : List ℕ) (xs : List A) (rest : List ℕ) → LongestList one text xs rest
@@ -210,18 +185,13 @@ module _ {A : Type 0} where
 
   -- a reading that gives none and has no fault misses
   misses : (r : Reading A) → GivesNone r → ((e : Fault) → r ≢ fatal e) → r ≡ miss
-  misses miss none fine = refl
-  misses (fatal e) none fine = absurd (fine e refl)
-  misses (reads y after) none fine = absurd (none y after refl)
+  misses r none fine = grind arith
 
   module _ (one : List ℕ → Reading A)
       (no_longer : (text : List ℕ) (x : A) (rest : List ℕ) → one text ≡ reads x rest → length rest ≤ length text) where
     -- what is left after a comma and an element is shorter
     pub after_shorter : (text : List ℕ) (x : A) (rest : List ℕ) → after_comma one text ≡ reads x rest → length rest < length text
-    after_shorter text x rest e =
-        let p = after_parts one text (reads x rest) e (λ k. cc) in
-        let h = no_longer p.0 x rest p.2 in
-        omega (arith, ap length p.1)
+    after_shorter text x rest e = grind (arith, after_parts)
 
     -- the outcome of a list, by what its first element is read as
     whole_by : (text : List ℕ) (r : Reading A) → one text ≡ r → Whole one text
@@ -254,12 +224,7 @@ module _ {A : Type 0} where
     -- they are there, and no more are
     pub longest : (text : List ℕ) (xs : List A) (rest : List ℕ) → Chain one (after_comma one) xs text rest
         → GivesNone (next one (after_comma one) xs rest) → LongestList one text xs rest
-    longest text xs rest h none =
-        record {
-          separated = to_separated one xs text rest h;
-          most = λ others suffix k. chain_most one (after_comma one) xs others text rest suffix h
-              (from_separated one others text suffix k) none;
-        }
+    longest text xs rest h none = grind (arith, to_separated, chain_most, from_separated)
 
     -- a list that is read ends where no comma and element follow
     in_full : (text : List ℕ) (xs : List A) (rest : List ℕ) → separated_list one text ≡ reads xs rest → WholeList one text xs rest
@@ -289,9 +254,7 @@ module _ {A : Type 0} where
     -- a fault of the element after the longest list is the fault of the list
     fault_is : (text : List ℕ) (e : Fault) (xs : List A) (rest : List ℕ) → LongestList one text xs rest
         → NextHasFault one xs rest e → separated_list one text ≡ fatal e
-    fault_is text e xs rest h k =
-        read_is text xs rest (from_separated one xs text rest h.separated) (none_after_most one text xs rest h)
-        ∙ ap (outcome xs rest) (from_fault one xs rest e k) ∙ outcome_is_fatal xs rest e
+    fault_is text e xs rest h k = grind (arith, read_is, from_separated, none_after_most, from_fault, outcome_is_fatal)
 
     -- a list has a fault only by the element after those that are read
     pub the_next_has_the_fault : TheNextHasTheFault one
@@ -306,8 +269,7 @@ module _ {A : Type 0} where
     -- a list of no elements has a first element that is not there
     first_by : (text : List ℕ) (xs : List A) (rest : List ℕ) → Chain one (after_comma one) xs text rest → xs ≡ []
         → next one (after_comma one) xs rest ≡ miss → one text ≡ miss
-    first_by text [] rest h e last = ap one h ∙ last
-    first_by text (x ∷ xs) rest h e last = absurd (cc)
+    first_by text xs rest h e last = grind arith
 
     -- a list is not there where its first element is not there
     pub the_first_misses : TheFirstMisses one

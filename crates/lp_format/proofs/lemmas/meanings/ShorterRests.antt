@@ -1,5 +1,5 @@
 -- What is left after what was read is no longer than the text.
-use Rattle.std.proofs.Common.{◌≡◌, ℕ, zero, suc, add-one, List, ◌∷◌, get_or, true, refl, arith, ◌+◌, ◌≤◌, [], length, drop, Bool}
+use Rattle.std.proofs.Common.{◌≡◌, ℕ, zero, suc, add-one, List, ◌∷◌, get_or, true, refl, arith, ◌≤◌, length, drop, Bool}
 use Rattle.std.proofs.Common.{false, cond, ap, length-drop}
 use Rattle.std.specs.Prelude.{◌==◌, IsUtf8, IsCharBoundary}
 use Rattle.std.proofs.lemmas.Bool.{eq-eqb, eqb-true}
@@ -9,7 +9,7 @@ use Rattle.lp_format.specs.format.Lines.{byte, spaces, key_value, tag, field}
 use Rattle.lp_format.specs.format.Readings.{reads, Fault, Read, Reading, miss, fatal, ◌>>=◌, ◌otherwise◌}
 use Rattle.lp_format.specs.format.Bytes.{space, equals}
 use Rattle.lp_format.specs.format.Names.{NameKind, a_tag_key, a_tag_value, a_field_key, name}
-use Rattle.lp_format.specs.format.Values.{value, integer_at, unsigned_at, float_at, string_at, boolean_at, body_len, true_words}
+use Rattle.lp_format.specs.format.Values.{value, integer_at, unsigned_at, float_at, string_at, boolean_at, true_words}
 use Rattle.lp_format.specs.format.Values.{false_words}
 
 -- a byte at the start, by what the text is
@@ -47,32 +47,20 @@ dropped text n x = some_left text x (drop n text) (omega (arith, length-drop n t
 
 -- either of two
 either : {A : Type 0} (text : List ℕ) (b : Bool) (r s : Reading A) → IsNoLonger text r → IsNoLonger text s → IsNoLonger text (cond b r s)
-either text true r s h k = h
-either text false r s h k = k
+either text b r s h k = grind arith
 
 -- the first of two that does not miss
 one_of_two : {A : Type 0} (text : List ℕ) (r s : Reading A) → IsNoLonger text r → IsNoLonger text s → IsNoLonger text (r otherwise s)
-one_of_two text miss s h k = k
-one_of_two text (fatal e) s h k = h
-one_of_two text (reads x rest) s h k = h
+one_of_two text r s h k = grind arith
 
 -- one after another
 and_then : {A B : Type 0} (text : List ℕ) (r : Reading A) (f : Read A → Reading B) → IsNoLonger text r
     → ((x : Read A) → IsNoLonger x.rest (f x)) → IsNoLonger text (r >>= f)
-and_then text miss f h k = none_left text
-and_then text (fatal e) f h k = fault_left text e
-and_then text (reads x rest) f h k =
-    record {
-      holds = λ y after e.
-          let near = (k (record { value = x; rest = rest })).holds y after e in
-          let far = h.holds x rest refl in
-          omega arith;
-    }
+and_then text r f h k = grind (arith, none_left, fault_left)
 
 -- a byte
 byte_no_longer : (b : ℕ) (text : List ℕ) → IsNoLonger text (byte b text)
-byte_no_longer b [] = none_left []
-byte_no_longer b (c ∷ rest) = either (c ∷ rest) _ (reads b rest) miss (some_left (c ∷ rest) b rest (omega arith)) (none_left (c ∷ rest))
+byte_no_longer b text = grind (arith, none_left, either, some_left)
 
 -- a name
 name_no_longer : (kind : NameKind) (text : List ℕ) → IsNoLonger text (name kind text)
@@ -82,9 +70,7 @@ name_no_longer kind text = either text _ _ _ (none_left text) (either text _ _ _
 -- a string
 string_no_longer : (text : List ℕ) → IsNoLonger text (string_at text)
 unfolding string_at
-string_no_longer [] = none_left []
-string_no_longer (b ∷ after) =
-    either (b ∷ after) _ _ _ (some_left (b ∷ after) _ _ (omega (arith, length-drop (body_len after + 1) after))) (none_left (b ∷ after))
+string_no_longer text = grind (arith, none_left, either, some_left, length-drop)
 
 -- a value
 value_no_longer : (text : List ℕ) → IsNoLonger text (value text)

@@ -1,7 +1,7 @@
 -- What a list that is read was read from, what holds of all of it, and how many are counted.
-use Rattle.std.proofs.Common.{◌≡◌, ℕ, ◌≤◌, List, [], ◌∷◌, ◌++◌, length, ap, zero, suc, ◌<◌, refl, sym, ◌∙◌, subst, arith}
+use Rattle.std.proofs.Common.{◌≡◌, ℕ, ◌≤◌, List, [], ◌∷◌, ◌++◌, length, ap, zero, suc, ◌<◌, refl, ◌∙◌, arith}
 use Rattle.std.specs.List.{AllByRecursion}
-use Rattle.lp_format.specs.format.Readings.{Reading, miss, fatal, reads}
+use Rattle.lp_format.specs.format.Readings.{Reading, reads}
 use Rattle.lp_format.specs.format.Lines.{prepend, separated_list, after_comma}
 use Rattle.lp_format.specs.laws.Meanings.{SeparatedBy, SeparatedAfterComma, CountIsOfTheMost}
 use Rattle.lp_format.proofs.lemmas.meanings.JoinedMeaning.{the_most_is_read, Chain, GivesNone, next, next_same, after_shorter}
@@ -17,12 +17,7 @@ pub record Onto {A : Type 0} (xs : List A) (r : Reading (List A)) (zs : List A) 
 -- each list that was added to is such
 pub prepend_parts : {A : Type 0} (xs : List A) (r : Reading (List A)) (zs : List A) (rest : List ℕ)
     → prepend xs r ≡ reads zs rest → Onto xs r zs rest
-prepend_parts xs miss zs rest h = absurd (cc)
-prepend_parts xs (fatal e) zs rest h = absurd (cc)
-prepend_parts xs (reads more after) zs rest h =
-    let same : after ≡ rest = cc in
-    let all : xs ++ more ≡ zs = cc in
-    record { more = more; are = ap (reads more) same; all = all }
+prepend_parts xs r zs rest h = grind arith
 
 module _ {A : Type 0} (P : A → Type 0) (one : List ℕ → Reading A)
     (each : (line : List ℕ) (x : A) (rest : List ℕ) → one line ≡ reads x rest → P x) where
@@ -33,8 +28,7 @@ module _ {A : Type 0} (P : A → Type 0) (one : List ℕ → Reading A)
 
   -- and of all that are joined by commas
   joined_all : (xs : List A) (line rest : List ℕ) → SeparatedBy one xs line rest → AllByRecursion P xs
-  joined_all [] line rest h = tt
-  joined_all (x ∷ xs) line rest h = (each line x h.0 h.1, after_all xs h.0 rest h.2)
+  joined_all xs line rest h = grind (arith, after_all)
 
   -- so of all that are read there
   pub joined_of : ((line : List ℕ) (x : A) (rest : List ℕ) → one line ≡ reads x rest → length rest ≤ length line)
@@ -43,9 +37,7 @@ module _ {A : Type 0} (P : A → Type 0) (one : List ℕ → Reading A)
 
 -- none is counted where none is read
 none_counted : {A : Type 0} (r : Reading A) (count : List ℕ → ℕ) → GivesNone r → one_and_after r count ≡ 0
-none_counted miss count none = refl
-none_counted (fatal e) count none = refl
-none_counted (reads x rest) count none = absurd (none x rest refl)
+none_counted r count none = grind arith
 
 -- as many are counted as come one after another, where none is read after them
 chain_counted : {A : Type 0} (g : List ℕ → Reading A)
@@ -53,8 +45,7 @@ chain_counted : {A : Type 0} (g : List ℕ → Reading A)
     → (n : ℕ) (xs : List A) (text rest : List ℕ) → Chain g g xs text rest → GivesNone (g rest) → length text ≤ n
     → many_count g n text ≡ length xs
 chain_counted g shorter zero [] text rest h none room = refl
-chain_counted g shorter (suc n) [] text rest h none room =
-    none_counted (g text) (λ r. many_count g n r) (subst (λ t. GivesNone (g t)) (sym h) none)
+chain_counted g shorter (suc n) [] text rest h none room = grind (arith, none_counted)
 chain_counted g shorter zero (x ∷ xs) text rest h none room = absurd (omega (arith, shorter text x h.0 h.1))
 chain_counted g shorter (suc n) (x ∷ xs) text rest h none room =
     rw h.1 (ap suc (chain_counted g shorter n xs h.0 rest h.2 none (omega (arith, shorter text x h.0 h.1))))
@@ -65,8 +56,7 @@ module _ {A : Type 0} (one : List ℕ → Reading A)
   whole_counted : (text : List ℕ) (xs : List A) (rest : List ℕ) → Chain one (after_comma one) xs text rest
       → GivesNone (next one (after_comma one) xs rest)
       → read_count one text ≡ length xs
-  whole_counted text [] rest h none =
-      none_counted (one text) (λ r. many_count (after_comma one) (length r) r) (subst (λ t. GivesNone (one t)) (sym h) none)
+  whole_counted text [] rest h none = grind (arith, none_counted)
   whole_counted text (x ∷ xs) rest h none =
       rw h.1 (ap suc (chain_counted (after_comma one) (after_shorter one no_longer) (length h.0) xs h.0 rest h.2
       (λ y after e. none y after (next_same (after_comma one) xs rest ∙ e)) (omega arith)))

@@ -1,5 +1,5 @@
 -- How a spelling is read from left to right, and what its logical text is.
-use Rattle.std.proofs.Common.{◌≡◌, ◌≢◌, ℕ, suc, zero, ◌-◌, ◌<◌, List, [], ◌∷◌, length, drop, get_or, true, false, refl, sym, ap}
+use Rattle.std.proofs.Common.{◌≡◌, ◌≢◌, ℕ, suc, zero, ◌<◌, List, [], ◌∷◌, length, drop, get_or, true, false, refl, sym, ap}
 use Rattle.std.proofs.Common.{◌∙◌, arith, inl, inr, ◌↔◌, subst}
 use Rattle.std.specs.Prelude.{◌==◌}
 use Rattle.std.proofs.lemmas.Bool.{cases_Bool, or_parts, eqb-false, eq-eqb, ne_eqb, eqb-true}
@@ -14,8 +14,7 @@ use Rattle.lp_format.specs.laws.Meanings.{IsLogical, empty, plain, escape, other
 pub without_escapes_plain_byte : (known : List ℕ) (b : ℕ) (rest : List ℕ) → b ≢ backslash
     → without_escapes known (b ∷ rest) ≡ b ∷ without_escapes known rest
 unfolding without_escapes
-without_escapes_plain_byte known b [] h = refl
-without_escapes_plain_byte known b (c ∷ rest) h = rw (ne_eqb b backslash h) refl
+without_escapes_plain_byte known b rest h = grind (arith, ne_eqb)
 
 -- a known escape gives its second byte
 pub without_escapes_known : (known : List ℕ) (c : ℕ) (rest : List ℕ) → is_one_of known c ≡ true
@@ -42,29 +41,18 @@ escapable_backslash kind = refl
 
 -- the last byte of a longer text
 ends_cons : (b : ℕ) (xs : List ℕ) → 0 < length xs → ends_in_backslash (b ∷ xs) ≡ ends_in_backslash xs
-ends_cons b [] h = absurd (omega arith)
-ends_cons b (c ∷ xs) h =
-    let e : length (b ∷ c ∷ xs) - 1 ≡ suc (length (c ∷ xs) - 1) = omega arith in
-    rw e refl
+ends_cons b xs h = grind arith
 
 -- a spelled name that is not empty means a text that is not empty
 logical_nonempty : (kind : NameKind) (text : List ℕ) → 0 < length text → 0 < length (logical kind text)
 unfolding without_escapes
-logical_nonempty kind [] h = absurd (omega arith)
-logical_nonempty kind (b ∷ []) h = h
-logical_nonempty kind (b ∷ c ∷ rest) h =
-    elim (cases_Bool (b == backslash)) [
-      | inl e ↦ elim (cases_Bool (is_escapable kind c)) [ inl k ↦ rw (e, k) (omega arith) | inr k ↦ rw (e, k) (omega arith) ]
-      | inr e ↦ rw e (omega arith)
-    ]
+logical_nonempty kind text h = grind (arith, cases_Bool)
 
 -- a byte before a text does not change whether it ends in a backslash
 logical_ends_cons : (kind : NameKind) (c : ℕ) (rest : List ℕ) → ends_in_backslash (logical kind rest) ≡ ends_in_backslash rest
     → ends_in_backslash (c ∷ logical kind rest) ≡ ends_in_backslash (c ∷ rest)
 unfolding without_escapes
-logical_ends_cons kind c [] h = refl
-logical_ends_cons kind c (d ∷ rest) h =
-    ends_cons c (logical kind (d ∷ rest)) (logical_nonempty kind (d ∷ rest) (omega arith)) ∙ h ∙ sym (ends_cons c (d ∷ rest) (omega arith))
+logical_ends_cons kind c rest h = grind (arith, ends_cons, logical_nonempty)
 
 -- a name ends in a backslash if its spelling does
 pub logical_ends : (kind : NameKind) (text : List ℕ) → ends_in_backslash (logical kind text) ≡ ends_in_backslash text
@@ -97,17 +85,13 @@ name_misses kind text h = rw (eq-eqb _ _ h) refl
 pub name_fatal : (kind : NameKind) (text : List ℕ) → 0 < length (spelled kind text) → ends_in_backslash (spelled kind text) ≡ true
     → name kind text ≡ fatal ends_with_backslash
 unfolding name
-name_fatal kind text some h =
-    let ne : length (spelled kind text) ≡ 0 → ⊥ = λ e. absurd (omega arith) in
-    rw (ne_eqb _ _ ne, logical_ends kind (spelled kind text), h) refl
+name_fatal kind text some h = grind (arith, ne_eqb, logical_ends)
 
 -- any other spelled name that is not empty is read
 pub name_reads : (kind : NameKind) (text : List ℕ) → 0 < length (spelled kind text) → ends_in_backslash (spelled kind text) ≡ false
     → name kind text ≡ reads (read_text (escapable kind) (spelled kind text)) (drop (spelled_len kind text) text)
 unfolding name
-name_reads kind text some h =
-    let ne : length (spelled kind text) ≡ 0 → ⊥ = λ e. absurd (omega arith) in
-    rw (ne_eqb _ _ ne, logical_ends kind (spelled kind text), h) refl
+name_reads kind text some h = grind (arith, ne_eqb, logical_ends)
 
 -- a backslash and a byte that is not known stay
 pub without_escapes_other : (known : List ℕ) (c : ℕ) (rest : List ℕ) → is_one_of known c ≡ false
@@ -156,7 +140,4 @@ has_logical known (b ∷ c ∷ rest) =
 
 -- so it has exactly that one
 pub logical_is : (known spelled logical : List ℕ) → IsLogical known spelled logical ↔ (logical ≡ without_escapes known spelled)
-logical_is known spelled logical = (
-  logical_is_unique known spelled logical,
-  (λ e. subst (IsLogical known spelled) (sym e) (has_logical known spelled)),
-)
+logical_is known spelled logical = grind (arith, logical_is_unique, has_logical)

@@ -15,7 +15,6 @@ use Rattle.lp_format.specs.format.Lines.{Line}
 use Rattle.std.proofs.lemmas.Bool.{and_parts, cases_Bool, false≢true, ne_eqb}
 use Rattle.std.proofs.lemmas.List.Elements.{All-head, All-tail}
 use Rattle.lp_format.specs.laws.Laws.{CommentTextIsIgnored}
-use Rattle.lp_format.specs.format.Trimming.{trimmed}
 use Rattle.lp_format.proofs.lemmas.line.TrimLemmas.{is_blank, left_of, trimmed_is, skip_comment}
 
 -- pieces are the text that they are pieces of
@@ -71,17 +70,13 @@ comment_left (b ∷ text) e h =
 -- a comment has no answer
 comment_answers : (piece : List ℕ) → IsComment piece → answers_of_piece Strict piece ≡ []
 unfolding answers_of_piece
-comment_answers piece h =
-    let none : trimmed piece ≡ [] = trimmed_is piece ∙ comment_left piece h.0 h.1 in
-    rw none refl
+comment_answers piece h = grind (arith, trimmed_is, comment_left)
 
 -- a piece without answers adds none to those of the pieces around it
 answers_without : (dialect : Dialect) (before : List (List ℕ)) (piece : List ℕ) (after : List (List ℕ))
     → answers_of_piece dialect piece ≡ []
     → answers_of dialect (before ++ piece ∷ after) ≡ answers_of dialect before ++ answers_of dialect after
-answers_without dialect before piece after none =
-    flat_map-append (answers_of_piece dialect) before (piece ∷ after)
-    ∙ ap (λ (l : List (Result Line Fault)). answers_of dialect before ++ (l ++ answers_of dialect after)) none
+answers_without dialect before piece after none = grind (arith, flat_map-append)
 
 -- other bytes after the `#` of a comment leave the other pieces and all answers as they are
 pub comment_text_is_ignored : CommentTextIsIgnored

@@ -1,7 +1,7 @@
 -- An integer reads back as it was written.
-use Rattle.std.proofs.Common.{◌≡◌, ℕ, suc, ◌^◌, ◌<◌, List, [], ◌∷◌, ◌++◌, length, true, false, refl, sym, ap, ◌∙◌, arith}
+use Rattle.std.proofs.Common.{◌≡◌, ℕ, suc, ◌^◌, ◌<◌, List, [], ◌∷◌, ◌++◌, length, true, refl, sym, arith}
 use Rattle.std.proofs.Common.{inl, inr}
-use Rattle.std.specs.Prelude.{◌==◌, ℤ, pos, negsuc, decimal, codes}
+use Rattle.std.specs.Prelude.{ℤ, pos, negsuc, decimal, codes}
 use Rattle.std.specs.Fmt.{signed_decimal}
 use Rattle.std.specs.Str.Parse.{IsNumeral, digits_value, signed_digits_value}
 use Rattle.std.proofs.lemmas.Bool.{ne_eqb}
@@ -11,7 +11,6 @@ use Rattle.std.proofs.lemmas.List.{take_at, drop_at}
 use Rattle.lp_format.specs.format.Lines.{spaces}
 use Rattle.lp_format.specs.format.Readings.{reads}
 use Rattle.lp_format.specs.format.Values.{digits_len, fits_i64, integer, integer_at, integer_len}
-use Rattle.lp_format.specs.format.Bytes.{space}
 use Rattle.lp_format.proofs.lemmas.values.ValueLemmas.{fits_from_test, integer_parsed}
 use Rattle.lp_format.proofs.lemmas.literals.FloatLemmas.{minus_no_digit, signed_before}
 
@@ -23,12 +22,7 @@ unsigned_len (d ∷ ds) tail numeral ends =
 
 -- digits without a sign have their value
 unsigned_value : (ds : List ℕ) → IsNumeral 10 ds → signed_digits_value 10 ds ≡ pos (digits_value 10 ds)
-unsigned_value [] numeral = absurd (omega arith)
-unsigned_value (d ∷ ds) numeral =
-    let range = digit_from_value d numeral.1.0 in
-    let no_minus : (d == 45) ≡ false = ne_eqb d 45 (λ e. absurd (omega arith)) in
-    let no_plus : (d == 43) ≡ false = ne_eqb d 43 (λ e. absurd (omega arith)) in
-    rw (no_minus, no_plus) refl
+unsigned_value ds numeral = grind (arith, digit_from_value, ne_eqb)
 
 -- an integer in range, as it is written: its length before what is no digit, its value, and that no space is at the start
 pub record Written (z : ℤ) : Type 0 where
@@ -40,21 +34,11 @@ pub record Written (z : ℤ) : Type 0 where
 -- no space comes before digits
 no_space_first : (ds : List ℕ) → IsNumeral 10 ds → spaces ds ≡ 0
 no_space_first [] numeral = refl
-no_space_first (d ∷ ds) numeral =
-    let range = digit_from_value d numeral.1.0 in
-    rw (ne_eqb d space (λ e. absurd (omega arith))) refl
+no_space_first (d ∷ ds) numeral = grind (arith, digit_from_value, ne_eqb)
 
 -- each integer in range is written so
 pub integer_written : (z : ℤ) → fits_i64 z ≡ true → Written z
-integer_written (pos n) fits =
-    let small : n < 2 ^ 63 = (fits_from_test (pos n) fits).sfits in
-    let written = decimal_is_IsNumeral n (omega arith) in
-    record {
-      some = written.0.0;
-      len = λ tail ends. unsigned_len (decimal n) tail written.0 ends;
-      value = unsigned_value (decimal n) written.0 ∙ ap pos written.1;
-      no_space = no_space_first (decimal n) written.0;
-    }
+integer_written (pos n) fits = grind (arith, fits_from_test, decimal_is_IsNumeral, unsigned_len, unsigned_value, no_space_first)
 integer_written (negsuc n) fits =
     let small : n < 2 ^ 63 = (fits_from_test (negsuc n) fits).sfits in
     let written = decimal_is_IsNumeral (suc n) (omega arith) in

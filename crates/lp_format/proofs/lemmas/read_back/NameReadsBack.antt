@@ -70,12 +70,7 @@ pub record Admitted (kind : NameKind) (n : List ℕ) : Type 0 where
 -- the parts of the test of a name
 pub admitted_parts : (kind : NameKind) (n : List ℕ) → is_admitted_name kind n ≡ true → Admitted kind n
 unfolding is_admitted_name
-admitted_parts kind n h =
-    let last = and_parts _ _ h in
-    let third = and_parts _ _ last.0 in
-    let second = and_parts _ _ third.0 in
-    let some : length n ≢ 0 = eqb-false (length n) 0 (not-true _ second.0) in
-    record { some = omega arith; ends = not-true _ second.1; may = third.1 }
+admitted_parts kind n h = grind (arith, and_parts, eqb-false, not-true)
 
 -- a measurement does not begin with `#`
 pub begins_otherwise : (n : List ℕ) → is_admitted_name a_measurement n ≡ true → slice_index n 0 ≢ hash
@@ -118,11 +113,7 @@ read_line p =
 
 -- each part is what was written
 read_value_is : (v : Value (List ℕ)) → logical_value (read_value v) ≡ v
-read_value_is (integer z) = refl
-read_value_is (unsigned n) = refl
-read_value_is (float t) = refl
-read_value_is (string t) = ap string (without_escapes_escaped quotable t refl)
-read_value_is (boolean b) = refl
+read_value_is v = grind (arith, without_escapes_escaped)
 
 -- a tag by its texts
 read_tag_is : (t : Tag) → logical_tag (read_tag t) ≡ t
@@ -139,8 +130,7 @@ map_back there back same (x ∷ xs) = rw (same x, map_back there back same xs) r
 
 -- the tags, or none
 read_tags_are : (ts : List Tag) → map logical_tag (some_tags (read_tags ts)) ≡ ts
-read_tags_are [] = refl
-read_tags_are (t ∷ ts) = map_back read_tag logical_tag read_tag_is (t ∷ ts)
+read_tags_are ts = grind (arith, map_back, read_tag_is)
 
 -- the point of the line is this one
 pub read_line_is : (p : Point) → point_of (read_line p) ≡ p

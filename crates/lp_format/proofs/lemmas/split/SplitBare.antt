@@ -23,8 +23,7 @@ odd-suc n = grind (arith, nat_tests)
 
 -- one more backslash turns the parity of a run, and another byte ends it
 run-push : (b n : ℕ) (t : Bool) → eqb (cond t (1 + n) 0 % 2) 1 ≡ cond t (not (eqb (n % 2) 1)) false
-run-push b n true = odd-suc n
-run-push b n false = refl
+run-push b n t = grind (arith, odd-suc)
 
 -- after a byte something is escaped if that byte is a bare backslash
 pub is_escaped-push : (front : List ℕ) (b : ℕ)
@@ -60,12 +59,7 @@ bare_after-push front (a ∷ text) b =
 
 -- `front` ends in an escaped place, or in a bare one
 pub is_escaped-push_escaped : (front : List ℕ) (b : ℕ) → is_escaped_after front ≡ true → is_escaped_after (front ++ b ∷ []) ≡ false
-is_escaped-push_escaped front b h = is_escaped-push front b ∙ ap (λ f. cond (eqb b backslash) (not f) false) h ∙ none (eqb b backslash)
-  where
-    -- a choice between false and false
-    none : (t : Bool) → cond t false false ≡ false
-    none true = refl
-    none false = refl
+is_escaped-push_escaped front b h = grind (arith, is_escaped-push, eqb)
 
 -- after a bare backslash the next byte is escaped
 pub is_escaped-push_backslash : (front : List ℕ) → is_escaped_after front ≡ false → is_escaped_after (front ++ backslash ∷ []) ≡ true
@@ -107,9 +101,7 @@ bare-append xs ys h = bare_after-append [] xs ys ∙ ap (λ t. bare xs ++ t) (sa
 pub place_in_append : (xs ys : List ℕ) (c : ℕ) (before after : List ℕ) → xs ++ ys ≡ before ++ c ∷ after
     → ((rest : List ℕ) × (xs ≡ before ++ c ∷ rest)) ⊎ ((front : List ℕ) × (before ≡ xs ++ front) × (ys ≡ front ++ c ∷ after))
 place_in_append [] ys c before after e = inr (before, refl, e)
-place_in_append (x ∷ xs) ys c [] after e =
-    let h : x ≡ c = cc in
-    inl (xs, ap (λ z. z ∷ xs) h)
+place_in_append (x ∷ xs) ys c [] after e = grind arith
 place_in_append (x ∷ xs) ys c (y ∷ before) after e =
     let t : xs ++ ys ≡ before ++ c ∷ after = cc in
     elim (place_in_append xs ys c before after t) [
@@ -164,10 +156,7 @@ IsPlain-extend counted xs ys added h e n q =
 
 -- no bytes are a plain stretch
 IsPlain-nil : (counted : List ℕ) → IsPlain counted []
-IsPlain-nil counted = record {
-  no_newline = All-nil (λ c. c ≢ newline);
-  no_opening = λ before after p. absurd (nil_has_no_place before quote after p);
-}
+IsPlain-nil counted = grind (arith, no_newline, nil_has_no_place)
 
 -- equal texts end in a plain stretch alike
 pub EndsPlain-same : {text more counted seen : List ℕ} → text ≡ more → counted ≡ seen → EndsPlain text counted → EndsPlain more seen
@@ -292,8 +281,7 @@ bare-cons b text h =
 -- a front, a bare byte that is no backslash, and more
 run-around : (s : State) (front : List ℕ) (b : ℕ) (text : List ℕ) → IsBareAfter front → b ≢ backslash
     → run s (bare (front ++ b ∷ text)) ≡ run (step (run s (bare front)) b) (bare text)
-run-around s front b text i h =
-    ap (run s) (bare-append front (b ∷ text) i ∙ ap (λ t. bare front ++ t) (bare-cons b text h)) ∙ run-append s (bare front) (b ∷ bare text)
+run-around s front b text i h = grind (arith, bare-append, bare-cons, run-append)
 
 -- bytes that are no spaces and no newlines leave the machine in the head
 run_head : (xs : List ℕ) → All (λ b. (b ≢ space) × (b ≢ newline)) xs → run in_head xs ≡ in_head
@@ -305,13 +293,7 @@ run_head (b ∷ xs) h =
 -- a byte that neither ends the piece nor opens a string is counted
 plain_step_is : (counted : List ℕ) (b : ℕ) → b ≢ newline → (b ≡ quote → ¬ HasMoreEquals counted)
     → plain_step counted b ≡ in_plain (counted ++ b ∷ [])
-plain_step_is counted b n q =
-    let closed : (b == quote && more_equals counted) ≡ false =
-    elim (cases_eq b quote) [
-      | inl e ↦ and_right (b == quote) (more_equals counted) (le-ltb _ _ (omega (arith, q e)))
-      | inr e ↦ and_left (b == quote) (more_equals counted) (ne_eqb b quote e)
-    ] in
-    rw (ne_eqb b newline n, closed) refl
+plain_step_is counted b n q = grind (arith, cases_eq, and_right, le-ltb, and_left, ne_eqb)
 
 -- bytes that neither end the piece nor open a string leave the machine in a plain stretch
 run_plain : (counted xs : List ℕ) → All (λ b. b ≢ newline) xs
@@ -333,8 +315,7 @@ run_quoted counted (b ∷ xs) n =
 -- a quote after more `=` than `,` opens a string
 opening : (piece counted quoted : List ℕ) → run in_head (bare piece) ≡ in_plain counted → Opens piece counted → IsQuoted quoted
     → run in_head (bare (piece ++ quote ∷ quoted)) ≡ in_quoted counted
-opening piece counted quoted r o q =
-    run-around in_head piece quote quoted o.0 (omega arith) ∙ rw (r, lt-ltb _ _ o.1) (run_quoted counted (bare quoted) q)
+opening piece counted quoted r o q = grind (arith, run-around, lt-ltb, run_quoted)
 
 -- what ends in a plain stretch leaves the machine in one
 ends_plain : {text counted : List ℕ} → EndsPlain text counted → run in_head (bare text) ≡ in_plain counted
@@ -353,10 +334,7 @@ ends_quoted (opened piece counted quoted h o q) = opening piece counted quoted (
 
 -- a newline that is a cut is in no piece
 cut_ends : (piece rest : List ℕ) → IsClosed piece → IsBareAfter piece → run in_head (bare (piece ++ newline ∷ rest)) ≡ ended
-cut_ends piece rest (inl h) i =
-    run-around in_head piece newline rest i (omega arith) ∙ rw (run_head (bare piece) h) (run-ended (bare rest))
-cut_ends piece rest (inr h) i =
-    run-around in_head piece newline rest i (omega arith) ∙ rw (ends_plain h.1) (run-ended (bare rest))
+cut_ends piece rest h i = grind (arith, run-around, run_head, run-ended, ends_plain)
 
 -- a piece that ends before a newline is no beginning of a longer one
 pub cut_not_within : (piece rest : List ℕ) → IsClosed piece → IsBareAfter piece → IsClosed (piece ++ newline ∷ rest)

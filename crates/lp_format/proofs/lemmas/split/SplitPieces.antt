@@ -4,7 +4,7 @@ use Rattle.std.proofs.Common.{get_or, take, drop, Option, Some, None, MatchOptio
 use Rattle.std.proofs.Common.{append_assoc, append-nil}
 use Rattle.std.specs.List.{All, count_by}
 use Rattle.std.proofs.lemmas.List.{take_at, drop_more, take-append-drop}
-use Rattle.std.proofs.lemmas.List.Elements.{All-head, All-tail, All-nil, All-cons, All-push, All-take, All-append}
+use Rattle.std.proofs.lemmas.List.Elements.{All-head, All-tail, All-cons, All-push, All-take, All-append}
 use Rattle.std.proofs.lemmas.Bool.{cases_lt, cases_eq, cases_Bool, false≢true, both_ways}
 use Rattle.lp_format.specs.format.Dialects.{Dialect, Crate, Strict}
 use Rattle.lp_format.specs.format.Escapes.{is_escaped_after}
@@ -78,8 +78,7 @@ begins_comment-append (b ∷ front) more e =
 -- the byte after blanks and no `#` that makes a comment is no newline, nor are the blanks
 becomes_comment : (front : List ℕ) (b : ℕ) → begins_comment front ≡ false → begins_comment (front ++ b ∷ []) ≡ true
     → All (λ c. c ≢ newline) (front ++ b ∷ [])
-becomes_comment [] b e f =
-    All-cons (λ c. c ≢ newline) b [] (λ i. false≢true (subst (λ c. begins_comment (c ∷ []) ≡ true) i f)) (All-nil (λ c. c ≢ newline))
+becomes_comment [] b e f = grind (arith, false≢true)
 becomes_comment (x ∷ front) b e f =
     let w = go (eqb x hash) (eqb x space || eqb x tab) (begins_comment front) (begins_comment (front ++ b ∷ [])) e f in
     All-cons (λ c. c ≢ newline) x (front ++ b ∷ [])
@@ -130,14 +129,11 @@ IsLastPiece-extend dialect front (b ∷ more) h n = elim (goes_on dialect front 
 
 -- no bytes are a last piece
 pub IsLastPiece-nil : (dialect : Dialect) → IsLastPiece dialect []
-IsLastPiece-nil Crate = inl (inl (All-nil (λ b. (b ≢ space) × (b ≢ newline))))
-IsLastPiece-nil Strict = inr (refl, inl (inl (All-nil (λ b. (b ≢ space) × (b ≢ newline)))))
+IsLastPiece-nil dialect = grind arith
 
 -- what is cut could have been the last piece
 pub IsLastPiece-cut : (dialect : Dialect) (piece : List ℕ) → IsCutPiece dialect piece → IsLastPiece dialect piece
-IsLastPiece-cut Crate piece h = inl h.0
-IsLastPiece-cut Strict piece (inl h) = inl h
-IsLastPiece-cut Strict piece (inr h) = inr (h.0, inl h.1)
+IsLastPiece-cut dialect piece h = grind arith
 
 -- a text with a newline in it is not free of newlines
 has_newline : (piece rest : List ℕ) → All (λ c. c ≢ newline) (piece ++ newline ∷ rest) → ⊥
@@ -181,8 +177,7 @@ Cuts dialect text piece pieces =
 -- a first piece is the whole text, or is cut from it
 uncons : (dialect : Dialect) {text piece : List ℕ} {pieces : List (List ℕ)} → Pieces dialect text (piece ∷ pieces)
     → ((pieces ≡ []) × (text ≡ piece) × IsLastPiece dialect piece) ⊎ Cuts dialect text piece pieces
-uncons dialect (last piece h) = inl (refl, refl, h)
-uncons dialect (cut piece text pieces c h) = inr (text, refl, c, h)
+uncons dialect h = grind arith
 
 -- two splits at newlines of one text are the same, or one is further on
 same_split : (p t q s : List ℕ) → p ++ newline ∷ t ≡ q ++ newline ∷ s → ((p ≡ q) × (t ≡ s))
@@ -288,13 +283,11 @@ piece_is_comment before piece after text c h =
   where
     -- what begins as a comment is no other piece
     is_comment : IsLastPiece Strict piece → IsComment piece
-    is_comment (inl h) = h
-    is_comment (inr h) = absurd (both_ways (begins_comment piece) h.0 c)
+    is_comment h = grind (arith, both_ways)
 
 -- a text up to a place, and after it
 pub split_at : (text : List ℕ) (i : ℕ) → i < length text → get_or text i 0 ≡ newline → text ≡ take i text ++ newline ∷ drop (i + 1) text
-split_at text i l e = sym (ap (λ x. take i text ++ x ∷ drop (i + 1) text) (sym e)
-    ∙ ap (λ t. take i text ++ t) (sym (drop_more text i 0 l)) ∙ take-append-drop i text)
+split_at text i l e = grind (arith, drop_more, take-append-drop)
 
 -- the first newline ends a comment
 pub cut_of_comment : (text : List ℕ) (place : Option ℕ) → begins_comment text ≡ true
@@ -325,12 +318,7 @@ front_begins_none text n e = elim (cases_Bool (begins_comment (take n text))) [
 -- the rest is as in the other dialect
 pub cut_of_other : (text : List ℕ) (place : Option ℕ) → begins_comment text ≡ false → IsFirstCut Crate text place
     → IsFirstCut Strict text place
-cut_of_other text None e h = inr (e, h)
-cut_of_other text (Some i) e h = (
-  h.0,
-  h.1,
-  inr (front_begins_none text i e, h.2.0, h.2.1),
-)
+cut_of_other text place e h = grind (arith, front_begins_none)
 
 -- what a call of `next` gives, by the bytes that it searched
 pub Pieces-cut_at : (dialect : Dialect) (bytes text piece rest : List ℕ) (i : ℕ) (others : List (List ℕ))

@@ -1,5 +1,5 @@
 -- Escaped places from left to right, as a scan meets them.
-use Rattle.std.proofs.Common.{◌≡◌, ℕ, ◌+◌, ◌<◌, ◌≤◌, List, [], ◌∷◌, ◌++◌, length, take, get_or, slice_index, Bool, true, false, not, ◌&&◌}
+use Rattle.std.proofs.Common.{◌≡◌, ℕ, ◌+◌, ◌<◌, ◌≤◌, List, [], ◌∷◌, ◌++◌, length, take, slice_index, Bool, true, false, not, ◌&&◌}
 use Rattle.std.proofs.Common.{cond, ◌∙◌, zero-add, arith}
 use Rattle.std.specs.Prelude.{◌==◌}
 use Rattle.std.specs.List.{range_with_len}
@@ -39,7 +39,4 @@ first_bare_is passes text n fits none found =
 
 -- a front that reaches past a byte holds it
 pub is_one_of_front : (text : List ℕ) (i n b : ℕ) → i < n → i < length text → slice_index text i ≡ b → is_one_of (take n text) b ≡ true
-is_one_of_front text i n b short within here =
-    let fits : i < length (take n text) = omega (arith, length-take n text) in
-    let same : get_or (take n text) i 0 ≡ b = get_or-take n text i 0 short ∙ here in
-    list_any_at (λ c. c == b) (take n text) i 0 fits (eq-eqb _ _ same)
+is_one_of_front text i n b short within here = grind (arith, length-take, get_or-take, list_any_at, eq-eqb)

@@ -1,6 +1,6 @@
 -- The first bytes of a value decide its form; strings at the start of a text.
 use Rattle.std.proofs.Common.{◌≡◌, ◌≢◌, ℕ, ◌<◌, List, [], ◌∷◌, length, take, drop, get_or, slice_index, true, false, refl, ap, ◌∙◌}
-use Rattle.std.proofs.Common.{arith, zero-add, ◌⊎◌, ◌≤◌, sym, inl, inr}
+use Rattle.std.proofs.Common.{arith, zero-add, ◌⊎◌, ◌≤◌}
 use Rattle.std.specs.Prelude.{◌==◌, nat_lt, ◌||◌}
 use Rattle.std.proofs.lemmas.Bool.{and_parts, eq-eqb, eqb-true, ne_eqb, lt-ltb, ltb-true, false_from_ne_true, cases_eq, eqb-false}
 use Rattle.std.proofs.lemmas.Bool.{or_parts}
@@ -12,29 +12,25 @@ use Rattle.lp_format.specs.format.Bytes.{quote}
 use Rattle.lp_format.specs.format.Escapes.{first_bare, is_bare_at}
 use Rattle.lp_format.specs.format.Lines.{byte}
 use Rattle.lp_format.specs.format.Names.{read_text}
-use Rattle.lp_format.specs.format.Readings.{miss, reads, Reading, Text, fatal, ◌otherwise◌}
+use Rattle.lp_format.specs.format.Readings.{miss, reads, Reading, Text, ◌otherwise◌}
 use Rattle.lp_format.specs.format.Values.{quotable, body_len, string, string_at, Value, value, integer_at, unsigned_at, float_at}
-use Rattle.lp_format.specs.format.Values.{boolean_at, integer_len, float_len, longer_front, true_words, false_words}
+use Rattle.lp_format.specs.format.Values.{boolean_at, integer_len, longer_front, true_words, false_words}
 use Rattle.lp_format.proofs.lemmas.values.ValueLemmas.{byte_at_drop, after_byte, boolean_misses, digits_no_more, digits_of_minus}
 use Rattle.lp_format.proofs.lemmas.values.ValueLemmas.{digits_of_plain, integer_misses, integer_unmarked, unsigned_decides}
 use Rattle.lp_format.proofs.lemmas.values.ValueLemmas.{unsigned_misses, unsigned_unmarked}
 use Rattle.std.specs.Char.{is_ascii_digit}
 use Rattle.std.proofs.lemmas.Grind.{common_steps}
 use Rattle.lp_format.proofs.lemmas.literals.FloatLemmas.{float_misses}
+use Rattle.std.proofs.lemmas.Bool.Decides.{nat_tests}
 
 -- where a byte misses, the text does not begin with it
 pub byte_missing : (b : ℕ) (text : List ℕ) → byte b text ≡ miss → (rest : List ℕ) → text ≢ b ∷ rest
-byte_missing b [] none rest e = cc
-byte_missing b (c ∷ cs) none rest e =
-    let same : c ≡ b = cc in
-    let found = rw (same, eq-eqb b b refl) at none in
-    cc
+byte_missing b text none rest e = grind (arith, eq-eqb)
 
 -- the outcomes of a string
 pub string_misses : (text : List ℕ) → ((after : List ℕ) → text ≢ quote ∷ after) → string_at text ≡ miss
 unfolding string_at
-string_misses [] other = refl
-string_misses (b ∷ after) other = rw (ne_eqb b quote (λ e. other after (ap (λ x. x ∷ after) e))) refl
+string_misses text other = grind (arith, ne_eqb)
 
 -- a body that ends before the text does ends in a quote
 closing_quote : (after : List ℕ) → body_len after < length after → slice_index after (body_len after) ≡ quote
@@ -62,42 +58,27 @@ string_open text after e unclosed =
 pub string_reads : (text after rest : List ℕ) → text ≡ quote ∷ after → drop (body_len after) after ≡ quote ∷ rest
     → string_at text ≡ reads (string (read_text quotable (take (body_len after) after))) rest
 unfolding string_at
-string_reads text after rest e closed =
-    let byte = byte_at_drop after rest (body_len after) quote closed in
-    let test : nat_lt (body_len after) (length after) ≡ true = lt-ltb _ _
-    (omega (arith, length-drop (body_len after) after, ap length closed)) in
-    rw (e, test, byte.1) refl
+string_reads text after rest e closed = grind (arith, common_steps, nat_tests, byte_at_drop, lt-ltb, length-drop)
 
 -- where no integer is, no number is
 pub no_number : (text : List ℕ) → integer_len text ≡ 0 → (integer_at text otherwise unsigned_at text otherwise float_at text) ≡ miss
-no_number text none =
-    let no_float : float_len text ≡ 0 = rw (eq-eqb (integer_len text) 0 none) refl in
-    rw (integer_misses text none, unsigned_misses text (omega (arith, digits_no_more text)), float_misses text no_float) refl
+no_number text none = grind (arith, eq-eqb, integer_misses, unsigned_misses, digits_no_more, float_misses)
 
 -- digits and `u`, without `-`
 pub unsigned_is : (text : List ℕ) → 0 < integer_len text → slice_index text (integer_len text) ≢ 105
     → slice_index text (integer_len text) ≡ 117 → slice_index text 0 ≢ 45
     → (integer_at text otherwise unsigned_at text otherwise float_at text) ≡ unsigned_at text
-unsigned_is text some no_i mark plain =
-    let same = digits_of_plain text plain in
-    unsigned_decides text (float_at text) (integer_unmarked text no_i) (rw same some) (rw same mark)
+unsigned_is text some no_i mark plain = grind (arith, digits_of_plain, unsigned_decides, integer_unmarked)
 
 -- without either mark, or with `-` at the start of `u`, it is a float or nothing
 pub float_is : (text : List ℕ) → slice_index text (integer_len text) ≢ 105
     → (slice_index text (integer_len text) ≢ 117) ⊎ (slice_index text 0 ≡ 45)
     → (integer_at text otherwise unsigned_at text otherwise float_at text) ≡ float_at text
-float_is text no_i (inl no_u) =
-    rw (integer_unmarked text no_i) (elim (cases_eq (slice_index text 0) 45) [
-      | inl minus ↦ rw (unsigned_misses text (digits_of_minus text minus)) refl
-      | inr plain ↦ rw (unsigned_unmarked text (λ mark. no_u (rw (digits_of_plain text plain) at mark))) refl
-    ])
-float_is text no_i (inr minus) = rw (integer_unmarked text no_i, unsigned_misses text (digits_of_minus text minus)) refl
+float_is text no_i minus = grind (arith, integer_unmarked, cases_eq, unsigned_misses, digits_of_minus, unsigned_unmarked, digits_of_plain)
 
 -- a miss after a reading changes nothing
 otherwise_miss : (r : Reading (Value Text)) → (r otherwise miss) ≡ r
-otherwise_miss miss = refl
-otherwise_miss (fatal fault) = refl
-otherwise_miss (reads v rest) = refl
+otherwise_miss r = grind arith
 
 -- a digit or `-` is neither a quote nor a letter
 number_byte : (b : ℕ) → (is_ascii_digit b || b == 45) ≡ true → (45 ≤ b) × (b ≤ 57)
@@ -106,25 +87,16 @@ number_byte b first = (grind (arith, common_steps), grind (arith, common_steps))
 -- no integer is where the first byte is neither a digit nor `-`
 no_integer : (text : List ℕ) → (is_ascii_digit (slice_index text 0) || slice_index text 0 == 45) ≡ false → integer_len text ≡ 0
 no_integer [] other = refl
-no_integer (b ∷ rest) other =
-    let parts = or_parts (is_ascii_digit b) (b == 45) other in
-    let no_minus : (45 == b) ≡ false = ne_eqb 45 b (λ e. absurd (eqb-false b 45 parts.1 (sym e))) in
-    rw (no_minus, parts.0) refl
+no_integer (b ∷ rest) other = grind (arith, or_parts, ne_eqb, eqb-false)
 
 -- a word that begins with another byte is not at the start
 word_misses : (text word : List ℕ) (n w : ℕ) → slice_index text 0 ≢ w → longer_front text n (w ∷ word) ≡ n
-word_misses [] word n w other = refl
-word_misses (b ∷ rest) word n w other = rw (ne_eqb w b (λ e. absurd (other (sym e)))) refl
+word_misses text word n w other = grind (arith, ne_eqb)
 
 -- no Boolean is at the start of a text that begins with a byte below the letters
 no_boolean : (text : List ℕ) → slice_index text 0 < 70
     → (boolean_at true true_words text ≡ miss) × (boolean_at false false_words text ≡ miss)
-no_boolean text below =
-    let t : slice_index text 0 ≢ 116 = λ e. absurd (omega arith) in
-    let T : slice_index text 0 ≢ 84 = λ e. absurd (omega arith) in
-    let f : slice_index text 0 ≢ 102 = λ e. absurd (omega arith) in
-    let F : slice_index text 0 ≢ 70 = λ e. absurd (omega arith) in
-    (boolean_misses true true_words text (simp word_misses), boolean_misses false false_words text (simp word_misses))
+no_boolean text below = grind (arith, boolean_misses, word_misses)
 
 -- no string is where the first byte is no quote
 no_string : (text : List ℕ) → slice_index text 0 ≢ quote → string_at text ≡ miss
@@ -134,21 +106,12 @@ no_string text other = string_misses text (λ after e. other (ap (λ t. slice_in
 pub number_form : (text : List ℕ) → (is_ascii_digit (slice_index text 0) || slice_index text 0 == 45) ≡ true
     → value text ≡ (integer_at text otherwise unsigned_at text otherwise float_at text)
 unfolding value
-number_form text first =
-    let range = number_byte (slice_index text 0) first in
-    let no_word = no_boolean text (omega (arith, range.1)) in
-    let no_text = no_string text (λ e. absurd (omega (arith, e, range.0))) in
-    let same = otherwise_miss (integer_at text otherwise unsigned_at text otherwise float_at text) in
-    rw (no_text, no_word.0, no_word.1, same, same, same) refl
+number_form text first = grind (arith, number_byte, no_boolean, no_string, otherwise_miss)
 
 -- a quote at the start: a text
 pub string_form : (text : List ℕ) → slice_index text 0 ≡ quote → value text ≡ string_at text
 unfolding value
-string_form text first =
-    let number = no_number text (no_integer text (rw first refl)) in
-    let no_word = no_boolean text (omega (arith, first)) in
-    let same = otherwise_miss (string_at text) in
-    rw (number, no_word.0, no_word.1, same, same) refl
+string_form text first = grind (arith, no_number, no_integer, no_boolean, otherwise_miss)
 
 -- else a Boolean
 pub boolean_form : (text : List ℕ) → (is_ascii_digit (slice_index text 0) || slice_index text 0 == 45) ≡ false → slice_index text 0 ≢ quote

@@ -1,7 +1,7 @@
 -- Numbers at the start of a text.
 use Rattle.std.proofs.Common.{◌≡◌, ◌≢◌, ℕ, zero, suc, ◌+◌, ◌-◌, ◌^◌, ◌<◌, ◌≤◌, List, [], ◌∷◌, length, take, drop, get_or, Bool, slice_index}
-use Rattle.std.proofs.Common.{true, false, refl, sym, ap, subst, arith, inl, inr, add-zero, zero-add, one-add}
-use Rattle.std.specs.Prelude.{◌==◌, ◌&&◌, not, if◌then◌else◌, IsUtf8, IsCharBoundary, ℤ, pos, negsuc, FitsSigned, leb}
+use Rattle.std.proofs.Common.{true, false, refl, ap, subst, arith, inl, inr, add-zero, zero-add, one-add}
+use Rattle.std.specs.Prelude.{◌==◌, ◌&&◌, not, if◌then◌else◌, IsUtf8, IsCharBoundary, ℤ, FitsSigned}
 use Rattle.std.specs.Char.{is_ascii_digit, digit_value}
 use Rattle.std.specs.Int.{w64}
 use Rattle.std.specs.Str.Parse.{AllDigits, IsNumeral, digits_value, signed_digits_value}
@@ -35,14 +35,11 @@ all_digits (b ∷ text) =
 
 -- what fits an i64, by its test
 pub fits_from_test : (z : ℤ) → fits_i64 z ≡ true → FitsSigned w64 z
-fits_from_test (pos n) h = record { sfits = ltb-true n (2 ^ 63) h }
-fits_from_test (negsuc n) h =
-    record { sfits = omega (arith, leb-true n 9223372036854775807 (and_parts (leb n 9223372036854775807) true h).0) }
+fits_from_test z h = grind (arith, ltb-true, leb-true, and_parts)
 
 -- the test says yes of an integer that fits an i64
 pub test_from_fits : (z : ℤ) → FitsSigned w64 z → fits_i64 z ≡ true
-test_from_fits (pos n) h = lt-ltb n (2 ^ 63) h.sfits
-test_from_fits (negsuc n) h = and_from (leb n 9223372036854775807) true (le-leb n 9223372036854775807 (omega (arith, h.sfits))) refl
+test_from_fits z h = grind (arith, lt-ltb, and_from, le-leb)
 
 -- after digits a text may be cut
 pub digits_boundary : (text : List ℕ) (sign d : ℕ) → IsUtf8 text → d ≡ digits_len (drop sign text) → 0 < d → IsCharBoundary text (sign + d)
@@ -73,9 +70,7 @@ negative_end text r utf8 e =
 
 -- digits at the start, where there is one
 pub front_numeral : (text : List ℕ) → digits_len text ≢ 0 → IsNumeral 10 (take (digits_len text) text)
-front_numeral text some =
-    let len = length-take-le (digits_len text) text (prefix_len-le-length is_ascii_digit text) in
-    (omega arith, all_digits text)
+front_numeral text some = grind (arith, length-take-le, prefix_len-le-length, all_digits)
 
 -- digits and their mark
 marked : (n b mark : ℕ) → 0 < n → b ≡ mark → (not (n == 0) && b == mark) ≡ true
@@ -118,10 +113,7 @@ byte_at_drop text rest n b e =
 
 -- a byte that is not 0 is in the text
 in_text : (text : List ℕ) (n b : ℕ) → slice_index text n ≡ suc b → n < length text
-in_text text n b e = elim (cases_lt n (length text)) [
-  | inl within ↦ within
-  | inr past ↦ let past_end : 0 ≡ suc b = rw (get_or_past text n 0 past) at e in absurd (omega arith)
-]
+in_text text n b e = grind (arith, cases_lt, get_or_past)
 
 -- and what follows a place, from its byte
 pub after_byte : (text : List ℕ) (n b : ℕ) → slice_index text n ≡ suc b → drop n text ≡ suc b ∷ drop (n + 1) text
@@ -131,21 +123,13 @@ after_byte text n b e = rw (drop_more text n 0 (in_text text n b e), e) refl
 pub integer_parsed : (text number rest : List ℕ) (z : ℤ) → number ≡ take (integer_len text) text → drop (integer_len text) text ≡ 105 ∷ rest
     → 0 < length number → FitsSigned w64 (signed_digits_value 10 number) → z ≡ signed_digits_value 10 number
     → integer_at text ≡ reads (integer z) rest
-integer_parsed text number rest z e marked some fits same =
-    let byte = byte_at_drop text rest (integer_len text) 105 marked in
-    let taken : 0 < integer_len text = omega (arith, length-take (integer_len text) text, ap length e) in
-    rw (same, e, ← byte.1) (integer_reads text taken byte.0 (test_from_fits _ (rw e at fits)))
+integer_parsed text number rest z e marked some fits same = grind (arith, byte_at_drop, marked, length-take, integer_reads, test_from_fits)
 
 -- an integer and its mark decide
 pub integer_decides : (text : List ℕ) (other : Reading (Value Text)) → 0 < integer_len text → slice_index text (integer_len text) ≡ 105
     → (integer_at text otherwise other) ≡ integer_at text
 unfolding integer_at
-integer_decides text other some mark =
-    rw (marked (integer_len text) _ 105 some mark)
-    (elim (cases_Bool (fits_i64 (signed_digits_value 10 (take (integer_len text) text)))) [
-      | inl fits ↦ rw fits refl
-      | inr none ↦ rw none refl
-    ])
+integer_decides text other some mark = grind (arith, marked, cases_Bool)
 
 -- after a letter a text may be cut
 pub letter_boundary : (text : List ℕ) (n b : ℕ) → IsUtf8 text → slice_index text n ≡ suc b → suc b < 128 → IsCharBoundary text (n + 1)
@@ -153,12 +137,7 @@ letter_boundary text n b utf8 e small = IsCharBoundary-after_ascii text n utf8 (
 
 -- the digits at the start and the integer at the start
 pub digits_of_plain : (text : List ℕ) → slice_index text 0 ≢ 45 → digits_len text ≡ integer_len text
-digits_of_plain text other =
-    let no_minus : (45 == slice_index text 0) ≡ false = ne_eqb 45 (slice_index text 0) (λ e. other (sym e)) in
-    elim (cases_Bool (digits_len text == 0)) [
-      | inl none ↦ rw (no_minus, none) (eqb-true (digits_len text) 0 none)
-      | inr some ↦ rw (no_minus, some) (sym (zero-add (digits_len text)))
-    ]
+digits_of_plain text other = grind (arith, ne_eqb, cases_Bool, eqb-true, zero-add)
 
 -- no digits are at a minus
 pub digits_of_minus : (text : List ℕ) → slice_index text 0 ≡ 45 → digits_len text ≡ 0
@@ -167,10 +146,7 @@ digits_of_minus (b ∷ rest) e = rw e refl
 
 -- the digits at the start take no more than the integer there
 pub digits_no_more : (text : List ℕ) → digits_len text ≤ integer_len text
-digits_no_more text = elim (cases_eq (slice_index text 0) 45) [
-  | inl minus ↦ omega (arith, digits_of_minus text minus)
-  | inr plain ↦ omega (arith, digits_of_plain text plain)
-]
+digits_no_more text = grind (arith, cases_eq, digits_of_minus, digits_of_plain)
 
 -- the outcomes of an unsigned integer
 pub unsigned_misses : (text : List ℕ) → digits_len text ≡ 0 → unsigned_at text ≡ miss
@@ -200,11 +176,7 @@ unsigned_overflows text some mark large = rw (marked (digits_len text) _ 117 som
 pub unsigned_decides : (text : List ℕ) (other : Reading (Value Text)) → integer_at text ≡ miss → 0 < digits_len text
     → slice_index text (digits_len text) ≡ 117
     → (integer_at text otherwise unsigned_at text otherwise other) ≡ unsigned_at text
-unsigned_decides text other no_integer some mark =
-    elim (cases_lt (digits_value 10 (take (digits_len text) text)) (2 ^ 64)) [
-      | inl small ↦ rw (no_integer, unsigned_reads text some mark small) refl
-      | inr large ↦ rw (no_integer, unsigned_overflows text some mark large) refl
-    ]
+unsigned_decides text other no_integer some mark = grind (arith, cases_lt, unsigned_reads, unsigned_overflows)
 
 -- the outcomes of a Boolean
 pub boolean_misses : (b : Bool) (words : List (List ℕ)) (text : List ℕ) → word_len words text ≡ 0 → boolean_at b words text ≡ miss

@@ -1,12 +1,13 @@
 -- The lanes of one load that was compared with bytes.
-use Rattle.std.proofs.Common.{◌≡◌, ℕ, ◌+◌, ◌<◌, ◌≤◌, ◌%◌, ◌^◌, Bool, true, false, List, map, length, replicate, eqb, cond, bit_or, ◌||◌}
-use Rattle.std.proofs.Common.{[], ◌∷◌, get_or, refl, sym, ap, ◌∙◌}
+use Rattle.std.proofs.Common.{◌≡◌, ℕ, ◌+◌, ◌<◌, ◌≤◌, ◌%◌, ◌^◌, Bool, true, List, map, length, replicate, eqb, cond, bit_or, ◌||◌}
+use Rattle.std.proofs.Common.{get_or, refl, sym, ap, ◌∙◌}
 use Rattle.std.proofs.lemmas.Bool.{agree_below}
 use Rattle.std.proofs.lemmas.List.{map-id}
 use Rattle.std.proofs.lemmas.Simd.{length-chunk, zip2_splat, zip2_of_maps}
 use lib.Lanes.{chunk, mask_l, top, zip2}
 use Rattle.lp_scan.specs.code.Lanes.{mask_of}
 use Rattle.lp_scan.proofs.lemmas.scan.MaskLemmas.{mask_by_lanes, mask_is}
+use Rattle.std.proofs.Common.{arith}
 
 -- a byte as a lane: all ones where it is this one
 abbrev pub lane : ℕ → ℕ → ℕ
@@ -48,15 +49,11 @@ is_in (either s t) x = is_in s x || is_in t x
 
 -- a lane that is set in one of two
 either_set : (e f : Bool) → bit_or (cond e 255 0) (cond f 255 0) ≡ cond (e || f) 255 0
-either_set true true = refl
-either_set true false = refl
-either_set false true = refl
-either_set false false = refl
+either_set e f = grind arith
 
 -- the top bit of a lane tells whether it is set
 top_set : (e : Bool) → top 7 (cond e 255 0) ≡ e
-top_set true = refl
-top_set false = refl
+top_set e = grind arith
 
 -- a lane is set where its byte is one of those
 lanes_are : (t : Compared) (n : ℕ) (v : List ℕ) → length v ≡ n → lanes_in t n v ≡ map (λ x. cond (is_in t x) 255 0) v
@@ -69,16 +66,13 @@ lanes_are (either s t) n v long =
 module _ (t : Compared) (bytes : List ℕ) (at n : ℕ) (room : at + n ≤ length bytes) (few : n ≤ 64) where
   -- the bits of the lanes are the mask of the bytes that are one of those
   pub mask_in : mask_l (map (top 7) (lanes_in t n (chunk at n bytes))) % 2 ^ 64 ≡ mask_of (is_in t) bytes at n
-  mask_in = mask_by_lanes (is_in t) bytes at n room few (λ x. cond (is_in t x) 255 0) (λ x. top_set (is_in t x)) _
-      (lanes_are t n (chunk at n bytes) (length-chunk at n bytes room))
+  mask_in = grind (arith, mask_by_lanes, top_set, lanes_are, length-chunk)
 
   -- and of those that pass a test, where the test agrees at each of the 256 bytes
   pub mask_as : (test : ℕ → Bool) → ((k : ℕ) → get_or bytes k 0 < 256) → agree_below (λ x. top 7 (cond (is_in t x) 255 0)) test 256 ≡ true
       → mask_l (map (top 7) (lanes_in t n (chunk at n bytes))) % 2 ^ 64 ≡ mask_of test bytes at n
-  mask_as test fits all = mask_is test bytes at n room few _ (λ x. cond (is_in t x) 255 0)
-      (lanes_are t n (chunk at n bytes) (length-chunk at n bytes room)) fits all
+  mask_as test fits all = grind (arith, mask_is, lanes_are, length-chunk)
 
 -- two tests that answer the same of each byte answer the same of a text
 pub same_tests : (p q : ℕ → Bool) → ((b : ℕ) → p b ≡ q b) → (text : List ℕ) → map p text ≡ map q text
-same_tests p q same [] = refl
-same_tests p q same (b ∷ text) = rw (same b, same_tests p q same text) refl
+same_tests p q same text = grind arith

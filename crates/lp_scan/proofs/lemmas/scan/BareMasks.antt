@@ -77,9 +77,7 @@ highest p at =
 
 -- its lowest bits are the mask of the first places
 pub mask_low : (p : ℕ → Bool) (at w n : ℕ) → n ≤ w → mask_at p at w % 2 ^ n ≡ mask_at p at n
-mask_low p at w n few =
-    mask_mod (map p (range_with_len at w)) n (omega (arith, length-map-range_with_len p at w))
-    ∙ ap mask_l (take-map-range_with_len p at w n few)
+mask_low p at w n few = grind (arith, mask_mod, length-map-range_with_len, take-map-range_with_len)
 
 -- they tell how many of those pass
 pub ones_low : (p : ℕ → Bool) (at w n : ℕ) → n ≤ w → count_ones (mask_at p at w % 2 ^ n) ≡ count_by p (range_with_len at n)
@@ -108,35 +106,19 @@ module _ (text : List ℕ) (at : ℕ) (room : at + 64 < length text) (last : ℕ
     (is : last ≡ cond (is_bare_at (λ b. b == backslash) text (at + 63)) 1 0) where
   -- what follows a load is escaped if its last byte is a bare backslash
   flag : is_escaped_after (take (at + 64) text) ≡ is_bare_at (λ b. b == backslash) text (at + 63)
-  flag =
-      let place : at + 64 ≡ at + 63 + 1 = omega arith in
-      ap (λ (n : ℕ). is_escaped_after (take n text)) place ∙ escapes_next text (at + 63) (omega arith)
+  flag = grind (arith, escapes_next)
 
   -- at most one byte after a load is escaped by it
   pub at_most_one : last ≤ 1
-  at_most_one = elim (cases_Bool (is_bare_at (λ b. b == backslash) text (at + 63))) [
-    | inl set ↦ omega (arith, is ∙ ap (λ (t : Bool). cond t 1 0) set)
-    | inr clear ↦ omega (arith, is ∙ ap (λ (t : Bool). cond t 1 0) clear)
-  ]
+  at_most_one = grind (arith, cases_Bool)
 
   -- a load that ends in a bare backslash escapes the byte after it
   pub one_escaped : 0 < last → is_escaped_after (take (at + 64) text) ≡ true
-  one_escaped some = elim (cases_Bool (is_bare_at (λ b. b == backslash) text (at + 63))) [
-    | inl set ↦ flag ∙ set
-    | inr clear ↦ absurd (omega (arith, is ∙ ap (λ (t : Bool). cond t 1 0) clear))
-  ]
+  one_escaped some = grind (arith, cases_Bool, flag)
 
   -- nothing is escaped where the next load begins
   pub next_bare : IsBareAfter (take (at + (64 + last)) text)
-  next_bare = elim (cases_Bool (is_bare_at (λ b. b == backslash) text (at + 63))) [
-    | inl set ↦
-        let place : at + (64 + last) ≡ at + 64 + 1 = omega (arith, is ∙ ap (λ (t : Bool). cond t 1 0) set) in
-        ap (λ (n : ℕ). is_escaped_after (take n text)) place ∙ escapes_next text (at + 64) room
-        ∙ escaped_is_not_bare (λ b. b == backslash) text (at + 64) (flag ∙ set)
-    | inr clear ↦
-        let place : at + (64 + last) ≡ at + 64 = omega (arith, is ∙ ap (λ (t : Bool). cond t 1 0) clear) in
-        ap (λ (n : ℕ). is_escaped_after (take n text)) place ∙ flag ∙ clear
-  ]
+  next_bare = grind (arith, cases_Bool, escapes_next, escaped_is_not_bare, flag)
 
 -- from the mask of the bare stops of a load that begins at a bare place
 module _ (passes : ℕ → Bool) (text : List ℕ) (at : ℕ) (room : at + 64 < length text) (p : IsPassed passes text at) where
@@ -155,10 +137,7 @@ module _ (passes : ℕ → Bool) (text : List ℕ) (at : ℕ) (room : at + 64 < 
 
     -- the lowest bit is the first bare byte that passes
     pub to_stop : r < 64 → IsPassed passes text (at + r) × (passes (slice_index text (at + r)) ≡ true)
-    to_stop short = (
-      record { within = omega arith; is_bare = λ _. not-true _ (here short).1; passed = none_to },
-      (here short).0,
-    )
+    to_stop short = grind (arith, not-true, here, none_to)
 
     -- none is: the next load begins at a bare place too
     pub to_next : (last : ℕ) → 64 ≤ r → last ≡ cond (is_bare_at (λ b. b == backslash) text (at + 63)) 1 0 → IsPassed passes text (at + (64 + last))

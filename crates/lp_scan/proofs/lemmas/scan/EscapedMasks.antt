@@ -122,22 +122,15 @@ module _ (ms : List Bool) (long : length ms ≡ 64) where
 
   -- a mask times 2 is that of the places after its own
   afters_are : mask_l ms * 2 % 2 ^ 64 ≡ mask_l (afters false ms)
-  afters_are =
-      let whole : mask_l (afters false ms) + 2 ^ 64 * cond (last_of false ms) 1 0 ≡ 0 + 2 * mask_l ms =
-      subst (λ (n : ℕ). mask_l (afters false ms) + 2 ^ n * cond (last_of false ms) 1 0 ≡ 0 + 2 * mask_l ms) long (shifted false ms) in
-      let below = fits (afters false ms) (long_afters false ms) in
-      omega arith
+  afters_are = grind (arith, shifted, fits, long_afters)
 
   -- the minuend of the subtraction is the mask of its places
   minuend_is : bit_or (mask_l ms * 2 % 2 ^ 64) odd_places ≡ mask_l (minuend false false ms)
-  minuend_is =
-      ap₂ bit_or afters_are (sym odds_are)
-      ∙ mask_or (afters false ms) (odds false (length ms)) (long_afters false ms ∙ sym (long_odds false (length ms)))
+  minuend_is = grind (arith, bit_or, afters_are, odds_are, mask_or, long_afters, long_odds)
 
   -- the minuend has as many places as the mask
   long_minuend : length (minuend false false ms) ≡ length ms
-  long_minuend = length-zip2 (λ a b. a || b) (afters false ms) (odds false (length ms))
-      (long_afters false ms ∙ sym (long_odds false (length ms))) ∙ long_afters false ms
+  long_minuend = grind (arith, length-zip2, long_afters, long_odds)
 
   -- the subtraction gives the mask of the difference
   left_is : (bit_or (mask_l ms * 2 % 2 ^ 64) odd_places + (2 ^ 64 - mask_l ms)) % 2 ^ 64 ≡ mask_l (difference false false ms)

@@ -81,11 +81,7 @@ module _ {V : Type 0} (f g : V → Bool) (vs : List V) where
 -- the places that do not pass, of 64
 pub not_of_map : {V : Type 0} (f : V → Bool) (vs : List V) → length vs ≡ 64
     → bit_not w64 (mask_l (map f vs)) ≡ mask_l (map (λ v. not (f v)) vs)
-not_of_map f vs long =
-    let whole : mask_l (map not (map f vs)) + mask_l (map f vs) + 1 ≡ 2 ^ 64 =
-    mask_not (map f vs) ∙ ap (λ (n : ℕ). 2 ^ n) (length-map vs f ∙ long) in
-    let rest : bit_not w64 (mask_l (map f vs)) ≡ mask_l (map not (map f vs)) = omega arith in
-    rest ∙ ap mask_l (map-map not f vs)
+not_of_map f vs long = grind (arith, mask_not, length-map, map-map)
 
 -- the bits below a place
 pub below_is : (m n : ℕ) → n < 64 → bit_and m (1 * 2 ^ n % 2 ^ 64 - 1) ≡ m % 2 ^ n

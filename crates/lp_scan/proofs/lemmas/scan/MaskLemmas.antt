@@ -1,6 +1,6 @@
 -- Masks of loads and of places: what is left of one without its lowest bits, and what its bits tell.
 use Rattle.std.proofs.Common.{◌≡◌, ℕ, zero, suc, ◌+◌, ◌-◌, ◌*◌, ◌/◌, ◌^◌, ◌<◌, ◌≤◌, Bool, true, cond, not, List, [], ◌∷◌, map, length, take}
-use Rattle.std.proofs.Common.{drop, sym, ap, ◌∙◌, arith, ◌%◌, ◌++◌, get_or, refl, inl, inr, take-append-drop, subst, ap₂}
+use Rattle.std.proofs.Common.{drop, sym, ap, ◌∙◌, arith, ◌%◌, ◌++◌, get_or, refl, inl, inr, take-append-drop, subst}
 use native.Mathlib.Nat.{pow-suc, mul_comm, zero-div, div-one, div-div-eq-div-mul, add-mul-mod_self_right}
 use Rattle.std.proofs.lemmas.Simd.{ones-mask_l, length-chunk, first_set_mask_l, run_in_chunk_le, run_in_chunk_fails, run_in_chunk_stops}
 use Rattle.std.proofs.lemmas.Simd.{map-map, mask_l-mod, get_or-chunk, mask_l-lt}
@@ -62,11 +62,7 @@ map_agree f g (x ∷ v) same =
 module _ (test : ℕ → Bool) (bytes : List ℕ) (at n : ℕ) (room : at + n ≤ length bytes) (few : n ≤ 64) where
   -- a byte of a load
   in_load : ((k : ℕ) → get_or bytes k 0 < 256) → (k : ℕ) → get_or (chunk at n bytes) k 0 < 256
-  in_load fits k =
-      elim (cases_lt k n) [
-        | inl inside ↦ rw (get_or-chunk at n bytes k 0 inside) (fits (at + k))
-        | inr outside ↦ rw (get_or_past (chunk at n bytes) k 0 (omega (arith, length-chunk at n bytes room))) (omega arith)
-      ]
+  in_load fits k = grind (arith, cases_lt, get_or-chunk, get_or_past, length-chunk)
 
   -- where a lane is set just where its byte passes the test, at each of the 256 bytes, the bits of the lanes are the mask
   pub mask_is : (z : List ℕ) (f : ℕ → ℕ) → z ≡ map f (chunk at n bytes) → ((k : ℕ) → get_or bytes k 0 < 256)
@@ -90,18 +86,11 @@ module _ (test : ℕ → Bool) (bytes : List ℕ) (at n : ℕ) (room : at + n �
 
   -- the lowest bit of a mask tells how far the bytes go that fail the test
   pub run_is : (r : ℕ) → r ≡ first_set (mask_of test bytes at n) n → IsRunIn (λ b. not (test b)) bytes at n r
-  run_is r found =
-      let counted = found ∙ lowest test bytes at n room few in (
-        run_in_chunk_le test bytes at n r 0 room counted,
-        λ k from to. ap not (run_in_chunk_fails test bytes at n r 0 room counted k from to),
-        λ short. ap not (run_in_chunk_stops test bytes at n r 0 room counted short),
-      )
+  run_is r found = grind (arith, lowest, run_in_chunk_le, run_in_chunk_fails, run_in_chunk_stops)
 
 -- no bit of a mask comes after its load
 after : (test : ℕ → Bool) (bytes : List ℕ) (at n k : ℕ) → at + n ≤ length bytes → n ≤ k → mask_of test bytes at n / 2 ^ k ≡ 0
-after test bytes at n k room past =
-    mask_l-drop (map test (chunk at n bytes)) k
-    ∙ ap mask_l (drop_all k (map test (chunk at n bytes)) (omega (arith, length-map (chunk at n bytes) test, length-chunk at n bytes room)))
+after test bytes at n k room past = grind (arith, mask_l-drop, drop_all, length-map, length-chunk)
 
 -- the lowest bit of a mask from a place on tells how far the bytes go from there that fail the test
 pub next_is : (test : ℕ → Bool) (bytes : List ℕ) (at n k r : ℕ) → at + n ≤ length bytes → n ≤ 64
@@ -135,10 +124,7 @@ mask_mod ms k within =
 
 -- numbers from a place on, without the first ones
 drop_range : (k at n m : ℕ) → k + m ≡ n → drop k (range_with_len at n) ≡ range_with_len (at + k) m
-drop_range zero at n m e =
-    let same : n ≡ m = omega arith in
-    let place : at ≡ at + 0 = omega arith in
-    ap₂ (λ (a b : ℕ). range_with_len a b) place same
+drop_range zero at n m e = grind arith
 drop_range (suc k) at zero m e = absurd (omega arith)
 drop_range (suc k) at (suc n) m e =
     let place : at + 1 + k ≡ at + suc k = omega arith in
@@ -150,9 +136,7 @@ mask_fits p at n = subst (λ (k : ℕ). mask_at p at n < 2 ^ k) (length-map-rang
 
 -- a mask without its lowest bits
 pub mask_after : (p : ℕ → Bool) (at n k m : ℕ) → k + m ≡ n → mask_at p at n / 2 ^ k ≡ mask_at p (at + k) m
-mask_after p at n k m e =
-    mask_l-drop (map p (range_with_len at n)) k
-    ∙ ap mask_l (drop-map p k (range_with_len at n) ∙ ap (map p) (drop_range k at n m e))
+mask_after p at n k m e = grind (arith, mask_l-drop, drop-map, drop_range)
 
 -- the lowest bit of a mask below a power is below its exponent
 pub tz_below : (m n r : ℕ) → m < 2 ^ n → n ≤ 64 → 0 < m → r ≡ trailing_zeros w64 m → r < n

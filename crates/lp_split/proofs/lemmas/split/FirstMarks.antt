@@ -1,11 +1,10 @@
 -- The first newline, quote or backslash of a text, as loads and searches find it, and the cut that it tells.
 use Rattle.std.proofs.Common.{◌≡◌, ℕ, ◌+◌, ◌-◌, ◌/◌, ◌^◌, ◌<◌, ◌≤◌, Bool, true, cond, not, List, length, drop, slice_index, Some, sym, ap}
-use Rattle.std.proofs.Common.{subst, ◌∙◌, map, inl, inr, refl, length-drop, arith, None, ◌≢◌, zero, suc, take}
+use Rattle.std.proofs.Common.{subst, ◌∙◌, inl, inr, refl, length-drop, arith, None, ◌≢◌, zero, suc, take}
 use Rattle.std.specs.Int.{w64, trailing_zeros}
 use Rattle.std.proofs.lemmas.Bool.{cases_lt, ne_eqb, not-true, not-false, false≢true, cases_Bool}
 use Rattle.std.proofs.lemmas.List.{length-map, get_or-drop, take_all, take_more}
 use Rattle.std.proofs.lemmas.Simd.{length-chunk, mask_l-lt}
-use lib.Lanes.{chunk, mask_l}
 use Rattle.memchr.specs.Find.{IsFirstByte, is_byte3, Nowhere, Passes}
 use Rattle.lp_scan.specs.code.Lanes.{AllPassBetween, IsRunIn, first_set, mask_of}
 use Rattle.lp_split.specs.code.Ahead.{AreSeen}
@@ -22,11 +21,7 @@ module _ (test : ℕ → Bool) (text : List ℕ) (at n m r : ℕ) (room : at + n
     (is : m ≡ mask_of test text at n) (some : 0 < m) (lowest : r ≡ trailing_zeros w64 m) where
   -- the mask is below the power of as many bytes as it tells of
   below : m < 2 ^ n
-  below =
-      let ms = map test (chunk at n text) in
-      let long : length ms ≡ n = length-map (chunk at n text) test ∙ length-chunk at n text room in
-      let small : mask_l ms < 2 ^ n = rw long at (mask_l-lt ms) in
-      omega (arith, is, small)
+  below = grind (arith, length-map, length-chunk, mask_l-lt)
 
   -- the bit is one of those
   pub one_of : r < n
@@ -44,17 +39,7 @@ module _ (test : ℕ → Bool) (text : List ℕ) (at n m r : ℕ) (room : at + n
 
   -- where none comes before the mask's bytes, it is the first
   pub first_is : (place : ℕ) → at + r ≡ place → AllPassBetween (λ b. not (test b)) text 0 at → IsFirstByte test text (Some place)
-  first_is place to_place before = subst (λ (k : ℕ). IsFirstByte test text (Some k)) to_place (
-    record {
-      low = omega arith;
-      high = omega (arith, one_of);
-      before = λ k from to found. elim (cases_lt k at) [
-        | inl early ↦ false≢true (sym (not-true (test (slice_index text k)) (before k from early)) ∙ found)
-        | inr late ↦ false≢true (sym (not-true (test (slice_index text k)) (run.1 k late to)) ∙ found)
-      ];
-    },
-    is_mark,
-  )
+  first_is place to_place before = grind (arith, one_of, cases_lt, false≢true, not-true, run, is_mark)
 
   -- the bits above it are the mask of the bytes after it
   pub later_are : m / 2 ^ r / 2 ≡ mask_of test (drop (at + r + 1) text) 0 (n - (r + 1))
@@ -139,11 +124,7 @@ no_newline text (suc n) h none =
 pub cut_at_newline : (dialect : Dialect) (text : List ℕ) (n : ℕ) → IsFirstByte (is_byte3 backslash 10 quote) text (Some n)
     → slice_index text n ≡ 10
     → IsFirstCut dialect text (Some n)
-cut_at_newline Crate text n found newline = quiet_cut text n found newline
-cut_at_newline Strict text n found newline = elim (cases_Bool (begins_comment text)) [
-  | inl e ↦ cut_of_comment text (Some n) e (found.0.high, newline, no_newline text n (omega (arith, found.0.high)) found.0.before)
-  | inr e ↦ cut_of_other text (Some n) e (quiet_cut text n found newline)
-]
+cut_at_newline dialect text n found newline = grind (arith, quiet_cut, cases_Bool, cut_of_comment, no_newline, cut_of_other)
 
 -- a text without any of them is one piece
 pub no_cut : (dialect : Dialect) (text : List ℕ) → IsFirstByte (is_byte3 backslash 10 quote) text None → IsFirstCut dialect text None

@@ -39,11 +39,7 @@ module _ (passes : ℕ → Bool) where
   bare_len_before : (escaped : Bool) (text : List ℕ) (k : ℕ) → k < bare_len passes escaped text
       → (passes (get_or text k 0) && not (escaped_from escaped (take k text))) ≡ false
   bare_len_before escaped [] k h = absurd (omega arith)
-  bare_len_before escaped (b ∷ text) zero h =
-      elim (cases_Bool (passes b && not escaped)) [
-        | inl stop ↦ let none : zero < 0 = rw stop at h in absurd (omega arith)
-        | inr on ↦ on
-      ]
+  bare_len_before escaped (b ∷ text) zero h = grind (arith, cases_Bool)
   bare_len_before escaped (b ∷ text) (suc k) h =
       elim (cases_Bool (passes b && not escaped)) [
         | inl stop ↦ let none : suc k < 0 = rw stop at h in absurd (omega arith)

@@ -4,7 +4,6 @@ use Rattle.std.proofs.Common.{None, length-drop, refl, sym, ap, ◌∙◌, subst
 use Rattle.std.proofs.Common.{count_ones}
 use Rattle.std.specs.Prelude.{◌==◌}
 use Rattle.std.proofs.lemmas.Bool.{and_right, cases_Bool, eqb-true, eqb-false}
-use Rattle.std.proofs.lemmas.Bool.Decides.{nat_tests}
 use Rattle.std.proofs.lemmas.List.{get_or-drop, length-map}
 use Rattle.memchr.specs.Find.{Nowhere, Passes, IsFirstByte}
 use Rattle.lp_format.specs.format.Bytes.{backslash}
@@ -39,11 +38,7 @@ module _ (passes : ℕ → Bool) (text : List ℕ) where
   -- one place more is passed
   passed_more : (at : ℕ) → ((k : ℕ) → k < at → is_bare_at passes text k ≡ false) → is_bare_at passes text at ≡ false
       → (k : ℕ) → k < at + 1 → is_bare_at passes text k ≡ false
-  passed_more at before here k h =
-      elim (cases_Bool (k == at)) [
-        | inl e ↦ subst (λ (n : ℕ). is_bare_at passes text n ≡ false) (sym (eqb-true k at e)) here
-        | inr other ↦ before k (omega (arith, eqb-false k at other))
-      ]
+  passed_more at before here k h = grind (arith, cases_Bool, eqb-true, eqb-false)
 
   -- several bytes that are no backslashes and do not pass
   passed_bytes : (at n : ℕ) → at + n ≤ length text
@@ -76,22 +71,12 @@ module _ (passes : ℕ → Bool) (text : List ℕ) where
   -- a stretch ends where a byte passes, or with the text
   pub passed_to_stop : (n : ℕ) → IsBarePassed passes text n → (n < length text → passes (slice_index text n) ≡ true)
       → IsStretch passes text 0 n
-  passed_to_stop n p stops = record {
-    ordered = omega arith;
-    within = p.within;
-    none = λ k from to. p.none k to;
-    stops = λ h. rw (stops h, p.is_bare) refl;
-  }
+  passed_to_stop n p stops = grind arith
 
   -- a stretch ends with a text whose last byte is a bare backslash
   pub passed_to_backslash : (n : ℕ) → IsBarePassed passes text n → slice_index text n ≡ backslash → n + 1 ≡ length text
       → passes backslash ≡ false → IsStretch passes text 0 (length text)
-  passed_to_backslash n p here last fails = record {
-    ordered = omega arith;
-    within = omega arith;
-    none = λ k from to. passed_more n p.none (rw (here, fails) refl) k (omega arith);
-    stops = λ h. absurd (omega arith);
-  }
+  passed_to_backslash n p here last fails = grind (arith, passed_more)
 
 -- what a search after `at` gives
 module _ (test passes : ℕ → Bool) (search : LooksFor test passes) (text rest : List ℕ) (at : ℕ)
@@ -119,11 +104,7 @@ module _ (test passes : ℕ → Bool) (search : LooksFor test passes) (text rest
   -- it finds a byte that passes, or a backslash that ends the text
   pub search_stops : (n : ℕ) → IsFirstByte test rest (Some n) → (slice_index text (at + n) ≡ backslash → at + n + 1 ≡ length text)
       → EndsAt passes text (at + n)
-  search_stops n found last = elim (cases_Bool (slice_index text (at + n) == backslash)) [
-    | inl is ↦ let here = eqb-true (slice_index text (at + n)) backslash is in inr (here, last here)
-    | inr other ↦ inl (search.stops (slice_index text (at + n)) (subst (λ (b : ℕ). test b ≡ true) (there n) found.1)
-        (eqb-false (slice_index text (at + n)) backslash other))
-  ]
+  search_stops n found last = grind (arith, cases_Bool, eqb-true, there, eqb-false)
 
   -- it finds another backslash
   pub search_goes_on : (n : ℕ) → IsFirstByte test rest (Some n) → slice_index text (at + n) ≡ backslash → at + n + 1 < length text
@@ -139,12 +120,7 @@ module _ (test passes : ℕ → Bool) (search : LooksFor test passes) (text rest
 -- the search for the backslash and two bytes more
 pub looks_for_two : (c d : ℕ) → (backslash == c || backslash == d) ≡ false
     → LooksFor (λ b. b == backslash || b == c || b == d) (λ b. b == c || b == d)
-looks_for_two c d other =
-    record {
-      others = λ b h. grind (arith, nat_tests);
-      stops = λ b h n. grind (arith, nat_tests);
-      escapes = other;
-    }
+looks_for_two c d other = grind arith
 
 -- the bytes that pass of a whole text
 pub count_whole : (p : ℕ → Bool) (text : List ℕ) (at : ℕ) → count_by p (take at text) + count_by p (drop at text) ≡ count_by p text
@@ -166,6 +142,4 @@ module _ (p : ℕ → Bool) (text : List ℕ) (at m : ℕ) (room : at + 64 ≤ l
 
   -- the bytes that pass, one load further
   pub count_load : count_by p (take (at + 64) text) ≡ count_by p (take at text) + count_ones (m % 2 ^ 64)
-  count_load =
-      ap (count_by p) (take-add at 64 text) ∙ sum_by-append (λ x. cond (p x) 1 0) (take at text) (take 64 (drop at text))
-      ∙ ap (λ (k : ℕ). count_by p (take at text) + k) (sym load_counts)
+  count_load = grind (arith, take-add, sum_by-append, load_counts)

@@ -12,7 +12,6 @@ use Rattle.std.proofs.lemmas.List.Elements.{All-nil}
 use Rattle.std.proofs.lemmas.List.FromFn.{length-map-range_with_len, length-range_with_len}
 use Rattle.std.proofs.lemmas.List.Sums.{count_by-le-length, sum_by-cons}
 use Rattle.std.proofs.lemmas.Simd.{mask_l-mod, ones-mask_l}
-use lib.Lanes.{mask_l}
 use Rattle.std.proofs.Math.Seq.{drop-append_seam, take-add, take-append-add, take-append_seam}
 use Rattle.memchr.specs.Find.{IsFirstByte, Nowhere, Passes, is_byte3}
 use Rattle.lp_format.specs.format.Bytes.{backslash, comma, newline, quote, space}
@@ -53,10 +52,7 @@ bare_past text at h other = rw (take_more text at 0 h) (is_escaped-push_other (t
 -- a place of what is left after a bare place is bare where it is in the text
 bare_in_rest : (passes : ℕ → Bool) (text rest : List ℕ) (at k : ℕ) → rest ≡ drop at text → IsBareAfter (take at text)
     → is_bare_at passes text (at + k) ≡ is_bare_at passes rest k
-bare_in_rest passes text rest at k same is_bare =
-    ap₂ (λ (b : ℕ) (e : Bool). passes b && not e) (sym (get_or-drop at text k 0))
-    (ap is_escaped_after (take-add at k text) ∙ bare_joined (take at text) (take k (drop at text)) is_bare)
-    ∙ ap (λ (t : List ℕ). is_bare_at passes t k) (sym same)
+bare_in_rest passes text rest at k same is_bare = grind (arith, get_or-drop, take-add, bare_joined)
 
 -- a stretch of what is left after a bare place is a stretch of the text
 pub stretch_in : (passes : ℕ → Bool) (text rest : List ℕ) (at n : ℕ) → rest ≡ drop at text → at ≤ length text
@@ -76,11 +72,7 @@ stretch_in passes text rest at n same from is_bare s =
 
 -- the byte that ends a quoted stretch is looked for once
 pub quotes_alone : (text : List ℕ) (n : ℕ) → IsStretch (λ b. b == quote || b == quote) text 0 n → IsStretch (λ b. b == quote) text 0 n
-quotes_alone text n s = subst (λ (p : ℕ → Bool). IsStretch p text 0 n) (λ j b. once (b == quote) j) s
-  where
-    -- one of two that are the same
-    once : (t : Bool) → (t || t) ≡ t
-    once t = grind arith
+quotes_alone text n s = grind arith
 
 module _ (text : List ℕ) where
   -- what each byte keeps that is no bare stop is kept along several
@@ -89,9 +81,7 @@ module _ (text : List ℕ) where
       → ((piece : List ℕ) (b : ℕ) → IsBareAfter piece → stop b ≡ false → P piece → P (piece ++ b ∷ []))
       → (n at end : ℕ) → at + n ≡ end → end ≤ length text → ((k : ℕ) → at ≤ k → k < end → is_bare_at stop text k ≡ false)
       → P (take at text) → P (take end text)
-  along P stop if_escaped if_bare zero at end to room none h =
-      let same : at ≡ end = omega arith in
-      subst (λ (k : ℕ). P (take k text)) same h
+  along P stop if_escaped if_bare zero at end to room none h = grind arith
   along P stop if_escaped if_bare (suc n) at end to room none h =
       let piece = take (at + n) text in
       let b = slice_index text (at + n) in
@@ -150,11 +140,7 @@ module _ (text : List ℕ) where
   plain_on : (n at e c x y : ℕ) → at + n ≤ length text → ((k : ℕ) → at ≤ k → k < at + n → is_bare_at ends_plain text k ≡ false)
       → IsIn Plain e c (take at text) → x ≡ e + count_by (is_bare_at (λ b. b == 61) text) (range_with_len at n)
       → y ≡ c + count_by (is_bare_at (λ b. b == comma) text) (range_with_len at n) → IsIn Plain x y (take (at + n) text)
-  plain_on zero at e c x y room none h to_x to_y =
-      let place : at ≡ at + 0 = omega arith in
-      let same_x : x ≡ e = omega (arith, to_x) in
-      let same_y : y ≡ c = omega (arith, to_y) in
-      rw (same_x, same_y) (subst (λ (k : ℕ). IsIn Plain e c (take k text)) place h)
+  plain_on zero at e c x y room none h to_x to_y = grind arith
   plain_on (suc n) at e c x y room none h to_x to_y =
       let place : at + 1 + n ≡ at + suc n = omega arith in
       let more : (p : ℕ → Bool) → count_by p (range_with_len at (suc n)) ≡ cond (p at) 1 0 + count_by p (range_with_len (at + 1) n) =
@@ -168,8 +154,7 @@ module _ (text : List ℕ) where
 module _ (bytes text : List ℕ) (is_bare : IsBareAfter bytes) where
   -- a place of the bytes after the others is bare where it is in both
   bare_in_both : (passes : ℕ → Bool) (k : ℕ) → is_bare_at passes (bytes ++ text) (length bytes + k) ≡ is_bare_at passes text k
-  bare_in_both passes k = bare_in_rest passes (bytes ++ text) text (length bytes) k (sym (drop-append_seam bytes text))
-      (subst IsBareAfter (sym (take-append_seam bytes text)) is_bare)
+  bare_in_both passes k = grind (arith, bare_in_rest, drop-append_seam, take-append_seam)
 
   -- what each byte keeps that is no bare stop is kept along them
   along_more : (P : List ℕ → Type 0) (stop : ℕ → Bool) (n : ℕ)
@@ -218,27 +203,7 @@ module _ (bytes text : List ℕ) (is_bare : IsBareAfter bytes) where
   -- so what a load shows of them it shows of both
   pub shown_in_both : (a : Ahead) → IsAhead text 0 a → IsAhead (bytes ++ text) (length bytes)
       (record { stops = a.stops; equals = a.equals; commas = a.commas; end = length bytes + a.end })
-  shown_in_both a are =
-      let within = are.within in
-      let near = are.near in
-      let from_start : are.count ≡ 0 + are.count = omega arith in
-      let front : (k : ℕ) → is_escaped_after (take (length bytes + k) (bytes ++ text)) ≡ is_escaped_after (take k text) =
-      λ k. ap is_escaped_after (take-append-add bytes text k) ∙ bare_joined bytes (take k text) is_bare in
-      let mask : (p : ℕ → Bool)
-      → mask_at (is_bare_at p text) 0 are.count ≡ mask_at (is_bare_at p (bytes ++ text)) (length bytes) are.count =
-      λ p. ap mask_l (sym (tests_in_both p are.count 0 (length bytes) (omega arith))) in
-      record {
-        count = are.count;
-        few = are.few;
-        within = omega arith;
-        near = omega arith;
-        fits = omega (arith, length-append bytes text, are.fits);
-        is_bare = front a.end ∙ are.is_bare;
-        escaped = λ h. front are.count ∙ ap (λ (k : ℕ). is_escaped_after (take k text)) from_start ∙ are.escaped (omega arith);
-        stops_are = are.stops_are ∙ mask ends_plain;
-        equals_are = are.equals_are ∙ mask (λ b. b == 61);
-        commas_are = are.commas_are ∙ mask (λ b. b == comma);
-      }
+  shown_in_both a are = grind (arith, take-append-add, bare_joined, tests_in_both, length-append)
 
 -- where a head ends
 module _ (text : List ℕ) (n : ℕ) (s : IsStretch (λ b. b == space || b == newline) text 0 n) where
@@ -292,18 +257,7 @@ quoted_last text at end e c s h past =
 -- from a bare place on nothing was seen
 pub nothing_ahead : (text : List ℕ) (at : ℕ) → at ≤ length text → IsBareAfter (take at text)
     → IsAhead text at (record { stops = 0; equals = 0; commas = 0; end = at })
-nothing_ahead text at within is_bare = record {
-  count = 0;
-  few = omega arith;
-  within = omega arith;
-  near = omega arith;
-  fits = within;
-  is_bare = is_bare;
-  escaped = λ h. absurd (omega arith);
-  stops_are = refl;
-  equals_are = refl;
-  commas_are = refl;
-}
+nothing_ahead text at within is_bare = grind arith
 
 -- what a load shows
 pub load_shows : (text : List ℕ) (at s e c last : ℕ) → at + 64 < length text → IsBareAfter (take at text)
@@ -379,8 +333,7 @@ module _ (text : List ℕ) (at : ℕ) (a : Ahead) (are : IsAhead text at a) wher
   module _ (run : ℕ) (some : 0 < a.stops) (lowest : run ≡ trailing_zeros w64 a.stops) where
     -- it is the lowest bit
     found : run ≡ first_set (mask_at (bare_at ends_plain) at are.count) are.count
-    found = lowest ∙ ap (λ (t : Bool). cond t are.count (trailing_zeros w64 a.stops)) (sym (ne_eqb a.stops 0 (omega (arith, some))))
-        ∙ ap (λ (m : ℕ). first_set m are.count) are.stops_are
+    found = grind (arith, ne_eqb)
 
     -- it is one of the bytes that were seen
     pub short : run < are.count
@@ -426,10 +379,7 @@ module _ (text : List ℕ) (at : ℕ) (a : Ahead) (are : IsAhead text at a) wher
 
         -- a quote is there where no newline is
         a_quote : slice_index text (at + run) ≢ newline → take (at + run + 1) text ≡ take (at + run) text ++ quote ∷ []
-        a_quote other =
-            let ends = at_end.0 in
-            let here : slice_index text (at + run) ≡ quote = grind (arith, nat_tests) in
-            take_more text (at + run) 0 stop_within ∙ ap (λ (b : ℕ). take (at + run) text ++ b ∷ []) here
+        a_quote other = grind (arith, at_end, take_more, stop_within)
 
         -- it opens nothing where `=` are no more
         pub quote_stays : slice_index text (at + run) ≢ newline → e + x ≤ c + y → IsIn Plain (e + x) (c + y) (take (at + run + 1) text)
@@ -533,8 +483,7 @@ quiet_front text n h none = along text IsQuiet (is_byte3 backslash newline quote
 
     -- what is not found is not there, bare or not
     not_there : (t e : Bool) → (t ≡ true → ⊥) → (t && e) ≡ false
-    not_there true e h = absurd (h refl)
-    not_there false e h = refl
+    not_there t e h = grind arith
 
 -- the first newline, quote or backslash
 pub quiet_cut : (text : List ℕ) (n : ℕ) → IsFirstByte (is_byte3 backslash newline quote) text (Some n) → slice_index text n ≡ newline

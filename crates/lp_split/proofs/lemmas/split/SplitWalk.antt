@@ -1,6 +1,6 @@
 -- What a walk knows of a piece, a byte further.
 use Rattle.std.proofs.Common.{◌≡◌, ◌≢◌, ℕ, ◌+◌, ◌<◌, ◌≤◌, Bool, true, false, cond, eqb, List, [], ◌∷◌, ◌++◌, ◌∙◌, ap, arith, add-zero, ◌&&◌}
-use Rattle.std.proofs.Common.{not, sym, subst, Some}
+use Rattle.std.proofs.Common.{not, Some}
 use Rattle.std.specs.List.{count_by}
 use Rattle.std.proofs.lemmas.List.Sums.{sum_by-append}
 use Rattle.std.proofs.lemmas.Bool.{ne_eqb}
@@ -26,21 +26,11 @@ count_by-push p xs b = omega (arith, sum_by-append (λ x. cond (p x) 1 0) xs (b 
 -- a byte more counts if it is `=` or `,`
 IsCountOf-push : (counted : List ℕ) (e c b : ℕ) → IsCountOf counted e c
     → IsCountOf (counted ++ b ∷ []) (e + cond (eqb b 61) 1 0) (c + cond (eqb b 44) 1 0)
-IsCountOf-push counted e c b h =
-    record {
-      equals_is = rw (count_by-push (λ x. eqb x 61) counted b) (ap (λ n. n + cond (eqb b 61) 1 0) h.equals_is);
-      commas_is = rw (count_by-push (λ x. eqb x 44) counted b) (ap (λ n. n + cond (eqb b 44) 1 0) h.commas_is);
-    }
+IsCountOf-push counted e c b h = grind (arith, count_by-push, eqb)
 
 -- another byte counts for nothing
 IsCountOf-other : (counted : List ℕ) (e c b : ℕ) → IsCountOf counted e c → b ≢ 61 → b ≢ 44 → IsCountOf (counted ++ b ∷ []) e c
-IsCountOf-other counted e c b h n m =
-    record {
-      equals_is = h.equals_is ∙ omega
-          (arith, count_by-push (λ x. eqb x 61) counted b, ap (λ (t : Bool). cond {A = ℕ} t 1 0) (ne_eqb b 61 n));
-      commas_is = h.commas_is ∙ omega
-          (arith, count_by-push (λ x. eqb x 44) counted b, ap (λ (t : Bool). cond {A = ℕ} t 1 0) (ne_eqb b 44 m));
-    }
+IsCountOf-other counted e c b h n m = grind (arith, count_by-push, eqb, ne_eqb)
 
 -- more counted `=` than `,` are more of them
 pub HasMoreEquals-from : (counted : List ℕ) (e c : ℕ) → IsCountOf counted e c → c < e → HasMoreEquals counted
@@ -127,13 +117,7 @@ pub bare_step : (place : Place) (part next to : Part) (b e c : ℕ) (flag : Bool
     → to ≡ next → flag ≡ (b == backslash)
     → ((bytes : List ℕ) → IsBareAfter bytes → EndsIn part place.equals place.commas bytes → EndsIn next e c (bytes ++ b ∷ []))
     → Steps place b (Some (record { part = to; is_escaped = flag; equals = e; commas = c }))
-bare_step place part next to b e c flag is_part is_bare is_next flag_is step = λ bytes h.
-    let bare_here : IsBareAfter bytes = h.escaped_is ∙ is_bare in
-    record {
-      escaped_is = escapes_next bytes b bare_here ∙ sym flag_is;
-      ends_in = subst (λ (p : Part). EndsIn p e c (bytes ++ b ∷ [])) (sym is_next)
-          (step bytes bare_here (subst (λ (p : Part). EndsIn p place.equals place.commas bytes) is_part h.ends_in));
-    }
+bare_step place part next to b e c flag is_part is_bare is_next flag_is step = grind (arith, escapes_next)
 
 -- so does an escaped one, to the same part
 pub after_escape : (place : Place) (b : ℕ) → place.is_escaped ≡ true

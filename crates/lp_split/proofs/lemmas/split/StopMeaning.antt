@@ -1,13 +1,12 @@
 -- The front before the first bare byte that passes a test.
 use Rattle.std.proofs.Common.{◌≡◌, ◌↔◌, ℕ, suc, ◌≤◌, List, [], ◌∷◌, ◌++◌, length, take, Bool, true, false, not, ◌&&◌, cond, refl, sym, ap}
 use Rattle.std.proofs.Common.{◌∙◌, subst, inl, inr, arith, length-take, append_assoc, append-nil}
-use Rattle.std.specs.List.{All, range_with_len}
+use Rattle.std.specs.List.{All}
 use Rattle.std.proofs.lemmas.Bool.{cases_Bool, and_parts, and_right, not-true}
 use Rattle.std.proofs.Math.Seq.{take-append_seam}
 use Rattle.std.proofs.lemmas.List.Sums.{prefix_len-le-length}
 use Rattle.std.proofs.lemmas.List.FromFn.{length-range_with_len}
-use Rattle.std.proofs.lemmas.List.Elements.{All-cons, All-nil}
-use Rattle.lp_format.specs.format.Escapes.{bare_after, first_bare, is_bare_at, is_escaped_after}
+use Rattle.lp_format.specs.format.Escapes.{bare_after, first_bare, is_escaped_after}
 use Rattle.lp_format.specs.laws.Meanings.{IsAtStop, IsBeforeStop}
 use Rattle.lp_format.proofs.lemmas.tokens.EscapeLemmas.{is_escaped_push}
 use Rattle.lp_split.proofs.lemmas.split.ScanLemmas.{bare_len, first_bare_len}
@@ -20,8 +19,7 @@ module _ (passes : ℕ → Bool) where
 
   -- a byte that is escaped or does not pass, and the others
   first_fails : (e : Bool) (b : ℕ) (rest : List ℕ) → AllFail (cond e [] (b ∷ []) ++ rest) → (passes b && not e) ≡ false
-  first_fails true b rest h = and_right (passes b) false refl
-  first_fails false b rest h = rw (h 0 0 (omega arith)) refl
+  first_fails e b rest h = grind (arith, and_right)
 
   -- the others
   others_fail : (e : Bool) (b : ℕ) (rest : List ℕ) → AllFail (cond e [] (b ∷ []) ++ rest) → AllFail rest
@@ -30,13 +28,7 @@ module _ (passes : ℕ → Bool) where
 
   -- and back
   all_fail : (e : Bool) (b : ℕ) (rest : List ℕ) → (passes b && not e) ≡ false → AllFail rest → AllFail (cond e [] (b ∷ []) ++ rest)
-  all_fail true b rest h k = k
-  all_fail false b rest h k = All-cons (λ (c : ℕ). passes c ≡ false) b rest (and_true (passes b) h) k
-    where
-      -- what is false with true is false
-      and_true : (t : Bool) → (t && true) ≡ false → t ≡ false
-      and_true true m = absurd (cc)
-      and_true false m = refl
+  all_fail e b rest h k = grind arith
 
   -- one byte before the stop
   len_more : (p : List ℕ) (b : ℕ) (rest : List ℕ) → (passes b && not (is_escaped_after p)) ≡ false
@@ -47,9 +39,7 @@ module _ (passes : ℕ → Bool) where
   stop_len : (p front after : List ℕ) → AllFail (bare_after p front) → IsAtStop passes (p ++ front) after
       → bare_len passes (is_escaped_after p) (front ++ after) ≡ length front
   stop_len p [] [] none at = refl
-  stop_len p [] (b ∷ after) none at =
-      let bare_here : is_escaped_after p ≡ false = ap is_escaped_after (sym (append-nil p)) ∙ at.0 in
-      rw (bare_here, at.1) refl
+  stop_len p [] (b ∷ after) none at = grind (arith, append-nil)
   stop_len p (b ∷ front) after none at =
       let here = first_fails (is_escaped_after p) b (bare_after (p ++ b ∷ []) front) none in
       let others = others_fail (is_escaped_after p) b (bare_after (p ++ b ∷ []) front) none in
@@ -63,22 +53,11 @@ module _ (passes : ℕ → Bool) where
 
   -- where the stop comes at once
   stop_at : (p : List ℕ) (after : List ℕ) → bare_len passes (is_escaped_after p) after ≡ 0 → IsAtStop passes p after
-  stop_at p [] h = tt
-  stop_at p (b ∷ after) h =
-      elim (cases_Bool (passes b && not (is_escaped_after p))) [
-        | inl stop ↦
-            let parts = and_parts (passes b) (not (is_escaped_after p)) stop in
-            (not-true (is_escaped_after p) parts.1, parts.0)
-        | inr on ↦ let more = sym (len_more p b after on) ∙ h in absurd (omega arith)
-      ]
+  stop_at p after h = grind (arith, cases_Bool, and_parts, not-true, len_more)
 
   -- what the length of the front says of it
   before_by : (p front after : List ℕ) → bare_len passes (is_escaped_after p) (front ++ after) ≡ length front → Before p front after
-  before_by p [] after h =
-      record {
-        none = All-nil (λ (c : ℕ). passes c ≡ false);
-        at_stop = subst (λ (t : List ℕ). IsAtStop passes t after) (sym (append-nil p)) (stop_at p after h);
-      }
+  before_by p [] after h = grind (arith, append-nil, stop_at)
   before_by p (b ∷ front) after h =
       elim (cases_Bool (passes b && not (is_escaped_after p))) [
         | inl stop ↦ let none : 0 ≡ suc (length front) = rw stop at h in absurd (omega arith)
@@ -98,9 +77,7 @@ module _ (passes : ℕ → Bool) where
   -- the first stop is in the text or at its end
   first_fits : (text : List ℕ) → first_bare passes text ≤ length text
   unfolding first_bare
-  first_fits text =
-      let fits = prefix_len-le-length (λ i. not (is_bare_at passes text i)) (range_with_len 0 (length text)) in
-      omega (arith, fits, length-range_with_len 0 (length text))
+  first_fits text = grind (arith, prefix_len-le-length, length-range_with_len)
 
   -- the front before the first stop
   pub before_stop : (front after : List ℕ) → (take (first_bare passes (front ++ after)) (front ++ after) ≡ front)

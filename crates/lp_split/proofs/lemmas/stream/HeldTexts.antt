@@ -1,18 +1,16 @@
 -- What a stream holds, with more after it, and where pieces have a greatest length.
-use Rattle.std.proofs.Common.{◌≡◌, ℕ, Bool, true, false, cond, List, ◌++◌, map, drop, sym, ap, ◌∙◌, subst, arith, length-append, ◌⊎◌, inl}
-use Rattle.std.proofs.Common.{inr, ◌+◌, ◌<◌, [], ◌∷◌, length, take, refl, ◌==◌, ap₂, append_assoc, Ok, Err}
+use Rattle.std.proofs.Common.{◌≡◌, ℕ, Bool, cond, List, ◌++◌, drop, sym, ap, ◌∙◌, subst, arith, length-append, ◌⊎◌}
+use Rattle.std.proofs.Common.{◌+◌, ◌<◌, [], ◌∷◌, length, take, append_assoc, Ok, Err}
 use Rattle.std.proofs.lemmas.List.{take-append-le, drop-append-le}
-use Rattle.std.specs.Simd.Lanes.{mask_l}
-use Rattle.memchr.specs.Find.{is_byte3}
 use Rattle.lp_format.specs.format.Dialects.{Dialect}
 use Rattle.lp_split.specs.declared.split.resumed.Search.{Search}
-use Rattle.lp_split.specs.declared.split.resumed.Search.TheVariants.{Begins, Quiet, Within}
+use Rattle.lp_split.specs.declared.split.resumed.Search.TheVariants.{Within}
 use Rattle.lp_format.specs.format.Pieces.{IsLastPiece, IsCutPiece}
 use Rattle.lp_split.specs.code.Searches.{IsKnown}
 use Rattle.lp_split.specs.code.Ahead.{AreSeen}
 use Rattle.lp_split.specs.code.Streams.{IsHeldAt, Held, TakesPiece}
 use Rattle.lp_split.specs.code.Tracks.{IsTrackOf, TracksOn}
-use Rattle.lp_format.specs.format.Bytes.{backslash, quote, newline, newlines_in}
+use Rattle.lp_format.specs.format.Bytes.{newline, newlines_in}
 use Rattle.std.proofs.lemmas.List.Sums.{sum_by-append}
 use Rattle.lp_split.specs.declared.split.tracked.Track.{Track}
 use Rattle.lp_split.specs.declared.stream.bounded.Skipped.{Skipped}
@@ -22,37 +20,18 @@ use Rattle.lp_format.proofs.lemmas.split.SplitPieces.{no_cut_within, split_at}
 
 -- the marks that were seen
 seen_longer : (text more : List ℕ) (marks : ℕ) → AreSeen text marks → AreSeen (text ++ more) marks
-seen_longer text more marks h =
-    record {
-      count = h.count;
-      within = omega (arith, length-append text more, h.within);
-      few = h.few;
-      are = h.are ∙ ap (λ (t : List ℕ). mask_l (map (is_byte3 backslash 10 quote) t)) (sym (take-append-le h.count text more h.within));
-    }
+seen_longer text more marks h = grind (arith, length-append, take-append-le)
 
 -- what a search knows
 pub known_longer : (dialect : Dialect) (text more : List ℕ) (known : Search) → IsKnown dialect text known
     → IsKnown dialect (text ++ more) known
-known_longer dialect text more (Begins seen) h = seen_longer text more seen h
-known_longer dialect text more (Quiet n) h =
-    (omega (arith, length-append text more, h.0), subst (IsLastPiece dialect) (sym (take-append-le n text more h.0)) h.1)
-known_longer dialect text more (Within at track) h = (
-  omega (arith, length-append text more, h.0),
-  h.1,
-  subst (λ (t : List ℕ). IsTrackOf dialect t track) (sym (take-append-le at text more h.0)) h.2,
-)
+known_longer dialect text more known h = grind (arith, seen_longer, length-append, take-append-le)
 
 -- so it is of the bytes that a stream holds, whether a part comes after them or memory was refused
 pub held_longer : (dialect : Dialect) (items part new : List ℕ) (start : ℕ) (known : Search) (ok : Bool)
     → IsHeldAt dialect items start known
     → new ≡ cond ok (items ++ part) items → IsHeldAt dialect new start known
-held_longer dialect items part new start known false h e = subst (λ (t : List ℕ). IsHeldAt dialect t start known) (sym e) h
-held_longer dialect items part new start known true h e =
-    subst (λ (t : List ℕ). IsHeldAt dialect t start known) (sym e) (record {
-      within = omega (arith, length-append items part, h.within);
-      is_known = subst (λ (t : List ℕ). IsKnown dialect t known) (sym (drop-append-le start items part h.within))
-          (known_longer dialect (drop start items) part known h.is_known);
-    })
+held_longer dialect items part new start known ok h e = grind (arith, length-append, drop-append-le, known_longer)
 
 -- a piece that is too long is so with more bytes
 longer_is_too_long : (limit : ℕ) (text part : List ℕ) → IsTooLong limit text → IsTooLong limit (text ++ part)
@@ -61,8 +40,7 @@ longer_is_too_long limit text part h = (omega (arith, length-append text part, h
 -- the newlines of a text and those of a part after it
 more_newlines : (text part : List ℕ) (n more : ℕ) → n ≡ newlines_in text → more ≡ newlines_in part
     → n + more ≡ newlines_in (text ++ part)
-more_newlines text part n more h g =
-    ap₂ (λ (a b : ℕ). a + b) h g ∙ sym (sum_by-append (λ (b : ℕ). cond (b == newline) 1 0) text part)
+more_newlines text part n more h g = grind (arith, sum_by-append)
 
 -- a part that goes on in a piece that is too long
 pub skips_more : (limit : ℕ) (held : Held) (skipped : Skipped) (from to : Track) (n more : ℕ) (part : List ℕ) → skipped ≡ Within from n
@@ -95,13 +73,7 @@ skips_to_end limit old new skipped from n more part i is tracks dialect bytes co
 pub goes_within : (limit : ℕ) (held after : Held) (bytes : List ℕ) (d : Dialect) (track : Track) (n : ℕ) → bytes ≡ held.bytes
     → d ≡ held.dialect → IsTooLong limit bytes → IsTrackOf d bytes track → n ≡ newlines_in held.bytes
     → after ≡ record { dialect = held.dialect; bytes = [] } → HoldsBy limit after (Within track n) held.bytes
-goes_within limit held after bytes d track n same dialect long tracked counted empty = (
-  ap (λ (h : Held). h.bytes) empty,
-  subst (λ (t : List ℕ). IsTooLong limit t) same long,
-  subst (λ (e : Dialect). IsTrackOf e held.bytes track) (dialect ∙ sym (ap (λ (h : Held). h.dialect) empty))
-      (subst (λ (t : List ℕ). IsTrackOf d t track) same tracked),
-  counted,
-)
+goes_within limit held after bytes d track n same dialect long tracked counted empty = grind arith
 
 -- what is one piece has no newline that ends it
 pub no_end_within : (dialect : Dialect) (bytes : List ℕ) (track : Track) (i : ℕ) → IsTrackOf dialect [] track
@@ -112,23 +84,18 @@ no_end_within dialect bytes track i begins tracks is_last =
 
 -- fewer bytes are kept once a piece is taken
 pub taking_keeps_fewer : (held after : Held) (piece : List ℕ) → TakesPiece held piece after → length after.bytes < length held.bytes
-taking_keeps_fewer held after piece takes =
-    omega (arith, ap (λ (t : List ℕ). length t) takes.bytes, length-append piece (newline ∷ after.bytes))
+taking_keeps_fewer held after piece takes = grind (arith, length-append)
 
 -- a piece is taken where no bytes were skipped
 pub takes_within : (limit : ℕ) (held after : Held) (skipped : Skipped) (piece text : List ℕ) → skipped ≡ Nothing
     → TakesPiece held piece after → HoldsBy limit held skipped text
     → CutsTo held.dialect text piece after.bytes × HoldsBy limit after skipped after.bytes
-takes_within limit held after skipped piece text is takes h =
-    let same = subst (λ (s : Skipped). HoldsBy limit held s text) is h in
-    ((same ∙ takes.bytes, takes.is_cut), subst (λ (s : Skipped). HoldsBy limit after s after.bytes) (sym is) refl)
+takes_within limit held after skipped piece text is takes h = grind arith
 
 -- what is held, which is more than a piece may have, is the text where no bytes were skipped
 pub held_is_too_long : (limit : ℕ) (held : Held) (skipped : Skipped) (n : ℕ) → skipped ≡ Nothing → IsTooLong limit held.bytes
     → n ≡ newlines_in held.bytes → (text : List ℕ) → HoldsBy limit held skipped text → IsTooLong limit text × (n ≡ newlines_in text)
-held_is_too_long limit held skipped n is long counted text h =
-    let same = subst (λ (s : Skipped). HoldsBy limit held s text) is h in
-    subst (λ (t : List ℕ). IsTooLong limit t × (n ≡ newlines_in t)) (sym same) (long, counted)
+held_is_too_long limit held skipped n is long counted text h = grind arith
 
 -- so many newlines of the bytes that were skipped were counted
 abbrev pub HasCounted : Skipped → ℕ → Type 0
@@ -137,9 +104,4 @@ HasCounted skipped n = ((track : Track) × (skipped ≡ Within track n)) ⊎ (sk
 -- a text that is one piece is too long where bytes were skipped, and has the newlines that were counted
 pub skipped_is_too_long : (limit : ℕ) (held : Held) (skipped : Skipped) (n : ℕ) → HasCounted skipped n → (text : List ℕ)
     → HoldsBy limit held skipped text → IsLastPiece held.dialect text → IsTooLong limit text × (n ≡ newlines_in text)
-skipped_is_too_long limit held skipped n (inl is) text h is_last =
-    let k = subst (λ (s : Skipped). HoldsBy limit held s text) is.1 h in
-    (k.1, k.3)
-skipped_is_too_long limit held skipped n (inr is) text h is_last =
-    let k = subst (λ (s : Skipped). HoldsBy limit held s text) is h in
-    absurd (no_cut_within held.dialect k.0 held.bytes k.2.1 (subst (λ (t : List ℕ). IsLastPiece held.dialect t) k.2.0 is_last))
+skipped_is_too_long limit held skipped n is text h is_last = grind (arith, no_cut_within)

@@ -93,11 +93,7 @@ four_more n [] some digits = absurd (omega arith)
 four_more n (a ∷ []) some digits = absurd (omega arith)
 four_more n (a ∷ (b ∷ [])) some digits = absurd (omega arith)
 four_more n (a ∷ (b ∷ (c ∷ []))) some digits = absurd (omega arith)
-four_more n (a ∷ (b ∷ (c ∷ (d ∷ ds)))) some (va, (vb, (vc, (vd, rest)))) = (
-  rest,
-  ap (λ m. digits_value_after 10 m ds) (omega (arith, digit_is a va, digit_is b vb, digit_is c vc, digit_is d vd)),
-  omega (arith, digit_from_value a va, digit_from_value b vb, digit_from_value c vc, digit_from_value d vd),
-)
+four_more n (a ∷ (b ∷ (c ∷ (d ∷ ds)))) some (va, (vb, (vc, (vd, rest)))) = grind (arith, digit_is, digit_from_value)
 
 -- so the number so far is no greater than the whole one
 pub four_fit : (n : ℕ) (ds : List ℕ) → 4 ≤ length ds → AllDigits 10 ds → with_four n ds ≤ digits_value_after 10 n ds
@@ -105,10 +101,7 @@ four_fit n ds some digits = omega (arith, (four_more n ds some digits).1, after_
 
 -- what at most 19 digits write fits a u64
 pub few_fit : (ds : List ℕ) → AllDigits 10 ds → length ds ≤ 19 → digits_value 10 ds < 2 ^ 64
-few_fit ds digits few =
-    let bound : digits_value 10 ds < 10 ^ length ds = digits_value-lt 10 ds digits in
-    let more : 10 ^ length ds ≤ 10 ^ 19 = pow-le-pow_right (omega arith) few in
-    omega (arith, bound, more)
+few_fit ds digits few = grind (arith, digits_value-lt, pow-le-pow_right)
 
 -- what the first digit of each four is worth, by eights
 abbrev pub firsts : ℕ → List ℕ
@@ -178,11 +171,7 @@ two_and_two (a ∷ (b ∷ (c ∷ (d ∷ (f ∷ gs))))) e = absurd (omega (arith,
 pub by_groups : (ds : List ℕ) → AreGroups 4 ds
     → ((get_or (groups ds) 0 0 * 10000 + get_or (groups ds) 1 0) * 100000000 + (get_or (groups ds) 2 0 * 10000 + get_or (groups ds) 3 0)
     ≡ number_from_digits 10 ds) × (number_from_digits 10 ds < 10 ^ 16)
-by_groups ds are =
-    let same = are.number 0 in
-    let bound = number_lt 10000 (groups ds) are.below in
-    let size = ap (λ k. 10000 ^ k) are.size in
-    (two_and_two (groups ds) are.size ∙ sym same, omega (arith, same, bound, size))
+by_groups ds are = grind (arith, number_lt, two_and_two)
 
 -- zeros before the digits change no number
 zeros_before : (k : ℕ) (ds : List ℕ) → number_from_digits 10 (replicate k 0 ++ ds) ≡ number_from_digits 10 ds
@@ -197,16 +186,12 @@ zeros_below (suc k) ds small = (omega arith, zeros_below k ds small)
 -- the lanes of digits that were moved to the end are digits
 pub moved_below : (k n : ℕ) (bytes lanes moved : List ℕ) → moved ≡ replicate k 0 ++ take n lanes
     → take n lanes ≡ map digit_value (take n bytes) → AllDigits 10 (take n bytes) → AllBelowBase 10 moved
-moved_below k n bytes lanes moved is are digits =
-    let small = all_below_base_from_digits 10 (take n bytes) digits in
-    subst (AllBelowBase 10) (sym (is ∙ ap (λ l. replicate k 0 ++ l) are)) (zeros_below k _ small)
+moved_below k n bytes lanes moved is are digits = grind (arith, all_below_base_from_digits, replicate, zeros_below)
 
 -- and their number is what the bytes write
 pub moved_number : (k n : ℕ) (bytes lanes moved : List ℕ) → moved ≡ replicate k 0 ++ take n lanes
     → take n lanes ≡ map digit_value (take n bytes) → number_from_digits 10 moved ≡ digits_value 10 (take n bytes)
-moved_number k n bytes lanes moved is are =
-    ap (number_from_digits 10) (is ∙ ap (λ l. replicate k 0 ++ l) are)
-    ∙ zeros_before k (map digit_value (take n bytes)) ∙ sym (digits_value_is 10 (take n bytes))
+moved_number k n bytes lanes moved is are = grind (arith, replicate, zeros_before, digits_value_is)
 
 -- a byte less the code of zero is the value of its digit
 less_zero : (ds : List ℕ) → AllDigits 10 ds → map (λ b. (b + (2 ^ 8 - 48)) % 2 ^ 8) ds ≡ map digit_value ds

@@ -1,15 +1,15 @@
 -- What comes after a reading ends the text.
-use Rattle.std.proofs.Common.{◌≡◌, ℕ, List, [], ◌∷◌, ◌++◌, length, take, drop, inl, inr, sym, ◌∙◌, ap}
-use Rattle.std.proofs.Common.{refl, append_assoc, subst}
-use Rattle.std.specs.Prelude.{◌==◌}
+use Rattle.std.proofs.Common.{◌≡◌, ℕ, List, [], ◌∷◌, ◌++◌, take, drop, sym, ◌∙◌, ap}
+use Rattle.std.proofs.Common.{refl, append_assoc}
 use Rattle.std.proofs.lemmas.Bool.{cases_Bool, eqb-true}
 use Rattle.std.proofs.lemmas.List.{take-append-drop}
 use Rattle.lp_format.specs.format.Bytes.{comma, equals}
-use Rattle.lp_format.specs.format.Readings.{Text, Read, Reading, miss, fatal, reads, ◌>>=◌}
+use Rattle.lp_format.specs.format.Readings.{Text, Read, Reading, reads, ◌>>=◌}
 use Rattle.lp_format.specs.format.Names.{NameKind, name, a_tag_key, a_tag_value, escapable, spelled, spelled_len}
-use Rattle.lp_format.specs.format.Names.{read_text, ends_in_backslash, logical}
+use Rattle.lp_format.specs.format.Names.{read_text}
 use Rattle.lp_format.specs.format.Points.{Pair}
 use Rattle.lp_format.specs.format.Lines.{byte, key_value, tag, after_comma}
+use Rattle.std.proofs.Common.{arith}
 
 -- the rest is the end of the text
 pub record EndsIn (text rest : List ℕ) : Type 0 where
@@ -46,22 +46,13 @@ pub record InTwo {A B : Type 0} (r : Reading A) (f : Read A → Reading B) (y : 
 -- what two readers read, one after the other, each of them read
 pub bind_reads : {A B : Type 0} (r : Reading A) (f : Read A → Reading B) (y : B) (rest : List ℕ)
     → (r >>= f) ≡ reads y rest → InTwo r f y rest
-bind_reads miss f y rest e = absurd (cc)
-bind_reads (fatal fault) f y rest e = absurd (cc)
-bind_reads (reads x mid) f y rest e = record { first = x; mid = mid; was = refl; next = e }
+bind_reads r f y rest e = grind arith
 
 -- what a name reads, and what is after it
 pub name_parts : (kind : NameKind) (text : List ℕ) (t : Text) (rest : List ℕ) → name kind text ≡ reads t rest
     → (t ≡ read_text (escapable kind) (spelled kind text)) × (rest ≡ drop (spelled_len kind text) text)
 unfolding name
-name_parts kind text t rest e =
-    elim (cases_Bool (length (spelled kind text) == 0)) [
-      | inl empty ↦ absurd (let m = rw empty at e in cc)
-      | inr some ↦ elim (cases_Bool (ends_in_backslash (logical kind (spelled kind text)))) [
-        | inl bad ↦ absurd (let m = rw (some, bad) at e in cc)
-        | inr good ↦ let m = rw (some, good) at e in (cc, cc)
-      ]
-    ]
+name_parts kind text t rest e = grind (arith, cases_Bool)
 
 -- a text ends in what is left after a name
 pub name_ends : (kind : NameKind) (text : List ℕ) (t : Text) (rest : List ℕ) → name kind text ≡ reads t rest → EndsIn text rest
@@ -69,15 +60,7 @@ name_ends kind text t rest e = EndsIn-drop (spelled_len kind text) text rest (na
 
 -- a byte that is read is the first of the text
 pub byte_parts : (b : ℕ) (text : List ℕ) (x : ℕ) (rest : List ℕ) → byte b text ≡ reads x rest → (x ≡ b) × (text ≡ b ∷ rest)
-byte_parts b [] x rest e = absurd (cc)
-byte_parts b (c ∷ cs) x rest e =
-    elim (cases_Bool (c == b)) [
-      | inl same ↦
-          let m = rw same at e in
-          let is : c ≡ b = eqb-true c b same in
-          (cc, cc)
-      | inr other ↦ absurd (let m = rw other at e in cc)
-    ]
+byte_parts b text x rest e = grind (arith, cases_Bool, eqb-true)
 
 -- a text ends in what is left after a byte
 pub byte_ends : (b : ℕ) (text : List ℕ) (x : ℕ) (rest : List ℕ) → byte b text ≡ reads x rest → EndsIn text rest
@@ -93,17 +76,7 @@ pub record PairParts {V : Type 0} (kind : NameKind) (part : List ℕ → Reading
 -- a pair is a key, `=` and a part
 pub pair_parts : {V : Type 0} (kind : NameKind) (part : List ℕ → Reading V) (text : List ℕ) (x : Pair Text V) (rest : List ℕ)
     → key_value kind part text ≡ reads x rest → PairParts kind part text x rest
-pair_parts kind part text x rest e =
-    let k = bind_reads (name kind text) _ x rest e in
-    let mark = bind_reads (byte equals k.mid) _ x rest k.next in
-    let v = bind_reads (part mark.mid) _ x rest mark.next in
-    let parts = reads_parts (record { key = k.first; value = v.first }) x v.mid rest v.next in
-    let sign = (byte_parts equals k.mid mark.first mark.mid mark.was).1 in
-    record {
-      mid = mark.mid;
-      key = subst (λ p. name kind text ≡ reads p.key (equals ∷ mark.mid)) parts.0 (rw sign at k.was);
-      value = rw parts.1 at (subst (λ p. part mark.mid ≡ reads p.value v.mid) parts.0 v.was);
-    }
+pair_parts kind part text x rest e = grind (arith, bind_reads, reads_parts, byte_parts)
 
 -- a text ends in what is left after a tag
 pub tag_ends : (text : List ℕ) (x : Pair Text Text) (rest : List ℕ) → tag text ≡ reads x rest → EndsIn text rest

@@ -9,7 +9,6 @@ use Rattle.lp_format.specs.format.Escapes.{escaped, escaped_byte}
 use Rattle.lp_scan.specs.code.Tokens.{known_of}
 use Rattle.lp_format.specs.code.Shown.{shown_escapes}
 use Rattle.lp_scan.specs.declared.sets.TokenKind.{TokenKind}
-use Rattle.lp_scan.specs.declared.sets.TokenKind.TheVariants.{Measurement, TagKey, TagValue, FieldKey, String}
 
 -- an empty text
 pub escaped_nil : (bytes : List ℕ) → [] ≡ escaped bytes []
@@ -37,21 +36,14 @@ run_more text start at low within =
 pub keep_byte : (bytes text done : List ℕ) (start at : ℕ) → start ≤ at → at < length text → is_one_of bytes (slice_index text at) ≡ false
     → done ++ take (at - start) (drop start text) ≡ escaped bytes (take at text)
     → done ++ take (at + 1 - start) (drop start text) ≡ escaped bytes (take (at + 1) text)
-keep_byte bytes text done start at low within plain whole =
-    rw (run_more text start at low within, escaped_more bytes text at within, plain, ← whole) (simp append_assoc)
+keep_byte bytes text done start at low within plain whole = grind (arith, run_more, escaped_more, append_assoc)
 
 -- a byte with a backslash begins a new run, after the old one and the backslash
 pub escape_byte : (bytes text done : List ℕ) (start at : ℕ) → at < length text → is_one_of bytes (slice_index text at) ≡ true
     → done ++ take (at - start) (drop start text) ≡ escaped bytes (take at text)
     → (done ++ (take (at - start) (drop start text) ++ backslash ∷ [])) ++ take (at + 1 - at) (drop at text) ≡ escaped bytes (take (at + 1) text)
-escape_byte bytes text done start at within special whole =
-    let none : take (at - at) (drop at text) ≡ [] = rw (sub_self at) refl in
-    rw (run_more text at at (omega arith) within, none, escaped_more bytes text at within, special, ← whole) (simp append_assoc)
+escape_byte bytes text done start at within special whole = grind (arith, sub_self, run_more, escaped_more, append_assoc)
 
 -- bytes that are shown with a backslash are ASCII
 pub shown_ascii : (kind : TokenKind) (b : ℕ) → is_one_of (shown_escapes (known_of kind)) b ≡ true → b < 128
-shown_ascii Measurement b h = grind (arith, common_steps)
-shown_ascii TagKey b h = grind (arith, common_steps)
-shown_ascii TagValue b h = grind (arith, common_steps)
-shown_ascii FieldKey b h = grind (arith, common_steps)
-shown_ascii String b h = grind (arith, common_steps)
+shown_ascii kind b h = grind arith

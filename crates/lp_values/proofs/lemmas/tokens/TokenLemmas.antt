@@ -1,38 +1,31 @@
 -- The kinds of token, and the logical text of a token, stretch by stretch.
 use Rattle.std.proofs.Common.{◌≡◌, ℕ, ◌<◌, Bool, List, [], ◌∷◌, drop, true, false, refl, sym, ◌∙◌, arith, ◌≢◌, suc, ◌+◌, ◌-◌, ◌≤◌, ◌++◌}
-use Rattle.std.proofs.Common.{take, length, slice_index, ap, ap₂, inl, inr, append_assoc, length-append, add-one, add-zero, drop-cons}
+use Rattle.std.proofs.Common.{take, length, slice_index, ap, append_assoc, length-append, add-one, add-zero, drop-cons}
 use Rattle.std.specs.Prelude.{◌==◌, ◌&&◌}
 use Rattle.std.proofs.lemmas.Bool.{and_parts, or_right, cases_Bool, eq-eqb, eqb-true, ne_eqb, or_parts}
 use Rattle.lp_scan.specs.declared.sets.TokenKind.{TokenKind}
-use Rattle.lp_scan.specs.declared.sets.TokenKind.TheVariants.{Measurement, TagKey, TagValue, FieldKey, String}
 use Rattle.lp_format.specs.format.Bytes.{backslash, is_one_of}
 use Rattle.lp_format.specs.format.Escapes.{without_escapes}
 use Rattle.lp_scan.specs.code.Tokens.{stops_of, known_of, is_plain}
-use Rattle.lp_format.specs.format.Names.{is_one_escape, is_shared, read_text}
+use Rattle.lp_format.specs.format.Names.{is_one_escape, read_text}
 use Rattle.lp_format.specs.format.Readings.{Text}
 use Rattle.lp_format.proofs.lemmas.names.NameLemmas.{no_backslash, without_escapes_same}
 use Rattle.std.specs.Str.{bytes_eq}
 use Rattle.std.proofs.lemmas.Slice.Eq.{bytes_eq-Decides}
-use Rattle.std.proofs.lemmas.List.{append-nil, drop_all, drop_at, drop-drop, get_or-drop, length-drop, length-take-le, take-append-drop}
-use Rattle.std.proofs.lemmas.List.{take_at}
+use Rattle.std.proofs.lemmas.List.{append-nil, drop_all, drop-drop, get_or-drop, length-drop, length-take-le, take-append-drop}
+use Rattle.std.proofs.lemmas.List.{length-take}
+use Rattle.std.proofs.lemmas.Slice.{drop-put_mid, take-put_mid}
+use borrow.Rule.Slice.PartMut.{put_mid, same_len_mid}
 use Rattle.lp_scan.specs.code.Lanes.{IsRunAt}
 use Rattle.lp_values.proofs.lemmas.tokens.WalkLemmas.{run_is_plain}
 
 -- a backslash ends no token
 pub backslash_goes_on : (kind : TokenKind) → stops_of kind backslash ≡ false
-backslash_goes_on Measurement = refl
-backslash_goes_on TagKey = refl
-backslash_goes_on TagValue = refl
-backslash_goes_on FieldKey = refl
-backslash_goes_on String = refl
+backslash_goes_on kind = grind arith
 
 -- 0, which is read after the end of a text, is none of the bytes that a backslash may escape
 pub zero_is_not_known : (kind : TokenKind) → is_one_of (known_of kind) 0 ≡ false
-zero_is_not_known Measurement = refl
-zero_is_not_known TagKey = refl
-zero_is_not_known TagValue = refl
-zero_is_not_known FieldKey = refl
-zero_is_not_known String = refl
+zero_is_not_known kind = grind arith
 
 -- two texts with the same bytes and the same variant
 same_text : (a b : List ℕ) (s t : Bool) → a ≡ b → s ≡ t → let x : Text = record { bytes = a; is_single = s } in
@@ -42,62 +35,38 @@ same_text a b s t e f = cc
 -- the logical text of a known escape alone is its second byte
 escape_alone : (known text : List ℕ) → is_one_escape known text ≡ true → drop 1 text ≡ without_escapes known text
 unfolding without_escapes
-escape_alone known [] h = cc
-escape_alone known (b ∷ []) h = cc
-escape_alone known (b ∷ c ∷ []) h =
-    let parts = and_parts (b == backslash) (is_one_of known c) h in
-    rw (parts.0, parts.1) refl
-escape_alone known (b ∷ c ∷ d ∷ rest) h = cc
+escape_alone known text h = grind (arith, and_parts)
 
 -- a text that is one known escape is read as a part of it
 pub read_escape : (known text part : List ℕ) → is_one_escape known text ≡ true → part ≡ drop 1 text
     → let x : Text = record { bytes = part; is_single = true } in x ≡ read_text known text
-read_escape known text part one e =
-    same_text part (without_escapes known text) true (is_shared known text) (e ∙ escape_alone known text one) (sym (rw one refl))
+read_escape known text part one e = grind (arith, same_text, escape_alone)
 
 -- a text without a backslash is read as itself
 pub read_plain : (known text part : List ℕ) → is_one_of text backslash ≡ false → part ≡ text
     → let x : Text = record { bytes = part; is_single = true } in x ≡ read_text known text
-read_plain known text part none e =
-    same_text part (without_escapes known text) true (is_shared known text)
-    (e ∙ sym (without_escapes_same known text (no_backslash text none)))
-    (sym (rw none (or_right (is_one_escape known text) true refl)))
+read_plain known text part none e = grind (arith, same_text, without_escapes_same, no_backslash, or_right)
 
 -- a backslash may be escaped in each kind of token
 backslash_is_known : (kind : TokenKind) → is_one_of (known_of kind) backslash ≡ true
-backslash_is_known Measurement = refl
-backslash_is_known TagKey = refl
-backslash_is_known TagValue = refl
-backslash_is_known FieldKey = refl
-backslash_is_known String = refl
+backslash_is_known kind = grind arith
 
 -- a byte that may not be escaped is no backslash
 other_byte : (kind : TokenKind) (c : ℕ) → is_one_of (known_of kind) c ≡ false → (c == backslash) ≡ false
-other_byte kind c h = elim (cases_Bool (c == backslash)) [
-  | inr other ↦ other
-  | inl same ↦ absurd (let e = eqb-true c backslash same in let k = backslash_is_known kind in let l = rw e at h in cc)
-]
+other_byte kind c h = grind (arith, cases_Bool, eqb-true, backslash_is_known)
 
 -- a known escape stands for its second byte
 byte_of_escape : (kind : TokenKind) (text : List ℕ)
     → (slice_index text 0 == backslash && is_one_of (known_of kind) (slice_index text 1)) ≡ true
     → without_escapes (known_of kind) text ≡ slice_index text 1 ∷ without_escapes (known_of kind) (drop 2 text)
 unfolding without_escapes
-byte_of_escape kind [] h = cc
-byte_of_escape kind (b ∷ []) h =
-    let parts = and_parts (b == backslash) (is_one_of (known_of kind) 0) h in
-    let none = zero_is_not_known kind in
-    absurd (let k = parts.1 in cc)
-byte_of_escape kind (b ∷ c ∷ text) h =
-    let parts = and_parts (b == backslash) (is_one_of (known_of kind) c) h in
-    rw (parts.0, parts.1) refl
+byte_of_escape kind text h = grind (arith, and_parts, zero_is_not_known)
 
 -- a byte that is no backslash stands for itself
 plain_byte : (known : List ℕ) (c : ℕ) (text : List ℕ) → (c == backslash) ≡ false
     → without_escapes known (c ∷ text) ≡ c ∷ without_escapes known text
 unfolding without_escapes
-plain_byte known c [] h = refl
-plain_byte known c (d ∷ text) h = rw h refl
+plain_byte known c text h = grind arith
 
 -- bytes without a backslash stand for themselves
 run_itself : (known front back : List ℕ) → is_one_of front backslash ≡ false
@@ -112,28 +81,18 @@ byte_itself : (kind : TokenKind) (b : ℕ) (text : List ℕ)
     → (b == backslash && is_one_of (known_of kind) (slice_index text 0)) ≡ false
     → without_escapes (known_of kind) (b ∷ text) ≡ b ∷ without_escapes (known_of kind) text
 unfolding without_escapes
-byte_itself kind b [] h = refl
-byte_itself kind b (c ∷ text) h = elim (cases_Bool (b == backslash)) [
-  | inr other ↦ rw other refl
-  | inl slash ↦ (
-      let unknown : is_one_of (known_of kind) c ≡ false = rw slash at h in
-      rw (plain_byte (known_of kind) c text (other_byte kind c unknown), slash, unknown) refl
-      )
-]
+byte_itself kind b text h = grind (arith, cases_Bool, plain_byte, other_byte)
 
 -- so does the first byte of a text
 byte_of_itself : (kind : TokenKind) (text : List ℕ) → 0 < length text
     → (slice_index text 0 == backslash && is_one_of (known_of kind) (slice_index text 1)) ≡ false
     → without_escapes (known_of kind) text ≡ slice_index text 0 ∷ without_escapes (known_of kind) (drop 1 text)
-byte_of_itself kind [] some h = absurd (omega arith)
-byte_of_itself kind (b ∷ text) some h = byte_itself kind b text h
+byte_of_itself kind text some h = grind (arith, byte_itself)
 
 -- a byte of a text from a place on, and what comes after it
 from_place : (known text : List ℕ) (at n : ℕ) → slice_index (drop at text) n ∷ without_escapes known (drop (n + 1) (drop at text))
     ≡ slice_index text (at + n) ∷ without_escapes known (drop (at + n + 1) text)
-from_place known text at n =
-    ap₂ (λ (b : ℕ) (l : List ℕ). b ∷ without_escapes known l) (get_or-drop at text n 0)
-    (drop-drop (n + 1) at text ∙ ap (λ (k : ℕ). drop k text) (omega arith))
+from_place known text at n = grind (arith, get_or-drop, drop-drop)
 
 -- from the place of a known escape on, the logical text begins with its second byte
 pub escape_at : (kind : TokenKind) (text : List ℕ) (at : ℕ)
@@ -188,41 +147,28 @@ pub record IsPut (whole left start to : List ℕ) (place : ℕ) : Type 0 where
 -- there is room for the next stretch
 pub room_left : (whole left start to stretch after : List ℕ) (place : ℕ) → IsPut whole left start to place → length whole ≤ length start
     → left ≡ stretch ++ after → place + length stretch ≤ length to
-room_left whole left start to stretch after place was fits parts =
-    omega (
-      arith,
-      ap length was.front,
-      ap length parts,
-      length-append (take place to) left,
-      length-append stretch after,
-      length-take-le place to was.within,
-      was.len,
-    )
+room_left whole left start to stretch after place was fits parts = grind (arith, length-append, length-take-le)
 
 -- so it is put
-pub stretch_put : (whole left start to stretch after new : List ℕ) (place n : ℕ) → IsPut whole left start to place
-    → left ≡ stretch ++ after → length stretch ≡ n → place + n ≤ length to
-    → new ≡ take place to ++ stretch ++ drop (place + length stretch) to → IsPut whole after start new (place + n)
-stretch_put whole left start to stretch after new place n was parts size room is =
-    let front : List ℕ = take place to ++ stretch in
-    let back : List ℕ = drop (place + length stretch) to in
-    let len : length front ≡ place + n = omega (arith, length-append (take place to) stretch, length-take-le place to was.within, size) in
-    let all = ap length is ∙ length-append front back in
+pub stretch_put : (whole left start to stretch after new : List ℕ) (place k : ℕ) → IsPut whole left start to place
+    → left ≡ stretch ++ after → place + length stretch ≤ length to → k ≡ length stretch → new ≡ stretch
+    → IsPut whole after start (put_mid place k to new) (place + length stretch)
+stretch_put whole left start to stretch after new place k was parts room as_long is =
+    let end = place + length stretch in
+    let size = ap length is in
+    let whole_len = same_len_mid place k to new (omega (arith, size, length-take k (drop place to), length-drop place to)) in
     record {
-      within = omega (arith, all, len);
-      front = ap (λ l. l ++ after) (ap (take (place + n)) is ∙ take_at front back (place + n) len)
+      within = omega (arith, whole_len);
+      front = ap (λ l. l ++ after) (take-put_mid place k to new end (omega (arith, size)) was.within ∙ ap (λ l. take place to ++ l) is)
           ∙ append_assoc (take place to) stretch after ∙ ap (λ l. take place to ++ l) (sym parts) ∙ was.front;
-      back = ap (drop (place + n)) is ∙ drop_at front back (place + n) len ∙ ap (λ (k : ℕ). drop (place + k) to) size
-          ∙ sym (drop-drop n place to) ∙ ap (drop n) was.back ∙ drop-drop n place start;
-      len = omega (arith, all, len, length-drop (place + length stretch) to, was.len, room, size);
+      back = drop-put_mid place k to new end (omega arith) was.within (omega (arith, size))
+          ∙ sym (drop-drop (length stretch) place to) ∙ ap (drop (length stretch)) was.back ∙ drop-drop (length stretch) place start;
+      len = whole_len ∙ was.len;
     }
 
 -- once nothing is left, the whole is put
 pub whole_put : (whole start to : List ℕ) (place : ℕ) → IsPut whole [] start to place → to ≡ whole ++ drop (length whole) start
-whole_put whole start to place was =
-    let front : take place to ≡ whole = sym (append-nil (take place to)) ∙ was.front in
-    let len : length whole ≡ place = omega (arith, ap length front, length-take-le place to was.within) in
-    sym (take-append-drop place to) ∙ ap₂ (λ (a b : List ℕ). a ++ b) front (was.back ∙ ap (λ (k : ℕ). drop k start) (sym len))
+whole_put whole start to place was = grind (arith, append-nil, length-take-le, take-append-drop)
 
 -- two texts that begin with the same stretch are the same if the others are
 pub same_after : (stretch xs ys : List ℕ) → bytes_eq (stretch ++ xs) (stretch ++ ys) ≡ bytes_eq xs ys
@@ -231,12 +177,8 @@ same_after (b ∷ stretch) xs ys = rw (eq-eqb b b refl) (same_after stretch xs y
 
 -- a text that does not begin with a stretch is none that does
 pub other_front : (stretch xs ys : List ℕ) → ((rest : List ℕ) → ys ≢ stretch ++ rest) → bytes_eq (stretch ++ xs) ys ≡ false
-other_front stretch xs ys other = elim (cases_Bool (bytes_eq (stretch ++ xs) ys)) [
-  | inl same ↦ absurd (other xs (sym ((bytes_eq-Decides (stretch ++ xs) ys).0 same)))
-  | inr differs ↦ differs
-]
+other_front stretch xs ys other = grind (arith, cases_Bool, bytes_eq-Decides)
 
 -- an empty text is the same as a text without bytes
 pub nothing_same : (ys : List ℕ) → bytes_eq [] ys ≡ (length ys == 0)
-nothing_same [] = refl
-nothing_same (y ∷ ys) = sym (ne_eqb (length (y ∷ ys)) 0 (λ e. absurd (omega (arith, e))))
+nothing_same ys = grind (arith, ne_eqb)

@@ -30,22 +30,14 @@ escaped_is_flag text = is_escaped-append [] text ∙ ap (λ f. flag_after f text
 
 -- what comes after a backslash and a byte is escaped just where it is without them
 escaped_after_pair : (c : ℕ) (rest : List ℕ) → is_escaped_after (backslash ∷ c ∷ rest) ≡ is_escaped_after rest
-escaped_after_pair c rest = escaped_is_flag (backslash ∷ c ∷ rest) ∙ ap (λ f. flag_after f rest) (none (eqb c backslash)) ∙ sym (escaped_is_flag rest)
-  where
-    -- a choice between false and false
-    none : (t : Bool) → cond t false false ≡ false
-    none t = grind arith
+escaped_after_pair c rest = grind (arith, escaped_is_flag, flag_after, eqb)
 
 -- a text that is cut where the next byte is bare has the logical texts of its parts, joined
 pub without_escapes_append : (known front back : List ℕ) → is_escaped_after front ≡ false
     → without_escapes known (front ++ back) ≡ without_escapes known front ++ without_escapes known back
 unfolding without_escapes
 without_escapes_append known [] back bare = refl
-without_escapes_append known (b ∷ []) back bare =
-    elim (cases_Bool (b == backslash)) [
-      | inl e ↦ absurd (let here = eqb-true b backslash e in let one = escaped_is_flag (b ∷ []) in let set = rw here at one in cc)
-      | inr e ↦ without_escapes_plain_byte known b back (eqb-false b backslash e)
-    ]
+without_escapes_append known (b ∷ []) back bare = grind (arith, cases_Bool, eqb-true, escaped_is_flag, without_escapes_plain_byte, eqb-false)
 without_escapes_append known (b ∷ c ∷ rest) back bare =
     elim (cases_Bool (b == backslash)) [
       | inl e ↦
@@ -69,9 +61,7 @@ module _ (known text : List ℕ) where
 
   -- a count of escapes, with a byte more
   pub escapes_more : (n at : ℕ) → escapes_from at (suc n) ≡ escapes_from at n + cond (is_escape_at known text (at + n)) 1 0
-  escapes_more zero at =
-      let place : at + 0 ≡ at = omega arith in
-      omega (arith, escapes_first at 0, ap (λ (k : ℕ). cond {A = ℕ} (is_escape_at known text k) 1 0) place)
+  escapes_more zero at = grind (arith, escapes_first)
   escapes_more (suc n) at =
       let place : at + 1 + n ≡ at + suc n = omega arith in
       omega (
@@ -269,11 +259,7 @@ module _ (known : List ℕ) (stops : ℕ → Bool) (text : List ℕ) where
 
   -- a byte that is not plain and no backslash is a stop
   pub is_stop_then : (b : ℕ) → is_plain stops b ≡ false → b ≢ backslash → stops b ≡ true
-  is_stop_then b not_plain other =
-      elim (or_cases (stops b) (b == backslash) (not-false _ not_plain)) [
-        | inl stop ↦ stop
-        | inr here ↦ absurd (other (eqb-true b backslash here))
-      ]
+  is_stop_then b not_plain other = grind (arith, or_cases, not-false, eqb-true)
 
   -- plain bytes hold no backslash
   plain_front : (n : ℕ) → n ≤ length text → AllPassBetween (is_plain stops) text 0 n → is_one_of (take n text) backslash ≡ false

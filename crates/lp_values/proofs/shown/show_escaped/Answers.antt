@@ -7,8 +7,8 @@ use Rattle.lp_scan.specs.code.Tokens.{known_of}
 use Rattle.lp_format.specs.code.Shown.{shown_escapes}
 use Rattle.lp_values.proofs.lemmas.shown.ShownLemmas.{escaped_nil, keep_byte, escape_byte, shown_ascii}
 use Rattle.lp_values.proofs.shown.show_escaped.Goals as goal
-use Rattle.lp_values.proofs.shown.show_escaped.Goals.{then-gets_backslash+in_ok-write_str+in_ok-write_str-2}
-use Rattle.lp_values.proofs.shown.show_escaped.Goals.{else-gets_backslash}
+use Rattle.lp_values.proofs.shown.show_escaped.Goals.{then-bytes-at-ne92+then-is_known+in_ok-write_str+in_ok-write_str-2}
+use Rattle.lp_values.proofs.shown.show_escaped.Goals.{else-bytes-at-ne92}
 
 pub loop-at-init : goal.loop-at-init
 loop-at-init g c = (omega arith, IsCharBoundary-start c.args.text.now c.utf8.text, [], escaped_nil _, search rules)
@@ -20,8 +20,8 @@ loop-at-preserved g c =
     let bytes = shown_escapes (known_of c.args.kind) in
     let (low, bound, done, whole, wrote) = l.invariant in
     let within : l.at < length text = omega (arith, c.as_bytes-bytes.ensures.len) in
-    elim c.if-gets_backslash.branch [
-      | then-gets_backslash+in_ok-write_str+in_ok-write_str-2 w ↦
+    elim c.if-bytes-at-ne92.branch [
+      | then-bytes-at-ne92+then-is_known+in_ok-write_str+in_ok-write_str-2 w ↦
           let special : is_one_of bytes (get_or text l.at 0) ≡ true = grind (arith, common_steps) in
           let run = take (l.at - l.start) (drop l.start text) in
           rw (w.start-is, w.f-is) (
@@ -32,11 +32,11 @@ loop-at-preserved g c =
             λ plain.
                 let so_far = wrote plain in
                 let one = w.write_str.ensures.writes so_far.plain (search rules) in
-                let two = w.write_str-then-gets_backslash.ensures.writes one.plain (search rules) in
+                let two = w.write_str-then-is_known.ensures.writes one.plain (search rules) in
                 has_written_of_eq _ _ _ _ _ (grind (arith, common_steps, append_assoc))
                 (has_written_append _ _ _ _ _ _ (has_written_append _ _ _ _ _ _ so_far one) two),
           )
-      | else-gets_backslash w ↦
+      | else-bytes-at-ne92 w ↦
           let plain : is_one_of bytes (get_or text l.at 0) ≡ false = grind (arith, common_steps) in
           rw (w.start-is, w.f-is) (omega arith, bound, done, keep_byte bytes text done l.start l.at low within plain whole, wrote)
     ]

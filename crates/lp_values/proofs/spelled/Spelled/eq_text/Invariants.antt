@@ -2,14 +2,14 @@ use Rattle.std.proofs.Common.{◌≡◌, ◌≤◌, ◌-◌, length, drop}
 use Rattle.std.specs.Str.{bytes_eq}
 use Rattle.lp_format.specs.format.Escapes.{without_escapes}
 use Rattle.lp_scan.specs.code.Tokens.{known_of}
-use Rattle.lp_values.proofs.spelled.reads_as.Given as goal
+use Rattle.lp_values.proofs.spelled.Spelled.eq_text.Given as goal
 
 -- what is left of the two is the same if the two are
 abbrev pub invariant-loop-at : goal.invariant-loop-at
 invariant-loop-at l = record {
   within : l.at ≤ length l.spelling;
-  same : bytes_eq (without_escapes (known_of l.kind) (drop l.at l.spelling)) l.left
-      ≡ bytes_eq (without_escapes (known_of l.kind) l.spelling) l.other;
+  same : bytes_eq (without_escapes (known_of l.self.token.kind) (drop l.at l.spelling)) l.left
+      ≡ bytes_eq (without_escapes (known_of l.self.token.kind) l.spelling) l.fn.other;
 }
 
 abbrev pub decreases-loop-at : goal.decreases-loop-at

@@ -5,26 +5,27 @@ use Rattle.std.proofs.lemmas.Slice.Eq.{strip_prefix_is}
 use Rattle.lp_format.specs.format.Escapes.{without_escapes}
 use Rattle.lp_scan.specs.code.Tokens.{known_of}
 use Rattle.lp_values.proofs.lemmas.tokens.TokenLemmas.{nothing_left, nothing_same, other_front, same_after}
-use Rattle.lp_values.proofs.spelled.reads_as.Goals as goal
+use Rattle.lp_values.proofs.spelled.Spelled.eq_text.Goals as goal
 
 pub returns-in_default : goal.returns-in_default
 returns-in_default c =
     let next = c.stretch_at-from in
     let left = c.loop-at.left.now in
-    let stretch = take (next.result.1 - next.result.0) (drop next.result.0 c.args.spelling.now) in
+    let stretch = take (next.result.1 - next.result.0) (drop next.result.0 c.as_bytes-spelling.result.now) in
     let cases = strip_prefix_is Decides-eqb left stretch c.strip_prefix.result c.strip_prefix.ensures.cases in
-    let after = without_escapes (known_of c.args.kind) (drop next.result.1 c.args.spelling.now) in
-    sym (other_front stretch after left (rw c.in_default.is at cases)) ∙ ap (λ l. bytes_eq l left) (sym next.ensures.value)
-    ∙ c.loop-at.invariant.same
+    let after = without_escapes (known_of c.args.self.now.token.kind) (drop next.result.1 c.as_bytes-spelling.result.now) in
+    rw (← c.as_bytes-spelling.ensures.value)
+    (sym (other_front stretch after left (rw c.in_default.is at cases)) ∙ ap (λ l. bytes_eq l left) (sym next.ensures.value)
+    ∙ c.loop-at.invariant.same)
 
 pub loop-at-preserved : goal.loop-at-preserved
 loop-at-preserved c =
     let next = c.stretch_at-from in
     let left = c.loop-at.left.now in
-    let stretch = take (next.result.1 - next.result.0) (drop next.result.0 c.args.spelling.now) in
+    let stretch = take (next.result.1 - next.result.0) (drop next.result.0 c.as_bytes-spelling.result.now) in
     let cases = strip_prefix_is Decides-eqb left stretch c.strip_prefix.result c.strip_prefix.ensures.cases in
     let begins = rw c.in-Some.is at cases in
-    let after = without_escapes (known_of c.args.kind) (drop next.result.1 c.args.spelling.now) in
+    let after = without_escapes (known_of c.args.self.now.token.kind) (drop next.result.1 c.as_bytes-spelling.result.now) in
     record {
       within = next.ensures.within;
       same = sym (same_after stretch after c.in-Some.others.now)
@@ -33,5 +34,6 @@ loop-at-preserved c =
 
 pub returns : goal.returns
 returns c =
-    let none = nothing_left (known_of c.args.kind) c.args.spelling.now c.loop-at.at (omega arith) in
-    c.is_empty.ensures ∙ sym (nothing_same c.loop-at.left.now) ∙ rw none at c.loop-at.invariant.same
+    let none = nothing_left (known_of c.args.self.now.token.kind) c.as_bytes-spelling.result.now c.loop-at.at (omega arith) in
+    rw (← c.as_bytes-spelling.ensures.value)
+    (c.is_empty.ensures ∙ sym (nothing_same c.loop-at.left.now) ∙ rw none at c.loop-at.invariant.same)
