@@ -15,7 +15,7 @@ ghost use Rattle.lp_lines.specs.code.Parsed.{field_of, tag_of};
 use crate::{FieldSet, ParsedLine, TagSet};
 use lp_events::{EventSink, read_line_events};
 use lp_split::Dialect;
-use lp_values::values::put_text;
+use lp_values::values::{put_text, put_value};
 use lp_values::{FieldValue, Spelled, SpelledFault, SpelledValue};
 use std::alloc::Global;
 
@@ -131,7 +131,7 @@ fn put_field<'a>(
         return is_pushed;
     }
     let place = &mut fields.as_mut_slice()[at];
-    if !put_text(alloc, &mut place.0, key) || !place.1.put_spelled(alloc, value) {
+    if !put_text(alloc, &mut place.0, key) || !put_value(alloc, &mut place.1, value) {
         return false;
     }
     *count = at + 1;

@@ -359,8 +359,11 @@ pub fn escaped_str<'a>(alloc: Global, token: RawToken<'a>) -> Result<EscapedStr<
     unescaped(alloc, token.kind, token.text, token.len)
 }
 
+// How many times the room that a copy takes may be kept for it, so that what a line holds is bounded by its text.
+const KEPT_ROOM: usize = 4;
+
 // Puts the logical text of `text`, which holds a backslash, into the place of another text, unless memory for it is refused. A copy
-// that is there keeps its room.
+// that is there keeps its room, if that is not far more.
 #[inline(never)]
 fn put_unescaped<'a>(
     alloc: Global,
@@ -375,7 +378,9 @@ fn put_unescaped<'a>(
 {
     if !is_one_escape(kind, text) {
         if let EscapedStr::CopiedValue(copied) = place {
-            return refill(kind, text, len, copied).is_ok();
+            if copied.capacity() / KEPT_ROOM <= len {
+                return refill(kind, text, len, copied).is_ok();
+            }
         }
     }
     match unescaped(alloc, kind, text, len) {

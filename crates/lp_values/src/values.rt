@@ -95,45 +95,44 @@ impl<'a> FieldValue<'a> {
             SpelledValue::Boolean(value) => FieldValue::Boolean(value),
         })
     }
+}
 
-    // Becomes the value that is spelled so, whatever it was.
-    #[inline(always)]
-    fn become_spelled(&mut self, alloc: Global, value: SpelledValue<'a>) -> bool
-        ensures value { result ≡ true → value_of self.new ≡ spelled_value value.entry }
-        ensures needs { result ≡ false → is_single_value (spelled_value value.entry) ≡ false }
-    {
-        match FieldValue::from_spelled(alloc, value) {
-            Ok(value) => {
-                *self = value;
-                true
-            }
-            Err(_) => false,
+// Makes of a value the one that is spelled so, whatever it was.
+#[inline(always)]
+fn put_any_value<'a>(alloc: Global, place: &mut FieldValue<'a>, value: SpelledValue<'a>) -> bool
+    ensures value { result ≡ true → value_of place.new ≡ spelled_value value.entry }
+    ensures needs { result ≡ false → is_single_value (spelled_value value.entry) ≡ false }
+{
+    match FieldValue::from_spelled(alloc, value) {
+        Ok(value) => {
+            *place = value;
+            true
         }
+        Err(_) => false,
     }
+}
 
-    /// Becomes the value that is spelled so, unless memory for it is refused. Only a text that is a copy takes memory.
-    ///
-    /// A value of the same kind is put into the place of the old one, and no more than that is written.
-    ///
-    /// ```text
-    /// I64(1)  becomes, of  64i,  I64(64)
-    /// ```
-    #[inline(always)]
-    pub fn put_spelled(&mut self, alloc: Global, value: SpelledValue<'a>) -> bool
-        ensures value { result ≡ true → value_of self.new ≡ spelled_value value.entry }
-        ensures needs { result ≡ false → is_single_value (spelled_value value.entry) ≡ false }
-    {
-        match (&mut *self, &value) {
-            (FieldValue::I64(place), SpelledValue::I64(value)) => *place = *value,
-            (FieldValue::U64(place), SpelledValue::U64(value)) => *place = *value,
-            (FieldValue::F64(place), SpelledValue::F64(value)) => *place = *value,
-            (FieldValue::String(place), SpelledValue::String(text)) => {
-                return put_text(alloc, place, *text);
-            }
-            _ => return self.become_spelled(alloc, value),
+/// Puts the value that is spelled so into the place of another, unless memory for it is refused. Only a text that is a copy takes
+/// memory. In the place of a value of the same kind no more than what differs is written.
+///
+/// ```text
+/// 64i  makes  I64(64)  of  I64(1)
+/// ```
+#[inline(always)]
+pub fn put_value<'a>(alloc: Global, place: &mut FieldValue<'a>, value: SpelledValue<'a>) -> bool
+    ensures value { result ≡ true → value_of place.new ≡ spelled_value value.entry }
+    ensures needs { result ≡ false → is_single_value (spelled_value value.entry) ≡ false }
+{
+    match (&mut *place, &value) {
+        (FieldValue::I64(place), SpelledValue::I64(value)) => *place = *value,
+        (FieldValue::U64(place), SpelledValue::U64(value)) => *place = *value,
+        (FieldValue::F64(place), SpelledValue::F64(value)) => *place = *value,
+        (FieldValue::String(place), SpelledValue::String(text)) => {
+            return put_text(alloc, place, *text);
         }
-        true
+        _ => return put_any_value(alloc, place, value),
     }
+    true
 }
 
 /// Puts the logical text of a spelling into the place of another text, unless memory for it is refused. Only a copy takes memory.
