@@ -6,17 +6,16 @@
 
 ghost use Rattle.std.specs.Prelude.{◌≡◌, ◌≤◌, ◌+◌, ◌⊎◌, ◌++◌, ◌∷◌, [], length, map, true, false};
 ghost use Rattle.lp_format.specs.code.Light.{is_single_field, is_single_tag};
-ghost use Rattle.lp_values.specs.code.SpelledParts.{spelled_text};
-ghost use Rattle.lp_events.specs.code.Events.{named, spelled_field, spelled_tag, tagged, valued};
+ghost use Rattle.lp_events.specs.code.Events.{spelled_field, spelled_tag};
 ghost use Rattle.lp_format.specs.format.Lines.{answer};
 ghost use Rattle.lp_split.specs.code.Rules.{rules_of};
-ghost use Rattle.lp_lines.specs.code.Filling.{FillsAnswer, KeepsRooms, NeedsRoom, Puts, fields_so_far, tags_so_far};
+ghost use Rattle.lp_lines.specs.code.Filling.{FillsAnswer, KeepsRooms, fields_so_far, first_fields, first_tags, tags_so_far};
 ghost use Rattle.lp_lines.specs.code.Parsed.{field_of, tag_of};
 
-use crate::freeing::refused;
 use crate::{FieldSet, ParsedLine, TagSet};
 use lp_events::{EventSink, read_line_events};
 use lp_split::Dialect;
+use lp_values::values::{put_text, put_value};
 use lp_values::{FieldValue, Spelled, SpelledFault, SpelledValue};
 use std::alloc::Global;
 
@@ -37,6 +36,35 @@ fn push_tag<'a>(alloc: Global, tags: &mut TagSet<'a>, key: Spelled<'a>, value: S
     tags.push((key, value)).is_ok()
 }
 
+// Puts a tag after the first `count` of a set, and counts it, unless memory for it is refused. If a tag is there, it is replaced.
+#[inline(always)]
+fn put_tag<'a>(
+    alloc: Global,
+    tags: &mut TagSet<'a>,
+    count: &mut usize,
+    key: Spelled<'a>,
+    value: Spelled<'a>,
+) -> bool
+    ensures puts { result ≡ true → first_tags count.new tags.new
+        ≡ first_tags count.old tags.old ++ spelled_tag (key.entry, value.entry) ∷ [] }
+    ensures needs { result ≡ false → (is_single_tag (spelled_tag (key.entry, value.entry)) ≡ false)
+        ⊎ (tags.old.capacity ≤ length (first_tags count.old tags.old)) }
+    ensures room { tags.old.capacity ≤ tags.new.capacity }
+{
+    let at = *count;
+    if at >= tags.len() {
+        let is_pushed = push_tag(alloc, tags, key, value);
+        *count = tags.len();
+        return is_pushed;
+    }
+    let place = &mut tags.as_mut_slice()[at];
+    if !put_text(alloc, &mut place.0, key) || !put_text(alloc, &mut place.1, value) {
+        return false;
+    }
+    *count = at + 1;
+    true
+}
+
 // How many places a full set gets more, at least: so many that the fields of an ordinary line make it grow once.
 const MORE: usize = 10;
 
@@ -54,7 +82,7 @@ fn make_room<'a>(fields: &mut FieldSet<'a>) -> bool
     fields.reserve_exact(fields.len().max(MORE)).is_ok()
 }
 
-// Appends a field, unless memory for it is refused.
+// Appends a field, unless memory for it is refused. It makes room first, so that no value has to be dropped.
 #[inline(always)]
 fn push_field<'a>(
     alloc: Global,
@@ -68,73 +96,57 @@ fn push_field<'a>(
         ⊎ (fields.old.capacity ≤ length (map field_of fields.old.items)) }
     ensures room { fields.old.capacity ≤ fields.new.capacity }
 {
+    if !make_room(fields) {
+        return false;
+    }
+    let Ok(key) = key.to_escaped_str(alloc) else {
+        return false;
+    };
     let Ok(value) = FieldValue::from_spelled(alloc, value) else {
         return false;
     };
-    let Ok(key) = key.to_escaped_str(alloc) else {
-        refused(value);
-        return false;
-    };
-    if !make_room(fields) {
-        refused((key, value));
-        return false;
-    }
     fields.push_reserved((key, value));
     true
 }
 
-// Puts the measurement into a line, unless memory for it is refused.
-#[inline(always)]
-fn put_name<'a>(alloc: Global, line: &mut ParsedLine<'a>, name: Spelled<'a>) -> bool
-    ensures rooms { KeepsRooms line.old line.new }
-    ensures puts { result ≡ true → Puts line.old (named (spelled_text name.entry)) line.new }
-    ensures needs { result ≡ false → NeedsRoom line.old (named (spelled_text name.entry)) }
-{
-    let Ok(name) = name.to_escaped_str(alloc) else {
-        return false;
-    };
-    line.series.measurement = name;
-    true
-}
-
-// Puts a tag into a line that has a tag set, unless memory for it is refused.
-#[inline(always)]
-fn put_tag<'a>(
-    alloc: Global,
-    line: &mut ParsedLine<'a>,
-    key: Spelled<'a>,
-    value: Spelled<'a>,
-) -> bool
-    ensures rooms { KeepsRooms line.old line.new }
-    ensures puts { result ≡ true → Puts line.old (tagged (spelled_tag (key.entry, value.entry))) line.new }
-    ensures needs { result ≡ false → NeedsRoom line.old (tagged (spelled_tag (key.entry, value.entry))) }
-{
-    match &mut line.series.tag_set {
-        Some(tags) => push_tag(alloc, tags, key, value),
-        None => false,
-    }
-}
-
-// Puts a field into a line, unless memory for it is refused.
+// Puts a field after the first `count` of a set, and counts it, unless memory for it is refused. If a field is there, it is replaced.
 #[inline(always)]
 fn put_field<'a>(
     alloc: Global,
-    line: &mut ParsedLine<'a>,
+    fields: &mut FieldSet<'a>,
+    count: &mut usize,
     key: Spelled<'a>,
     value: SpelledValue<'a>,
 ) -> bool
-    ensures rooms { KeepsRooms line.old line.new }
-    ensures puts { result ≡ true → Puts line.old (valued (spelled_field (key.entry, value.entry))) line.new }
-    ensures needs { result ≡ false → NeedsRoom line.old (valued (spelled_field (key.entry, value.entry))) }
+    ensures puts { result ≡ true → first_fields count.new fields.new
+        ≡ first_fields count.old fields.old ++ spelled_field (key.entry, value.entry) ∷ [] }
+    ensures needs { result ≡ false → (is_single_field (spelled_field (key.entry, value.entry)) ≡ false)
+        ⊎ (fields.old.capacity ≤ length (first_fields count.old fields.old)) }
+    ensures room { fields.old.capacity ≤ fields.new.capacity }
 {
-    push_field(alloc, &mut line.field_set, key, value)
+    let at = *count;
+    if at >= fields.len() {
+        let is_pushed = push_field(alloc, fields, key, value);
+        *count = fields.len();
+        return is_pushed;
+    }
+    let place = &mut fields.as_mut_slice()[at];
+    if !put_text(alloc, &mut place.0, key) || !put_value(alloc, &mut place.1, value) {
+        return false;
+    }
+    *count = at + 1;
+    true
 }
 
-/// A line that is filled: whether memory for it was refused, and its fault, if it has one.
+/// A line that is filled: how many tags and fields of it were told, whether memory for one was refused, and its fault, if it has one.
+///
+/// What its sets hold after those was there before.
 #[derive(Drop)]
 pub(crate) struct Filling<'l, 'a> {
     pub(crate) alloc: Global,
     pub(crate) line: &'l mut ParsedLine<'a>,
+    pub(crate) tag_count: usize,
+    pub(crate) field_count: usize,
     pub(crate) refused: bool,
     pub(crate) fault: Option<SpelledFault<'a>>,
 }
@@ -146,21 +158,26 @@ impl<'l, 'a> EventSink<'a> for Filling<'l, 'a> {
 
     #[inline(always)]
     fn measurement(&mut self, name: Spelled<'a>) {
-        if !put_name(self.alloc, self.line, name) {
+        if !put_text(self.alloc, &mut self.line.series.measurement, name) {
             self.refused = true;
         }
     }
 
     #[inline(always)]
     fn tag(&mut self, key: Spelled<'a>, value: Spelled<'a>) {
-        if !put_tag(self.alloc, self.line, key, value) {
+        let is_put = match &mut self.line.series.tag_set {
+            Some(tags) => put_tag(self.alloc, tags, &mut self.tag_count, key, value),
+            None => false,
+        };
+        if !is_put {
             self.refused = true;
         }
     }
 
     #[inline(always)]
     fn field(&mut self, key: Spelled<'a>, value: SpelledValue<'a>) {
-        if !put_field(self.alloc, self.line, key, value) {
+        let fields = &mut self.line.field_set;
+        if !put_field(self.alloc, fields, &mut self.field_count, key, value) {
             self.refused = true;
         }
     }
@@ -181,8 +198,8 @@ impl<'l, 'a> EventSink<'a> for Filling<'l, 'a> {
 #[inline(always)]
 pub(crate) fn tell_line<'l, 'a>(dialect: Dialect, line: &'a str, filling: &mut Filling<'l, 'a>)
     requires not_refused { filling.old.refused ≡ false }
-    requires no_tags { tags_so_far filling.old.line.now ≡ [] }
-    requires no_fields { fields_so_far filling.old.line.now ≡ [] }
+    requires no_tags { tags_so_far filling.old ≡ [] }
+    requires no_fields { fields_so_far filling.old ≡ [] }
     ensures same { filling.new.line.ghost_name ≡ filling.old.line.ghost_name }
     ensures rooms { KeepsRooms filling.old.line.now filling.new.line.now }
     ensures filled { FillsAnswer filling.old (answer (rules_of dialect) line.now) filling.new }

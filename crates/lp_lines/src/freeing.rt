@@ -14,14 +14,6 @@ use lp_values::EscapedStr;
 use std::alloc::Global;
 use std::mem;
 
-// Lets go of what was read, where memory for more of it was refused.
-//
-// Few lines need it, and it is called apart, so that no drop is where a field is read: its looks at single bytes of
-// a value would have the compiler carry each value in small pieces.
-#[cold]
-#[inline(never)]
-pub(crate) fn refused<T: Drop>(_read: T) {}
-
 // Frees the memory of a tag set that has grown.
 #[inline(never)]
 fn free_tags<'a>(alloc: Global, tags: &mut TagSet<'a>)

@@ -1,7 +1,6 @@
 //! Lines.
 
-ghost use Rattle.std.specs.Prelude.{◌≡◌, ◌<◌, ◌≤◌, ◌^◌, [], length, max, true, Err, None, Some, IfSome, OnErr};
-ghost use Rattle.std.specs.Prelude.{MatchOption};
+ghost use Rattle.std.specs.Prelude.{◌≡◌, ◌<◌, ◌≤◌, ◌^◌, [], length, max, take, true, Err, None, Some, IfSome, OnErr};
 ghost use Rattle.std.specs.Option.{option_map};
 ghost use Rattle.lp_format.specs.format.Dialects.{Crate};
 ghost use Rattle.lp_split.specs.code.Rules.{rules_of};
@@ -15,7 +14,7 @@ ghost use Rattle.lp_format.specs.format.Trimming.{trimmed};
 ghost use Rattle.lp_lines.specs.code.ReadInto.{IsEmptyLine, KeepsTagRoom};
 
 use crate::filling::{Filling, tell_line};
-use crate::{ParsedLine, Series, TagSet};
+use crate::{FieldSet, ParsedLine, Series, TagSet};
 use lp_events::lines;
 use lp_split::Dialect;
 use lp_split::split::{SplitLines, dialect_of, split_lines_in};
@@ -41,20 +40,36 @@ fn let_go<'a>(set: &mut Option<TagSet<'a>>, spare: Option<&mut Option<TagSet<'a>
     }
 }
 
-// Lets the tag set of a line go if it holds no tag.
+// Keeps the first `count` tags of a line, and lets its tag set go if that is none.
 #[inline(always)]
-fn let_go_empty<'a>(set: &mut Option<TagSet<'a>>, spare: Option<&mut Option<TagSet<'a>>>)
-    ensures tags { some_items set.new ≡ some_items set.old }
+fn keep_tags<'a>(set: &mut Option<TagSet<'a>>, count: usize, spare: Option<&mut Option<TagSet<'a>>>)
+    ensures tags { some_items set.new ≡ take count (some_items set.old) }
     ensures some { IfSome set.new (λ tags. 0 < length tags.items) }
     ensures room { IfSome set.new (λ tags. room_of set.old ≤ tags.capacity) }
 {
-    if set.as_ref().is_some_and(|tags| !tags.is_empty()) {
-        return;
+    if let Some(tags) = set {
+        if tags.len() > count {
+            tags.truncate(count);
+        }
+        if !tags.is_empty() {
+            return;
+        }
     }
     let_go(set, spare);
 }
 
-// Fills the line `parsed`, which has empty sets, with what the trimmed text `line` says. At a fault, and where memory is refused,
+// Keeps the first `count` fields of a line.
+#[inline(always)]
+fn keep_fields<'a>(fields: &mut FieldSet<'a>, count: usize)
+    ensures fields { fields.new.items ≡ take count fields.old.items }
+    ensures room { fields.new.capacity ≡ fields.old.capacity }
+{
+    if fields.len() > count {
+        fields.truncate(count);
+    }
+}
+
+// Fills the line `parsed`, which has a tag set, with what the trimmed text `line` says. At a fault, and where memory is refused,
 // it is filled in part. A tag set that has grown is kept at `spare`, if that is given and the line has no tags.
 #[inline(never)]
 fn fill<'a>(
@@ -64,8 +79,6 @@ fn fill<'a>(
     parsed: &mut ParsedLine<'a>,
     spare: Option<&mut Option<TagSet<'a>>>,
 ) -> Result<()>
-    requires no_tags { MatchOption parsed.old.series.tag_set ⊥ (λ tags. tags.items ≡ []) }
-    requires no_fields { parsed.old.field_set.items ≡ [] }
     ensures value { FillsLine parsed.new result (answer (rules_of dialect) line.now) }
     ensures light { is_light_in (room_of parsed.old.series.tag_set) parsed.old.field_set.capacity (rules_of dialect)
         line.now ≡ true → IsNotOutOfMemory result }
@@ -75,6 +88,8 @@ fn fill<'a>(
     let mut filling = Filling {
         alloc,
         line: parsed,
+        tag_count: 0,
+        field_count: 0,
         refused: false,
         fault: None,
     };
@@ -82,6 +97,8 @@ fn fill<'a>(
     let Filling {
         alloc,
         line,
+        tag_count,
+        field_count,
         refused,
         fault,
     } = filling;
@@ -91,16 +108,16 @@ fn fill<'a>(
     if refused {
         return Err(Error::OutOfMemory);
     }
-    let_go_empty(&mut line.series.tag_set, spare);
+    keep_fields(&mut line.field_set, field_count);
+    keep_tags(&mut line.series.tag_set, tag_count, spare);
     Ok(())
 }
 
-// Makes the tag set of a line ready to be filled: it is there, empty, and keeps its room. Where there is none, it is
-// the one at `spare`, or a new one.
+// Makes the tag set of a line ready to be filled: it is there, and keeps its room. Where there is none, it is the one at `spare`, or
+// a new one.
 #[inline(always)]
-fn clear_tags<'a>(alloc: Global, set: &mut Option<TagSet<'a>>, spare: &mut Option<TagSet<'a>>)
-    ensures empty { MatchOption set.new ⊥ (λ tags. tags.items ≡ []) }
-    ensures room { max inline_tags (room_of set.old) ≤ room_of set.new }
+fn ready_tags<'a>(alloc: Global, set: &mut Option<TagSet<'a>>, spare: &mut Option<TagSet<'a>>)
+    ensures { max inline_tags (room_of set.old) ≤ room_of set.new }
 {
     if set.is_none() && spare.is_some() {
         *set = spare.take();
@@ -108,23 +125,9 @@ fn clear_tags<'a>(alloc: Global, set: &mut Option<TagSet<'a>>, spare: &mut Optio
     match set {
         Some(tags) => {
             let _at_least_inline = tags.capacity();
-            tags.clear();
         }
         None => *set = Some(SmallVec::new(alloc)),
     }
-}
-
-// Makes the sets of a line ready to be filled: it has both, they are empty, and they keep their room.
-#[inline(always)]
-fn clear_sets<'a>(alloc: Global, parsed: &mut ParsedLine<'a>, spare: &mut Option<TagSet<'a>>)
-    ensures no_tags { MatchOption parsed.new.series.tag_set ⊥ (λ tags. tags.items ≡ []) }
-    ensures no_fields { parsed.new.field_set.items ≡ [] }
-    ensures tag_room { max inline_tags (room_of parsed.old.series.tag_set) ≤ room_of parsed.new.series.tag_set }
-    ensures field_room { parsed.new.field_set.capacity ≡ max inline_fields parsed.old.field_set.capacity }
-{
-    let _at_least_inline = parsed.field_set.capacity();
-    parsed.field_set.clear();
-    clear_tags(alloc, &mut parsed.series.tag_set, spare);
 }
 
 // Empties a line that is at fault; its sets keep their room.
@@ -172,7 +175,8 @@ pub fn read_into<'a>(
     ensures light { is_light_in (max inline_tags (room_of line.old.series.tag_set)) (max inline_fields line.old.field_set.capacity)
         (rules_of dialect) text.now ≡ true → IsNotOutOfMemory result }
 {
-    clear_sets(alloc, line, spare);
+    let _at_least_inline = line.field_set.capacity();
+    ready_tags(alloc, &mut line.series.tag_set, spare);
     match fill(alloc, dialect, text, line, Some(spare)) {
         Ok(()) => Ok(()),
         Err(fault) => {

@@ -1,6 +1,7 @@
 -- What a line is filled with as its parts are told.
-use Rattle.std.specs.Prelude.{◌≡◌, ◌≤◌, ◌⊎◌, ◌++◌, ◌∷◌, ℕ, List, [], length, map, true, false, Option, Some, Result, Ok, Err}
+use Rattle.std.specs.Prelude.{◌≡◌, ◌≤◌, ◌⊎◌, ◌++◌, ◌∷◌, ℕ, List, [], length, map, take, true, false, Option, Some, Result, Ok, Err}
 use Rattle.std.specs.Option.{option_map}
+use Rattle.smallvec.specs.SmallVec.{SmallVec}
 use Rattle.lp_format.specs.format.Lines.{Line, some_tags}
 use Rattle.lp_format.specs.format.Points.{Pair}
 use Rattle.lp_format.specs.format.Readings.{Fault, Text}
@@ -8,6 +9,8 @@ use Rattle.lp_format.specs.format.Values.{Value}
 use Rattle.lp_format.specs.code.Light.{is_single_field, is_single_line, is_single_tag}
 use Rattle.lp_values.specs.declared.spelled.SpelledFault.{SpelledFault}
 use Rattle.lp_values.specs.code.SpelledParts.{spelled_fault}
+use Rattle.lp_values.specs.declared.escaped.EscapedStr.{EscapedStr}
+use Rattle.lp_values.specs.declared.values.FieldValue.{FieldValue}
 use Rattle.lp_values.specs.code.Texts.{read_of}
 use Rattle.lp_lines.specs.declared.filling.Filling.{Filling}
 use Rattle.lp_lines.specs.declared.parsed.ParsedLine.{ParsedLine}
@@ -15,13 +18,21 @@ use Rattle.lp_events.specs.code.Events.{Event, ended, failed, named, tagged, val
 use Rattle.lp_lines.specs.code.Lookups.{room_of, some_items}
 use Rattle.lp_lines.specs.code.Parsed.{field_of, tag_of}
 
--- the tags in a line so far
-abbrev pub tags_so_far : ParsedLine → List (Pair Text Text)
-tags_so_far line = map tag_of (some_items line.series.tag_set)
+-- the first tags of a set
+abbrev pub first_tags : ℕ → SmallVec (EscapedStr × EscapedStr) → List (Pair Text Text)
+first_tags count tags = map tag_of (take count tags.items)
 
--- the fields in a line so far
-abbrev pub fields_so_far : ParsedLine → List (Pair Text (Value Text))
-fields_so_far line = map field_of line.field_set.items
+-- the first fields of a set
+abbrev pub first_fields : ℕ → SmallVec (EscapedStr × FieldValue) → List (Pair Text (Value Text))
+first_fields count fields = map field_of (take count fields.items)
+
+-- the tags of a line so far
+abbrev pub tags_so_far : Filling → List (Pair Text Text)
+tags_so_far filling = map tag_of (take filling.tag_count (some_items filling.line.now.series.tag_set))
+
+-- the fields of a line so far
+abbrev pub fields_so_far : Filling → List (Pair Text (Value Text))
+fields_so_far filling = first_fields filling.field_count filling.line.now.field_set
 
 -- the room of a line for tags
 abbrev pub tag_room : ParsedLine → ℕ
@@ -32,31 +43,31 @@ abbrev pub field_room : ParsedLine → ℕ
 field_room line = line.field_set.capacity
 
 -- what is in a line beside its tags
-abbrev pub beside_tags : ParsedLine → Text × List (Pair Text (Value Text))
-beside_tags line = (read_of line.series.measurement, fields_so_far line)
+abbrev pub beside_tags : Filling → Text × List (Pair Text (Value Text))
+beside_tags filling = (read_of filling.line.now.series.measurement, fields_so_far filling)
 
 -- what is in a line beside its fields
-abbrev pub beside_fields : ParsedLine → Text × List (Pair Text Text)
-beside_fields line = (read_of line.series.measurement, tags_so_far line)
+abbrev pub beside_fields : Filling → Text × List (Pair Text Text)
+beside_fields filling = (read_of filling.line.now.series.measurement, tags_so_far filling)
 
 -- a line takes an event: it has the part that is told, and the others as before
-abbrev pub Puts : ParsedLine → Event → ParsedLine → Type 0
+abbrev pub Puts : Filling → Event → Filling → Type 0
 Puts old (named m) new =
-    (read_of new.series.measurement ≡ m) × (tags_so_far new ≡ tags_so_far old) × (fields_so_far new ≡ fields_so_far old)
+    (read_of new.line.now.series.measurement ≡ m) × (tags_so_far new ≡ tags_so_far old) × (fields_so_far new ≡ fields_so_far old)
 Puts old (tagged t) new = (tags_so_far new ≡ tags_so_far old ++ t ∷ []) × (beside_tags new ≡ beside_tags old)
 Puts old (valued f) new = (fields_so_far new ≡ fields_so_far old ++ f ∷ []) × (beside_fields new ≡ beside_fields old)
 Puts old (ended series timestamp) new =
-    (new.series.raw_input.now ≡ series) × (new.timestamp ≡ timestamp)
+    (new.line.now.series.raw_input.now ≡ series) × (new.line.now.timestamp ≡ timestamp)
     × (beside_tags new ≡ beside_tags old) × (tags_so_far new ≡ tags_so_far old)
 Puts old (failed fault) new = Unit {0}
 
 -- an event needs memory for a line: the part is a copy, or there is no room left
-abbrev pub NeedsRoom : ParsedLine → Event → Type 0
-NeedsRoom line (named m) = m.is_single ≡ false
-NeedsRoom line (tagged t) = (is_single_tag t ≡ false) ⊎ (tag_room line ≤ length (tags_so_far line))
-NeedsRoom line (valued f) = (is_single_field f ≡ false) ⊎ (field_room line ≤ length (fields_so_far line))
-NeedsRoom line (ended series timestamp) = ⊥
-NeedsRoom line (failed fault) = ⊥
+abbrev pub NeedsRoom : Filling → Event → Type 0
+NeedsRoom old (named m) = m.is_single ≡ false
+NeedsRoom old (tagged t) = (is_single_tag t ≡ false) ⊎ (tag_room old.line.now ≤ length (tags_so_far old))
+NeedsRoom old (valued f) = (is_single_field f ≡ false) ⊎ (field_room old.line.now ≤ length (fields_so_far old))
+NeedsRoom old (ended series timestamp) = ⊥
+NeedsRoom old (failed fault) = ⊥
 
 -- the fault that is kept after an event
 abbrev pub KeepsFault : Option SpelledFault → Event → Option SpelledFault → Type 0
@@ -73,21 +84,21 @@ pub record FillsBy (old : Filling) (event : Event) (new : Filling) : Type 0 wher
   pub same : new.line.ghost_name ≡ old.line.ghost_name
   pub rooms : KeepsRooms old.line.now new.line.now
   pub fault : KeepsFault old.fault event new.fault
-  pub puts : new.refused ≡ false → (old.refused ≡ false) × Puts old.line.now event new.line.now
-  pub needs : new.refused ≡ true → (old.refused ≡ true) ⊎ NeedsRoom old.line.now event
+  pub puts : new.refused ≡ false → (old.refused ≡ false) × Puts old event new
+  pub needs : new.refused ≡ true → (old.refused ≡ true) ⊎ NeedsRoom old event
 
--- a line has what another says, its tag set aside
-pub record HasRead (line : ParsedLine) (l : Line) : Type 0 where
-  pub series : line.series.raw_input.now ≡ l.series
-  pub measurement : read_of line.series.measurement ≡ l.measurement
-  pub tags : tags_so_far line ≡ some_tags l.tags
-  pub fields : fields_so_far line ≡ l.fields
-  pub timestamp : line.timestamp ≡ l.timestamp
+-- a line has what another says, its tag set aside, and what its sets hold after that
+pub record HasRead (filling : Filling) (l : Line) : Type 0 where
+  pub series : filling.line.now.series.raw_input.now ≡ l.series
+  pub measurement : read_of filling.line.now.series.measurement ≡ l.measurement
+  pub tags : tags_so_far filling ≡ some_tags l.tags
+  pub fields : fields_so_far filling ≡ l.fields
+  pub timestamp : filling.line.now.timestamp ≡ l.timestamp
 
 -- the events of a line were told: it is filled, unless it has a copy, or more tags or fields than there is room for
 pub record FilledLine (old : Filling) (l : Line) (new : Filling) : Type 0 where
   pub fault : new.fault ≡ old.fault
-  pub read : new.refused ≡ false → HasRead new.line.now l
+  pub read : new.refused ≡ false → HasRead new l
   pub fits : is_single_line l ≡ true → length (some_tags l.tags) ≤ tag_room old.line.now → length l.fields ≤ field_room old.line.now
       → new.refused ≡ false
 

@@ -1,5 +1,5 @@
 -- A line is filled by the events of its text, and what filling it answers.
-use Rattle.std.proofs.Common.{◌≡◌, ℕ, ◌+◌, ◌<◌, ◌≤◌, List, [], ◌∷◌, ◌++◌, length, length-append, map, Bool, true, false, ◌&&◌, refl, sym}
+use Rattle.std.proofs.Common.{◌≡◌, ℕ, ◌+◌, ◌<◌, ◌≤◌, List, [], ◌∷◌, ◌++◌, length, length-append, map, take, Bool, true, false, ◌&&◌, refl, sym}
 use Rattle.std.proofs.Common.{ap, ◌∙◌, arith, inl, inr, append_assoc}
 use Rattle.std.specs.Prelude.{◌⊎◌, Result, Ok, Err, ◌≢◌, Option, Some, None, IfSome}
 use Rattle.std.specs.List.{list_all}
@@ -17,6 +17,7 @@ use Rattle.lp_values.specs.declared.error.Error.{Error}
 use Rattle.lp_values.specs.declared.error.Error.TheVariants.{OutOfMemory}
 use Rattle.lp_values.specs.declared.escaped.EscapedStr.{EscapedStr}
 use Rattle.lp_values.specs.declared.spelled.SpelledFault.{SpelledFault}
+use Rattle.lp_values.specs.declared.values.FieldValue.{FieldValue}
 use Rattle.lp_values.specs.code.SpelledParts.{spelled_fault}
 use Rattle.lp_events.specs.code.Events.{AreEventsOf, Event, TakesAll, ended, events_of_line, failed, named, tagged, valued}
 use Rattle.lp_lines.specs.declared.filling.Filling.{Filling}
@@ -24,7 +25,7 @@ use Rattle.lp_lines.specs.declared.parsed.ParsedLine.{ParsedLine}
 use Rattle.lp_lines.specs.code.Filling.{FilledLine, FillsAnswer, FillsBy, HasRead, KeepsRooms, beside_fields, beside_tags, field_room}
 use Rattle.lp_lines.specs.code.Filling.{fields_so_far, tag_room, tags_so_far}
 use Rattle.lp_lines.specs.code.Lookups.{some_items}
-use Rattle.lp_lines.specs.code.Parsed.{line_read, tag_of, tags_of}
+use Rattle.lp_lines.specs.code.Parsed.{field_of, line_read, tag_of, tags_of}
 use Rattle.lp_lines.proofs.lemmas.line.AnsweredLines.{light_fault, light_line, HasSome, line_some_tags}
 
 -- what takes some events and then others takes the first ones before the others
@@ -49,28 +50,28 @@ same_line old new [] same = rw same refl
 same_line old new (event ∷ events) (mid, first, more) = same_line mid new events more ∙ first.same
 
 -- parts of one kind were put, unless memory was refused: a part is a copy, or there are more than there is room for
-record FilledBy {A X : Type 0} (set : ParsedLine → List A) (room : ParsedLine → ℕ) (is_single : A → Bool) (others : ParsedLine → X)
+record FilledBy {A X : Type 0} (set : Filling → List A) (room : ParsedLine → ℕ) (is_single : A → Bool) (others : Filling → X)
     (old : Filling) (xs : List A) (new : Filling) : Type 0 where
   pub fault : new.fault ≡ old.fault
   pub puts : new.refused ≡ false
-      → (old.refused ≡ false) × (set new.line.now ≡ set old.line.now ++ xs) × (others new.line.now ≡ others old.line.now)
-  pub fits : old.refused ≡ false → list_all is_single xs ≡ true → length (set old.line.now) + length xs ≤ room old.line.now
+      → (old.refused ≡ false) × (set new ≡ set old ++ xs) × (others new ≡ others old)
+  pub fits : old.refused ≡ false → list_all is_single xs ≡ true → length (set old) + length xs ≤ room old.line.now
       → new.refused ≡ false
 
-module _ {A X : Type 0} (event : A → Event) (set : ParsedLine → List A) (room : ParsedLine → ℕ) (is_single : A → Bool) (others : ParsedLine → X)
+module _ {A X : Type 0} (event : A → Event) (set : Filling → List A) (room : ParsedLine → ℕ) (is_single : A → Bool) (others : Filling → X)
     (grows : (old new : Filling) (x : A) → FillsBy old (event x) new → room old.line.now ≤ room new.line.now)
     (keeps : (old new : Filling) (x : A) → FillsBy old (event x) new → new.fault ≡ old.fault)
     (puts : (old new : Filling) (x : A) → FillsBy old (event x) new → new.refused ≡ false
-    → (old.refused ≡ false) × (set new.line.now ≡ set old.line.now ++ x ∷ []) × (others new.line.now ≡ others old.line.now))
+    → (old.refused ≡ false) × (set new ≡ set old ++ x ∷ []) × (others new ≡ others old))
     (needs : (old new : Filling) (x : A) → FillsBy old (event x) new → new.refused ≡ true
-    → (old.refused ≡ true) ⊎ ((is_single x ≡ false) ⊎ (room old.line.now ≤ length (set old.line.now)))) where
+    → (old.refused ≡ true) ⊎ ((is_single x ≡ false) ⊎ (room old.line.now ≤ length (set old)))) where
   -- memory is not refused for a part that is no copy, where there is room
   one_fits : (old new : Filling) (x : A) → FillsBy old (event x) new → old.refused ≡ false → is_single x ≡ true
-      → length (set old.line.now) < room old.line.now → new.refused ≡ false
+      → length (set old) < room old.line.now → new.refused ≡ false
   one_fits old new x by taken single less = elim (cases_Bool new.refused) [ inl refused ↦ absurd (no (needs old new x by refused)) | inr free ↦ free ]
     where
       -- it would need some
-      no : (old.refused ≡ true) ⊎ ((is_single x ≡ false) ⊎ (room old.line.now ≤ length (set old.line.now))) → ⊥
+      no : (old.refused ≡ true) ⊎ ((is_single x ≡ false) ⊎ (room old.line.now ≤ length (set old))) → ⊥
       no (inl was) = let both = sym was ∙ taken in cc
       no (inr (inl copied)) = let both = sym copied ∙ single in cc
       no (inr (inr full)) = omega arith
@@ -78,7 +79,7 @@ module _ {A X : Type 0} (event : A → Event) (set : ParsedLine → List A) (roo
   -- parts of one kind that were told were put
   filled_by : (old new : Filling) (xs : List A) → TakesAll FillsBy old (map event xs) new → FilledBy set room is_single others old xs new
   filled_by old new [] same = rw (← same)
-      (record { fault = refl; puts = λ taken. (taken, sym (append-nil (set old.line.now)), refl); fits = λ taken single room. taken })
+      (record { fault = refl; puts = λ taken. (taken, sym (append-nil (set old)), refl); fits = λ taken single room. taken })
   filled_by old new (x ∷ xs) (mid, first, more) =
       let later = filled_by mid new xs more in
       record {
@@ -87,14 +88,14 @@ module _ {A X : Type 0} (event : A → Event) (set : ParsedLine → List A) (roo
             let rest = later.puts taken in
             let one = puts old mid x first rest.0 in (
               one.0,
-              rest.1 ∙ ap (λ (ys : List A). ys ++ xs) one.1 ∙ append_assoc (set old.line.now) (x ∷ []) xs,
+              rest.1 ∙ ap (λ (ys : List A). ys ++ xs) one.1 ∙ append_assoc (set old) (x ∷ []) xs,
               rest.2 ∙ one.2,
             );
         fits = λ taken single enough.
             let parts = and_parts (is_single x) (list_all is_single xs) single in
             let free = one_fits old mid x first taken parts.0 (omega arith) in
             let one = ap length (puts old mid x first free).1 in
-            later.fits free parts.1 (omega (arith, enough, grows old mid x first, one, length-append (set old.line.now) (x ∷ [])));
+            later.fits free parts.1 (omega (arith, enough, grows old mid x first, one, length-append (set old) (x ∷ [])));
       }
 
 -- what tags fill
@@ -113,7 +114,7 @@ module _ (old : Filling) (l : Line) (begun told_tags told_fields new : Filling) 
     (tags_told : TakesAll FillsBy begun (map tagged (some_tags l.tags)) told_tags)
     (fields_told : TakesAll FillsBy told_tags (map valued l.fields) told_fields)
     (last : FillsBy told_fields (ended l.series l.timestamp) new) (not_refused : old.refused ≡ false)
-    (no_tags : tags_so_far old.line.now ≡ []) (no_fields : fields_so_far old.line.now ≡ []) where
+    (no_tags : tags_so_far old ≡ []) (no_fields : fields_so_far old ≡ []) where
   -- what the tags filled
   tags : FilledBy tags_so_far tag_room is_single_tag beside_tags begun (some_tags l.tags) told_tags
   tags = filled_tags begun told_tags (some_tags l.tags) tags_told
@@ -155,7 +156,7 @@ module _ (old : Filling) (l : Line) (begun told_tags told_fields new : Filling) 
       end_fits (fields.fits tags_free parts.1 (omega (arith, few_fields, no_field, first.rooms.fields, kept)))
 
   -- the line is filled
-  filled_read : new.refused ≡ false → HasRead new.line.now l
+  filled_read : new.refused ≡ false → HasRead new l
   filled_read taken =
       let end = last.puts taken in
       let put_fields = fields.puts end.0 in
@@ -182,7 +183,7 @@ module _ (old : Filling) (l : Line) (begun told_tags told_fields new : Filling) 
 
 -- the events of a line fill it
 pub filled_line : (old new : Filling) (l : Line) → TakesAll FillsBy old (events_of_line l) new → old.refused ≡ false
-    → tags_so_far old.line.now ≡ [] → fields_so_far old.line.now ≡ [] → FilledLine old l new
+    → tags_so_far old ≡ [] → fields_so_far old ≡ [] → FilledLine old l new
 filled_line old new l (begun, first, told) not_refused no_tags no_fields =
     let parted = takes_parted FillsBy begun new (map tagged (some_tags l.tags) ++ map valued l.fields) (ended l.series l.timestamp ∷ []) told in
     let front = takes_parted FillsBy begun parted.0 (map tagged (some_tags l.tags)) (map valued l.fields) parted.1 in
@@ -190,7 +191,7 @@ filled_line old new l (begun, first, told) not_refused no_tags no_fields =
 
 -- the events of an answer fill it
 pub filled_answer : (old new : Filling) (events : List Event) (answer : Result Line Fault) → AreEventsOf events answer
-    → TakesAll FillsBy old events new → old.refused ≡ false → tags_so_far old.line.now ≡ [] → fields_so_far old.line.now ≡ []
+    → TakesAll FillsBy old events new → old.refused ≡ false → tags_so_far old ≡ [] → fields_so_far old ≡ []
     → FillsAnswer old answer new
 filled_answer old new events (Ok l) is told not_refused no_tags no_fields =
     filled_line old new l (rw is at told) not_refused no_tags no_fields
@@ -207,18 +208,29 @@ same_tags None (Some set) some kept same = absurd (omega (arith, kept, ap length
 same_tags (Some tags) None some kept same = absurd (omega (arith, some, ap length same))
 same_tags (Some tags) (Some set) some kept same = ap Some same
 
--- a line that has what was read, and its tag set if it has tags, is the line
-pub is_line : (dialect : Dialect) (text : List ℕ) (l : Line) (line : ParsedLine) (set : Option (SmallVec (EscapedStr × EscapedStr)))
-    → answer dialect text ≡ Ok l → HasRead line l → some_items set ≡ some_items line.series.tag_set
-    → IfSome set (λ s. 0 < length s.items)
-    → line_read (record {
-      series = record { raw_input = line.series.raw_input; measurement = line.series.measurement; tag_set = set };
-      field_set = line.field_set;
-      timestamp = line.timestamp;
-    }) ≡ l
-is_line dialect text l line set answered read kept some =
+-- the line that is filled, with these sets
+abbrev pub filled_line_of : Filling → Option (SmallVec (EscapedStr × EscapedStr)) → SmallVec (EscapedStr × FieldValue) → ParsedLine
+filled_line_of filling set fields =
+    record {
+      series =
+          record {
+            raw_input = filling.line.now.series.raw_input;
+            measurement = filling.line.now.series.measurement;
+            tag_set = set;
+          };
+      field_set = fields;
+      timestamp = filling.line.now.timestamp;
+    }
+
+-- a line that has what was read, the tags and fields that were told, and a tag set if it has tags, is the line
+pub is_line : (dialect : Dialect) (text : List ℕ) (l : Line) (filling : Filling) (set : Option (SmallVec (EscapedStr × EscapedStr)))
+    (fields : SmallVec (EscapedStr × FieldValue)) → answer dialect text ≡ Ok l → HasRead filling l
+    → some_items set ≡ take filling.tag_count (some_items filling.line.now.series.tag_set)
+    → fields.items ≡ take filling.field_count filling.line.now.field_set.items → IfSome set (λ s. 0 < length s.items)
+    → line_read (filled_line_of filling set fields) ≡ l
+is_line dialect text l filling set fields answered read kept kept_fields some =
     let tags = same_tags l.tags set (line_some_tags dialect text l answered) some (ap (map tag_of) kept ∙ read.tags) in
-    rw (read.series, read.measurement, tags, read.fields, read.timestamp) refl
+    rw (read.series, read.measurement, tags, ap (map field_of) kept_fields ∙ read.fields, read.timestamp) refl
 
 module _ (old new : Filling) (none : old.fault ≡ None) where
   -- a fault that was kept is the answer
@@ -255,14 +267,11 @@ module _ (old new : Filling) (none : old.fault ≡ None) where
         cc
 
     -- the line that is filled is the answer
-    pub line_answers : (set : Option (SmallVec (EscapedStr × EscapedStr)))
+    pub line_answers : (set : Option (SmallVec (EscapedStr × EscapedStr))) (fields : SmallVec (EscapedStr × FieldValue))
         → ((fault : SpelledFault) → new.fault ≡ Some fault → ⊥) → new.refused ≡ false
-        → some_items set ≡ some_items new.line.now.series.tag_set → IfSome set (λ s. 0 < length s.items)
-        → answer dialect text ≡ Ok (line_read (record {
-          series = record { raw_input = new.line.now.series.raw_input; measurement = new.line.now.series.measurement; tag_set = set };
-          field_set = new.line.now.field_set;
-          timestamp = new.line.now.timestamp;
-        }))
-    line_answers set without taken kept some =
+        → some_items set ≡ take new.tag_count (some_items new.line.now.series.tag_set)
+        → fields.items ≡ take new.field_count new.line.now.field_set.items → IfSome set (λ s. 0 < length s.items)
+        → answer dialect text ≡ Ok (line_read (filled_line_of new set fields))
+    line_answers set fields without taken kept kept_fields some =
         let read = line_is (answer dialect text) filled without in
-        read.1 ∙ ap Ok (sym (is_line dialect text read.0 new.line.now set read.1 (read.2.read taken) kept some))
+        read.1 ∙ ap Ok (sym (is_line dialect text read.0 new set fields read.1 (read.2.read taken) kept kept_fields some))

@@ -16,6 +16,7 @@ returns-then-refused-clause-light c = λ light refused.
 
 pub returns-clause-value : goal.returns-clause-value
 returns-clause-value c =
-    let filled = line_answers _ _ refl (rules_of c.args.dialect) c.args.line.now c.tell_line.ensures.filled c.let_go_empty.new.set
-    c.in_default.not-Some c.if-refused.false c.let_go_empty.ensures.tags c.let_go_empty.ensures.some in
+    let filled = line_answers _ _ refl (rules_of c.args.dialect) c.args.line.now c.tell_line.ensures.filled c.keep_tags.new.set
+    c.keep_fields.new.fields c.in_default.not-Some c.if-refused.false c.keep_tags.ensures.tags c.keep_fields.ensures.fields
+    c.keep_tags.ensures.some in
     search rules

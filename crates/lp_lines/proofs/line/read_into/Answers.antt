@@ -7,9 +7,9 @@ use Rattle.lp_lines.proofs.line.read_into.Goals as goal
 
 pub returns-in-Err-clause-light : goal.returns-in-Err-clause-light
 returns-in-Err-clause-light c = λ small.
-    let sets = c.clear_sets.new.parsed in
-    let wide : is_light_in (room_of sets.series.tag_set) sets.field_set.capacity (rules_of c.args.dialect) c.args.text.now ≡ true =
+    let tags = c.ready_tags.new.set in
+    let room = c.args.line.now.field_set.capacity in
+    let wide : is_light_in (room_of tags) room (rules_of c.args.dialect) c.args.text.now ≡ true =
     more_room (rules_of c.args.dialect) c.args.text.now (max inline_tags (room_of c.args.line.now.series.tag_set))
-    (max inline_fields c.args.line.now.field_set.capacity) (room_of sets.series.tag_set) sets.field_set.capacity
-    c.clear_sets.ensures.tag_room (omega (arith, c.clear_sets.ensures.field_room)) small in
+    (max inline_fields room) (room_of tags) room c.ready_tags.ensures (omega (arith, c.capacity-at_least_inline.ensures.at_least_inline)) small in
     search rules
