@@ -14,7 +14,7 @@ use influxdb_line_protocol::{
     Dialect, EscapedStr, FieldSet, ParsedLine, PieceTooLong, Series, TagSet,
 };
 use lp_lines::freeing::{forget_line, free_line};
-use lp_rebuild::batch::{Place, Progress, refuse, take_text, take_written};
+use lp_rebuild::batch::{self, Place, Progress, refuse, take_text, take_written};
 use lp_rebuild::program::BLOCK;
 use lp_values::trim::trimmed;
 use simdutf8::basic::{self, Utf8Error};
@@ -112,7 +112,7 @@ fn take_trimmed(
 const LONG: usize = 128;
 
 // The text of bytes, where they are UTF-8.
-fn text_of(bytes: &[u8]) -> Result<&str, Utf8Error>
+pub(crate) fn text_of(bytes: &[u8]) -> Result<&str, Utf8Error>
     ensures cases { MatchResult result (λ text. (text.now ≡ bytes.now) × IsUtf8 bytes.now) (λ _. ¬ (IsUtf8 bytes.now)) }
 {
     if bytes.len() < LONG {
@@ -210,6 +210,32 @@ pub(crate) fn take_piece(
     }
     let next = place_after(so_far.place, piece)?;
     take_given(alloc, dialect, so_far, piece)?;
+    so_far.place = next;
+    Ok(())
+}
+
+// Takes a piece that is text, as [`take_piece`] does, by way of a line that is used again.
+#[inline(always)]
+pub(crate) fn take_text_piece<'a>(
+    alloc: Global,
+    dialect: Dialect,
+    so_far: &mut Progress,
+    piece: &'a str,
+    line: &mut ParsedLine<'a>,
+    spare: &mut Option<TagSet<'a>>,
+) -> Result<(), AllocError>
+    requires fits { so_far.old.carried + so_far.old.refused ≤ usize.MAX }
+    requires few { HoldsLess BLOCK so_far.old }
+    ensures taken { OnOk result
+        (TakesItems (made so_far.old) (items_of_bytes (rules_of dialect) piece.now) (made so_far.new)) }
+    ensures place { OnOk result (so_far.new.place ≡ place_after so_far.old.place (newlines_in piece.now)) }
+    ensures fits { OnOk result (so_far.new.carried + so_far.new.refused ≤ usize.MAX) }
+{
+    if so_far.carried + so_far.refused == usize::MAX {
+        return Err(AllocError);
+    }
+    let next = place_after(so_far.place, Ok(piece.as_bytes()))?;
+    batch::take_piece(alloc, dialect, so_far, piece, line, spare)?;
     so_far.place = next;
     Ok(())
 }
