@@ -180,10 +180,10 @@ pub fn take_text<'a>(
     take(alloc, so_far, &answer, line)
 }
 
-// Takes the next piece of a text: its line is copied where it is as the builder writes it, and else read into `line`. A blank
-// piece has none.
+/// Takes the next piece of a text: its line is copied where it is as the builder writes it, and else read into `line`. A blank
+/// piece has none.
 #[inline(always)]
-fn take_piece<'a>(
+pub fn take_piece<'a>(
     alloc: Global,
     dialect: Dialect,
     so_far: &mut Progress,

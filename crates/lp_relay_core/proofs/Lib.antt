@@ -7,6 +7,7 @@ pub mod ItemLemmas
 pub mod FaultLines
 pub mod RelayLemmas
 pub mod RelayPieces
+pub mod WholeLines
 pub mod RelaysSoFar
 pub mod RelaysOfText
 pub mod RelayEnds

@@ -1,7 +1,8 @@
 -- The steps of a relay, one after another.
 use Rattle.std.proofs.Common.{◌≡◌, ◌<◌, ℕ, List, [], ◌∷◌, ◌++◌, length, map, string_bytes, codes}
 use Rattle.std.proofs.Common.{Option, Result, Ok, Err, refl, sym, ap, subst, ◌∙◌, arith, append-nil}
-use Rattle.std.proofs.Common.{OnErr}
+use Rattle.std.proofs.Common.{OnErr, inl, inr}
+use Rattle.std.proofs.Math.Nat.{eq-zero-or-pos}
 use Rattle.std.specs.Str.{IsUtf8}
 use Rattle.std.proofs.lemmas.Str.{IsUtf8-nil}
 use Rattle.std.specs.Io.KnownBytes.{Appends}
@@ -67,7 +68,7 @@ takes_too_long old new r =
     }
 
 -- the line of a piece is its one item
-pub takes_line : (dialect : Dialect) (piece : List ℕ) (old new : Progress) → 0 < length (trimmed piece)
+takes_line : (dialect : Dialect) (piece : List ℕ) (old new : Progress) → 0 < length (trimmed piece)
     → Takes old (answer dialect (trimmed piece)) new
     → TakesItems (made old) (map answered (answers_of_piece dialect piece)) (made new)
 takes_line dialect piece old new some takes =
@@ -75,18 +76,24 @@ takes_line dialect piece old new some takes =
     (takes_answer old (answer dialect (trimmed piece)) new takes)
 
 -- a blank piece has none
-pub takes_blank : (dialect : Dialect) (piece : List ℕ) (old : Progress) → length (trimmed piece) ≡ 0
+takes_blank : (dialect : Dialect) (piece : List ℕ) (old : Progress) → length (trimmed piece) ≡ 0
     → TakesItems (made old) (map answered (answers_of_piece dialect piece)) (made old)
 takes_blank dialect piece old blank =
     subst (λ (l : List (Result Line Fault)). TakesItems (made old) (map answered l) (made old)) (sym (blank_answers dialect piece blank))
     (takes_nothing (made old))
 
--- the items of a piece are those of its text
-pub takes_bytes : (dialect : Dialect) (text piece : List ℕ) (old new : Made) → text ≡ piece → IsUtf8 piece
-    → TakesItems old (map answered (answers_of_piece dialect text)) new → TakesItems old (items_of_bytes dialect piece) new
-takes_bytes dialect text piece old new same u t =
-    subst (λ l. TakesItems old l new)
-    (ap (λ (p : List ℕ). map answered (answers_of_piece dialect p)) same ∙ sym (items_of_text dialect piece u)) t
+-- the line of a text is its one item, and a blank text has none
+pub takes_text : (dialect : Dialect) (piece : List ℕ) (old new : Progress) → IsUtf8 piece → (length (trimmed piece) ≡ 0 → new ≡ old)
+    → (0 < length (trimmed piece) → Takes old (answer dialect (trimmed piece)) new)
+    → TakesItems (made old) (items_of_bytes dialect piece) (made new)
+takes_text dialect piece old new u blank some =
+    rw (items_of_text dialect piece u)
+    (elim (eq-zero-or-pos (length (trimmed piece))) [
+      | inl none ↦
+          subst (λ (p : Progress). TakesItems (made old) (map answered (answers_of_piece dialect piece)) (made p)) (sym (blank none))
+          (takes_blank dialect piece old none)
+      | inr more ↦ takes_line dialect piece old new more (some more)
+    ])
 
 -- an empty piece has no item
 no_items : (dialect : Dialect) → items_of_bytes dialect [] ≡ []

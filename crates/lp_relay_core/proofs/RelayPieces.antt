@@ -2,56 +2,76 @@
 use Rattle.std.proofs.Common.{◌≡◌, ℕ, ◌+◌, ◌≤◌, List, [], ◌∷◌, ◌++◌, length, Option, Some, Result, Ok, Err}
 use Rattle.std.proofs.Common.{refl, sym, ap, subst, ◌∙◌, arith, append_assoc, append-nil}
 use Rattle.std.specs.Borrow.{Bor}
+use Rattle.std.proofs.lemmas.Grind.{flat_map-append}
 use Rattle.influxdb_line_protocol.specs.format.Dialects.{Dialect}
 use Rattle.influxdb_line_protocol.specs.format.Bytes.{newline, newlines_in}
 use Rattle.influxdb_line_protocol.specs.format.Pieces.{IsCutPiece, IsLastPiece}
-use Rattle.influxdb_line_protocol.specs.code.Bounded.{GivesOf, HeldWithin, Holds, IsLastOf, IsTooLong}
+use Rattle.influxdb_line_protocol.specs.code.Bounded.{CutsTo, GivesOf, HeldWithin, Holds, IsLastOf, IsTooLong}
 use Rattle.influxdb_line_protocol.specs.types.PieceTooLong.{PieceTooLong}
 use Rattle.influxdb_line_protocol.specs.laws.StreamLaws.{Run, Run.taken}
 use Rattle.lp_rebuild.specs.declared.batch.Place.{Place}
 use Rattle.lp_relay_core.specs.Relaying.{Item, limit_of, items_of_bytes, items_of_piece, items_of}
-use Rattle.lp_relay_core.specs.RelaySteps.{Made, RelaysItems, RelaysPart, RelaysPieces, RelaysAllPieces, RelaysSome, TakesItems}
+use Rattle.lp_relay_core.specs.RelaySteps.{Made, RelaysItems, RelaysPart, RelaysAllPieces, RelaysSome, RelaysTo, TakesItems}
 use Rattle.lp_relay_core.specs.RelaySteps.{TakesPieces, faults_at, faults_from, faults_next, faults_past, items_given, newlines_given}
 use Rattle.lp_relay_core.specs.RelaySteps.{place_after, place_past}
 use Rattle.lp_relay_core.proofs.ItemLemmas.{item_of_long, items_add_up, items_of_short, items_push}
 use Rattle.lp_relay_core.proofs.FaultLines.{faults_from_append, faults_from_push, place_append}
 use Rattle.lp_relay_core.proofs.RelayLemmas.{part_of_none, part_poured, part_so_far, part_then, relays_none, relays_poured, relays_same}
-use Rattle.lp_relay_core.proofs.RelayLemmas.{part_same, relays_then}
+use Rattle.lp_relay_core.proofs.RelayLemmas.{part_more, part_same, relays_more, relays_then}
 
--- the piece that a call gave, or that is too long, and the rest, which the stream then holds
-pub record Given (dialect : Dialect) (limit : ℕ) (text : List ℕ) (result : Result (Bor (List ℕ)) PieceTooLong) (after : HeldWithin)
+-- the first piece of a text, which a call gave, or which is too long; the rest is left
+pub record Given (dialect : Dialect) (limit : ℕ) (text : List ℕ) (result : Result (Bor (List ℕ)) PieceTooLong) (rest : List ℕ)
     : Type 0 where
   pub piece : List ℕ
-  pub rest : List ℕ
   pub text_is : text ≡ piece ++ newline ∷ rest
   pub is_cut : IsCutPiece dialect piece
-  pub holds : Holds after rest
   pub items : items_given dialect result ≡ items_of_piece dialect (limit_of limit) piece
   pub newlines : newlines_given result ≡ newlines_in piece
 
--- a call gave one
-pub given_piece : (dialect : Dialect) (limit : ℕ) (before after : HeldWithin) (text : List ℕ)
-    (result : Result (Bor (List ℕ)) PieceTooLong) → before.held.dialect ≡ dialect → before.limit ≡ limit
-    → GivesOf before text (Some result) after → Given dialect limit text result after
-given_piece dialect limit before after text (Ok piece) same bound h =
+-- a piece that is not too long
+pub given_short : (dialect : Dialect) (limit : ℕ) (text : List ℕ) (piece : Bor (List ℕ)) (rest : List ℕ) → length piece.now ≤ limit
+    → CutsTo dialect text piece.now rest → Given dialect limit text (Ok piece) rest
+given_short dialect limit text piece rest short cuts =
     record {
       piece = piece.now;
-      rest = h.0;
-      text_is = h.2.0;
-      is_cut = subst (λ d. IsCutPiece d piece.now) same h.2.1;
-      holds = h.3;
-      items = sym (items_of_short dialect limit piece.now (subst (λ n. length piece.now ≤ n) bound h.1));
+      text_is = cuts.0;
+      is_cut = cuts.1;
+      items = sym (items_of_short dialect limit piece.now short);
       newlines = refl;
     }
-given_piece dialect limit before after text (Err e) same bound h =
+
+-- the stream gave one, and holds the rest
+pub given_piece : (dialect : Dialect) (limit : ℕ) (before after : HeldWithin) (text : List ℕ)
+    (result : Result (Bor (List ℕ)) PieceTooLong) → before.held.dialect ≡ dialect → before.limit ≡ limit
+    → GivesOf before text (Some result) after → (rest : List ℕ) × Holds after rest × Given dialect limit text result rest
+given_piece dialect limit before after text (Ok piece) same bound h = (
+  h.0,
+  h.3,
+  given_short dialect limit text piece h.0 (subst (λ n. length piece.now ≤ n) bound h.1)
+      (h.2.0, subst (λ d. IsCutPiece d piece.now) same h.2.1),
+)
+given_piece dialect limit before after text (Err e) same bound h = (
+  h.1,
+  h.4,
+  record {
+    piece = h.0;
+    text_is = h.3.0;
+    is_cut = subst (λ d. IsCutPiece d h.0) same h.3.1;
+    items = sym (item_of_long dialect limit h.0 (subst (λ n. IsTooLong n h.0) bound h.2));
+    newlines = h.5;
+  },
+)
+
+-- so it is where more bytes come
+pub given_on : (dialect : Dialect) (limit : ℕ) (text : List ℕ) (result : Result (Bor (List ℕ)) PieceTooLong) (rest t : List ℕ)
+    → Given dialect limit text result rest → Given dialect limit (text ++ t) result (rest ++ t)
+given_on dialect limit text result rest t g =
     record {
-      piece = h.0;
-      rest = h.1;
-      text_is = h.3.0;
-      is_cut = subst (λ d. IsCutPiece d h.0) same h.3.1;
-      holds = h.4;
-      items = sym (item_of_long dialect limit h.0 (subst (λ n. IsTooLong n h.0) bound h.2));
-      newlines = h.5;
+      piece = g.piece;
+      text_is = ap (λ l. l ++ t) g.text_is ∙ append_assoc g.piece (newline ∷ rest) t;
+      is_cut = g.is_cut;
+      items = g.items;
+      newlines = g.newlines;
     }
 
 -- the items of the last piece
@@ -62,14 +82,28 @@ last_items dialect limit text (Err e) h = sym (item_of_long dialect limit text h
 
 -- no piece was taken
 takes_none : (dialect : Dialect) (text : List ℕ) → TakesPieces dialect text [] text
-takes_none dialect text given first r = subst (λ l. Run dialect given l text) (sym (append-nil first)) r
+takes_none dialect text given t first r = subst (λ l. Run dialect given l (text ++ t)) (sym (append-nil first)) r
 
 -- one piece more
 takes_one : (dialect : Dialect) (text mid rest : List ℕ) (pieces : List (List ℕ)) (piece : List ℕ) → TakesPieces dialect text pieces mid
     → mid ≡ piece ++ newline ∷ rest → IsCutPiece dialect piece → TakesPieces dialect text (pieces ++ piece ∷ []) rest
-takes_one dialect text mid rest pieces piece t is cut given first r =
-    subst (λ l. Run dialect given l rest) (append_assoc first pieces (piece ∷ []))
-    (taken given (first ++ pieces) piece rest (subst (Run dialect given (first ++ pieces)) is (t given first r)) cut)
+takes_one dialect text mid rest pieces piece takes is cut given t first r =
+    subst (λ l. Run dialect given l (rest ++ t)) (append_assoc first pieces (piece ∷ []))
+    (taken given (first ++ pieces) piece (rest ++ t)
+    (subst (Run dialect given (first ++ pieces)) (ap (λ l. l ++ t) is ∙ append_assoc piece (newline ∷ rest) t) (takes given t first r))
+    cut)
+
+-- pieces, and then others
+takes_then : (dialect : Dialect) (text mid rest : List ℕ) (ps qs : List (List ℕ)) → TakesPieces dialect text ps mid
+    → TakesPieces dialect mid qs rest → TakesPieces dialect text (ps ++ qs) rest
+takes_then dialect text mid rest ps qs p q given t first r =
+    subst (λ l. Run dialect given l (rest ++ t)) (append_assoc first ps qs) (q given t (first ++ ps) (p given t first r))
+
+-- what a run holds once pieces of that were taken
+pub run_on : (dialect : Dialect) (given text rest : List ℕ) (first pieces : List (List ℕ)) → Run dialect given first text
+    → TakesPieces dialect text pieces rest → Run dialect given (first ++ pieces) rest
+run_on dialect given text rest first pieces r takes =
+    subst (Run dialect given (first ++ pieces)) (append-nil rest) (takes given [] first (subst (Run dialect given first) (sym (append-nil text)) r))
 
 -- the items of pieces and of one more
 pub next_items : (dialect : Dialect) (limit : Option ℕ) (ps : List (List ℕ)) (p : List ℕ) (items : List Item)
@@ -111,10 +145,10 @@ next_place place now next newlines ps p is lines step =
     step ∙ ap (place_after now) lines ∙ ap (λ (q : Place). place_after q (newlines_in p)) is ∙ sym (place_append place ps (p ∷ []))
 
 -- no piece was taken so far
-pub pieces_none : (dialect : Dialect) (limit : Option ℕ) (text : List ℕ) (stream : HeldWithin) (old : Made) (a e : Option (List ℕ))
-    → Holds stream text → RelaysPieces dialect limit text stream old old a a e e
-pieces_none dialect limit text stream old a e h =
-    record { pieces = []; rest = text; holds = h; taken = takes_none dialect text; place = refl; relays = relays_none old a e }
+pub to_none : (dialect : Dialect) (limit : Option ℕ) (text : List ℕ) (old : Made) (a e : Option (List ℕ))
+    → RelaysTo dialect limit text text old old a a e e
+to_none dialect limit text old a e =
+    record { pieces = []; taken = takes_none dialect text; place = refl; relays = relays_none old a e }
 
 -- nor was any line written
 pub some_none : (dialect : Dialect) (limit : Option ℕ) (text : List ℕ) (old : Made) (a e : Option (List ℕ))
@@ -123,18 +157,16 @@ some_none dialect limit text old a e =
     record { pieces = []; rest = text; taken = takes_none dialect text; part = part_of_none old a e [] [] }
 
 -- a piece more was taken, and what is held was written
-pub pieces_more : (dialect : Dialect) (limit : ℕ) (text : List ℕ) (before after : HeldWithin) (old now next poured : Made)
+pub to_more : (dialect : Dialect) (limit : ℕ) (text mid rest : List ℕ) (old now next poured : Made)
     (a b c e f g : Option (List ℕ)) (result : Result (Bor (List ℕ)) PieceTooLong)
-    → (p : RelaysPieces dialect (limit_of limit) text before old now a b e f) → Given dialect limit p.rest result after
+    → RelaysTo dialect (limit_of limit) text mid old now a b e f → Given dialect limit mid result rest
     → TakesItems now (items_given dialect result) next → poured.place ≡ place_after now.place (newlines_given result)
     → RelaysItems next poured b c f g [] []
-    → RelaysPieces dialect (limit_of limit) text after old poured a c e g
-pieces_more dialect limit text before after old now next poured a b c e f g result p one takes place q =
+    → RelaysTo dialect (limit_of limit) text rest old poured a c e g
+to_more dialect limit text mid rest old now next poured a b c e f g result p one takes place q =
     record {
       pieces = p.pieces ++ one.piece ∷ [];
-      rest = one.rest;
-      holds = one.holds;
-      taken = takes_one dialect text p.rest one.rest p.pieces one.piece p.taken one.text_is one.is_cut;
+      taken = takes_one dialect text mid rest p.pieces one.piece p.taken one.text_is one.is_cut;
       place = next_place old.place now.place poured.place _ p.pieces one.piece p.place one.newlines place;
       relays = relays_same old poured a c e g _ _ _ _
           (next_items dialect (limit_of limit) p.pieces one.piece (items_given dialect result) one.items)
@@ -143,34 +175,60 @@ pieces_more dialect limit text before after old now next poured a b c e f g resu
     }
 
 -- the same, where a beginning of it was written
-pub pieces_part : (dialect : Dialect) (limit : ℕ) (text : List ℕ) (before after : HeldWithin) (old now next : Made)
+pub to_part : (dialect : Dialect) (limit : ℕ) (text mid rest : List ℕ) (old now next : Made)
     (a b c e f g : Option (List ℕ)) (result : Result (Bor (List ℕ)) PieceTooLong)
-    → (p : RelaysPieces dialect (limit_of limit) text before old now a b e f) → Given dialect limit p.rest result after
+    → RelaysTo dialect (limit_of limit) text mid old now a b e f → Given dialect limit mid result rest
     → TakesItems now (items_given dialect result) next → RelaysPart next b c f g [] []
     → RelaysSome dialect (limit_of limit) text old a c e g
-pieces_part dialect limit text before after old now next a b c e f g result p one takes q =
+to_part dialect limit text mid rest old now next a b c e f g result p one takes q =
     record {
       pieces = p.pieces ++ one.piece ∷ [];
-      rest = one.rest;
-      taken = takes_one dialect text p.rest one.rest p.pieces one.piece p.taken one.text_is one.is_cut;
+      rest = rest;
+      taken = takes_one dialect text mid rest p.pieces one.piece p.taken one.text_is one.is_cut;
       part = part_same old a c e g _ _ _ _
           (next_items dialect (limit_of limit) p.pieces one.piece (items_given dialect result) one.items)
           (next_faults dialect (limit_of limit) old now a b e f p.pieces one.piece _ _ p.relays p.place one.items)
           (part_poured old now next a b c e f g _ _ _ p.relays takes q);
     }
 
--- the pieces that were taken so far
-pub pieces_so_far : (dialect : Dialect) (limit : Option ℕ) (text : List ℕ) (stream : HeldWithin) (old now : Made)
-    (a b e f : Option (List ℕ)) → RelaysPieces dialect limit text stream old now a b e f → RelaysSome dialect limit text old a b e f
-pieces_so_far dialect limit text stream old now a b e f p =
-    record { pieces = p.pieces; rest = p.rest; taken = p.taken; part = part_so_far old now a b e f _ _ p.relays }
+-- the items of pieces and others
+items_append : (dialect : Dialect) (limit : Option ℕ) (ps qs : List (List ℕ))
+    → items_of dialect limit ps ++ items_of dialect limit qs ≡ items_of dialect limit (ps ++ qs)
+items_append dialect limit ps qs = sym (flat_map-append (items_of_piece dialect limit) ps qs)
 
--- no other one is ended by a newline
-pub pieces_all : (dialect : Dialect) (limit : Option ℕ) (text : List ℕ) (before after : HeldWithin) (old now : Made)
-    (a b e f : Option (List ℕ)) → (p : RelaysPieces dialect limit text before old now a b e f) → Holds after p.rest
-    → IsLastPiece dialect p.rest → RelaysAllPieces dialect limit text after old now a b e f
-pieces_all dialect limit text before after old now a b e f p h is_last =
-    (record { pieces = p.pieces; rest = p.rest; holds = h; taken = p.taken; place = p.place; relays = p.relays }, is_last)
+-- pieces were taken, and then pieces of the rest
+pub to_then : (dialect : Dialect) (limit : Option ℕ) (text mid rest : List ℕ) (old now new : Made) (a b c e f g : Option (List ℕ))
+    → RelaysTo dialect limit text mid old now a b e f → RelaysTo dialect limit mid rest now new b c f g
+    → RelaysTo dialect limit text rest old new a c e g
+to_then dialect limit text mid rest old now new a b c e f g p q =
+    record {
+      pieces = p.pieces ++ q.pieces;
+      taken = takes_then dialect text mid rest p.pieces q.pieces p.taken q.taken;
+      place = q.place ∙ ap (λ (k : Place). place_past k q.pieces) p.place ∙ sym (place_append old.place p.pieces q.pieces);
+      relays = relays_same old new a c e g _ _ _ _ (items_append dialect limit p.pieces q.pieces)
+          (faults_then dialect limit old now a b e f p.pieces q.pieces _ p.relays p.place)
+          (relays_more old now new a b c e f g _ _ _ _ p.relays q.relays);
+    }
+
+-- the same, where a beginning of these was written
+pub some_then : (dialect : Dialect) (limit : Option ℕ) (text mid : List ℕ) (old now : Made) (a b c e f g : Option (List ℕ))
+    → RelaysTo dialect limit text mid old now a b e f → RelaysSome dialect limit mid now b c f g
+    → RelaysSome dialect limit text old a c e g
+some_then dialect limit text mid old now a b c e f g p q =
+    record {
+      pieces = p.pieces ++ q.pieces;
+      rest = q.rest;
+      taken = takes_then dialect text mid q.rest p.pieces q.pieces p.taken q.taken;
+      part = part_same old a c e g _ _ _ _ (items_append dialect limit p.pieces q.pieces)
+          (faults_then dialect limit old now a b e f p.pieces q.pieces _ p.relays p.place)
+          (part_more old now a b c e f g _ _ _ _ p.relays q.part);
+    }
+
+-- the pieces that were taken so far
+pub to_so_far : (dialect : Dialect) (limit : Option ℕ) (text rest : List ℕ) (old now : Made)
+    (a b e f : Option (List ℕ)) → RelaysTo dialect limit text rest old now a b e f → RelaysSome dialect limit text old a b e f
+to_so_far dialect limit text rest old now a b e f p =
+    record { pieces = p.pieces; rest = rest; taken = p.taken; part = part_so_far old now a b e f _ _ p.relays }
 
 -- the limit is the same
 pub same_limit : (dialect : Dialect) (from to : Option ℕ) (text : List ℕ) (after : HeldWithin) (old new : Made)
@@ -179,32 +237,37 @@ pub same_limit : (dialect : Dialect) (from to : Option ℕ) (text : List ℕ) (a
 same_limit dialect from to text after old new a b e f same p =
     subst (λ limit. RelaysAllPieces dialect limit text after old new a b e f) same p
 
--- pieces were taken, and then what is held was written
-pub pieces_poured : (dialect : Dialect) (from to : Option ℕ) (text : List ℕ) (after : HeldWithin) (old new poured : Made)
-    (a b c e f g : Option (List ℕ)) → from ≡ to → RelaysAllPieces dialect from text after old new a b e f
-    → poured.place ≡ new.place → RelaysItems new poured b c f g [] [] → RelaysAllPieces dialect to text after old poured a c e g
-pieces_poured dialect from to text after old new poured a b c e f g same begun place q =
-    let p = same_limit dialect from to text after old new a b e f same begun in (
+-- pieces were taken up to a rest, then all of that, and then what is held was written
+pub to_all : (dialect : Dialect) (from to : Option ℕ) (text mid : List ℕ) (after : HeldWithin) (old now new poured : Made)
+    (a b c d e f g h : Option (List ℕ)) → from ≡ to → RelaysTo dialect to text mid old now a b e f
+    → RelaysAllPieces dialect from mid after now new b c f g
+    → poured.place ≡ new.place → RelaysItems new poured c d g h [] [] → RelaysAllPieces dialect to text after old poured a d e h
+to_all dialect from to text mid after old now new poured a b c d e f g h same first others place q =
+    let rest = same_limit dialect from to mid after now new b c f g same others in
+    let p = to_then dialect to text mid rest.0.rest old now new a b c e f g first rest.0.to in (
       record {
-        pieces = p.0.pieces;
-        rest = p.0.rest;
-        holds = p.0.holds;
-        taken = p.0.taken;
-        place = place ∙ p.0.place;
-        relays = relays_then old new poured a b c e f g _ _ p.0.relays q;
+        rest = rest.0.rest;
+        holds = rest.0.holds;
+        to = record {
+          pieces = p.pieces;
+          taken = p.taken;
+          place = place ∙ p.place;
+          relays = relays_then old new poured a c d e g h _ _ p.relays q;
+        };
       },
-      p.1,
+      rest.1,
     )
 
 -- the same, where a beginning of it was written
-pub pieces_poured_part : (dialect : Dialect) (from to : Option ℕ) (text : List ℕ) (after : HeldWithin) (old new : Made)
-    (a b c e f g : Option (List ℕ)) → from ≡ to → RelaysAllPieces dialect from text after old new a b e f
-    → RelaysPart new b c f g [] [] → RelaysSome dialect to text old a c e g
-pieces_poured_part dialect from to text after old new a b c e f g same begun q =
-    let p = same_limit dialect from to text after old new a b e f same begun in
+pub to_all_part : (dialect : Dialect) (from to : Option ℕ) (text mid : List ℕ) (after : HeldWithin) (old now new : Made)
+    (a b c d e f g h : Option (List ℕ)) → from ≡ to → RelaysTo dialect to text mid old now a b e f
+    → RelaysAllPieces dialect from mid after now new b c f g → RelaysPart new c d g h [] [] → RelaysSome dialect to text old a d e h
+to_all_part dialect from to text mid after old now new a b c d e f g h same first others q =
+    let rest = same_limit dialect from to mid after now new b c f g same others in
+    let p = to_then dialect to text mid rest.0.rest old now new a b c e f g first rest.0.to in
     record {
-      pieces = p.0.pieces;
-      rest = p.0.rest;
-      taken = p.0.taken;
-      part = part_then old new a b c e f g _ _ p.0.relays q;
+      pieces = p.pieces;
+      rest = rest.0.rest;
+      taken = p.taken;
+      part = part_then old new a c d e g h _ _ p.relays q;
     }

@@ -19,7 +19,7 @@ use Rattle.lp_relay_core.proofs.PassLemmas.{passes_all, passes_some}
 use Rattle.lp_relay_core.proofs.ItemLemmas.{batch_append, items_push}
 use Rattle.lp_relay_core.proofs.FaultLines.{faults_from_append, place_append}
 use Rattle.lp_relay_core.proofs.RelayLemmas.{relays_more, relays_none, relays_same, part_more, part_same, part_so_far}
-use Rattle.lp_relay_core.proofs.RelayPieces.{faults_then, next_faults, same_limit}
+use Rattle.lp_relay_core.proofs.RelayPieces.{faults_then, next_faults, run_on}
 use Rattle.influxdb_line_protocol.specs.format.Bytes.{newline}
 
 -- the first writer gained the batch of the items of these bytes and the second one their faults, where the first piece is at
@@ -100,25 +100,28 @@ items_append dialect limit ps qs = flat_map-append (items_of_piece dialect limit
 pub so_far_more : (dialect : Dialect) (limit : Option ℕ) (place : Place) (r s t : Option (List ℕ)) (part : List ℕ)
     (stream after : HeldWithin) (now new : Made) (a b c e f g : Option (List ℕ)) → RelaysSoFar dialect limit place r s stream now a b e f
     → Consumes s t part → after.limit ≡ stream.limit
-    → ((text : List ℕ) → Holds stream text → RelaysAllPieces dialect (limit_of stream.limit) (text ++ part) after now new b c f g)
+    → ((text : List ℕ) → Holds stream text → IsLastPiece dialect text
+    → RelaysAllPieces dialect limit (text ++ part) after now new b c f g)
     → RelaysSoFar dialect limit place r t after new a c e g
 so_far_more dialect limit place r s t part stream after now new a b c e f g h read same q =
-    let p = same_limit dialect _ limit _ _ _ _ _ _ _ _ h.bound (q h.held h.holds) in
+    let p = q h.held h.holds h.last in
+    let more = p.0.to in
     record {
       bound = ap limit_of same ∙ h.bound;
       given = h.given ++ part;
-      pieces = h.pieces ++ p.0.pieces;
+      pieces = h.pieces ++ more.pieces;
       held = p.0.rest;
       holds = p.0.holds;
       last = p.1;
       consumed = Consumes-trans r s t h.given part h.consumed read;
-      run = p.0.taken (h.given ++ part) h.pieces (pushed h.given h.pieces h.held part h.run);
+      run = run_on dialect (h.given ++ part) (h.held ++ part) p.0.rest h.pieces more.pieces
+          (pushed h.given h.pieces h.held part h.run) more.taken;
       place_is =
-          p.0.place ∙ ap (λ (q : Place). place_past q p.0.pieces) h.place_is ∙ sym (place_append place h.pieces p.0.pieces);
+          more.place ∙ ap (λ (q : Place). place_past q more.pieces) h.place_is ∙ sym (place_append place h.pieces more.pieces);
       relays = relays_same (made_of_none place) new a c e g _ _ _ _
-          (sym (items_append dialect limit h.pieces p.0.pieces))
-          (faults_then dialect limit (made_of_none place) now a b e f h.pieces p.0.pieces _ h.relays h.place_is)
-          (relays_more (made_of_none place) now new a b c e f g _ _ _ _ h.relays p.0.relays);
+          (sym (items_append dialect limit h.pieces more.pieces))
+          (faults_then dialect limit (made_of_none place) now a b e f h.pieces more.pieces _ h.relays h.place_is)
+          (relays_more (made_of_none place) now new a b c e f g _ _ _ _ h.relays more.relays);
     }
 
 -- a beginning of what the items of all bytes are was written, since that of the items so far was
@@ -155,13 +158,14 @@ so_far_fronts exist give dialect limit place r s stream now a c e g h =
 pub some_fronts : PiecesExist → RunsGivePieces → (dialect : Dialect) (limit : Option ℕ) (place : Place) (r s t : Option (List ℕ))
     (part : List ℕ) (stream : HeldWithin) (now : Made) (a b c e f g : Option (List ℕ))
     → RelaysSoFar dialect limit place r s stream now a b e f → Consumes s t part
-    → ((text : List ℕ) → Holds stream text → RelaysSome dialect (limit_of stream.limit) (text ++ part) now b c f g)
+    → ((text : List ℕ) → Holds stream text → IsLastPiece dialect text
+    → RelaysSome dialect limit (text ++ part) now b c f g)
     → IfSome r (λ bs. FrontsFrom dialect limit place bs a c e g)
 some_fronts exist give dialect limit place r s t part stream now a b c e f g h read q =
-    let p = subst (λ l. RelaysSome dialect l (h.held ++ part) now b c f g) h.bound (q h.held h.holds) in
+    let p = q h.held h.holds h.last in
     fronts_of exist give dialect limit place r t (h.given ++ part) (h.pieces ++ p.pieces) p.rest a c e g
     (Consumes-trans r s t h.given part h.consumed read)
-    (p.taken (h.given ++ part) h.pieces (pushed h.given h.pieces h.held part h.run))
+    (run_on dialect (h.given ++ part) (h.held ++ part) p.rest h.pieces p.pieces (pushed h.given h.pieces h.held part h.run) p.taken)
     (part_same (made_of_none place) a c e g _ _ _ _
     (sym (items_append dialect limit h.pieces p.pieces))
     (faults_then dialect limit (made_of_none place) now a b e f h.pieces p.pieces _ h.relays h.place_is)

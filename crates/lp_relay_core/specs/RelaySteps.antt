@@ -1,5 +1,5 @@
 -- What each step of a relay takes of the stream, and what it writes or holds of it.
-use Rattle.std.specs.Prelude.{◌≡◌, ◌⊎◌, ◌<◌, ℕ, ◌+◌, ◌++◌, List, [], ◌∷◌, length, string_bytes, Option, Result, Ok, Err, if◌then◌else◌}
+use Rattle.std.specs.Prelude.{◌≡◌, ◌⊎◌, ◌<◌, ℕ, ◌+◌, ◌++◌, List, [], ◌∷◌, length, drop, string_bytes, Option, Result, Ok, Err, if◌then◌else◌}
 use Rattle.std.specs.Borrow.{Bor}
 use Rattle.std.specs.Io.KnownBytes.{Appends}
 use Rattle.influxdb_line_protocol.specs.format.Dialects.{Dialect}
@@ -17,7 +17,7 @@ use Rattle.lp_rebuild.specs.declared.program.RunFault.{RunFault}
 use Rattle.lp_rebuild.specs.declared.program.RunFault.TheVariants.{Read, NotUtf8, OutOfMemory, Write}
 use Rattle.lp_rebuild.specs.RebuildSteps.{fault_line_at}
 use Rattle.lp_relay_core.specs.LineFaults.{item_text}
-use Rattle.lp_relay_core.specs.Relaying.{Item, too_long, is_carried_item, items_of_bytes, items_of_piece, items_of, items_batch, carried_items}
+use Rattle.lp_relay_core.specs.Relaying.{Item, too_long, is_carried_item, items_of_bytes, items_of_piece, items_of, items_batch, carried_items, limit_of}
 use Rattle.lp_relay_core.specs.Relaying.{refused_items}
 
 -- the items of what a call gave: those of a piece, or that of one that is too long
@@ -30,10 +30,10 @@ abbrev pub newlines_given : Result (Bor (List ℕ)) PieceTooLong → ℕ
 newlines_given (Ok piece) = newlines_in piece.now
 newlines_given (Err fault) = fault.newlines
 
--- these pieces were taken of a text, one after another, after whatever came before, and the rest is left
+-- these pieces were taken of a text, one after another, after whatever came before, and the rest is left, whatever comes then
 abbrev pub TakesPieces : Dialect → (text : List ℕ) → List (List ℕ) → (rest : List ℕ) → Type 0
 TakesPieces dialect text pieces rest =
-    (given : List ℕ) (first : List (List ℕ)) → Run dialect given first text → Run dialect given (first ++ pieces) rest
+    (given t : List ℕ) (first : List (List ℕ)) → Run dialect given first (text ++ t) → Run dialect given (first ++ pieces) (rest ++ t)
 
 -- what was made so far and is not written yet, how many items that was made of, together with what was written, and what the
 -- fault line of the next item names
@@ -130,21 +130,34 @@ pub record RelaysPart (old : Made) (out out_after err err_after : Option (List �
   pub batch : Passes out out_after old.batch (items_batch items) batch_left
   pub faults : Passes err err_after old.faults fault_lines faults_left
 
--- pieces of a text were taken, their lines were written, or are held, and the stream holds the rest
-pub record RelaysPieces (dialect : Dialect) (limit : Option ℕ) (text : List ℕ) (after : HeldWithin) (old new : Made)
+-- pieces of a text were taken up to this rest, and their lines were written, or are held
+pub record RelaysTo (dialect : Dialect) (limit : Option ℕ) (text rest : List ℕ) (old new : Made)
     (out out_after err err_after : Option (List ℕ)) : Type 0 where
   pub pieces : List (List ℕ)
-  pub rest : List ℕ
-  pub holds : Holds after rest
   pub taken : TakesPieces dialect text pieces rest
   pub place : new.place ≡ place_past old.place pieces
   pub relays : RelaysItems old new out out_after err err_after (items_of dialect limit pieces) (faults_past dialect limit old pieces)
+
+-- so they were up to a rest that the stream holds
+pub record RelaysPieces (dialect : Dialect) (limit : Option ℕ) (text : List ℕ) (after : HeldWithin) (old new : Made)
+    (out out_after err err_after : Option (List ℕ)) : Type 0 where
+  pub rest : List ℕ
+  pub holds : Holds after rest
+  pub to : RelaysTo dialect limit text rest old new out out_after err err_after
 
 -- so were all that a newline ends
 abbrev pub RelaysAllPieces : Dialect → Option ℕ → (text : List ℕ) → (after : HeldWithin) → (old new : Made)
     → (out out_after err err_after : Option (List ℕ)) → Type 0
 RelaysAllPieces dialect limit text after old new out out_after err err_after =
     (relays : RelaysPieces dialect limit text after old new out out_after err err_after) × IsLastPiece dialect relays.rest
+
+-- pieces of a text and of a part after it were taken up to a rest: the stream holds the start of it, and so many bytes of the
+-- part come before the end
+pub record RelaysBegun (dialect : Dialect) (limit : Option ℕ) (text part : List ℕ) (given : ℕ) (after : HeldWithin) (old new : Made)
+    (out out_after err err_after : Option (List ℕ)) : Type 0 where
+  pub held : List ℕ
+  pub holds : Holds after held
+  pub to : RelaysTo dialect limit (text ++ part) (held ++ drop given part) old new out out_after err err_after
 
 -- pieces of a text were taken, and a beginning of their lines was written
 pub record RelaysSome (dialect : Dialect) (limit : Option ℕ) (text : List ℕ) (old : Made)

@@ -1,20 +1,23 @@
 //! From a reader to two writers, line by line as they come.
-ghost use Rattle.std.specs.Prelude.{◌≡◌, ◌+◌, ◌≤◌, ◌++◌, List, [], ℕ, length, true, OnOk, OnErr};
+ghost use Rattle.std.specs.Prelude.{◌≡◌, ◌≢◌, ◌+◌, ◌<◌, ◌≤◌, ◌++◌, ◌∷◌, List, [], ℕ, drop, length, take, true, IfOk, IfSome, OnOk, OnErr};
+ghost use Rattle.std.specs.List.{All};
+ghost use Rattle.influxdb_line_protocol.specs.format.Bytes.{newline};
 ghost use Rattle.influxdb_line_protocol.specs.code.Bounded.{Holds, KeepsRules};
 ghost use Rattle.influxdb_line_protocol.specs.code.Rules.{rules_of};
 ghost use Rattle.influxdb_line_protocol.specs.format.Pieces.{IsLastPiece};
 ghost use Rattle.lp_relay_core.specs.Relaying.{items_of_piece, limit_of};
-ghost use Rattle.lp_relay_core.specs.RelaySteps.{CountsWriteFault, HoldsLess, HoldsNone, RelaysAllPieces, RelaysItems};
-ghost use Rattle.lp_relay_core.specs.RelaySteps.{RelaysPart, RelaysSome, faults_next, made};
+ghost use Rattle.lp_relay_core.specs.RelaySteps.{CountsWriteFault, HoldsLess, HoldsNone, RelaysAllPieces, RelaysBegun};
+ghost use Rattle.lp_relay_core.specs.RelaySteps.{RelaysItems, RelaysPart, RelaysSome, RelaysTo, faults_next, made};
 ghost use Rattle.lp_relay_core.specs.NumberedRelays.{RelaysNumbered};
 ghost use Rattle.lp_relay_core.specs.Relays.{Relays, RelaysIn, RelaysWithin};
 ghost use Rattle.lp_rebuild.specs.Running.{reader_told, writer_told};
 
-use crate::taking::{Numbering, nothing_made, take_piece};
-use influxdb_line_protocol::{BoundedLineStream, Dialect, laws};
+use crate::taking::{Numbering, nothing_made, take_piece, take_text_piece, text_of};
+use influxdb_line_protocol::{BoundedLineStream, Dialect, ParsedLine, laws, split_lines_in};
 use lp_rebuild::batch::Progress;
 use lp_rebuild::program::{BLOCK, read_block, write_bytes};
 use lp_rebuild::{RunFault, Sink, Source};
+use memchr::{memchr, memrchr};
 use std::alloc::Global;
 
 /// How many items a relay wrote again, and how many it refused.
@@ -130,10 +133,119 @@ fn relay_pieces<W: Sink, E: Sink>(
     Ok(())
 }
 
+// The whole lines at the start of bytes, as text: none where the bytes up to the last newline are not UTF-8.
+fn whole_lines(bytes: &[u8]) -> &str
+    ensures { result.now ≡ take (length result.now) bytes.now }
+{
+    let Some(last) = memrchr(b'\n', bytes) else {
+        return "";
+    };
+    text_of(&bytes[..last + 1]).unwrap_or("")
+}
+
+// Takes the whole lines at the start of bytes as a rebuild does, up to one that is too long. Gives how many bytes were taken.
+fn relay_lines<W: Sink, E: Sink>(
+    alloc: Global,
+    dialect: Dialect,
+    limit: usize,
+    progress: &mut Progress,
+    bytes: &[u8],
+    out: &mut W,
+    err: &mut E,
+) -> Result<usize, RunFault>
+    requires fits { progress.old.carried + progress.old.refused ≤ usize.MAX }
+    requires few { HoldsLess BLOCK progress.old }
+    ensures within { IfOk result (λ taken. taken ≤ length bytes.now) }
+    ensures ok { IfOk result (λ taken. RelaysTo (rules_of dialect) (limit_of limit) bytes.now (drop taken bytes.now)
+        (made progress.old) (made progress.new)
+        (W.bytes out.old) (W.bytes out.new) (E.bytes err.old) (E.bytes err.new)) }
+    ensures held { OnOk result (HoldsLess BLOCK progress.new) }
+    ensures fits { OnOk result (progress.new.carried + progress.new.refused ≤ usize.MAX) }
+    ensures part { OnErr result (RelaysSome (rules_of dialect) (limit_of limit) bytes.now (made progress.old)
+        (W.bytes out.old) (W.bytes out.new) (E.bytes err.old) (E.bytes err.new)) }
+    ensures counts { CountsWriteFault result
+        (W.failures out.old) (W.failures out.new) (E.failures err.old) (E.failures err.new) }
+{
+    laws::pieces_join();
+    let mut lines = split_lines_in(dialect, whole_lines(bytes));
+    let mut line = ParsedLine::new(alloc);
+    let mut spare = None;
+    let mut taken = 0;
+    while let Some(piece) = lines.next() {
+        // The last piece has no newline.
+        if lines.remainder().is_none() || piece.len() > limit {
+            return Ok(taken);
+        }
+        if take_text_piece(alloc, dialect, progress, piece, &mut line, &mut spare).is_err() {
+            return Err(RunFault::OutOfMemory);
+        }
+        pour_full(progress, out, err)?;
+        taken += piece.len() + 1;
+    }
+    Ok(taken)
+}
+
+// The place of the first newline.
+fn first_newline(bytes: &[u8]) -> Option<usize>
+    ensures { IfSome result (λ at. (at < length bytes.now) × (take (at + 1) bytes.now ≡ take at bytes.now ++ newline ∷ [])
+        × All (λ b. b ≢ newline) (take at bytes.now)) }
+{
+    memchr(b'\n', bytes)
+}
+
+// Takes the line that ends in a part, where its first newline ends it, and the whole lines after it, which the stream is not
+// given. Gives how many bytes of the part were taken, or given to the stream.
+fn relay_begun<W: Sink, E: Sink>(
+    alloc: Global,
+    dialect: Dialect,
+    limit: usize,
+    stream: &mut BoundedLineStream,
+    so_far: &mut Progress,
+    part: &[u8],
+    out: &mut W,
+    err: &mut E,
+) -> Result<usize, RunFault>
+    requires dialect { stream.old.held.dialect ≡ rules_of dialect }
+    requires limit { stream.old.limit ≡ limit }
+    requires fits { so_far.old.carried + so_far.old.refused ≤ usize.MAX }
+    requires few { HoldsLess BLOCK so_far.old }
+    ensures within { IfOk result (λ given. given ≤ length part.now) }
+    ensures rules { OnOk result (KeepsRules stream.old stream.new) }
+    ensures ok { IfOk result (λ given. (text : List ℕ) → Holds stream.old text → IsLastPiece (rules_of dialect) text
+        → RelaysBegun (rules_of dialect) (limit_of limit) text part.now given stream.new (made so_far.old) (made so_far.new)
+        (W.bytes out.old) (W.bytes out.new) (E.bytes err.old) (E.bytes err.new)) }
+    ensures held { OnOk result (HoldsLess BLOCK so_far.new) }
+    ensures fits { OnOk result (so_far.new.carried + so_far.new.refused ≤ usize.MAX) }
+    ensures part { OnErr result ((text : List ℕ) → Holds stream.old text → IsLastPiece (rules_of dialect) text
+        → RelaysSome (rules_of dialect) (limit_of limit) (text ++ part.now) (made so_far.old)
+        (W.bytes out.old) (W.bytes out.new) (E.bytes err.old) (E.bytes err.new)) }
+    ensures counts { CountsWriteFault result
+        (W.failures out.old) (W.failures out.new) (E.failures err.old) (E.failures err.new) }
+{
+    laws::pieces_join();
+    let Some(at) = first_newline(part) else {
+        return Ok(0);
+    };
+    let end = at + 1;
+    if stream.push(&part[..end]).is_err() {
+        return Err(RunFault::OutOfMemory);
+    }
+    let Some(piece) = stream.next() else {
+        return Ok(end);
+    };
+    if take_piece(alloc, dialect, so_far, piece).is_err() {
+        return Err(RunFault::OutOfMemory);
+    }
+    pour_full(so_far, out, err)?;
+    let taken = relay_lines(alloc, dialect, limit, so_far, &part[end..], out, err)?;
+    Ok(end + taken)
+}
+
 // Takes a part of the text, and each piece that is there then. All that these make is written and flushed.
 fn relay_part<W: Sink, E: Sink>(
     alloc: Global,
     dialect: Dialect,
+    limit: usize,
     stream: &mut BoundedLineStream,
     so_far: &mut Progress,
     part: &[u8],
@@ -141,25 +253,27 @@ fn relay_part<W: Sink, E: Sink>(
     err: &mut E,
 ) -> Result<(), RunFault>
     requires dialect { stream.old.held.dialect ≡ rules_of dialect }
+    requires limit { stream.old.limit ≡ limit }
     requires holds { (text : List ℕ) × Holds stream.old text × IsLastPiece (rules_of dialect) text }
     requires fits { so_far.old.carried + so_far.old.refused ≤ usize.MAX }
     requires empty { HoldsNone so_far.old }
     requires block { length part.now ≤ BLOCK }
     ensures rules { OnOk result (KeepsRules stream.old stream.new) }
-    ensures ok { OnOk result ((text : List ℕ) → Holds stream.old text
-        → RelaysAllPieces (rules_of dialect) (limit_of stream.old.limit) (text ++ part.now) stream.new
+    ensures ok { OnOk result ((text : List ℕ) → Holds stream.old text → IsLastPiece (rules_of dialect) text
+        → RelaysAllPieces (rules_of dialect) (limit_of limit) (text ++ part.now) stream.new
         (made so_far.old) (made so_far.new)
         (W.bytes out.old) (W.bytes out.new) (E.bytes err.old) (E.bytes err.new)) }
     ensures none { OnOk result (HoldsNone so_far.new) }
     ensures fits { OnOk result (so_far.new.carried + so_far.new.refused ≤ usize.MAX) }
-    ensures part { OnErr result ((text : List ℕ) → Holds stream.old text
-        → RelaysSome (rules_of dialect) (limit_of stream.old.limit) (text ++ part.now) (made so_far.old)
+    ensures part { OnErr result ((text : List ℕ) → Holds stream.old text → IsLastPiece (rules_of dialect) text
+        → RelaysSome (rules_of dialect) (limit_of limit) (text ++ part.now) (made so_far.old)
         (W.bytes out.old) (W.bytes out.new) (E.bytes err.old) (E.bytes err.new)) }
     ensures counts { CountsWriteFault result
         (W.failures out.old) (W.failures out.new) (E.failures err.old) (E.failures err.new) }
     ensures flushed { OnOk result ((W.is_flushed out.new ≡ true) × (E.is_flushed err.new ≡ true)) }
 {
-    if stream.push(part).is_err() {
+    let given = relay_begun(alloc, dialect, limit, stream, so_far, part, out, err)?;
+    if stream.push(&part[given..]).is_err() {
         return Err(RunFault::OutOfMemory);
     }
     relay_pieces(alloc, dialect, stream, so_far, out, err)?;
@@ -331,6 +445,7 @@ pub fn relay_numbered<R: Source, W: Sink, E: Sink>(
         relay_part(
             alloc,
             dialect,
+            limit,
             &mut stream,
             &mut so_far,
             &block[..n],

@@ -1,22 +1,17 @@
 //! What a relay takes of a piece of its input.
-ghost use Rattle.std.specs.Prelude.{◌≡◌, ◌+◌, ◌<◌, ◌≤◌, length, map, IfOk, IsUtf8, MatchResult, OnOk};
+ghost use Rattle.std.specs.Prelude.{◌≡◌, ◌+◌, ◌<◌, ◌≤◌, length, IfOk, IsUtf8, MatchResult, OnOk};
 ghost use Rattle.influxdb_line_protocol.specs.code.Rules.{rules_of};
 ghost use Rattle.influxdb_line_protocol.specs.format.Bytes.{newlines_in};
-ghost use Rattle.influxdb_line_protocol.specs.format.Lines.{answer};
-ghost use Rattle.influxdb_line_protocol.specs.format.Items.{answers_of_piece};
-ghost use Rattle.lp_rebuild.specs.RebuildSteps.{IsTrimmed, Takes};
-ghost use Rattle.lp_relay_core.specs.Relaying.{answered, items_of_bytes};
+ghost use Rattle.lp_relay_core.specs.Relaying.{items_of_bytes};
 ghost use Rattle.lp_relay_core.specs.RelaySteps.{HoldsLess, TakesItems, first_place, items_given, made, made_of_none};
 ghost use Rattle.lp_relay_core.specs.RelaySteps.{newlines_given, place_after};
 
-use influxdb_line_protocol::builder::is_as_written;
 use influxdb_line_protocol::{
     Dialect, EscapedStr, FieldSet, ParsedLine, PieceTooLong, Series, TagSet,
 };
 use lp_lines::freeing::{forget_line, free_line};
-use lp_rebuild::batch::{Place, Progress, refuse, take_text, take_written};
+use lp_rebuild::batch::{self, Place, Progress, refuse};
 use lp_rebuild::program::BLOCK;
-use lp_values::trim::trimmed;
 use simdutf8::basic::{self, Utf8Error};
 use std::alloc::{AllocError, Global};
 use std::str;
@@ -53,19 +48,39 @@ pub(crate) fn nothing_made(alloc: Global, numbering: Numbering) -> Progress
     }
 }
 
-// Takes a line by way of a `ParsedLine`: it is written again or refused.
+// Takes the text of a piece as a rebuild does. It is called for each line, so that the test whether a line is as written is
+// compiled once, in line here.
 #[inline(never)]
-fn take_by_line(
+fn take_text<'a>(
     alloc: Global,
     dialect: Dialect,
     so_far: &mut Progress,
-    text: &str,
+    piece: &'a str,
+    line: &mut ParsedLine<'a>,
+    spare: &mut Option<TagSet<'a>>,
 ) -> Result<(), AllocError>
-    requires room { so_far.old.carried + so_far.old.refused < usize.MAX }
-    requires trimmed { IsTrimmed text.now }
-    ensures taken { OnOk result (Takes so_far.old (answer (rules_of dialect) text.now) so_far.new) }
+    requires { so_far.old.carried + so_far.old.refused < usize.MAX }
+    ensures taken { OnOk result
+        (TakesItems (made so_far.old) (items_of_bytes (rules_of dialect) piece.now) (made so_far.new)) }
     ensures counted { OnOk result
-        (so_far.new.carried + so_far.new.refused ≡ so_far.old.carried + so_far.old.refused + 1) }
+        (so_far.new.carried + so_far.new.refused ≤ so_far.old.carried + so_far.old.refused + 1) }
+{
+    batch::take_piece(alloc, dialect, so_far, piece, line, spare)
+}
+
+// Takes the text of a piece by way of a line of its own, which is freed by its parts.
+#[inline(never)]
+fn take_alone(
+    alloc: Global,
+    dialect: Dialect,
+    so_far: &mut Progress,
+    piece: &str,
+) -> Result<(), AllocError>
+    requires { so_far.old.carried + so_far.old.refused < usize.MAX }
+    ensures taken { OnOk result
+        (TakesItems (made so_far.old) (items_of_bytes (rules_of dialect) piece.now) (made so_far.new)) }
+    ensures counted { OnOk result
+        (so_far.new.carried + so_far.new.refused ≤ so_far.old.carried + so_far.old.refused + 1) }
 {
     let mut line = ParsedLine {
         series: Series {
@@ -76,35 +91,10 @@ fn take_by_line(
         field_set: FieldSet::new(alloc),
         timestamp: None,
     };
-    let taken = take_text(alloc, dialect, so_far, text, &mut line, &mut None);
+    let taken = take_text(alloc, dialect, so_far, piece, &mut line, &mut None);
     free_line(alloc, &mut line);
     forget_line(line);
     taken
-}
-
-// Takes the text of a piece: its line is copied where it is as the builder writes it, and else taken by way of a `ParsedLine`. A
-// blank piece has none.
-#[inline(always)]
-fn take_trimmed(
-    alloc: Global,
-    dialect: Dialect,
-    so_far: &mut Progress,
-    piece: &str,
-) -> Result<(), AllocError>
-    requires { so_far.old.carried + so_far.old.refused < usize.MAX }
-    ensures taken { OnOk result
-        (TakesItems (made so_far.old) (map answered (answers_of_piece (rules_of dialect) piece.now)) (made so_far.new)) }
-    ensures counted { OnOk result
-        (so_far.new.carried + so_far.new.refused ≤ so_far.old.carried + so_far.old.refused + 1) }
-{
-    let text = trimmed(piece);
-    if text.is_empty() {
-        return Ok(());
-    }
-    if is_as_written(text) {
-        return take_written(so_far, text);
-    }
-    take_by_line(alloc, dialect, so_far, text)
 }
 
 // From this length on `simdutf8` tests bytes. It is several times as fast as std where they are not ASCII; where they are, it
@@ -112,7 +102,7 @@ fn take_trimmed(
 const LONG: usize = 128;
 
 // The text of bytes, where they are UTF-8.
-fn text_of(bytes: &[u8]) -> Result<&str, Utf8Error>
+pub(crate) fn text_of(bytes: &[u8]) -> Result<&str, Utf8Error>
     ensures cases { MatchResult result (λ text. (text.now ≡ bytes.now) × IsUtf8 bytes.now) (λ _. ¬ (IsUtf8 bytes.now)) }
 {
     if bytes.len() < LONG {
@@ -138,7 +128,7 @@ fn take_bytes(
         return Ok(());
     }
     match text_of(piece) {
-        Ok(text) => take_trimmed(alloc, dialect, so_far, text),
+        Ok(text) => take_alone(alloc, dialect, so_far, text),
         Err(_) => refuse(so_far, NOT_UTF8),
     }
 }
@@ -210,6 +200,32 @@ pub(crate) fn take_piece(
     }
     let next = place_after(so_far.place, piece)?;
     take_given(alloc, dialect, so_far, piece)?;
+    so_far.place = next;
+    Ok(())
+}
+
+// Takes a piece that is text, as [`take_piece`] does, by way of a line that is used again.
+#[inline(always)]
+pub(crate) fn take_text_piece<'a>(
+    alloc: Global,
+    dialect: Dialect,
+    so_far: &mut Progress,
+    piece: &'a str,
+    line: &mut ParsedLine<'a>,
+    spare: &mut Option<TagSet<'a>>,
+) -> Result<(), AllocError>
+    requires fits { so_far.old.carried + so_far.old.refused ≤ usize.MAX }
+    requires few { HoldsLess BLOCK so_far.old }
+    ensures taken { OnOk result
+        (TakesItems (made so_far.old) (items_of_bytes (rules_of dialect) piece.now) (made so_far.new)) }
+    ensures place { OnOk result (so_far.new.place ≡ place_after so_far.old.place (newlines_in piece.now)) }
+    ensures fits { OnOk result (so_far.new.carried + so_far.new.refused ≤ usize.MAX) }
+{
+    if so_far.carried + so_far.refused == usize::MAX {
+        return Err(AllocError);
+    }
+    let next = place_after(so_far.place, Ok(piece.as_bytes()))?;
+    take_text(alloc, dialect, so_far, piece, line, spare)?;
     so_far.place = next;
     Ok(())
 }

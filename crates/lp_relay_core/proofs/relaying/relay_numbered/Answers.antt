@@ -14,6 +14,7 @@ loop-init g c =
     let made = c.nothing_made-so_far.ensures in
     record {
       dialect = c.new_in-stream.ensures.dialect;
+      limit = c.new_in-stream.ensures.limit;
       fits = omega (arith, ap (λ m. m.carried) made, ap (λ m. m.refused) made);
       empty = (ap (λ m. m.batch) made, ap (λ m. m.faults) made);
       block = omega (arith);
@@ -89,6 +90,7 @@ loop-preserved g c =
     let relayed = c.in_ok-relay_part.ensures in
     record {
       dialect = relayed.rules.0 ∙ h.dialect;
+      limit = relayed.rules.1 ∙ h.limit;
       fits = omega (arith, relayed.fits);
       empty = relayed.none;
       block = omega (arith, h.block, read.few);

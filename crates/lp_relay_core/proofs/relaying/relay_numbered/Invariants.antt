@@ -8,6 +8,7 @@ use Rattle.lp_relay_core.proofs.relaying.relay_numbered.Given as goal
 abbrev pub invariant-loop : goal.invariant-loop
 invariant-loop g l = record {
   dialect : l.stream.held.dialect ≡ rules_of l.fn.dialect;
+  limit : l.stream.limit ≡ l.fn.limit;
   fits : l.so_far.carried + l.so_far.refused < 2 ^ 64;
   empty : HoldsNone l.so_far;
   block : length l.block.items ≤ 65536;

@@ -6,7 +6,7 @@ use Rattle.lp_relay_core.specs.Relaying.{limit_of}
 use Rattle.lp_relay_core.specs.RelaySteps.{made}
 use Rattle.lp_rebuild.proofs.Parts.{at_no_fault}
 use Rattle.lp_relay_core.proofs.RelayLemmas.{on_err}
-use Rattle.lp_relay_core.proofs.RelayPieces.{given_piece, pieces_all, pieces_more, pieces_none, pieces_part, pieces_so_far}
+use Rattle.lp_relay_core.proofs.RelayPieces.{given_piece, to_more, to_none, to_part, to_so_far}
 use Rattle.lp_relay_core.proofs.relaying.relay_pieces.Goals as goal
 
 pub loop-piece-init : goal.loop-piece-init
@@ -15,15 +15,20 @@ loop-piece-init g c =
       rules = (refl, refl);
       fits = omega (arith, c.requires.fits);
       held = c.requires.few;
-      relays = λ text holds. pieces_none (rules_of c.args.dialect) (limit_of c.args.stream.now.limit) text c.args.stream.now _ _ _ holds;
+      relays = λ text holds.
+          record {
+            rest = text;
+            holds = holds;
+            to = to_none (rules_of c.args.dialect) (limit_of c.args.stream.now.limit) text _ _ _;
+          };
       out_unfailed = refl;
       err_unfailed = refl;
     }
 
 pub returns-then-is_err-clause-part : goal.returns-then-is_err-clause-part
 returns-then-is_err-clause-part g c text holds =
-    pieces_so_far (rules_of c.args.dialect) (limit_of c.args.stream.now.limit) text c.loop-piece.stream _ _ _ _ _ _
-    (c.loop-piece.invariant.relays text holds)
+    let p = c.loop-piece.invariant.relays text holds in
+    to_so_far (rules_of c.args.dialect) (limit_of c.args.stream.now.limit) text p.rest _ _ _ _ _ _ p.to
 
 pub loop-piece-preserved : goal.loop-piece-preserved
 loop-piece-preserved g c =
@@ -37,13 +42,17 @@ loop-piece-preserved g c =
       held = poured.held;
       relays = λ text holds.
           let p = h.relays text holds in
-          pieces_more (rules_of c.args.dialect) c.args.stream.now.limit text c.loop-piece.stream c.next.follows.lender-at-none
-          (made c.args.so_far.now) (made c.loop-piece.so_far) (made c.take_piece.new.so_far) (made c.pour_full.new.so_far)
-          _ _ _ _ _ _ c.in-Some.piece p
-          (given_piece (rules_of c.args.dialect) c.args.stream.now.limit c.loop-piece.stream c.next.follows.lender-at-none p.rest
-          c.in-Some.piece (h.rules.0 ∙ c.requires.dialect) h.rules.1 (gives.3 p.rest p.holds))
-          (at_no_fault c.take_piece.result c.if-is_err.ensures.value c.take_piece.ensures.taken)
-          (poured.place ∙ at_no_fault c.take_piece.result c.if-is_err.ensures.value c.take_piece.ensures.place) poured.ok;
+          let one = given_piece (rules_of c.args.dialect) c.args.stream.now.limit c.loop-piece.stream c.next.follows.lender-at-none p.rest
+          c.in-Some.piece (h.rules.0 ∙ c.requires.dialect) h.rules.1 (gives.3 p.rest p.holds) in
+          record {
+            rest = one.0;
+            holds = one.1;
+            to = to_more (rules_of c.args.dialect) c.args.stream.now.limit text p.rest one.0
+                (made c.args.so_far.now) (made c.loop-piece.so_far) (made c.take_piece.new.so_far) (made c.pour_full.new.so_far)
+                _ _ _ _ _ _ c.in-Some.piece p.to one.2
+                (at_no_fault c.take_piece.result c.if-is_err.ensures.value c.take_piece.ensures.taken)
+                (poured.place ∙ at_no_fault c.take_piece.result c.if-is_err.ensures.value c.take_piece.ensures.place) poured.ok;
+          };
       out_unfailed = poured.counts.0 ∙ h.out_unfailed;
       err_unfailed = poured.counts.1 ∙ h.err_unfailed;
     }
@@ -55,10 +64,10 @@ returns-in_err-pour_full-clause-part g c =
     on_err c.from_residual.result
     (λ text holds.
     let p = h.relays text holds in
-    pieces_part (rules_of c.args.dialect) c.args.stream.now.limit text c.loop-piece.stream c.next.follows.lender-at-none
-    (made c.args.so_far.now) (made c.loop-piece.so_far) (made c.take_piece.new.so_far) _ _ _ _ _ _ c.in-Some.piece p
-    (given_piece (rules_of c.args.dialect) c.args.stream.now.limit c.loop-piece.stream c.next.follows.lender-at-none p.rest
-    c.in-Some.piece (h.rules.0 ∙ c.requires.dialect) h.rules.1 (gives.3 p.rest p.holds))
+    let one = given_piece (rules_of c.args.dialect) c.args.stream.now.limit c.loop-piece.stream c.next.follows.lender-at-none p.rest
+    c.in-Some.piece (h.rules.0 ∙ c.requires.dialect) h.rules.1 (gives.3 p.rest p.holds) in
+    to_part (rules_of c.args.dialect) c.args.stream.now.limit text p.rest one.0
+    (made c.args.so_far.now) (made c.loop-piece.so_far) (made c.take_piece.new.so_far) _ _ _ _ _ _ c.in-Some.piece p.to one.2
     (at_no_fault c.take_piece.result c.if-is_err.ensures.value c.take_piece.ensures.taken) c.in_err-pour_full.ensures.part)
 
 pub returns-clause-ok : goal.returns-clause-ok
@@ -66,6 +75,7 @@ returns-clause-ok g c text holds =
     let h = c.loop-piece.invariant in
     let gives = subst (λ r. GivesWithin c.loop-piece.stream r c.next.follows.lender-at-none) c.in_default.is c.next.follows.holds-at-none in
     let p = h.relays text holds in
-    let all = gives.3 p.rest p.holds in
-    pieces_all (rules_of c.args.dialect) (limit_of c.args.stream.now.limit) text c.loop-piece.stream c.next.follows.lender-at-none
-    _ _ _ _ _ _ p all.0 (subst (λ d. IsLastPiece d p.rest) (h.rules.0 ∙ c.requires.dialect) all.1)
+    let all = gives.3 p.rest p.holds in (
+      record { rest = p.rest; holds = all.0; to = p.to },
+      subst (λ d. IsLastPiece d p.rest) (h.rules.0 ∙ c.requires.dialect) all.1,
+    )

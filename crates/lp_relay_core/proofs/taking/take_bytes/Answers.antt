@@ -1,10 +1,11 @@
-use Rattle.std.proofs.Common.{◌∙◌, length, sym}
+use Rattle.std.proofs.Common.{◌∙◌, length, subst, sym}
 use Rattle.std.proofs.lemmas.Bool.{eqb-true}
 use Rattle.std.proofs.lemmas.List.{nil_from_length}
 use Rattle.influxdb_line_protocol.specs.code.Rules.{rules_of}
 use Rattle.std.proofs.lemmas.Result.{on_ok_weaker}
-use Rattle.lp_relay_core.specs.RelaySteps.{made}
-use Rattle.lp_relay_core.proofs.RelayLemmas.{takes_bytes, takes_bad_bytes, takes_empty}
+use Rattle.lp_relay_core.specs.Relaying.{items_of_bytes}
+use Rattle.lp_relay_core.specs.RelaySteps.{TakesItems, made}
+use Rattle.lp_relay_core.proofs.RelayLemmas.{takes_bad_bytes, takes_empty}
 use Rattle.lp_relay_core.proofs.taking.take_bytes.Goals as goal
 
 pub returns-then-is_empty-clause-taken : goal.returns-then-is_empty-clause-taken
@@ -14,10 +15,10 @@ returns-then-is_empty-clause-taken c =
 
 pub returns-in-Ok-clause-taken : goal.returns-in-Ok-clause-taken
 returns-in-Ok-clause-taken c =
-    on_ok_weaker c.take_trimmed.result
-    (takes_bytes (rules_of c.args.dialect) c.in-Ok.text.now c.args.piece.now (made c.args.so_far.now) (made c.take_trimmed.new.so_far)
-    c.in-Ok.ensures.cases.0 c.in-Ok.ensures.cases.1)
-    c.take_trimmed.ensures.taken
+    on_ok_weaker c.take_alone.result
+    (subst (λ bytes. TakesItems (made c.args.so_far.now) (items_of_bytes (rules_of c.args.dialect) bytes) (made c.take_alone.new.so_far))
+    c.in-Ok.ensures.cases.0)
+    c.take_alone.ensures.taken
 
 pub returns-in-Err-clause-taken : goal.returns-in-Err-clause-taken
 returns-in-Err-clause-taken c =

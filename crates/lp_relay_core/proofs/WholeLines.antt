@@ -1,0 +1,209 @@
+-- The whole lines of a part: the first one, which the stream may hold the start of, and the others, which a splitter gives.
+use Rattle.std.proofs.Common.{◌≡◌, ◌≢◌, ◌⊎◌, ℕ, List, [], ◌∷◌, ◌++◌, Option, Some, None, IfSome, refl, sym, ap, subst, ◌∙◌}
+use Rattle.std.proofs.Common.{◌+◌, ◌≤◌, length, take, drop, Result, Ok, true, is_some, option_map, append_assoc, inl, inr, arith}
+use Rattle.std.proofs.Math.Seq.{drop-append-add}
+use Rattle.std.proofs.lemmas.List.{drop-drop, length-append, length-drop, take-append-drop}
+use Rattle.std.proofs.lemmas.List.Elements.{recursion_from_All}
+use Rattle.std.specs.Borrow.{Bor}
+use Rattle.std.specs.List.{All, AllByRecursion, join_with_byte}
+use Rattle.influxdb_line_protocol.specs.format.Bytes.{newline}
+use Rattle.influxdb_line_protocol.specs.format.Dialects.{Dialect}
+use Rattle.influxdb_line_protocol.specs.format.Pieces.{GivesPiece, IsCutPiece, IsLastPiece, Left, Pieces, Pieces.cut, Pieces.last}
+use Rattle.influxdb_line_protocol.specs.format.Pieces.{PiecesLeft}
+use Rattle.influxdb_line_protocol.specs.code.Bounded.{CutsTo, GivesOf, HeldWithin, Holds}
+use Rattle.influxdb_line_protocol.specs.types.PieceTooLong.{PieceTooLong}
+use Rattle.lp_relay_core.specs.RelaySteps.{Made, RelaysBegun, RelaysTo}
+use Rattle.lp_relay_core.proofs.RelayPieces.{Given, given_on, given_piece, given_short, to_none, to_then}
+use Rattle.influxdb_line_protocol.specs.laws.Laws.{PiecesAreTheText, PiecesAreUnique, PiecesExist}
+
+-- no text with a newline is empty
+not_empty : (u t : List ℕ) → u ++ newline ∷ t ≡ [] → ⊥
+not_empty [] t e = absurd (cc)
+not_empty (b ∷ u) t e = absurd (cc)
+
+-- each text has a piece
+some_piece : (dialect : Dialect) (text : List ℕ) (pieces : List (List ℕ)) → Pieces dialect text pieces → pieces ≡ [] → ⊥
+some_piece dialect text pieces (last piece h) e = absurd (cc)
+some_piece dialect text pieces (cut piece rest others c h) e = absurd (cc)
+
+-- where a newline comes only at the end, a text is cut there
+ends_there : (front piece rest : List ℕ) → AllByRecursion (λ b. b ≢ newline) front → front ++ newline ∷ [] ≡ piece ++ newline ∷ rest
+    → rest ≡ []
+ends_there [] [] rest none e = cc
+ends_there [] (b ∷ piece) rest none e = let f : [] ≡ piece ++ newline ∷ rest = cc in absurd (not_empty piece rest (sym f))
+ends_there (b ∷ front) [] rest none e = let f : b ≡ newline = cc in absurd (none.0 f)
+ends_there (b ∷ front) (x ∷ piece) rest none e = ends_there front piece rest none.1 (cc)
+
+-- where a newline after a text comes only at the end, both are cut there, or the text was cut before
+cut_there : (text front piece rest : List ℕ) → AllByRecursion (λ b. b ≢ newline) front
+    → text ++ (front ++ newline ∷ []) ≡ piece ++ newline ∷ rest → (rest ≡ []) ⊎ ((r : List ℕ) × (text ≡ piece ++ newline ∷ r))
+cut_there [] front piece rest none e = inl (ends_there front piece rest none e)
+cut_there (b ∷ text) front [] rest none e = let f : b ≡ newline = cc in inr (text, ap (λ x. x ∷ text) f)
+cut_there (b ∷ text) front (x ∷ piece) rest none e =
+    elim (cut_there text front piece rest none (cc)) [
+      | inl done ↦ inl done
+      | inr before ↦ let f : b ≡ x = cc in inr (before.0, ap (λ (y : ℕ). y ∷ text) f ∙ ap (λ (l : List ℕ). x ∷ l) before.1)
+    ]
+
+-- a text that is one piece is cut nowhere
+cut_nowhere : PiecesExist → PiecesAreUnique → (dialect : Dialect) (text piece rest : List ℕ) → IsLastPiece dialect text
+    → IsCutPiece dialect piece → text ≡ piece ++ newline ∷ rest → ⊥
+cut_nowhere exist unique dialect text piece rest is_last is_cut e =
+    let others = exist dialect rest in
+    let two = subst (λ (l : List ℕ). Pieces dialect l (piece ∷ others.0)) (sym e) (cut piece rest others.0 is_cut others.1) in
+    let same : text ∷ [] ≡ piece ∷ others.0 = unique dialect text (text ∷ []) (piece ∷ others.0) (last text is_last) two in
+    some_piece dialect rest others.0 others.1 (cc)
+
+-- of a text that is one piece, and a line after it that a newline ends, a cut leaves nothing
+pub nothing_left : PiecesExist → PiecesAreUnique → (dialect : Dialect) (text front piece rest : List ℕ) → IsLastPiece dialect text
+    → AllByRecursion (λ b. b ≢ newline) front → CutsTo dialect (text ++ (front ++ newline ∷ [])) piece rest → rest ≡ []
+nothing_left exist unique dialect text front piece rest is_last none cuts =
+    elim (cut_there text front piece rest none cuts.0) [
+      | inl done ↦ done
+      | inr before ↦ absurd (cut_nowhere exist unique dialect text piece before.0 is_last cuts.1 before.1)
+    ]
+
+-- the first of pieces is cut off before the text of the others
+first_cut : PiecesAreTheText → (dialect : Dialect) (text piece rest : List ℕ) (all others : List (List ℕ)) → Pieces dialect text all
+    → all ≡ piece ∷ others → Pieces dialect rest others → CutsTo dialect text piece rest
+first_cut texts dialect text piece rest all others (last p h) e q =
+    let f : others ≡ [] = cc in absurd (some_piece dialect rest others q f)
+first_cut texts dialect text piece rest all others (cut p t ps c h) e q =
+    let first : p ≡ piece = cc in
+    let left : ps ≡ others = cc in
+    let same : t ≡ rest =
+    sym (texts dialect t ps h) ∙ ap (λ (l : List (List ℕ)). join_with_byte newline l) left ∙ texts dialect rest others q in
+    (ap (λ (l : List ℕ). l ++ newline ∷ t) first ∙ ap (λ (l : List ℕ). piece ++ newline ∷ l) same, subst (IsCutPiece dialect) first c)
+
+-- where the stream holds a text that is one piece and was given a part up to its first newline, a piece that it gives leaves
+-- nothing of these, and is the first of all
+pub first_given : PiecesExist → PiecesAreUnique → (dialect : Dialect) (limit : ℕ) (text part : List ℕ) (at : ℕ) (stream after : HeldWithin)
+    (result : Result (Bor (List ℕ)) PieceTooLong) (rest : List ℕ) → stream.held.dialect ≡ dialect → stream.limit ≡ limit
+    → IsLastPiece dialect text → rest ≡ drop (at + 1) part → take (at + 1) part ≡ take at part ++ newline ∷ [] → All (λ b. b ≢ newline) (take at part)
+    → GivesOf stream (text ++ take (at + 1) part) (Some result) after
+    → Holds after [] × Given dialect limit (text ++ part) result rest
+first_given exist unique dialect limit text part at stream after result rest same bound is_last others ends none gives =
+    let front = take (at + 1) part in
+    let one = given_piece dialect limit stream after (text ++ front) result same bound gives in
+    let left : one.0 ≡ [] = nothing_left exist unique dialect text (take at part) one.2.piece one.0 is_last
+    (recursion_from_All (λ b. b ≢ newline) (take at part) none)
+    (ap (λ (l : List ℕ). text ++ l) (sym ends) ∙ one.2.text_is, one.2.is_cut) in
+    let whole : (text ++ front) ++ rest ≡ text ++ part =
+    append_assoc text front rest ∙ ap (λ (l : List ℕ). text ++ (front ++ l)) others
+    ∙ ap (λ (l : List ℕ). text ++ l) (take-append-drop (at + 1) part) in (
+      subst (Holds after) left one.1,
+      subst (λ (l : List ℕ). Given dialect limit l result rest) whole
+          (subst (λ (l : List ℕ). Given dialect limit ((text ++ front) ++ rest) result (l ++ rest)) left
+          (given_on dialect limit (text ++ front) result one.0 rest one.2)),
+    )
+
+-- no piece was taken of a text and of a part, of which the stream was given a front
+pub begun_none : (dialect : Dialect) (limit : Option ℕ) (text part : List ℕ) (given : ℕ) (after : HeldWithin) (old : Made)
+    (a e : Option (List ℕ)) → Holds after (text ++ take given part) → RelaysBegun dialect limit text part given after old old a a e e
+begun_none dialect limit text part given after old a e holds =
+    record {
+      held = text ++ take given part;
+      holds = holds;
+      to = subst (λ (l : List ℕ). RelaysTo dialect limit (text ++ part) l old old a a e e)
+          (ap (λ (l : List ℕ). text ++ l) (sym (take-append-drop given part))
+          ∙ sym (append_assoc text (take given part) (drop given part)))
+          (to_none dialect limit (text ++ part) old a e);
+    }
+
+-- the line that the stream began was taken, and then lines of the rest of the part
+pub begun_then : (dialect : Dialect) (limit : Option ℕ) (text part rest : List ℕ) (end taken : ℕ) (after : HeldWithin)
+    (old now new : Made) (a b c e f g : Option (List ℕ)) → rest ≡ drop end part → Holds after []
+    → RelaysTo dialect limit (text ++ part) rest old now a b e f → RelaysTo dialect limit rest (drop taken rest) now new b c f g
+    → RelaysBegun dialect limit text part (end + taken) after old new a c e g
+begun_then dialect limit text part rest end taken after old now new a b c e f g others holds first lines =
+    record {
+      held = [];
+      holds = holds;
+      to = subst (λ (l : List ℕ). RelaysTo dialect limit (text ++ part) l old new a c e g)
+          (ap (λ (l : List ℕ). drop taken l) others ∙ drop-drop taken end part)
+          (to_then dialect limit (text ++ part) rest (drop taken rest) old now new a b c e f g first lines);
+    }
+
+-- the first of the pieces of a text that is not all of it is cut off bytes that begin with the text
+cuts_in : PiecesExist → PiecesAreTheText → (dialect : Dialect) (before after : Option (List ℕ)) (piece rest bytes : List ℕ)
+    → after ≡ Some rest
+    → ((others : List (List ℕ)) → PiecesLeft (record { dialect = dialect; text = after }) others
+    → PiecesLeft (record { dialect = dialect; text = before }) (piece ∷ others))
+    → IfSome before (λ text. (t : List ℕ) × (bytes ≡ text ++ t))
+    → (t : List ℕ) × CutsTo dialect bytes piece (rest ++ t)
+cuts_in exist texts dialect None None piece rest bytes is gives begins = absurd (cc)
+cuts_in exist texts dialect (Some text) None piece rest bytes is gives begins = absurd (cc)
+cuts_in exist texts dialect None (Some r) piece rest bytes is gives begins =
+    let others = exist dialect r in
+    let none : piece ∷ others.0 ≡ [] = gives others.0 others.1 in
+    absurd (cc)
+cuts_in exist texts dialect (Some text) (Some r) piece rest bytes is gives begins =
+    let others = exist dialect r in
+    let same : r ≡ rest = cc in
+    let cuts = first_cut texts dialect text piece rest (piece ∷ others.0) others.0 (gives others.0 others.1) refl
+    (subst (λ (l : List ℕ). Pieces dialect l others.0) same others.1) in
+    (begins.0, (begins.1 ∙ ap (λ (l : List ℕ). l ++ begins.0) cuts.0 ∙ append_assoc piece (newline ∷ rest) begins.0, cuts.1))
+
+-- what a splitter gave that has a rest is cut off bytes that begin with its text
+splitter_cuts : PiecesExist → PiecesAreTheText → (dialect : Dialect) (before after : Left) (piece : Bor (List ℕ)) (rest bytes : List ℕ)
+    → before.dialect ≡ dialect → after.text ≡ Some rest → GivesPiece before (Some piece) after
+    → IfSome before.text (λ text. (t : List ℕ) × (bytes ≡ text ++ t))
+    → (t : List ℕ) × CutsTo dialect bytes piece.now (rest ++ t)
+splitter_cuts exist texts dialect before after piece rest bytes same is gives begins =
+    cuts_in exist texts dialect before.text after.text piece.now rest bytes is
+    (λ others left.
+    subst (λ (d : Dialect). PiecesLeft (record { dialect = d; text = before.text }) (piece.now ∷ others)) same
+    (gives.1 others (subst (λ (d : Dialect). PiecesLeft (record { dialect = d; text = after.text }) others) (sym (gives.0 ∙ same)) left)))
+    begins
+
+-- what is left after a piece and its newline, which are within the bytes
+left_after : (bytes piece rest : List ℕ) (taken : ℕ) → taken ≤ length bytes → drop taken bytes ≡ piece ++ newline ∷ rest
+    → (drop (taken + (length piece + 1)) bytes ≡ rest) × (taken + (length piece + 1) ≤ length bytes)
+left_after bytes piece rest taken within is = (
+  sym (drop-drop (length piece + 1) taken bytes) ∙ ap (λ (l : List ℕ). drop (length piece + 1) l) is
+      ∙ drop-append-add piece (newline ∷ rest) 1,
+  omega (arith, ap (λ (l : List ℕ). length l) is, length-drop taken bytes, length-append piece (newline ∷ rest)),
+)
+
+-- a rest that is there
+some_rest : (rest : Option (Bor (List ℕ))) (text : Option (List ℕ)) → is_some rest ≡ true → option_map (λ r. r.now) rest ≡ text
+    → (r : List ℕ) × (text ≡ Some r)
+some_rest None text there is = absurd (cc)
+some_rest (Some r) text there is = (r.now, sym is)
+
+-- a text begins with whole lines of it
+pub begins_with : (text : Option (List ℕ)) (bytes lines : List ℕ) → text ≡ Some lines → lines ≡ take (length lines) bytes
+    → IfSome text (λ l. (t : List ℕ) × (bytes ≡ l ++ t))
+begins_with None bytes lines is front = absurd (cc)
+begins_with (Some l) bytes lines is front =
+    let same : lines ≡ l = cc in
+    let rest = drop (length lines) bytes in (
+      rest,
+      sym (take-append-drop (length lines) bytes) ∙ ap (λ (x : List ℕ). x ++ rest) (sym front ∙ same),
+    )
+
+-- a line that a splitter gave of the bytes from a place on, and what is left after it
+pub record LineGiven (dialect : Dialect) (limit : ℕ) (after : Option (List ℕ)) (piece : Bor (List ℕ)) (bytes : List ℕ) (taken : ℕ)
+    : Type 0 where
+  pub given : Given dialect limit (drop taken bytes) (Ok piece) (drop (taken + (length piece.now + 1)) bytes)
+  pub within : taken + (length piece.now + 1) ≤ length bytes
+  pub left : IfSome after (λ text. (t : List ℕ) × (drop (taken + (length piece.now + 1)) bytes ≡ text ++ t))
+
+-- so is each one that is not the last and not too long
+pub line_given : PiecesExist → PiecesAreTheText → (dialect : Dialect) (limit : ℕ) (before after : Left) (piece : Bor (List ℕ))
+    (rest : Option (Bor (List ℕ))) (bytes : List ℕ) (taken : ℕ) → before.dialect ≡ dialect → taken ≤ length bytes
+    → IfSome before.text (λ text. (t : List ℕ) × (drop taken bytes ≡ text ++ t)) → GivesPiece before (Some piece) after
+    → is_some rest ≡ true → option_map (λ r. r.now) rest ≡ after.text → length piece.now ≤ limit
+    → LineGiven dialect limit after.text piece bytes taken
+line_given exist texts dialect limit before after piece rest bytes taken same within begins gives there is short =
+    let r = some_rest rest after.text there is in
+    let cuts = splitter_cuts exist texts dialect before after piece r.0 (drop taken bytes) same r.1 gives begins in
+    let next = left_after bytes piece.now (r.0 ++ cuts.0) taken within cuts.1.0 in
+    record {
+      given = subst (λ (l : List ℕ). Given dialect limit (drop taken bytes) (Ok piece) l) (sym next.0)
+          (given_short dialect limit (drop taken bytes) piece (r.0 ++ cuts.0) short cuts.1);
+      within = next.1;
+      left = subst
+          (λ (o : Option (List ℕ)). IfSome o (λ text. (t : List ℕ) × (drop (taken + (length piece.now + 1)) bytes ≡ text ++ t)))
+          (sym r.1) (cuts.0, next.0);
+    }

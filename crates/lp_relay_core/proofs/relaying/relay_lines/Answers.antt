@@ -1,0 +1,63 @@
+use Rattle.influxdb_line_protocol.specs.code.Rules.{rules_of}
+use Rattle.std.proofs.Common.{◌∙◌, Ok, ap, drop, refl, arith}
+use Rattle.influxdb_line_protocol.specs.format.Pieces.{Left}
+use Rattle.lp_relay_core.specs.Relaying.{limit_of}
+use Rattle.lp_relay_core.specs.RelaySteps.{made}
+use Rattle.lp_rebuild.proofs.Parts.{at_no_fault}
+use Rattle.lp_relay_core.proofs.RelayLemmas.{on_err}
+use Rattle.lp_relay_core.proofs.RelayPieces.{to_more, to_none, to_part}
+use Rattle.lp_relay_core.proofs.WholeLines.{begins_with, line_given}
+use Rattle.lp_relay_core.proofs.relaying.relay_lines.Goals as goal
+
+pub loop-piece-init : goal.loop-piece-init
+loop-piece-init g c =
+    let is = c.split_lines_in-lines.ensures in
+    record {
+      dialect = ap (λ (l : Left). l.dialect) is;
+      within = omega arith;
+      left = begins_with c.split_lines_in-lines.result.text c.args.bytes.now c.whole_lines.result.now (ap (λ (l : Left). l.text) is)
+          c.whole_lines.ensures;
+      fits = omega (arith, c.requires.fits);
+      held = c.requires.few;
+      relays = to_none (rules_of c.args.dialect) (limit_of c.args.limit) c.args.bytes.now _ _ _;
+      out_unfailed = refl;
+      err_unfailed = refl;
+    }
+
+pub loop-piece-preserved : goal.loop-piece-preserved
+loop-piece-preserved g c =
+    let h = c.loop-piece.invariant in
+    let d = rules_of c.args.dialect in
+    let line = line_given c.pieces_join.ensures.some c.pieces_join.ensures.text d c.args.limit c.loop-piece.lines c.next.new.self
+    c.in-Some.piece c.remainder.result c.args.bytes.now c.loop-piece.taken h.dialect h.within h.left c.in-Some.ensures.steps
+    c.if-is_none.ensures c.remainder.ensures c.if-piece-limit.false in
+    let poured = c.in_ok-pour_full.ensures in
+    let taken = c.take_text_piece.ensures in
+    let fits = at_no_fault c.take_text_piece.result c.if-is_err.ensures.value taken.fits in
+    record {
+      dialect = c.in-Some.ensures.steps.0 ∙ h.dialect;
+      within = line.within;
+      left = line.left;
+      fits = omega (arith, fits, poured.ok.carried, poured.ok.refused);
+      held = poured.held;
+      relays = to_more d c.args.limit c.args.bytes.now (drop c.loop-piece.taken c.args.bytes.now) _
+          (made c.args.progress.now) (made c.loop-piece.progress) (made c.take_text_piece.new.so_far) (made c.pour_full.new.so_far)
+          _ _ _ _ _ _ (Ok c.in-Some.piece) h.relays line.given
+          (at_no_fault c.take_text_piece.result c.if-is_err.ensures.value taken.taken)
+          (poured.place ∙ at_no_fault c.take_text_piece.result c.if-is_err.ensures.value taken.place) poured.ok;
+      out_unfailed = poured.counts.0 ∙ h.out_unfailed;
+      err_unfailed = poured.counts.1 ∙ h.err_unfailed;
+    }
+
+pub returns-in_err-pour_full-clause-part : goal.returns-in_err-pour_full-clause-part
+returns-in_err-pour_full-clause-part g c =
+    let h = c.loop-piece.invariant in
+    let d = rules_of c.args.dialect in
+    let line = line_given c.pieces_join.ensures.some c.pieces_join.ensures.text d c.args.limit c.loop-piece.lines c.next.new.self
+    c.in-Some.piece c.remainder.result c.args.bytes.now c.loop-piece.taken h.dialect h.within h.left c.in-Some.ensures.steps
+    c.if-is_none.ensures c.remainder.ensures c.if-piece-limit.false in
+    on_err c.from_residual.result
+    (to_part d c.args.limit c.args.bytes.now (drop c.loop-piece.taken c.args.bytes.now) _
+    (made c.args.progress.now) (made c.loop-piece.progress) (made c.take_text_piece.new.so_far)
+    _ _ _ _ _ _ (Ok c.in-Some.piece) h.relays line.given
+    (at_no_fault c.take_text_piece.result c.if-is_err.ensures.value c.take_text_piece.ensures.taken) c.in_err-pour_full.ensures.part)
