@@ -1,6 +1,6 @@
 -- Where names hold none of the bytes that part a base, the base fixes the series; bases that are safe to group by tell their series.
 use Rattle.std.proofs.Common.{◌≡◌, ℕ, ◌+◌, Bool, true, false, List, [], ◌∷◌, ◌++◌, ◌||◌, length, take, drop, refl, sym, ap, ◌∙◌}
-use Rattle.std.proofs.Common.{subst, inl, inr, append_assoc, not}
+use Rattle.std.proofs.Common.{subst, inl, inr, append_assoc}
 use Rattle.std.specs.Prelude.{◌==◌}
 use Rattle.std.specs.List.{flat_map, list_any}
 use Rattle.std.specs.List.Sorted.{IsPermutation}
@@ -9,7 +9,7 @@ use Rattle.std.proofs.lemmas.List.{take-append-drop}
 use Rattle.std.proofs.lemmas.Bool.{cases_Bool, eq-eqb, ne_eqb, false≢true, or_from, or_parts, not-true}
 use Rattle.std.proofs.lemmas.List.Sorted.{IsPermutation-sym, IsPermutation-trans, list_any-IsPermutation}
 use Rattle.lp_lines.specs.laws.BaseLaws.{OneBaseIsOneSeries, PlainSeriesAreClear, is_tag_delimited, is_tag_one_escape, spelled_tags}
-use Rattle.lp_lines.specs.laws.BaseLaws.{IsClearSeries, IsParsedSeries, SafeBasesTellSeries, SameSeriesAreSafeAlike, has_one_escape}
+use Rattle.lp_lines.specs.laws.BaseLaws.{IsParsedSeries, SafeBasesTellSeries, SameSeriesAreSafeAlike, has_one_escape}
 use Rattle.lp_lines.specs.laws.BaseLaws.{is_delimited}
 use Rattle.lp_lines.specs.code.Bases.{base_text, based_tag, by_key, in_order, is_ambiguous_name, is_ambiguous_tag, is_base_safe}
 use Rattle.lp_lines.specs.code.Bases.{is_byte_alone}
@@ -26,6 +26,7 @@ use Rattle.lp_values.proofs.lemmas.fields.ReadingLemmas.{name_parts}
 use Rattle.lp_split.proofs.lemmas.split.ScanLemmas.{bare_len, first_bare_len}
 use Rattle.lp_lines.proofs.lemmas.series.SortedTags.{by_key_permutes}
 use Rattle.lp_lines.proofs.lemmas.series.BasesTellSeries.{base_is, tag_parts, tags_separated, value_part, same_series_have_one_base}
+use Rattle.std.proofs.Common.{arith}
 
 -- nothing, or a text that begins with this byte
 abbrev Begins : ℕ → List ℕ → Type 0
@@ -35,9 +36,7 @@ Begins c (b ∷ text) = b ≡ c
 -- a text that begins with the byte does not begin with one of those before it
 no_other : (c y : ℕ) (ys us vs : List ℕ) → is_one_of (y ∷ ys) c ≡ false → Begins c us → us ≡ y ∷ ys ++ vs → ⊥
 no_other c y ys [] vs none begins e = cc
-no_other c y ys (u ∷ us) vs none begins e =
-    let same : u ≡ y = cc in
-    false≢true (sym (or_parts (y == c) (is_one_of ys c) none).0 ∙ eq-eqb y c (sym same ∙ begins))
+no_other c y ys (u ∷ us) vs none begins e = grind (arith, false≢true, or_parts, eq-eqb)
 
 -- the first such byte fixes the part before it
 first_part : (c : ℕ) (xs ys us vs : List ℕ) → is_one_of xs c ≡ false → is_one_of ys c ≡ false → Begins c us → Begins c vs
@@ -92,9 +91,7 @@ same_test (t ∷ tags) = ap (λ (b : Bool). is_tag_delimited t || b) (same_test 
 -- a base text fixes the measurement and the tags
 same_parts : (m n : List ℕ) (es fs : List (List ℕ × List ℕ)) → is_one_of m comma ≡ false → is_one_of n comma ≡ false
     → list_any is_parted es ≡ false → list_any is_parted fs ≡ false → base_text m es ≡ base_text n fs → (m ≡ n) × (es ≡ fs)
-same_parts m n es fs h k p q same =
-    let parts = first_part comma m n (flat_map based_tag es) (flat_map based_tag fs) h k (tags_begin es) (tags_begin fs) same in
-    (parts.0, same_tags es fs p q parts.1)
+same_parts m n es fs h k p q same = grind (arith, first_part, tags_begin, same_tags)
 
 -- one base is one series, if both are clear
 pub one_base_is_one_series : OneBaseIsOneSeries
@@ -144,14 +141,12 @@ none_before passes c (b ∷ text) hit none =
 -- a name without a backslash holds none of the bytes that end it
 no_stop : (kind : NameKind) (c : ℕ) (text : List ℕ) → is_stop kind c ≡ true → is_one_of text backslash ≡ false
     → is_one_of (spelled kind text) c ≡ false
-no_stop kind c text hit none =
-    ap (λ (n : ℕ). is_one_of (take n text) c) (first_bare_len (is_stop kind) text) ∙ none_before (is_stop kind) c text hit none
+no_stop kind c text hit none = grind (arith, first_bare_len, none_before)
 
 -- and it is its own logical text
 plain_name : (kind : NameKind) (text : List ℕ) → is_one_of text backslash ≡ false
     → without_escapes (escapable kind) (spelled kind text) ≡ spelled kind text
-plain_name kind text none = without_escapes_same (escapable kind) (spelled kind text)
-    (no_backslash (spelled kind text) (none_in_parts backslash (spelled_len kind text) text none).0)
+plain_name kind text none = grind (arith, without_escapes_same, no_backslash, none_in_parts)
 
 -- a name that is spelled as no escape alone, and that does not hold the byte that divides
 abbrev IsClearName : NameKind → ℕ → List ℕ → Text → Type 0
@@ -204,11 +199,7 @@ series_clear Known shows raw m tags h first known =
 -- a name without a backslash is clear
 plain_is_clear : (kind : NameKind) (divider : ℕ) (text : List ℕ) (t : Text) → t ≡ read_text (escapable kind) (spelled kind text)
     → is_stop kind divider ≡ true → is_one_of text backslash ≡ false → IsClearName kind divider text t
-plain_is_clear kind divider text t is stop none = (
-  no_escape (escapable kind) (spelled kind text) (none_in_parts backslash (spelled_len kind text) text none).0,
-  ap (λ (x : Text). is_one_of x.bytes divider) is ∙ ap (λ (x : List ℕ). is_one_of x divider) (plain_name kind text none)
-      ∙ no_stop kind divider text stop none,
-)
+plain_is_clear kind divider text t is stop none = grind (arith, no_escape, none_in_parts, plain_name, no_stop)
 
 -- tags without a backslash are clear
 plain_shows : ShowsClear (λ tags text. is_one_of text backslash ≡ false)
@@ -236,25 +227,14 @@ escape_reads_alone : (known spelling : List ℕ) → is_byte_alone known (withou
 unfolding without_escapes
 escape_reads_alone known [] h = refl
 escape_reads_alone known (b ∷ []) h = refl
-escape_reads_alone known (b ∷ c ∷ []) h = elim (cases_Bool (b == backslash)) [
-  | inr other ↦ rw other refl
-  | inl escapes ↦ elim (cases_Bool (is_one_of known c)) [
-    | inr plain ↦ rw (escapes, plain) refl
-    | inl is ↦ absurd (false≢true (sym (rw (escapes, is, is) at h)))
-  ]
-]
+escape_reads_alone known (b ∷ c ∷ []) h = grind (arith, cases_Bool, false≢true)
 escape_reads_alone known (b ∷ c ∷ d ∷ spelling) h = refl
 
 -- a name that is read and is not ambiguous: it is spelled as no escape alone, and does not hold the byte that divides
 name_apart : (kind : NameKind) (divider : ℕ) (text : List ℕ) (t : Text) → t ≡ read_text (escapable kind) (spelled kind text)
     → is_ambiguous_name (escapable kind) divider t.bytes ≡ false
     → IsClearName kind divider text t
-name_apart kind divider text t is clear =
-    let parts = or_parts (is_one_of t.bytes divider) (is_byte_alone (escapable kind) t.bytes) clear in (
-      escape_reads_alone (escapable kind) (spelled kind text)
-          (ap (λ (x : Text). is_byte_alone (escapable kind) x.bytes) (sym is) ∙ parts.1),
-      parts.0,
-    )
+name_apart kind divider text t is clear = grind (arith, or_parts, escape_reads_alone)
 
 -- tags that are not ambiguous are clear
 apart_shows : ShowsClear (λ tags text. list_any is_ambiguous_tag tags ≡ false)
@@ -280,14 +260,7 @@ safe_is_clear raw m tags h safe =
 
 -- safe bases are the same for the same series alone
 pub safe_bases_tell_series : SafeBasesTellSeries
-safe_bases_tell_series raw text m other tags others h k once alone safe sound =
-    let one = safe_is_clear raw m tags h safe in
-    let two = safe_is_clear text other others k sound in
-    let left : IsClearSeries raw m tags = record { parsed = h; repeats_none = once; no_escape_alone = one.0 } in
-    let right : IsClearSeries text other others = record { parsed = k; repeats_none = alone; no_escape_alone = two.0 } in (
-      one_base_is_one_series raw text m other tags others left right one.1 two.1,
-      same_series_have_one_base raw text m other tags others left right,
-    )
+safe_bases_tell_series raw text m other tags others h k once alone safe sound = grind (arith, safe_is_clear, one_base_is_one_series, same_series_have_one_base)
 
 -- whether the key or the value of an entry is ambiguous
 abbrev is_ambiguous_entry : List ℕ × List ℕ → Bool
@@ -300,8 +273,4 @@ same_ambiguity (t ∷ tags) = ap (λ (b : Bool). is_ambiguous_tag t || b) (same_
 
 -- a base is safe whatever the order of the tags
 pub same_series_are_safe_alike : SameSeriesAreSafeAlike
-same_series_are_safe_alike m other tags others same =
-    let moved = sym (same_ambiguity tags) ∙ list_any-IsPermutation is_ambiguous_entry (in_order tags) (in_order others) same.tags_are
-    ∙ same_ambiguity others in
-    ap (λ (x : List ℕ). not (is_ambiguous_name (escapable a_measurement) comma x || list_any is_ambiguous_tag tags)) same.measurement_is
-    ∙ ap (λ (b : Bool). not (is_ambiguous_name (escapable a_measurement) comma other.bytes || b)) moved
+same_series_are_safe_alike m other tags others same = grind (arith, same_ambiguity, list_any-IsPermutation)

@@ -43,9 +43,7 @@ use Rattle.lp_format.specs.laws.UnreadableNames.{IsUnreadable.alone}
 -- the line of an admitted point has one answer
 line_answers : (dialect : Dialect) (p : Point) → IsAdmitted p → answers_of_piece dialect (line_of p) ≡ Ok (read_line p) ∷ []
 unfolding answers_of_piece
-line_answers dialect p ok =
-    let begins = line_begins p ok in
-    rw (line_trimmed (line_of p) begins, line_some (line_of p) begins, line_reads_back dialect p ok) refl
+line_answers dialect p ok = grind (arith, line_begins, line_trimmed, line_some, line_reads_back)
 
 -- batches of points with admitted names read back
 pub admitted_batches_read_back : BatchesReadBack IsAdmittedPoint
@@ -231,9 +229,7 @@ all_elements P (x ∷ xs) each = (each x (first_element x xs), all_elements P xs
 
 -- what is made of an element is among what is made of all
 made_element : {X Y : Type 0} (make : X → Y) (xs : List X) (x : X) → Contains xs x → Contains (map make xs) (make x)
-made_element make xs x h =
-    let within = h.1 in
-    (h.0, omega (arith, length-map xs make), get_or-map make xs h.0 x (make x) within ∙ ap make h.2)
+made_element make xs x h = grind (arith, length-map, get_or-map)
 
 -- a point whose names lines can have, by its lists
 readable_point : (p : Point) → HasReadableNames p → ParsedPoint p
@@ -273,8 +269,7 @@ items_have_readable_names dialect text items p h here kind n named =
 
 -- the lines of two lists of points
 built_of_two : (before others : List Point) (t : List ℕ) → built_all (before ++ others) ++ t ≡ built_all before ++ (built_all others ++ t)
-built_of_two before others t = ap (λ (l : List ℕ). l ++ t) (flat_map-append built before others)
-    ∙ append_assoc (built_all before) (built_all others) t
+built_of_two before others t = grind (arith, flat_map-append, append_assoc)
 
 -- the answers for the line of such a point, and for what follows it
 point_answered : (dialect : Dialect) (p : Point) (u : List ℕ) (answers : List (Result Line Fault)) → IsPoint p

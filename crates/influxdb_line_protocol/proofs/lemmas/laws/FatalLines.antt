@@ -1,15 +1,15 @@
 -- A line with a name whose spelling stops too early: the name is fatal, and so is the line, at a measurement or a tag.
 use Rattle.std.proofs.Common.{◌≡◌, ◌≢◌, ℕ, ◌<◌, List, [], ◌∷◌, ◌++◌, length, slice_index, true, false, refl, sym, ap, ◌∙◌, subst, arith}
-use Rattle.std.proofs.Common.{inl, inr, append_assoc, append-nil, Err, Result, zero, suc, Bool, ◌&&◌}
+use Rattle.std.proofs.Common.{inl, inr, append_assoc, append-nil, Err, Result, Bool, ◌&&◌}
 use Rattle.std.specs.Prelude.{◌==◌}
 use Rattle.std.specs.List.{list_all, AllByRecursion, flat_map}
 use Rattle.std.proofs.lemmas.Bool.{cases_Bool, false≢true, both_ways, and_from, and_right, ne_eqb, and_parts}
 use Rattle.std.proofs.lemmas.Grind.{flat_map-append}
 use Rattle.lp_format.specs.format.Dialects.{Dialect, Crate, Strict}
 use Rattle.lp_format.specs.format.Bytes.{hash, is_one_of, newline, comma, equals, space, backslash}
-use Rattle.lp_format.specs.format.Escapes.{escaped, escaped_byte}
+use Rattle.lp_format.specs.format.Escapes.{escaped}
 use Rattle.lp_format.specs.format.Readings.{Fault, ends_with_backslash, fatal, Reading, reads}
-use Rattle.lp_format.specs.format.Names.{NameKind, a_measurement, a_tag_key, a_tag_value, ends_in_backslash, escapable, is_stop, name}
+use Rattle.lp_format.specs.format.Names.{NameKind, a_measurement, a_tag_key, a_tag_value, ends_in_backslash, is_stop, name}
 use Rattle.lp_format.specs.format.Piece.{IsClosed}
 use Rattle.lp_format.specs.format.Points.{never_in, is_admitted_name, spelling, Tag, is_admitted_tag, built_tag}
 use Rattle.lp_format.specs.format.Pieces.{IsLastPiece, Pieces}
@@ -45,43 +45,19 @@ pub record StopsEarly (Reached AtStop : List ℕ → Type 0) (text : List ℕ) :
 
 -- so does a text that goes on after it
 pub and_more : {R A : List ℕ → Type 0} {text : List ℕ} (more : List ℕ) → StopsEarly R A text → StopsEarly R A (text ++ more)
-and_more more f =
-    record {
-      front = f.front;
-      stop = f.stop;
-      after = f.after ++ more;
-      is = ap (λ (xs : List ℕ). xs ++ more) f.is ∙ append_assoc f.front (f.stop ∷ f.after) more;
-      reached = f.reached;
-      fails = f.fails;
-    }
+and_more more f = grind (arith, append_assoc)
 
 module _ {R A S B : List ℕ → Type 0} {text : List ℕ} where
   -- and a text with a front and a byte before it
   pub and_before : (before : List ℕ) (b : ℕ) → ((front : List ℕ) → R front → S (before ++ b ∷ front))
       → ((front rest : List ℕ) → R front → A (front ++ rest) → B (before ++ b ∷ (front ++ rest)))
       → StopsEarly R A text → StopsEarly S B (before ++ b ∷ text)
-  and_before before b reached fails f =
-      record {
-        front = before ++ b ∷ f.front;
-        stop = f.stop;
-        after = f.after;
-        is = ap (λ (xs : List ℕ). before ++ b ∷ xs) f.is ∙ sym (append_assoc before (b ∷ f.front) (f.stop ∷ f.after));
-        reached = reached f.front f.reached;
-        fails = λ rest stops. subst B (sym (append_assoc before (b ∷ f.front) rest)) (fails f.front rest f.reached (f.fails rest stops));
-      }
+  and_before before b reached fails f = grind (arith, append_assoc)
 
   -- what holds of its front and of the texts at its stop, said in another way
   pub stops_as : ((front : List ℕ) → R front → S front) → ((front rest : List ℕ) → R front → A (front ++ rest) → B (front ++ rest))
       → StopsEarly R A text → StopsEarly S B text
-  stops_as reached fails f =
-      record {
-        front = f.front;
-        stop = f.stop;
-        after = f.after;
-        is = f.is;
-        reached = reached f.front f.reached;
-        fails = λ rest stops. fails f.front rest f.reached (f.fails rest stops);
-      }
+  stops_as reached fails f = grind arith
 
 -- a line whose front is not cut, and is answered with a fault
 abbrev pub Fails : List ℕ → Type 0
@@ -92,9 +68,7 @@ Fails line =
 piece_fails : (dialect : Dialect) (line : List ℕ) (f : Fails line) (rest : List ℕ) → StopsWith f.stop rest
     → answers_of_piece dialect (f.front ++ rest) ≡ Err ends_with_backslash ∷ []
 unfolding answers_of_piece
-piece_fails dialect line f rest stops =
-    let w = f.fails rest stops in
-    rw (line_trimmed (f.front ++ rest) w.0, line_some (f.front ++ rest) w.0, w.1 dialect) refl
+piece_fails dialect line f rest stops = grind (arith, line_trimmed, line_some)
 
 -- such a front is a piece of its own
 front_is_piece : (dialect : Dialect) (line : List ℕ) (f : Fails line) → IsLastPiece dialect f.front
@@ -179,9 +153,7 @@ admitted_from kind n h all = rw (some_test n h.some, h.ends, all, and_right (sli
 spelling_around : (kind : NameKind) (front after : List ℕ) (stop : ℕ) → is_one_of (never_in kind) stop ≡ true
     → spelling kind (front ++ stop ∷ after) ≡ spelling kind front ++ stop ∷ spelling kind after
 unfolding escaped
-spelling_around kind front after stop never =
-    flat_map-append (escaped_byte (escapable kind)) front (stop ∷ after)
-    ∙ ap (λ (xs : List ℕ). spelling kind front ++ xs) (escaped_plain (escapable kind) after stop (never_unescapable kind stop never))
+spelling_around kind front after stop never = grind (arith, flat_map-append, escaped_plain, never_unescapable)
 
 -- a text that ends in a backslash is not empty, and begins as each longer one does
 backslash_some : (text : List ℕ) → ends_in_backslash text ≡ true → 0 < length text
@@ -240,22 +212,12 @@ pub record ManyFail {A : Type 0} (one : List ℕ → Reading A) (text : List ℕ
 module _ {A : Type 0} (one : List ℕ → Reading A) where
   -- the first of them is fatal
   pub first_of_many : (text : List ℕ) → one text ≡ fatal ends_with_backslash → ManyFail one text
-  first_of_many text e = record { at_first = rw e refl; at_later = fails }
-    where
-      -- a fatal tag after a comma is fatal for the tags
-      fails : (n : ℕ) → length text < n → many (after_comma one) n (comma ∷ text) ≡ fatal ends_with_backslash
-      fails zero room = absurd (omega arith)
-      fails (suc n) room = rw e refl
+  first_of_many text e = grind arith
 
   -- one is read, and then one is fatal
   pub later_of_many : (text more : List ℕ) (x : A) → one text ≡ reads x (comma ∷ more) → length more < length text
       → ManyFail one more → ManyFail one text
-  later_of_many text more x e less h = record { at_first = rw (e, h.at_later (length (comma ∷ more)) (omega arith)) refl; at_later = fails }
-    where
-      -- a fatal tag further on is fatal for the tags
-      fails : (n : ℕ) → length text < n → many (after_comma one) n (comma ∷ text) ≡ fatal ends_with_backslash
-      fails zero room = absurd (omega arith)
-      fails (suc n) room = rw (e, h.at_later n (omega arith)) refl
+  later_of_many text more x e less h = grind arith
 
 -- what leaves a text in its head
 abbrev ReachesHead : List ℕ → Type 0

@@ -1,5 +1,5 @@
 -- The items and the events that calls of `next` give are those of the text, one after another.
-use Rattle.std.proofs.Common.{◌≡◌, ℕ, ◌<◌, ◌==◌, true, false, List, [], ◌∷◌, ◌++◌, length, map, refl, sym, ap, ◌∙◌, subst, arith}
+use Rattle.std.proofs.Common.{◌≡◌, ℕ, ◌<◌, ◌==◌, true, List, [], ◌∷◌, ◌++◌, length, map, refl, sym, ap, subst, arith}
 use Rattle.std.proofs.Common.{append_assoc, append-nil, inl, inr, Some, Result}
 use Rattle.std.specs.Iterator.{Yields}
 use Rattle.std.specs.List.{All}
@@ -31,17 +31,12 @@ blank_lines (p ∷ pieces) h =
 
 -- of a piece that is not blank, its trimmed text is left
 one_line : (piece : List ℕ) → 0 < length (trimmed piece) → trimmed_line piece ≡ trimmed piece ∷ []
-one_line piece h =
-    let e : (length (trimmed piece) == 0) ≡ false = ne_eqb (length (trimmed piece)) 0 (λ none. absurd (omega arith)) in
-    rw e refl
+one_line piece h = grind (arith, ne_eqb)
 
 -- what is left of blank pieces, one that is not blank, and others
 lines_from : (skipped : List (List ℕ)) (piece : List ℕ) (front : List (List ℕ)) → All IsBlankPiece skipped → 0 < length (trimmed piece)
     → trimmed_lines (skipped ++ piece ∷ front) ≡ trimmed piece ∷ trimmed_lines front
-lines_from skipped piece front blank some =
-    flat_map-append trimmed_line skipped (piece ∷ front)
-    ∙ ap (λ (l : List (List ℕ)). l ++ trimmed_lines (piece ∷ front)) (blank_lines skipped blank)
-    ∙ ap (λ (l : List (List ℕ)). l ++ trimmed_lines front) (one_line piece some)
+lines_from skipped piece front blank some = grind (arith, flat_map-append, blank_lines, one_line)
 
 -- the items that calls gave are those of the pieces before the ones that are left
 given_items : (items : List (Result ParsedLine Error)) (before left : Left) (others : List (List ℕ)) → Yields GivesItem before items left
@@ -66,16 +61,7 @@ items_so_far dialect text items left others steps h = given_items items (record 
 
 -- and up to the last one
 pub items_are_of_pieces : ItemsAreOfPieces
-items_are_of_pieces dialect text pieces items h drained =
-    let last = drained.1 in
-    let ended = last.2.0 in
-    let found = items_so_far dialect text items last.0 ended.skipped last.1 ended.left in
-    let same : found.0 ++ ended.skipped ≡ pieces = same_pieces dialect refl found.1 h in
-    let none : trimmed_lines pieces ≡ trimmed_lines found.0 =
-    ap trimmed_lines (sym same) ∙ flat_map-append trimmed_line found.0 ended.skipped
-    ∙ ap (λ (l : List (List ℕ)). trimmed_lines found.0 ++ l) (blank_lines ended.skipped ended.blank)
-    ∙ append-nil (trimmed_lines found.0) in
-    subst (λ ls. AreItemsOf dialect ls items) (sym none) found.2
+items_are_of_pieces dialect text pieces items h drained = grind (arith, items_so_far, same_pieces, flat_map-append, blank_lines, append-nil)
 
 -- the answers for pieces are those for what is left of them
 answers_of_lines : (dialect : Dialect) (pieces : List (List ℕ))
@@ -98,10 +84,7 @@ items_answer dialect (line ∷ lines) (item ∷ items) h = (h.0.answers, items_a
 
 -- so the items of a text are its answers
 pub items_are_answers : ItemsAreAnswers
-items_are_answers dialect text answers items has drained =
-    let items_of = items_are_of_pieces dialect text has.pieces items has.are drained in
-    subst (AreAnswers items) (sym (has.answered ∙ answers_of_lines dialect has.pieces))
-    (items_answer dialect (trimmed_lines has.pieces) items items_of)
+items_are_answers dialect text answers items has drained = grind (arith, items_are_of_pieces, answers_of_lines, items_answer)
 
 -- a line that is given was read
 pub given_lines_were_read : GivenLinesWereRead

@@ -90,8 +90,7 @@ longest_is text n (word ∷ words) =
 
 -- a front that is taken is one of the words
 pub word_front_is_word : WordFrontIsWord
-word_front_is_word words text some =
-    elim (longest_is text 0 words).one [ inl none ↦ absurd (omega arith) | inr here ↦ here ]
+word_front_is_word words text some = grind (arith, longest_is)
 
 -- and no longer front is one
 pub word_front_is_longest : WordFrontIsLongest

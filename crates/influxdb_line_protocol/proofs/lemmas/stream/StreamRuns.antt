@@ -3,7 +3,7 @@ use Rattle.std.proofs.Common.{◌≡◌, ℕ, List, [], ◌∷◌, ◌++◌, sub
 use Rattle.std.proofs.Common.{length-append, append-nil, refl, ap, Result}
 use Rattle.std.proofs.lemmas.List.{get_or_append_left, take-append-le}
 use Rattle.std.proofs.lemmas.Str.{IsUtf8-append}
-use Rattle.lp_format.specs.format.Pieces.{IsCutPiece, Pieces, Pieces.cut, Pieces.last, IsLastPiece}
+use Rattle.lp_format.specs.format.Pieces.{Pieces, Pieces.cut, Pieces.last, IsLastPiece}
 use Rattle.influxdb_line_protocol.specs.laws.StreamLaws.{FrontsKeepTheirCuts, TakenIsFirst, RunsGivePieces, RunsEnd, Utf8ByPieces}
 use Rattle.influxdb_line_protocol.specs.laws.StreamLaws.{Run.begun, Run.pushed, Run.taken, HaveAnswers, StreamsGiveAnswers}
 use Rattle.influxdb_line_protocol.specs.laws.StreamLaws.{StreamsAnswerAll, Run}
@@ -25,11 +25,7 @@ taken_is_first before after piece t others k h =
 
 -- a cut is told by the bytes before it
 pub fronts_keep_their_cuts : FrontsKeepTheirCuts
-fronts_keep_their_cuts dialect front rest i h = (
-  omega (arith, length-append front rest, h.0),
-  get_or_append_left front rest 0 i h.0 ∙ h.1,
-  subst (IsCutPiece dialect) (sym (take-append-le i front rest (omega (arith, h.0)))) h.2,
-)
+fronts_keep_their_cuts dialect front rest i h = grind (arith, length-append, get_or_append_left, take-append-le)
 
 -- whatever comes then, the pieces that were given, and those of what is held and comes, are the pieces of all
 pub runs_give_pieces : RunsGivePieces
@@ -78,14 +74,7 @@ answers_alone dialect (text ∷ texts) answers h k =
 
 -- the answers of the pieces, and of what is held and comes, are those of all
 pub streams_give_answers : StreamsGiveAnswers
-streams_give_answers dialect given pieces held t first others r h k =
-    record {
-      pieces = pieces ++ k.pieces;
-      are = runs_give_pieces dialect given pieces held t k.pieces r k.are;
-      answered = ap (λ xs. xs ++ others) (answers_alone dialect pieces first (given_are_single dialect given pieces held r) h)
-          ∙ ap (λ xs. answers_of dialect pieces ++ xs) k.answered
-          ∙ sym (flat_map-append (answers_of_piece dialect) pieces k.pieces);
-    }
+streams_give_answers dialect given pieces held t first others r h k = grind (arith, runs_give_pieces, answers_alone, given_are_single, flat_map-append)
 
 -- the answers of the last text are those after the others
 last_answers : (dialect : Dialect) (texts : List (List ℕ)) (text : List ℕ) (answers : List (Result Line Fault))

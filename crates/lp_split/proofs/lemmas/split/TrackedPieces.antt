@@ -62,10 +62,6 @@ pub cut_of_line : (dialect : Dialect) (bytes : List ℕ) → NeverComment dialec
     → IsCutPiece dialect bytes
 cut_of_line dialect bytes never closed is_bare = grind (arith, no_comment)
 
--- a newline ends a comment
-pub comment_ends : Leads Comment 10 None
-comment_ends = (refl, λ dialect bytes h. subst (λ (d : Dialect). IsCutPiece d bytes) (sym h.0) (inl h.1))
-
 -- another byte does not
 pub comment_goes_on : (b : ℕ) → b ≢ newline → Leads Comment b (Some Comment)
 comment_goes_on b n = λ dialect bytes h.

@@ -1,16 +1,11 @@
-use Rattle.std.proofs.Common.{inl, arith}
+use Rattle.std.proofs.Common.{arith}
 use Rattle.std.proofs.lemmas.List.{take_rest}
 use Rattle.lp_split.specs.code.Stops.{is_stop, is_mark}
-use Rattle.lp_split.proofs.lemmas.split.SplitSearches.{found_after, looks_for_two, passed_start, search_stops, search_goes_on, search_ends}
-use Rattle.lp_split.proofs.split.bare_len.Goals.{then-text-at-ne92-via-else-text-at-ne92+then-at-text}
-use Rattle.lp_split.proofs.split.bare_len.Goals.{then-text-at-ne92-via-then-text-at-ne92}
+use Rattle.lp_split.proofs.lemmas.split.SplitSearches.{found_after, looks_for_two, passed_start, search_goes_on, search_ends}
 use Rattle.lp_split.proofs.split.bare_len.Goals as goal
 
 pub loop-quiet-init : goal.loop-quiet-init
 loop-quiet-init c = passed_start (is_stop c.args.stops) c.args.text.now
-
-pub returns-then-run-lt-WIDE-clause-ends : goal.returns-then-run-lt-WIDE-clause-ends
-returns-then-run-lt-WIDE-clause-ends c = λ _. inl (c.stop_in-run.ensures.stops c.if-run-lt-WIDE.true)
 
 pub returns-in_default-clause-passed : goal.returns-in_default-clause-passed
 returns-in_default-clause-passed c =
@@ -23,16 +18,6 @@ returns-then-text-at-ne92-clause-passed c =
     let stops = c.args.stops in
     (found_after (is_mark stops) (is_stop stops) (looks_for_two stops.first stops.second c.requires) c.args.text.now _ c.loop-quiet.at
     (take_rest c.args.text.now c.loop-quiet.at) c.loop-quiet.invariant c.in-Some.found c.in-Some.ensures).0
-
-pub returns-then-text-at-ne92-clause-ends : goal.returns-then-text-at-ne92-clause-ends
-returns-then-text-at-ne92-clause-ends c = λ _.
-    let stops = c.args.stops in
-    search_stops (is_mark stops) (is_stop stops) (looks_for_two stops.first stops.second c.requires) c.args.text.now _ c.loop-quiet.at
-    (take_rest c.args.text.now c.loop-quiet.at) c.loop-quiet.invariant c.in-Some.found c.in-Some.ensures
-    (λ here. elim c.then-text-at-ne92.branch [
-      | then-text-at-ne92-via-then-text-at-ne92 w ↦ absurd (w.if-text-at-ne92.true here)
-      | then-text-at-ne92-via-else-text-at-ne92+then-at-text w ↦ w.if-at-text.true
-    ])
 
 pub loop-quiet-preserved : goal.loop-quiet-preserved
 loop-quiet-preserved c =

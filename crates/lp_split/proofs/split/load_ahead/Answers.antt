@@ -1,15 +1,8 @@
 use Rattle.std.proofs.Common.{arith}
 use Rattle.std.specs.Prelude.{◌==◌}
-use Rattle.lp_scan.proofs.lemmas.scan.BareMasks.{at_most_one}
 use Rattle.lp_split.proofs.lemmas.split.SplitStretches.{ends_plain, load_shows}
 use Rattle.lp_split.proofs.split.load_ahead.Goals as goal
 use Rattle.lp_format.specs.format.Bytes.{comma, equals}
-
-pub overflow_add-result-2 : goal.overflow_add-result-2
-overflow_add-result-2 c =
-    let text = c.args.text.now in
-    let last = c.escapes_next.ensures text c.args.at (omega arith) c.requires.starts_bare c.places_of-backslashes.ensures in
-    omega (arith, at_most_one text c.args.at c.requires.room c.escapes_next.result last)
 
 pub returns-clause-seen : goal.returns-clause-seen
 returns-clause-seen c =

@@ -1,15 +1,8 @@
-use Rattle.std.proofs.Common.{◌++◌, ◌∙◌, ◌+◌, List, ℕ, take, ap, append-nil, append_assoc, subst, sym, arith}
+use Rattle.std.proofs.Common.{◌++◌, ◌∙◌, ◌+◌, List, ℕ, take, ap, append_assoc, subst, sym, arith}
 use Rattle.std.proofs.lemmas.List.{take_all, take_more, take_rest}
 use Rattle.lp_split.specs.code.Tracks.{IsTrackOf}
 use Rattle.lp_split.proofs.lemmas.split.TrackedPieces.{leads_on}
 use Rattle.lp_split.proofs.split.tracked.track_on.Goals as goal
-
-pub loop-at-init : goal.loop-at-init
-loop-at-init c = record {
-  within = omega arith;
-  leads = λ dialect bytes h. subst (λ (t : List ℕ). IsTrackOf dialect t c.args.from) (sym (append-nil bytes)) h;
-  few = omega arith;
-}
 
 pub returns-in-None : goal.returns-in-None
 returns-in-None c =
