@@ -1,6 +1,7 @@
 //! What the crates of tests share: the fault that a test ends with, items as text, devices and memory that fail, texts in parts.
 #![tactic(auto)]
 
+pub mod building;
 pub mod cuts;
 pub mod drops;
 pub mod exhausted_memory;

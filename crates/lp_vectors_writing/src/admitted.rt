@@ -26,29 +26,35 @@ fn line_of<'a>(alloc: Global, names: [&'a str; 4]) -> Result<ParsedLine<'a>, All
     })
 }
 
+// Whether a line of these names is admitted.
+fn admits(alloc: Global, names: [&str; 4]) -> Result<bool, AllocError> {
+    let line = line_of(alloc, names)?;
+    Ok(is_admitted(&line))
+}
+
 // Each name is admitted so: as a measurement, and as any other name.
 fn are_admitted_so(
     rt: &impl Abort,
     alloc: Global,
     rows: &[(&str, bool, bool)],
-) -> Result<(), Fault> {
+) -> Result<(), AllocError> {
     for row in rows {
         let (name, as_measurement, as_other) = *row;
-        let line = line_of(alloc, [name, "k", "v", "f"])?;
-        assert_eq!(rt; is_admitted(&line), as_measurement, "measurement {name}");
-        let line = line_of(alloc, ["m", name, "v", "f"])?;
-        assert_eq!(rt; is_admitted(&line), as_other, "tag key {name}");
-        let line = line_of(alloc, ["m", "k", name, "f"])?;
-        assert_eq!(rt; is_admitted(&line), as_other, "tag value {name}");
-        let line = line_of(alloc, ["m", "k", "v", name])?;
-        assert_eq!(rt; is_admitted(&line), as_other, "field key {name}");
+        let admitted = admits(alloc, [name, "k", "v", "f"])?;
+        assert_eq!(rt; admitted, as_measurement, "measurement {name}");
+        let admitted = admits(alloc, ["m", name, "v", "f"])?;
+        assert_eq!(rt; admitted, as_other, "tag key {name}");
+        let admitted = admits(alloc, ["m", "k", name, "f"])?;
+        assert_eq!(rt; admitted, as_other, "tag value {name}");
+        let admitted = admits(alloc, ["m", "k", "v", name])?;
+        assert_eq!(rt; admitted, as_other, "field key {name}");
     }
     Ok(())
 }
 
 // The names of module `built` are among them.
 #[test]
-fn names_are_admitted_so(rt: HostRuntime) -> Result<(), Fault> {
+fn names_are_admitted_so(rt: HostRuntime) -> Result<(), AllocError> {
     are_admitted_so(
         &rt,
         rt.alloc(),
@@ -78,18 +84,19 @@ fn names_are_admitted_so(rt: HostRuntime) -> Result<(), Fault> {
     )
 }
 
+// What `write_line` makes of a line with a field.
+fn written(rt: &impl Abort, alloc: Global, line: &ParsedLine<'_>) -> Result<Vec<u8>, Fault> {
+    assert!(rt; line.field_set.len() > 0);
+    match write_line(LineProtocolBuilder::new(alloc), line) {
+        Ok(builder) => Ok(builder.build()),
+        Err(_) => Err(Fault::Unexpected),
+    }
+}
+
 #[test]
 fn a_line_is_written_again_so(rt: HostRuntime) -> Result<(), Fault> {
     let line = line_of(rt.alloc(), ["w\\\t", "k", "v", "f"])?;
-    assert!(rt; line.field_set.len() > 0);
-    match write_line(LineProtocolBuilder::new(rt.alloc()), &line) {
-        Ok(builder) => {
-            assert_eq!(rt;
-                str::from_utf8(builder.build().as_slice())?,
-                "w\\\\\t,k=v f=true\n"
-            );
-        }
-        Err(_) => return Err(Fault::Unexpected),
-    }
+    let bytes = written(&rt, rt.alloc(), &line)?;
+    assert_eq!(rt; bytes.as_slice(), b"w\\\\\t,k=v f=true\n".as_slice());
     Ok(())
 }

@@ -1,9 +1,11 @@
 //! What the builder writes, and that it reads back.
 
 use arrayvec::ArrayVec;
-use influxdb_line_protocol::builder::{BufMut, FieldValue, NoRoom};
+use influxdb_line_protocol::builder::{AfterMeasurement, BufMut, FieldValue, NoRoom, Refused};
 use influxdb_line_protocol::{FloatText, LineProtocolBuilder};
+use lp_vectors_shared::building::{begun, built, closed_at, tagged, with_field, with_next_field};
 use lp_vectors_shared::fault::Fault;
+use lp_vectors_shared::given::accepted;
 use lp_vectors_shared::render;
 use std::alloc::Global;
 use std::process::Abort;
@@ -30,53 +32,40 @@ impl FieldValue for Zeros {
     }
 }
 
-// What a call that must be accepted gave.
-fn accepted<T: Drop, E: Drop>(answer: Result<T, E>) -> Result<T, Fault> {
-    match answer {
-        Ok(value) => Ok(value),
-        Err(_) => Err(Fault::Unexpected),
+#[test]
+fn a_line_is_written_so(rt: HostRuntime) -> Result<(), Fault> {
+    let literal = FloatText::new("42").ok_or(Fault::Unexpected)?;
+    let line = tagged(begun(rt.alloc(), "foo")?, "bar", "baz")?;
+    let bytes = built(with_field(line, "qux", literal)?)?;
+    assert_eq!(rt; bytes.as_slice(), b"foo,bar=baz qux=42\n".as_slice());
+    Ok(())
+}
+
+// What a field of so many zeros that must be refused gave.
+fn refused(alloc: Global, count: u128) -> Result<Refused<Vec<u8>, AfterMeasurement>, Fault> {
+    match begun(alloc, "m")?.field("a", Zeros { count }) {
+        Ok(_) => Err(Fault::Unexpected),
+        Err(refused) => Ok(refused),
     }
 }
 
-#[test]
-fn a_line_is_written_so(rt: HostRuntime) -> Result<(), Fault> {
-    let builder = accepted(LineProtocolBuilder::new(rt.alloc()).measurement("foo"))?;
-    let builder = accepted(builder.tag("bar", "baz"))?;
-    let literal = FloatText::new("42").ok_or(Fault::Unexpected)?;
-    let builder = accepted(accepted(builder.field("qux", literal))?.close_line())?;
-    assert_eq!(rt;
-        builder.build().as_slice(),
-        b"foo,bar=baz qux=42\n".as_slice()
-    );
+// A field of so many zeros is refused for this cause, and another field is then accepted.
+fn is_refused(rt: &impl Abort, alloc: Global, count: u128, cause: NoRoom) -> Result<(), Fault> {
+    let refused = refused(alloc, count)?;
+    assert_eq!(rt; refused.cause, cause);
+    let bytes = built(with_field(refused.builder, "b", true)?)?;
+    assert_eq!(rt; bytes.as_slice(), b"m b=true\n".as_slice());
     Ok(())
 }
 
 #[test]
 fn a_value_may_be_too_long(rt: HostRuntime) -> Result<(), Fault> {
-    let builder = LineProtocolBuilder::new(rt.alloc());
-    let builder = accepted(accepted(builder.measurement("m"))?.field("a", Zeros { count: 3 }))?;
-    assert_eq!(rt;
-        accepted(builder.close_line())?.build().as_slice(),
-        b"m a=000\n".as_slice()
-    );
-
-    for (count, cause) in [
-        (18_446_744_073_709_551_616u128, NoRoom::TooLong),
-        (18_446_744_073_709_551_615u128, NoRoom::TooLong),
-        (18_446_744_073_709_551_605u128, NoRoom::OutOfMemory),
-    ] {
-        let builder = accepted(LineProtocolBuilder::new(rt.alloc()).measurement("m"))?;
-        match builder.field("a", Zeros { count }) {
-            Ok(_) => return Err(Fault::Unexpected),
-            Err(refused) => {
-                assert_eq!(rt; refused.cause, cause);
-                let builder = accepted(refused.builder.field("b", true))?;
-                let builder = accepted(builder.close_line())?;
-                assert_eq!(rt; builder.build().as_slice(), b"m b=true\n".as_slice());
-            }
-        }
-    }
-    Ok(())
+    let bytes = built(with_field(begun(rt.alloc(), "m")?, "a", Zeros { count: 3 })?)?;
+    assert_eq!(rt; bytes.as_slice(), b"m a=000\n".as_slice());
+    let alloc = rt.alloc();
+    is_refused(&rt, alloc, 18_446_744_073_709_551_616, NoRoom::TooLong)?;
+    is_refused(&rt, alloc, 18_446_744_073_709_551_615, NoRoom::TooLong)?;
+    is_refused(&rt, alloc, 18_446_744_073_709_551_605, NoRoom::OutOfMemory)
 }
 
 #[test]
@@ -134,6 +123,39 @@ const NAMES: &[(&str, &str, &str)] = &[
     ),
 ];
 
+// The items of what was built, rendered.
+fn items(alloc: Global, bytes: &[u8]) -> Result<String, Fault> {
+    Ok(render::items(alloc, str::from_utf8(bytes)?)?)
+}
+
+// What was built is this text, and these items.
+fn is_read_back(
+    rt: &impl Abort,
+    alloc: Global,
+    bytes: &[u8],
+    text: &str,
+    wanted: &str,
+) -> Result<(), Fault> {
+    let built = str::from_utf8(bytes)?;
+    assert_eq!(rt; built, text);
+    let items = render::items(alloc, built)?;
+    assert_eq!(rt; items.as_str(), wanted);
+    Ok(())
+}
+
+// A line of this name alone, with a field of each kind of value.
+fn line_of_each_value(alloc: Global, name: &str) -> Result<Vec<u8>, Fault> {
+    let literal = FloatText::new("51").ok_or(Fault::Unexpected)?;
+    let line = tagged(begun(alloc, name)?, name, name)?;
+    let line = with_field(line, name, false)?;
+    let line = with_next_field(line, name, 51i64)?;
+    let line = with_next_field(line, name, 51u64)?;
+    let line = with_next_field(line, name, literal)?;
+    let line = with_next_field(line, name, "some \" value")?;
+    let lines = closed_at(line, 1234)?;
+    Ok(lines.build())
+}
+
 // Each name reads back where it is all names of a line with each kind of value: the measurement and the keys so.
 fn read_back_with_each_value(
     rt: &impl Abort,
@@ -142,22 +164,12 @@ fn read_back_with_each_value(
 ) -> Result<(), Fault> {
     for row in rows {
         let (name, measurement, key) = *row;
-        let builder = LineProtocolBuilder::new(alloc);
-        let builder = accepted(builder.measurement(name))?;
-        let builder = accepted(builder.tag(name, name))?;
-        let builder = accepted(builder.field(name, false))?;
-        let builder = accepted(builder.field(name, 51i64))?;
-        let builder = accepted(builder.field(name, 51u64))?;
-        let literal = FloatText::new("51").ok_or(Fault::Unexpected)?;
-        let builder = accepted(builder.field(name, literal))?;
-        let builder = accepted(builder.field(name, "some \" value"))?;
-        let builder = accepted(accepted(builder.timestamp(1234))?.close_line())?;
-        let bytes = builder.build();
-        let text = str::from_utf8(bytes.as_slice())?;
         let wanted = format!(in alloc;
             "{measurement},{key}={key} {key}=false {key}=51i {key}=51u {key}=f<51> {key}=C<some \" value> at 1234"
         )?;
-        assert_eq!(rt; render::items(alloc, text)?.as_str(), wanted.as_str());
+        let bytes = line_of_each_value(alloc, name)?;
+        let items = items(alloc, bytes.as_slice())?;
+        assert_eq!(rt; items.as_str(), wanted.as_str());
     }
     Ok(())
 }
@@ -174,13 +186,9 @@ fn strings_read_back(
     rows: &[(&str, &str, &str)],
 ) -> Result<(), Fault> {
     for row in rows {
-        let (text, wanted, item) = *row;
-        let builder = LineProtocolBuilder::new(alloc);
-        let builder = accepted(accepted(builder.measurement("m"))?.field("s", text))?;
-        let bytes = accepted(builder.close_line())?.build();
-        let built = str::from_utf8(bytes.as_slice())?;
-        assert_eq!(rt; built, wanted);
-        assert_eq!(rt; render::items(alloc, built)?.as_str(), item);
+        let (string, text, wanted) = *row;
+        let bytes = built(with_field(begun(alloc, "m")?, "s", string)?)?;
+        is_read_back(rt, alloc, bytes.as_slice(), text, wanted)?;
     }
     Ok(())
 }
@@ -219,13 +227,9 @@ fn names_read_back(
     rows: &[(&str, &str, &str, &str)],
 ) -> Result<(), Fault> {
     for row in rows {
-        let (measurement, key, bytes, wanted) = *row;
-        let builder = LineProtocolBuilder::new(alloc);
-        let builder = accepted(accepted(builder.measurement(measurement))?.field(key, 1i64))?;
-        let built = accepted(builder.close_line())?.build();
-        let text = str::from_utf8(built.as_slice())?;
-        assert_eq!(rt; text, bytes);
-        assert_eq!(rt; render::items(alloc, text)?.as_str(), wanted);
+        let (measurement, key, text, wanted) = *row;
+        let bytes = built(with_field(begun(alloc, measurement)?, key, 1i64)?)?;
+        is_read_back(rt, alloc, bytes.as_slice(), text, wanted)?;
     }
     Ok(())
 }
@@ -252,13 +256,10 @@ fn tags_read_back(
     rows: &[(&str, &str, &str, &str)],
 ) -> Result<(), Fault> {
     for row in rows {
-        let (key, value, bytes, wanted) = *row;
-        let builder = LineProtocolBuilder::new(alloc);
-        let builder = accepted(accepted(builder.measurement("m"))?.tag(key, value))?;
-        let built = accepted(accepted(builder.field("f", 1i64))?.close_line())?.build();
-        let text = str::from_utf8(built.as_slice())?;
-        assert_eq!(rt; text, bytes);
-        assert_eq!(rt; render::items(alloc, text)?.as_str(), wanted);
+        let (key, value, text, wanted) = *row;
+        let line = tagged(begun(alloc, "m")?, key, value)?;
+        let bytes = built(with_field(line, "f", 1i64)?)?;
+        is_read_back(rt, alloc, bytes.as_slice(), text, wanted)?;
     }
     Ok(())
 }
@@ -283,32 +284,36 @@ fn tags_that_are_not_admitted_read_back_otherwise(rt: HostRuntime) -> Result<(),
 
 #[test]
 fn a_string_may_hold_a_newline(rt: HostRuntime) -> Result<(), Fault> {
-    let builder = accepted(LineProtocolBuilder::new(rt.alloc()).measurement("#x"))?;
-    let builder = accepted(accepted(builder.field("f", "a\nm k"))?.field("c", 1i64))?;
-    let built = accepted(builder.close_line())?.build();
-    let text = str::from_utf8(built.as_slice())?;
-    assert_eq!(rt; text, "#x f=\"a\nm k\",c=1i\n");
-    assert_eq!(rt;
-        render::items(rt.alloc(), text)?.as_str(),
-        "S<m> S<k\",c>=1i"
-    );
-    Ok(())
+    let line = with_field(begun(rt.alloc(), "#x")?, "f", "a\nm k")?;
+    let bytes = built(with_next_field(line, "c", 1i64)?)?;
+    let text = "#x f=\"a\nm k\",c=1i\n";
+    is_read_back(&rt, rt.alloc(), bytes.as_slice(), text, "S<m> S<k\",c>=1i")
 }
 
-// A line of a measurement, perhaps a tag, and one field that is true.
-fn true_line(
+// Appends a line of a measurement, perhaps a tag, and one field that is true.
+fn push_true_line(
     alloc: Global,
+    batch: &mut Vec<u8>,
     measurement: &str,
     tag: Option<(&str, &str)>,
     key: &str,
-) -> Result<Vec<u8>, Fault> {
-    let builder = accepted(LineProtocolBuilder::new(alloc).measurement(measurement))?;
-    let builder = match tag {
-        Some((tag_key, tag_value)) => accepted(builder.tag(tag_key, tag_value))?,
-        None => builder,
-    };
-    let builder = accepted(accepted(builder.field(key, true))?.close_line())?;
-    Ok(builder.build())
+) -> Result<(), Fault> {
+    let mut line = begun(alloc, measurement)?;
+    if let Some((tag_key, tag_value)) = tag {
+        line = tagged(line, tag_key, tag_value)?;
+    }
+    let bytes = built(with_field(line, key, true)?)?;
+    Ok(batch.extend_from_slice(bytes.as_slice())?)
+}
+
+// Lines that have this name as a measurement, a tag's key, a tag's value and a field's key.
+fn lines_of_each_place(alloc: Global, name: &str) -> Result<Vec<u8>, Fault> {
+    let mut batch = Vec::new(alloc);
+    push_true_line(alloc, &mut batch, name, None, "dummy")?;
+    push_true_line(alloc, &mut batch, "m", Some((name, "dummy")), "dummy")?;
+    push_true_line(alloc, &mut batch, "m", Some(("dummy", name)), "dummy")?;
+    push_true_line(alloc, &mut batch, "m", None, name)?;
+    Ok(batch)
 }
 
 // Each name reads back in each place of a line: as a measurement, and as any other name, so.
@@ -319,15 +324,12 @@ fn read_back_in_each_place(
 ) -> Result<(), Fault> {
     for row in rows {
         let (name, measurement, key) = *row;
-        let mut batch = true_line(alloc, name, None, "dummy")?;
-        batch.append(&mut true_line(alloc, "m", Some((name, "dummy")), "dummy")?)?;
-        batch.append(&mut true_line(alloc, "m", Some(("dummy", name)), "dummy")?)?;
-        batch.append(&mut true_line(alloc, "m", None, name)?)?;
-        let rendered = render::items(alloc, str::from_utf8(batch.as_slice())?)?;
         let wanted = format!(in alloc;
             "{measurement} S<dummy>=true|S<m>,{key}=S<dummy> S<dummy>=true|S<m>,S<dummy>={key} S<dummy>=true|S<m> {key}=true"
         )?;
-        assert_eq!(rt; rendered.as_str(), wanted.as_str());
+        let batch = lines_of_each_place(alloc, name)?;
+        let items = items(alloc, batch.as_slice())?;
+        assert_eq!(rt; items.as_str(), wanted.as_str());
     }
     Ok(())
 }
@@ -339,14 +341,9 @@ fn a_name_reads_back_in_each_place(rt: HostRuntime) -> Result<(), Fault> {
 
 #[test]
 fn a_timestamp_reads_back(rt: HostRuntime) -> Result<(), Fault> {
-    let builder = accepted(LineProtocolBuilder::new(rt.alloc()).measurement("m"))?;
-    let builder = accepted(accepted(builder.field("dummy", true))?.timestamp(1234))?;
-    let bytes = accepted(builder.close_line())?.build();
-    let text = str::from_utf8(bytes.as_slice())?;
-    assert_eq!(rt; text, "m dummy=true 1234\n");
-    assert_eq!(rt;
-        render::items(rt.alloc(), text)?.as_str(),
-        "S<m> S<dummy>=true at 1234"
-    );
-    Ok(())
+    let line = with_field(begun(rt.alloc(), "m")?, "dummy", true)?;
+    let bytes = closed_at(line, 1234)?.build();
+    let text = "m dummy=true 1234\n";
+    let wanted = "S<m> S<dummy>=true at 1234";
+    is_read_back(&rt, rt.alloc(), bytes.as_slice(), text, wanted)
 }

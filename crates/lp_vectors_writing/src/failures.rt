@@ -1,12 +1,13 @@
 //! Runs of the program over devices that fail, at each call in turn. The answers come from the format's rules.
 
-use lp_rebuild::{Kept, Reading, RunFault, Writing, run};
+use crate::wrote::{Ended, relayed, run_into, run_over};
+use lp_rebuild::{Reading, RunFault, Writing, run};
 use lp_relay_core::relay;
 use lp_vectors_shared::drops::{Basin, Trickle};
-use lp_vectors_shared::fault::Fault;
-use std::alloc::Global;
+use std::alloc::{AllocError, Global};
 use std::cell::Cell;
 use std::io::{self, Read, Write};
+use std::process::Abort;
 
 const TEXT: &[u8] = b"m a=T 5\n# c\nx\nw\\\t a=1i\n";
 
@@ -15,33 +16,18 @@ const OUT: &[u8] = b"m a=true 5\n";
 const ERR: &[u8] =
     b"item 2: A generic parsing error occurred: TakeWhile1\nitem 3: a name cannot be written again\n";
 
-// A run over the text: its answer, and what the sinks hold.
-#[derive(Drop)]
-struct Ended {
-    fault: Option<RunFault>,
-    out: Basin,
-    err: Basin,
-}
-
 // Runs over the text, where each device fails at its call, and at none where that is 0.
 fn run_with(alloc: Global, reader_at: usize, out_at: usize, err_at: usize) -> Ended {
     let mut reader = Trickle::new(TEXT, reader_at);
-    let mut out = Basin::new(out_at);
-    let mut err = Basin::new(err_at);
-    let fault = run(alloc, &mut reader, &mut out, &mut err).err();
-    Ended { fault, out, err }
+    run_into(alloc, &mut reader, out_at, err_at)
 }
 
 #[test]
 fn a_run_is_the_same_byte_by_byte(rt: HostRuntime) {
     // The reader says at one call more than there are bytes that it is at its end.
-    for reader_at in [0, TEXT.len() + 2] {
-        let ended = run_with(rt.alloc(), reader_at, OUT.len() + 2, ERR.len() + 2);
-        assert_eq!(rt; ended.fault, None);
-        assert_eq!(rt; ended.out.as_slice(), OUT);
-        assert_eq!(rt; ended.err.as_slice(), ERR);
-        assert_eq!(rt; ended.out.flushes(), 1);
-        assert_eq!(rt; ended.err.flushes(), 1);
+    for reader_at in [0, TEXT.len() + 2].as_slice() {
+        let ended = run_with(rt.alloc(), *reader_at, OUT.len() + 2, ERR.len() + 2);
+        ended.assert_is(&rt, None, OUT, ERR, *reader_at);
     }
 }
 
@@ -49,9 +35,7 @@ fn a_run_is_the_same_byte_by_byte(rt: HostRuntime) {
 fn a_reader_that_fails_leaves_both_outputs_empty(rt: HostRuntime) {
     for reader_at in 1..TEXT.len() + 2 {
         let ended = run_with(rt.alloc(), reader_at, 0, 0);
-        assert_eq!(rt; ended.fault, Some(RunFault::Read), "at {reader_at}");
-        assert!(rt; ended.out.as_slice().is_empty(), "at {reader_at}");
-        assert!(rt; ended.err.as_slice().is_empty(), "at {reader_at}");
+        ended.assert_is(&rt, Some(RunFault::Read), b"", b"", reader_at);
     }
 }
 
@@ -60,9 +44,7 @@ fn a_reader_that_fails_leaves_both_outputs_empty(rt: HostRuntime) {
 fn an_output_that_fails_holds_what_it_took_before(rt: HostRuntime) {
     for out_at in 1..OUT.len() + 2 {
         let ended = run_with(rt.alloc(), 0, out_at, 0);
-        assert_eq!(rt; ended.fault, Some(RunFault::Write), "at {out_at}");
-        assert_eq!(rt; ended.out.as_slice(), &OUT[..out_at - 1], "at {out_at}");
-        assert!(rt; ended.err.as_slice().is_empty(), "at {out_at}");
+        ended.assert_is(&rt, Some(RunFault::Write), &OUT[..out_at - 1], b"", out_at);
     }
 }
 
@@ -70,21 +52,15 @@ fn an_output_that_fails_holds_what_it_took_before(rt: HostRuntime) {
 fn faults_that_cannot_be_written_come_after_the_whole_batch(rt: HostRuntime) {
     for err_at in 1..ERR.len() + 2 {
         let ended = run_with(rt.alloc(), 0, 0, err_at);
-        assert_eq!(rt; ended.fault, Some(RunFault::Write), "at {err_at}");
-        assert_eq!(rt; ended.out.as_slice(), OUT, "at {err_at}");
-        assert_eq!(rt; ended.err.as_slice(), &ERR[..err_at - 1], "at {err_at}");
+        ended.assert_is(&rt, Some(RunFault::Write), OUT, &ERR[..err_at - 1], err_at);
     }
 }
 
 #[test]
 fn input_that_is_no_text_leaves_both_outputs_empty(rt: HostRuntime) {
     let mut reader = Trickle::new(b"m a=1i\n\xc3", 0);
-    let mut out = Basin::new(0);
-    let mut err = Basin::new(0);
-    let answer = run(rt.alloc(), &mut reader, &mut out, &mut err);
-    assert_eq!(rt; answer.err(), Some(RunFault::NotUtf8));
-    assert!(rt; out.as_slice().is_empty());
-    assert!(rt; err.as_slice().is_empty());
+    let ended = run_into(rt.alloc(), &mut reader, 0, 0);
+    ended.assert_is(&rt, Some(RunFault::NotUtf8), b"", b"", 0);
 }
 
 // A writer of std that takes nothing, or all, and counts its writes and its flushes.
@@ -108,29 +84,44 @@ impl<'a> Write for Counted<'a> {
     }
 }
 
+// The fault of a run over the text into these writers.
+fn run_to<W: Write + Drop, E: Write + Drop>(alloc: Global, out: W, err: E) -> Option<RunFault> {
+    let mut reader = TEXT;
+    let mut out = Writing::new(out);
+    let mut err = Writing::new(err);
+    run(alloc, &mut reader, &mut out, &mut err).err()
+}
+
+// A run over the text ends so where the output and the faults are taken or not, with so many writes and flushes of each.
+fn ends_so(
+    rt: &impl Abort,
+    alloc: Global,
+    takes: (bool, bool),
+    fault: Option<RunFault>,
+    out_wanted: (usize, usize),
+    err_wanted: (usize, usize),
+) {
+    let (out_calls, err_calls) = (Cell::new((0, 0)), Cell::new((0, 0)));
+    let out = Counted {
+        takes: takes.0,
+        calls: &out_calls,
+    };
+    let err = Counted {
+        takes: takes.1,
+        calls: &err_calls,
+    };
+    assert_eq!(rt; run_to(alloc, out, err), fault);
+    assert_eq!(rt; out_calls.get(), out_wanted);
+    assert_eq!(rt; err_calls.get(), err_wanted);
+}
+
 // A writer is handed all at once, so one that takes all is called once.
 #[test]
 fn a_writer_that_takes_nothing_has_failed(rt: HostRuntime) {
-    for (out_takes, err_takes, fault, out_wanted, err_wanted) in [
-        (true, true, None, (1, 1), (1, 1)),
-        (false, true, Some(RunFault::Write), (1, 0), (0, 0)),
-        (true, false, Some(RunFault::Write), (1, 1), (1, 0)),
-    ] {
-        let (out_calls, err_calls) = (Cell::new((0, 0)), Cell::new((0, 0)));
-        let mut reader = TEXT;
-        let mut out = Writing::new(Counted {
-            takes: out_takes,
-            calls: &out_calls,
-        });
-        let mut err = Writing::new(Counted {
-            takes: err_takes,
-            calls: &err_calls,
-        });
-        let answer = run(rt.alloc(), &mut reader, &mut out, &mut err);
-        assert_eq!(rt; answer.err(), fault);
-        assert_eq!(rt; out_calls.get(), out_wanted);
-        assert_eq!(rt; err_calls.get(), err_wanted);
-    }
+    let (alloc, fault) = (rt.alloc(), Some(RunFault::Write));
+    ends_so(&rt, alloc, (true, true), None, (1, 1), (1, 1));
+    ends_so(&rt, alloc, (false, true), fault, (1, 0), (0, 0));
+    ends_so(&rt, alloc, (true, false), fault, (1, 1), (1, 0));
 }
 
 // A writer of std that takes all, and fails at each flush.
@@ -147,24 +138,41 @@ impl Write for Stuck {
     }
 }
 
+// The fault of a run over the text whose output is stuck, and what it wrote of the fault lines.
+fn run_with_stuck_output(alloc: Global) -> (Option<RunFault>, Basin) {
+    let mut reader = TEXT;
+    let mut err = Basin::new(0);
+    let fault = run(alloc, &mut reader, &mut Writing::new(Stuck), &mut err).err();
+    (fault, err)
+}
+
+// The fault of a run over the text whose fault lines are stuck, and what it wrote of the output.
+fn run_with_stuck_faults(alloc: Global) -> (Option<RunFault>, Basin) {
+    let mut reader = TEXT;
+    let mut out = Basin::new(0);
+    let fault = run(alloc, &mut reader, &mut out, &mut Writing::new(Stuck)).err();
+    (fault, out)
+}
+
+// The same of a relay.
+fn relay_with_stuck_faults(alloc: Global) -> (Option<RunFault>, Basin) {
+    let mut reader = TEXT;
+    let mut out = Basin::new(0);
+    let fault = relay(alloc, &mut reader, &mut out, &mut Writing::new(Stuck)).err();
+    (fault, out)
+}
+
+// It is a failed write, and the other sink holds this.
+fn is_failed_write(rt: &impl Abort, ended: (Option<RunFault>, Basin), other: &[u8]) {
+    assert_eq!(rt; ended.0, Some(RunFault::Write));
+    assert_eq!(rt; ended.1.as_slice(), other);
+}
+
 #[test]
 fn a_flush_that_fails_is_a_failed_write(rt: HostRuntime) {
-    let mut reader = TEXT;
-    let mut stuck = Writing::new(Stuck);
-    let mut other = Basin::new(0);
-    let answer = run(rt.alloc(), &mut reader, &mut stuck, &mut other);
-    assert_eq!(rt; answer.err(), Some(RunFault::Write));
-    assert!(rt; other.as_slice().is_empty());
-    let mut reader = TEXT;
-    let mut other = Basin::new(0);
-    let answer = run(rt.alloc(), &mut reader, &mut other, &mut stuck);
-    assert_eq!(rt; answer.err(), Some(RunFault::Write));
-    assert_eq!(rt; other.as_slice(), OUT);
-    let mut reader = TEXT;
-    let mut other = Basin::new(0);
-    let answer = relay(rt.alloc(), &mut reader, &mut other, &mut stuck);
-    assert_eq!(rt; answer.err(), Some(RunFault::Write));
-    assert_eq!(rt; other.as_slice(), OUT);
+    is_failed_write(&rt, run_with_stuck_output(rt.alloc()), b"");
+    is_failed_write(&rt, run_with_stuck_faults(rt.alloc()), OUT);
+    is_failed_write(&rt, relay_with_stuck_faults(rt.alloc()), OUT);
 }
 
 // A reader of std that gives so many bytes at each call, and fails at one where that is `None`. After these it is at its end.
@@ -191,35 +199,49 @@ impl<'a> Read for Stepped<'a> {
     }
 }
 
-// A full block is 65,536 bytes, which are 9,362 of the 10,000 lines, and 2 bytes.
+// A full block, which are 9,362 of the 10,000 lines, and 2 bytes; and a short step.
+const FULL: Option<usize> = Some(65_536);
+
+const SHORT: Option<usize> = Some(3);
+
+// What a reader gives; how a relay and a run of it end; and how many bytes the one and the other write.
+type Row = ([Option<usize>; 3], Option<RunFault>, usize, usize);
+
+// All that a reader gives of these bytes is read until it fails.
+fn is_read_so(rt: &impl Abort, alloc: Global, left: &[u8], row: &Row) {
+    let (steps, fault, relayed_len, run_len) = row;
+    let steps = steps.as_slice();
+    let wrote = relayed(alloc, &mut Reading::new(Stepped { left, steps }));
+    assert_eq!(rt; wrote.answer.err(), *fault);
+    assert_eq!(rt; Some(wrote.out.as_slice()), left.get(..*relayed_len));
+    let ran = run_over(alloc, &mut Reading::new(Stepped { left, steps }));
+    assert_eq!(rt; ran.fault(), *fault);
+    assert_eq!(rt; Some(ran.out.as_slice()), left.get(..*run_len));
+}
+
+// So it is for each row.
+fn are_read_so(rt: &impl Abort, alloc: Global, left: &[u8], rows: &[Row]) {
+    for row in rows {
+        is_read_so(rt, alloc, left, row);
+    }
+}
+
 #[test]
-fn all_that_a_reader_gives_is_read_until_it_fails(rt: HostRuntime) -> Result<(), Fault> {
-    let mut text = Vec::new(rt.alloc());
-    for _ in 0..10_000 {
-        text.extend_from_slice(b"m a=1i\n")?;
-    }
-    let (full, short) = (Some(65_536), Some(3));
-    for (steps, fault, relayed, written) in [
-        ([full, full, full], None, 70_000, 70_000),
-        ([full, short, full], None, 70_000, 70_000),
-        ([short, full, full], None, 70_000, 70_000),
-        ([full, None, full], Some(RunFault::Read), 65_534, 0),
-        ([full, short, None], Some(RunFault::Read), 65_534, 0),
-        ([short, None, full], Some(RunFault::Read), 0, 0),
-        ([None, full, full], Some(RunFault::Read), 0, 0),
-    ] {
-        let (left, steps) = (text.as_slice(), steps.as_slice());
-        let mut reader = Reading::new(Stepped { left, steps });
-        let mut out = Kept::new(rt.alloc());
-        let mut err = Kept::new(rt.alloc());
-        let answer = relay(rt.alloc(), &mut reader, &mut out, &mut err);
-        assert_eq!(rt; answer.err(), fault);
-        assert_eq!(rt; Some(out.as_slice()), text.get(..relayed));
-        let mut reader = Reading::new(Stepped { left, steps });
-        let mut out = Kept::new(rt.alloc());
-        let answer = run(rt.alloc(), &mut reader, &mut out, &mut err);
-        assert_eq!(rt; answer.err(), fault);
-        assert_eq!(rt; Some(out.as_slice()), text.get(..written));
-    }
+fn all_that_a_reader_gives_is_read_until_it_fails(rt: HostRuntime) -> Result<(), AllocError> {
+    let text = "m a=1i\n".repeat(rt.alloc(), 10_000)?;
+    are_read_so(
+        &rt,
+        rt.alloc(),
+        text.as_bytes(),
+        &[
+            ([FULL, FULL, FULL], None, 70_000, 70_000),
+            ([FULL, SHORT, FULL], None, 70_000, 70_000),
+            ([SHORT, FULL, FULL], None, 70_000, 70_000),
+            ([FULL, None, FULL], Some(RunFault::Read), 65_534, 0),
+            ([FULL, SHORT, None], Some(RunFault::Read), 65_534, 0),
+            ([SHORT, None, FULL], Some(RunFault::Read), 0, 0),
+            ([None, FULL, FULL], Some(RunFault::Read), 0, 0),
+        ],
+    );
     Ok(())
 }

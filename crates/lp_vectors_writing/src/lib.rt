@@ -27,3 +27,5 @@ mod runs;
 mod series;
 #[cfg(test)]
 mod small_buffers;
+#[cfg(test)]
+mod wrote;

@@ -1,30 +1,42 @@
 //! Where texts are cut into parts, and what the parts give. The ends were worked out by hand from the format's rules.
 
 use influxdb_line_protocol::Dialect;
-use lp_rebuild::rebuild_in;
+use lp_rebuild::{Rebuilt, rebuild_in};
 use lp_relay_core::part_ends;
 use lp_vectors_shared::fault::Fault;
-use std::alloc::Global;
+use std::alloc::{AllocError, Global};
 use std::process::Abort;
+
+// The text is cut into so many parts at these ends, in this dialect.
+fn is_parted_so(
+    rt: &impl Abort,
+    alloc: Global,
+    dialect: Dialect,
+    text: &str,
+    count: usize,
+    wanted: &[usize],
+) -> Result<(), AllocError> {
+    let ends = part_ends(alloc, dialect, text.as_bytes(), count)?;
+    assert_eq!(rt; ends.as_slice(), wanted, "{count} parts of {text}");
+    Ok(())
+}
 
 // Each text is cut into so many parts at these ends, in both dialects.
 fn are_parted_so(
     rt: &impl Abort,
     alloc: Global,
     rows: &[(&str, usize, &[usize])],
-) -> Result<(), Fault> {
+) -> Result<(), AllocError> {
     for row in rows {
         let (text, count, wanted) = *row;
-        for dialect in [Dialect::Crate, Dialect::Strict] {
-            let ends = part_ends(alloc, dialect, text.as_bytes(), count)?;
-            assert_eq!(rt; ends.as_slice(), wanted, "{count} parts of {text}");
-        }
+        is_parted_so(rt, alloc, Dialect::Crate, text, count, wanted)?;
+        is_parted_so(rt, alloc, Dialect::Strict, text, count, wanted)?;
     }
     Ok(())
 }
 
 #[test]
-fn lines_are_parted_so(rt: HostRuntime) -> Result<(), Fault> {
+fn lines_are_parted_so(rt: HostRuntime) -> Result<(), AllocError> {
     are_parted_so(
         &rt,
         rt.alloc(),
@@ -64,17 +76,16 @@ fn are_parted_so_in(
     rt: &impl Abort,
     alloc: Global,
     rows: &[(Dialect, &str, usize, &[usize])],
-) -> Result<(), Fault> {
+) -> Result<(), AllocError> {
     for row in rows {
         let (dialect, text, count, wanted) = *row;
-        let ends = part_ends(alloc, dialect, text.as_bytes(), count)?;
-        assert_eq!(rt; ends.as_slice(), wanted, "{count} parts of {text}");
+        is_parted_so(rt, alloc, dialect, text, count, wanted)?;
     }
     Ok(())
 }
 
 #[test]
-fn comments_are_parted_by_the_rules_of_the_dialect(rt: HostRuntime) -> Result<(), Fault> {
+fn comments_are_parted_by_the_rules_of_the_dialect(rt: HostRuntime) -> Result<(), AllocError> {
     are_parted_so_in(
         &rt,
         rt.alloc(),
@@ -100,65 +111,109 @@ fn comments_are_parted_by_the_rules_of_the_dialect(rt: HostRuntime) -> Result<()
 }
 
 #[test]
-fn bytes_that_are_no_text_are_parted_too(rt: HostRuntime) -> Result<(), Fault> {
+fn bytes_that_are_no_text_are_parted_too(rt: HostRuntime) -> Result<(), AllocError> {
     let ends = part_ends(rt.alloc(), Dialect::Crate, b"\xff\nm a=1i\n", 5)?;
     assert_eq!(rt; ends.as_slice(), [2, 9, 9, 9, 9].as_slice());
     Ok(())
 }
 
+// Twenty thousand lines are cut into so many parts at these ends.
+fn are_lines_parted_so(
+    rt: &impl Abort,
+    alloc: Global,
+    count: usize,
+    wanted: &[usize],
+) -> Result<(), AllocError> {
+    let text = "m a=1i\n".repeat(alloc, 20_000)?;
+    let ends = part_ends(alloc, Dialect::Crate, text.as_bytes(), count)?;
+    assert_eq!(rt; ends.as_slice(), wanted);
+    Ok(())
+}
+
 #[test]
-fn a_text_of_many_blocks_is_parted_so(rt: HostRuntime) -> Result<(), Fault> {
-    let mut text = String::new(rt.alloc());
-    for _ in 0..20_000 {
-        text.push_str("m a=1i\n")?;
-    }
-    for (count, wanted) in [
-        (3, [46_669, 93_338, 140_000].as_slice()),
-        (4, [35_000, 70_000, 105_000, 140_000].as_slice()),
-    ] {
-        let ends = part_ends(rt.alloc(), Dialect::Crate, text.as_bytes(), count)?;
-        assert_eq!(rt; ends.as_slice(), wanted);
+fn a_text_of_many_blocks_is_parted_so(rt: HostRuntime) -> Result<(), AllocError> {
+    are_lines_parted_so(&rt, rt.alloc(), 3, &[46_669, 93_338, 140_000])?;
+    are_lines_parted_so(&rt, rt.alloc(), 4, &[35_000, 70_000, 105_000, 140_000])
+}
+
+// What parts of a text gave, rebuilt one after another, and how many items each of the two holds.
+#[derive(Drop)]
+struct Parts {
+    batch: Vec<u8>,
+    carried: usize,
+    refused: usize,
+}
+
+// Rebuilds one part more.
+fn push_part(alloc: Global, dialect: Dialect, part: &[u8], parts: &mut Parts) -> Result<(), Fault> {
+    let rebuilt = rebuild_in(alloc, dialect, str::from_utf8(part)?)?;
+    parts.carried = parts.carried.saturating_add(rebuilt.carried);
+    parts.refused = parts.refused.saturating_add(rebuilt.refused);
+    Ok(parts.batch.extend_from_slice(rebuilt.batch.as_slice())?)
+}
+
+// Rebuilds each part of a text that ends there.
+fn push_parts(
+    alloc: Global,
+    dialect: Dialect,
+    text: &str,
+    ends: &[usize],
+    parts: &mut Parts,
+) -> Result<(), Fault> {
+    let mut start = 0;
+    for end in ends {
+        let part = text.as_bytes().get(start..*end).ok_or(Fault::Unexpected)?;
+        push_part(alloc, dialect, part, parts)?;
+        start = *end;
     }
     Ok(())
 }
 
-// What the parts of a text give when each is rebuilt alone, one after another, and how many items each of the two holds.
-fn rebuilt_apart(
+// So many parts of a text are rebuilt as the whole was.
+fn is_rebuilt_in_parts(
+    rt: &impl Abort,
     alloc: Global,
     dialect: Dialect,
     text: &str,
     count: usize,
-) -> Result<(Vec<u8>, usize, usize), Fault> {
-    let mut batch = Vec::new(alloc);
-    let (mut start, mut carried, mut refused) = (0, 0usize, 0usize);
-    for end in part_ends(alloc, dialect, text.as_bytes(), count)?.iter() {
-        let part = text.as_bytes().get(start..*end).ok_or(Fault::Unexpected)?;
-        let rebuilt = rebuild_in(alloc, dialect, str::from_utf8(part)?)?;
-        batch.extend_from_slice(rebuilt.batch.as_slice())?;
-        carried = carried.saturating_add(rebuilt.carried);
-        refused = refused.saturating_add(rebuilt.refused);
-        start = *end;
-    }
-    Ok((batch, carried, refused))
+    whole: &Rebuilt,
+) -> Result<(), Fault> {
+    let ends = part_ends(alloc, dialect, text.as_bytes(), count)?;
+    let mut parts = Parts {
+        batch: Vec::new(alloc),
+        carried: 0,
+        refused: 0,
+    };
+    push_parts(alloc, dialect, text, ends.as_slice(), &mut parts)?;
+    assert_eq!(rt;
+        parts.batch.as_slice(),
+        whole.batch.as_slice(),
+        "{count} parts of {text}"
+    );
+    assert_eq!(rt; parts.carried, whole.carried, "{count} parts of {text}");
+    assert_eq!(rt; parts.refused, whole.refused, "{count} parts of {text}");
+    Ok(())
 }
 
-// The parts of each text, however many, are rebuilt as the whole is.
+// The parts of a text, however many, are rebuilt as the whole is.
+fn is_rebuilt_apart(
+    rt: &impl Abort,
+    alloc: Global,
+    dialect: Dialect,
+    text: &str,
+) -> Result<(), Fault> {
+    let whole = rebuild_in(alloc, dialect, text)?;
+    for count in 0..12 {
+        is_rebuilt_in_parts(rt, alloc, dialect, text, count, &whole)?;
+    }
+    Ok(())
+}
+
+// So are those of each text, in both dialects.
 fn are_rebuilt_apart(rt: &impl Abort, alloc: Global, rows: &[&str]) -> Result<(), Fault> {
-    for row in rows {
-        let text = *row;
-        for dialect in [Dialect::Crate, Dialect::Strict] {
-            let whole = rebuild_in(alloc, dialect, text)?;
-            for count in 0..12 {
-                let (batch, carried, refused) = rebuilt_apart(alloc, dialect, text, count)?;
-                assert_eq!(rt;
-                    batch.as_slice(),
-                    whole.batch.as_slice(),
-                    "{count} parts of {text}"
-                );
-                assert_eq!(rt; carried, whole.carried, "{count} parts of {text}");
-                assert_eq!(rt; refused, whole.refused, "{count} parts of {text}");
-            }
-        }
+    for text in rows {
+        is_rebuilt_apart(rt, alloc, Dialect::Crate, *text)?;
+        is_rebuilt_apart(rt, alloc, Dialect::Strict, *text)?;
     }
     Ok(())
 }

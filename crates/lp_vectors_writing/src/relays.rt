@@ -1,12 +1,11 @@
 //! Relays over devices that move some bytes at each call, and that fail at each call in turn. The answers come from the
 //! format's rules.
 
+use crate::wrote::{Ended, relayed, relayed_in, relayed_into};
 use influxdb_line_protocol::Dialect;
-use lp_rebuild::{DeviceFault, Failures, Kept, RunFault, Source, rebuild};
-use lp_relay_core::{relay, relay_in};
-use lp_vectors_shared::drops::{Basin, Trickle};
-use lp_vectors_shared::fault::Fault;
-use std::alloc::Global;
+use lp_rebuild::{DeviceFault, Failures, Rebuilt, RunFault, Source, rebuild};
+use lp_vectors_shared::drops::Trickle;
+use std::alloc::{AllocError, Global};
 use std::process::Abort;
 
 const TEXT: &[u8] = b"m a=T 5\n# c\nx\nw\\\t a=1i\n";
@@ -45,34 +44,38 @@ impl<'a> Source for Cut<'a> {
     }
 }
 
-// Each text is relayed as it is rebuilt, wherever it is cut into two reads.
-fn are_relayed_as_rebuilt(rt: &impl Abort, alloc: Global, rows: &[&str]) -> Result<(), Fault> {
-    for row in rows {
-        let text = *row;
-        let rebuilt = rebuild(alloc, text)?;
-        for first in 0..text.len() {
-            let mut reader = Cut {
-                left: text.as_bytes(),
-                first,
-            };
-            let mut out = Kept::new(alloc);
-            let mut err = Kept::new(alloc);
-            let Ok(counts) = relay(alloc, &mut reader, &mut out, &mut err) else {
-                return Err(Fault::Unexpected);
-            };
-            assert_eq!(rt;
-                out.as_slice(),
-                rebuilt.batch.as_slice(),
-                "{text} cut at {first}"
-            );
-            assert_eq!(rt;
-                err.as_slice(),
-                rebuilt.faults.as_slice(),
-                "{text} cut at {first}"
-            );
-            assert_eq!(rt; counts.carried, rebuilt.carried);
-            assert_eq!(rt; counts.refused, rebuilt.refused);
-        }
+// The text is relayed as it is rebuilt, where it is cut there into two reads.
+fn is_relayed_as_rebuilt(
+    rt: &impl Abort,
+    alloc: Global,
+    text: &str,
+    first: usize,
+    rebuilt: &Rebuilt,
+) {
+    let left = text.as_bytes();
+    let wrote = relayed(alloc, &mut Cut { left, first });
+    assert_eq!(rt;
+        wrote.out.as_slice(),
+        rebuilt.batch.as_slice(),
+        "{text} cut at {first}"
+    );
+    assert_eq!(rt;
+        wrote.err.as_slice(),
+        rebuilt.faults.as_slice(),
+        "{text} cut at {first}"
+    );
+    assert!(rt; wrote.is_as_rebuilt(rebuilt), "{text} cut at {first}");
+}
+
+// The text is relayed so wherever it is cut into two reads.
+fn is_relayed_as_rebuilt_however_cut(
+    rt: &impl Abort,
+    alloc: Global,
+    text: &str,
+) -> Result<(), AllocError> {
+    let rebuilt = rebuild(alloc, text)?;
+    for first in 0..text.len() {
+        is_relayed_as_rebuilt(rt, alloc, text, first, &rebuilt);
     }
     Ok(())
 }
@@ -80,82 +83,77 @@ fn are_relayed_as_rebuilt(rt: &impl Abort, alloc: Global, rows: &[&str]) -> Resu
 #[test]
 fn a_text_that_is_cut_at_each_place_is_relayed_as_it_is_rebuilt(
     rt: HostRuntime,
-) -> Result<(), Fault> {
-    are_relayed_as_rebuilt(
-        &rt,
-        rt.alloc(),
-        &[
-            "m a=T 5\n# c\nx\nw\\\t a=1i\n",
-            "m s=\"a\nb\\\"\n\" 7\n\nn c=1i",
-            "m\\\n a=1i\n,x\nm é=1i\n",
-            "",
-        ],
-    )
+) -> Result<(), AllocError> {
+    for text in [
+        "m a=T 5\n# c\nx\nw\\\t a=1i\n",
+        "m s=\"a\nb\\\"\n\" 7\n\nn c=1i",
+        "m\\\n a=1i\n,x\nm é=1i\n",
+        "",
+    ]
+    .as_slice()
+    {
+        is_relayed_as_rebuilt_however_cut(&rt, rt.alloc(), *text)?;
+    }
+    Ok(())
 }
 
-#[test]
-fn a_text_of_many_blocks_is_relayed_as_it_is_rebuilt(rt: HostRuntime) -> Result<(), Fault> {
-    let alloc = rt.alloc();
+// Twelve thousand lines, of which each is followed by one that cannot be read.
+fn many_lines(alloc: Global) -> Result<String, AllocError> {
     let mut text = String::new(alloc);
     for number in 0..12_000 {
         writeln!(text, "measurement,tag=value field={number}i\nx")?;
     }
-    let rebuilt = rebuild(alloc, &text)?;
-    let mut reader = text.as_bytes();
-    let mut out = Kept::new(alloc);
-    let mut err = Kept::new(alloc);
-    let Ok(counts) = relay(alloc, &mut reader, &mut out, &mut err) else {
-        return Err(Fault::Unexpected);
-    };
-    assert!(rt; out.as_slice() == rebuilt.batch.as_slice());
-    assert!(rt; err.as_slice() == rebuilt.faults.as_slice());
-    assert_eq!(rt; counts.carried, 12_000);
-    assert_eq!(rt; counts.refused, 12_000);
+    Ok(text)
+}
+
+#[test]
+fn a_text_of_many_blocks_is_relayed_as_it_is_rebuilt(rt: HostRuntime) -> Result<(), AllocError> {
+    let text = many_lines(rt.alloc())?;
+    let rebuilt = rebuild(rt.alloc(), text.as_str())?;
+    let wrote = relayed(rt.alloc(), &mut text.as_bytes());
+    assert!(rt; wrote.is_as_rebuilt(&rebuilt));
+    assert_eq!(rt; rebuilt.carried, 12_000);
+    assert_eq!(rt; rebuilt.refused, 12_000);
     Ok(())
+}
+
+// The text of one line is relayed so in a dialect.
+fn is_relayed_in(rt: &impl Abort, alloc: Global, dialect: Dialect, wanted: &[u8]) {
+    let wrote = relayed_in(alloc, dialect, &mut b"m a=1i,\n".as_slice());
+    assert!(rt; wrote.answer.is_ok());
+    assert_eq!(rt; wrote.out.as_slice(), wanted);
 }
 
 #[test]
 fn each_dialect_is_relayed(rt: HostRuntime) {
-    let alloc = rt.alloc();
-    for (dialect, wanted) in [
-        (Dialect::Crate, b"m a=1i\n".as_slice()),
-        (Dialect::Strict, b"".as_slice()),
-    ] {
-        let mut reader = b"m a=1i,\n".as_slice();
-        let mut out = Kept::new(alloc);
-        let mut err = Kept::new(alloc);
-        let answer = relay_in(alloc, dialect, &mut reader, &mut out, &mut err);
-        assert!(rt; answer.is_ok());
-        assert_eq!(rt; out.as_slice(), wanted);
-    }
+    is_relayed_in(&rt, rt.alloc(), Dialect::Crate, b"m a=1i\n");
+    is_relayed_in(&rt, rt.alloc(), Dialect::Strict, b"");
+}
+
+// The input, which comes byte by byte, is relayed so.
+fn is_relayed_so(rt: &impl Abort, alloc: Global, input: &[u8], out: &[u8], err: &[u8]) {
+    let wrote = relayed(alloc, &mut Trickle::new(input, 0));
+    wrote.assert_is(rt, out, err, 0);
 }
 
 #[test]
 fn a_piece_that_is_no_text_is_one_item(rt: HostRuntime) {
-    let alloc = rt.alloc();
-    for (input, wanted, faults) in [
-        (
-            b"m a=1i\n\xff\xc3\nn b=2i\n".as_slice(),
-            b"m a=1i\nn b=2i\n".as_slice(),
-            b"item 2: the line is not UTF-8\n".as_slice(),
-        ),
-        (
-            b"# \xff\nx\nm a=1i\n\xc3".as_slice(),
-            b"m a=1i\n".as_slice(),
-            b"item 1: the line is not UTF-8\n\
-              item 2: A generic parsing error occurred: TakeWhile1\n\
-              item 4: the line is not UTF-8\n"
-                .as_slice(),
-        ),
-    ] {
-        let mut reader = Trickle::new(input, 0);
-        let mut out = Kept::new(alloc);
-        let mut err = Kept::new(alloc);
-        let answer = relay(alloc, &mut reader, &mut out, &mut err);
-        assert!(rt; answer.is_ok());
-        assert_eq!(rt; out.as_slice(), wanted);
-        assert_eq!(rt; err.as_slice(), faults);
-    }
+    is_relayed_so(
+        &rt,
+        rt.alloc(),
+        b"m a=1i\n\xff\xc3\nn b=2i\n",
+        b"m a=1i\nn b=2i\n",
+        b"item 2: the line is not UTF-8\n",
+    );
+    is_relayed_so(
+        &rt,
+        rt.alloc(),
+        b"# \xff\nx\nm a=1i\n\xc3",
+        b"m a=1i\n",
+        b"item 1: the line is not UTF-8\n\
+          item 2: A generic parsing error occurred: TakeWhile1\n\
+          item 4: the line is not UTF-8\n",
+    );
 }
 
 // A source that gives as much as is asked for, and fails once nothing is left.
@@ -182,108 +180,87 @@ impl<'a> Source for Failing<'a> {
 }
 
 // Whole lines of so many bytes, at least 7.
-fn lines_of(alloc: Global, len: usize) -> Result<String, Fault> {
-    let mut text = String::new(alloc);
-    for _ in 1..len / 7 {
-        text.push_str("m a=1i\n")?;
-    }
-    for _ in text.len().saturating_add(6)..len {
-        text.push('m')?;
-    }
+fn lines_of(alloc: Global, len: usize) -> Result<String, AllocError> {
+    let mut text = "m a=1i\n".repeat(alloc, (len / 7).saturating_sub(1))?;
+    let rest = len.saturating_sub(text.len()).saturating_sub(6);
+    text.push_str("m".repeat(alloc, rest)?.as_str())?;
     text.push_str(" a=1i\n")?;
     Ok(text)
 }
 
-// A read asks for 65,536 bytes, and may be given just as many.
-#[test]
-fn what_each_read_completes_is_written_before_the_next_one(rt: HostRuntime) -> Result<(), Fault> {
-    let alloc = rt.alloc();
-    for len in [7, 100, 65_535, 65_536, 65_537, 131_072] {
-        let text = lines_of(alloc, len)?;
-        let mut reader = Failing {
-            left: text.as_bytes(),
-            failures: Failures::new(),
-        };
-        let mut out = Kept::new(alloc);
-        let mut err = Kept::new(alloc);
-        let answer = relay(alloc, &mut reader, &mut out, &mut err);
-        assert_eq!(rt; text.len(), len);
-        assert_eq!(rt; answer.err(), Some(RunFault::Read), "{len} bytes");
-        assert!(rt; out.as_slice() == text.as_bytes(), "{len} bytes");
-    }
+// All lines of so many bytes are written before the read that fails.
+fn are_written_before_the_next_read(
+    rt: &impl Abort,
+    alloc: Global,
+    len: usize,
+) -> Result<(), AllocError> {
+    let text = lines_of(alloc, len)?;
+    let mut reader = Failing {
+        left: text.as_bytes(),
+        failures: Failures::new(),
+    };
+    let wrote = relayed(alloc, &mut reader);
+    assert_eq!(rt; text.len(), len);
+    assert_eq!(rt; wrote.answer.err(), Some(RunFault::Read), "{len} bytes");
+    assert!(rt; wrote.out.as_slice() == text.as_bytes(), "{len} bytes");
     Ok(())
 }
 
-// A relay over the text: its fault, and what the sinks hold.
-#[derive(Drop)]
-struct Ended {
-    fault: Option<RunFault>,
-    out: Basin,
-    err: Basin,
+// A read asks for 65,536 bytes, and may be given just as many.
+#[test]
+fn what_each_read_completes_is_written_before_the_next_one(
+    rt: HostRuntime,
+) -> Result<(), AllocError> {
+    for len in [7, 100, 65_535, 65_536, 65_537, 131_072].as_slice() {
+        are_written_before_the_next_read(&rt, rt.alloc(), *len)?;
+    }
+    Ok(())
 }
 
 // Relays the text, where each device fails at its call, and at none where that is 0.
 fn relay_with(alloc: Global, reader_at: usize, out_at: usize, err_at: usize) -> Ended {
     let mut reader = Trickle::new(TEXT, reader_at);
-    let mut out = Basin::new(out_at);
-    let mut err = Basin::new(err_at);
-    let fault = relay(alloc, &mut reader, &mut out, &mut err).err();
-    Ended { fault, out, err }
+    relayed_into(alloc, Dialect::Crate, &mut reader, out_at, err_at)
 }
 
 // Each byte is a read of its own, after which the outputs are flushed, and so is the end.
 #[test]
 fn each_pause_of_the_input_flushes(rt: HostRuntime) {
     let ended = relay_with(rt.alloc(), 0, 0, 0);
-    assert_eq!(rt; ended.fault, None);
-    assert_eq!(rt; ended.out.as_slice(), OUT);
-    assert_eq!(rt; ended.err.as_slice(), ERR);
+    ended.assert_is(&rt, None, OUT, ERR, 0);
     assert_eq!(rt; ended.out.flushes(), TEXT.len() + 1);
     assert_eq!(rt; ended.err.flushes(), TEXT.len() + 1);
 }
 
-// A reader that fails at each of these reads leaves these outputs.
-fn read_faults_leave(
-    rt: &impl Abort,
-    alloc: Global,
-    rows: &[(usize, &[u8], &[u8])],
-) -> Result<(), Fault> {
-    for row in rows {
-        let (reader_at, out, err) = *row;
-        let ended = relay_with(alloc, reader_at, 0, 0);
-        assert_eq!(rt; ended.fault, Some(RunFault::Read), "at {reader_at}");
-        assert_eq!(rt; ended.out.as_slice(), out, "at {reader_at}");
-        assert_eq!(rt; ended.err.as_slice(), err, "at {reader_at}");
-    }
-    Ok(())
+// A reader that fails at this read leaves these outputs.
+fn read_fault_leaves(rt: &impl Abort, alloc: Global, reader_at: usize, out: &[u8], err: &[u8]) {
+    let ended = relay_with(alloc, reader_at, 0, 0);
+    ended.assert_is(rt, Some(RunFault::Read), out, err, reader_at);
 }
 
 #[test]
-fn what_came_before_a_fault_of_the_reader_is_written(rt: HostRuntime) -> Result<(), Fault> {
+fn what_came_before_a_fault_of_the_reader_is_written(rt: HostRuntime) {
     let first = b"item 2: A generic parsing error occurred: TakeWhile1\n".as_slice();
-    read_faults_leave(
-        &rt,
-        rt.alloc(),
-        &[
-            (1, b"".as_slice(), b"".as_slice()),
-            (8, b"".as_slice(), b"".as_slice()),
-            (9, OUT, b"".as_slice()),
-            (15, OUT, first),
-            (24, OUT, ERR),
-        ],
-    )
+    read_fault_leaves(&rt, rt.alloc(), 1, b"", b"");
+    read_fault_leaves(&rt, rt.alloc(), 8, b"", b"");
+    read_fault_leaves(&rt, rt.alloc(), 9, OUT, b"");
+    read_fault_leaves(&rt, rt.alloc(), 15, OUT, first);
+    read_fault_leaves(&rt, rt.alloc(), 24, OUT, ERR);
+}
+
+// A writer that fails at this call ends it, and beginnings are written.
+fn write_fault_ends_it(rt: &impl Abort, alloc: Global, out_at: usize, err_at: usize) {
+    let ended = relay_with(alloc, 0, out_at, err_at);
+    let place = out_at.max(err_at);
+    assert_eq!(rt; ended.fault, Some(RunFault::Write), "at {place}");
+    assert!(rt; OUT.starts_with(ended.out.as_slice()), "at {place}");
+    assert!(rt; ERR.starts_with(ended.err.as_slice()), "at {place}");
 }
 
 #[test]
 fn a_writer_that_fails_ends_it(rt: HostRuntime) {
     for at in 1..TEXT.len() + 1 {
-        let ended = relay_with(rt.alloc(), 0, at, 0);
-        assert_eq!(rt; ended.fault, Some(RunFault::Write), "at {at}");
-        assert!(rt; OUT.starts_with(ended.out.as_slice()), "at {at}");
-        assert!(rt; ERR.starts_with(ended.err.as_slice()), "at {at}");
-        let ended = relay_with(rt.alloc(), 0, 0, at);
-        assert_eq!(rt; ended.fault, Some(RunFault::Write), "at {at}");
-        assert!(rt; OUT.starts_with(ended.out.as_slice()), "at {at}");
-        assert!(rt; ERR.starts_with(ended.err.as_slice()), "at {at}");
+        write_fault_ends_it(&rt, rt.alloc(), at, 0);
+        write_fault_ends_it(&rt, rt.alloc(), 0, at);
     }
 }

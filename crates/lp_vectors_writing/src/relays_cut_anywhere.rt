@@ -1,28 +1,37 @@
 //! Short texts and random texts that are relayed in parts: both outputs gain what a rebuild of the whole text gives.
 
+use crate::wrote::relayed_in;
 use influxdb_line_protocol::Dialect;
-use lp_rebuild::{Kept, Rebuilt, rebuild_in};
-use lp_relay_core::relay_in;
+use lp_rebuild::{Rebuilt, rebuild_in};
 use lp_vectors_shared::cuts::CutSource;
 use lp_vectors_shared::fault::Fault;
 use lp_vectors_shared::random::Random;
 use lp_vectors_shared::short_texts::{COUNTS, short_text};
-use std::alloc::Global;
+use std::alloc::{AllocError, Global};
+use std::process::Abort;
 
 // Whether a relay of a text in these parts gives what its rebuild does.
 fn is_relayed(alloc: Global, dialect: Dialect, text: &str, cuts: u64, rebuilt: &Rebuilt) -> bool {
     let mut reader = CutSource::new(text.as_bytes(), cuts, 0);
-    let mut out = Kept::new(alloc);
-    let mut err = Kept::new(alloc);
-    match relay_in(alloc, dialect, &mut reader, &mut out, &mut err) {
-        Ok(counts) => {
-            out.as_slice() == rebuilt.batch.as_slice()
-                && err.as_slice() == rebuilt.faults.as_slice()
-                && counts.carried == rebuilt.carried
-                && counts.refused == rebuilt.refused
+    relayed_in(alloc, dialect, &mut reader).is_as_rebuilt(rebuilt)
+}
+
+// Relays a text, cut in each of so many ways, and gives how many there are.
+fn is_relayed_each_way(
+    alloc: Global,
+    dialect: Dialect,
+    text: &str,
+    ways: u64,
+) -> Result<usize, Fault> {
+    let rebuilt = rebuild_in(alloc, dialect, text)?;
+    let mut cut_texts = 0usize;
+    for cuts in 0..ways {
+        if !is_relayed(alloc, dialect, text, cuts, &rebuilt) {
+            return Err(Fault::Unexpected);
         }
-        Err(_) => false,
+        cut_texts = cut_texts.saturating_add(1);
     }
+    Ok(cut_texts)
 }
 
 // Relays each text of at most six bytes over these, cut in every way, and gives how many cut texts there are.
@@ -32,13 +41,8 @@ fn all_are_relayed(alloc: Global, dialect: Dialect, bytes: &[u8; 7]) -> Result<u
     for (len, (count, ways)) in COUNTS.iter().enumerate() {
         for number in 0..*count {
             let text = short_text(&mut buffer[..len], bytes, number)?;
-            let rebuilt = rebuild_in(alloc, dialect, text)?;
-            for cuts in 0..*ways {
-                if !is_relayed(alloc, dialect, text, cuts, &rebuilt) {
-                    return Err(Fault::Unexpected);
-                }
-                cut_texts = cut_texts.saturating_add(1);
-            }
+            let relayed = is_relayed_each_way(alloc, dialect, text, *ways)?;
+            cut_texts = cut_texts.saturating_add(relayed);
         }
     }
     Ok(cut_texts)
@@ -59,21 +63,40 @@ fn so_they_are_in_the_strict_dialect(rt: HostRuntime) -> Result<(), Fault> {
     Ok(())
 }
 
-#[test]
-fn random_texts_are_relayed_as_they_are_rebuilt(rt: HostRuntime) -> Result<(), Fault> {
-    let alloc = rt.alloc();
-    for dialect in [Dialect::Crate, Dialect::Strict] {
-        let mut random = Random::new(3);
-        let mut text = String::new(alloc);
-        for _ in 0..100_000 {
-            random.write_text(&mut text)?;
-            let cuts = random.cuts();
-            let rebuilt = rebuild_in(alloc, dialect, &text)?;
-            assert!(rt;
-                is_relayed(alloc, dialect, &text, cuts, &rebuilt),
-                "{text} cut by {cuts:b}"
-            );
-        }
+// The text in these parts is relayed as it is rebuilt.
+fn is_relayed_as_rebuilt(
+    rt: &impl Abort,
+    alloc: Global,
+    dialect: Dialect,
+    text: &str,
+    cuts: u64,
+) -> Result<(), AllocError> {
+    let rebuilt = rebuild_in(alloc, dialect, text)?;
+    assert!(rt;
+        is_relayed(alloc, dialect, text, cuts, &rebuilt),
+        "{text} cut by {cuts:b}"
+    );
+    Ok(())
+}
+
+// So are a hundred thousand random texts.
+fn are_relayed_as_rebuilt(
+    rt: &impl Abort,
+    alloc: Global,
+    dialect: Dialect,
+) -> Result<(), AllocError> {
+    let mut random = Random::new(3);
+    let mut text = String::new(alloc);
+    for _ in 0..100_000 {
+        random.write_text(&mut text)?;
+        let cuts = random.cuts();
+        is_relayed_as_rebuilt(rt, alloc, dialect, text.as_str(), cuts)?;
     }
     Ok(())
+}
+
+#[test]
+fn random_texts_are_relayed_as_they_are_rebuilt(rt: HostRuntime) -> Result<(), AllocError> {
+    are_relayed_as_rebuilt(&rt, rt.alloc(), Dialect::Crate)?;
+    are_relayed_as_rebuilt(&rt, rt.alloc(), Dialect::Strict)
 }

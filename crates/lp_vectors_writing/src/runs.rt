@@ -1,26 +1,32 @@
 //! Runs of the program over bytes that are no text.
 
-use lp_rebuild::{Kept, run, status};
-use lp_vectors_shared::fault::Fault;
+use crate::wrote::run_over;
+use lp_rebuild::{RunFault, status};
+use std::alloc::{AllocError, Global};
+use std::process::Abort;
+
+// The text of a fault.
+fn shown(alloc: Global, fault: Option<RunFault>) -> Result<String, AllocError> {
+    match fault {
+        Some(fault) => format!(in alloc; "{fault}"),
+        None => Ok(String::new(alloc)),
+    }
+}
+
+// A run over these bytes writes nothing, and says so.
+fn writes_nothing(rt: &impl Abort, alloc: Global, input: &[u8]) -> Result<(), AllocError> {
+    let mut reader = input;
+    let ran = run_over(alloc, &mut reader);
+    assert_eq!(rt; status(&ran.answer), 2);
+    assert!(rt; ran.out.as_slice().is_empty());
+    assert!(rt; ran.err.as_slice().is_empty());
+    let shown = shown(alloc, ran.fault())?;
+    assert_eq!(rt; shown.as_str(), "the input is not UTF-8");
+    Ok(())
+}
 
 #[test]
-fn input_that_is_no_text_writes_nothing(rt: HostRuntime) -> Result<(), Fault> {
-    let alloc = rt.alloc();
-    for input in [b"\xff".as_slice(), b"m a=1i\n\xc3".as_slice()] {
-        let mut reader = input;
-        let mut out = Kept::new(alloc);
-        let mut err = Kept::new(alloc);
-        let answer = run(alloc, &mut reader, &mut out, &mut err);
-        assert_eq!(rt; status(&answer), 2);
-        assert!(rt; out.as_slice().is_empty());
-        assert!(rt; err.as_slice().is_empty());
-        match answer {
-            Ok(_) => return Err(Fault::Unexpected),
-            Err(fault) => {
-                let rendered = format!(in alloc; "{fault}")?;
-                assert_eq!(rt; rendered.as_str(), "the input is not UTF-8");
-            }
-        }
-    }
-    Ok(())
+fn input_that_is_no_text_writes_nothing(rt: HostRuntime) -> Result<(), AllocError> {
+    writes_nothing(&rt, rt.alloc(), b"\xff")?;
+    writes_nothing(&rt, rt.alloc(), b"m a=1i\n\xc3")
 }
