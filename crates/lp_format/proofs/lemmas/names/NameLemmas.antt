@@ -93,12 +93,6 @@ pub name_reads : (kind : NameKind) (text : List ℕ) → 0 < length (spelled kin
 unfolding name
 name_reads kind text some h = grind (arith, ne_eqb, logical_ends)
 
--- a backslash and a byte that is not known stay
-pub without_escapes_other : (known : List ℕ) (c : ℕ) (rest : List ℕ) → is_one_of known c ≡ false
-    → without_escapes known (backslash ∷ c ∷ rest) ≡ backslash ∷ c ∷ without_escapes known rest
-unfolding without_escapes
-without_escapes_other known c rest h = rw h refl
-
 -- a text has no logical text but that without escapes
 pub logical_is_unique : (known : List ℕ) (spelled logical : List ℕ) → IsLogical known spelled logical
     → logical ≡ without_escapes known spelled

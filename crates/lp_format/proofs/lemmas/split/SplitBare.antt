@@ -190,12 +190,6 @@ EndsPlain-escaped {text} {counted} b h e =
     (EndsPlain-extend (b ∷ []) [] h (rw e refl) (All-nil (λ c. c ≢ newline))
     (λ before after p. absurd (nil_has_no_place before quote after p)))
 
--- a plain stretch after a plain stretch is one, and so a builder can lengthen a piece by whole names
-pub EndsPlain-append : {piece counted : List ℕ} (text : List ℕ) → EndsPlain piece counted → IsBareAfter piece
-    → IsPlain counted text → EndsPlain (piece ++ text) (counted ++ bare text)
-EndsPlain-append {piece} {counted} text h e k =
-    EndsPlain-extend text (bare text) h (same_bare piece [] text (e ∙ sym is_escaped-nil)) k.no_newline k.no_opening
-
 -- a bare byte that neither ends the piece nor opens a string leaves the end in a plain stretch
 pub EndsPlain-bare : {text counted : List ℕ} (b : ℕ) → EndsPlain text counted → IsBareAfter text → b ≢ newline
     → (b ≡ quote → ¬ HasMoreEquals counted) → EndsPlain (text ++ b ∷ []) (counted ++ b ∷ [])
