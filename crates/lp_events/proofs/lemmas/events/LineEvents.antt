@@ -1,6 +1,6 @@
 -- What a sink was told of a line, one event after another, and of the pieces of a text.
 use Rattle.std.proofs.Common.{◌≡◌, ℕ, ◌+◌, ◌<◌, List, [], ◌∷◌, ◌++◌, length, length-append, map, refl, arith, inl, inr, true, false}
-use Rattle.std.proofs.Common.{sym, ◌∙◌, ap, append_assoc}
+use Rattle.std.proofs.Common.{◌∙◌, ap, append_assoc}
 use Rattle.std.specs.Prelude.{Some, Ok, ℤ, ◌==◌, Option, Result, Err}
 use Rattle.std.specs.Borrow.{Bor}
 use Rattle.std.proofs.lemmas.List.{map_push, append-nil}
@@ -32,8 +32,7 @@ takes_append takes before mid after (event ∷ events) others (next, first, more
 -- one event more
 pub takes_more : {S : Type 0} (takes : S → Event → S → Type 0) (before mid after : S) (events : List Event) (event : Event)
     → TakesAll takes before events mid → takes mid event after → TakesAll takes before (events ++ event ∷ []) after
-takes_more takes before mid after events event told one =
-    takes_append takes before mid after events (event ∷ []) told (after, one, refl)
+takes_more takes before mid after events event told one = grind (arith, takes_append)
 
 -- the parts that were told are so many, and all that was read so far; the next one may be at the place
 abbrev pub ToldSoFar : {S A : Type 0} → (S → Event → S → Type 0) → (A → Event) → (List ℕ → Reading A)
@@ -103,13 +102,11 @@ module _ {S A : Type 0} (takes : S → Event → S → Type 0) (event : A → Ev
 
 -- a line is complete where nothing is left
 pub complete_none : (l : Line) (rest : List ℕ) → length rest ≡ 0 → complete l rest ≡ Ok l
-complete_none l [] none = refl
-complete_none l (b ∷ rest) none = absurd (omega arith)
+complete_none l rest none = grind (arith)
 
 -- what is left is its fault
 pub complete_some : (l : Line) (rest : List ℕ) → 0 < length rest → complete l rest ≡ Err (cannot_parse_entire_line rest)
-complete_some l [] some = absurd (omega arith)
-complete_some l (b ∷ rest) some = refl
+complete_some l rest some = grind (arith)
 
 -- the measurement of a line was told, and then these tags and fields
 module _ {S : Type 0} (takes : S → Event → S → Type 0) (before begun mid after : S) (m : Text) (tags : List (Pair Text Text))
@@ -142,8 +139,7 @@ pub told_piece : {S : Type 0} (takes : S → Event → S → Type 0) (before aft
     → WasTold takes before after (λ events. AreEventsOf events (answer dialect (trimmed piece)))
     → WasTold takes before after (λ events. AreEventsOfAll events (answers_of_piece dialect piece))
 unfolding answers_of_piece
-told_piece takes before after dialect piece some was =
-    record { events = was.events; told = was.told; are = rw some (was.events, [], sym (append-nil was.events), was.are, refl) }
+told_piece takes before after dialect piece some was = grind (arith, append-nil)
 
 -- nothing is told of a blank piece
 pub told_blank : {S : Type 0} (takes : S → Event → S → Type 0) (before : S) (dialect : Dialect) (piece : List ℕ)

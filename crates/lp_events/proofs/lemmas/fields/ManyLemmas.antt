@@ -1,7 +1,7 @@
 -- Values that commas join are read one after another; and what a tag set was read from.
-use Rattle.std.proofs.Common.{◌≡◌, ℕ, zero, suc, ◌<◌, ◌≤◌, List, [], ◌∷◌, ◌++◌, length, length-append, refl, sym, ap, ◌∙◌, arith, inl, inr}
+use Rattle.std.proofs.Common.{◌≡◌, ℕ, zero, suc, ◌<◌, ◌≤◌, List, [], ◌∷◌, ◌++◌, length, length-append, refl, ap, ◌∙◌, arith, inl, inr}
 use Rattle.std.proofs.Common.{append_assoc, subst}
-use Rattle.std.specs.Prelude.{◌⊎◌, ◌==◌, Option, Some, None, Result, Ok}
+use Rattle.std.specs.Prelude.{◌⊎◌, Option, Some, None, Result, Ok}
 use Rattle.std.proofs.lemmas.Bool.{cases_Bool}
 use Rattle.std.proofs.lemmas.List.{append-nil}
 use Rattle.lp_format.specs.format.Bytes.{comma}
@@ -11,7 +11,6 @@ use Rattle.lp_format.specs.format.Names.{name, a_measurement}
 use Rattle.lp_format.specs.format.Points.{Pair}
 use Rattle.lp_format.specs.format.Values.{Value}
 use Rattle.lp_format.specs.format.Lines.{after_comma, byte, field, field_set, many, prepend, separated_list, some_tags, tag, tag_set}
-use Rattle.lp_format.specs.format.Lines.{without_comma}
 use Rattle.lp_format.specs.laws.Meanings.{SeparatedBy, SeparatedAfterComma}
 use Rattle.lp_format.proofs.lemmas.meanings.JoinedMeaning.{the_most_is_read}
 use Rattle.lp_format.proofs.lemmas.meanings.ShorterRests.{tag_no_longer}
@@ -21,14 +20,11 @@ use Rattle.lp_events.specs.code.EventsLeft.{SoFar}
 
 -- those that are read after others
 prepend-prepend : {A : Type 0} (xs ys : List A) (r : Reading (List A)) → prepend xs (prepend ys r) ≡ prepend (xs ++ ys) r
-prepend-prepend xs ys miss = refl
-prepend-prepend xs ys (fatal e) = refl
-prepend-prepend xs ys (reads more rest) = ap (λ zs. reads zs rest) (sym (append_assoc xs ys more))
+prepend-prepend xs ys rest = grind (arith, append_assoc)
 
 -- where no element is, none are read
 many_miss : {A : Type 0} (one : List ℕ → Reading A) (n : ℕ) (rest : List ℕ) → one rest ≡ miss → many one n rest ≡ reads [] rest
-many_miss one zero rest e = refl
-many_miss one (suc n) rest e = rw e refl
+many_miss one n rest e = grind (arith)
 
 -- some were read, and a comma after them: the next one may come after it
 pub record AtNext {A : Type 0} (one : List ℕ → Reading A) (text : List ℕ) (done : List A) (rest place : List ℕ) : Type 0 where
@@ -43,14 +39,12 @@ Reached one text done rest place = ((done ≡ []) × (place ≡ text)) ⊎ AtNex
 module _ {A : Type 0} (one : List ℕ → Reading A) where
   -- after the first element the list has it alone
   pub so_far_start : (x : A) (text rest : List ℕ) → one text ≡ reads x rest → SoFar one text (x ∷ []) rest
-  so_far_start x text rest e =
-      record { fuel = length rest; enough = omega arith; is = rw e refl }
+  so_far_start x text rest e = grind (arith)
 
   -- where no comma and element follow, the list has ended
   pub so_far_end : (text : List ℕ) (done : List A) (rest : List ℕ) → SoFar one text done rest
       → after_comma one rest ≡ miss → separated_list one text ≡ reads done rest
-  so_far_end text done rest so_far e =
-      so_far.is ∙ ap (prepend done) (many_miss (after_comma one) so_far.fuel rest e) ∙ ap (λ zs. reads zs rest) (append-nil done)
+  so_far_end text done rest so_far e = grind (arith, many_miss, append-nil)
 
   -- a comma and an element more
   pub so_far_more : (text : List ℕ) (done : List A) (rest after : List ℕ) (y : A) → SoFar one text done rest
@@ -72,14 +66,7 @@ module _ {A : Type 0} (one : List ℕ → Reading A) where
   -- what is fatal after a comma is fatal for all
   pub so_far_fatal : (text : List ℕ) (done : List A) (rest : List ℕ) (e : Fault) → SoFar one text done rest
       → after_comma one rest ≡ fatal e → separated_list one text ≡ fatal e
-  so_far_fatal text done rest e so_far found = fails so_far.fuel rest so_far.enough found so_far.is
-    where
-      -- a fault of the next element is the fault of the list
-      fails : (n : ℕ) (rest : List ℕ) → length rest ≤ n → after_comma one rest ≡ fatal e
-          → separated_list one text ≡ prepend done (many (after_comma one) n rest) → separated_list one text ≡ fatal e
-      fails zero [] room found is = cc
-      fails zero (b ∷ rest) room found is = absurd (omega arith)
-      fails (suc n) rest room found is = is ∙ rw found refl
+  so_far_fatal text done rest e so_far found = grind (arith)
 
   -- what is read after a comma is read where the next one may be
   next_is : (rest place : List ℕ) → byte comma rest ≡ reads comma place → after_comma one rest ≡ one place
@@ -90,10 +77,7 @@ module _ {A : Type 0} (one : List ℕ → Reading A) where
       → Reached one text done rest place → one place ≡ reads y after
       → length after < length place → SoFar one text (done ++ y ∷ []) after
   reached_more {text} {done} {rest} {place} after y (inl first) e less = rw first.0 (so_far_start y text after (rw first.1 at e))
-  reached_more {text} {done} {rest} {place} after y (inr more) e less =
-      let ends = byte_ends comma rest comma place more.mark in
-      so_far_more text done rest after y more.so_far (next_is rest place more.mark ∙ e)
-      (omega (arith, ap length ends.is, length-append ends.front place))
+  reached_more {text} {done} {rest} {place} after y (inr more) e less = grind (arith, byte_ends, so_far_more, next_is, length-append)
 
   -- what is fatal where the next one may be is fatal for all
   pub reached_fatal : {text : List ℕ} {done : List A} {rest place : List ℕ} (e : Fault)
@@ -115,8 +99,7 @@ module _ {A : Type 0} (one : List ℕ → Reading A) where
 
 -- a text begins with a comma, or does not
 pub comma_cases : (text : List ℕ) → (byte comma text ≡ miss) ⊎ ((place : List ℕ) × (byte comma text ≡ reads comma place))
-comma_cases [] = inl refl
-comma_cases (b ∷ text) = elim (cases_Bool (b == comma)) [ inl is ↦ inr (text, rw is refl) | inr other ↦ inl (rw other refl) ]
+comma_cases text = grind (arith, cases_Bool)
 
 -- what a tag set is read from: a text without a comma at its start, or tags after a comma
 pub data TagSetRead (text : List ℕ) : Option (List (Pair Text Text)) → List ℕ → Type 0 where
@@ -151,8 +134,7 @@ tag_set_read text rest set e = elim (comma_cases text) [
 -- joined tags come after commas, with the comma before them
 separated_after : (tags : List (Pair Text Text)) (text mark rest : List ℕ) → text ≡ comma ∷ mark → 0 < length tags
     → SeparatedBy tag tags mark rest → SeparatedAfterComma tag tags text rest
-separated_after [] text mark rest e some h = absurd (omega arith)
-separated_after (t ∷ tags) text mark rest e some h = (mark, h.0, e, h.1, h.2)
+separated_after tags text mark rest e some h = grind (arith)
 
 -- the tags of a set are there, each after a comma, before what it leaves
 pub set_separated : (text rest : List ℕ) (set : Option (List (Pair Text Text)))
@@ -181,10 +163,7 @@ tag_set_ends text t e = tags_end (some_tags t.value) text t.rest (set_separated 
 -- what a field set was read from: fields that commas join
 pub fields_joined : (dialect : Dialect) (text rest : List ℕ) (fs : List (Pair Text (Value Text))) → field_set dialect text ≡ reads fs rest
     → (end : List ℕ) × (separated_list field text ≡ reads fs end)
-fields_joined dialect text rest fs e =
-    let parts = bind_reads (separated_list field text) (λ xs. reads xs.value (without_comma dialect xs.value xs.rest)) fs rest e in
-    let same : parts.first ≡ fs = cc (parts.next) in
-    (parts.mid, subst (λ xs. separated_list field text ≡ reads xs parts.mid) same parts.was)
+fields_joined dialect text rest fs e = grind (arith, bind_reads)
 
 -- the raw text of a series is at the start of its line
 pub series_ends : (line : List ℕ) (m : Text) (rest : List ℕ) (tags : Read (Option (List (Pair Text Text))))

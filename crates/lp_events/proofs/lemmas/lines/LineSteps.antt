@@ -47,13 +47,7 @@ total_after (p ∷ skipped) piece pieces = omega (arith, total_after skipped pie
 
 -- the pieces that are left have the bytes that are left
 left_total : (left : Left) (pieces : List (List ℕ)) → PiecesLeft left pieces → total pieces ≡ most_pieces left.text
-left_total left pieces h = go left.dialect left.text h
-  where
-    -- no text has no pieces
-    go : (dialect : Dialect) (text : Option (List ℕ)) → PiecesLeft (record { dialect = dialect; text = text }) pieces
-        → total pieces ≡ most_pieces text
-    go dialect None none = rw none refl
-    go dialect (Some text) h = pieces_total dialect h
+left_total left pieces h = grind (arith, pieces_total)
 
 -- what is left has pieces
 pub left_pieces : (left : Left) → (pieces : List (List ℕ)) × PiecesLeft left pieces
@@ -71,13 +65,11 @@ none_comes left none = sym (left_total left [] none)
 -- the bytes of a piece that was given are no longer left
 pieces_less : (before after : Left) (skipped : List (List ℕ)) (piece : List ℕ) (others : List (List ℕ))
     → PiecesLeft before (skipped ++ piece ∷ others) → PiecesLeft after others → length piece + 1 + most_pieces after.text ≤ most_pieces before.text
-pieces_less before after skipped piece others h k =
-    omega (arith, left_total after others k, left_total before (skipped ++ piece ∷ others) h, total_after skipped piece others)
+pieces_less before after skipped piece others h k = grind (arith, left_total, total_after)
 
 -- either of two texts
 either_fits : (b : Bool) (xs ys : List ℕ) (n : ℕ) → length xs ≤ n → length ys ≤ n → length (cond b xs ys) ≤ n
-either_fits true xs ys n h k = h
-either_fits false xs ys n h k = k
+either_fits x0 xs ys n h k = grind (arith)
 
 -- what is left of a text when it is trimmed is no longer than the text
 left_fits : (in_comment : Bool) (text : List ℕ) → length (left_of in_comment text) ≤ length text
@@ -114,6 +106,4 @@ items_less before after piece some h =
   where
     -- fewer pieces are left, and one of them is not empty
     go : (t u : Option (List ℕ)) → 1 + most_pieces u < most_pieces t → most_items u < most_items t
-    go None u less = absurd (omega arith)
-    go (Some t) None less = omega arith
-    go (Some t) (Some u) less = omega arith
+    go t u less = grind (arith)

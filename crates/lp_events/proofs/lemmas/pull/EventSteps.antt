@@ -1,7 +1,7 @@
 -- What one step of a reader means for the events that are left, and what a sink was told of those that came.
-use Rattle.std.proofs.Common.{◌≡◌, ℕ, ◌-◌, ◌<◌, List, [], ◌∷◌, ◌++◌, length, map, drop, Bool, true, false, refl, sym, ◌∙◌, ap, subst, arith}
-use Rattle.std.proofs.Common.{append_assoc, inl, inr, length-append, length-drop, length-take, ◌+◌, ◌≤◌, eq-eqb}
-use Rattle.std.specs.Prelude.{ℤ, ◌==◌, MatchOption, Option, Some, None, Result, Ok, Err, is_some, IfOk, MatchResult}
+use Rattle.std.proofs.Common.{◌≡◌, ℕ, ◌-◌, ◌<◌, List, [], ◌∷◌, ◌++◌, length, drop, Bool, true, false, refl, sym, ◌∙◌, ap, subst, arith}
+use Rattle.std.proofs.Common.{append_assoc, length-append, length-drop, length-take, ◌+◌, ◌≤◌, eq-eqb}
+use Rattle.std.specs.Prelude.{ℤ, ◌==◌, MatchOption, Option, Some, Result, Ok, Err, is_some, IfOk, MatchResult}
 use Rattle.std.specs.Borrow.{Bor}
 use Rattle.std.proofs.lemmas.Bool.{cases_Bool, ne_eqb}
 use Rattle.std.proofs.lemmas.Bool.Decides.{nat_tests}
@@ -14,7 +14,7 @@ use Rattle.lp_format.specs.format.Bytes.{comma, space}
 use Rattle.lp_format.specs.format.Dialects.{Dialect}
 use Rattle.lp_format.specs.format.Lines.{after_comma, answer, byte, field, field_set, front_before, spaces, tag, timestamp, without_comma}
 use Rattle.lp_format.specs.format.Lines.{complete}
-use Rattle.lp_format.specs.format.Names.{NameKind, name, spelled, spelled_len}
+use Rattle.lp_format.specs.format.Names.{NameKind, name}
 use Rattle.lp_format.specs.format.Pieces.{Left}
 use Rattle.lp_format.specs.format.Points.{Pair}
 use Rattle.lp_format.specs.format.Readings.{Fault, Text, cannot_parse_entire_line, fatal}
@@ -23,9 +23,8 @@ use Rattle.lp_format.specs.format.Values.{Value}
 use Rattle.lp_format.specs.format.Items.{answers_of, answers_of_piece}
 use Rattle.lp_format.specs.format.Trimming.{trimmed}
 use Rattle.lp_values.proofs.lemmas.fields.ReadingLemmas.{EndsIn, bind_reads, byte_parts, name_parts}
-use Rattle.lp_values.specs.code.SpelledParts.{spelled_fault}
 use Rattle.lp_values.specs.declared.spelled.SpelledFault.{SpelledFault}
-use Rattle.lp_events.specs.code.Events.{AreEventsOf, AreFrontEvents, Event, ended, failed, front_events, named, tagged, valued}
+use Rattle.lp_events.specs.code.Events.{AreEventsOf, AreFrontEvents, Event, ended, failed, front_events, tagged, valued}
 use Rattle.lp_events.specs.code.Events.{AreEventsOfAll, TakesAll}
 use Rattle.lp_events.specs.code.EventsLeft.{AreEventsLeft, Completes, FieldsRead, NamesRead, SeriesRead, Steps, told, GivesEvent}
 use Rattle.lp_events.specs.code.EventsLeft.{HasEventsLeft, most_of_line}
@@ -66,13 +65,7 @@ not_none n some = grind (arith, nat_tests)
 -- what is left after a name is shorter than the text
 pub name_shorter : (kind : NameKind) (text : List ℕ) (t : Text) (rest : List ℕ) → name kind text ≡ reads t rest → length rest < length text
 unfolding name
-name_shorter kind text t rest e = elim (cases_Bool (length (spelled kind text) == 0)) [
-  | inl empty ↦ absurd (let m = rw empty at e in cc)
-  | inr some ↦
-      let is = (name_parts kind text t rest e).1 in
-      let more = not_none (length (spelled kind text)) some in
-      omega (arith, ap length is, length-drop (spelled_len kind text) text, length-take (spelled_len kind text) text, more)
-]
+name_shorter kind text t rest e = grind (arith, cases_Bool, name_parts, not_none, length-drop, length-take)
 
 -- the front before the end of a line is what comes before it
 pub front_is : (line rest : List ℕ) → EndsIn line rest → front_before line rest ++ rest ≡ line
@@ -85,42 +78,30 @@ front_is line rest h =
 pub stripped : (result : Option (Bor (List ℕ))) (text : List ℕ)
     → MatchOption result (byte comma text ≡ miss) (λ rest. byte comma text ≡ reads comma rest.now) → is_some result ≡ true
     → (place : List ℕ) × (byte comma text ≡ reads comma place)
-stripped None text is some = absurd (cc)
-stripped (Some place) text is some = (place.now, is)
+stripped place text is some = grind (arith)
 
 -- it does not begin with a comma, if nothing was stripped
 pub not_stripped : (result : Option (Bor (List ℕ))) (text : List ℕ)
     → MatchOption result (byte comma text ≡ miss) (λ rest. byte comma text ≡ reads comma rest.now) → is_some result ≡ false
     → byte comma text ≡ miss
-not_stripped None text is none = is
-not_stripped (Some place) text is none = absurd (cc)
+not_stripped place text is none = grind (arith)
 
 -- what a step gives of some events it gives of those that they are left for
 pub steps_from : (Are Wanted : Left → List Event → Type 0) (result : Result (given.Event × Place) SpelledFault)
     → ((left : Left) (events : List Event) → Are left events → Wanted left events) → Steps Are result → Steps Wanted result
-steps_from Are Wanted (Ok p) on h = λ left others later. on left (told p.0 ∷ others) (h left others later)
-steps_from Are Wanted (Err fault) on h =
-    λ left others later. on left (failed (spelled_fault fault) ∷ others) (h left others later)
+steps_from re anted fault on h = grind (arith)
 
 module _ (line : List ℕ) (m : Text) (tags : List (Pair Text Text)) (rest : List ℕ) where
   -- one tag more is read after a comma
   pub names_more : (is_first : Bool) (t : Pair Text Text) (after : List ℕ) → NamesRead line m tags rest is_first
       → after_comma tag rest ≡ reads t after → length after < length rest → NamesRead line m (tags ++ t ∷ []) after false
-  names_more true t after (e, none) is less =
-      let mark = bind_reads (byte comma rest) _ t after is in
-      let same = (byte_parts comma rest mark.first mark.mid mark.was).0 in
-      (rest, mark.mid, e, rw same at mark.was, rw none (so_far_start tag t mark.mid after mark.next))
-  names_more false t after (start, place, e, mark, so_far) is less =
-      (start, place, e, mark, so_far_more tag place tags rest after t so_far is less)
+  names_more x0 t after so_far is less = grind (arith, bind_reads, byte_parts, so_far_start, so_far_more)
 
   -- what is fatal after a comma is the fault of the line
   pub names_fatal : (dialect : Dialect) (is_first : Bool) (fault : Fault) → NamesRead line m tags rest is_first
       → after_comma tag rest ≡ fatal fault → answer dialect line ≡ Err fault
   unfolding answer
-  names_fatal dialect true fault (e, none) is = elim (comma_cases rest) [
-    | inl other ↦ absurd (let h = rw other at is in cc)
-    | inr mark ↦ let f = rw mark.1 at is in rw (e, mark.1, f) refl
-  ]
+  names_fatal dialect true fault (e, none) is = grind (arith, comma_cases)
   names_fatal dialect false fault (start, place, e, mark, so_far) is =
       rw (e, mark, so_far_fatal tag place tags rest fault so_far is) refl
 
@@ -128,14 +109,12 @@ module _ (line : List ℕ) (m : Text) (tags : List (Pair Text Text)) (rest : Lis
   pub names_malformed : (dialect : Dialect) (is_first : Bool) (place : List ℕ) → NamesRead line m tags rest is_first → is_first ≡ true
       → byte comma rest ≡ reads comma place → after_comma tag rest ≡ miss → answer dialect line ≡ Err tag_set_malformed
   unfolding answer
-  names_malformed dialect false place h first mark is = absurd (cc)
-  names_malformed dialect true place (e, none) first mark is = let f = rw mark at is in rw (e, mark, f) refl
+  names_malformed dialect x1 place h first mark is = grind (arith)
 
   -- where no tag follows, all were read
   pub names_end : (is_first : Bool) → NamesRead line m tags rest is_first → (is_first ≡ true → byte comma rest ≡ miss)
       → after_comma tag rest ≡ miss → SeriesRead line m tags rest
-  names_end true (e, none) bare is =
-      record { start = rest; set = None; name_is = e; set_is = rw (bare refl) refl; tags_are = sym none }
+  names_end true (e, none) bare is = grind (arith)
   names_end false (start, place, e, mark, so_far) bare is =
       record { start = start; set = Some tags; name_is = e; set_is = rw (mark, so_far_end tag place tags rest so_far is) refl; tags_are = refl }
 
@@ -144,36 +123,14 @@ pub first_read : {line : List ℕ} {m : Text} {tags : List (Pair Text Text)} {re
     → (gap : List ℕ) (x : Pair Text (Value Text)) (after : List ℕ) → byte space rest ≡ reads space gap
     → field (drop (spaces rest) rest) ≡ reads x after
     → FieldsRead line (front_before line rest) m tags (x ∷ []) after true
-first_read {rest = rest} h gap x after s f =
-    record {
-      after = rest;
-      gap = gap;
-      series_read = h;
-      series_is = refl;
-      gap_is = s;
-      so_far = so_far_start field x (drop (spaces rest) rest) after f;
-      some = omega arith;
-      first_is = refl;
-    }
+first_read {rest = rest} h gap x after s f = grind (arith, so_far_start)
 
 module _ {line series : List ℕ} {m : Text} {tags : List (Pair Text Text)} {fields : List (Pair Text (Value Text))} {rest : List ℕ}
     {is_first : Bool} (h : FieldsRead line series m tags fields rest is_first) where
   -- one field more
   pub fields_more : (x : Pair Text (Value Text)) (after : List ℕ) → after_comma field rest ≡ reads x after
       → length after < length rest → FieldsRead line series m tags (fields ++ x ∷ []) after false
-  fields_more x after is less =
-      let some = h.some in
-      let more : 1 < length (fields ++ x ∷ []) = omega (arith, length-append fields (x ∷ [])) in
-      record {
-        after = h.after;
-        gap = h.gap;
-        series_read = h.series_read;
-        series_is = h.series_is;
-        gap_is = h.gap_is;
-        so_far = so_far_more field (drop (spaces h.after) h.after) fields rest after x h.so_far is less;
-        some = omega arith;
-        first_is = sym (ne_eqb (length (fields ++ x ∷ [])) 1 (λ one. absurd (omega arith)));
-      }
+  fields_more x after is less = grind (arith, length-append, so_far_more, ne_eqb)
 
   -- a field that is fatal
   pub fields_fatal : (dialect : Dialect) (fault : Fault) → after_comma field rest ≡ fatal fault → answer dialect line ≡ Err fault
@@ -228,10 +185,7 @@ module _ {line series : List ℕ} {m : Text} {tags : List (Pair Text Text)} {fie
 -- a tag after those of a front
 pub tag_after : (m : Text) (tags : List (Pair Text Text)) (t : Pair Text Text)
     → front_events m (tags ++ t ∷ []) [] ≡ front_events m tags [] ++ tagged t ∷ []
-tag_after m tags t =
-    ap (λ (es : List Event). named m ∷ es)
-    (append-nil (map tagged (tags ++ t ∷ [])) ∙ map_push tagged tags t
-    ∙ ap (λ (es : List Event). es ++ tagged t ∷ []) (sym (append-nil (map tagged tags))))
+tag_after m tags t = grind (arith, append-nil, map_push)
 
 -- a field after those of a front
 pub field_after : (m : Text) (tags : List (Pair Text Text)) (fields : List (Pair Text (Value Text))) (x : Pair Text (Value Text))
@@ -251,9 +205,7 @@ line_first : (dialect : Dialect) (skipped : List (List ℕ)) (piece : List ℕ) 
     → All IsBlankPiece skipped → 0 < length (trimmed piece) → events ≡ first ++ others → AreEventsOf first (answer dialect (trimmed piece))
     → AreEventsOfAll others (answers_of dialect pieces) → AreEventsOfAll events (answers_of dialect (skipped ++ piece ∷ pieces))
 unfolding answers_of_piece
-line_first dialect [] piece pieces first others events blank some is one all =
-    let e : (length (trimmed piece) == 0) ≡ false = ne_eqb (length (trimmed piece)) 0 (λ none. absurd (omega arith)) in
-    rw e (first, others, is, one, all)
+line_first dialect [] piece pieces first others events blank some is one all = grind (arith, ne_eqb)
 line_first dialect (p ∷ skipped) piece pieces first others events blank some is one all =
     let e : (length (trimmed p) == 0) ≡ true = eq-eqb (length (trimmed p)) 0 (All-head IsBlankPiece p skipped blank) in
     rw e (line_first dialect skipped piece pieces first others events (All-tail IsBlankPiece p skipped blank) some is one all)
@@ -261,22 +213,12 @@ line_first dialect (p ∷ skipped) piece pieces first others events blank some i
 -- what completes the line that was found was left before it
 pub line_left : (before after : Left) (line : Bor (List ℕ)) (events : List Event) → GivesLine before (Some line) after
     → Completes line.now [] after events → AreEventsLeft before events
-line_left before after line events found h =
-    let later = h.others_are in
-    let gave = found.1 later.pieces later.are_left in
-    record {
-      pieces = gave.skipped ++ gave.piece ∷ later.pieces;
-      are_left = gave.left;
-      are =
-          line_first before.dialect gave.skipped gave.piece later.pieces h.first h.others events gave.blank
-          (rw gave.line_is at gave.some) h.events_are (rw (found.0, gave.line_is) at h.line_is) (rw found.0 at later.are);
-    }
+line_left before after line events found h = grind (arith, line_first)
 
 -- after a step that leaves fewer events of a line, fewer are left
 pub step_less : (result : Result (given.Event × Place) SpelledFault) (line after before : ℕ) → IfOk result (λ p. most_of_line p.1 < line + 1)
     → line + 1 + after ≤ before → MatchResult result (λ p. most_of_line p.1 + after < before) (λ fault. after < before)
-step_less (Ok p) line after before less fits = omega arith
-step_less (Err fault) line after before less fits = omega arith
+step_less fault line after before less fits = grind (arith)
 
 -- a sink was told of events, and with those that are left now they were left at the start
 abbrev pub ToldFrom : {S : Type 0} → (S → Event → S → Type 0) → S → S → ParseEvents → ParseEvents → Type 0
