@@ -1,7 +1,7 @@
 -- Escaped texts: how long they are, and what comes before and after the first byte with a backslash.
 -- And how many digits a number has.
 use Rattle.std.proofs.Common.{◌≡◌, ℕ, suc, zero, ◌+◌, ◌<◌, Bool, true, false, cond, List, [], ◌∷◌, ◌++◌, length, take, drop, get_or, arith}
-use Rattle.std.proofs.Common.{ap, refl, sym, ◌-◌, subst, zero-add, add-one, length-drop, length-append, ◌∙◌, ◌≤◌, ◌^◌, ◌*◌, ◌/◌}
+use Rattle.std.proofs.Common.{ap, refl, ◌-◌, zero-add, add-one, length-drop, length-append, ◌∙◌, ◌≤◌, ◌^◌, ◌*◌, ◌/◌}
 use Rattle.std.proofs.lemmas.List.{take_all}
 use Rattle.std.specs.Fmt.{decimal}
 use Rattle.std.proofs.Math.Nat.{pow-zero, pow-suc}
@@ -82,19 +82,13 @@ pub escaped_first : (bytes text : List ℕ) (mark : ℕ → Bool) (at : ℕ)
     → ((b : ℕ) → mark b ≡ is_one_of bytes b) → ComeBefore mark text 0 (length text) at → at < length text
     → escaped bytes text
     ≡ take at text ++ backslash ∷ get_or text at 0 ∷ escaped bytes (take (length text - (at + 1)) (drop (at + 1) text))
-escaped_first bytes text mark at same run within =
-    let here : mark (get_or text at 0) ≡ true =
-    subst (λ (k : ℕ). mark (get_or text k 0) ≡ true) (zero-add at) (run.here within) in
-    rw (rest_of text (at + 1), add-one)
-    (escaped_at bytes text at within (sym (same (get_or text at 0)) ∙ here)
-    (λ k h. sym (same (get_or text k 0)) ∙ run.none k (omega arith) (omega arith)))
+escaped_first bytes text mark at same run within = grind (arith, zero-add, rest_of, add-one, escaped_at)
 
 -- where no byte is found, the text stays
 pub escaped_none : (bytes text : List ℕ) (mark : ℕ → Bool) (at : ℕ)
     → ((b : ℕ) → mark b ≡ is_one_of bytes b) → ComeBefore mark text 0 (length text) at → at ≡ length text
     → escaped bytes text ≡ text
-escaped_none bytes text mark at same run all =
-    escaped_same bytes text (λ k h. sym (same (get_or text k 0)) ∙ run.none k (omega arith) (omega arith))
+escaped_none bytes text mark at same run all = grind (arith, escaped_same)
 
 -- a power of ten is positive
 power_positive : (k : ℕ) → 0 < 10 ^ k

@@ -1,6 +1,6 @@
 -- From the mask of one load to the bytes that are marks, and from loads to a whole text.
 use Rattle.std.proofs.Common.{◌≡◌, ℕ, ◌+◌, ◌-◌, ◌/◌, ◌%◌, ◌^◌, ◌<◌, ◌≤◌, eqb, Bool, true, false, cond, not, ◌||◌, List, map, length, drop}
-use Rattle.std.proofs.Common.{get_or, replicate, bit_or, refl, sym, ap, ◌∙◌, subst, arith, inl, inr}
+use Rattle.std.proofs.Common.{get_or, replicate, bit_or, ap, ◌∙◌, arith}
 use Rattle.std.proofs.lemmas.Bool.{cases_eq, eq-eqb, ne_eqb}
 use Rattle.std.proofs.lemmas.Simd.{length-chunk, run_in_chunk_le, run_in_chunk_fails, run_in_chunk_stops, chunk-drop}
 use Rattle.std.proofs.lemmas.List.{take_rest}
@@ -25,30 +25,11 @@ equal_lane a b = cond (eqb a b) 255 0
 any_lane : (e f g h : Bool)
     → top 7 (bit_or (bit_or (cond e 255 0) (cond f 255 0)) (bit_or (cond g 255 0) (cond h 255 0)))
     ≡ e || (f || (g || (h || false)))
-any_lane true true true true = refl
-any_lane true true true false = refl
-any_lane true true false true = refl
-any_lane true true false false = refl
-any_lane true false true true = refl
-any_lane true false true false = refl
-any_lane true false false true = refl
-any_lane true false false false = refl
-any_lane false true true true = refl
-any_lane false true true false = refl
-any_lane false true false true = refl
-any_lane false true false false = refl
-any_lane false false true true = refl
-any_lane false false true false = refl
-any_lane false false false true = refl
-any_lane false false false false = refl
+any_lane x0 x1 x2 x3 = grind (arith)
 
 -- two numbers are equal in either order
 eqb_swap : (a b : ℕ) → eqb a b ≡ eqb b a
-eqb_swap a b =
-    elim (cases_eq a b) [
-      | inl same ↦ eq-eqb a b same ∙ sym (eq-eqb b a (sym same))
-      | inr other ↦ ne_eqb a b other ∙ sym (ne_eqb b a (omega arith))
-    ]
+eqb_swap a b = grind (arith, cases_eq, eq-eqb, ne_eqb)
 
 -- the lane of a byte that was compared with each mark
 abbrev compared : Marks → ℕ → ℕ
@@ -57,9 +38,7 @@ compared m x =
 
 -- its top bit tells a mark
 mark_lane : (m : Marks) (x : ℕ) → top 7 (compared m x) ≡ is_one_of (listed m) x
-mark_lane m x =
-    rw (← eqb_swap x m.first, ← eqb_swap x m.second, ← eqb_swap x m.third, ← eqb_swap x m.fourth)
-    (any_lane (eqb x m.first) (eqb x m.second) (eqb x m.third) (eqb x m.fourth))
+mark_lane m x = grind (arith, eqb_swap, any_lane, eqb)
 
 -- the mask of the lanes of a load is that of its bytes
 pub mask_of_load : (m : Marks) (d : List ℕ) (i n : ℕ) → i + n ≤ length d → n ≤ 64
@@ -78,13 +57,7 @@ mask_of_load m d i n room few =
 -- its lowest bit tells how many of the bytes come before the first mark
 pub come_before : (q : ℕ → Bool) (d : List ℕ) (i n r : ℕ) → i + n ≤ length d → n ≤ 64
     → r ≡ first_set (mask_of q d i n) n → ComeBefore q d i n r
-come_before q d i n r room few found =
-    let counted = found ∙ lowest q d i n room few in
-    record {
-      within = run_in_chunk_le q d i n r 0 room counted;
-      none = run_in_chunk_fails q d i n r 0 room counted;
-      here = run_in_chunk_stops q d i n r 0 room counted;
-    }
+come_before q d i n r room few found = grind (arith, lowest, run_in_chunk_le, run_in_chunk_fails, run_in_chunk_stops)
 
 -- what a text counts is what a load counts, and what comes after it
 pub count_after : (q : ℕ → Bool) (d : List ℕ) (at n : ℕ) → count_by q (drop at d) ≡ count_by q (chunk at n d) + count_by q (drop (at + n) d)
@@ -93,15 +66,7 @@ count_after q d at n = ap (count_by q) (chunk-drop at n d) ∙ sum_by-append (λ
 -- of a load at the end, the bits after what was seen count the rest
 pub count_last : (q : ℕ → Bool) (d : List ℕ) (seen n : ℕ) → n ≤ length d → seen ≤ length d → length d - n ≤ seen
     → count_ones (mask_of q d (length d - n) n / 2 ^ (n - (length d - seen))) ≡ count_by q (drop seen d)
-count_last q d seen n room within overlaps =
-    let new = length d - seen in
-    let place : length d - n + (n - new) ≡ seen = omega arith in
-    let left : n - (n - new) ≡ new = omega arith in
-    ap count_ones (shifted q d (length d - n) n (n - new) (omega arith))
-    ∙ ones q d (length d - n + (n - new)) (n - (n - new))
-    ∙ ap (λ (k : ℕ). count_by q (chunk k (n - (n - new)) d)) place
-    ∙ ap (λ (k : ℕ). count_by q (chunk seen k d)) left
-    ∙ ap (count_by q) (take_rest d seen)
+count_last q d seen n room within overlaps = grind (arith, shifted, ones, take_rest)
 
 -- two loads that overlap count a text that is no longer than both
 pub count_overlapping : (q : ℕ → Bool) (d : List ℕ) (n first last : ℕ) → n ≤ length d → length d < n + n
@@ -132,11 +97,4 @@ not_free q d k inside here = list_all_at (λ b. not (q b)) d k 0 inside (ap not 
 
 -- where the first mark is decides
 pub first_decides : (q : ℕ → Bool) (d : List ℕ) (r : ℕ) → ComeBefore q d 0 (length d) r → eqb r (length d) ≡ list_all (λ b. not (q b)) d
-first_decides q d r run =
-    elim (cases_eq r (length d)) [
-      | inl whole ↦ eq-eqb r (length d) whole ∙ sym (free_whole q d (λ k inside. run.none k (omega arith) (omega arith)))
-      | inr other ↦
-          let short : r < length d = omega (arith, run.within) in
-          let place : 0 + r ≡ r = omega arith in
-          ne_eqb r (length d) other ∙ sym (not_free q d r short (subst (λ (k : ℕ). q (get_or d k 0) ≡ true) place (run.here short)))
-    ]
+first_decides q d r run = grind (arith, cases_eq, eq-eqb, free_whole, ne_eqb, not_free)

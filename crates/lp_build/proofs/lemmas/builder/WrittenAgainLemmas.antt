@@ -12,6 +12,7 @@ use Rattle.lp_format.specs.format.Lines.{logical_tag, logical_field, some_tags}
 use Rattle.lp_lines.specs.code.Parsed.{tag_of, tags_of, field_of, parsed_point}
 use Rattle.lp_values.specs.code.Texts.{text_of}
 use Rattle.lp_build.specs.code.WrittenAgain.{point_tag, point_field, tag_text, fields_text, parts_text}
+use Rattle.std.proofs.Common.{arith}
 
 -- what comes before the first field is one byte, whichever it is
 pub length_fields_after : (fields : List (EscapedStr × FieldValue))
@@ -48,5 +49,4 @@ pub parts_text_is : (parts : Parts) (line : ParsedLine)
     → parts.fields.now ≡ line.field_set.items → parts.timestamp ≡ line.timestamp
     → parts_text parts ≡ built (parsed_point line)
 unfolding parts_text line_of
-parts_text_is parts line measurement tags fields timestamp =
-    rw (tags, tags_text_is, ← measurement, ← fields, ← timestamp) refl
+parts_text_is parts line measurement tags fields timestamp = grind (arith, tags_text_is)

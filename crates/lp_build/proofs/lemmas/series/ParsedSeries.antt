@@ -1,14 +1,13 @@
 -- The series of each line that is read is a parsed one.
-use Rattle.std.proofs.Common.{◌≡◌, ℕ, zero, suc, ◌≤◌, Bool, List, [], ◌∷◌, ◌++◌, length, drop, refl, sym, ap, ◌∙◌, subst, inl, inr}
+use Rattle.std.proofs.Common.{◌≡◌, ℕ, zero, suc, ◌≤◌, Bool, List, [], ◌∷◌, ◌++◌, length, drop, refl, sym, ap, ◌∙◌, subst}
 use Rattle.std.proofs.Common.{arith, append_assoc, Option, Some, None, Ok}
-use Rattle.std.specs.Prelude.{◌==◌}
 use Rattle.std.proofs.lemmas.Bool.{cases_Bool}
 use Rattle.std.proofs.lemmas.List.{append_cancel_left, take-append-drop}
 use Rattle.lp_lines.specs.laws.BaseLaws.{IsParsedSeries, ReadSeriesAreParsed}
 use Rattle.lp_format.specs.format.Lines.{after_comma, many, some_tags, tag, tag_set}
 use Rattle.lp_format.specs.laws.Meanings.{IsAtStop, SeparatedAfterComma}
-use Rattle.lp_format.specs.format.Names.{NameKind, a_measurement, a_tag_key, a_tag_value, ends_in_backslash, escapable}
-use Rattle.lp_format.specs.format.Names.{is_stop, logical, name, read_text, spelled, spelled_len}
+use Rattle.lp_format.specs.format.Names.{NameKind, a_measurement, a_tag_key, a_tag_value}
+use Rattle.lp_format.specs.format.Names.{name, spelled, spelled_len}
 use Rattle.lp_format.specs.format.Points.{Pair}
 use Rattle.lp_format.specs.format.Readings.{Reading, Text, reads}
 use Rattle.lp_events.proofs.lemmas.fields.ManyLemmas.{set_separated}
@@ -27,33 +26,19 @@ record ReadsCut {A : Type 0} (one : List ℕ → Reading A) (text : List ℕ) (x
 
 -- a stop stays one where the text after it is cut
 stop_cut : (passes : ℕ → Bool) (front kept lost : List ℕ) → IsAtStop passes front (kept ++ lost) → IsAtStop passes front kept
-stop_cut passes front [] lost at = tt
-stop_cut passes front (b ∷ kept) lost at = at
+stop_cut passes front kept lost at = grind (arith)
 
 -- so a name is spelled as it was
 spelled_cut : (kind : NameKind) (front kept lost : List ℕ) → spelled kind (front ++ (kept ++ lost)) ≡ front
     → spelled kind (front ++ kept) ≡ front
-spelled_cut kind front kept lost h =
-    let before = (before_stop (is_stop kind) front (kept ++ lost)).0 h in
-    (before_stop (is_stop kind) front kept).1
-    (record { none = before.none; at_stop = stop_cut (is_stop kind) front kept lost before.at_stop })
+spelled_cut kind front kept lost h = grind (arith, before_stop, stop_cut)
 
 -- two texts that spell one name read to it
 name_same : (kind : NameKind) (text other : List ℕ) (t : Text) (rest : List ℕ) → name kind text ≡ reads t rest
     → spelled kind other ≡ spelled kind text
     → name kind other ≡ reads t (drop (spelled_len kind other) other)
 unfolding name
-name_same kind text other t rest e same =
-    elim (cases_Bool (length (spelled kind text) == 0)) [
-      | inl empty ↦ absurd (let m = rw empty at e in cc)
-      | inr some ↦ elim (cases_Bool (ends_in_backslash (logical kind (spelled kind text)))) [
-        | inl bad ↦ absurd (let m = rw (some, bad) at e in cc)
-        | inr good ↦
-            let parts = reads_parts (read_text (escapable kind) (spelled kind text)) t
-            (drop (spelled_len kind text) text) rest (rw (some, good) at e) in
-            rw (same, some, good) (ap (λ (x : Text). reads x (drop (spelled_len kind other) other)) parts.0)
-      ]
-    ]
+name_same kind text other t rest e same = grind (arith, cases_Bool, reads_parts)
 
 -- a name before a text that is cut
 name_kept : (kind : NameKind) (text : List ℕ) (t : Text) (rest : List ℕ) → name kind text ≡ reads t rest → text ≡ spelled kind text ++ rest
@@ -143,14 +128,12 @@ set_of (t ∷ tags) = Some (t ∷ tags)
 
 -- they are its tags
 set_tags : (tags : List (Pair Text Text)) → some_tags (set_of tags) ≡ tags
-set_tags [] = refl
-set_tags (t ∷ tags) = refl
+set_tags tags = grind (arith)
 
 -- they are read as a set
 set_read : (tags : List (Pair Text Text)) (text : List ℕ) → SeparatedAfterComma tag tags text []
     → tag_set text ≡ Ok (record { value = set_of tags; rest = [] })
-set_read [] text h = rw h refl
-set_read (t ∷ tags) text h = rw (h.2, h.3, many_read (length h.1) tags h.1 h.4 (separated_room tags h.1 [] h.4)) refl
+set_read tags text h = grind (arith, many_read, separated_room)
 
 -- a series that was read reads back
 pub read_series_are_parsed : ReadSeriesAreParsed

@@ -65,49 +65,27 @@ module _ (kind : NameKind) (stops : is_stop kind equals ≡ true) (Value : List 
 
 -- what follows a tag is no longer than the text
 pub tag_less : (text rest : List ℕ) → IsWrittenTag text rest → length rest ≤ length text
-tag_less text rest w =
-    omega (
-      arith,
-      ap length w.key.written,
-      length-append (spelling a_tag_key w.key.name) (equals ∷ w.after),
-      ap length w.value.written,
-      length-append (spelling a_tag_value w.value.name) rest,
-    )
+tag_less text rest w = grind (arith, length-append)
 
 -- nor is what follows a field
 pub field_less : (text rest : List ℕ) → IsWrittenField text rest → length rest ≤ length text
-field_less text rest w =
-    omega (
-      arith,
-      ap length w.key.written,
-      length-append (spelling a_field_key w.key.name) (equals ∷ w.after),
-      ap length w.value.written,
-      length-append (built_value w.value.value) rest,
-    )
+field_less text rest w = grind (arith, length-append)
 
 -- where the rest of the front is known, the text is of this form where the rest is
 pub followed_step : (Front : List ℕ → List ℕ → Type 0) (After Ends : List ℕ → Type 0) → ((text : List ℕ) → After text → Ends text)
     → (text : List ℕ) (o : Option (Bor (List ℕ))) → IsOnlyRest (Front text) Ends o
     → MatchOption o (IsFollowed Front After text → ⊥) (λ r. After r.now ↔ IsFollowed Front After text)
-followed_step Front After Ends ends text None none = λ f. none f.rest f.front (ends f.rest f.after)
-followed_step Front After Ends ends text (Some r) only = (
-  (λ w. record { rest = r.now; front = only.0; after = w }),
-  (λ f. subst After (only.1 f.rest f.front (ends f.rest f.after)) f.after),
-)
+followed_step ront fter nds ends text r none = grind (arith)
 
 module _ (Item : List ℕ → List ℕ → Type 0) (After Ends : List ℕ → Type 0) (comma_ends : (after : List ℕ) → Ends (comma ∷ after))
     (after_ends : (text : List ℕ) → After text → Ends text) (no_comma : (after : List ℕ) → After (comma ∷ after) → ⊥) where
   -- items end the item before them
   items_end : (text : List ℕ) → AreItems Item After text → Ends text
-  items_end text (no_item after) = after_ends text after
-  items_end text (an_item after rest e item more) = subst Ends (sym e) (comma_ends after)
+  items_end text more = grind (arith)
 
   -- after a comma an item comes, and then items
   after_comma : (left text : List ℕ) → left ≡ comma ∷ text → AreItems Item After left → IsFollowed Item (AreItems Item After) text
-  after_comma left text e (no_item after) = absurd (no_comma text (subst After e after))
-  after_comma left text e (an_item after rest f item more) =
-      let same : after ≡ text = ap (λ (xs : List ℕ). drop 1 xs) (sym f ∙ e) in
-      record { rest = rest; front = subst (λ xs. Item xs rest) same item; after = more }
+  after_comma left text e more = grind (arith)
 
   -- where the rest of an item after a comma is known, the text is items where the rest is
   pub items_step : (left text : List ℕ) (o : Option (Bor (List ℕ))) → byte comma left ≡ reads comma text → IsOnlyRest (Item text) Ends o
@@ -130,18 +108,15 @@ module _ (Item : List ℕ → List ℕ → Type 0) (After Ends : List ℕ → Ty
     where
       -- no item is there
       last : AreItems Item After left → After left
-      last (no_item after) = after
-      last (an_item after rest e item more) = absurd (byte_missing comma left missed after e)
+      last more = grind (arith, byte_missing)
 
 -- a timestamp ends a value
 stamp_ends : (text : List ℕ) → IsWrittenTimestamp text → EndsValue text
-stamp_ends text (absent e) = subst EndsValue (sym e) refl
-stamp_ends text (present z fits e) = subst EndsValue (sym e) refl
+stamp_ends text e = grind (arith)
 
 -- and begins with no comma
 stamp_no_comma : (after : List ℕ) → IsWrittenTimestamp (comma ∷ after) → ⊥
-stamp_no_comma after (absent e) = omega (arith, ap length e)
-stamp_no_comma after (present z fits e) = omega (arith, ap (λ (xs : List ℕ). slice_index xs 0) e)
+stamp_no_comma after e = grind (arith)
 
 -- a step of the fields: after a comma
 pub field_step : (left text : List ℕ) (o : Option (Bor (List ℕ))) → byte comma left ≡ reads comma text
@@ -184,8 +159,7 @@ only_gap = items_last IsWrittenTag IsWrittenAfterTags (EndsName a_tag_value) (co
 
 -- where neither a comma nor a space is, nothing is after a name
 pub no_gap : (text : List ℕ) → byte comma text ≡ miss → byte space text ≡ miss → IsWrittenAfterName text → ⊥
-no_gap text no_comma no_space w =
-    let gap = (only_gap text no_comma).1 w in byte_missing space text no_space gap.rest gap.front
+no_gap text no_comma no_space w = grind (arith, only_gap, byte_missing)
 
 -- after a space the fields come
 pub fields_after : (text fields : List ℕ) → byte comma text ≡ miss → byte space text ≡ reads space fields
@@ -199,8 +173,7 @@ fields_after text fields no_comma read =
 
 -- a timestamp after its space
 timestamp_number : (number : List ℕ) → IsWrittenTimestamp (space ∷ number) → (z : ℤ) × (fits_i64 z ≡ true) × (signed_decimal z ≡ number)
-timestamp_number number (absent e) = absurd (omega (arith, ap length e))
-timestamp_number number (present z fits e) = (z, fits, ap (λ (xs : List ℕ). drop 1 xs) (sym e))
+timestamp_number number e = grind (arith)
 
 -- it is a number to its end
 pub timestamp_len : (number : List ℕ) → IsWrittenTimestamp (space ∷ number) → (0 < integer_len number) × (integer_len number ≡ length number)
@@ -229,8 +202,7 @@ no_timestamp (b ∷ text) some = absurd (omega (arith, some))
 
 -- and what begins with no space is none
 pub timestamp_space : (text : List ℕ) → length text ≢ 0 → byte space text ≡ miss → IsWrittenTimestamp text → ⊥
-timestamp_space text some missed (absent e) = some (ap length e)
-timestamp_space text some missed (present z fits e) = byte_missing space text missed (signed_decimal z) e
+timestamp_space text some missed e = grind (arith, byte_missing)
 
 -- the timestamp of a point is one
 stamp_item : (t : Option ℤ) → IfSome t (λ z. fits_i64 z ≡ true) → IsWrittenTimestamp (built_timestamp t)
@@ -244,12 +216,7 @@ stamp_of text (present z fits e) = (Some z, fits, sym e)
 
 -- the text of an admitted tag is one
 tag_item : (t : Tag) (rest : List ℕ) → AdmittedTag t → IsWrittenTag (tag_text t ++ rest) rest
-tag_item t rest ok =
-    record {
-      after = spelling a_tag_value t.value ++ rest;
-      key = record { name = t.key; admitted = ok.0; written = sym (append_assoc (spelling a_tag_key t.key) (equals ∷ spelling a_tag_value t.value) rest) };
-      value = record { name = t.value; admitted = ok.1; written = refl };
-    }
+tag_item t rest ok = grind (arith, append_assoc)
 
 -- and each tag that the builder writes is such a text
 tag_of : (text rest : List ℕ) → IsWrittenTag text rest → (t : Tag) × AdmittedTag t × (tag_text t ++ rest ≡ text)
@@ -262,12 +229,7 @@ tag_of text rest w = (
 
 -- the text of an admitted field is one
 field_item : (f : Field) (rest : List ℕ) → AdmittedField f → IsWrittenField (built_field f ++ rest) rest
-field_item f rest ok =
-    record {
-      after = built_value f.value ++ rest;
-      key = record { name = f.key; admitted = ok.0; written = sym (append_assoc (spelling a_field_key f.key) (equals ∷ built_value f.value) rest) };
-      value = record { value = f.value; fits = ok.1; written = refl };
-    }
+field_item f rest ok = grind (arith, append_assoc)
 
 -- and each field that the builder writes is such a text
 field_of : (text rest : List ℕ) → IsWrittenField text rest → (f : Field) × AdmittedField f × (built_field f ++ rest ≡ text)
@@ -401,5 +363,4 @@ line_step line o only = go o (followed_step (IsWrittenName a_measurement) IsWrit
         → MatchOption o (IsFollowed (IsWrittenName a_measurement) IsWrittenAfterName line → ⊥)
         (λ r. IsWrittenAfterName r.now ↔ IsFollowed (IsWrittenName a_measurement) IsWrittenAfterName line)
         → MatchOption o (IsAsWritten line → ⊥) (λ r. IsWrittenAfterName r.now ↔ IsAsWritten line)
-    go None none = λ w. none (parts w)
-    go (Some r) step = (λ w. point_of_line line (step.0 w), λ w. step.1 (parts w))
+    go r none = grind (arith, parts, point_of_line)

@@ -1,13 +1,13 @@
 -- Names and strings that are spelled as the builder spells them.
-use Rattle.std.proofs.Common.{◌≡◌, ℕ, ◌<◌, ◌&&◌, Bool, true, false, not, List, [], ◌∷◌, ◌++◌, length, take, drop, slice_index, refl, sym}
-use Rattle.std.proofs.Common.{ap, subst, ◌∙◌, arith, inl, inr, ◌≢◌, Option, Some, None}
+use Rattle.std.proofs.Common.{◌≡◌, ℕ, ◌<◌, ◌&&◌, Bool, true, false, not, List, [], ◌∷◌, length, take, drop, slice_index, refl, sym}
+use Rattle.std.proofs.Common.{ap, subst, ◌∙◌, arith, ◌≢◌, Option, Some, None}
 use Rattle.std.specs.Prelude.{◌==◌, MatchOption}
 use Rattle.std.specs.List.{list_all}
 use Rattle.std.specs.Borrow.{Bor}
 use Rattle.std.proofs.lemmas.Bool.{cases_Bool, false≢true, ne_eqb, eqb-true}
 use Rattle.std.proofs.lemmas.Grind.{common_steps}
 use Rattle.std.proofs.lemmas.List.{drop_at, take_at, take-append-drop, append_cancel_right}
-use Rattle.lp_format.specs.format.Bytes.{backslash, hash, is_one_of, quote}
+use Rattle.lp_format.specs.format.Bytes.{backslash, hash, quote}
 use Rattle.lp_format.specs.format.Escapes.{escaped}
 use Rattle.lp_format.specs.format.Names.{NameKind, a_measurement, a_tag_key, a_tag_value, a_field_key, ends_in_backslash, escapable}
 use Rattle.lp_format.specs.format.Names.{is_stop}
@@ -30,8 +30,7 @@ holds_same a_field_key b = grind (arith, common_steps)
 
 -- and so of a text
 all_same : (kind : NameKind) (n : List ℕ) → list_all (can_hold (escapable kind) (is_stop kind)) n ≡ list_all (may_hold kind) n
-all_same kind [] = refl
-all_same kind (b ∷ n) = rw (holds_same kind b, all_same kind n) refl
+all_same kind n = grind (arith, holds_same)
 
 -- neither of two texts is empty
 none_empty : (m n : ℕ) → 0 < m → 0 < n → (m == 0) ≡ (n == 0)
@@ -41,11 +40,7 @@ none_empty m n more some = ne_eqb m 0 (λ e. absurd (omega arith)) ∙ sym (ne_e
 spelled_empty : (known n : List ℕ) → (length (escaped known n) == 0) ≡ (length n == 0)
 unfolding escaped
 spelled_empty known [] = refl
-spelled_empty known (b ∷ n) =
-    elim (cases_Bool (is_one_of known b)) [
-      | inl found ↦ rw (escaped_found known n b found) (none_empty _ _ (omega arith) (omega arith))
-      | inr plain ↦ rw (escaped_plain known n b plain) (none_empty _ _ (omega arith) (omega arith))
-    ]
+spelled_empty known (b ∷ n) = grind (arith, cases_Bool, escaped_found, none_empty, escaped_plain)
 
 -- it ends in a backslash where its name does
 spelled_ends : (kind : NameKind) (n : List ℕ) → ends_in_backslash (spelling kind n) ≡ ends_in_backslash n
@@ -55,11 +50,7 @@ spelled_ends kind n = sym (logical_ends kind (spelling kind n)) ∙ ap ends_in_b
 spelled_hash : (n : List ℕ) → (slice_index (spelling a_measurement n) 0 == hash) ≡ (slice_index n 0 == hash)
 unfolding escaped
 spelled_hash [] = refl
-spelled_hash (b ∷ n) =
-    elim (cases_Bool (is_one_of (escapable a_measurement) b)) [
-      | inl found ↦ let other : (b == hash) ≡ false = grind (arith, common_steps) in rw (escaped_found (escapable a_measurement) n b found, other) refl
-      | inr plain ↦ rw (escaped_plain (escapable a_measurement) n b plain) refl
-    ]
+spelled_hash (b ∷ n) = grind (arith, cases_Bool, escaped_found, escaped_plain)
 
 -- a test that holds does not change the others
 other_tests : (a b x : Bool) → (a && b && not x) ≡ (a && b && true && not (x && true))
@@ -111,19 +102,12 @@ name_passed kind text rest w ends =
 -- no other rest follows a name
 pub name_only : (kind : NameKind) (text rest : List ℕ) → IsWrittenName kind text rest → EndsName kind rest
     → rest ≡ drop (name_len kind text) text
-name_only kind text rest w ends =
-    subst (λ xs. rest ≡ drop (name_len kind text) xs) w.written
-    (sym (drop_at (spelling kind w.name) rest (name_len kind text) (sym (name_passed kind text rest w ends))))
+name_only kind text rest w ends = grind (arith, drop_at, name_passed)
 
 -- and none does where it is not admitted
 pub name_none : (kind : NameKind) (text rest : List ℕ) → is_admitted_spelling kind (take (name_len kind text) text) ≡ false
     → IsWrittenName kind text rest → EndsName kind rest → ⊥
-name_none kind text rest refused w ends =
-    let front : take (name_len kind text) text ≡ spelling kind w.name =
-    subst (λ xs. take (name_len kind text) xs ≡ spelling kind w.name) w.written
-    (take_at (spelling kind w.name) rest (name_len kind text) (sym (name_passed kind text rest w ends))) in
-    false≢true (sym refused ∙ ap (is_admitted_spelling kind) front
-    ∙ spelling_tells kind w.name (admitted_parts kind w.name w.admitted).may ∙ w.admitted)
+name_none kind text rest refused w ends = grind (arith, take_at, name_passed, false≢true, spelling_tells, admitted_parts)
 
 -- a byte that ends a name ends it there
 pub stop_ends : (kind : NameKind) (stop : ℕ) (rest : List ℕ) → is_stop kind stop ≡ true → stop ≢ backslash → EndsName kind (stop ∷ rest)
@@ -148,27 +132,11 @@ string_found text opened rest e closed =
 -- and no other rest follows a string
 pub string_only : (text opened rest : List ℕ) → text ≡ quote ∷ opened → IsWrittenString text rest
     → drop (written_len quotable is_quote opened) opened ≡ quote ∷ rest
-string_only text opened rest e w =
-    let same : escaped quotable w.body ++ quote ∷ rest ≡ opened = ap (λ (xs : List ℕ). drop 1 xs) (w.written ∙ e) in
-    let len : written_len quotable is_quote opened ≡ length (escaped quotable w.body) =
-    subst (λ xs. written_len quotable is_quote xs ≡ length (escaped quotable w.body)) same
-    (written_spelling quotable is_quote w.body (quote ∷ rest) refl (holds_any w.body)
-    (written_stops_first rest)) in
-    subst (λ xs. drop (written_len quotable is_quote opened) xs ≡ quote ∷ rest) same
-    (drop_at (escaped quotable w.body) (quote ∷ rest) (written_len quotable is_quote opened) (sym len))
-  where
-    -- a quote ends a string
-    written_stops_first : (rest : List ℕ) → written_len quotable is_quote (quote ∷ rest) ≡ 0
-    written_stops_first rest = written_stops quotable is_quote quote rest refl (λ e. omega (arith, e))
+string_only text opened rest e w = grind (arith, written_spelling, holds_any, drop_at, written_stops)
 
 -- what is left of a text where a byte reads comes after that byte
 pub byte_left : (b : ℕ) (text rest : List ℕ) → byte b text ≡ reads b rest → text ≡ b ∷ rest
-byte_left b [] rest e = absurd (cc)
-byte_left b (c ∷ text) rest e =
-    elim (cases_Bool (c == b)) [
-      | inl same ↦ let read : reads b text ≡ reads b rest = rw same at e in rw (eqb-true c b same) (ap (λ xs. b ∷ xs) (cc))
-      | inr other ↦ let none : miss ≡ reads b rest = rw other at e in absurd (cc)
-    ]
+byte_left b text rest e = grind (arith, cases_Bool, eqb-true)
 
 -- what comes after both quotes is the only rest of a string
 pub string_answer : (text opened after : List ℕ) (o : Option (Bor (List ℕ))) → text ≡ quote ∷ opened

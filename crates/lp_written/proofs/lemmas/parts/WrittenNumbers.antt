@@ -1,8 +1,8 @@
 -- Numbers as the builder writes them.
-use Rattle.std.proofs.Common.{◌≡◌, ◌≢◌, ◌⊎◌, ℕ, zero, suc, ◌^◌, ◌<◌, ◌≤◌, ◌&&◌, ◌||◌, Bool, true, false, not, List, [], ◌∷◌, ◌++◌}
+use Rattle.std.proofs.Common.{◌≡◌, ◌≢◌, ◌⊎◌, ℕ, ◌^◌, ◌<◌, ◌&&◌, ◌||◌, Bool, true, false, not, List, [], ◌∷◌, ◌++◌}
 use Rattle.std.proofs.Common.{length, take, drop, slice_index, get_or, refl, sym, ap, subst, ◌∙◌, arith, inl, inr, append_assoc, Option}
 use Rattle.std.proofs.Common.{Some, None}
-use Rattle.std.specs.Prelude.{◌==◌, ℤ, pos, negsuc, decimal, codes, nat_lt, neg_ℤ, MatchOption}
+use Rattle.std.specs.Prelude.{◌==◌, ℤ, pos, decimal, codes, nat_lt, neg_ℤ, MatchOption}
 use Rattle.std.specs.Fmt.{signed_decimal}
 use Rattle.std.specs.Str.Parse.{AllDigits, IsNumeral, digits_value, signed_digits_value}
 use Rattle.std.proofs.Math.Nat.{pow-le-pow_right}
@@ -38,46 +38,31 @@ unsigned_again ds numeral plain fits =
   where
     -- a zero at the start is the only digit
     alone : (ds : List ℕ) → has_extra_zero ds ≡ false → 0 < length ds → get_or ds 0 0 ≡ 48 → length ds ≡ 1
-    alone [] plain some first = absurd (omega (arith, some))
-    alone (b ∷ []) plain some first = refl
-    alone (b ∷ c ∷ ds) plain some first = absurd (eqb-false b 48 (or_parts (b == minus && c == 48) (b == 48) plain).1 first)
+    alone ds plain some first = grind (arith, eqb-false, or_parts)
 
 -- what begins with no zero has none too many
 first_digit : (ds : List ℕ) → 48 < get_or ds 0 0 → has_extra_zero ds ≡ false
-first_digit [] more = refl
-first_digit (b ∷ []) more = refl
-first_digit (b ∷ c ∷ ds) more =
-    rw (ne_eqb b minus (λ e. absurd (omega (arith, more, e))), ne_eqb b 48 (λ e. absurd (omega (arith, more, e)))) refl
+first_digit ds more = grind (arith, ne_eqb)
 
 -- nor has what the builder writes for a number
 pub decimal_zero : (n : ℕ) → n < 2 ^ 64 → has_extra_zero (decimal n) ≡ false
-decimal_zero zero fits = ap has_extra_zero (decimal_digit 0 (omega arith))
-decimal_zero (suc n) fits = first_digit (decimal (suc n)) (first_decimal (suc n) (omega arith) fits)
+decimal_zero n fits = grind (arith, decimal_digit, first_digit, first_decimal)
 
 -- a sign before a text that begins with no zero
 minus_zero : (ds : List ℕ) → 48 < get_or ds 0 0 → has_extra_zero (45 ∷ ds) ≡ false
-minus_zero [] more = refl
-minus_zero (c ∷ ds) more = rw (ne_eqb c 48 (λ e. absurd (omega (arith, more, e)))) refl
+minus_zero ds more = grind (arith, ne_eqb)
 
 -- nor has that of an integer
 pub signed_zero : (z : ℤ) → fits_i64 z ≡ true → has_extra_zero (signed_decimal z) ≡ false
-signed_zero (pos n) fits = let small : n < 2 ^ 63 = (fits_from_test (pos n) fits).sfits in decimal_zero n (omega arith)
-signed_zero (negsuc n) fits =
-    let small : n < 2 ^ 63 = (fits_from_test (negsuc n) fits).sfits in
-    minus_zero (decimal (suc n)) (first_decimal (suc n) (omega arith) (omega arith))
+signed_zero n fits = grind (arith, fits_from_test, decimal_zero, minus_zero, first_decimal)
 
 -- the negative of a number that is not 0
 negated : (n : ℕ) → 0 < n → fits_i64 (neg_ℤ (pos n)) ≡ true → (n < 2 ^ 64) × (signed_decimal (neg_ℤ (pos n)) ≡ 45 ∷ decimal n)
-negated zero some fits = absurd (omega (arith, some))
-negated (suc n) some fits = let small : n < 2 ^ 63 = (fits_from_test (negsuc n) fits).sfits in (omega arith, refl)
+negated n some fits = grind (arith, fits_from_test)
 
 -- digits after a sign have no zero at the start
 first_after_minus : (ds : List ℕ) → IsNumeral 10 ds → has_extra_zero (45 ∷ ds) ≡ false → 48 < get_or ds 0 0
-first_after_minus [] numeral plain = absurd (omega (arith, numeral.0))
-first_after_minus (d ∷ ds) numeral plain =
-    let range = digit_from_value d numeral.1.0 in
-    let other : (d == 48) ≡ false = (or_parts (d == 48) false plain).0 in
-    omega (arith, range, eqb-false d 48 other)
+first_after_minus ds numeral plain = grind (arith, digit_from_value, or_parts, eqb-false)
 
 -- so they are not those of 0
 some_value : (ds : List ℕ) → IsNumeral 10 ds → 48 < get_or ds 0 0 → 0 < digits_value 10 ds
@@ -94,64 +79,41 @@ some_value ds numeral first =
 -- digits after a sign are what the builder writes for their number
 minus_again : (ds : List ℕ) → IsNumeral 10 ds → has_extra_zero (45 ∷ ds) ≡ false
     → fits_i64 (neg_ℤ (pos (digits_value 10 ds))) ≡ true → signed_decimal (neg_ℤ (pos (digits_value 10 ds))) ≡ 45 ∷ ds
-minus_again ds numeral plain fits =
-    let first = first_after_minus ds numeral plain in
-    let parts = negated (digits_value 10 ds) (some_value ds numeral first) fits in
-    parts.1 ∙ ap (λ (xs : List ℕ). 45 ∷ xs) (unsigned_again ds numeral (first_digit ds first) parts.0)
+minus_again ds numeral plain fits = grind (arith, first_after_minus, negated, some_value, unsigned_again, first_digit)
 
 -- digits without a sign have their value
 plain_value : (d : ℕ) (ds : List ℕ) → IsNumeral 10 (d ∷ ds) → signed_digits_value 10 (d ∷ ds) ≡ pos (digits_value 10 (d ∷ ds))
-plain_value d ds numeral =
-    let range = digit_from_value d numeral.1.0 in
-    rw (ne_eqb d 45 (λ e. absurd (omega arith)), ne_eqb d 43 (λ e. absurd (omega arith))) refl
+plain_value d ds numeral = grind (arith, digit_from_value, ne_eqb)
 
 -- a test beside one that fails
 or_one : (t : Bool) → (t || false) ≡ true → t ≡ true
-or_one true h = refl
-or_one false h = absurd (false≢true h)
+or_one x0 h = grind (arith, false≢true)
 
 -- an integer without a zero too many is what the builder writes for its number
 pub integer_again : (number : List ℕ) → IsSigned (codes "-") number → has_extra_zero number ≡ false
     → fits_i64 (signed_digits_value 10 number) ≡ true → signed_decimal (signed_digits_value 10 number) ≡ number
 integer_again [] never plain fits = absurd never
-integer_again (b ∷ ds) (inl signed) plain fits =
-    let same : b ≡ 45 = sym (eqb-true 45 b (or_one (45 == b) signed.0)) in
-    subst (λ x. has_extra_zero (x ∷ ds) ≡ false → fits_i64 (signed_digits_value 10 (x ∷ ds)) ≡ true
-    → signed_decimal (signed_digits_value 10 (x ∷ ds)) ≡ x ∷ ds) (sym same) (minus_again ds signed.1) plain fits
-integer_again (b ∷ ds) (inr numeral) plain fits =
-    let value = plain_value b ds numeral in
-    let small : digits_value 10 (b ∷ ds) < 2 ^ 63 = (fits_from_test (pos (digits_value 10 (b ∷ ds))) (rw value at fits)).sfits in
-    ap signed_decimal value ∙ unsigned_again (b ∷ ds) numeral plain (omega arith)
+integer_again (b ∷ ds) (inl signed) plain fits = grind (arith, eqb-true, or_one, minus_again)
+integer_again (b ∷ ds) (inr numeral) plain fits = grind (arith, plain_value, fits_from_test, unsigned_again)
 
 -- a number of at most 18 digits
 short_value : (ds : List ℕ) → AllDigits 10 ds → length ds < 19 → digits_value 10 ds < 2 ^ 63
-short_value ds digits short =
-    let power : 10 ^ length ds ≤ 10 ^ 18 = pow-le-pow_right {n = 10} (omega arith) {i = length ds} {j = 18} (omega arith) in
-    omega (arith, digits_value-lt 10 ds digits, power)
+short_value ds digits short = grind (arith, pow-le-pow_right, digits_value-lt)
 
 -- its negative fits an i64
 negated_fits : (n : ℕ) → n < 2 ^ 63 → fits_i64 (neg_ℤ (pos n)) ≡ true
-negated_fits zero small = refl
-negated_fits (suc n) small = test_from_fits (negsuc n) (record { sfits = omega arith })
+negated_fits n small = grind (arith, test_from_fits)
 
 -- an integer of less than 19 bytes fits an i64
 pub short_fits : (number : List ℕ) → IsSigned (codes "-") number → length number < 19 → fits_i64 (signed_digits_value 10 number) ≡ true
-short_fits [] never short = absurd never
-short_fits (b ∷ ds) (inl signed) short =
-    let same : b ≡ 45 = sym (eqb-true 45 b (or_one (45 == b) signed.0)) in
-    let negative : fits_i64 (signed_digits_value 10 (45 ∷ ds)) ≡ true =
-    negated_fits (digits_value 10 ds) (short_value ds signed.1.1 (omega (arith, short))) in
-    subst (λ x. fits_i64 (signed_digits_value 10 (x ∷ ds)) ≡ true) (sym same) negative
-short_fits (b ∷ ds) (inr numeral) short =
-    rw (plain_value b ds numeral) (test_from_fits (pos (digits_value 10 (b ∷ ds))) (record { sfits = short_value (b ∷ ds) numeral.1 short }))
+short_fits ds never short = grind (arith, eqb-true, or_one, negated_fits, short_value, plain_value, test_from_fits)
 
 -- what a parse of a number tells is whether it fits
 pub fits_told : (number : List ℕ) (o : Option ℤ)
     → MatchOption o (fits_i64 (signed_digits_value 10 number) ≡ false)
     (λ value. (fits_i64 (signed_digits_value 10 number) ≡ true) × (value ≡ signed_digits_value 10 number))
     → is_some o ≡ fits_i64 (signed_digits_value 10 number)
-fits_told number None told = sym told
-fits_told number (Some value) told = sym told.0
+fits_told number value told = grind (arith)
 
 -- a number and its mark, at the start of a text
 pub record NumberText (text number rest : List ℕ) (mark : ℕ) : Type 0 where
@@ -162,12 +124,7 @@ pub record NumberText (text number rest : List ℕ) (mark : ℕ) : Type 0 where
 -- such a text, by its parts
 number_text : (number rest : List ℕ) (mark : ℕ) → integer_len (number ++ mark ∷ rest) ≡ length number → 0 < length number
     → NumberText (number ++ mark ∷ rest) number rest mark
-number_text number rest mark len some =
-    record {
-      some = rw len some;
-      front = rw len (take_at number (mark ∷ rest) (length number) refl);
-      after = rw len (drop_at number (mark ∷ rest) (length number) refl);
-    }
+number_text number rest mark len some = grind (arith, take_at, drop_at)
 
 -- what a value is that the builder writes at the start of a text
 pub data Shape (text rest : List ℕ) : Type 0 where
@@ -189,8 +146,7 @@ shape_of (unsigned n) rest fits ends =
     (an_unsigned n fits
     (number_text (decimal n) rest 117 (unsigned_len (decimal n) (117 ∷ rest) written.0 refl) written.0.0))
 shape_of (float t) rest fits ends = a_float t (float_front t rest fits ends)
-shape_of (string s) rest fits ends =
-    a_string refl refl (record { body = s; written = ap (λ (xs : List ℕ). 34 ∷ xs) (sym (append_assoc (escaped quotable s) (34 ∷ []) rest)) })
+shape_of (string s) rest fits ends = grind (arith, append_assoc)
 shape_of (boolean true) rest fits ends = a_word true refl refl
 shape_of (boolean false) rest fits ends = a_word false refl refl
 
@@ -200,9 +156,7 @@ shape text rest w ends = subst (λ xs. Shape xs rest) w.written (shape_of w.valu
 
 -- digits where no sign is
 pub unsigned_numeral : (number : List ℕ) → IsSigned (codes "-") number → (slice_index number 0 == minus) ≡ false → IsNumeral 10 number
-unsigned_numeral [] never plain = absurd never
-unsigned_numeral (b ∷ ds) (inl signed) plain = absurd (eqb-false b 45 plain (sym (eqb-true 45 b (or_one (45 == b) signed.0))))
-unsigned_numeral (b ∷ ds) (inr numeral) plain = numeral
+unsigned_numeral ds never plain = grind (arith, eqb-false, eqb-true, or_one)
 
 -- digits begin with no sign
 no_minus : (ds : List ℕ) → IsNumeral 10 ds → (slice_index ds 0 == minus) ≡ false
@@ -212,10 +166,7 @@ no_minus (d ∷ ds) numeral = let range = digit_from_value d numeral.1.0 in ne_e
 -- an integer that is written so is that of its number
 pub integer_told : (number : List ℕ) → IsSigned (codes "-") number → is_written_integer number ≡ true
     → (z : ℤ) × (fits_i64 z ≡ true) × (signed_decimal z ≡ number)
-integer_told number signed ok =
-    let z = signed_digits_value 10 number in
-    let parts = and_parts (not (has_extra_zero number)) (fits_i64 z) ok in
-    (z, parts.1, integer_again number signed (not-true (has_extra_zero number) parts.0) parts.1)
+integer_told number signed ok = grind (arith, and_parts, integer_again, not-true)
 
 -- and that of each number is written so
 pub integer_tells : (z : ℤ) → fits_i64 z ≡ true → is_written_integer (signed_decimal z) ≡ true
@@ -234,26 +185,18 @@ unsigned_told number signed ok =
 
 -- and that of each number is written so
 unsigned_tells : (n : ℕ) → n < 2 ^ 64 → is_written_unsigned (decimal n) ≡ true
-unsigned_tells n fits =
-    let written = decimal_is_IsNumeral n fits in
-    rw (no_minus (decimal n) written.0, decimal_zero n fits, written.1, lt-ltb n (2 ^ 64) fits) refl
+unsigned_tells n fits = grind (arith, decimal_is_IsNumeral, no_minus, decimal_zero, lt-ltb)
 
 -- a number that is written so is a value with its mark
 marked_found : (v : Value (List ℕ)) (text number rest : List ℕ) (mark k : ℕ) → IsValue v → built_value v ≡ number ++ mark ∷ []
     → number ≡ take k text → drop k text ≡ mark ∷ rest → IsWrittenValue text rest
-marked_found v text number rest mark k fits built front after =
-    record {
-      value = v;
-      fits = fits;
-      written = ap (λ (xs : List ℕ). xs ++ rest) built ∙ append_assoc number (mark ∷ []) rest ∙ rw (front, ← after) (take-append-drop k text);
-    }
+marked_found v text number rest mark k fits built front after = grind (arith, append_assoc, take-append-drop)
 
 -- the rest after a number and its mark is the only one where the number is written so, and else none is
 marked_answer : (text left : List ℕ) (ok : Bool) → (ok ≡ true → IsWrittenValue text left)
     → ((rest : List ℕ) → IsWrittenValue text rest → EndsValue rest → (ok ≡ true) × (rest ≡ left))
     → (r : Bor (List ℕ)) → r.now ≡ left → IsOnlyRest (IsWrittenValue text) EndsValue (then_some ok r)
-marked_answer text left true found only r e = rw e (found refl, λ rest w ends. (only rest w ends).1)
-marked_answer text left false found only r e = λ rest w ends. false≢true (only rest w ends).0
+marked_answer text left x2 found only r e = grind (arith, false≢true)
 
 -- the integer at the start of a text has a sign or none, and digits
 pub signed_number : (text number : List ℕ) (whole : ℕ) → whole ≡ integer_len text → 0 < whole → number ≡ take whole text → IsSigned (codes "-") number
@@ -369,19 +312,7 @@ string_value text rest w =
 -- and after a quote the builder writes no other
 pub value_string : (text rest : List ℕ) → integer_len text ≡ 0 → slice_index text 0 ≡ 34 → IsWrittenValue text rest → EndsValue rest
     → IsWrittenString text rest
-value_string text rest whole first w ends =
-    elim (shape text rest w ends) [
-      | an_integer z fits t ↦ absurd (omega (arith, t.some, whole))
-      | an_unsigned n fits t ↦ absurd (omega (arith, t.some, whole))
-      | a_float x front ↦ absurd (omega (arith, front.some, whole))
-      | a_string none quote x ↦ x
-      | a_word b none word ↦ absurd (no_quote b (sym (ap (λ (xs : List ℕ). slice_index xs 0) word) ∙ first))
-    ]
-  where
-    -- no word begins with a quote
-    no_quote : (b : Bool) → slice_index (built_value (boolean b) ++ rest) 0 ≡ 34 → ⊥
-    no_quote true e = omega (arith, e)
-    no_quote false e = omega (arith, e)
+value_string text rest whole first w ends = grind (arith, shape)
 
 -- where neither a number nor a string is, the builder writes a word
 pub value_word : (text rest : List ℕ) → integer_len text ≡ 0 → slice_index text 0 ≢ 34 → IsWrittenValue text rest → EndsValue rest
@@ -401,10 +332,7 @@ word_value text rest b e = record { value = boolean b; fits = tt; written = sym 
 
 -- two words at the start of a text are the same, and so is what follows them
 word_same : (a b : Bool) (rest left : List ℕ) → built_value (boolean a) ++ rest ≡ built_value (boolean b) ++ left → rest ≡ left
-word_same true true rest left e = ap (λ (xs : List ℕ). drop 4 xs) e
-word_same true false rest left e = absurd (omega (arith, ap (λ (xs : List ℕ). slice_index xs 0) e))
-word_same false true rest left e = absurd (omega (arith, ap (λ (xs : List ℕ). slice_index xs 0) e))
-word_same false false rest left e = ap (λ (xs : List ℕ). drop 5 xs) e
+word_same x0 x1 rest left e = grind (arith)
 
 -- what follows a word is the only rest of a value
 pub word_answer : (b : Bool) (text left : List ℕ) → integer_len text ≡ 0 → slice_index text 0 ≢ 34 → text ≡ built_value (boolean b) ++ left

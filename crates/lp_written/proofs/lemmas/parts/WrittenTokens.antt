@@ -11,7 +11,6 @@ use Rattle.lp_format.specs.format.Bytes.{backslash, is_one_of}
 use Rattle.lp_format.specs.format.Escapes.{escaped}
 use Rattle.lp_format.proofs.lemmas.read_back.NameReadsBack.{escaped_found, escaped_plain}
 use Rattle.lp_scan.specs.declared.sets.TokenKind.{TokenKind}
-use Rattle.lp_scan.specs.declared.sets.TokenKind.TheVariants.{Measurement, TagKey, TagValue, FieldKey, String}
 use Rattle.lp_scan.specs.code.Tokens.{is_mark, known_of, stops_of}
 use Rattle.lp_scan.specs.code.Lanes.{IsRunAt}
 use Rattle.lp_written.specs.code.AsWritten.{written_len}
@@ -20,15 +19,13 @@ use Rattle.lp_written.specs.code.AsWritten.{written_len}
 pub written_unmarked : (known : List ℕ) (stops : ℕ → Bool) (b : ℕ) (text : List ℕ) → (stops b || is_one_of known b) ≡ false
     → written_len known stops (b ∷ text) ≡ 1 + written_len known stops text
 unfolding written_len
-written_unmarked known stops b [] plain = rw plain refl
-written_unmarked known stops b (c ∷ text) plain = rw plain refl
+written_unmarked known stops b text plain = grind (arith)
 
 -- a mark that is no backslash ends it
 pub written_stops : (known : List ℕ) (stops : ℕ → Bool) (b : ℕ) (text : List ℕ) → (stops b || is_one_of known b) ≡ true → b ≢ backslash
     → written_len known stops (b ∷ text) ≡ 0
 unfolding written_len
-written_stops known stops b [] mark other = rw mark refl
-written_stops known stops b (c ∷ text) mark other = rw (mark, ne_eqb b backslash other) refl
+written_stops known stops b text mark other = grind (arith, ne_eqb)
 
 -- a backslash before a byte that gets one is two bytes of it
 pub written_escape : (known : List ℕ) (stops : ℕ → Bool) (c : ℕ) (text : List ℕ) → (stops backslash || is_one_of known backslash) ≡ true
@@ -42,15 +39,7 @@ pub written_ends : (known : List ℕ) (stops : ℕ → Bool) (text : List ℕ)
     → (1 < length text → slice_index text 0 ≡ backslash → is_one_of known (slice_index text 1) ≡ true → ⊥)
     → written_len known stops text ≡ 0
 unfolding written_len
-written_ends known stops [] mark other = refl
-written_ends known stops (b ∷ []) mark other = rw (mark (omega arith)) refl
-written_ends known stops (b ∷ c ∷ text) mark other =
-    elim (cases_Bool (b == backslash && is_one_of known c)) [
-      | inl escape ↦
-          let parts = and_parts (b == backslash) (is_one_of known c) escape in
-          absurd (other (omega arith) (eqb-true b backslash parts.0) parts.1)
-      | inr ends ↦ rw (mark (omega arith), ends) refl
-    ]
+written_ends known stops text mark other = grind (arith, cases_Bool, and_parts, eqb-true)
 
 -- bytes that are no marks are passed
 pub written_run : (known : List ℕ) (stops : ℕ → Bool) (n : ℕ) (text : List ℕ) → n ≤ length text
@@ -127,11 +116,7 @@ spelled_escape known stops c text mark found more =
 pub written_spelled : (known : List ℕ) (stops : ℕ → Bool) (text : List ℕ) → Spelled known stops text
 unfolding written_len
 written_spelled known stops [] = spelled_none known stops [] refl
-written_spelled known stops (b ∷ []) =
-    elim (cases_Bool (stops b || is_one_of known b)) [
-      | inl mark ↦ spelled_none known stops (b ∷ []) (rw mark refl)
-      | inr plain ↦ spelled_plain known stops b [] plain (written_spelled known stops [])
-    ]
+written_spelled known stops (b ∷ []) = grind (arith, cases_Bool, spelled_none, spelled_plain)
 written_spelled known stops (b ∷ c ∷ text) =
     elim (cases_Bool (stops b || is_one_of known b)) [
       | inl mark ↦ elim (cases_Bool (b == backslash && is_one_of known c)) [
@@ -148,11 +133,7 @@ written_spelled known stops (b ∷ c ∷ text) =
 
 -- a backslash is a mark of each kind
 pub backslash_mark : (kind : TokenKind) → is_mark kind backslash ≡ true
-backslash_mark Measurement = refl
-backslash_mark TagKey = refl
-backslash_mark TagValue = refl
-backslash_mark FieldKey = refl
-backslash_mark String = refl
+backslash_mark tring = grind (arith)
 
 -- the token goes on after a run of bytes that are no marks
 pub run_passed : (kind : TokenKind) (bytes : List ℕ) (at end : ℕ) → IsRunAt (λ b. not (is_mark kind b)) bytes at end
@@ -177,11 +158,7 @@ pub escape_passed : (kind : TokenKind) (bytes : List ℕ) (at : ℕ) → at + 1 
     → is_one_of (known_of kind) (slice_index bytes (at + 1)) ≡ true
     → written_len (known_of kind) (stops_of kind) (drop at bytes)
     ≡ 2 + written_len (known_of kind) (stops_of kind) (drop (at + 2) bytes)
-escape_passed kind bytes at inside here found =
-    let next : at + 1 + 1 ≡ at + 2 = omega arith in
-    let text : drop at bytes ≡ backslash ∷ slice_index bytes (at + 1) ∷ drop (at + 2) bytes =
-    drop_more bytes at 0 (omega arith) ∙ rw here (ap (λ (xs : List ℕ). backslash ∷ xs) (rw next at (drop_more bytes (at + 1) 0 inside))) in
-    rw text (written_escape (known_of kind) (stops_of kind) (slice_index bytes (at + 1)) (drop (at + 2) bytes) (backslash_mark kind) found)
+escape_passed kind bytes at inside here found = grind (arith, drop_more, written_escape, backslash_mark)
 
 -- it ends at any other mark, and at the end of the text
 pub ends_here : (kind : TokenKind) (bytes : List ℕ) (at : ℕ) → at ≤ length bytes

@@ -1,18 +1,15 @@
 -- The logical texts of each line that is answered are a point: it has a field, and its values and its timestamp fit.
-use Rattle.std.proofs.Common.{◌≡◌, ◌≢◌, ℕ, ◌+◌, ◌<◌, ◌^◌, List, [], ◌∷◌, length, take, drop, map, slice_index, Bool, true, false, not, ◌&&◌}
-use Rattle.std.proofs.Common.{◌||◌, cond, refl, sym, ap, subst, arith, Option, Some, None, Ok, Err, Result}
+use Rattle.std.proofs.Common.{◌≡◌, ◌≢◌, ℕ, ◌<◌, List, [], ◌∷◌, length, take, drop, map, Bool, true, false}
+use Rattle.std.proofs.Common.{cond, subst, arith, Option, Some, None, Ok, Err, Result}
 use Rattle.std.specs.Prelude.{◌==◌, ℤ, IfSome, nat_lt}
 use Rattle.std.specs.List.{AllByRecursion}
-use Rattle.std.specs.Str.Parse.{digits_value, signed_digits_value}
 use Rattle.std.proofs.lemmas.Bool.{eqb-false}
 use Rattle.std.proofs.lemmas.Bool.Decides.{nat_tests}
 use Rattle.lp_format.specs.format.Dialects.{Dialect}
-use Rattle.lp_format.specs.format.Bytes.{letter_i, letter_u, quote}
-use Rattle.lp_format.specs.format.Readings.{Fault, integer_value_invalid, uinteger_value_invalid, timestamp_value_invalid}
-use Rattle.lp_format.specs.format.Readings.{above, Text, Read, Reading, miss, fatal, reads, ◌otherwise◌}
-use Rattle.lp_format.specs.format.Names.{a_field_key, read_text}
-use Rattle.lp_format.specs.format.Values.{Value, integer, unsigned, float, string, boolean, integer_len, digits_len, float_len}
-use Rattle.lp_format.specs.format.Values.{word_len, body_len, quotable, true_words, false_words, fits_i64, side_of, integer_at}
+use Rattle.lp_format.specs.format.Readings.{Fault}
+use Rattle.lp_format.specs.format.Readings.{Text, Read, Reading, miss, fatal, reads, ◌otherwise◌}
+use Rattle.lp_format.specs.format.Values.{Value, float, float_len}
+use Rattle.lp_format.specs.format.Values.{fits_i64, integer_at}
 use Rattle.lp_format.specs.format.Values.{unsigned_at, float_at, string_at, boolean_at, value}
 use Rattle.lp_format.specs.format.Points.{Pair, IsValue}
 use Rattle.lp_format.specs.format.Lines.{logical_field, logical_value, field, separated_list, field_set}
@@ -32,19 +29,15 @@ Fits x = IsValue (logical_value x)
 -- what is read under two tests passes the second
 both_tests : {A : Type 0} (a b : Bool) (y x : A) (e : Fault) (after rest : List ℕ)
     → cond a (cond b (reads y after) (fatal e)) miss ≡ reads x rest → (b ≡ true) × (y ≡ x)
-both_tests true true y x e after rest h = (refl, cc)
-both_tests true false y x e after rest h = absurd (cc)
-both_tests false b y x e after rest h = absurd (cc)
+both_tests x0 b y x e after rest h = grind (arith)
 
 -- what is read where a test fails
 no_test : {A : Type 0} (a : Bool) (y x : A) (after rest : List ℕ) → cond a miss (reads y after) ≡ reads x rest → (a ≡ false) × (y ≡ x)
-no_test true y x after rest h = absurd (cc)
-no_test false y x after rest h = (refl, cc)
+no_test x0 y x after rest h = grind (arith)
 
 -- what is read where a test passes
 one_test : {A : Type 0} (a : Bool) (y x : A) (after rest : List ℕ) → cond a (reads y after) miss ≡ reads x rest → y ≡ x
-one_test true y x after rest h = cc
-one_test false y x after rest h = absurd (cc)
+one_test x0 y x after rest h = grind (arith)
 
 -- what the test of a number says
 below : (n m : ℕ) → nat_lt n m ≡ true → n < m
@@ -53,22 +46,12 @@ below n m h = grind (arith, nat_tests)
 -- an integer is in range
 integer_fits : (line : List ℕ) (x : Value Text) (rest : List ℕ) → integer_at line ≡ reads x rest → Fits x
 unfolding integer_at
-integer_fits line x rest h =
-    let number = take (integer_len line) line in
-    let z = signed_digits_value 10 number in
-    let parts = both_tests (not (integer_len line == 0) && slice_index line (integer_len line) == letter_i)
-    (fits_i64 z) (integer z) x (integer_value_invalid (side_of number) number) (drop (integer_len line + 1) line) rest h in
-    subst Fits parts.1 parts.0
+integer_fits line x rest h = grind (arith, both_tests)
 
 -- so is an unsigned one
 unsigned_fits : (line : List ℕ) (x : Value Text) (rest : List ℕ) → unsigned_at line ≡ reads x rest → Fits x
 unfolding unsigned_at
-unsigned_fits line x rest h =
-    let number = take (digits_len line) line in
-    let n = digits_value 10 number in
-    let parts = both_tests (not (digits_len line == 0) && slice_index line (digits_len line) == letter_u)
-    (nat_lt n (2 ^ 64)) (unsigned n) x (uinteger_value_invalid above number) (drop (digits_len line + 1) line) rest h in
-    subst Fits parts.1 (below n (2 ^ 64) parts.0)
+unsigned_fits line x rest h = grind (arith, both_tests, below)
 
 -- a float is a literal
 float_fits : (line : List ℕ) (x : Value Text) (rest : List ℕ) → float_at line ≡ reads x rest → Fits x
@@ -81,37 +64,24 @@ float_fits line x rest h =
 -- any string will do
 string_fits : (line : List ℕ) (x : Value Text) (rest : List ℕ) → string_at line ≡ reads x rest → Fits x
 unfolding string_at
-string_fits [] x rest h = absurd (cc)
-string_fits (b ∷ after) x rest h =
-    let body = string (read_text quotable (take (body_len after) after)) in
-    let same = one_test (b == quote && nat_lt (body_len after) (length after)) body x (drop (body_len after + 1) after) rest h in
-    subst Fits same tt
+string_fits after x rest h = grind (arith, one_test)
 
 -- and either boolean
 boolean_fits : (b : Bool) (words : List (List ℕ)) (line : List ℕ) (x : Value Text) (rest : List ℕ)
     → boolean_at b words line ≡ reads x rest → Fits x
 unfolding boolean_at
-boolean_fits b words line x rest h =
-    let parts = no_test (word_len words line == 0) (let v : Value Text = boolean b in v) x (drop (word_len words line) line) rest h in
-    subst Fits parts.1 tt
+boolean_fits b words line x rest h = grind (arith, no_test)
 
 -- what holds of either holds of the first that does not miss
 either_fits : (r s : Reading (Value Text)) → ((x : Value Text) (rest : List ℕ) → r ≡ reads x rest → Fits x)
     → ((x : Value Text) (rest : List ℕ) → s ≡ reads x rest → Fits x) → (x : Value Text) (rest : List ℕ)
     → (r otherwise s) ≡ reads x rest → Fits x
-either_fits miss s first second x rest h = second x rest h
-either_fits (fatal e) s first second x rest h = absurd (cc)
-either_fits (reads y after) s first second x rest h = first x rest h
+either_fits after s first second x rest h = grind (arith)
 
 -- each value that is read is one of its type
 value_fits : (line : List ℕ) (x : Value Text) (rest : List ℕ) → value line ≡ reads x rest → Fits x
 unfolding value
-value_fits line x rest h =
-    let whole = either_fits _ _ (integer_fits line) (unsigned_fits line) in
-    let number = either_fits _ _ whole (float_fits line) in
-    let text = either_fits _ _ number (string_fits line) in
-    let yes = either_fits _ _ text (boolean_fits true true_words line) in
-    either_fits _ _ yes (boolean_fits false false_words line) x rest h
+value_fits line x rest h = grind (arith, either_fits, integer_fits, unsigned_fits, float_fits, string_fits, boolean_fits)
 
 -- the value of a field
 abbrev pub FieldFits : Pair Text (Value Text) → Type 0
@@ -120,8 +90,7 @@ FieldFits f = Fits f.value
 -- so is that of each field
 field_fits : (line : List ℕ) (f : Pair Text (Value Text)) (rest : List ℕ) → field line ≡ reads f rest → FieldFits f
 unfolding field
-field_fits line f rest h =
-    let p = pair_parts a_field_key value line f rest h in value_fits p.mid f.value rest p.value
+field_fits line f rest h = grind (arith, pair_parts, value_fits)
 
 -- the fields of a line: at least one, and each with a value of its type
 record SomeFit (fs : List (Pair Text (Value Text))) : Type 0 where
@@ -146,24 +115,12 @@ stamp_cases : (a b : Bool) (z : ℤ) (t : Option ℤ) (line after rest : List �
     (cond {A = Result (Read (Option ℤ)) Fault} b (Ok (record { value = Some z; rest = after })) (Err e)) ≡ Ok
     (record { value = t; rest = rest })
     → IfSome t (λ y. fits_i64 y ≡ true)
-stamp_cases true b z t line after rest e is h =
-    let same : None ≡ t = ap (λ r. r.value) (ok_same (record { value = None; rest = line }) (record { value = t; rest = rest }) h) in
-    subst (λ (o : Option ℤ). IfSome o (λ y. fits_i64 y ≡ true)) same tt
-stamp_cases false true z t line after rest e is h =
-    let same : Some z ≡ t = ap (λ r. r.value) (ok_same (record { value = Some z; rest = after }) (record { value = t; rest = rest }) h) in
-    subst (λ (o : Option ℤ). IfSome o (λ y. fits_i64 y ≡ true)) same (sym is)
-stamp_cases false false z t line after rest e is h = absurd (cc)
+stamp_cases x0 b z t line after rest e is h = grind (arith, ok_same)
 
 -- a timestamp is in range
 stamp_fits : (line rest : List ℕ) (t : Option ℤ) → timestamp line ≡ Ok (record { value = t; rest = rest })
     → IfSome t (λ y. fits_i64 y ≡ true)
-stamp_fits line rest t h =
-    let suffix = drop (spaces line) line in
-    let number = take (integer_len suffix) suffix in
-    let after = drop (integer_len suffix) suffix in
-    let z = signed_digits_value 10 number in
-    stamp_cases (spaces line == 0 || integer_len suffix == 0) (fits_i64 z) z t line (drop (spaces after) after) rest
-    (timestamp_value_invalid (side_of number) number) refl h
+stamp_fits line rest t h = grind (arith, stamp_cases)
 
 -- the fields of the point
 fields_fit : (fs : List (Pair Text (Value Text))) → AllByRecursion FieldFits fs
