@@ -1,8 +1,8 @@
 -- What a line that is answered has: a tag in its tag set, no more columns than bytes, and no need of memory if it is light; and the
 -- item of a line that was given.
-use Rattle.std.proofs.Common.{◌≡◌, ℕ, ◌<◌, List, [], ◌∷◌, length, refl, ap, subst, arith, Option, Some, None, Ok, Err, Result, ◌+◌, ◌≤◌}
-use Rattle.std.proofs.Common.{◌^◌, drop, length-append, length-drop, true, not, ◌&&◌}
-use Rattle.std.specs.Prelude.{IfSome, Option, Some, None, Ok, Err, nat_le}
+use Rattle.std.proofs.Common.{◌≡◌, ℕ, ◌<◌, List, [], ◌∷◌, length, refl, ap, arith, Option, Ok, Err, Result, ◌+◌, ◌≤◌}
+use Rattle.std.proofs.Common.{◌^◌, drop, length-append, length-drop, true}
+use Rattle.std.specs.Prelude.{IfSome, Option, Ok, Err}
 use Rattle.std.specs.Option.{option_map}
 use Rattle.std.proofs.lemmas.Bool.{and_parts, le-leb, leb-true}
 use Rattle.std.proofs.lemmas.List.{length-map}
@@ -10,10 +10,10 @@ use Rattle.smallvec.specs.SmallVec.{SmallVec}
 use Rattle.lp_format.specs.format.Dialects.{Dialect}
 use Rattle.lp_format.specs.format.Readings.{Fault, Text, Reading, miss, fatal, reads}
 use Rattle.lp_format.specs.format.Points.{Pair}
-use Rattle.lp_format.specs.format.Lines.{Line, tag, after_comma, prepend, many, separated_list, tag_set, answer, field, field_set}
+use Rattle.lp_format.specs.format.Lines.{Line, tag, separated_list, tag_set, answer, field, field_set}
 use Rattle.lp_format.specs.format.Lines.{some_tags, spaces, byte}
 use Rattle.lp_format.proofs.lemmas.names.Inversions.{prepend_parts, count_is_of_the_most}
-use Rattle.lp_format.specs.format.Bytes.{comma, backslash, is_one_of, space}
+use Rattle.lp_format.specs.format.Bytes.{comma, space}
 use Rattle.lp_format.specs.format.Names.{a_measurement}
 use Rattle.lp_format.specs.format.Values.{Value}
 use Rattle.lp_format.specs.laws.Meanings.{SeparatedBy, SeparatedAfterComma}
@@ -29,8 +29,8 @@ use Rattle.lp_values.specs.code.Outcomes.{IsNotOutOfMemory}
 use Rattle.lp_events.specs.code.LineSteps.{GaveLine}
 use Rattle.lp_events.proofs.lemmas.fields.ManyLemmas.{TagSetRead, fields_joined, set_separated, tag_set_read}
 use Rattle.lp_lines.specs.declared.parsed.ParsedLine.{ParsedLine}
-use Rattle.lp_lines.specs.code.Parsed.{Answers, FillsLine, line_read, tag_of, tags_of, field_of}
-use Rattle.lp_lines.specs.code.ParseSteps.{HasNoEmptyTagSet, CanCountColumns, IsItemOf, GaveItem}
+use Rattle.lp_lines.specs.code.Parsed.{Answers, FillsLine, line_read, tags_of, field_of}
+use Rattle.lp_lines.specs.code.ParseSteps.{HasNoEmptyTagSet, CanCountColumns, GaveItem}
 use Rattle.lp_lines.proofs.lemmas.names.ParsedNames.{answer_parts, Parts}
 use Rattle.lp_lines.specs.code.Lookups.{some_items}
 use Rattle.lp_lines.specs.code.ReadInto.{item_in}

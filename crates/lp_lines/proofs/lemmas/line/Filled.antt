@@ -1,6 +1,6 @@
 -- A line is filled by the events of its text, and what filling it answers.
-use Rattle.std.proofs.Common.{◌≡◌, ℕ, ◌+◌, ◌<◌, ◌≤◌, List, [], ◌∷◌, ◌++◌, length, length-append, map, take, Bool, true, false, ◌&&◌, refl, sym}
-use Rattle.std.proofs.Common.{ap, ◌∙◌, arith, inl, inr, append_assoc}
+use Rattle.std.proofs.Common.{◌≡◌, ℕ, ◌+◌, ◌<◌, ◌≤◌, List, [], ◌∷◌, ◌++◌, length, length-append, map, take, Bool, true, false, refl, sym}
+use Rattle.std.proofs.Common.{ap, ◌∙◌, arith, append_assoc}
 use Rattle.std.specs.Prelude.{◌⊎◌, Result, Ok, Err, ◌≢◌, Option, Some, None, IfSome}
 use Rattle.std.specs.List.{list_all}
 use Rattle.std.proofs.lemmas.Bool.{cases_Bool, and_parts}
@@ -19,7 +19,7 @@ use Rattle.lp_values.specs.declared.escaped.EscapedStr.{EscapedStr}
 use Rattle.lp_values.specs.declared.spelled.SpelledFault.{SpelledFault}
 use Rattle.lp_values.specs.declared.values.FieldValue.{FieldValue}
 use Rattle.lp_values.specs.code.SpelledParts.{spelled_fault}
-use Rattle.lp_events.specs.code.Events.{AreEventsOf, Event, TakesAll, ended, events_of_line, failed, named, tagged, valued}
+use Rattle.lp_events.specs.code.Events.{AreEventsOf, Event, TakesAll, ended, events_of_line, named, tagged, valued}
 use Rattle.lp_lines.specs.declared.filling.Filling.{Filling}
 use Rattle.lp_lines.specs.declared.parsed.ParsedLine.{ParsedLine}
 use Rattle.lp_lines.specs.code.Filling.{FilledLine, FillsAnswer, FillsBy, HasRead, KeepsRooms, beside_fields, beside_tags, field_room}
@@ -208,4 +208,6 @@ module _ (old new : Filling) (none : old.fault ≡ None) where
         → some_items set ≡ take new.tag_count (some_items new.line.now.series.tag_set)
         → fields.items ≡ take new.field_count new.line.now.field_set.items → IfSome set (λ s. 0 < length s.items)
         → answer dialect text ≡ Ok (line_read (filled_line_of new set fields))
-    line_answers set fields without taken kept kept_fields some = grind (arith, line_is, is_line, fields)
+    line_answers set fields without taken kept kept_fields some =
+        let read = line_is (answer dialect text) filled without in
+        read.1 ∙ ap Ok (sym (is_line dialect text read.0 new set fields read.1 (read.2.read taken) kept kept_fields some))

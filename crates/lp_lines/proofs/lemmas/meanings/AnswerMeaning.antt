@@ -1,19 +1,17 @@
 -- Each text is answered by one row of the table.
-use Rattle.std.proofs.Common.{◌≡◌, ◌⊎◌, ℕ, ◌==◌, List, [], ◌∷◌, ◌++◌, length, take, drop, refl, sym, ap, ◌∙◌, subst, inl, inr, Option, Some}
+use Rattle.std.proofs.Common.{◌≡◌, ◌⊎◌, ℕ, ◌==◌, List, [], ◌∷◌, ◌++◌, refl, sym, ap, ◌∙◌, subst, inl, inr, Option, Some}
 use Rattle.std.proofs.Common.{None, Ok, Err, Result}
-use Rattle.std.specs.Prelude.{ℤ, ◌||◌}
-use Rattle.std.specs.Str.Parse.{signed_digits_value}
+use Rattle.std.specs.Prelude.{ℤ}
 use Rattle.std.proofs.lemmas.Bool.{cases_Bool, eqb-true, eq-eqb, both_ways}
 use Rattle.lp_format.specs.format.Dialects.{Dialect}
-use Rattle.lp_format.specs.format.Bytes.{comma, equals, space}
+use Rattle.lp_format.specs.format.Bytes.{comma, space}
 use Rattle.lp_format.specs.format.Readings.{Side, Fault, measurement_value_invalid, field_set_missing, ends_with_backslash}
 use Rattle.lp_format.specs.format.Readings.{tag_set_malformed, take_while1, timestamp_value_invalid, cannot_parse_entire_line}
 use Rattle.lp_format.specs.format.Readings.{Text, Read, Reading, miss, fatal, reads, ◌>>=◌}
-use Rattle.lp_format.specs.format.Names.{NameKind, a_measurement, a_tag_key, a_tag_value, ends_in_backslash, logical, name}
-use Rattle.lp_format.specs.format.Names.{spelled}
-use Rattle.lp_format.specs.format.Values.{Value, integer_len, fits_i64, side_of}
+use Rattle.lp_format.specs.format.Names.{NameKind, a_measurement, name}
+use Rattle.lp_format.specs.format.Values.{Value}
 use Rattle.lp_format.specs.format.Points.{Pair}
-use Rattle.lp_format.specs.format.Lines.{Line, byte, tag, field, separated_list, tag_set, without_comma, spaces, timestamp}
+use Rattle.lp_format.specs.format.Lines.{Line, byte, tag, field, separated_list, tag_set, without_comma, timestamp}
 use Rattle.lp_format.specs.format.Lines.{answer}
 use Rattle.lp_format.specs.laws.Meanings.{WholeList, NextHasFault}
 use Rattle.lp_format.specs.laws.MeaningsOfAnswers.{BeginsWith, after_spaces, ReadsSeries, ReadsSeries.alone}

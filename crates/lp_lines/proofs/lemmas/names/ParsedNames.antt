@@ -1,6 +1,6 @@
 -- Which names lines can have, and that they can have each of them.
-use Rattle.std.proofs.Common.{◌≡◌, ◌≢◌, ℕ, List, [], ◌∷◌, length, drop, map, slice_index, Bool, true, false, ◌||◌, refl, sym, ap, subst}
-use Rattle.std.proofs.Common.{arith, inl, inr, Option, None, Ok, Result}
+use Rattle.std.proofs.Common.{◌≡◌, ◌≢◌, ℕ, List, [], ◌∷◌, drop, map, slice_index, Bool, true, false, ◌||◌, refl, sym, ap, subst}
+use Rattle.std.proofs.Common.{arith, inl, inr, Option, Ok, Result}
 use Rattle.std.specs.Prelude.{◌==◌, ℤ}
 use Rattle.std.specs.List.{AllByRecursion, Contains}
 use Rattle.std.proofs.lemmas.Bool.{cases_Bool, or_parts, eqb-false, eqb-true}
@@ -9,7 +9,7 @@ use Rattle.lp_format.specs.format.Dialects.{Dialect, Strict}
 use Rattle.lp_format.specs.format.Readings.{Fault, Text}
 use Rattle.lp_format.specs.format.Readings.{reads}
 use Rattle.lp_format.specs.format.Names.{NameKind, a_measurement, a_tag_key, a_tag_value, a_field_key, name}
-use Rattle.lp_format.specs.format.Values.{Value, value}
+use Rattle.lp_format.specs.format.Values.{Value}
 use Rattle.lp_format.specs.format.Points.{Pair, Point, Tag}
 use Rattle.lp_format.specs.format.Trimming.{trimmed}
 use Rattle.lp_format.specs.format.Lines.{Line, point_of, logical_tag, logical_field, some_tags, tag, field}
@@ -28,7 +28,7 @@ use Rattle.lp_events.proofs.lemmas.fields.ManyLemmas.{fields_joined, set_separat
 use Rattle.lp_lines.proofs.lemmas.read_back.LineReadsBack.{front_is}
 use Rattle.lp_values.proofs.lemmas.fields.ReadingLemmas.{pair_parts}
 use Rattle.lp_format.proofs.lemmas.lists.Elements.{first_or_later}
-use Rattle.lp_format.specs.format.Bytes.{equals, hash, newline, space}
+use Rattle.lp_format.specs.format.Bytes.{hash, newline}
 
 -- the names of a tag, and that of a field
 abbrev ParsedTag : Pair Text Text → Type 0
@@ -215,4 +215,6 @@ answers_parsed dialect text answers line has here =
 
 -- and its names
 pub names_are_parsed : NamesAreParsed
-names_are_parsed dialect text answers line kind n has here named = grind (arith, all_of, point_names, answers_parsed)
+names_are_parsed dialect text answers line kind n has here named =
+    all_of (IsParsedName kind) (names_of kind (point_of line)) n
+    (point_names kind (point_of line) (answers_parsed dialect text answers line has here)) named

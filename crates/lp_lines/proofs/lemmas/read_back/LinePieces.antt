@@ -1,7 +1,7 @@
 -- The line of an admitted point is a piece that a newline ends.
-use Rattle.std.proofs.Common.{◌≡◌, ◌≢◌, ℕ, suc, ◌+◌, ◌^◌, ◌<◌, ◌≤◌, List, [], ◌∷◌, ◌++◌, length, Bool, true, false, ◌&&◌, refl, sym, ap}
+use Rattle.std.proofs.Common.{◌≡◌, ◌≢◌, ℕ, ◌+◌, ◌^◌, ◌<◌, ◌≤◌, List, [], ◌∷◌, ◌++◌, length, Bool, true, false, refl, sym, ap}
 use Rattle.std.proofs.Common.{◌∙◌, subst, arith, inl, inr, append_assoc, Option, Some, None}
-use Rattle.std.specs.Prelude.{◌==◌, ℤ, pos, negsuc, not, codes, decimal, IfSome}
+use Rattle.std.specs.Prelude.{◌==◌, ℤ, not, codes, decimal, IfSome}
 use Rattle.std.specs.List.{AllByRecursion, list_all, flat_map}
 use Rattle.std.specs.Fmt.{signed_decimal}
 use Rattle.std.specs.Str.Parse.{AllDigits, IsNumeral}
@@ -10,11 +10,10 @@ use Rattle.std.proofs.lemmas.Grind.{common_steps}
 use Rattle.std.proofs.lemmas.Fmt.{decimal_is_IsNumeral}
 use Rattle.std.proofs.lemmas.Str.Parse.{digit_from_value}
 use Rattle.std.proofs.lemmas.List.Folds.{list_all-append}
-use Rattle.lp_split.specs.declared.split.resumed.Part.{Part}
 use Rattle.lp_split.specs.declared.split.resumed.Part.TheVariants.{Head, Plain, Quoted}
 use Rattle.lp_split.proofs.lemmas.split.SplitWalk.{Plain-equals}
 use Rattle.lp_split.proofs.lemmas.split.SplitWalk.{Plain-comma, Plain-opens, Plain-other, Quoted-closes, Quoted-other}
-use Rattle.lp_format.specs.format.Dialects.{Dialect, Crate, Strict}
+use Rattle.lp_format.specs.format.Dialects.{Dialect}
 use Rattle.lp_format.specs.format.Bytes.{backslash, is_one_of, newline, quote}
 use Rattle.lp_format.specs.format.Escapes.{escaped}
 use Rattle.lp_format.specs.format.Names.{a_measurement, a_tag_key, a_tag_value, a_field_key}

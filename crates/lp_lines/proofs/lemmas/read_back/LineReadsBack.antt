@@ -14,14 +14,14 @@ use Rattle.lp_format.specs.format.Readings.{Reading, reads, Text, miss}
 use Rattle.lp_format.specs.format.Points.{IsValue, built_value, Pair, Tag, Field, built_tag, built_field, built_fields, built_timestamp}
 use Rattle.lp_format.specs.format.Points.{spelling, Point, line_of, is_admitted_name}
 use Rattle.lp_format.specs.format.Escapes.{escaped}
-use Rattle.lp_format.specs.format.Values.{Value, value, integer, unsigned, float, string, boolean, integer_at, unsigned_at, float_at}
+use Rattle.lp_format.specs.format.Values.{Value, value, integer, unsigned, string, boolean, integer_at, unsigned_at, float_at}
 use Rattle.lp_format.specs.format.Values.{string_at, boolean_at, body_len, digits_len, integer_len, fits_i64, quotable}
 use Rattle.lp_format.proofs.lemmas.read_back.NameReadsBack.{read_value, read_tag, read_tags, read_field, read_line, admitted_parts}
 use Rattle.lp_format.proofs.lemmas.read_back.NameReadsBack.{read_name}
 use Rattle.lp_format.proofs.lemmas.values.ValueLemmas.{integer_unmarked}
 use Rattle.lp_format.proofs.lemmas.literals.FloatLemmas.{Ends, float_reads_back, digits_before}
 use Rattle.lp_format.proofs.lemmas.read_back.IntegerReadsBack.{unsigned_len, integer_reads_back, integer_written}
-use Rattle.lp_format.specs.format.Dialects.{Dialect, Crate, Strict}
+use Rattle.lp_format.specs.format.Dialects.{Dialect}
 use Rattle.lp_format.specs.format.Names.{a_tag_key, a_tag_value, a_field_key, is_stop, a_measurement, name}
 use Rattle.lp_format.specs.format.Lines.{byte, tag, field, after_comma, many, tag_set, field_set, timestamp, without_comma, answer}
 use Rattle.lp_format.specs.format.Lines.{front_before, separated_list, spaces}
