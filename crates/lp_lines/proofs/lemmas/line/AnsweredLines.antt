@@ -1,8 +1,8 @@
 -- What a line that is answered has: a tag in its tag set, no more columns than bytes, and no need of memory if it is light; and the
 -- item of a line that was given.
-use Rattle.std.proofs.Common.{◌≡◌, ℕ, ◌<◌, List, [], ◌∷◌, length, refl, ap, subst, arith, Option, Some, None, Ok, Err, Result, ◌+◌, ◌≤◌}
-use Rattle.std.proofs.Common.{◌^◌, drop, length-append, length-drop, true, not, ◌&&◌}
-use Rattle.std.specs.Prelude.{IfSome, Option, Some, None, Ok, Err, nat_le}
+use Rattle.std.proofs.Common.{◌≡◌, ℕ, ◌<◌, List, [], ◌∷◌, length, refl, ap, arith, Option, Ok, Err, Result, ◌+◌, ◌≤◌}
+use Rattle.std.proofs.Common.{◌^◌, drop, length-append, length-drop, true}
+use Rattle.std.specs.Prelude.{IfSome, Option, Ok, Err}
 use Rattle.std.specs.Option.{option_map}
 use Rattle.std.proofs.lemmas.Bool.{and_parts, le-leb, leb-true}
 use Rattle.std.proofs.lemmas.List.{length-map}
@@ -10,10 +10,10 @@ use Rattle.smallvec.specs.SmallVec.{SmallVec}
 use Rattle.lp_format.specs.format.Dialects.{Dialect}
 use Rattle.lp_format.specs.format.Readings.{Fault, Text, Reading, miss, fatal, reads}
 use Rattle.lp_format.specs.format.Points.{Pair}
-use Rattle.lp_format.specs.format.Lines.{Line, tag, after_comma, prepend, many, separated_list, tag_set, answer, field, field_set}
+use Rattle.lp_format.specs.format.Lines.{Line, tag, separated_list, tag_set, answer, field, field_set}
 use Rattle.lp_format.specs.format.Lines.{some_tags, spaces, byte}
 use Rattle.lp_format.proofs.lemmas.names.Inversions.{prepend_parts, count_is_of_the_most}
-use Rattle.lp_format.specs.format.Bytes.{comma, backslash, is_one_of, space}
+use Rattle.lp_format.specs.format.Bytes.{comma, space}
 use Rattle.lp_format.specs.format.Names.{a_measurement}
 use Rattle.lp_format.specs.format.Values.{Value}
 use Rattle.lp_format.specs.laws.Meanings.{SeparatedBy, SeparatedAfterComma}
@@ -29,8 +29,8 @@ use Rattle.lp_values.specs.code.Outcomes.{IsNotOutOfMemory}
 use Rattle.lp_events.specs.code.LineSteps.{GaveLine}
 use Rattle.lp_events.proofs.lemmas.fields.ManyLemmas.{TagSetRead, fields_joined, set_separated, tag_set_read}
 use Rattle.lp_lines.specs.declared.parsed.ParsedLine.{ParsedLine}
-use Rattle.lp_lines.specs.code.Parsed.{Answers, FillsLine, line_read, tag_of, tags_of, field_of}
-use Rattle.lp_lines.specs.code.ParseSteps.{HasNoEmptyTagSet, CanCountColumns, IsItemOf, GaveItem}
+use Rattle.lp_lines.specs.code.Parsed.{Answers, FillsLine, line_read, tags_of, field_of}
+use Rattle.lp_lines.specs.code.ParseSteps.{HasNoEmptyTagSet, CanCountColumns, GaveItem}
 use Rattle.lp_lines.proofs.lemmas.names.ParsedNames.{answer_parts, Parts}
 use Rattle.lp_lines.specs.code.Lookups.{some_items}
 use Rattle.lp_lines.specs.code.ReadInto.{item_in}
@@ -39,10 +39,7 @@ use Rattle.lp_events.proofs.lemmas.fields.ManyLemmas.{TagSetRead.no_set, TagSetR
 -- what commas join is at least one
 pub joined_some : {A : Type 0} (one : List ℕ → Reading A) (line rest : List ℕ) (xs : List A)
     → separated_list one line ≡ reads xs rest → 0 < length xs
-joined_some one line rest xs h =
-    let parts = bind_reads (one line) (λ x. prepend (x.value ∷ []) (many (after_comma one) (length x.rest) x.rest)) xs rest h in
-    let more = prepend_parts (parts.first ∷ []) (many (after_comma one) (length parts.mid) parts.mid) xs rest parts.next in
-    omega (arith, ap length more.all)
+joined_some one line rest xs h = grind (arith, bind_reads, prepend_parts)
 
 -- a set that may be missing holds at least one, where it is there
 abbrev pub HasSome : {T : Type 0} → Option (List T) → Type 0
@@ -51,12 +48,7 @@ HasSome o = IfSome o (λ ts. 0 < length ts)
 -- a tag set that is read holds at least one tag
 tag_set_some : (line rest : List ℕ) (ts : Option (List (Pair Text Text))) → tag_set line ≡ Ok (record { value = ts; rest = rest })
     → HasSome ts
-tag_set_some line rest ts h = by_read (tag_set_read line rest ts h)
-  where
-    -- there is none, or it has those that commas join
-    by_read : {ts : Option (List (Pair Text Text))} {rest : List ℕ} → TagSetRead line ts rest → HasSome ts
-    by_read (no_set none) = tt
-    by_read (some_set mark tags rest sign read) = joined_some tag mark rest tags read
+tag_set_some line rest ts h = grind (arith, tag_set_read, joined_some)
 
 -- so does that of each line that is answered
 pub line_some_tags : (dialect : Dialect) (text : List ℕ) (l : Line) → answer dialect text ≡ Ok l → HasSome l.tags
@@ -66,8 +58,7 @@ line_some_tags dialect text l h = let parts =
 -- the tags of the code's set, seen as they were read
 code_tags_some : (o : Option (SmallVec (EscapedStr × EscapedStr))) → HasSome (option_map tags_of o)
     → IfSome o (λ tags. 0 < length tags.items)
-code_tags_some None h = tt
-code_tags_some (Some tags) h = omega (arith, h, length-map tags.items tag_of)
+code_tags_some tags h = grind (arith, length-map)
 
 -- the tag set of an item is not empty
 pub item_has_tags : (dialect : Dialect) (line : List ℕ) (item : Result ParsedLine Error) → Answers item (answer dialect line)
@@ -86,10 +77,7 @@ module _ {A : Type 0} (one : List ℕ → Reading A)
 
   -- with a first one they are at most one more
   room_of : (xs : List A) (text rest : List ℕ) → SeparatedBy one xs text rest → length xs ≤ length text + 1
-  room_of [] text rest h = omega arith
-  room_of (x ∷ xs) text rest h =
-      let more = room_after xs h.0 rest h.2 in
-      omega (arith, no_longer text x h.0 h.1)
+  room_of xs text rest h = grind (arith, room_after)
 
 -- the fields of a text
 field_room : (dialect : Dialect) (text rest : List ℕ) (fs : List (Pair Text (Value Text))) → field_set dialect text ≡ reads fs rest
@@ -113,8 +101,7 @@ line_room dialect text l h =
 
 -- as many tags as were read
 tags_as_read : (o : Option (SmallVec (EscapedStr × EscapedStr))) → length (some_tags (option_map tags_of o)) ≡ length (some_items o)
-tags_as_read None = refl
-tags_as_read (Some tags) = length-map tags.items tag_of
+tags_as_read tags = grind (arith, length-map)
 
 -- the columns of an item can be counted
 pub item_columns_fit : (dialect : Dialect) (line : List ℕ) (item : Result ParsedLine Error) → length line < 2 ^ 63
@@ -155,18 +142,13 @@ module _ (dialect : Dialect) (line : List ℕ) where
   -- each line that passes the test has that
   light_in : (p q : ℕ) → is_light_in p q dialect line ≡ true → IsLightIn p q
   unfolding is_light_in
-  light_in p q light =
-      let parts = and_parts (nat_le (tags_in line) p && nat_le (fields_in line) q) (is_light_answer line (answer dialect line)) light in
-      let counts = and_parts (nat_le (tags_in line) p) (nat_le (fields_in line) q) parts.0 in
-      record { tags = leb-true (tags_in line) p counts.0; fields = leb-true (fields_in line) q counts.1; answered = parts.1 }
+  light_in p q light = grind (arith, and_parts, leb-true)
 
   -- a line that needs no memory in some room needs none in more
   pub more_room : (p q more_tags more_fields : ℕ) → p ≤ more_tags → q ≤ more_fields → is_light_in p q dialect line ≡ true
       → is_light_in more_tags more_fields dialect line ≡ true
   unfolding is_light_in
-  more_room p q more_tags more_fields h k light =
-      let fits = light_in p q light in
-      rw (le-leb (tags_in line) more_tags (omega arith), le-leb (fields_in line) more_fields (omega arith)) fits.answered
+  more_room p q more_tags more_fields h k light = grind (arith, light_in, le-leb)
 
   -- as many tags were counted as the line has
   tags_are : (l : Line) → answer dialect line ≡ Ok l → tags_in line ≡ length (some_tags l.tags)
@@ -200,38 +182,20 @@ module _ (dialect : Dialect) (line : List ℕ) where
   -- the fault of a light line carries no text
   pub light_fault : (p q : ℕ) (fault : Fault) → answer dialect line ≡ Err fault → is_light_in p q dialect line ≡ true
       → carries_no_text fault ≡ true
-  light_fault p q fault h light =
-      (and_parts (not (is_one_of line backslash)) (carries_no_text fault) (rw h at (light_in p q light).answered)).1
+  light_fault p q fault h light = grind (arith, and_parts, light_in)
 
 -- the item of the line that was given
 pub gave_item : (before : Left) (line : List ℕ) (item : Result ParsedLine Error) (others : List (List ℕ)) → GaveLine before line others
     → length line < 2 ^ 63 → Answers item (answer before.dialect line) → (is_light before.dialect line ≡ true → IsNotOutOfMemory item)
     → GaveItem before item others
-gave_item before line item others g short answers light =
-    record {
-      skipped = g.skipped;
-      piece = g.piece;
-      left = g.left;
-      blank = g.blank;
-      some = subst (λ (l : List ℕ). 0 < length l) g.line_is g.some;
-      item_is =
-          subst (λ l. IsItemOf before.dialect l item) g.line_is
-          (record {
-            answers = answers;
-            light = light;
-            tags = item_has_tags before.dialect line item answers;
-            columns_fit = item_columns_fit before.dialect line item short answers;
-          });
-    }
+gave_item before line item others g short answers light = grind (arith, item_has_tags, item_columns_fit)
 
 -- a line that was filled is the item
 pub filled_answers : {X : Type 0} (line : ParsedLine) (read : Result X Error) (answer : Result Line Fault)
     → FillsLine line read answer → Answers (item_in line read) answer
-filled_answers line (Ok done) answer filled = filled
-filled_answers line (Err e) answer filled = filled
+filled_answers line e answer filled = grind (arith)
 
 -- `OutOfMemory` is not the item where it is not the answer
 pub item_is_no_refusal : {X : Type 0} (line : ParsedLine) (read : Result X Error) → IsNotOutOfMemory read
     → IsNotOutOfMemory (item_in line read)
-item_is_no_refusal line (Ok done) h = λ same. cc
-item_is_no_refusal line (Err e) h = λ same. h (cc)
+item_is_no_refusal line e h = grind (arith)

@@ -1,6 +1,6 @@
 -- A line is filled by the events of its text, and what filling it answers.
-use Rattle.std.proofs.Common.{◌≡◌, ℕ, ◌+◌, ◌<◌, ◌≤◌, List, [], ◌∷◌, ◌++◌, length, length-append, map, take, Bool, true, false, ◌&&◌, refl, sym}
-use Rattle.std.proofs.Common.{ap, ◌∙◌, arith, inl, inr, append_assoc}
+use Rattle.std.proofs.Common.{◌≡◌, ℕ, ◌+◌, ◌<◌, ◌≤◌, List, [], ◌∷◌, ◌++◌, length, length-append, map, take, Bool, true, false, refl, sym}
+use Rattle.std.proofs.Common.{ap, ◌∙◌, arith, append_assoc}
 use Rattle.std.specs.Prelude.{◌⊎◌, Result, Ok, Err, ◌≢◌, Option, Some, None, IfSome}
 use Rattle.std.specs.List.{list_all}
 use Rattle.std.proofs.lemmas.Bool.{cases_Bool, and_parts}
@@ -19,7 +19,7 @@ use Rattle.lp_values.specs.declared.escaped.EscapedStr.{EscapedStr}
 use Rattle.lp_values.specs.declared.spelled.SpelledFault.{SpelledFault}
 use Rattle.lp_values.specs.declared.values.FieldValue.{FieldValue}
 use Rattle.lp_values.specs.code.SpelledParts.{spelled_fault}
-use Rattle.lp_events.specs.code.Events.{AreEventsOf, Event, TakesAll, ended, events_of_line, failed, named, tagged, valued}
+use Rattle.lp_events.specs.code.Events.{AreEventsOf, Event, TakesAll, ended, events_of_line, named, tagged, valued}
 use Rattle.lp_lines.specs.declared.filling.Filling.{Filling}
 use Rattle.lp_lines.specs.declared.parsed.ParsedLine.{ParsedLine}
 use Rattle.lp_lines.specs.code.Filling.{FilledLine, FillsAnswer, FillsBy, HasRead, KeepsRooms, beside_fields, beside_tags, field_room}
@@ -68,18 +68,11 @@ module _ {A X : Type 0} (event : A → Event) (set : Filling → List A) (room :
   -- memory is not refused for a part that is no copy, where there is room
   one_fits : (old new : Filling) (x : A) → FillsBy old (event x) new → old.refused ≡ false → is_single x ≡ true
       → length (set old) < room old.line.now → new.refused ≡ false
-  one_fits old new x by taken single less = elim (cases_Bool new.refused) [ inl refused ↦ absurd (no (needs old new x by refused)) | inr free ↦ free ]
-    where
-      -- it would need some
-      no : (old.refused ≡ true) ⊎ ((is_single x ≡ false) ⊎ (room old.line.now ≤ length (set old))) → ⊥
-      no (inl was) = let both = sym was ∙ taken in cc
-      no (inr (inl copied)) = let both = sym copied ∙ single in cc
-      no (inr (inr full)) = omega arith
+  one_fits old new x by taken single less = grind (arith, cases_Bool)
 
   -- parts of one kind that were told were put
   filled_by : (old new : Filling) (xs : List A) → TakesAll FillsBy old (map event xs) new → FilledBy set room is_single others old xs new
-  filled_by old new [] same = rw (← same)
-      (record { fault = refl; puts = λ taken. (taken, sym (append-nil (set old)), refl); fits = λ taken single room. taken })
+  filled_by old new [] same = grind (arith, append-nil)
   filled_by old new (x ∷ xs) (mid, first, more) =
       let later = filled_by mid new xs more in
       record {
@@ -125,61 +118,24 @@ module _ (old : Filling) (l : Line) (begun told_tags told_fields new : Filling) 
 
   -- memory is not refused for the measurement where it is no copy
   name_fits : l.measurement.is_single ≡ true → begun.refused ≡ false
-  name_fits single = elim (cases_Bool begun.refused) [ inl refused ↦ absurd (no (first.needs refused)) | inr free ↦ free ]
-    where
-      -- it would need some
-      no : (old.refused ≡ true) ⊎ (l.measurement.is_single ≡ false) → ⊥
-      no (inl was) = let both = sym was ∙ not_refused in cc
-      no (inr copied) = let both = sym copied ∙ single in cc
+  name_fits single = grind (arith, cases_Bool)
 
   -- nor for the end
   end_fits : told_fields.refused ≡ false → new.refused ≡ false
-  end_fits taken = elim (cases_Bool new.refused) [ inl refused ↦ absurd (no (last.needs refused)) | inr free ↦ free ]
-    where
-      -- it needs none
-      no : (told_fields.refused ≡ true) ⊎ ⊥ → ⊥
-      no (inl was) = let both = sym was ∙ taken in cc
-      no (inr none) = none
+  end_fits taken = grind (arith, cases_Bool)
 
   -- so it is not refused for a line without a copy, where there is room
   line_fits : is_single_line l ≡ true → length (some_tags l.tags) ≤ tag_room old.line.now → length l.fields ≤ field_room old.line.now
       → new.refused ≡ false
-  line_fits single few_tags few_fields =
-      let parts = and_parts (l.measurement.is_single && list_all is_single_tag (some_tags l.tags)) (list_all is_single_field l.fields) single in
-      let names = and_parts l.measurement.is_single (list_all is_single_tag (some_tags l.tags)) parts.0 in
-      let free = name_fits names.0 in
-      let put = (first.puts free).1 in
-      let no_tag = ap length (put.1 ∙ no_tags) in
-      let tags_free = tags.fits free names.1 (omega (arith, few_tags, no_tag, first.rooms.tags)) in
-      let no_field = ap length (ap (λ p. p.1) (tags.puts tags_free).2 ∙ put.2 ∙ no_fields) in
-      let kept = (rooms_kept begun told_tags (map tagged (some_tags l.tags)) tags_told).fields in
-      end_fits (fields.fits tags_free parts.1 (omega (arith, few_fields, no_field, first.rooms.fields, kept)))
+  line_fits single few_tags few_fields = grind (arith, and_parts, tags, fields, name_fits, rooms_kept, end_fits)
 
   -- the line is filled
   filled_read : new.refused ≡ false → HasRead new l
-  filled_read taken =
-      let end = last.puts taken in
-      let put_fields = fields.puts end.0 in
-      let put_tags = tags.puts put_fields.0 in
-      let put_name = (first.puts put_tags.0).1 in
-      record {
-        series = end.1.0;
-        measurement = ap (λ p. p.0) end.1.2 ∙ ap (λ p. p.0) put_fields.2 ∙ ap (λ p. p.0) put_tags.2 ∙ put_name.0;
-        tags = end.1.3 ∙ ap (λ p. p.1) put_fields.2 ∙ put_tags.1
-            ∙ ap (λ (ts : List (Pair Text Text)). ts ++ some_tags l.tags) (put_name.1 ∙ no_tags);
-        fields = ap (λ p. p.1) end.1.2 ∙ put_fields.1
-            ∙ ap (λ (fs : List (Pair Text (Value Text))). fs ++ l.fields) (ap (λ p. p.1) put_tags.2 ∙ put_name.2 ∙ no_fields);
-        timestamp = end.1.1;
-      }
+  filled_read taken = grind (arith, fields, tags)
 
   -- the parts and the end of a line fill it
   filled_parts : FilledLine old l new
-  filled_parts =
-      record {
-        fault = last.fault ∙ fields.fault ∙ tags.fault ∙ first.fault;
-        read = filled_read;
-        fits = line_fits;
-      }
+  filled_parts = grind (arith, fields, tags, filled_read, line_fits)
 
 -- the events of a line fill it
 pub filled_line : (old new : Filling) (l : Line) → TakesAll FillsBy old (events_of_line l) new → old.refused ≡ false
@@ -193,20 +149,12 @@ filled_line old new l (begun, first, told) not_refused no_tags no_fields =
 pub filled_answer : (old new : Filling) (events : List Event) (answer : Result Line Fault) → AreEventsOf events answer
     → TakesAll FillsBy old events new → old.refused ≡ false → tags_so_far old ≡ [] → fields_so_far old ≡ []
     → FillsAnswer old answer new
-filled_answer old new events (Ok l) is told not_refused no_tags no_fields =
-    filled_line old new l (rw is at told) not_refused no_tags no_fields
-filled_answer old new events (Err fault) (front, parts, is) told not_refused no_tags no_fields =
-    let parted = takes_parted FillsBy old new front (failed fault ∷ []) (rw is at told) in
-    let last : FillsBy parted.0 (failed fault) new = rw parted.2.2 at parted.2.1 in
-    last.fault
+filled_answer old new events fault is told not_refused no_tags no_fields = grind (arith, filled_line, takes_parted)
 
 -- the code's tag set is that of the line, if neither is an empty set
 same_tags : (tags : Option (List (Pair Text Text))) (set : Option (SmallVec (EscapedStr × EscapedStr))) → HasSome tags
     → IfSome set (λ s. 0 < length s.items) → map tag_of (some_items set) ≡ some_tags tags → option_map tags_of set ≡ tags
-same_tags None None some kept same = refl
-same_tags None (Some set) some kept same = absurd (omega (arith, kept, ap length same, length-map set.items tag_of))
-same_tags (Some tags) None some kept same = absurd (omega (arith, some, ap length same))
-same_tags (Some tags) (Some set) some kept same = ap Some same
+same_tags tags set some kept same = grind (arith, length-map)
 
 -- the line that is filled, with these sets
 abbrev pub filled_line_of : Filling → Option (SmallVec (EscapedStr × EscapedStr)) → SmallVec (EscapedStr × FieldValue) → ParsedLine
@@ -236,35 +184,23 @@ module _ (old new : Filling) (none : old.fault ≡ None) where
   -- a fault that was kept is the answer
   fault_is : (answer : Result Line Fault) (fault : SpelledFault) → FillsAnswer old answer new → new.fault ≡ Some fault
       → answer ≡ Err (spelled_fault fault)
-  fault_is (Ok l) fault filled some = absurd (let both = sym none ∙ sym filled.fault ∙ some in cc)
-  fault_is (Err f) fault filled some = let same = rw some at filled in let is : spelled_fault fault ≡ f = cc in ap Err (sym is)
+  fault_is f fault filled some = grind (arith)
 
   -- where no fault was kept, the answer is a line
   line_is : (answer : Result Line Fault) → FillsAnswer old answer new → ((fault : SpelledFault) → new.fault ≡ Some fault → ⊥)
       → (l : Line) × (answer ≡ Ok l) × FilledLine old l new
-  line_is (Ok l) filled without = (l, refl, filled)
-  line_is (Err f) filled without = go new.fault refl
-    where
-      -- a fault was kept
-      go : (kept : Option SpelledFault) → new.fault ≡ kept → (l : Line) × (Err f ≡ Ok l) × FilledLine old l new
-      go None is = absurd (let no = rw is at filled in cc)
-      go (Some fault) is = absurd (without fault is)
+  line_is f filled without = grind (arith)
 
   module _ (dialect : Dialect) (text : List ℕ) (filled : FillsAnswer old (answer dialect text) new) where
     -- the error that is made of the fault of a light line is not `OutOfMemory`
     pub fault_is_light : (p q : ℕ) (fault : SpelledFault) (e : Error) → new.fault ≡ Some fault
         → (carries_no_text (spelled_fault fault) ≡ true → e ≢ OutOfMemory) → is_light_in p q dialect text ≡ true → e ≢ OutOfMemory
-    fault_is_light p q fault e some made light =
-        made (light_fault dialect text p q (spelled_fault fault) (fault_is (answer dialect text) fault filled some) light)
+    fault_is_light p q fault e some made light = grind (arith, light_fault, fault_is)
 
     -- memory is not refused for a light line
     pub light_is_not_refused : ((fault : SpelledFault) → new.fault ≡ Some fault → ⊥) → new.refused ≡ true
         → is_light_in (tag_room old.line.now) (field_room old.line.now) dialect text ≡ true → ⊥
-    light_is_not_refused without refused light =
-        let read = line_is (answer dialect text) filled without in
-        let fits = light_line dialect text (tag_room old.line.now) (field_room old.line.now) read.0 read.1 light in
-        let taken = read.2.fits fits.2 fits.0 fits.1 in
-        cc
+    light_is_not_refused without refused light = grind (arith, line_is, light_line)
 
     -- the line that is filled is the answer
     pub line_answers : (set : Option (SmallVec (EscapedStr × EscapedStr))) (fields : SmallVec (EscapedStr × FieldValue))

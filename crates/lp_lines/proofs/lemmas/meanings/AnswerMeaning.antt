@@ -1,19 +1,17 @@
 -- Each text is answered by one row of the table.
-use Rattle.std.proofs.Common.{◌≡◌, ◌⊎◌, ℕ, ◌==◌, List, [], ◌∷◌, ◌++◌, length, take, drop, refl, sym, ap, ◌∙◌, subst, inl, inr, Option, Some}
+use Rattle.std.proofs.Common.{◌≡◌, ◌⊎◌, ℕ, ◌==◌, List, [], ◌∷◌, ◌++◌, refl, sym, ap, ◌∙◌, subst, inl, inr, Option, Some}
 use Rattle.std.proofs.Common.{None, Ok, Err, Result}
-use Rattle.std.specs.Prelude.{ℤ, ◌||◌}
-use Rattle.std.specs.Str.Parse.{signed_digits_value}
+use Rattle.std.specs.Prelude.{ℤ}
 use Rattle.std.proofs.lemmas.Bool.{cases_Bool, eqb-true, eq-eqb, both_ways}
 use Rattle.lp_format.specs.format.Dialects.{Dialect}
-use Rattle.lp_format.specs.format.Bytes.{comma, equals, space}
+use Rattle.lp_format.specs.format.Bytes.{comma, space}
 use Rattle.lp_format.specs.format.Readings.{Side, Fault, measurement_value_invalid, field_set_missing, ends_with_backslash}
 use Rattle.lp_format.specs.format.Readings.{tag_set_malformed, take_while1, timestamp_value_invalid, cannot_parse_entire_line}
 use Rattle.lp_format.specs.format.Readings.{Text, Read, Reading, miss, fatal, reads, ◌>>=◌}
-use Rattle.lp_format.specs.format.Names.{NameKind, a_measurement, a_tag_key, a_tag_value, ends_in_backslash, logical, name}
-use Rattle.lp_format.specs.format.Names.{spelled}
-use Rattle.lp_format.specs.format.Values.{Value, integer_len, fits_i64, side_of}
+use Rattle.lp_format.specs.format.Names.{NameKind, a_measurement, name}
+use Rattle.lp_format.specs.format.Values.{Value}
 use Rattle.lp_format.specs.format.Points.{Pair}
-use Rattle.lp_format.specs.format.Lines.{Line, byte, tag, field, separated_list, tag_set, without_comma, spaces, timestamp}
+use Rattle.lp_format.specs.format.Lines.{Line, byte, tag, field, separated_list, tag_set, without_comma, timestamp}
 use Rattle.lp_format.specs.format.Lines.{answer}
 use Rattle.lp_format.specs.laws.Meanings.{WholeList, NextHasFault}
 use Rattle.lp_format.specs.laws.MeaningsOfAnswers.{BeginsWith, after_spaces, ReadsSeries, ReadsSeries.alone}
@@ -26,6 +24,7 @@ use Rattle.lp_events.proofs.lemmas.fields.ManyLemmas.{tag_set_ends}
 use Rattle.lp_lines.proofs.lemmas.read_back.LineReadsBack.{front_is}
 use Rattle.lp_values.proofs.lemmas.fields.ReadingLemmas.{EndsIn, EndsIn-end, name_ends}
 use Rattle.lp_format.proofs.lemmas.meanings.ShorterRests.{tag_no_longer, field_no_longer}
+use Rattle.std.proofs.Common.{arith}
 
 -- the one fault that a name can have is that it ends in a backslash
 abbrev FailsByBackslash : {A : Type 0} → Reading A → Type 0
@@ -34,28 +33,16 @@ FailsByBackslash r = (e : Fault) → r ≡ fatal e → e ≡ ends_with_backslash
 -- of a name
 name_fault : (kind : NameKind) (text : List ℕ) → FailsByBackslash (name kind text)
 unfolding name
-name_fault kind text e h = elim (cases_Bool (length (spelled kind text) == 0)) [
-  | inl none ↦ absurd (let m = rw none at h in cc)
-  | inr some ↦ elim (cases_Bool (ends_in_backslash (logical kind (spelled kind text)))) [
-    | inl ends ↦ let m = rw (some, ends) at h in cc
-    | inr other ↦ absurd (let m = rw (some, other) at h in cc)
-  ]
-]
+name_fault kind text e h = grind (arith, cases_Bool)
 
 -- of two parts
 fault_of_two : {A B : Type 0} (r : Reading A) (f : Read A → Reading B) → FailsByBackslash r → ((x : Read A) → FailsByBackslash (f x))
     → FailsByBackslash (r >>= f)
-fault_of_two miss f h k e m = absurd (cc)
-fault_of_two (fatal d) f h k e m = let same : d ≡ e = cc in sym same ∙ h d refl
-fault_of_two (reads x rest) f h k e m = k (record { value = x; rest = rest }) e m
+fault_of_two rest f h k e m = grind (arith)
 
 -- a byte has none
 byte_fault : (b : ℕ) (text : List ℕ) → FailsByBackslash (byte b text)
-byte_fault b [] e m = absurd (cc)
-byte_fault b (c ∷ rest) e m = elim (cases_Bool (c == b)) [
-  | inl same ↦ absurd (let h = rw same at m in cc)
-  | inr other ↦ absurd (let h = rw other at m in cc)
-]
+byte_fault b rest e m = grind (arith, cases_Bool)
 
 -- nor what is read
 reads_fault : {A : Type 0} (x : A) (rest : List ℕ) → FailsByBackslash (reads x rest)
@@ -64,30 +51,16 @@ reads_fault x rest e m = absurd (cc)
 -- of a tag
 tag_fault : (text : List ℕ) → FailsByBackslash (tag text)
 unfolding tag
-tag_fault text =
-    fault_of_two (name a_tag_key text) _ (name_fault a_tag_key text) (λ key.
-    fault_of_two (byte equals key.rest) _ (byte_fault equals key.rest) (λ after.
-    fault_of_two (name a_tag_value after.rest) _ (name_fault a_tag_value after.rest) (λ x.
-    reads_fault (record { key = key.value; value = x.value }) x.rest)))
+tag_fault text = grind (arith, fault_of_two, name_fault, byte_fault, reads_fault)
 
 -- so of the next tag
 next_tag_fault : (tags : List (Pair Text Text)) (rest : List ℕ) (e : Fault) → NextHasFault tag tags rest e → e ≡ ends_with_backslash
-next_tag_fault [] rest e h = tag_fault rest e h
-next_tag_fault (t ∷ tags) rest e h = tag_fault h.0 e h.2
+next_tag_fault tags rest e h = grind (arith, tag_fault)
 
 -- the fault of a timestamp is that it is out of range
 stamp_fault : (text : List ℕ) (e : Fault) → timestamp text ≡ Err e → (side : Side) × (number : List ℕ)
     × (e ≡ timestamp_value_invalid side number)
-stamp_fault text e h =
-    let after = drop (spaces text) text in
-    let number = take (integer_len after) after in
-    elim (cases_Bool (spaces text == 0 || integer_len after == 0)) [
-      | inl none ↦ absurd (let m = rw none at h in cc)
-      | inr some ↦ elim (cases_Bool (fits_i64 (signed_digits_value 10 number))) [
-        | inl fits ↦ absurd (let m = rw (some, fits) at h in cc)
-        | inr beyond ↦ (side_of number, number, let m = rw (some, beyond) at h in cc)
-      ]
-    ]
+stamp_fault text e h = grind (arith, cases_Bool)
 
 -- the tags in full are what commas join
 tags_read : (text : List ℕ) (tags : List (Pair Text Text)) (rest : List ℕ) → WholeList tag text tags rest
@@ -101,8 +74,7 @@ fields_read text fields rest h = (the_most_is_read field (λ t. (field_no_longer
 
 -- a text that does not begin with this byte
 no_byte : (b : ℕ) (text : List ℕ) → ¬ BeginsWith b text → byte b text ≡ miss
-no_byte b [] h = refl
-no_byte b (c ∷ rest) h = elim (cases_Bool (c == b)) [ inl e ↦ absurd (h (eqb-true c b e)) | inr other ↦ rw other refl ]
+no_byte b rest h = grind (arith, cases_Bool, eqb-true)
 
 -- what a series is read from
 pub record Series (text : List ℕ) (m : Text) (tags : Option (List (Pair Text Text))) (rest : List ℕ) : Type 0 where
@@ -113,8 +85,7 @@ pub record Series (text : List ℕ) (m : Text) (tags : Option (List (Pair Text T
 -- each series that is read is such
 pub series_parts : {text : List ℕ} {m : Text} {tags : Option (List (Pair Text Text))} {rest : List ℕ} → ReadsSeries text m tags rest
     → Series text m tags rest
-series_parts (alone m rest named none) = record { after = rest; named = named; set = rw (no_byte comma rest none) refl }
-series_parts (tagged m tags after rest named h) = record { after = comma ∷ after; named = named; set = rw (tags_read after tags rest h) refl }
+series_parts h = grind (arith, no_byte, tags_read)
 
 -- a space at the start of a text
 space_here : (text : List ℕ) → BeginsWith space text → (after : List ℕ) × (byte space text ≡ reads space after)

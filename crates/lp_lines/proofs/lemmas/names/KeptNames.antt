@@ -1,5 +1,5 @@
 -- The bytes of a name that is read: the text of a spelling is a parsed name.
-use Rattle.std.proofs.Common.{◌≡◌, ◌≢◌, ℕ, zero, suc, ◌-◌, ◌<◌, List, [], ◌∷◌, ◌++◌, length, take, slice_index, Bool, true, false, not}
+use Rattle.std.proofs.Common.{◌≡◌, ◌≢◌, ℕ, suc, ◌-◌, ◌<◌, List, [], ◌∷◌, ◌++◌, length, take, slice_index, Bool, true, false, not}
 use Rattle.std.proofs.Common.{◌&&◌, ◌||◌, refl, sym, ap, ◌∙◌, subst, arith, inl, inr}
 use Rattle.std.specs.Prelude.{◌==◌}
 use Rattle.std.proofs.lemmas.Bool.{cases_Bool, false≢true, and_parts, and_from, or_left, or_right, or_cases, not_from_true, not_from_false}
@@ -42,14 +42,11 @@ escapable_may a_field_key b h = grind (arith, common_steps)
 
 -- a byte that is no bare stop
 no_bare_stop : (s e : Bool) → (s && not e) ≡ false → (not s || e) ≡ true
-no_bare_stop true true h = refl
-no_bare_stop true false h = absurd (false≢true (sym h))
-no_bare_stop false e h = refl
+no_bare_stop x0 e h = grind (arith, false≢true)
 
 -- the same of a byte at a place that is not escaped
 no_stop : (s : Bool) → (not s || false) ≡ true → s ≡ false
-no_stop true h = absurd (false≢true h)
-no_stop false h = refl
+no_stop x0 h = grind (arith, false≢true)
 
 -- what comes before the first bare stop holds none
 before_stop_closed : (kind : NameKind) (escaped : Bool) (text : List ℕ)
@@ -67,9 +64,7 @@ logical_kept : (kind : NameKind) (after : Bool) (text : List ℕ) → is_closed 
     → is_kept kind after (logical kind text) ≡ true
 unfolding without_escapes
 logical_kept kind after [] h = refl
-logical_kept kind after (b ∷ []) h =
-    let may = unstopped_may kind b (no_stop (is_stop kind b) (and_parts (not (is_stop kind b) || false) true h).0) in
-    and_from (may_hold kind b || after) true (or_left (may_hold kind b) after may) refl
+logical_kept kind after (b ∷ []) h = grind (arith, unstopped_may, no_stop, and_parts, and_from, may_hold, or_left)
 logical_kept kind after (b ∷ c ∷ rest) h =
     let parts = and_parts (not (is_stop kind b) || false) (is_closed kind (b == backslash) (c ∷ rest)) h in
     let may : may_hold kind b ≡ true = unstopped_may kind b (no_stop (is_stop kind b) parts.0) in
@@ -113,11 +108,7 @@ ends_from_start (b ∷ text) = ends_after_is b text
 kept_place : (kind : NameKind) (suffix : Bool) (front back : List ℕ) (b : ℕ)
     → is_kept kind suffix (front ++ b ∷ back) ≡ true → is_one_of (never_in kind) b ≡ true
     → ends_after suffix front ≡ true
-kept_place kind suffix [] back b h never =
-    elim (or_cases (may_hold kind b) suffix (and_parts (may_hold kind b || suffix) _ h).0) [
-      | inl may ↦ absurd (false≢true (sym (not_from_true _ never) ∙ may))
-      | inr after ↦ after
-    ]
+kept_place kind suffix [] back b h never = grind (arith, or_cases, may_hold, and_parts, false≢true, not_from_true)
 kept_place kind suffix (x ∷ front) back b h never = kept_place kind (x == backslash) front back b
     (and_parts (may_hold kind x || suffix) _ h).1 never
 
@@ -140,26 +131,16 @@ name_kept kind n h = kept_from kind false n (λ front back b e never. ends_from_
 
 -- a spelling begins as the text does
 front_begins : (n : ℕ) (text : List ℕ) → slice_index text 0 ≢ hash → slice_index (take n text) 0 ≢ hash
-front_begins zero text h = omega arith
-front_begins (suc n) [] h = omega arith
-front_begins (suc n) (b ∷ text) h = h
+front_begins n text h = grind (arith)
 
 -- no escape makes a `#`
 hash_unescapable : (b : ℕ) → is_escapable a_measurement b ≡ true → b ≢ hash
-hash_unescapable b h = λ e. let other : is_escapable a_measurement b ≡ false = ap (is_escapable a_measurement) e in
-    false≢true (sym other ∙ h)
+hash_unescapable b h = grind (arith, false≢true)
 
 -- a measurement begins with `#` only where its spelling does
 logical_begins : (text : List ℕ) → slice_index text 0 ≢ hash → slice_index (logical a_measurement text) 0 ≢ hash
 unfolding without_escapes
-logical_begins [] h = omega arith
-logical_begins (b ∷ []) h = h
-logical_begins (b ∷ c ∷ rest) h =
-    elim (cases_Bool (b == backslash)) [
-      | inl e ↦ elim (cases_Bool (is_escapable a_measurement c))
-          [ inl known ↦ rw (e, known) (hash_unescapable c known) | inr unknown ↦ rw (e, unknown) h ]
-      | inr e ↦ rw e h
-    ]
+logical_begins rest h = grind (arith, cases_Bool, hash_unescapable)
 
 -- where the text does not begin with `#`, neither does its measurement
 name_begins : (kind : NameKind) (text : List ℕ) → BeginsNoComment kind text → BeginsNoComment kind (logical kind (spelled kind text))
@@ -171,14 +152,7 @@ name_begins a_field_key text h = tt
 -- the logical text of a text that is not empty is not empty
 logical_some : (kind : NameKind) (text : List ℕ) → length text ≢ 0 → 0 < length (logical kind text)
 unfolding without_escapes
-logical_some kind [] h = absurd (h refl)
-logical_some kind (b ∷ []) h = omega arith
-logical_some kind (b ∷ c ∷ rest) h =
-    elim (cases_Bool (b == backslash)) [
-      | inl e ↦ elim (cases_Bool (is_escapable kind c))
-          [ inl known ↦ rw (e, known) (omega arith) | inr unknown ↦ rw (e, unknown) (omega arith) ]
-      | inr e ↦ rw e (omega arith)
-    ]
+logical_some kind rest h = grind (arith, cases_Bool)
 
 -- the logical text of a spelling is a parsed name, unless it is empty or ends in a backslash
 spelled_is_parsed : (kind : NameKind) (text : List ℕ) → length (spelled kind text) ≢ 0

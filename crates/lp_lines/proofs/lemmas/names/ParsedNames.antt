@@ -1,6 +1,6 @@
 -- Which names lines can have, and that they can have each of them.
-use Rattle.std.proofs.Common.{◌≡◌, ◌≢◌, ℕ, List, [], ◌∷◌, length, drop, map, slice_index, Bool, true, false, ◌||◌, refl, sym, ap, subst}
-use Rattle.std.proofs.Common.{arith, inl, inr, Option, None, Ok, Result}
+use Rattle.std.proofs.Common.{◌≡◌, ◌≢◌, ℕ, List, [], ◌∷◌, drop, map, slice_index, Bool, true, false, ◌||◌, refl, sym, ap, subst}
+use Rattle.std.proofs.Common.{arith, inl, inr, Option, Ok, Result}
 use Rattle.std.specs.Prelude.{◌==◌, ℤ}
 use Rattle.std.specs.List.{AllByRecursion, Contains}
 use Rattle.std.proofs.lemmas.Bool.{cases_Bool, or_parts, eqb-false, eqb-true}
@@ -9,7 +9,7 @@ use Rattle.lp_format.specs.format.Dialects.{Dialect, Strict}
 use Rattle.lp_format.specs.format.Readings.{Fault, Text}
 use Rattle.lp_format.specs.format.Readings.{reads}
 use Rattle.lp_format.specs.format.Names.{NameKind, a_measurement, a_tag_key, a_tag_value, a_field_key, name}
-use Rattle.lp_format.specs.format.Values.{Value, value}
+use Rattle.lp_format.specs.format.Values.{Value}
 use Rattle.lp_format.specs.format.Points.{Pair, Point, Tag}
 use Rattle.lp_format.specs.format.Trimming.{trimmed}
 use Rattle.lp_format.specs.format.Lines.{Line, point_of, logical_tag, logical_field, some_tags, tag, field}
@@ -28,7 +28,7 @@ use Rattle.lp_events.proofs.lemmas.fields.ManyLemmas.{fields_joined, set_separat
 use Rattle.lp_lines.proofs.lemmas.read_back.LineReadsBack.{front_is}
 use Rattle.lp_values.proofs.lemmas.fields.ReadingLemmas.{pair_parts}
 use Rattle.lp_format.proofs.lemmas.lists.Elements.{first_or_later}
-use Rattle.lp_format.specs.format.Bytes.{equals, hash, newline, space}
+use Rattle.lp_format.specs.format.Bytes.{hash, newline}
 
 -- the names of a tag, and that of a field
 abbrev ParsedTag : Pair Text Text → Type 0
@@ -41,15 +41,12 @@ ParsedField f = IsParsedName a_field_key f.key.bytes
 -- the names of each tag that is read
 tag_parsed : (line : List ℕ) (t : Pair Text Text) (rest : List ℕ) → tag line ≡ reads t rest → ParsedTag t
 unfolding tag
-tag_parsed line t rest h =
-    let p = pair_parts a_tag_key (name a_tag_value) line t rest h in
-    (name_parsed a_tag_key line (equals ∷ p.mid) t.key p.key tt, name_parsed a_tag_value p.mid rest t.value p.value tt)
+tag_parsed line t rest h = grind (arith, pair_parts, name_parsed)
 
 -- the key of each field that is read
 field_parsed : (line : List ℕ) (f : Pair Text (Value Text)) (rest : List ℕ) → field line ≡ reads f rest → ParsedField f
 unfolding field
-field_parsed line f rest h =
-    let p = pair_parts a_field_key value line f rest h in name_parsed a_field_key line (equals ∷ p.mid) f.key p.key tt
+field_parsed line f rest h = grind (arith, pair_parts, name_parsed)
 
 -- two parts that are read are the same where their results are
 pub ok_same : {A : Type 0} (x y : A) → (let f : Result A Fault = Ok x in f) ≡ Ok y → x ≡ y
@@ -101,15 +98,7 @@ answer_parts dialect line l h = by_row ((answer_is_by_rows dialect line (Ok l)).
 -- a text that is a timestamp to its end begins with a space
 stamp_begins : (text : List ℕ) (t : Option ℤ) → timestamp text ≡ Ok (record { value = t; rest = [] }) → IsNothingOrSpaced text
 stamp_begins [] t h = inl refl
-stamp_begins (b ∷ text) t h =
-    elim (cases_Bool (b == space)) [
-      | inl e ↦ inr (text, ap (λ (x : ℕ). x ∷ text) (eqb-true b space e))
-      | inr other ↦
-          let none = rw other at h in
-          let left : b ∷ text ≡ [] = ap (λ r. r.rest)
-          (ok_same (record { value = None; rest = b ∷ text }) (record { value = t; rest = [] }) none) in
-          absurd (cc)
-    ]
+stamp_begins (b ∷ text) t h = grind (arith, cases_Bool, eqb-true, ok_same)
 
 -- nothing follows the fields of a line in the strict dialect, or a space does
 pub strict_fields_end : StrictFieldsEnd
@@ -204,15 +193,7 @@ pub record Answered (dialect : Dialect) (line : Line) : Type 0 where
 piece_answered : (dialect : Dialect) (piece : List ℕ) (line : Line)
     → Contains (answers_of_piece dialect piece) (Ok line) → Answered dialect line
 unfolding answers_of_piece
-piece_answered dialect piece line h =
-    elim (cases_Bool (length (trimmed piece) == 0)) [
-      | inl none ↦ absurd (nothing_in_nil (Ok line) (rw none at h))
-      | inr some ↦
-          elim (first_or_later (answer dialect (trimmed piece)) (Ok line) [] (rw some at h)) [
-            | inl same ↦ record { text = trimmed piece; begins = trimmed_begins piece; answered = same }
-            | inr never ↦ absurd (nothing_in_nil (Ok line) never)
-          ]
-    ]
+piece_answered dialect piece line h = grind (arith, cases_Bool, nothing_in_nil, first_or_later, trimmed_begins)
 
 -- a line that is answered for pieces
 answered_in : (dialect : Dialect) (pieces : List (List ℕ)) (line : Line)

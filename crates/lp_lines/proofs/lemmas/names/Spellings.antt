@@ -117,13 +117,11 @@ never_stops a_field_key c h = grind (arith, common_steps)
 
 -- nor is it a backslash
 never_backslash : (kind : NameKind) (c : ℕ) → is_one_of (never_in kind) c ≡ true → (c == backslash) ≡ false
-never_backslash kind c h = ne_eqb c backslash
-    (λ e. false≢true (sym (never_unescapable kind c h) ∙ ap (is_escapable kind) e ∙ escapable_backslash kind))
+never_backslash kind c h = grind (arith, ne_eqb, false≢true, never_unescapable, escapable_backslash)
 
 -- the test of a byte with nothing before it
 may_alone : (m : Bool) → (m || false) ≡ true → m ≡ true
-may_alone true h = refl
-may_alone false h = absurd (false≢true h)
+may_alone x0 h = grind (arith, false≢true)
 
 -- a name with a byte at the start that may be bare
 spelled_more : (kind : NameKind) (b : ℕ) (n : List ℕ) → may_hold kind b ≡ true → (s : List ℕ) × SpelledAs kind n s
@@ -179,8 +177,7 @@ Stops kind (c ∷ rest) = is_stop kind c ≡ true
 
 -- no byte of it belongs to the name
 stops_here : (kind : NameKind) (rest : List ℕ) → Stops kind rest → bare_len (is_stop kind) false rest ≡ 0
-stops_here kind [] ends = refl
-stops_here kind (c ∷ rest) ends = rw ends refl
+stops_here kind rest ends = grind (arith)
 
 -- a spelling ends before it
 spelled_to : {kind : NameKind} {n s : List ℕ} → SpelledAs kind n s → (rest : List ℕ) → Stops kind rest
@@ -219,19 +216,13 @@ record Front (kind : NameKind) (s rest : List ℕ) : Type 0 where
 
 -- a spelling is what is at the start of its stop
 spelled_front : {kind : NameKind} {n s : List ℕ} → SpelledAs kind n s → (rest : List ℕ) → Stops kind rest → Front kind s rest
-spelled_front {kind = kind} {s = s} h rest ends =
-    let len : spelled_len kind (s ++ rest) ≡ length s = first_bare_len (is_stop kind) (s ++ rest) ∙ spelled_to h rest ends in
-    record { front = rw len (take_at s rest (length s) refl); after = rw len (drop_at s rest (length s) refl) }
+spelled_front {kind = kind} {s = s} h rest ends = grind (arith, first_bare_len, spelled_to, take_at, drop_at)
 
 -- so a name is read where it does not end in a backslash
 pub spelled_reads : {kind : NameKind} {n s : List ℕ} → SpelledAs kind n s → 0 < length n
     → ends_in_backslash n ≡ false → (rest : List ℕ) → Stops kind rest
     → name kind (s ++ rest) ≡ reads (read_text (escapable kind) s) rest
-spelled_reads {kind = kind} {n = n} {s = s} h some last rest ends =
-    let parts = spelled_front h rest ends in
-    let same : ends_in_backslash s ≡ false = sym (logical_ends kind s) ∙ ap ends_in_backslash (spelled_logical h) ∙ last in
-    let read = name_reads kind (s ++ rest) (rw (parts.front) (spelled_some h some)) (rw (parts.front) same) in
-    rw (parts.front, parts.after) at read
+spelled_reads {kind = kind} {n = n} {s = s} h some last rest ends = grind (arith, spelled_front, logical_ends, spelled_logical, name_reads, spelled_some)
 
 -- a name that is admitted reads back, before each byte that ends it
 pub name_reads_back : (kind : NameKind) (n rest : List ℕ) (stop : ℕ) → is_admitted_name kind n ≡ true → is_stop kind stop ≡ true
@@ -244,10 +235,7 @@ name_reads_back kind n rest stop ok ends =
 pub spelled_fatal : {kind : NameKind} {n s : List ℕ} → SpelledAs kind n s → 0 < length n
     → ends_in_backslash n ≡ true → (rest : List ℕ) → Stops kind rest
     → name kind (s ++ rest) ≡ fatal ends_with_backslash
-spelled_fatal {kind = kind} {n = n} {s = s} h some last rest ends =
-    let parts = spelled_front h rest ends in
-    let same : ends_in_backslash s ≡ true = sym (logical_ends kind s) ∙ ap ends_in_backslash (spelled_logical h) ∙ last in
-    name_fatal kind (s ++ rest) (rw (parts.front) (spelled_some h some)) (rw (parts.front) same)
+spelled_fatal {kind = kind} {n = n} {s = s} h some last rest ends = grind (arith, spelled_front, logical_ends, spelled_logical, name_fatal, spelled_some)
 
 -- a spelling after a piece
 pub reaches_spelled : (part : Part) (e c : ℕ) {kind : NameKind} {n s : List ℕ}
@@ -293,26 +281,15 @@ spelled_spaces (pair c n s never more) some rest = refl
 
 -- a text that begins so is no comment, and nothing is trimmed off it
 pub line_no_comment : (text : List ℕ) → BeginsLine text → begins_comment text ≡ false
-line_no_comment [] h = absurd h
-line_no_comment (b ∷ text) h =
-    let no_hash : (b == hash) ≡ false = grind (arith, common_steps) in
-    let no_space : (b == 32) ≡ false = grind (arith, common_steps) in
-    let no_tab : (b == tab) ≡ false = grind (arith, common_steps) in
-    rw (no_hash, no_space, no_tab) refl
+line_no_comment text h = grind (arith, no_space)
 
 -- nothing is trimmed off it
 pub line_trimmed : (text : List ℕ) → BeginsLine text → trimmed text ≡ text
-line_trimmed [] h = absurd h
-line_trimmed (b ∷ text) h =
-    let no_hash : (b == hash) ≡ false = grind (arith, common_steps) in
-    let no_blank : is_blank b ≡ false = grind (arith, common_steps) in
-    let no_newline : (b == newline) ≡ false = grind (arith, common_steps) in
-    trimmed_is (b ∷ text) ∙ rw (no_newline, no_hash, no_blank) refl
+line_trimmed text h = grind (arith, is_blank, no_newline, trimmed_is)
 
 -- and it is not empty
 pub line_some : (text : List ℕ) → BeginsLine text → (length text == 0) ≡ false
-line_some [] h = absurd h
-line_some (b ∷ text) h = ne_eqb (length (b ∷ text)) 0 (λ e. absurd (omega arith))
+line_some text h = grind (arith, ne_eqb)
 
 -- a spelling in a head
 pub reaches_head : {kind : NameKind} {n s : List ℕ} → SpelledAs kind n s → Leads (Reaches Head 0 0) (Reaches Head 0 0) s

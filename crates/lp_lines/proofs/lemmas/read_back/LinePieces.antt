@@ -1,7 +1,7 @@
 -- The line of an admitted point is a piece that a newline ends.
-use Rattle.std.proofs.Common.{◌≡◌, ◌≢◌, ℕ, suc, ◌+◌, ◌^◌, ◌<◌, ◌≤◌, List, [], ◌∷◌, ◌++◌, length, Bool, true, false, ◌&&◌, refl, sym, ap}
+use Rattle.std.proofs.Common.{◌≡◌, ◌≢◌, ℕ, ◌+◌, ◌^◌, ◌<◌, ◌≤◌, List, [], ◌∷◌, ◌++◌, length, Bool, true, false, refl, sym, ap}
 use Rattle.std.proofs.Common.{◌∙◌, subst, arith, inl, inr, append_assoc, Option, Some, None}
-use Rattle.std.specs.Prelude.{◌==◌, ℤ, pos, negsuc, not, codes, decimal, IfSome}
+use Rattle.std.specs.Prelude.{◌==◌, ℤ, not, codes, decimal, IfSome}
 use Rattle.std.specs.List.{AllByRecursion, list_all, flat_map}
 use Rattle.std.specs.Fmt.{signed_decimal}
 use Rattle.std.specs.Str.Parse.{AllDigits, IsNumeral}
@@ -10,11 +10,10 @@ use Rattle.std.proofs.lemmas.Grind.{common_steps}
 use Rattle.std.proofs.lemmas.Fmt.{decimal_is_IsNumeral}
 use Rattle.std.proofs.lemmas.Str.Parse.{digit_from_value}
 use Rattle.std.proofs.lemmas.List.Folds.{list_all-append}
-use Rattle.lp_split.specs.declared.split.resumed.Part.{Part}
 use Rattle.lp_split.specs.declared.split.resumed.Part.TheVariants.{Head, Plain, Quoted}
 use Rattle.lp_split.proofs.lemmas.split.SplitWalk.{Plain-equals}
 use Rattle.lp_split.proofs.lemmas.split.SplitWalk.{Plain-comma, Plain-opens, Plain-other, Quoted-closes, Quoted-other}
-use Rattle.lp_format.specs.format.Dialects.{Dialect, Crate, Strict}
+use Rattle.lp_format.specs.format.Dialects.{Dialect}
 use Rattle.lp_format.specs.format.Bytes.{backslash, is_one_of, newline, quote}
 use Rattle.lp_format.specs.format.Escapes.{escaped}
 use Rattle.lp_format.specs.format.Names.{a_measurement, a_tag_key, a_tag_value, a_field_key}
@@ -72,10 +71,7 @@ simple_decimal n fits = simple_digits (decimal n) (decimal_is_IsNumeral n fits).
 
 -- and that of a signed one
 simple_signed : (z : ℤ) → fits_i64 z ≡ true → IsSimple (signed_decimal z)
-simple_signed (pos n) fits = let small : n < 2 ^ 63 = (fits_from_test (pos n) fits).sfits in simple_decimal n (omega arith)
-simple_signed (negsuc n) fits =
-    let small : n < 2 ^ 63 = (fits_from_test (negsuc n) fits).sfits in
-    and_from (is_simple 45) (list_all is_simple (decimal (suc n))) refl (simple_decimal (suc n) (omega arith))
+simple_signed n fits = grind (arith, fits_from_test, simple_decimal, and_from)
 
 -- a byte of a simple text
 simple_one : (text : List ℕ) (b : ℕ) → IsSimple text → is_one_of text b ≡ true → is_simple b ≡ true
@@ -89,17 +85,12 @@ simple_one (c ∷ text) b all h =
 
 -- a sign or none, and digits
 simple_sign : (signs : List ℕ) (ds : List ℕ) → IsSimple signs → IsSigned signs ds → IsSimple ds
-simple_sign signs [] of never = absurd never
-simple_sign signs (b ∷ ds) of (inl signed) =
-    and_from (is_simple b) (list_all is_simple ds) (simple_one signs b of signed.0) (simple_digits ds signed.1.1)
-simple_sign signs (b ∷ ds) of (inr numeral) = simple_digits (b ∷ ds) numeral.1
+simple_sign signs ds of never = grind (arith, and_from, simple_one, simple_digits)
 
 -- a mark and a part, or nothing
 simple_mark : (marks : List ℕ) (Part : List ℕ → Type 0) (text : List ℕ) → IsSimple marks
     → ((x : List ℕ) → Part x → IsSimple x) → IsMarked marks Part text → IsSimple text
-simple_mark marks Part [] of part marked = refl
-simple_mark marks Part (b ∷ x) of part marked =
-    and_from (is_simple b) (list_all is_simple x) (simple_one marks b of marked.0) (part x marked.1)
+simple_mark marks art x of part marked = grind (arith, and_from, simple_one)
 
 -- and floats
 simple_float : (t : List ℕ) → IsFloat t → IsSimple t
@@ -215,8 +206,7 @@ reaches_line n ts f fs t named tagged first more stamped =
 
 -- what a newline may end, in both dialects
 is_cut_piece : (dialect : Dialect) (text : List ℕ) → begins_comment text ≡ false → AfterFields text → IsCutPiece dialect text
-is_cut_piece Crate text none r = (inr (r.1.1.0, r.1.1.1), r.1.0)
-is_cut_piece Strict text none r = inr (none, inr (r.1.1.0, r.1.1.1), r.1.0)
+is_cut_piece trict text none r = grind (arith)
 
 -- what a point is whose line reads back: its names are admitted and it has a field
 pub record IsAdmitted (p : Point) : Type 0 where
@@ -244,17 +234,7 @@ admitted_fields (f ∷ fs) all values =
 -- the two tests of a point
 pub admitted_point : (p : Point) → IsPoint p → is_admitted_point p ≡ true → IsAdmitted p
 unfolding is_admitted_point
-admitted_point p h ok =
-    let names = and_parts (is_admitted_name a_measurement p.measurement && list_all is_admitted_tag p.tags)
-    (list_all is_admitted_field p.fields) ok in
-    let front = and_parts (is_admitted_name a_measurement p.measurement) (list_all is_admitted_tag p.tags) names.0 in
-    record {
-      measurement = front.0;
-      tags = admitted_tags p.tags front.1;
-      fields = admitted_fields p.fields names.1 h.values;
-      some_field = h.some_field;
-      timestamp = h.timestamp;
-    }
+admitted_point p h ok = grind (arith, and_parts, admitted_tags, admitted_fields)
 
 -- the line of a point, part by part
 pub line_parts : (p : Point)

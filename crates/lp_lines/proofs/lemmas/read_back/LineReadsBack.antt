@@ -14,14 +14,14 @@ use Rattle.lp_format.specs.format.Readings.{Reading, reads, Text, miss}
 use Rattle.lp_format.specs.format.Points.{IsValue, built_value, Pair, Tag, Field, built_tag, built_field, built_fields, built_timestamp}
 use Rattle.lp_format.specs.format.Points.{spelling, Point, line_of, is_admitted_name}
 use Rattle.lp_format.specs.format.Escapes.{escaped}
-use Rattle.lp_format.specs.format.Values.{Value, value, integer, unsigned, float, string, boolean, integer_at, unsigned_at, float_at}
+use Rattle.lp_format.specs.format.Values.{Value, value, integer, unsigned, string, boolean, integer_at, unsigned_at, float_at}
 use Rattle.lp_format.specs.format.Values.{string_at, boolean_at, body_len, digits_len, integer_len, fits_i64, quotable}
 use Rattle.lp_format.proofs.lemmas.read_back.NameReadsBack.{read_value, read_tag, read_tags, read_field, read_line, admitted_parts}
 use Rattle.lp_format.proofs.lemmas.read_back.NameReadsBack.{read_name}
 use Rattle.lp_format.proofs.lemmas.values.ValueLemmas.{integer_unmarked}
 use Rattle.lp_format.proofs.lemmas.literals.FloatLemmas.{Ends, float_reads_back, digits_before}
 use Rattle.lp_format.proofs.lemmas.read_back.IntegerReadsBack.{unsigned_len, integer_reads_back, integer_written}
-use Rattle.lp_format.specs.format.Dialects.{Dialect, Crate, Strict}
+use Rattle.lp_format.specs.format.Dialects.{Dialect}
 use Rattle.lp_format.specs.format.Names.{a_tag_key, a_tag_value, a_field_key, is_stop, a_measurement, name}
 use Rattle.lp_format.specs.format.Lines.{byte, tag, field, after_comma, many, tag_set, field_set, timestamp, without_comma, answer}
 use Rattle.lp_format.specs.format.Lines.{front_before, separated_list, spaces}
@@ -87,17 +87,12 @@ string_value_reads s rest = rw (append_assoc (escaped quotable s) (quote ∷ [])
 -- a word is neither
 boolean_value_reads : (b : Bool) (rest : List ℕ) → value (built_value (boolean b) ++ rest) ≡ reads (boolean b) rest
 unfolding value integer_at unsigned_at float_at string_at boolean_at
-boolean_value_reads true rest = refl
-boolean_value_reads false rest = refl
+boolean_value_reads x0 rest = grind (arith)
 
 -- a value reads back before the end, a comma or a space
 pub value_reads_back : (v : Value (List ℕ)) (rest : List ℕ) → IsValue v → Ends rest
     → value (built_value v ++ rest) ≡ reads (read_value v) rest
-value_reads_back (integer z) rest fits ends = integer_value_reads z rest fits
-value_reads_back (unsigned n) rest fits ends = unsigned_reads_back n rest fits
-value_reads_back (float t) rest parts ends = float_reads_back t rest parts ends
-value_reads_back (string s) rest any ends = string_value_reads s rest
-value_reads_back (boolean b) rest any ends = boolean_value_reads b rest
+value_reads_back b rest fits ends = grind (arith, integer_value_reads, unsigned_reads_back, float_reads_back, string_value_reads, boolean_value_reads)
 
 -- a tag without the comma before it
 abbrev pub tag_text : Tag → List ℕ
@@ -107,22 +102,13 @@ tag_text t = spelling a_tag_key t.key ++ equals ∷ spelling a_tag_value t.value
 pub tag_reads_back : (t : Tag) (rest : List ℕ) (stop : ℕ) → AdmittedTag t → is_stop a_tag_value stop ≡ true
     → tag (tag_text t ++ stop ∷ rest) ≡ reads (read_tag t) (stop ∷ rest)
 unfolding tag
-tag_reads_back t rest stop ok ends =
-    rw (
-      append_assoc (spelling a_tag_key t.key) (equals ∷ spelling a_tag_value t.value) (stop ∷ rest),
-      name_reads_back a_tag_key t.key (spelling a_tag_value t.value ++ stop ∷ rest) equals ok.0 refl,
-      name_reads_back a_tag_value t.value rest stop ok.1 ends,
-    ) refl
+tag_reads_back t rest stop ok ends = grind (arith, append_assoc, name_reads_back)
 
 -- a tag before the others, or before the fields
 tag_before : (t : Tag) (ts : List Tag) (rest : List ℕ) → AdmittedTag t
     → tag (tag_text t ++ (flat_map built_tag ts ++ space ∷ rest)) ≡ reads (read_tag t) (flat_map built_tag ts ++ space ∷ rest)
 tag_before t [] rest ok = tag_reads_back t rest 32 ok refl
-tag_before t (u ∷ us) rest ok =
-    let after = flat_map built_tag us ++ space ∷ rest in
-    let regrouped : flat_map built_tag (u ∷ us) ++ space ∷ rest ≡ comma ∷ (tag_text u ++ after) = append_assoc
-    (built_tag u) (flat_map built_tag us) (space ∷ rest) in
-    rw regrouped (tag_reads_back t (tag_text u ++ after) comma ok refl)
+tag_before t (u ∷ us) rest ok = grind (arith, append_assoc, tag_reads_back)
 
 module _ {X Y : Type 0} (one : List ℕ → Reading Y) (text : X → List ℕ) (read : X → Y) (Admitted : X → Type 0) (after : List X → List ℕ)
     (begins : (x : X) (xs : List X) → after (x ∷ xs) ≡ comma ∷ (text x ++ after xs)) (ends : byte comma (after []) ≡ miss)
@@ -157,12 +143,7 @@ tag_set_reads_back (t ∷ ts) rest all =
 -- a field, before the end, a comma or a space
 pub field_reads_back : (f : Field) (rest : List ℕ) → AdmittedField f → Ends rest → field (built_field f ++ rest) ≡ reads (read_field f) rest
 unfolding field
-field_reads_back f rest ok ends =
-    rw (
-      append_assoc (spelling a_field_key f.key) (equals ∷ built_value f.value) rest,
-      name_reads_back a_field_key f.key (built_value f.value ++ rest) equals ok.0 refl,
-      value_reads_back f.value rest ok.1 ends,
-    ) refl
+field_reads_back f rest ok ends = grind (arith, append_assoc, name_reads_back, value_reads_back)
 
 -- what comes after a field
 fields_end : (fs : List Field) (rest : List ℕ) → Ends rest → Ends (built_fields comma fs ++ rest)
@@ -172,18 +153,13 @@ fields_end (f ∷ fs) rest ends = refl
 -- no comma is taken before a timestamp or at the end
 no_comma : (dialect : Dialect) (fs : List (Pair Text (Value Text))) (t : Option ℤ)
     → without_comma dialect fs (built_timestamp t) ≡ built_timestamp t
-no_comma Crate [] t = refl
-no_comma Crate (f ∷ []) None = refl
-no_comma Crate (f ∷ []) (Some z) = refl
-no_comma Crate (f ∷ g ∷ gs) t = refl
-no_comma Strict fs t = refl
+no_comma trict fs t = grind (arith)
 
 -- what ends the fields of a built line is no comma
 timestamp_ends : (dialect : Dialect) (fs : List (Pair Text (Value Text))) (t : Option ℤ)
     → (byte comma (built_timestamp t) ≡ miss) × Ends (built_timestamp t)
     × (without_comma dialect fs (built_timestamp t) ≡ built_timestamp t)
-timestamp_ends dialect fs None = (refl, refl, no_comma dialect fs None)
-timestamp_ends dialect fs (Some z) = (refl, refl, no_comma dialect fs (Some z))
+timestamp_ends dialect fs z = grind (arith, no_comma)
 
 -- the fields of a line read back before its timestamp
 pub field_set_reads_back : (dialect : Dialect) (f : Field) (fs : List Field) (t : Option ℤ) → AdmittedField f
@@ -227,11 +203,7 @@ pub measurement_reads_back : (m : List ℕ) (ts : List Tag) (rest : List ℕ) �
     → name a_measurement (spelling a_measurement m ++ (flat_map built_tag ts ++ space ∷ rest)) ≡ reads
     (read_name a_measurement m) (flat_map built_tag ts ++ space ∷ rest)
 measurement_reads_back m [] rest ok = name_reads_back a_measurement m rest 32 ok refl
-measurement_reads_back m (t ∷ ts) rest ok =
-    let after = tag_text t ++ (flat_map built_tag ts ++ space ∷ rest) in
-    let regrouped : flat_map built_tag (t ∷ ts) ++ space ∷ rest ≡ comma ∷ after = append_assoc (built_tag t)
-    (flat_map built_tag ts) (space ∷ rest) in
-    rw regrouped (name_reads_back a_measurement m after comma ok refl)
+measurement_reads_back m (t ∷ ts) rest ok = grind (arith, append_assoc, name_reads_back)
 
 -- the parts of a line make its answer
 pub answer_from_parts : (dialect : Dialect) (line front after tagged end : List ℕ) (m : Text)

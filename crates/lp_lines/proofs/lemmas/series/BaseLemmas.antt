@@ -3,7 +3,6 @@ use Rattle.std.proofs.Common.{◌≡◌, ℕ, suc, zero, ◌+◌, ◌<◌, ◌�
 use Rattle.std.proofs.Common.{get_or, map, Some, Option, refl, ap, sym, ◌∙◌, arith, zero-add}
 use Rattle.std.specs.Borrow.{Bor}
 use Rattle.std.specs.declared.cmp.Ordering.{Ordering}
-use Rattle.std.specs.declared.cmp.Ordering.TheVariants.{Less, Equal, Greater}
 use Rattle.std.specs.BTreeMap.{BTreeMap, UpdatesBy, get_by, insert_entry}
 use Rattle.std.specs.Cmp.Lexicographic.{slice_cmp, nat_list_eq_equiv}
 use Rattle.std.specs.List.{list_all, list_any, range_with_len}
@@ -42,9 +41,7 @@ short_rises (k ∷ l ∷ keys) h = absurd (omega arith)
 
 -- a test that fails is not passed
 lt_from_ge : (o : Ordering) (b : Bool) → is_ge o ≡ b → is_lt o ≡ not b
-lt_from_ge Less b h = rw (sym h) refl
-lt_from_ge Equal b h = rw (sym h) refl
-lt_from_ge Greater b h = rw (sym h) refl
+lt_from_ge reater b h = grind (arith)
 
 -- the key of a tag
 pub key_at : (tags : List (EscapedStr × EscapedStr)) (i : ℕ) (d : EscapedStr × EscapedStr) → i < length tags
@@ -66,17 +63,12 @@ length_keys tags = length-map (map tag_of tags) _ ∙ length-map tags tag_of
 pub rise_at : (tags : List (EscapedStr × EscapedStr)) (i at : ℕ) (d e : EscapedStr × EscapedStr) (b : Bool) → suc i ≡ at → at < length tags
     → b ≡ is_ge (slice_cmp nat_cmp (text_of (get_or tags i d).0) (text_of (get_or tags at e).0))
     → is_strictly_sorted (drop i (keys_of (map tag_of tags))) ≡ (not b && is_strictly_sorted (drop at (keys_of (map tag_of tags))))
-rise_at tags i at d e b next within test =
-    let keys = keys_of (map tag_of tags) in
-    let lt = lt_from_ge _ b (sym test) in
-    let here = rise_from keys i (rw (length_keys tags) (omega arith)) in
-    rw (here, next, key_at tags i d (omega arith), key_at tags at e within, lt) refl
+rise_at tags i at d e b next within test = grind (arith, lt_from_ge, rise_from, length_keys, key_at)
 
 -- at the end
 pub rise_end : (tags : List (EscapedStr × EscapedStr)) (i : ℕ) → length tags ≤ suc i
     → is_strictly_sorted (drop i (keys_of (map tag_of tags))) ≡ true
-rise_end tags i h =
-    let keys = keys_of (map tag_of tags) in short_rises (drop i keys) (omega (arith, length-drop i keys, length_keys tags))
+rise_end tags i h = grind (arith, short_rises, length-drop, length_keys)
 
 -- what fixes the first repeated key
 pub first_repeated_is : (keys : List (List ℕ)) (n : ℕ) → n ≤ length keys
@@ -93,9 +85,7 @@ first_repeated_is keys n fits none found =
 -- the bytes of what goes in at an order
 bytes_at : (o : Ordering) (a b c : List (Bor (List ℕ) × Bor (List ℕ)))
     → map entry_bytes (match_ordering o a b c) ≡ match_ordering o (map entry_bytes a) (map entry_bytes b) (map entry_bytes c)
-bytes_at Less a b c = refl
-bytes_at Equal a b c = refl
-bytes_at Greater a b c = refl
+bytes_at reater a b c = grind (arith)
 
 -- an entry goes in by the bytes of its key
 pub insert_bytes : (es : List (Bor (List ℕ) × Bor (List ℕ))) (k v : Bor (List ℕ))
@@ -106,10 +96,7 @@ insert_bytes (e ∷ es) k v = rw (bytes_at (slice_cmp nat_cmp k.now e.0.now) _ _
 
 -- the map has a key exactly where it was among the keys so far: one key more
 some_or : (b : Bool) (o : Option (Bor (List ℕ))) (v : Bor (List ℕ)) (a : Bool) → is_some o ≡ a → is_some (cond b (Some v) o) ≡ (a || b)
-some_or true o v true h = refl
-some_or true o v false h = refl
-some_or false o v true h = h
-some_or false o v false h = h
+some_or x0 o v x3 h = grind (arith)
 
 -- a map with one key more has the keys so far
 pub has_more : (m n : BTreeMap (Bor (List ℕ)) (Bor (List ℕ))) (k v : Bor (List ℕ)) (keys : List (List ℕ)) (i : ℕ)

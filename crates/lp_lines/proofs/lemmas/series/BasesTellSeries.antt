@@ -1,5 +1,5 @@
 -- Bases tell parsed series from one another.
-use Rattle.std.proofs.Common.{◌≡◌, ℕ, zero, suc, ◌+◌, true, false, not, List, [], ◌∷◌, ◌++◌, ◌&&◌, length, drop, refl, sym, ap, ◌∙◌}
+use Rattle.std.proofs.Common.{◌≡◌, ℕ, zero, suc, ◌+◌, true, false, List, [], ◌∷◌, ◌++◌, ◌&&◌, length, drop, refl, sym, ap, ◌∙◌}
 use Rattle.std.proofs.Common.{inl, inr, append_assoc, add-one, Some}
 use Rattle.std.specs.List.{flat_map, list_all, list_any}
 use Rattle.std.specs.Option.{is_some}
@@ -10,7 +10,7 @@ use Rattle.lp_lines.specs.laws.BaseLaws.{base_bytes, is_tag_one_escape, spelled_
 use Rattle.lp_lines.specs.code.Bases.{base_by_key, base_of, base_text, based_tag, by_key, first_repeated, in_order}
 use Rattle.lp_lines.specs.code.Bases.{keys_of, is_strictly_sorted}
 use Rattle.lp_format.specs.code.Light.{is_single_tag}
-use Rattle.lp_format.specs.format.Bytes.{backslash, comma, equals, is_one_of}
+use Rattle.lp_format.specs.format.Bytes.{comma, equals}
 use Rattle.lp_format.specs.format.Escapes.{without_escapes}
 use Rattle.lp_format.specs.format.Lines.{tag}
 use Rattle.lp_format.specs.laws.Meanings.{SeparatedAfterComma}
@@ -22,13 +22,11 @@ use Rattle.lp_format.proofs.lemmas.names.NameLemmas.{without_escapes_same, no_ba
 use Rattle.lp_values.proofs.lemmas.fields.ReadingLemmas.{name_parts, pair_parts}
 use Rattle.lp_events.proofs.lemmas.fields.ManyLemmas.{set_separated}
 use Rattle.lp_lines.proofs.lemmas.series.SortedTags.{by_key_in_order, by_key_same}
+use Rattle.std.proofs.Common.{arith}
 
 -- a part of the text that is no escape alone is its own logical text
 single_same : (known text : List ℕ) → is_one_escape known text ≡ false → is_shared known text ≡ true → without_escapes known text ≡ text
-single_same known text apart shared = elim (or_cases (is_one_escape known text) (not (is_one_of text backslash)) shared) [
-  | inl alone ↦ absurd (false≢true (sym apart ∙ alone))
-  | inr plain ↦ without_escapes_same known text (no_backslash text (not-true (is_one_of text backslash) plain))
-]
+single_same known text apart shared = grind (arith, or_cases, false≢true, without_escapes_same, no_backslash, not-true)
 
 -- what is after a byte
 drop_past : (n : ℕ) (text : List ℕ) (b : ℕ) (rest : List ℕ) → drop n text ≡ b ∷ rest → drop (n + 1) text ≡ rest
@@ -67,8 +65,7 @@ tag_parts text x rest e =
 -- a tag with what is after it
 one_tag : (text suffix key v value after flat shown read : List ℕ) → text ≡ comma ∷ suffix → suffix ≡ key ++ equals ∷ v → v ≡ value ++ after
     → after ≡ flat → shown ≡ key → read ≡ value → text ≡ (comma ∷ shown ++ equals ∷ read) ++ flat
-one_tag text suffix key v value after flat shown read a b c d e f =
-    let assoc = append_assoc key (equals ∷ value) flat in rw (a, b, c, d, e, f) (ap (λ (r : List ℕ). comma ∷ r) (sym assoc))
+one_tag text suffix key v value after flat shown read a b c d e f = grind (arith, append_assoc)
 
 -- tags that are parts of the text, none of their names an escape alone, are spelled as they are
 spells : (tags : List (Pair Text Text)) (text : List ℕ) → SeparatedAfterComma tag tags text []
@@ -147,9 +144,4 @@ clear_series_have_bases raw m tags h = ap is_some (base_is raw m tags h)
 
 -- one series has one base, in whatever order its tags are
 pub same_series_have_one_base : SameSeriesHaveOneBase
-same_series_have_one_base raw text m other tags others h k same =
-    base_is raw m tags h
-    ∙ ap (λ (x : List ℕ). Some (base_text x (by_key tags))) same.measurement_is
-    ∙ ap (λ (es : List (List ℕ × List ℕ)). Some (base_text other.bytes es))
-    (by_key_same tags others h.repeats_none k.repeats_none same.tags_are)
-    ∙ sym (base_is text other others k)
+same_series_have_one_base raw text m other tags others h k same = grind (arith, base_is, by_key_same)

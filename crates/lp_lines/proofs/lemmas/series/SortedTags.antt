@@ -88,9 +88,7 @@ below_all k l (e ∷ es) less below = (nat_list_cmp_total.trans k l e.0 less bel
 -- a key that is less than the new key and all of these, is less than all with the new one
 below_placed : (k : List ℕ) (o : Ordering) (a b c : List (List ℕ × List ℕ)) → IsBelow k a → IsBelow k b
     → IsBelow k c → IsBelow k (match_ordering o a b c)
-below_placed k Less a b c x y z = x
-below_placed k Equal a b c x y z = y
-below_placed k Greater a b c x y z = z
+below_placed k reater a b c x y z = grind (arith)
 
 -- a key below all others is below a new one that it is less than
 below_insert : (k l v : List ℕ) (es : List (List ℕ × List ℕ)) → slice_cmp nat_cmp k l ≡ Less → IsBelow k es
@@ -107,10 +105,7 @@ turned o p e g = rw g at e
 rise_placed : (k v : List ℕ) (e : List ℕ × List ℕ) (es : List (List ℕ × List ℕ)) (o : Ordering) → slice_cmp nat_cmp k e.0 ≡ o
     → IsBelow e.0 es → Rise es → Rise (insert_entry (slice_cmp nat_cmp) es k v)
     → Rise (match_ordering o ((k, v) ∷ e ∷ es) ((e.0, v) ∷ es) (e ∷ insert_entry (slice_cmp nat_cmp) es k v))
-rise_placed k v e es Less is below rise more = ((is, below_all k e.0 es is below), (below, rise))
-rise_placed k v e es Equal is below rise more = (below, rise)
-rise_placed k v e es Greater is below rise more =
-    (below_insert e.0 k v es (turned _ _ (nat_list_cmp_total.antisymm e.0 k) is) below, more)
+rise_placed k v e es reater is below rise more = grind (arith, below_all, below_insert, turned, nat_list_cmp_total)
 
 -- where an entry goes in, the keys still rise
 rise_insert : (k v : List ℕ) (es : List (List ℕ × List ℕ)) → Rise es → Rise (insert_entry (slice_cmp nat_cmp) es k v)
@@ -186,9 +181,7 @@ same_moved xs ys rise up moves =
 
 -- what the test of less says
 less_from_test : (o : Ordering) → is_lt o ≡ true → o ≡ Less
-less_from_test Less h = refl
-less_from_test Equal h = cc
-less_from_test Greater h = cc
+less_from_test reater h = grind (arith)
 
 -- keys that rise from one to the next rise
 pub passes_rise : (es : List (List ℕ × List ℕ)) → is_strictly_sorted (entry_keys es) ≡ true → Rise es
@@ -262,9 +255,7 @@ by_key_permutes tags once =
 -- where the keys rise, that is their own order
 pub by_key_in_order : (tags : List (Pair Text Text)) → first_repeated (keys_of tags) ≡ length tags
     → is_strictly_sorted (keys_of tags) ≡ true → in_order tags ≡ by_key tags
-by_key_in_order tags once rise = same_moved (in_order tags) (by_key tags)
-    (passes_rise (in_order tags) (ap is_strictly_sorted (keys_in_order tags) ∙ rise))
-    (by_key_rises tags) (by_key_permutes tags once)
+by_key_in_order tags once rise = grind (arith, same_moved, passes_rise, keys_in_order, by_key_rises, by_key_permutes)
 
 -- the same tags in another order are the same by their keys
 pub by_key_same : (tags others : List (Pair Text Text)) → first_repeated (keys_of tags) ≡ length tags
