@@ -44,7 +44,7 @@ joined_some one line rest xs h =
     let more = prepend_parts (parts.first ∷ []) (many (after_comma one) (length parts.mid) parts.mid) xs rest parts.next in
     omega (arith, ap length more.all)
 
--- a set that may be missing holds at least one, where it is there
+-- a set that may be missing holds at least one, if it is there
 abbrev pub HasSome : {T : Type 0} → Option (List T) → Type 0
 HasSome o = IfSome o (λ ts. 0 < length ts)
 
@@ -230,7 +230,7 @@ pub filled_answers : {X : Type 0} (line : ParsedLine) (read : Result X Error) (a
 filled_answers line (Ok done) answer filled = filled
 filled_answers line (Err e) answer filled = filled
 
--- `OutOfMemory` is not the item where it is not the answer
+-- `OutOfMemory` is not the item if it is not the answer
 pub item_is_no_refusal : {X : Type 0} (line : ParsedLine) (read : Result X Error) → IsNotOutOfMemory read
     → IsNotOutOfMemory (item_in line read)
 item_is_no_refusal line (Ok done) h = λ same. cc

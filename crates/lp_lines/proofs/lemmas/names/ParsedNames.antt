@@ -51,7 +51,7 @@ unfolding field
 field_parsed line f rest h =
     let p = pair_parts a_field_key value line f rest h in name_parsed a_field_key line (equals ∷ p.mid) f.key p.key tt
 
--- two parts that are read are the same where their results are
+-- two parts that are read are the same if their results are
 pub ok_same : {A : Type 0} (x y : A) → (let f : Result A Fault = Ok x in f) ≡ Ok y → x ≡ y
 ok_same x y h = cc
 
