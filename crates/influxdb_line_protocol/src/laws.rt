@@ -19,12 +19,12 @@ ghost use Rattle.influxdb_line_protocol.specs.laws.StreamLaws.{FrontsKeepTheirCu
 ghost use Rattle.influxdb_line_protocol.specs.laws.StreamLaws.{StreamsAnswerAll, StreamsGiveAnswers, Utf8ByPieces};
 ghost use Rattle.lp_format.specs.format.Lines.{tag, field};
 
-/// Where memory and room suffice, a batch built from points, followed by any text, parses to exactly
+/// If memory and room suffice, a batch built from points, followed by any text, parses to exactly
 /// those points in order and then to what that text alone gives, if and only if every name is
-/// admitted. So it is in both dialects: where a name is not admitted, the batch parses to other items.
+/// admitted. So it is in both dialects: if a name is not admitted, the batch parses to other items.
 /// Some of these names no line has, so no text parses to such a point: a name that is empty or ends
 /// in a backslash, a measurement that begins with `#`, a name with a tab or a newline, or a
-/// measurement with a NUL, that is not directly after a backslash. Where the names of the
+/// measurement with a NUL, that is not directly after a backslash. If the names of the
 /// first point that is not admitted are not among these, its line is answered `EndsWithBackslash` in
 /// the point's place.
 pub fn batch_reads_back()
@@ -37,7 +37,7 @@ pub fn batch_reads_back()
 /// No name of a line that was read is empty or ends in a backslash, no measurement begins with `#`,
 /// and a tab or a newline in a name comes directly after a backslash, as does a NUL in a
 /// measurement. Each text that these rules allow for a kind of name is a name of that kind in some
-/// line, whose text is UTF-8 where the name is. In the strict dialect, nothing follows the last field
+/// line, whose text is UTF-8 if the name is. In the strict dialect, nothing follows the last field
 /// of a line, or a space does.
 pub fn parsed_names()
     ensures all { NamesAreParsed }
@@ -60,7 +60,7 @@ pub fn written_lines_stay()
 
 /// The items that calls of `next` give, from `parse_lines` to `None`, are those of the text: one item
 /// for each piece that holds more than blanks and comments, in the order of the pieces, and each is
-/// the answer for its piece, or `OutOfMemory` in its place, but never where the line is light. Up to
+/// the answer for its piece, or `OutOfMemory` in its place, but never if the line is light. Up to
 /// any call, they are the items of the pieces before the ones that are left. Each line among them was
 /// read: some text, once it is trimmed, is answered with it.
 pub fn items_are_answers()
@@ -79,7 +79,7 @@ pub fn all_events_come()
 {}
 
 /// Each text has exactly one list of pieces, and joined by newlines they are the text. A newline
-/// between two texts joins their pieces exactly where it may end the last piece of the first, and
+/// between two texts joins their pieces exactly if it may end the last piece of the first, and
 /// there their answers are joined too. In the strict dialect, other bytes after the `#` of a
 /// comment change no other piece and no item.
 pub fn pieces_join()
@@ -97,7 +97,7 @@ pub fn fronts_keep_their_cuts()
 {}
 
 /// Whatever comes after the parts that were given to a stream, the pieces that it gave, and after them those of what it
-/// holds and what comes, are the pieces of all. Where nothing more comes, what it holds is the last of them. The answers of
+/// holds and what comes, are the pieces of all. If nothing more comes, what it holds is the last of them. The answers of
 /// all are those of each piece alone, in order.
 pub fn runs_give_pieces()
     ensures taken { TakenIsFirst }
@@ -107,7 +107,7 @@ pub fn runs_give_pieces()
     ensures all_answers { StreamsAnswerAll }
 {}
 
-/// Bytes are UTF-8 exactly where each of their pieces is.
+/// Bytes are UTF-8 exactly if each of their pieces is.
 pub fn utf8_by_pieces()
     ensures { Utf8ByPieces }
 {}
@@ -119,8 +119,8 @@ pub fn logical_text_is_unique()
 {}
 
 /// Tags and fields that commas join are read as the greatest number that is at the start of a text.
-/// Where one more after them has a fault, all have that fault, and where the first one misses, all
-/// miss. As many are counted as the greatest number that is there, also where one more has a fault.
+/// If one more after them has a fault, all have that fault, and if the first one misses, all
+/// miss. As many are counted as the greatest number that is there, also if one more has a fault.
 pub fn most_are_read()
     ensures tags { TheMostIsRead tag }
     ensures tag_fault { TheNextHasTheFault tag }
@@ -146,7 +146,7 @@ pub fn longest_blank_front_is_trimmed()
 {}
 
 /// A name is spelled by all of a text before the first byte that ends such a name and that no
-/// backslash escapes, or by all of it where there is none. So is the body of a string before the
+/// backslash escapes, or by all of it if there is none. So is the body of a string before the
 /// quote that closes it.
 pub fn first_bare_stop_ends()
     ensures name { NameEndsBeforeStop }
@@ -165,20 +165,20 @@ pub fn longest_word_is_read()
     ensures longest { WordFrontIsLongest }
 {}
 
-/// Where no key repeats, the tags by their keys are the same tags, in the one order in which their keys
+/// If no key repeats, the tags by their keys are the same tags, in the one order in which their keys
 /// rise.
 pub fn tags_by_key_are_sorted()
     ensures { TagsByKeyAreSorted }
 {}
 
 /// Take two series as they are parsed, that repeat no key and spell no name as one known escape
-/// alone. Both have bases, and these are equal if the measurements and the sets of tags are. Where,
+/// alone. Both have bases, and these are equal if the measurements and the sets of tags are. If,
 /// besides, no measurement and no tag value holds a comma, and no tag key an `=`, the bases are equal
 /// only then. A raw text without a backslash meets all that this asks of names. The series of each
 /// line that is read is a parsed one: it is the front of the line that was read as measurement and
 /// tags, and alone it reads to the same.
 ///
-/// Where two parsed series repeat no key, and their bases are both safe to group by, as
+/// If two parsed series repeat no key, and their bases are both safe to group by, as
 /// [`Series::is_base_safe`](crate::Series::is_base_safe) tells, the bases are equal exactly if the measurements and the sets
 /// of tags are. The same series are safe alike, however they are spelled.
 pub fn bases_tell_series()

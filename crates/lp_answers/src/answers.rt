@@ -126,7 +126,7 @@ fn columns(alloc: Global, line: &ParsedLine<'_>) -> Result<String, AllocError> {
     String::from_str(alloc, "too many to count")
 }
 
-// The base of a line's series: `B` and its text where it is borrowed, `O` and its text where it is owned, or the fault.
+// The base of a line's series: `B` and its text if it is borrowed, `O` and its text if it is owned, or the fault.
 fn base(alloc: Global, line: ParsedLine<'_>) -> Result<String, AllocError> {
     match line.series.generate_base(alloc) {
         Ok(CowStr::Borrowed(text)) => format!(in alloc; "B<{text}>"),

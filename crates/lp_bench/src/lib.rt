@@ -1,6 +1,6 @@
 //! What is timed: the library's calls over byte slices, for a driver in C.
 //!
-//! Each call over a text tests first whether it is UTF-8, and gives 0 where it is not. `lp_bench_is_utf8`
+//! Each call over a text tests first whether it is UTF-8, and gives 0 if it is not. `lp_bench_is_utf8`
 //! is that test alone, so that a driver can take its time off. No call keeps anything.
 #![tactic(auto)]
 
@@ -177,7 +177,7 @@ pub extern "C" fn lp_bench_split(text: &[u8]) -> u64 {
     count
 }
 
-/// Rebuilds a text into a buffer, and gives the number of bytes written; 0 where memory was refused.
+/// Rebuilds a text into a buffer, and gives the number of bytes written; 0 if memory was refused.
 #[unsafe(no_mangle)]
 pub extern "C" fn lp_bench_rebuild(alloc: Global, text: &[u8]) -> u64 {
     let Ok(text) = str::from_utf8(text) else {
@@ -226,7 +226,7 @@ fn build_line(
     line.close_line().ok()
 }
 
-/// Builds a batch of points, and gives the number of bytes written; 0 where memory was refused.
+/// Builds a batch of points, and gives the number of bytes written; 0 if memory was refused.
 #[unsafe(no_mangle)]
 pub extern "C" fn lp_bench_build(alloc: Global, count: u64) -> u64 {
     let mut lines = LineProtocolBuilder::new(alloc);

@@ -19,7 +19,7 @@ fn taken(stream: &mut LineStream) -> u64
     count
 }
 
-/// Takes the pieces of a text that comes in parts of so many bytes, and counts them; 0 where memory was refused, or `len` is 0.
+/// Takes the pieces of a text that comes in parts of so many bytes, and counts them; 0 if memory was refused, or `len` is 0.
 #[unsafe(no_mangle)]
 pub extern "C" fn lp_bench_stream(alloc: Global, text: &[u8], len: usize) -> u64 {
     if len == 0 {
@@ -56,7 +56,7 @@ impl<'a> Source for InParts<'a> {
     }
 }
 
-/// Relays a text that comes in parts of so many bytes, and gives the number of bytes written; 0 where memory was refused.
+/// Relays a text that comes in parts of so many bytes, and gives the number of bytes written; 0 if memory was refused.
 #[unsafe(no_mangle)]
 pub extern "C" fn lp_bench_relay(alloc: Global, text: &[u8], len: usize) -> u64 {
     let mut reader = InParts { left: text, len };

@@ -29,7 +29,7 @@ pub use lines::{is_admitted, write_line};
 use texts::{escaped_len, put_escaped};
 pub use values::FieldValue;
 
-// The length of a tag with the comma before it, where a `usize` holds it.
+// The length of a tag with the comma before it, if a `usize` holds it.
 fn tag_len(key: &[u8], value: &[u8]) -> Option<usize>
     ensures { let text = built_tag (record { key = key.now; value = value.now }) in
         SomeIff result (length text < 2 ^ 64) (length text) }
@@ -54,7 +54,7 @@ fn put_tag<B: BufMut>(buf: &mut B, is_plain: bool, key: &[u8], value: &[u8])
     put_escaped(buf, TokenKind::TagValue, is_plain, value);
 }
 
-// The length of a field with the byte before it, where a `usize` holds it.
+// The length of a field with the byte before it, if a `usize` holds it.
 fn field_len<F: FieldValue>(key: &[u8], value: &F) -> Option<usize>
     ensures { let text = space ∷ field_text key.now (F.text value.now) in
         SomeIff result (length text < 2 ^ 64) (length text) }
@@ -105,7 +105,7 @@ pub struct AfterTimestamp;
 
 /// A builder in the state `S`, which appends lines to a `B`.
 ///
-/// Each writing call makes room for its whole text, and then appends exactly that text. Where it is
+/// Each writing call makes room for its whole text, and then appends exactly that text. If it is
 /// refused it gives the builder back, in the state and with the bytes that it had.
 ///
 /// ```
@@ -227,7 +227,7 @@ impl<B: BufMut> LineProtocolBuilder<B, BeforeMeasurement> {
     ///
     /// # Errors
     ///
-    /// What the buffer answers where it has no room for that text. The builder is then as before.
+    /// What the buffer answers if it has no room for that text. The builder is then as before.
     pub fn measurement(
         self,
         name: &str,
@@ -250,12 +250,12 @@ impl<B: BufMut> LineProtocolBuilder<B, BeforeMeasurement> {
 
 impl<B: BufMut> LineProtocolBuilder<B, AfterMeasurement> {
     /// Appends a tag: a comma, `key`, `=` and `value`, each of the two with a backslash before each
-    /// `,`, `=`, space and `\`. Tags are written as they come, also where a key repeats.
+    /// `,`, `=`, space and `\`. Tags are written as they come, also if a key repeats.
     ///
     /// # Errors
     ///
-    /// `TooLong` where no `usize` holds the length of that text, and else what the buffer answers
-    /// where it has no room for it. The builder is then as before.
+    /// `TooLong` if no `usize` holds the length of that text, and else what the buffer answers
+    /// if it has no room for it. The builder is then as before.
     pub fn tag(
         self,
         key: &str,
@@ -277,8 +277,8 @@ impl<B: BufMut> LineProtocolBuilder<B, AfterMeasurement> {
     ///
     /// # Errors
     ///
-    /// `TooLong` where no `usize` holds the length of that text, and else what the buffer answers
-    /// where it has no room for it. The builder is then as before.
+    /// `TooLong` if no `usize` holds the length of that text, and else what the buffer answers
+    /// if it has no room for it. The builder is then as before.
     pub fn field<F: FieldValue>(
         self,
         key: &str,
@@ -296,8 +296,8 @@ impl<B: BufMut> LineProtocolBuilder<B, AfterField> {
     ///
     /// # Errors
     ///
-    /// `TooLong` where no `usize` holds the length of that text, and else what the buffer answers
-    /// where it has no room for it. The builder is then as before.
+    /// `TooLong` if no `usize` holds the length of that text, and else what the buffer answers
+    /// if it has no room for it. The builder is then as before.
     pub fn field<F: FieldValue>(
         self,
         key: &str,
@@ -313,7 +313,7 @@ impl<B: BufMut> LineProtocolBuilder<B, AfterField> {
     ///
     /// # Errors
     ///
-    /// What the buffer answers where it has no room for that text. The builder is then as before.
+    /// What the buffer answers if it has no room for that text. The builder is then as before.
     pub fn timestamp(
         self,
         timestamp: i64,
@@ -333,7 +333,7 @@ impl<B: BufMut> LineProtocolBuilder<B, AfterField> {
     ///
     /// # Errors
     ///
-    /// What the buffer answers where it has no room for one byte. The builder is then as before.
+    /// What the buffer answers if it has no room for one byte. The builder is then as before.
     pub fn close_line(
         self,
     ) -> Result<LineProtocolBuilder<B, BeforeMeasurement>, Refused<B, AfterField>>
@@ -348,7 +348,7 @@ impl<B: BufMut> LineProtocolBuilder<B, AfterTimestamp> {
     ///
     /// # Errors
     ///
-    /// What the buffer answers where it has no room for one byte. The builder is then as before.
+    /// What the buffer answers if it has no room for one byte. The builder is then as before.
     pub fn close_line(
         self,
     ) -> Result<LineProtocolBuilder<B, BeforeMeasurement>, Refused<B, AfterTimestamp>>

@@ -16,7 +16,7 @@ pub gives_in_dialect : (before after : Left) (line : Bor (List ℕ)) → GivesLi
     → GivesLine before (Some line) (record { dialect = before.dialect; text = after.text })
 gives_in_dialect before after line h = (refl, λ others left. h.1 others (rw h.0 left))
 
--- where no item is left, the end is answered, and all of the room is left
+-- if no item is left, the end is answered, and all of the room is left
 pub reads_end : (before : Lines) (room number : ℕ) (line : Line) (parts : List Part) (after : Lines)
     → number ≡ answer_number Answer.End → GivesLine (left_of before) None (left_of after)
     → ReadsItem before room room number line parts after

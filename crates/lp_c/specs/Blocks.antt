@@ -8,7 +8,7 @@ use Rattle.lp_c.specs.declared.views.Answer.{Answer}
 use Rattle.lp_c.specs.declared.views.Lines.{Lines}
 use Rattle.lp_c.specs.declared.views.Part.{Part}
 
--- how many parts a row has: those of its line, where it has one
+-- how many parts a row has: those of its line, if it has one
 abbrev pub parts_of : Row → ℕ
 parts_of row = if row.answer == answer_number Answer.Line then row.line.tags + row.line.fields else 0
 

@@ -41,7 +41,7 @@ left_text false rest = Some rest
 abbrev pub left_of : Lines → Left
 left_of lines = record { dialect = dialect_of lines.strict; text = left_text lines.ended lines.rest.now }
 
--- the text that a view shows: it is a part of the input where it is no copy
+-- the text that a view shows: it is a part of the input if it is no copy
 abbrev pub text_shown : View → Text
 text_shown view = record { bytes = view.text.now; is_single = not view.copied }
 
@@ -66,12 +66,12 @@ has_no_other Kind.Boolean part = has_no_text part && has_no_number part
 abbrev pub is_kind : Kind → Part → Bool
 is_kind kind part = part.kind == kind_number kind && has_no_other kind part
 
--- the tag that a part shows, where it is one
+-- the tag that a part shows, if it is one
 abbrev pub tag_shown : Part → Option (Pair Text Text)
 tag_shown part =
     if is_kind Kind.Tag part then Some (record { key = text_shown part.key; value = text_shown part.text }) else None
 
--- the value that a part shows, where it is a field
+-- the value that a part shows, if it is a field
 abbrev pub value_shown : Part → Option (Value Text)
 value_shown part =
     if is_kind Kind.Integer part then Some (integer part.integer) else
@@ -80,7 +80,7 @@ value_shown part =
     if is_kind Kind.String part then Some (string (text_shown part.text)) else
     if is_kind Kind.Boolean part then Some (boolean part.boolean) else None
 
--- the field that a part shows, where it is one
+-- the field that a part shows, if it is one
 abbrev pub field_shown : Part → Option (Pair Text (Value Text))
 field_shown part = option_map (λ value. record { key = text_shown part.key; value = value }) (value_shown part)
 
@@ -202,7 +202,7 @@ is_more answer = false
 abbrev pub is_item : ℕ → Bool
 is_item answer = answer == answer_number Answer.Line || answer == answer_number Answer.Fault
 
--- how many bytes of room an answer takes: those that the line tells, where an item was passed
+-- how many bytes of room an answer takes: those that the line tells, if an item was passed
 abbrev pub taken_by : ℕ → Line → ℕ
 taken_by answer line = if is_item answer then line.copied_len else 0
 

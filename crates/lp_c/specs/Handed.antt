@@ -18,7 +18,7 @@ use Rattle.lp_c.specs.declared.views.Part.{Part}
 use Rattle.lp_c.specs.declared.views.Line.{Line}
 use Rattle.lp_c.specs.Numbers.{kind_number}
 
--- the text of a view; where copies are told apart, a copy is no part of the input
+-- the text of a view; if copies are told apart, a copy is no part of the input
 abbrev pub text_in : Bool → View → Text
 text_in copies v = record { bytes = v.text.now; is_single = not (copies && v.copied) }
 
@@ -87,7 +87,7 @@ pub record IsFieldIn (p : Part) : Type 0 where
   pub key : IsUtf8 p.key.text.now
   pub value : IsValueIn p
 
--- views hold a series: its texts are UTF-8, its tags are there, and none where it has no tag set
+-- views hold a series: its texts are UTF-8, its tags are there, and none if it has no tag set
 pub record IsSeriesIn (l : Line) (parts : List Part) : Type 0 where
   pub series : IsUtf8 l.series.now
   pub measurement : IsUtf8 l.measurement.text.now

@@ -38,7 +38,7 @@ lent_to sink = lent sink.line.now sink.parts.now sink.room.now
 abbrev pub place : Lent → ℕ
 place s = s.line.tags + s.line.fields
 
--- the bytes of the copy of a text, where it takes one
+-- the bytes of the copy of a text, if it takes one
 abbrev pub text_copy : Text → List ℕ
 text_copy text = if text.is_single then [] else text.bytes
 
@@ -46,7 +46,7 @@ text_copy text = if text.is_single then [] else text.bytes
 abbrev pub tag_copies : Pair Text Text → List ℕ
 tag_copies tag = text_copy tag.key ++ text_copy tag.value
 
--- the bytes of the copy of a value, where it takes one
+-- the bytes of the copy of a value, if it takes one
 abbrev pub value_copy : Value Text → List ℕ
 value_copy (integer z) = []
 value_copy (unsigned n) = []
@@ -62,7 +62,7 @@ field_copies field = text_copy field.key ++ value_copy field.value
 abbrev pub view_len : View → ℕ
 view_len view = if view.copied then length view.text.now else 0
 
--- a view with the front of the room as its text, where it waits for a copy
+-- a view with the front of the room as its text, if it waits for a copy
 abbrev pub filled_view : List ℕ → View → View
 filled_view room view =
     record view { text = record view.text { now = if view.copied then take (length view.text.now) room else view.text.now } }

@@ -30,7 +30,7 @@ fn put<'a>(room: &mut Room<'a>, text: &[u8]) -> &'a [u8]
     front
 }
 
-// The logical text, where it is a part of the input: without a backslash it is the spelling, and of one escape the byte after it.
+// The logical text, if it is a part of the input: without a backslash it is the spelling, and of one escape the byte after it.
 #[inline(always)]
 fn shared<'a>(spelled: Spelled<'a>) -> Option<&'a [u8]>
     ensures { MatchOption result ((spelled_text spelled.entry).is_single ≡ false)
@@ -58,7 +58,7 @@ fn put_copy(room: &mut Room<'_>, len: usize, spelled: Spelled<'_>) -> usize
     all
 }
 
-// The same of a text that takes no room where it is a part of the input.
+// The same of a text that takes no room if it is a part of the input.
 #[inline(always)]
 pub fn put_text(room: &mut Room<'_>, len: usize, text: Spelled<'_>) -> usize
     ensures { PutsCopy room.old.bytes.now len (text_copy (spelled_text text.entry)) room.new.bytes.now result }

@@ -62,7 +62,7 @@ fn leave<'a>(lines: &mut Lines<'a>, rest: Option<&'a str>)
     }
 }
 
-// The pieces of what is left, where the cursor has not ended.
+// The pieces of what is left, if the cursor has not ended.
 #[inline(always)]
 pub(crate) fn pieces_of<'a>(lines: &Lines<'a>) -> SplitLines<'a>
     requires { IsUtf8 lines.now.rest.now }
@@ -72,7 +72,7 @@ pub(crate) fn pieces_of<'a>(lines: &Lines<'a>) -> SplitLines<'a>
     split_lines_in(dialect_of(lines.strict), text)
 }
 
-// Reads the next item into what the caller lends; `pieces` may be used again where the item was passed.
+// Reads the next item into what the caller lends; `pieces` may be used again if the item was passed.
 #[inline(always)]
 pub(crate) fn read_next<'a>(
     pieces: &mut SplitLines<'a>,

@@ -22,7 +22,7 @@ pub struct Room<'a> {
     pub bytes: &'a mut [u8],
 }
 
-/// A tag or a field. Which of the values counts is told by `kind`; where a part was read, the others are empty, zero and false.
+/// A tag or a field. Which of the values counts is told by `kind`; if a part was read, the others are empty, zero and false.
 #[repr(C)]
 #[derive(Clone, Copy)]
 pub struct Part<'a> {
@@ -56,11 +56,11 @@ pub struct Line<'a> {
     pub fields: usize,
     /// How many bytes of room the copies of the line, or the fault's text, take.
     pub copied_len: usize,
-    /// The timestamp, where the line has one, or else 0.
+    /// The timestamp, if the line has one, or else 0.
     pub timestamp: i64,
     /// The number of a [`FaultKind`].
     pub fault: u32,
-    /// The number of a [`Side`], where the fault is that of a number.
+    /// The number of a [`Side`], if the fault is that of a number.
     pub side: u32,
     /// Whether the line has a tag set.
     pub has_tag_set: bool,

@@ -35,7 +35,7 @@ fn put_out(done: Answer, text: &[u8], out: &mut [u8], len: &mut usize) -> u32
     done.number()
 }
 
-/// Whether a line reads back where it is written: whether each of its names is admitted.
+/// Whether a line reads back if it is written: whether each of its names is admitted.
 ///
 /// Answers `Written` and sets `admitted`; or `NotALine` or `OutOfMemory`, and changes nothing. With at most eight tags and
 /// four fields it takes no memory.
@@ -111,7 +111,7 @@ pub extern "C" fn lp_line_show(
 
 /// The base of the series of a line.
 ///
-/// Answers as [`lp_line_write`] does, but where a key of the tags is repeated it answers `Fault`, and writes that key. The
+/// Answers as [`lp_line_write`] does, but if a key of the tags is repeated it answers `Fault`, and writes that key. The
 /// fields are not looked at. It tells the series from others if [`lp_line_is_base_safe`], and else it may not: `m,a=1\,b\=2` and
 /// `m,a=1,b=2` are two series with one base, and `m,\,=v` and `m,,=v` one series with two.
 #[unsafe(no_mangle)]

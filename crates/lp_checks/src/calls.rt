@@ -81,7 +81,7 @@ fn take_value(letter: u8, bytes: &[u8]) -> Option<(Value<'_>, &[u8])> {
     }
 }
 
-/// The first call, and what follows; `None` where the bytes spell none.
+/// The first call, and what follows; `None` if the bytes spell none.
 pub fn take_call(program: &[u8]) -> Option<(Call<'_>, &[u8])> {
     let (letter, rest) = program.split_first()?;
     match letter {
@@ -218,7 +218,7 @@ pub fn make(lines: Lines, call: Call<'_>) -> Answer {
 }
 
 /// The bytes, the open line ended in the shortest way: after the measurement and tags by the field `end=true`. `None`
-/// where that was refused.
+/// if that was refused.
 pub fn finish(lines: Lines) -> Option<Vec<u8>> {
     match lines {
         Lines::Closed(builder) => Some(builder.build()),

@@ -241,7 +241,7 @@ pub extern "C" fn lp_checks_copies(
 
 type Batch = LineProtocolBuilder<Vec<u8>, BeforeMeasurement>;
 
-// Writes a line again. Where that is refused `refused_at` gets the item's place, and the line is written once more if
+// Writes a line again. If that is refused `refused_at` gets the item's place, and the line is written once more if
 // `again` is set. `Err` has the builder that the refused call handed back.
 fn write_item(
     builder: Batch,
@@ -267,9 +267,9 @@ fn write_item(
     }
 }
 
-/// Appends each line of a text to `start`, as it is written again, and reports all the bytes. Where `write_line` is refused
-/// `refused_at` gets the place of the item, counted from 0, and the call is made again if `again` is set; else, or where that
-/// is refused too, no further line is written. No entry where the memory for `start` was refused.
+/// Appends each line of a text to `start`, as it is written again, and reports all the bytes. If `write_line` is refused
+/// `refused_at` gets the place of the item, counted from 0, and the call is made again if `again` is set; else, or if that
+/// is refused too, no further line is written. No entry if the memory for `start` was refused.
 #[unsafe(no_mangle)]
 pub extern "C" fn lp_checks_written(
     alloc: Global,
@@ -302,7 +302,7 @@ pub extern "C" fn lp_checks_written(
     report.count()
 }
 
-// A builder over a `Vec` with so much memory reserved; none is asked for where that is 0.
+// A builder over a `Vec` with so much memory reserved; none is asked for if that is 0.
 fn builder_with(alloc: Global, reserved: usize) -> Option<Lines> {
     if reserved == 0 {
         return Some(Lines::Closed(LineProtocolBuilder::new(alloc)));
@@ -312,7 +312,7 @@ fn builder_with(alloc: Global, reserved: usize) -> Option<Lines> {
 }
 
 // Makes the calls that `program` spells. At the first refusal `refused_at` gets its place, and the call is made again, or
-// the calls end. `None` where a second call was refused, or a call is none of the builder's state.
+// the calls end. `None` if a second call was refused, or a call is none of the builder's state.
 fn make_calls(lines: Lines, program: &[u8], again: bool, refused_at: &mut u64) -> Option<Lines> {
     let mut lines = lines;
     let mut rest = program;
@@ -347,8 +347,8 @@ fn make_calls(lines: Lines, program: &[u8], again: bool, refused_at: &mut u64) -
 
 /// Makes the calls of a builder that `program` spells, as `calls` says, over a `Vec` with `reserved` bytes of memory, and
 /// reports the bytes, the open line ended. `refused_at` gets the place of the call that was refused, counted from 0. That
-/// call is made again where `again` is set; where it is not, no further call is made. No entry where a second call or the
-/// reservation was refused, or where a call is none of the builder's state.
+/// call is made again if `again` is set; if it is not, no further call is made. No entry if a second call or the
+/// reservation was refused, or if a call is none of the builder's state.
 #[unsafe(no_mangle)]
 pub extern "C" fn lp_checks_build(
     alloc: Global,
@@ -374,7 +374,7 @@ pub extern "C" fn lp_checks_build(
     report.count()
 }
 
-/// Rebuilds a text: the batch, the faults, and how many items were carried and refused. No entry where memory was refused.
+/// Rebuilds a text: the batch, the faults, and how many items were carried and refused. No entry if memory was refused.
 #[unsafe(no_mangle)]
 pub extern "C" fn lp_checks_rebuild(
     alloc: Global,
@@ -401,8 +401,8 @@ pub extern "C" fn lp_checks_rebuild(
     report.count()
 }
 
-/// Runs over bytes, into `out` and `err`; `lens` gets how many bytes each of the two holds then. The answer is 0 where the
-/// run came to its end, 1 where the reader failed, 2 where the bytes are not UTF-8, 3 where memory was refused, and 4 where a
+/// Runs over bytes, into `out` and `err`; `lens` gets how many bytes each of the two holds then. The answer is 0 if the
+/// run came to its end, 1 if the reader failed, 2 where the bytes are not UTF-8, 3 if memory was refused, and 4 if a
 /// buffer was full.
 #[unsafe(no_mangle)]
 pub extern "C" fn lp_checks_run(

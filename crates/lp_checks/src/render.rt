@@ -14,7 +14,7 @@ fn render_text(report: &mut Report<'_>, text: &str) {
     report.push(text.as_bytes());
 }
 
-/// A name: `S` and its text where it is a part of the input or a fixed text, and `C` where it is a copy.
+/// A name: `S` and its text if it is a part of the input or a fixed text, and `C` if it is a copy.
 pub fn render_name(report: &mut Report<'_>, name: &EscapedStr<'_>) {
     match name {
         EscapedStr::SingleSlice(_) => report.push(b"S"),

@@ -2,7 +2,7 @@
 
 use lp_rebuild::{DeviceFault, Failures, Sink};
 
-/// A sink that fills a buffer, and fails where it is full.
+/// A sink that fills a buffer, and fails if it is full.
 #[derive(Drop)]
 pub struct Room<'a> {
     bytes: &'a mut [u8],

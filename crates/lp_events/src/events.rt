@@ -137,7 +137,7 @@ fn fields<'a, S: EventSink<'a>>(text: &'a str, sink: &mut S) -> Front<'a, usize>
     Ok(Some((count, rest)))
 }
 
-// Tells the tags after the comma at the start of `text`, and gives the rest. Where no comma is there, there are none.
+// Tells the tags after the comma at the start of `text`, and gives the rest. If no comma is there, there are none.
 #[inline(always)]
 fn tag_set<'a, S: EventSink<'a>>(text: &'a str, sink: &mut S) -> Result<&'a str, SpelledFault<'a>>
     ensures { WasToldParts S.takes tagged sink.old sink.new (AreTags result (tag_set text.now)) }
@@ -152,7 +152,7 @@ fn tag_set<'a, S: EventSink<'a>>(text: &'a str, sink: &mut S) -> Result<&'a str,
 }
 
 // Tells the fields at the start of `text`, joined by commas, and gives the rest: in the crate's dialect without the comma
-// after a first field that is the only one. `None` where no field is there.
+// after a first field that is the only one. `None` if no field is there.
 #[inline(always)]
 fn field_set<'a, S: EventSink<'a>>(
     dialect: Dialect,
@@ -214,7 +214,7 @@ fn parts<'a, S: EventSink<'a>>(
     Ok(())
 }
 
-/// Tells what the trimmed text `line` says: its measurement, tags, fields and end; or, where it is at fault, the parts that
+/// Tells what the trimmed text `line` says: its measurement, tags, fields and end; or, if it is at fault, the parts that
 /// were read before the fault, and then the fault. It takes no memory.
 ///
 /// ```text
@@ -230,7 +230,7 @@ pub fn read_line_events<'a, S: EventSink<'a>>(dialect: Dialect, line: &'a str, s
     }
 }
 
-// Tells what a piece says: nothing, where nothing is left of it when it is trimmed.
+// Tells what a piece says: nothing, if nothing is left of it when it is trimmed.
 #[inline(always)]
 fn piece_events<'a, S: EventSink<'a>>(dialect: Dialect, piece: &'a str, sink: &mut S)
     ensures { WasTold S.takes sink.old sink.new (λ events. AreEventsOfAll events (answers_of_piece (rules_of dialect) piece.now)) }

@@ -237,7 +237,7 @@ pub fn parse_events_in(dialect: Dialect, input: &str) -> ParseEvents<'_>
 }
 
 impl<'a> ParseEvents<'a> {
-    // The next step, or `None` where no line is left.
+    // The next step, or `None` if no line is left.
     #[inline(always)]
     fn step(&mut self) -> Option<Step<'a>>
         ensures place { self.new.place ≡ self.old.place }

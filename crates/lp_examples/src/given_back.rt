@@ -1,4 +1,4 @@
-//! Lines that are given back where the next one cannot be begun.
+//! Lines that are given back if the next one cannot be begun.
 
 // [given_back]
 ghost use Rattle.std.specs.Prelude.{◌≡◌, IfErr};
@@ -7,7 +7,7 @@ ghost use Rattle.influxdb_line_protocol.specs.code.Built.{buffer_of};
 use influxdb_line_protocol::LineProtocolBuilder;
 use influxdb_line_protocol::builder::{AfterMeasurement, BeforeMeasurement, NoRoom};
 
-/// Begins a line. Where that is refused, for lack of memory or for any other cause, the closed lines are given back.
+/// Begins a line. If that is refused, for lack of memory or for any other cause, the closed lines are given back.
 pub fn begun(
     lines: LineProtocolBuilder<Vec<u8>, BeforeMeasurement>,
     name: &str,

@@ -1,4 +1,4 @@
-//! A tag that is left out where there is no room for it.
+//! A tag that is left out if there is no room for it.
 
 // [refusals]
 ghost use Rattle.std.specs.Prelude.{◌≡◌, ◌++◌, ◌⊎◌};
@@ -8,7 +8,7 @@ ghost use Rattle.influxdb_line_protocol.specs.format.Points.{built_tag};
 use influxdb_line_protocol::LineProtocolBuilder;
 use influxdb_line_protocol::builder::{AfterMeasurement, BufMut};
 
-/// Appends a tag where there is room for it. Where there is none, the line is as it was, and goes on without the tag.
+/// Appends a tag if there is room for it. If there is none, the line is as it was, and goes on without the tag.
 pub fn with_tag_if_room<B: BufMut>(
     line: LineProtocolBuilder<B, AfterMeasurement>,
     key: &str,

@@ -28,15 +28,15 @@ impl<'a> Series<'a> {
     /// It tells this series from others if [`is_base_safe`](Self::is_base_safe), and else it may not: `m,a=1\,b\=2` and
     /// `m,a=1,b=2` are two series with one base, and `m,\,=v` and `m,,=v` one series with two.
     ///
-    /// Where each key is greater than the one before it and no name is a copy, it is `raw_input`,
+    /// If each key is greater than the one before it and no name is a copy, it is `raw_input`,
     /// borrowed; that takes no memory and is never refused. Else it is a text of its own, unescaped.
     /// It is made of the fields as they are: after a change of `measurement` or `tag_set`,
     /// `raw_input` is still that of the line.
     ///
     /// # Errors
     ///
-    /// `DuplicateTag` where the keys do not rise so and one is repeated: with the first key, in the
-    /// order of the tags, that is at an earlier place too. `OutOfMemory` where a request for
+    /// `DuplicateTag` if the keys do not rise so and one is repeated: with the first key, in the
+    /// order of the tags, that is at an earlier place too. `OutOfMemory` if a request for
     /// memory was refused. The series is dropped in both cases.
     pub fn generate_base(self, alloc: Global) -> Result<CowStr<'a>>
         ensures value { GivesBase result (base_of self.entry.raw_input.now (read_of self.entry.measurement)
@@ -187,7 +187,7 @@ fn push_tag(base: &mut String, key: &str, value: &str) -> std::result::Result<()
     base.push_str(value)
 }
 
-// The length of a base, and the greatest number where no `usize` holds it.
+// The length of a base, and the greatest number if no `usize` holds it.
 fn base_len<'a>(measurement: &str, tags: &[(EscapedStr<'a>, EscapedStr<'a>)]) -> usize
     ensures { result ≡ min (length (base_text measurement.now (in_order (map tag_of tags.now)))) (2 ^ 64 - 1) }
 {

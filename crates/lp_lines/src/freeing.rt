@@ -32,7 +32,7 @@ fn free_fields<'a>(alloc: Global, fields: &mut FieldSet<'a>)
     *fields = FieldSet::new(alloc);
 }
 
-// Empties the tag set of a line, where there is one, and frees its memory where it has grown.
+// Empties the tag set of a line, if there is one, and frees its memory if it has grown.
 #[inline(always)]
 fn empty_tags<'a>(alloc: Global, set: &mut Option<TagSet<'a>>)
     ensures items { some_items set.new ≡ [] }
@@ -46,7 +46,7 @@ fn empty_tags<'a>(alloc: Global, set: &mut Option<TagSet<'a>>)
     }
 }
 
-// Empties the field set of a line, and frees its memory where it has grown.
+// Empties the field set of a line, and frees its memory if it has grown.
 #[inline(always)]
 fn empty_fields<'a>(alloc: Global, fields: &mut FieldSet<'a>)
     ensures items { fields.new.items ≡ [] }

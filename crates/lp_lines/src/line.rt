@@ -69,7 +69,7 @@ fn keep_fields<'a>(fields: &mut FieldSet<'a>, count: usize)
     }
 }
 
-// Fills the line `parsed`, which has a tag set, with what the trimmed text `line` says. At a fault, and where memory is refused,
+// Fills the line `parsed`, which has a tag set, with what the trimmed text `line` says. At a fault, and if memory is refused,
 // it is filled in part. A tag set that has grown is kept at `spare`, if that is given and the line has no tags.
 #[inline(never)]
 fn fill<'a>(
@@ -113,7 +113,7 @@ fn fill<'a>(
     Ok(())
 }
 
-// Makes the tag set of a line ready to be filled: it is there, and keeps its room. Where there is none, it is the one at `spare`, or
+// Makes the tag set of a line ready to be filled: it is there, and keeps its room. If there is none, it is the one at `spare`, or
 // a new one.
 #[inline(always)]
 fn ready_tags<'a>(alloc: Global, set: &mut Option<TagSet<'a>>, spare: &mut Option<TagSet<'a>>)
@@ -157,7 +157,7 @@ fn refuse(item: &mut Result<ParsedLine<'_>>, fault: Error)
     *item = Err(fault);
 }
 
-/// Reads a trimmed text into a line that is used again: the line is then what the text says, or empty where that is at fault.
+/// Reads a trimmed text into a line that is used again: the line is then what the text says, or empty if that is at fault.
 ///
 /// The sets of the line keep their room. One of tags that has grown is kept at `spare` while the line has no tags.
 #[inline(always)]
@@ -189,7 +189,7 @@ pub fn read_into<'a>(
 /// The lines of a text, one after another: what [`parse_lines`] gives.
 ///
 /// Each item is the answer for one piece that holds more than blanks and comments: what its line
-/// says, or its one fault. Where a line has a tag set, that holds at least one tag. Whatever an item
+/// says, or its one fault. If a line has a tag set, that holds at least one tag. Whatever an item
 /// is, the next ones are those of the pieces after it. There are at most `input.len()` items, and it
 /// stays ended.
 #[derive(Drop)]
@@ -226,8 +226,8 @@ impl<'a> ParseLines<'a> {
     /// The text that is left: what comes after the piece of the last item, or `None` once there is none.
     ///
     /// Where an item ends in the text is told by it: `input.len() - rest.len()` bytes from the start, after its newline; or
-    /// with the input, where nothing is left. So the number of the last line of an item is that of the newlines up to
-    /// there, and one more where nothing is left.
+    /// with the input, if nothing is left. So the number of the last line of an item is that of the newlines up to
+    /// there, and one more if nothing is left.
     ///
     /// ```text
     /// "m a=1i\n# c\nm b=x"  after the line m a=1i     Some("# c\nm b=x"): one newline before it, so it ends line 1
@@ -244,7 +244,7 @@ impl<'a> ParseLines<'a> {
     /// After `Some(Ok(()))` the line is what `next` would have given. After `Some(Err(..))`, the fault that `next` would
     /// have given, it is empty. With `None`, which says that no item is left, it stays as it was.
     ///
-    /// The sets of the line keep their room. So a line asks for no memory where its tags and fields fit them, or the
+    /// The sets of the line keep their room. So a line asks for no memory if its tags and fields fit them, or the
     /// room that new sets have, and it needs none for copies and for the text of a fault.
     #[inline(always)]
     pub fn next_into(&mut self, line: &mut ParsedLine<'a>) -> Option<Result<()>>
@@ -270,8 +270,8 @@ impl<'a> ParseLines<'a> {
 /// there. So `m a="x`, a newline and `n b=1i` are one `Err(FieldSetMissing)`, since the quote is never closed.
 ///
 /// If memory for a line is refused, its item is `Err(Error::OutOfMemory)`, or the fault of the line if it has one. A line of
-/// at most 8 tags and 4 fields asks for none where each name and string of it is a part of the
-/// input, or where it holds no backslash and its fault carries no text.
+/// at most 8 tags and 4 fields asks for none if each name and string of it is a part of the
+/// input, or if it holds no backslash and its fault carries no text.
 pub fn parse_lines(alloc: Global, input: &str) -> ParseLines<'_>
     ensures { result ≡ record { dialect = Crate; text = Some input.now } }
 {

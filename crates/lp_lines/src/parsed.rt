@@ -27,11 +27,11 @@ pub struct Series<'a> {
     pub raw_input: &'a str,
     /// The measurement.
     pub measurement: Measurement<'a>,
-    /// The tags, or `None` where no comma comes after the measurement.
+    /// The tags, or `None` if no comma comes after the measurement.
     pub tag_set: Option<TagSet<'a>>,
 }
 
-/// The tags of a series: none, where there is no set of them.
+/// The tags of a series: none, if there is no set of them.
 pub fn tags_in<'l, 'a>(series: &'l Series<'a>) -> &'l [(EscapedStr<'a>, EscapedStr<'a>)]
     ensures items { result.now ≡ some_items series.now.tag_set }
     ensures read { some_tags (option_map tags_of series.now.tag_set) ≡ map tag_of result.now }
@@ -50,9 +50,9 @@ pub type FieldSet<'a> = SmallVec<(EscapedStr<'a>, FieldValue<'a>), INLINE_FIELDS
 pub struct ParsedLine<'a> {
     /// The measurement and the tags.
     pub series: Series<'a>,
-    /// The fields: at least one, where `parse_lines` gave the line.
+    /// The fields: at least one, if `parse_lines` gave the line.
     pub field_set: FieldSet<'a>,
-    /// The timestamp, where the line has one.
+    /// The timestamp, if the line has one.
     pub timestamp: Option<i64>,
 }
 
@@ -77,7 +77,7 @@ impl<'a> ParsedLine<'a> {
         }
     }
 
-    /// One, and the number of fields, and the number of tags, where no tag set counts as none.
+    /// One, and the number of fields, and the number of tags, if no tag set counts as none.
     ///
     /// The caller sees to it that this fits `usize`, as it does for each line that `parse_lines` gave.
     /// It takes no memory.
@@ -88,7 +88,7 @@ impl<'a> ParsedLine<'a> {
         1 + self.field_set.len() + tags_in(&self.series).len()
     }
 
-    /// The value of the first tag whose key has the text `tag_key`; `None` where no tag has it.
+    /// The value of the first tag whose key has the text `tag_key`; `None` if no tag has it.
     ///
     /// It takes no memory.
     pub fn tag_value(&self, tag_key: &str) -> Option<&EscapedStr<'a>>
@@ -99,7 +99,7 @@ impl<'a> ParsedLine<'a> {
         Some(&tag.1)
     }
 
-    /// The value of the first field whose key has the text `field_key`; `None` where no field has it.
+    /// The value of the first field whose key has the text `field_key`; `None` if no field has it.
     ///
     /// It takes no memory.
     pub fn field_value(&self, field_key: &str) -> Option<&FieldValue<'a>>

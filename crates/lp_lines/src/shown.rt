@@ -97,7 +97,7 @@ impl<'a> fmt::Display for Series<'a> {
     }
 }
 
-// Writes a space and the timestamp, where there is one.
+// Writes a space and the timestamp, if there is one.
 fn show_timestamp<W: fmt::Write>(timestamp: Option<i64>, f: &mut fmt::Formatter<W>) -> fmt::Result
     ensures { DisplaysOnOk W.write_str_gives f.old result (Some (shown_timestamp timestamp)) f.new }
 {

@@ -23,7 +23,7 @@ write_more a b c all rest n k left before written =
 pub rest_more : (all rest : List ℕ) (n k : ℕ) → rest ≡ drop n all → drop k rest ≡ drop (n + k) all
 rest_more all rest n k left = ap (drop k) left ∙ drop-drop k n all
 
--- where nothing is left, all bytes were appended
+-- if nothing is left, all bytes were appended
 pub none_left : (all rest : List ℕ) (n : ℕ) → rest ≡ drop n all → rest ≡ [] → take n all ≡ all
 none_left all rest n left none =
     sym (append-nil (take n all)) ∙ ap (λ l. take n all ++ l) (sym none ∙ left) ∙ take-append-drop n all

@@ -13,7 +13,7 @@ pub at_fault : {T E P : Type 0} (r : Result T E) → true ≡ is_err r → OnErr
 at_fault (Ok x) failed h = absurd (cc)
 at_fault (Err e) failed h = h
 
--- the fact that holds where there is no fault
+-- the fact that holds if there is no fault
 pub at_no_fault : {T E P : Type 0} (r : Result T E) → false ≡ is_err r → OnOk r P → P
 at_no_fault (Ok x) failed h = h
 at_no_fault (Err e) failed h = absurd (cc)

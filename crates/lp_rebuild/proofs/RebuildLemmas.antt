@@ -132,12 +132,12 @@ pub record Took (answers : List (Result Line Fault)) (so_far : Progress) : Type 
   pub carried : so_far.carried ≡ carried_of answers
   pub refused : so_far.refused ≡ refused_of answers
 
--- one is added where the test holds
+-- one is added if the test holds
 pub add_where : (b : Bool) (m n : ℕ) → m ≡ n → cond b (m + 1) m ≡ n + cond b 1 0
 add_where true m n e = omega arith
 add_where false m n e = omega arith
 
--- one is added where the test does not hold
+-- one is added if the test does not hold
 pub add_elsewhere : (b : Bool) (m n : ℕ) → m ≡ n → cond b m (m + 1) ≡ n + cond (not b) 1 0
 add_elsewhere true m n e = omega arith
 add_elsewhere false m n e = omega arith

@@ -23,7 +23,7 @@ asked_dialect [] = Some Crate
 asked_dialect (word ∷ []) = if bytes_eq word.now (codes "--strict") then Some Strict else None
 asked_dialect (word ∷ next ∷ words) = None
 
--- 0 where every item was carried, 1 where some item was not, 2 for a fault of the run
+-- 0 if every item was carried, 1 if some item was not, 2 for a fault of the run
 abbrev pub status_of : Result Rebuilt RunFault → ℕ
 status_of (Ok r) = if r.refused == 0 then 0 else 1
 status_of (Err _) = 2
@@ -36,7 +36,7 @@ OnceRead (Err Write) P = P
 OnceRead (Err Read) P = Unit {0}
 OnceRead (Err OutOfMemory) P = Unit {0}
 
--- the answer is `NotUtf8` exactly where the input is no UTF-8, unless it could not be read or memory ran out
+-- the answer is `NotUtf8` exactly if the input is no UTF-8, unless it could not be read or memory ran out
 abbrev pub TestsUtf8 : Result Rebuilt RunFault → List ℕ → Type 0
 TestsUtf8 (Ok r) input = IsUtf8 input
 TestsUtf8 (Err NotUtf8) input = ¬ IsUtf8 input
@@ -64,7 +64,7 @@ CountsReadFault (Err Write) old new = ⊥
 abbrev pub AppendsFront : Option (List ℕ) → Option (List ℕ) → List ℕ → Type 0
 AppendsFront old new bs = (n : ℕ) × Appends old new (take n bs)
 
--- what a reader tells of itself: the bytes that are left, where they are known, and how many of its calls failed so far
+-- what a reader tells of itself: the bytes that are left, if they are known, and how many of its calls failed so far
 pub record ReaderTold : Type 0 where
   pub bytes : Option (List ℕ)
   pub failures : ℕ
@@ -73,7 +73,7 @@ pub record ReaderTold : Type 0 where
 abbrev pub reader_told : {D : Type 0} → (D → Option (List ℕ)) → (D → ℕ) → D → ReaderTold
 reader_told bytes failures reader = record { bytes = bytes reader; failures = failures reader }
 
--- what a writer tells of itself: the bytes that it holds, where they are known, how many of its calls failed so far, and
+-- what a writer tells of itself: the bytes that it holds, if they are known, how many of its calls failed so far, and
 -- whether all that was written was flushed
 pub record WriterTold : Type 0 where
   pub bytes : Option (List ℕ)
@@ -90,11 +90,11 @@ pub record RunsIn (dialect : Dialect) (result : Result Rebuilt RunFault)
     (reader reader_after : ReaderTold) (out out_after err err_after : WriterTold) : Type 0 where
   -- nothing was written, unless a writer failed
   pub quiet : IfErr result (λ f. f ≢ Write → Keeps out.bytes out_after.bytes × Keeps err.bytes err_after.bytes)
-  -- `Read` is answered exactly where the reader failed
+  -- `Read` is answered exactly if the reader failed
   pub read : (result ≡ Err Read) ↔ (reader.failures < reader_after.failures)
   -- all was read, unless reading failed or memory ran out
   pub all_read : IfSome reader.bytes (λ bs. OnceRead result (reader_after.bytes ≡ Some []))
-  -- `NotUtf8` is answered exactly where what was read is no UTF-8
+  -- `NotUtf8` is answered exactly if what was read is no UTF-8
   pub utf8 : IfSome reader.bytes (λ bs. TestsUtf8 result bs)
   -- what is returned is what was read, rebuilt
   pub rebuilt : IfOk result (λ r. IfSome reader.bytes (λ bs. RebuildsIn dialect bs r))
@@ -104,11 +104,11 @@ pub record RunsIn (dialect : Dialect) (result : Result Rebuilt RunFault)
   pub faults : IfOk result (λ r. Appends err.bytes err_after.bytes r.faults.items)
   -- all that was written to each writer was flushed
   pub flushed : OnOk result ((out_after.is_flushed ≡ true) × (err_after.is_flushed ≡ true))
-  -- where a writer failed, each gained a front of what was meant for it
+  -- if a writer failed, each gained a front of what was meant for it
   pub part : result ≡ Err Write → IfSome reader.bytes
       (λ bs. (r : Rebuilt) × RebuildsIn dialect bs r
       × WritesFronts r.batch.items r.faults.items out.bytes out_after.bytes err.bytes err_after.bytes)
-  -- `Write` is answered exactly where a writer failed
+  -- `Write` is answered exactly if a writer failed
   pub write : (result ≡ Err Write) ↔ ((out.failures < out_after.failures) ⊎ (err.failures < err_after.failures))
   -- no count of failures falls, so one that has not risen is as before
   pub counts : (out.failures ≤ out_after.failures) × (err.failures ≤ err_after.failures)

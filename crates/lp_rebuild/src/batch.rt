@@ -120,7 +120,7 @@ fn take_fault(so_far: &mut Progress, error: &Error) -> Result<(), AllocError>
     }
 }
 
-/// Takes the next item of a text: an answer, and the line that was read where it is no fault.
+/// Takes the next item of a text: an answer, and the line that was read if it is no fault.
 #[inline(always)]
 pub fn take(
     alloc: Global,
@@ -180,7 +180,7 @@ pub fn take_text<'a>(
     take(alloc, so_far, &answer, line)
 }
 
-/// Takes the next piece of a text: its line is copied where it is as the builder writes it, and else read into `line`. A blank
+/// Takes the next piece of a text: its line is copied if it is as the builder writes it, and else read into `line`. A blank
 /// piece has none.
 #[inline(always)]
 pub fn take_piece<'a>(
@@ -212,7 +212,7 @@ pub fn take_piece<'a>(
 /// Writes again each line of a text whose names are all admitted, and refuses every other item.
 ///
 /// [`is_admitted`] says which lines these are. For every other item `faults` gains `item N: TEXT` and
-/// a newline, where TEXT is the error, or `a name cannot be written again`. With any text after it,
+/// a newline, if TEXT is the error, or `a name cannot be written again`. With any text after it,
 /// `batch` reads back as the lines that were written, and then as that text alone.
 ///
 /// A line that is as the builder writes it is copied, and takes no memory but for the growth of `batch`. Another line is gone over
@@ -220,7 +220,7 @@ pub fn take_piece<'a>(
 ///
 /// # Errors
 ///
-/// Where a request for memory is refused, also one of the parser for a line, and where a line, once it is written, would be
+/// If a request for memory is refused, also one of the parser for a line, and if a line, once it is written, would be
 /// longer than `usize::MAX` bytes; what was rebuilt so far is dropped.
 pub fn rebuild(alloc: Global, input: &str) -> Result<Rebuilt, AllocError>
     ensures rebuilds { IfOk result (λ r. Rebuilds input.now r) }

@@ -19,7 +19,7 @@ pub struct DeviceFault;
 
 /// Bytes that come in.
 ///
-/// For contracts it has two members: `bytes`, those that are left, where they are known, and
+/// For contracts it has two members: `bytes`, those that are left, if they are known, and
 /// `failures`, how many calls failed so far.
 pub trait Source {
     ghost bytes: { Self → Option (List ℕ) };
@@ -40,7 +40,7 @@ pub trait Source {
 
 /// Bytes that go out.
 ///
-/// For contracts it has three members: `bytes`, those that it holds, where they are known;
+/// For contracts it has three members: `bytes`, those that it holds, if they are known;
 /// `failures`, how many calls failed so far; and `is_flushed`, whether all that was written was
 /// flushed.
 pub trait Sink {
@@ -227,7 +227,7 @@ impl Kept {
     }
 }
 
-/// A write is taken whole, and fails only where memory for it was refused. A flush moves no byte.
+/// A write is taken whole, and fails only if memory for it was refused. A flush moves no byte.
 impl Sink for Kept {
     ghost bytes = { λ k. Some (kept_bytes k) };
 

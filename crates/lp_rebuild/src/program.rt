@@ -102,8 +102,8 @@ pub fn read_block<R: Source>(
 ///
 /// # Errors
 ///
-/// * `Read` where `reader` failed, and only there.
-/// * `OutOfMemory` where memory was refused.
+/// * `Read` if `reader` failed, and only there.
+/// * `OutOfMemory` if memory was refused.
 pub fn read_all<R: Source>(alloc: Global, reader: &mut R) -> Result<Vec<u8>, RunFault>
     ensures ok { IfOk result (λ input. Consumes (R.bytes reader.old) (R.bytes reader.new) input.items) }
     ensures end { OnOk result (IsAtEnd (R.bytes reader.new)) }
@@ -156,10 +156,10 @@ fn write_all<W: Sink>(sink: &mut W, bytes: &[u8]) -> Result<(), DeviceFault>
 ///
 /// # Errors
 ///
-/// * `Read` where `reader` failed, and only there; nothing was written.
-/// * `NotUtf8` where the input is not UTF-8; nothing was written.
-/// * `OutOfMemory` where memory was refused; nothing was written.
-/// * `Write` where `out` or `err` failed, and only there; a part of the output may be written.
+/// * `Read` if `reader` failed, and only there; nothing was written.
+/// * `NotUtf8` if the input is not UTF-8; nothing was written.
+/// * `OutOfMemory` if memory was refused; nothing was written.
+/// * `Write` if `out` or `err` failed, and only there; a part of the output may be written.
 pub fn run<R: Source, W: Sink, E: Sink>(
     alloc: Global,
     reader: &mut R,
@@ -211,7 +211,7 @@ pub fn run_in<R: Source, W: Sink, E: Sink>(
     Ok(rebuilt)
 }
 
-/// The exit status of the program: 0 where every item was carried, 1 where some item was not, and 2
+/// The exit status of the program: 0 if every item was carried, 1 if some item was not, and 2
 /// for a fault of the run.
 pub fn status(answer: &Result<Rebuilt, RunFault>) -> u8
     ensures { result ≡ status_of answer.now }
@@ -225,7 +225,7 @@ pub fn status(answer: &Result<Rebuilt, RunFault>) -> u8
 /// How the program is called: the line that it prints where its arguments ask for no dialect, without the newline.
 pub const USAGE: &str = "usage: lp_rebuild [--strict]";
 
-/// The dialect that the words after the program's name ask for: that of the crate where there is no word, the strict
+/// The dialect that the words after the program's name ask for: that of the crate if there is no word, the strict
 /// one for the one word `--strict`, and `None` for all else.
 ///
 /// It takes no memory.

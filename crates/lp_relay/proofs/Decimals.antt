@@ -15,12 +15,12 @@ pub first-no_plus : (bs : List ℕ) → starts_with nat_eq bs (43 ∷ []) ≡ fa
 first-no_plus [] h e = absurd (omega arith)
 first-no_plus (b ∷ bs) h e = grind (arith, nat_tests)
 
--- the three tests of a number, where it is one
+-- the three tests of a number, if it is one
 tests-met : (n v : ℕ) (d : Bool)
     → (d ≡ true) × (0 < n) × (v < 2 ^ 64) → (if nat_lt 0 n && d && nat_lt v (2 ^ 64) then Some v else None) ≡ Some v
 tests-met n v d h = grind (arith, nat_tests)
 
--- and where it is none
+-- and if it is none
 tests-unmet : (n v : ℕ) (d : Bool)
     → ¬ ((d ≡ true) × (0 < n) × (v < 2 ^ 64)) → (if nat_lt 0 n && d && nat_lt v (2 ^ 64) then Some v else None) ≡ None
 tests-unmet n v d h = grind (arith, nat_tests)

@@ -19,7 +19,7 @@ use Rattle.lp_relay.specs.declared.words.Task.TheVariants.{Relay, Cut, Help}
 abbrev pub nothing_given : Given
 nothing_given = record { strict = false; lines = false; max_line = None; progress = false }
 
--- how many bytes a line may have where no option says it: 16 MiB
+-- how many bytes a line may have if no option says it: 16 MiB
 abbrev pub default_max_line : ℕ
 default_max_line = 2 ^ 24
 
@@ -32,7 +32,7 @@ given_settings given = record {
   progress = given.progress;
 }
 
--- the number that a word writes: one digit or more and nothing else, where a usize holds it
+-- the number that a word writes: one digit or more and nothing else, if a usize holds it
 abbrev pub decimal : List ℕ → Option ℕ
 decimal word =
     if nat_lt 0 (length word) && all_ascii_digits word && nat_lt (digits_value 10 word) (2 ^ 64)
@@ -53,7 +53,7 @@ abbrev mutual
       then asked_after_max_line given words
       else None)))
 
-  -- the same where `--max-line` was the word before these, of which the first is its number
+  -- the same if `--max-line` was the word before these, of which the first is its number
   pub asked_after_max_line : Given → List (Bor (List ℕ)) → Option Settings
   asked_after_max_line given [] = None
   asked_after_max_line given (word ∷ words) =
@@ -69,7 +69,7 @@ asks_help (word ∷ next ∷ words) = false
 abbrev pub most_parts : ℕ
 most_parts = 1000000
 
--- so many parts, or none where they are too many
+-- so many parts, or none if they are too many
 abbrev pub few_parts : Dialect → ℕ → Option Task
 few_parts dialect parts = if nat_lt most_parts parts then None else Some (Cut dialect parts)
 
@@ -93,7 +93,7 @@ asked_task words =
     if asks_help words then Some Help
     else (if is_none (asked_cut words) then option_map Relay (asked_settings nothing_given words) else asked_cut words)
 
--- 0 where every item was carried, 1 where some item was not, 2 for a fault of the relay
+-- 0 if every item was carried, 1 if some item was not, 2 for a fault of the relay
 abbrev pub relay_status : Result Relayed RunFault → ℕ
 relay_status (Ok counts) = if counts.refused == 0 then 0 else 1
 relay_status (Err _) = 2

@@ -40,11 +40,11 @@ pub fn relay_as_asked<R: Source, W: Sink, E: Sink>(
     )
 }
 
-/// Where all that `reader` has left can be cut into so many parts, as [`part_ends`] says. All of it is held.
+/// If all that `reader` has left can be cut into so many parts, as [`part_ends`] says. All of it is held.
 ///
 /// # Errors
 ///
-/// `Read` where `reader` failed, and only there; `OutOfMemory` where memory was refused.
+/// `Read` if `reader` failed, and only there; `OutOfMemory` if memory was refused.
 pub fn part_ends_of<R: Source>(
     alloc: Global,
     dialect: Dialect,

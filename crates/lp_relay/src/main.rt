@@ -19,7 +19,7 @@ use std::io::{self, IsTerminal};
 use std::process::ExitCode;
 use words::{HELP, Settings, Task, USAGE, status_of_relay, task_of};
 
-// What the arguments ask for, or `None` where they ask for nothing, or cannot be read.
+// What the arguments ask for, or `None` if they ask for nothing, or cannot be read.
 fn asked_of(rt: &HostRuntime) -> Option<Task> {
     let alloc = rt.alloc();
     let arguments: Vec<String> = env::args(rt).ok()?.skip(1).collect(alloc).ok()?;

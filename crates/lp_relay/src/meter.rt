@@ -27,7 +27,7 @@ pub(crate) struct Meter<'a, R> {
 }
 
 impl<'a, R: Clock + Eprint> Meter<'a, R> {
-    /// A meter that starts now. Where the clock cannot be read it shows nothing.
+    /// A meter that starts now. If the clock cannot be read it shows nothing.
     pub(crate) fn new(rt: &'a R) -> Self {
         Meter {
             rt,
@@ -40,14 +40,14 @@ impl<'a, R: Clock + Eprint> Meter<'a, R> {
         }
     }
 
-    /// Clears the line, where it is on the terminal.
+    /// Clears the line, if it is on the terminal.
     pub(crate) fn clear(&self) {
         if self.is_shown.replace(false) {
             let _ = eprint!(self.rt; "{CLEAR}");
         }
     }
 
-    // Counts bytes that were read, and shows the line where a second has passed since it was shown last.
+    // Counts bytes that were read, and shows the line if a second has passed since it was shown last.
     fn on_read(&self, n: usize) {
         add(&self.bytes, n);
         let Some(started) = self.started else {
@@ -86,7 +86,7 @@ fn tenths_of_megabytes_a_second(bytes: u64, elapsed: Duration) -> u64 {
     bytes / milliseconds.saturating_mul(100).max(1)
 }
 
-// So many and more, and the greatest number where no `u64` holds that.
+// So many and more, and the greatest number if no `u64` holds that.
 fn total(count: u64, more: usize) -> u64
     ensures { result ≡ min (count + more) (2 ^ 64 - 1) }
 {

@@ -33,7 +33,7 @@ The options of a relay come in any order, each at most once; --cut PARTS comes a
 Status 0: every item was carried; 1: some item was not; 2: the input could not be read, memory
 ran out, the output could not be written, or the arguments are wrong.";
 
-/// The greatest length of a line, in bytes, where the words give none: 16 MiB.
+/// The greatest length of a line, in bytes, if the words give none: 16 MiB.
 pub const DEFAULT_MAX_LINE: usize = 16_777_216;
 
 /// The greatest number of parts that an input is cut into, since the ends of all are held: those of so many take 8 MB. No
@@ -105,7 +105,7 @@ impl Given {
     }
 }
 
-// The number that a word writes in decimal digits, and nothing else; `None` where there is none, or no usize holds it.
+// The number that a word writes in decimal digits, and nothing else; `None` if there is none, or no usize holds it.
 fn decimal_of(word: &str) -> Option<usize>
     ensures { result ≡ decimal word.now }
 {
@@ -183,7 +183,7 @@ fn cut_of(words: &[&str]) -> Option<Task>
     }
 }
 
-/// What the words after the program's name ask for, or `None` where they are not as [`USAGE`] says.
+/// What the words after the program's name ask for, or `None` if they are not as [`USAGE`] says.
 ///
 /// The options of a relay come in any order, each at most once; `--cut` and a number, [`MOST_PARTS`] at most, come alone or
 /// after `--strict`, and `--help` comes alone. A number, as after `--max-line`, is a decimal one that a `usize` holds: digits
@@ -212,7 +212,7 @@ pub fn task_of(words: &[&str]) -> Option<Task>
     }
 }
 
-/// The exit status of a relay: 0 where every item was carried, 1 where some item was not, and 2 for a fault.
+/// The exit status of a relay: 0 if every item was carried, 1 if some item was not, and 2 for a fault.
 pub fn status_of_relay(answer: &Result<Relayed, RunFault>) -> u8
     ensures { result ≡ relay_status answer.now }
 {

@@ -15,7 +15,7 @@ not_empty : {X : Type 0} (xs : List X) (x : X) → xs ++ x ∷ [] ≡ [] → ⊥
 not_empty [] x e = absurd (cc)
 not_empty (y ∷ xs) x e = absurd (cc)
 
--- where two lists joined end with an element, so does the second one, unless it is empty
+-- if two lists joined end with an element, so does the second one, unless it is empty
 ends_alike : {X : Type 0} (bs cs : List X) (p : X) (qs : List X) (x : X) → bs ++ p ∷ qs ≡ cs ++ x ∷ []
     → (fs : List X) × (p ∷ qs ≡ fs ++ x ∷ [])
 ends_alike [] cs p qs x e = (cs, e)
@@ -97,7 +97,7 @@ front_has_none exist unique dialect text first more h front rest pieces fs e som
     let same : first ≡ piece = cc in
     absurd (omega (arith, ap (λ (l : List ℕ). length l) same, length-append piece (newline ∷ after)))
 
--- so it does not, where it is a part of that piece
+-- so it does not, if it is a part of that piece
 part_has_none : PiecesExist → PiecesAreUnique → (dialect : Dialect) (first rest : List ℕ) (more : List (List ℕ)) (n : ℕ)
     → Pieces dialect (first ++ rest) (first ∷ more) → 0 < n → n ≤ length first
     → ((fs : List (List ℕ)) × Pieces dialect (take n first) (fs ++ [] ∷ [])) → ⊥

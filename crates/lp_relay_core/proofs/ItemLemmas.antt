@@ -76,7 +76,7 @@ pub items_of_fitting : (dialect : Dialect) (limit : Option ℕ) (piece : List �
 unfolding items_of_piece
 items_of_fitting dialect limit piece h = rw h refl
 
--- so where it has no more bytes than the limit
+-- so if it has no more bytes than the limit
 pub items_of_short : (dialect : Dialect) (limit : ℕ) (piece : List ℕ) → length piece ≤ limit
     → items_of_piece dialect (limit_of limit) piece ≡ items_of_bytes dialect piece
 items_of_short dialect limit piece h =

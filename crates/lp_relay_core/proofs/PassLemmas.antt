@@ -26,7 +26,7 @@ pub passes_front : (a b : Option (List ℕ)) (held : List ℕ) → AppendsFront 
 passes_front a b held p =
     (drop p.0 held, (take p.0 held, p.1, take-append-drop p.0 held ∙ sym (append-nil held)))
 
--- where nothing was held and nothing is left, all was written
+-- if nothing was held and nothing is left, all was written
 pub passes_all : (a b : Option (List ℕ)) (added left : List ℕ) → Passes a b [] added left → left ≡ [] → Appends a b added
 passes_all a b added left p none =
     subst (Appends a b) (sym (append-nil p.0) ∙ ap (λ l. p.0 ++ l) (sym none) ∙ p.2) p.1

@@ -134,7 +134,7 @@ relays_more old mid new a b c e f g xs ys fs gs p q =
       refused = omega (arith, p.refused, q.refused, refused_append xs ys);
     }
 
--- the same, where the other wrote a beginning
+-- the same, if the other wrote a beginning
 pub part_more : (old mid : Made) (a b c e f g : Option (List ℕ)) (xs ys : List Item) (fs gs : List ℕ)
     → RelaysItems old mid a b e f xs fs → RelaysPart mid b c f g ys gs → RelaysPart old a c e g (xs ++ ys) (fs ++ gs)
 part_more old mid a b c e f g xs ys fs gs p q =
@@ -152,7 +152,7 @@ pub relays_same : (old new : Made) (a c e g : Option (List ℕ)) (xs ys : List I
 relays_same old new a c e g xs ys fs gs items lines p =
     subst (λ l. RelaysItems old new a c e g l gs) items (subst (λ l. RelaysItems old new a c e g xs l) lines p)
 
--- the same, where a beginning was written
+-- the same, if a beginning was written
 pub part_same : (old : Made) (a c e g : Option (List ℕ)) (xs ys : List Item) (fs gs : List ℕ) → xs ≡ ys → fs ≡ gs
     → RelaysPart old a c e g xs fs → RelaysPart old a c e g ys gs
 part_same old a c e g xs ys fs gs items lines p =
@@ -165,7 +165,7 @@ relays_then old mid new a b c e f g xs fs p q =
     relays_same old new a c e g (xs ++ []) xs (fs ++ []) fs (append-nil xs) (append-nil fs)
     (relays_more old mid new a b c e f g xs [] fs [] p q)
 
--- the same, where a beginning of it was written
+-- the same, if a beginning of it was written
 pub part_then : (old mid : Made) (a b c e f g : Option (List ℕ)) (xs : List Item) (fs : List ℕ)
     → RelaysItems old mid a b e f xs fs → RelaysPart mid b c f g [] [] → RelaysPart old a c e g xs fs
 part_then old mid a b c e f g xs fs p q =
@@ -218,7 +218,7 @@ pub relays_poured : (old now next poured : Made) (a b c e f g : Option (List ℕ
 relays_poured old now next poured a b c e f g xs ys fs p t q =
     relays_then old next poured a b c e f g _ _ (relays_more old now next a b b e f f xs ys fs _ p (relays_taken now next b f ys t)) q
 
--- the same, where a beginning of it was written
+-- the same, if a beginning of it was written
 pub part_poured : (old now next : Made) (a b c e f g : Option (List ℕ)) (xs ys : List Item) (fs : List ℕ)
     → RelaysItems old now a b e f xs fs → TakesItems now ys next → RelaysPart next b c f g [] []
     → RelaysPart old a c e g (xs ++ ys) (fs ++ faults_next now ys)

@@ -110,7 +110,7 @@ pub next_items : (dialect : Dialect) (limit : Option ℕ) (ps : List (List ℕ))
     → items ≡ items_of_piece dialect limit p → items_of dialect limit ps ++ items ≡ items_of dialect limit (ps ++ p ∷ [])
 next_items dialect limit ps p items is = ap (λ l. items_of dialect limit ps ++ l) is ∙ sym (items_push dialect limit ps p)
 
--- where pieces were taken, the fault lines of one more name what comes then
+-- if pieces were taken, the fault lines of one more name what comes then
 pub next_faults : (dialect : Dialect) (limit : Option ℕ) (old now : Made) (a b e f : Option (List ℕ)) (ps : List (List ℕ)) (p : List ℕ)
     (items : List Item) (fs : List ℕ) → RelaysItems old now a b e f (items_of dialect limit ps) fs → now.place ≡ place_past old.place ps
     → items ≡ items_of_piece dialect limit p
@@ -174,7 +174,7 @@ to_more dialect limit text mid rest old now next poured a b c e f g result p one
           (relays_poured old now next poured a b c e f g _ _ _ p.relays takes q);
     }
 
--- the same, where a beginning of it was written
+-- the same, if a beginning of it was written
 pub to_part : (dialect : Dialect) (limit : ℕ) (text mid rest : List ℕ) (old now next : Made)
     (a b c e f g : Option (List ℕ)) (result : Result (Bor (List ℕ)) PieceTooLong)
     → RelaysTo dialect (limit_of limit) text mid old now a b e f → Given dialect limit mid result rest
@@ -210,7 +210,7 @@ to_then dialect limit text mid rest old now new a b c e f g p q =
           (relays_more old now new a b c e f g _ _ _ _ p.relays q.relays);
     }
 
--- the same, where a beginning of these was written
+-- the same, if a beginning of these was written
 pub some_then : (dialect : Dialect) (limit : Option ℕ) (text mid : List ℕ) (old now : Made) (a b c e f g : Option (List ℕ))
     → RelaysTo dialect limit text mid old now a b e f → RelaysSome dialect limit mid now b c f g
     → RelaysSome dialect limit text old a c e g
@@ -258,7 +258,7 @@ to_all dialect from to text mid after old now new poured a b c d e f g h same fi
       rest.1,
     )
 
--- the same, where a beginning of it was written
+-- the same, if a beginning of it was written
 pub to_all_part : (dialect : Dialect) (from to : Option ℕ) (text mid : List ℕ) (after : HeldWithin) (old now new : Made)
     (a b c d e f g h : Option (List ℕ)) → from ≡ to → RelaysTo dialect to text mid old now a b e f
     → RelaysAllPieces dialect from mid after now new b c f g → RelaysPart new c d g h [] [] → RelaysSome dialect to text old a d e h

@@ -57,12 +57,12 @@ abbrev NoneTooLong : Option ℕ → List (List ℕ) → Type 0
 NoneTooLong limit [] = Unit {0}
 NoneTooLong limit (piece ∷ pieces) = (is_too_long limit piece ≡ false) × NoneTooLong limit pieces
 
--- where there is no limit
+-- if there is no limit
 no_limit : (pieces : List (List ℕ)) → NoneTooLong None pieces
 no_limit [] = tt
 no_limit (piece ∷ pieces) = (refl, no_limit pieces)
 
--- where none has more bytes than that
+-- if none has more bytes than that
 short_pieces : (limit : ℕ) (pieces : List (List ℕ)) → All (λ piece. length piece ≤ limit) pieces → NoneTooLong (Some limit) pieces
 short_pieces limit [] h = tt
 short_pieces limit (piece ∷ pieces) h =
@@ -97,7 +97,7 @@ items_of_rebuilt law unique dialect limit text items has fit u r h =
     ∙ ap (λ ps. as_items (answers_of dialect ps)) (unique dialect text has.pieces h.has.pieces has.are h.has.are)
     ∙ ap as_items (sym h.has.answered)
 
--- what holds where no piece is too long holds of a text that is rebuilt
+-- what holds if no piece is too long holds of a text that is rebuilt
 if_rebuilt : PiecesAreUnique → (dialect : Dialect) (limit : Option ℕ) (text : List ℕ) (pieces : List (List ℕ)) (P : Rebuilt → Type 0)
     → Pieces dialect text pieces
     → (NoneTooLong limit pieces → IsUtf8 text → (r : Rebuilt) → RebuildsIn dialect text r → P r) → IfRebuilt dialect limit text P
@@ -141,7 +141,7 @@ abbrev pieces_have : (dialect : Dialect) (limit : Option ℕ) (bytes : List ℕ)
     → HasByteItems dialect limit bytes (items_of dialect limit pieces)
 pieces_have dialect limit bytes pieces are = record { pieces = pieces; are = are; items_are = refl }
 
--- where fault lines name lines, the batch and the counts are what the rebuild gives
+-- if fault lines name lines, the batch and the counts are what the rebuild gives
 pub lines_rebuilt : Utf8ByPieces → PiecesAreUnique → (dialect : Dialect) (limit : Option ℕ) (text : List ℕ) (counts : Relayed)
     (out out_after err err_after : Option (List ℕ)) → RelaysAllLines dialect limit text counts out out_after err err_after
     → IfRebuilt dialect limit text (λ r. RelaysBatch r counts out out_after)

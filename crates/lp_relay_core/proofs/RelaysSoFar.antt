@@ -154,7 +154,7 @@ so_far_fronts exist give dialect limit place r s stream now a c e g h =
     fronts_of exist give dialect limit place r s h.given h.pieces h.held a c e g h.consumed h.run
     (part_so_far (made_of_none place) now a c e g _ _ h.relays)
 
--- and where a step had a fault
+-- and if a step had a fault
 pub some_fronts : PiecesExist → RunsGivePieces → (dialect : Dialect) (limit : Option ℕ) (place : Place) (r s t : Option (List ℕ))
     (part : List ℕ) (stream : HeldWithin) (now : Made) (a b c e f g : Option (List ℕ))
     → RelaysSoFar dialect limit place r s stream now a b e f → Consumes s t part
@@ -186,7 +186,7 @@ reads_none s t bytes n none h = subst (λ k. Consumes s t (take k bytes)) none h
 read_none : (r s t : Option (List ℕ)) (bs : List ℕ) → Consumes r s bs → Consumes s t [] → Consumes r t bs
 read_none r s t bs h k = subst (Consumes r t) (append-nil bs) (Consumes-trans r s t bs [] h k)
 
--- at the end, where the last piece was taken and nothing is held, all was written
+-- at the end, if the last piece was taken and nothing is held, all was written
 pub so_far_all : RunsEnd → (dialect : Dialect) (limit : Option ℕ) (place : Place) (r s t : Option (List ℕ)) (stream : HeldWithin)
     (now end : Made) (counts : Relayed) (a b c e f g : Option (List ℕ)) → RelaysSoFar dialect limit place r s stream now a b e f
     → Consumes s t [] → IsAtEnd t
@@ -215,7 +215,7 @@ so_far_all ends dialect limit place r s t stream now end counts a b c e f g h re
       refused = omega (arith, refused, all.refused);
     })
 
--- there, where a writer had a fault
+-- there, if a writer had a fault
 pub end_fronts : RunsEnd → (dialect : Dialect) (limit : Option ℕ) (place : Place) (r s t : Option (List ℕ)) (stream : HeldWithin)
     (now : Made) (a b c e f g : Option (List ℕ)) → RelaysSoFar dialect limit place r s stream now a b e f → Consumes s t [] → IsAtEnd t
     → ((text : List ℕ) → Holds stream text → IsLastPiece dialect text → RelaysPart now b c f g

@@ -26,7 +26,7 @@ some_piece : (dialect : Dialect) (text : List ℕ) (pieces : List (List ℕ)) �
 some_piece dialect text pieces (last piece h) e = absurd (cc)
 some_piece dialect text pieces (cut piece rest others c h) e = absurd (cc)
 
--- where a newline comes only at the end, a text is cut there
+-- if a newline comes only at the end, a text is cut there
 ends_there : (front piece rest : List ℕ) → AllByRecursion (λ b. b ≢ newline) front → front ++ newline ∷ [] ≡ piece ++ newline ∷ rest
     → rest ≡ []
 ends_there [] [] rest none e = cc
@@ -34,7 +34,7 @@ ends_there [] (b ∷ piece) rest none e = let f : [] ≡ piece ++ newline ∷ re
 ends_there (b ∷ front) [] rest none e = let f : b ≡ newline = cc in absurd (none.0 f)
 ends_there (b ∷ front) (x ∷ piece) rest none e = ends_there front piece rest none.1 (cc)
 
--- where a newline after a text comes only at the end, both are cut there, or the text was cut before
+-- if a newline after a text comes only at the end, both are cut there, or the text was cut before
 cut_there : (text front piece rest : List ℕ) → AllByRecursion (λ b. b ≢ newline) front
     → text ++ (front ++ newline ∷ []) ≡ piece ++ newline ∷ rest → (rest ≡ []) ⊎ ((r : List ℕ) × (text ≡ piece ++ newline ∷ r))
 cut_there [] front piece rest none e = inl (ends_there front piece rest none e)
@@ -75,7 +75,7 @@ first_cut texts dialect text piece rest all others (cut p t ps c h) e q =
     sym (texts dialect t ps h) ∙ ap (λ (l : List (List ℕ)). join_with_byte newline l) left ∙ texts dialect rest others q in
     (ap (λ (l : List ℕ). l ++ newline ∷ t) first ∙ ap (λ (l : List ℕ). piece ++ newline ∷ l) same, subst (IsCutPiece dialect) first c)
 
--- where the stream holds a text that is one piece and was given a part up to its first newline, a piece that it gives leaves
+-- if the stream holds a text that is one piece and was given a part up to its first newline, a piece that it gives leaves
 -- nothing of these, and is the first of all
 pub first_given : PiecesExist → PiecesAreUnique → (dialect : Dialect) (limit : ℕ) (text part : List ℕ) (at : ℕ) (stream after : HeldWithin)
     (result : Result (Bor (List ℕ)) PieceTooLong) (rest : List ℕ) → stream.held.dialect ≡ dialect → stream.limit ≡ limit

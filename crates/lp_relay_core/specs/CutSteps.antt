@@ -5,7 +5,7 @@ use Rattle.influxdb_line_protocol.specs.code.Streams.{Held, TakesNothing, TakesP
 use Rattle.lp_relay_core.specs.declared.cuts.Walk.{Walk}
 use Rattle.lp_relay_core.specs.Cuts.{IsCutAt}
 
--- a piece of this length was taken, or none where no newline that came yet ends one
+-- a piece of this length was taken, or none if no newline that came yet ends one
 abbrev pub TakesLen : Held → Option ℕ → Held → Type 0
 TakesLen before None after = TakesNothing before after
 TakesLen before (Some len) after = (piece : List ℕ) × TakesPiece before piece after × (length piece ≡ len)
@@ -17,7 +17,7 @@ pub record IsWalkOf (dialect : Dialect) (text : List ℕ) (walk : Walk) : Type 0
   pub holds : take walk.at text ++ walk.stream.bytes ≡ take walk.given text
   pub within : walk.given ≤ length text
 
--- a walk goes on to the next cut, or where none comes after it, it stays there
+-- a walk goes on to the next cut, or if none comes after it, it stays there
 abbrev pub GoesOn : Dialect → List ℕ → ℕ → Bool → ℕ → Type 0
 GoesOn dialect text before false after = (after ≡ before) × ((other : ℕ) → IsCutAt dialect text other → other ≤ before)
 GoesOn dialect text before true after =

@@ -10,14 +10,14 @@ pub record IsCutAt (dialect : Dialect) (text : List ℕ) (at : ℕ) : Type 0 whe
   pub pieces : List (List ℕ)
   pub are : Pieces dialect (take at text) (pieces ++ [] ∷ [])
 
--- the first cut at or after a place, or where none is there the last cut of all
+-- the first cut at or after a place, or if none is there the last cut of all
 pub record IsCutFor (dialect : Dialect) (text : List ℕ) (place at : ℕ) : Type 0 where
   pub is_cut : IsCutAt dialect text at
   pub first : (other : ℕ) → IsCutAt dialect text other → place ≤ other → at ≤ other
   pub last : at < place → (other : ℕ) → IsCutAt dialect text other → other ≤ at
 
 -- the ends of so many parts, of one part for 0: each but the last is the cut for where it ends if all parts have one
--- length, or for 1 where that is 0, and the last is the text's end
+-- length, or for 1 if that is 0, and the last is the text's end
 pub record ArePartEnds (dialect : Dialect) (text : List ℕ) (count : ℕ) (ends : List ℕ) : Type 0 where
   pub cuts : List ℕ
   pub are : ends ≡ cuts ++ length text ∷ []

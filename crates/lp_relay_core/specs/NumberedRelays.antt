@@ -52,15 +52,15 @@ pub record RelaysLines (dialect : Dialect) (limit : Option ℕ) (result : Result
   -- after a fault, each writer has a front of what was meant for it
   pub part : OnErr result (IfSome reader.bytes (λ bs.
       RelaysFrontLines dialect limit bs out.bytes out_after.bytes err.bytes err_after.bytes))
-  -- where all that was read is UTF-8, and none of it too long, the batch and the counts are what a rebuild of it gives
+  -- if all that was read is UTF-8, and none of it too long, the batch and the counts are what a rebuild of it gives
   pub rebuilt : IfOk result (λ counts. IfSome reader.bytes (λ bs.
       IfRebuilt dialect limit bs (λ r. RelaysBatch r counts out.bytes out_after.bytes)))
   -- after a fault, a front of that batch
   pub rebuilt_part : OnErr result (IfSome reader.bytes (λ bs.
       IfRebuilt dialect limit bs (λ r. AppendsFront out.bytes out_after.bytes r.batch.items)))
-  -- `Read` is answered exactly where the reader failed
+  -- `Read` is answered exactly if the reader failed
   pub read : (result ≡ Err Read) ↔ (reader.failures < reader_after.failures)
-  -- `Write` is answered exactly where a writer failed
+  -- `Write` is answered exactly if a writer failed
   pub write : (result ≡ Err Write) ↔ ((out.failures < out_after.failures) ⊎ (err.failures < err_after.failures))
   -- `NotUtf8` is never answered
   pub utf8 : result ≢ Err NotUtf8

@@ -17,7 +17,7 @@ pub data Item : Type 0 where
   answered : Result Line Fault → Item
   not_utf8 too_long : Item
 
--- the greatest length of a piece, where it has one: `usize::MAX` is none
+-- the greatest length of a piece, if it has one: `usize::MAX` is none
 abbrev pub limit_of : ℕ → Option ℕ
 limit_of limit = if limit == 2 ^ 64 - 1 then None else Some limit
 
@@ -26,11 +26,11 @@ abbrev pub is_too_long : Option ℕ → List ℕ → Bool
 is_too_long None piece = false
 is_too_long (Some limit) piece = nat_lt limit (length piece)
 
--- the items of a piece that is not too long: its answers where it is UTF-8, and else one item without an answer
+-- the items of a piece that is not too long: its answers if it is UTF-8, and else one item without an answer
 unfoldable pub items_of_bytes : Dialect → List ℕ → List Item
 items_of_bytes dialect piece = if is_utf8 piece then map answered (answers_of_piece dialect piece) else not_utf8 ∷ []
 
--- the items of a piece: where it is too long, one item without an answer, whatever its bytes are
+-- the items of a piece: if it is too long, one item without an answer, whatever its bytes are
 unfoldable pub items_of_piece : Dialect → Option ℕ → List ℕ → List Item
 items_of_piece dialect limit piece = if is_too_long limit piece then too_long ∷ [] else items_of_bytes dialect piece
 

@@ -48,7 +48,7 @@ RelaysRebuiltFronts r out out_after err err_after =
 abbrev pub HasShortPieces : Dialect → ℕ → List ℕ → Type 0
 HasShortPieces dialect limit text = (pieces : List (List ℕ)) × Pieces dialect text pieces × All (λ piece. length piece ≤ limit) pieces
 
--- where a text is UTF-8, and no piece of it is too long, this holds of each rebuild of it
+-- if a text is UTF-8, and no piece of it is too long, this holds of each rebuild of it
 abbrev pub IfRebuilt : Dialect → Option ℕ → List ℕ → (Rebuilt → Type 0) → Type 0
 IfRebuilt dialect None text P = IsUtf8 text → (r : Rebuilt) → RebuildsIn dialect text r → P r
 IfRebuilt dialect (Some limit) text P =
@@ -66,15 +66,15 @@ pub record RelaysWithin (dialect : Dialect) (limit : Option ℕ) (result : Resul
   -- after a fault, each writer has a front of what was meant for it
   pub part : OnErr result (IfSome reader.bytes (λ bs.
       RelaysFronts dialect limit bs out.bytes out_after.bytes err.bytes err_after.bytes))
-  -- where all that was read is UTF-8, and none of it too long, that is what a rebuild of it gives
+  -- if all that was read is UTF-8, and none of it too long, that is what a rebuild of it gives
   pub rebuilt : IfOk result (λ counts. IfSome reader.bytes (λ bs.
       IfRebuilt dialect limit bs (λ r. RelaysRebuilt r counts out.bytes out_after.bytes err.bytes err_after.bytes)))
   -- after a fault, a front of that
   pub rebuilt_part : OnErr result (IfSome reader.bytes (λ bs.
       IfRebuilt dialect limit bs (λ r. RelaysRebuiltFronts r out.bytes out_after.bytes err.bytes err_after.bytes)))
-  -- `Read` is answered exactly where the reader failed
+  -- `Read` is answered exactly if the reader failed
   pub read : (result ≡ Err Read) ↔ (reader.failures < reader_after.failures)
-  -- `Write` is answered exactly where a writer failed
+  -- `Write` is answered exactly if a writer failed
   pub write : (result ≡ Err Write) ↔ ((out.failures < out_after.failures) ⊎ (err.failures < err_after.failures))
   -- `NotUtf8` is never answered
   pub utf8 : result ≢ Err NotUtf8

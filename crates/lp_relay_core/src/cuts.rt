@@ -97,8 +97,8 @@ fn even_end(len: usize, k: usize, count: usize) -> usize
 /// items of the parts are those of the text, in order. What the parts give is, one after another, what the text gives; but
 /// the numbers of its items begin anew in each part.
 ///
-/// Part `k` ends at the first such place at or after `k * input.len() / count`, though not at 0, or where none is there, at the
-/// last one of all: a line is never cut, so a part may be empty, and then two ends are equal. Where no newline ends a piece,
+/// Part `k` ends at the first such place at or after `k * input.len() / count`, though not at 0, or if none is there, at the
+/// last one of all: a line is never cut, so a part may be empty, and then two ends are equal. If no newline ends a piece,
 /// all parts but the last are empty, and end at 0. A `count` of 0 is taken as 1.
 ///
 /// The text need not be UTF-8. It is searched once. What is held of it is one block and the piece that has not ended yet.
@@ -111,7 +111,7 @@ fn even_end(len: usize, k: usize, count: usize) -> usize
 ///
 /// # Errors
 ///
-/// Where a request for memory is refused.
+/// If a request for memory is refused.
 pub fn part_ends(
     alloc: Global,
     dialect: Dialect,

@@ -51,7 +51,7 @@ fn pour<W: Sink, E: Sink>(so_far: &mut Progress, out: &mut W, err: &mut E) -> Re
     Ok(())
 }
 
-// Writes all that is held, where it fills a block.
+// Writes all that is held, if it fills a block.
 fn pour_full<W: Sink, E: Sink>(
     so_far: &mut Progress,
     out: &mut W,
@@ -133,7 +133,7 @@ fn relay_pieces<W: Sink, E: Sink>(
     Ok(())
 }
 
-// The whole lines at the start of bytes, as text: none where the bytes up to the last newline are not UTF-8.
+// The whole lines at the start of bytes, as text: none if the bytes up to the last newline are not UTF-8.
 fn whole_lines(bytes: &[u8]) -> &str
     ensures { result.now ≡ take (length result.now) bytes.now }
 {
@@ -193,7 +193,7 @@ fn first_newline(bytes: &[u8]) -> Option<usize>
     memchr(b'\n', bytes)
 }
 
-// Takes the line that ends in a part, where its first newline ends it, and the whole lines after it, which the stream is not
+// Takes the line that ends in a part, if its first newline ends it, and the whole lines after it, which the stream is not
 // given. Gives how many bytes of the part were taken, or given to the stream.
 fn relay_begun<W: Sink, E: Sink>(
     alloc: Global,
@@ -319,7 +319,7 @@ fn finish<W: Sink, E: Sink>(
 ///
 /// What each read completes is written and flushed before the next read is asked for, and the rest at the end. What is held of
 /// the input is the line that has not ended yet and one block, and of the output less than a block and what one line makes,
-/// since it is written too where it fills a block. So `out` and `err` gain what [`run`](lp_rebuild::run) writes, but not in its
+/// since it is written too if it fills a block. So `out` and `err` gain what [`run`](lp_rebuild::run) writes, but not in its
 /// order.
 ///
 /// Input that is not UTF-8 does not end it: each piece that is not is one item, whose fault line is `item N: the line is
@@ -329,9 +329,9 @@ fn finish<W: Sink, E: Sink>(
 ///
 /// After each of them, `out` has a beginning of the batch and `err` one of the fault lines.
 ///
-/// * `Read` where `reader` failed, and only there.
-/// * `OutOfMemory` where memory was refused, or where no `usize` holds the number of the next item.
-/// * `Write` where `out` or `err` failed, and only there.
+/// * `Read` if `reader` failed, and only there.
+/// * `OutOfMemory` if memory was refused, or if no `usize` holds the number of the next item.
+/// * `Write` if `out` or `err` failed, and only there.
 pub fn relay<R: Source, W: Sink, E: Sink>(
     alloc: Global,
     reader: &mut R,
@@ -369,10 +369,10 @@ pub fn relay_in<R: Source, W: Sink, E: Sink>(
     relay_within(alloc, dialect, usize::MAX, reader, out, err)
 }
 
-/// Relays the lines that `reader` gives, as they come, by the rules of a dialect, where a line has at most `limit` bytes.
+/// Relays the lines that `reader` gives, as they come, by the rules of a dialect, if a line has at most `limit` bytes.
 /// Newlines within its strings are among them, and the one that ends it is not.
 ///
-/// A longer one is one item, whose fault line is `item N: the line is too long`, also where it is a comment, blank or not
+/// A longer one is one item, whose fault line is `item N: the line is too long`, also if it is a comment, blank or not
 /// UTF-8. Its bytes are passed over up to its end, and the lines before and after it are read as ever. A limit of
 /// `usize::MAX` is none.
 ///
@@ -383,7 +383,7 @@ pub fn relay_in<R: Source, W: Sink, E: Sink>(
 ///
 /// # Errors
 ///
-/// Those of [`relay`]. `OutOfMemory` also comes where no `usize` may hold how many newlines, equal signs or commas a line has
+/// Those of [`relay`]. `OutOfMemory` also comes if no `usize` may hold how many newlines, equal signs or commas a line has
 /// that is too long.
 pub fn relay_within<R: Source, W: Sink, E: Sink>(
     alloc: Global,
@@ -401,17 +401,17 @@ pub fn relay_within<R: Source, W: Sink, E: Sink>(
     relay_numbered(alloc, dialect, limit, Numbering::Items, reader, out, err)
 }
 
-/// Relays the lines that `reader` gives, as they come, by the rules of a dialect, where a line has at most `limit` bytes and
+/// Relays the lines that `reader` gives, as they come, by the rules of a dialect, if a line has at most `limit` bytes and
 /// the fault lines name what `numbering` says.
 ///
-/// By [`Numbering::Items`] it does what [`relay_within`] does. By [`Numbering::Lines`] each fault line is `line N: TEXT` where
+/// By [`Numbering::Items`] it does what [`relay_within`] does. By [`Numbering::Lines`] each fault line is `line N: TEXT` if
 /// that has `item M: TEXT`, and N is the line of the input on which the piece of the item begins: 1, and one more for each
 /// newline before its first byte. So a fault can be found, though a comment, a blank line or a string of many lines came
 /// before it. All else is as for [`relay_within`].
 ///
 /// # Errors
 ///
-/// Those of [`relay_within`]. By [`Numbering::Lines`] `OutOfMemory` also comes where no `usize` holds the line on which the
+/// Those of [`relay_within`]. By [`Numbering::Lines`] `OutOfMemory` also comes if no `usize` holds the line on which the
 /// next piece would begin.
 pub fn relay_numbered<R: Source, W: Sink, E: Sink>(
     alloc: Global,

@@ -97,11 +97,11 @@ fn take_alone(
     taken
 }
 
-// From this length on `simdutf8` tests bytes. It is several times as fast as std where they are not ASCII; where they are, it
+// From this length on `simdutf8` tests bytes. It is several times as fast as std if they are not ASCII; if they are, it
 // takes longer below this length.
 const LONG: usize = 128;
 
-// The text of bytes, where they are UTF-8.
+// The text of bytes, if they are UTF-8.
 pub(crate) fn text_of(bytes: &[u8]) -> Result<&str, Utf8Error>
     ensures cases { MatchResult result (λ text. (text.now ≡ bytes.now) × IsUtf8 bytes.now) (λ _. ¬ (IsUtf8 bytes.now)) }
 {
@@ -133,7 +133,7 @@ fn take_bytes(
     }
 }
 
-// Takes what the stream gave: bytes, or where they are too long a fault.
+// Takes what the stream gave: bytes, or if they are too long a fault.
 fn take_given(
     alloc: Global,
     dialect: Dialect,
@@ -166,7 +166,7 @@ fn newlines_in(bytes: &[u8]) -> usize
     count
 }
 
-// The place of the next piece. Newlines are counted where it is a line, and it is refused where that would not fit.
+// The place of the next piece. Newlines are counted if it is a line, and it is refused if that would not fit.
 fn place_after(place: Place, piece: Result<&[u8], PieceTooLong>) -> Result<Place, AllocError>
     ensures { IfOk result (λ next. next ≡ place_after place (newlines_given piece.entry)) }
 {
@@ -181,7 +181,7 @@ fn place_after(place: Place, piece: Result<&[u8], PieceTooLong>) -> Result<Place
     Ok(Place::OnLine(end.checked_add(1).ok_or(AllocError)?))
 }
 
-// Takes a piece. It is refused where its number, or the line after it, would not fit.
+// Takes a piece. It is refused if its number, or the line after it, would not fit.
 pub(crate) fn take_piece(
     alloc: Global,
     dialect: Dialect,

@@ -22,7 +22,7 @@ pub fn first_set(mask: u64, lanes: usize) -> usize
     }
 }
 
-// The bytes that end a key, and the backslash, each at its low half. Where there is none is 0, whose own place the
+// The bytes that end a key, and the backslash, each at its low half. If there is none is 0, whose own place the
 // space has.
 const KEY_ENDS: [u8; 16] = *b" \0\0\0\0\0\0\0\0\t\n\0\\=\0\0";
 
@@ -65,7 +65,7 @@ pub fn end_mask(kind: TokenKind, bytes: &[u8], at: usize) -> u64
     }
 }
 
-/// The mask of those of the 16 bytes from `at` on that end a token of this kind where they are bare, or that get a backslash
+/// The mask of those of the 16 bytes from `at` on that end a token of this kind if they are bare, or that get a backslash
 /// in it.
 #[inline(always)]
 pub fn mark_mask(kind: TokenKind, bytes: &[u8], at: usize) -> u64
@@ -91,7 +91,7 @@ pub fn unmarked_run(kind: TokenKind, bytes: &[u8], at: usize) -> usize
     first_set(mark_mask(kind, bytes, at), LANES)
 }
 
-/// The mask of those of the 64 bytes from `at` on that end a token of this kind where they are bare.
+/// The mask of those of the 64 bytes from `at` on that end a token of this kind if they are bare.
 #[inline(always)]
 pub fn stops_in(kind: TokenKind, bytes: &[u8], at: usize) -> u64
     requires { at + WIDE ≤ length bytes.now }

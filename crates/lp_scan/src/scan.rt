@@ -21,7 +21,7 @@ pub fn places_of(byte: u8, text: &[u8], at: usize) -> u64
     v.simd_eq(u8x64::splat(byte)).to_bitmask()
 }
 
-/// Which of 64 bytes are escaped, where the first is not and these are the backslashes among them.
+/// Which of 64 bytes are escaped, if the first is not and these are the backslashes among them.
 ///
 /// The backslashes are taken, as one number, from the places after a backslash and the odd ones. What is borrowed goes
 /// along each run of backslashes, so that one subtraction tells at which parity it began.
@@ -36,7 +36,7 @@ pub fn escaped(backslashes: u64) -> u64
     left ^ ODD ^ backslashes
 }
 
-/// Which of 64 bytes are bare marks, where the first is not escaped and these are the marks and the backslashes among
+/// Which of 64 bytes are bare marks, if the first is not escaped and these are the marks and the backslashes among
 /// them.
 #[inline(always)]
 pub fn bare(marks: u64, backslashes: u64) -> u64

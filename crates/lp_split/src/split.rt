@@ -27,7 +27,7 @@ use resumed::cut_from;
 pub(crate) use resumed::{Search, search_on};
 pub(crate) use tracked::{Track, track_on};
 
-// How many bytes are looked at by wide loads, where they show nothing, before `memchr` searches on.
+// How many bytes are looked at by wide loads, if they show nothing, before `memchr` searches on.
 const NEAR: usize = 320;
 
 /// A dialect of line protocol: which rules hold.
@@ -77,7 +77,7 @@ fn stops_in(stops: Stops, text: &[u8], at: usize) -> u64
     (v.simd_eq(u8x64::splat(stops.first)) | v.simd_eq(u8x64::splat(stops.second))).to_bitmask()
 }
 
-// How many of the 64 bytes from `at` on come before the first bare one that ends a stretch; where
+// How many of the 64 bytes from `at` on come before the first bare one that ends a stretch; if
 // there is none 64, or 65 if the last one is a bare backslash. The backslashes among them are given.
 #[inline(always)]
 fn stop_in(stops: Stops, text: &[u8], at: usize, backslashes: u64) -> usize
@@ -107,7 +107,7 @@ fn next_mark(stops: Stops, text: &[u8]) -> Option<usize>
     memchr3(b'\\', stops.first, stops.second, text)
 }
 
-// How many bytes come before the first bare one that ends a stretch; where there is none all of them, but for a bare backslash
+// How many bytes come before the first bare one that ends a stretch; if there is none all of them, but for a bare backslash
 // at the end, which escapes what comes. Wide loads look at them as long as they show something near, and then `memchr`.
 #[inline(always)]
 fn bare_len(stops: Stops, text: &[u8]) -> usize
@@ -257,7 +257,7 @@ pub(crate) fn count_of(byte: u8, text: &[u8]) -> usize
     count + count_few(byte, &text[at..])
 }
 
-/// The place of the newline that ends the first piece, or `None` where the text is one piece, with no regard to
+/// The place of the newline that ends the first piece, or `None` if the text is one piece, with no regard to
 /// comments. Loads show where plain stretches end, and the last bytes of the text are tracked one by one.
 #[inline(never)]
 fn cut_by_stretches(text: &[u8]) -> Option<usize>
@@ -320,7 +320,7 @@ fn marks_in(text: &[u8], at: usize) -> u64
     (newlines | others).to_bitmask()
 }
 
-// The first newline, quote or backslash, where these are the ones that were seen at the start of the text.
+// The first newline, quote or backslash, if these are the ones that were seen at the start of the text.
 #[inline(always)]
 fn first_mark(text: &[u8], seen: u64) -> Option<Mark>
     requires { AreSeen text.now seen }
@@ -375,7 +375,7 @@ fn first_newline(text: &[u8]) -> Option<usize>
     memchr(b'\n', text)
 }
 
-/// The place of the newline that ends the first piece, or `None` where the text is one piece.
+/// The place of the newline that ends the first piece, or `None` if the text is one piece.
 #[inline(always)]
 fn late_cut(dialect: Dialect, text: &[u8]) -> Option<usize>
     ensures { IsFirstCut (rules_of dialect) text.now result }

@@ -34,7 +34,7 @@ fn compact(buffer: &mut Vec<u8>, start: usize) -> usize
     0
 }
 
-// The bytes as text. The test goes by wide loads, and where it fails once more byte by byte, for the place of the error.
+// The bytes as text. The test goes by wide loads, and if it fails once more byte by byte, for the place of the error.
 fn read_text(bytes: &[u8]) -> Result<&str, Utf8Error>
     ensures { MatchResult result (λ text. (text.now ≡ bytes.now) × IsUtf8 bytes.now) (λ _. ¬ (IsUtf8 bytes.now)) }
 {
@@ -49,7 +49,7 @@ fn read_text(bytes: &[u8]) -> Result<&str, Utf8Error>
 /// A part is given by [`push`](Self::push) and may be cut anywhere, also inside a character or an escape. Each piece is
 /// there as soon as the newline that ends it has come, and the last one once no more parts come.
 ///
-/// Memory is asked for only where the buffer grows.
+/// Memory is asked for only if the buffer grows.
 ///
 /// ```text
 /// stream.push(b"m s=\"a")         next_text gives None
@@ -104,7 +104,7 @@ impl LineStream {
 
     /// Takes the next part of the text.
     ///
-    /// Where memory was refused, nothing is lost, and the same part can be given again.
+    /// If memory was refused, nothing is lost, and the same part can be given again.
     pub fn push(&mut self, part: &[u8]) -> Result<(), AllocError>
         ensures dialect { self.new.dialect ≡ self.old.dialect }
         ensures ok { OnOk result (self.new.bytes ≡ self.old.bytes ++ part.now) }
@@ -167,7 +167,7 @@ impl LineStream {
         Some(self.take(cut))
     }
 
-    /// The same as text, or an error where the piece is not UTF-8. It is taken all the same, and the next ones are given.
+    /// The same as text, or an error if the piece is not UTF-8. It is taken all the same, and the next ones are given.
     pub fn next_text(&mut self) -> Option<Result<&str, Utf8Error>>
         ensures* after { sem 𝓛 (EndsAsCutText self.entry result) }
     {
@@ -208,7 +208,7 @@ impl LineStream {
         self.dialect
     }
 
-    /// The same as text, or an error where it is not UTF-8. It is taken all the same.
+    /// The same as text, or an error if it is not UTF-8. It is taken all the same.
     pub fn finish_text(&mut self) -> Result<&str, Utf8Error>
         requires { IsLastPiece self.old.dialect self.old.bytes }
         ensures* after { sem 𝓛 (EndsAsLastText self.entry result) }

@@ -200,7 +200,7 @@ fn sign_and_digits<'a>(number: &'a str, text: &'a str) -> (bool, &'a [u8], &'a [
     }
 }
 
-// The integer of a number of any length; `None` where no i64 holds it.
+// The integer of a number of any length; `None` if no i64 holds it.
 #[cold]
 #[inline(never)]
 fn parsed_integer(number: &str) -> Option<i64>
@@ -211,7 +211,7 @@ fn parsed_integer(number: &str) -> Option<i64>
     number.parse::<i64>().ok()
 }
 
-/// The number that the digits `number`, at the start of `text`, write; `None` where no u64 holds it.
+/// The number that the digits `number`, at the start of `text`, write; `None` if no u64 holds it.
 #[inline(always)]
 pub fn unsigned_value(number: &str, text: &str) -> Option<u64>
     requires numeral { IsNumeral 10 number.now }
@@ -225,7 +225,7 @@ pub fn unsigned_value(number: &str, text: &str) -> Option<u64>
     number.parse::<u64>().ok()
 }
 
-/// The integer that `number`, at the start of `text`, writes, with `-` at the start or not; `None` where no i64 holds it.
+/// The integer that `number`, at the start of `text`, writes, with `-` at the start or not; `None` if no i64 holds it.
 #[inline(always)]
 pub fn integer_value(number: &str, text: &str) -> Option<i64>
     requires signed { IsSigned (codes "-") number.now }

@@ -17,7 +17,7 @@ pub enum OutOfRange {
     Below,
 }
 
-/// What was missing where a line could not be read at all.
+/// What was missing if a line could not be read at all.
 #[derive(Clone, Copy, Debug, PartialEq, Eq)]
 pub enum ErrorKind {
     /// At least one space.

@@ -71,7 +71,7 @@ impl<'a> EscapedStr<'a> {
     ///
     /// # Errors
     ///
-    /// Where the memory for a slice's text was refused; the value is dropped.
+    /// If the memory for a slice's text was refused; the value is dropped.
     pub fn into_string(self, alloc: Global) -> Result<String, AllocError>
         ensures ok { IfOk result (λ s. string_bytes s ≡ text_of self.entry) }
         ensures succeeds { is_single_slice self.entry ≡ false → IsOk result }
@@ -86,7 +86,7 @@ impl<'a> EscapedStr<'a> {
     ///
     /// # Errors
     ///
-    /// Where memory was refused; the value stays as it is.
+    /// If memory was refused; the value stays as it is.
     pub fn to_string(&self, alloc: Global) -> Result<String, AllocError>
         ensures { IfOk result (λ s. string_bytes s ≡ text_of self.now) }
     {
@@ -97,7 +97,7 @@ impl<'a> EscapedStr<'a> {
     ///
     /// # Errors
     ///
-    /// Where the memory for a copy was refused; the value stays as it is.
+    /// If the memory for a copy was refused; the value stays as it is.
     pub fn clone(&self, alloc: Global) -> Result<EscapedStr<'a>, AllocError>
         ensures ok { IfOk result (λ copy. read_of copy ≡ read_of self.now) }
         ensures succeeds { is_single_slice self.now ≡ true → IsOk result }

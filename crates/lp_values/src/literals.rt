@@ -15,7 +15,7 @@ pub struct FloatText<'a> {
     ghost is_literal: { ∥ IsFloat text.now ∥₁ },
 }
 
-// How many bytes `-` and the digits after it take: none, where no digit is there. Few numbers have a sign, and a
+// How many bytes `-` and the digits after it take: none, if no digit is there. Few numbers have a sign, and a
 // branch takes it out of the way of the others.
 #[inline(never)]
 fn negative_len(digits: &[u8]) -> usize
@@ -25,7 +25,7 @@ fn negative_len(digits: &[u8]) -> usize
     if len == 0 { 0 } else { 1 + len }
 }
 
-/// How many bytes of `text` an integer takes at the start: none, where none is there.
+/// How many bytes of `text` an integer takes at the start: none, if none is there.
 #[inline(always)]
 pub fn integer_len(text: &str) -> usize
     ensures value { result ≡ integer_len text.now }
@@ -37,7 +37,7 @@ pub fn integer_len(text: &str) -> usize
     }
 }
 
-// How many bytes a point and digits take at the start of `bytes`: none, where they are not there.
+// How many bytes a point and digits take at the start of `bytes`: none, if they are not there.
 #[inline(always)]
 fn fraction_len(bytes: &[u8]) -> usize
     ensures value { result ≡ fraction_len bytes.now }
@@ -64,7 +64,7 @@ fn power_len(bytes: &[u8]) -> usize
     if digits == 0 { 0 } else { 1 + digits }
 }
 
-// How many bytes an exponent takes at the start of `bytes`: none, where none is there.
+// How many bytes an exponent takes at the start of `bytes`: none, if none is there.
 #[inline(always)]
 fn exponent_len(bytes: &[u8]) -> usize
     ensures value { result ≡ exponent_len bytes.now }
@@ -98,7 +98,7 @@ impl<'a> FloatText<'a> {
     ghost use Rattle.lp_format.specs.format.Readings.{miss, reads};
     ghost use Rattle.lp_format.specs.format.Values.{float, float_at};
 
-    /// A float of this text: `Some` exactly where the whole text is one.
+    /// A float of this text: `Some` exactly if the whole text is one.
     pub fn new(text: &'a str) -> Option<Self>
         ensures { MatchOption result (¬ IsFloat text.now) (λ f. IsFloat text.now × (literal_of f ≡ text.now)) }
     {

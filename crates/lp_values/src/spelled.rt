@@ -108,7 +108,7 @@ impl<'a> Spelled<'a> {
     ///
     /// # Errors
     ///
-    /// Where memory was refused.
+    /// If memory was refused.
     #[inline(always)]
     pub fn to_escaped_str(&self, alloc: Global) -> Result<EscapedStr<'a>, AllocError>
         ensures text { IfOk result (λ text. read_of text ≡ spelled_text self.now) }

@@ -20,10 +20,10 @@ use crate::trim::{strip_byte, trim_start_spaces};
 use crate::values::{begins_number, has_byte_at, longest_word};
 use lp_scan::sets::TokenKind;
 
-/// A part at the start of a text, and the rest; `None` where none is there.
+/// A part at the start of a text, and the rest; `None` if none is there.
 pub type Front<'a, T> = Result<Option<(T, &'a str)>, SpelledFault<'a>>;
 
-/// The name at the start of `text` as it is spelled, and the rest. `None` where no name is there.
+/// The name at the start of `text` as it is spelled, and the rest. `None` if no name is there.
 #[inline(always)]
 pub fn name<'a>(kind: NameKind, text: &'a str) -> Front<'a, Spelled<'a>>
     ensures value { GivesSpelled spelled_text result (name (kind_of kind) text.now) }
@@ -149,7 +149,7 @@ fn boolean<'a>(text: &'a str) -> Front<'a, SpelledValue<'a>>
     Ok(Some((SpelledValue::Boolean(value), &text[len..])))
 }
 
-/// The value at the start of `text` as it is spelled, and the rest. `None` where none is there.
+/// The value at the start of `text` as it is spelled, and the rest. `None` if none is there.
 #[inline(always)]
 pub fn value<'a>(text: &'a str) -> Front<'a, SpelledValue<'a>>
     ensures value { GivesSpelled spelled_value result (value text.now) }

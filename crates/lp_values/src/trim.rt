@@ -24,7 +24,7 @@ pub fn trimmed(text: &str) -> &str
     &text[text.len()..]
 }
 
-/// What follows `mark`, where it is at the start of `text`.
+/// What follows `mark`, if it is at the start of `text`.
 #[inline(always)]
 pub fn strip_byte(mark: u8, text: &str) -> Option<&str>
     requires { mark < 128 }

@@ -59,7 +59,7 @@ impl<'a> FieldValue<'a> {
         }
     }
 
-    /// The same value again. Only a text that is a copy takes memory: `Err` where it is refused.
+    /// The same value again. Only a text that is a copy takes memory: `Err` if it is refused.
     pub fn clone(&self, alloc: Global) -> Result<Self, AllocError>
         ensures same { IfOk result (λ copy. value_of copy ≡ value_of self.now) }
         ensures no_memory { is_single_value (value_of self.now) ≡ true → IsOk result }

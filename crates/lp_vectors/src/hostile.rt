@@ -69,7 +69,7 @@ fn long_runs_of_backslashes_are_read_by_twos(rt: HostRuntime) -> Result<(), Faul
     )
 }
 
-// How many pieces a text has, where each of them is empty.
+// How many pieces a text has, if each of them is empty.
 fn empty_pieces(dialect: Dialect, text: &str) -> Option<usize> {
     let mut count = 0usize;
     for piece in split_lines_in(dialect, text) {

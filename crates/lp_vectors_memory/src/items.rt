@@ -5,7 +5,7 @@ use lp_vectors_shared::exhausted_memory::ExhaustedMemory;
 use lp_vectors_shared::render;
 use std::alloc::{AllocError, Global};
 
-/// An item, rendered, and `-` where there is none.
+/// An item, rendered, and `-` if there is none.
 pub fn rendered(
     alloc: Global,
     item: &Option<influxdb_line_protocol::Result<ParsedLine<'_>>>,
@@ -17,7 +17,7 @@ pub fn rendered(
     }
 }
 
-/// The next item, rendered, where just one request for each of these sizes is granted.
+/// The next item, rendered, if just one request for each of these sizes is granted.
 pub fn next_with(
     alloc: Global,
     lines: &mut ParseLines<'_>,

@@ -5,7 +5,7 @@ use influxdb_line_protocol::{ParseLines, parse_lines};
 use std::alloc::{AllocError, Global};
 use std::process::Abort;
 
-// The next item is this one where memory is exhausted.
+// The next item is this one if memory is exhausted.
 fn next_is(
     rt: &impl Abort,
     alloc: Global,
@@ -18,7 +18,7 @@ fn next_is(
     Ok(())
 }
 
-// The first line of each text is answered with `OutOfMemory` where memory is exhausted. The second one takes none, and is read.
+// The first line of each text is answered with `OutOfMemory` if memory is exhausted. The second one takes none, and is read.
 fn have_their_first_line_refused(
     rt: &impl Abort,
     alloc: Global,
@@ -49,7 +49,7 @@ fn a_refused_request_is_one_item_in_its_lines_place(rt: HostRuntime) -> Result<(
     )
 }
 
-// The first line of each text is this item where just one request for each of these sizes is granted.
+// The first line of each text is this item if just one request for each of these sizes is granted.
 fn are_read_with(
     rt: &impl Abort,
     alloc: Global,

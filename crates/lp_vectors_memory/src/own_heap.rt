@@ -31,7 +31,7 @@ const HELD: &str = "m a=1i\n";
 // The sizes of the blocks that fill the heap.
 const SIZES: &[usize] = &[1_024, 256, 64, 16];
 
-// All that is free in the heap, in blocks, where it is to be full, and else none.
+// All that is free in the heap, in blocks, if it is to be full, and else none.
 fn fill(
     alloc: Global,
     heap: &LocalHeap,
@@ -68,7 +68,7 @@ type Begun<'h> = LineProtocolBuilder<Vec<u8, &'h LocalHeap>, AfterMeasurement>;
 
 type Whole<'h> = LineProtocolBuilder<Vec<u8, &'h LocalHeap>, AfterField>;
 
-// Makes a call of a builder, with the heap full where that is asked for, and says whether it is refused. Then it is made again, with
+// Makes a call of a builder, with the heap full if that is asked for, and says whether it is refused. Then it is made again, with
 // room in the heap. Each call is in a function of its own, which is proved sooner than one with all four.
 macro_rules! called {
     ($rt:ident, $alloc:ident, $heap:ident, $is_full:ident, $builder:ident.$name:ident($($argument:expr),*)) => {{

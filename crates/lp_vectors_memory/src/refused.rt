@@ -32,7 +32,7 @@ const FOUR_ITEMS: [&str; 4] = [
     "rest <x>",
 ];
 
-// The next item, rendered. Where it is to be refused, just one request for each of these sizes is granted.
+// The next item, rendered. If it is to be refused, just one request for each of these sizes is granted.
 fn next_item(
     alloc: Global,
     lines: &mut ParseLines<'_>,
@@ -44,7 +44,7 @@ fn next_item(
     }
 }
 
-// The four lines have these items where just one request for each of these sizes is granted at `place`, and not all that it asks
+// The four lines have these items if just one request for each of these sizes is granted at `place`, and not all that it asks
 // for if `is_refused`.
 fn has_its_items(
     rt: &impl Abort,
@@ -112,7 +112,7 @@ fn each_request_of_four_lines_is_refused_in_turn(rt: HostRuntime) -> Result<(), 
     )
 }
 
-// The base of the series of a line, rendered, where just one request for each of these sizes is granted.
+// The base of the series of a line, rendered, if just one request for each of these sizes is granted.
 fn base_with(alloc: Global, text: &str, granted: &[usize]) -> Result<String, Fault> {
     let series = series(alloc, text)?;
     let exhausted = ExhaustedMemory::leaving(alloc, granted)?;
@@ -121,7 +121,7 @@ fn base_with(alloc: Global, text: &str, granted: &[usize]) -> Result<String, Fau
     Ok(render::base(alloc, &base)?)
 }
 
-// The series of each line has this base where just one request for each of these sizes is granted.
+// The series of each line has this base if just one request for each of these sizes is granted.
 fn have_these_bases(
     rt: &impl Abort,
     alloc: Global,
@@ -176,7 +176,7 @@ type Begun = LineProtocolBuilder<Vec<u8>, AfterMeasurement>;
 
 type Whole = LineProtocolBuilder<Vec<u8>, AfterField>;
 
-// Makes a call of a builder: where it is to be refused, once so and then again. Each call is in a function of its own, which is
+// Makes a call of a builder: if it is to be refused, once so and then again. Each call is in a function of its own, which is
 // proved sooner than one with all four.
 macro_rules! called {
     ($rt:ident, $alloc:ident, $is_refused:ident, $builder:ident.$call:ident($($argument:expr),*)) => {{

@@ -23,7 +23,7 @@ const TEXTS: [(&str, &str, &str); 2] = [
     ),
 ];
 
-// Whether a text is rebuilt, where about so many bytes are granted.
+// Whether a text is rebuilt, if about so many bytes are granted.
 fn is_rebuilt(
     rt: &impl Abort,
     alloc: Global,
@@ -90,7 +90,7 @@ impl<'a> Source for ExhaustingSource<'a> {
     }
 }
 
-// Whether a run over a text succeeds, where about so many bytes are granted after it was read.
+// Whether a run over a text succeeds, if about so many bytes are granted after it was read.
 fn is_run(rt: &impl Abort, alloc: Global, place: usize, bytes: usize) -> bool
     requires { place < 2 }
 {

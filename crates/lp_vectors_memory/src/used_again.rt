@@ -22,7 +22,7 @@ fn room(line: &ParsedLine<'_>) -> (usize, usize) {
     (tags, line.field_set.capacity())
 }
 
-// What reading into a line answered: the fault, rendered, or `line`, or `end` where no item is left.
+// What reading into a line answered: the fault, rendered, or `line`, or `end` if no item is left.
 fn shown(
     alloc: Global,
     answer: &Option<influxdb_line_protocol::Result<()>>,
@@ -43,7 +43,7 @@ fn read<'a>(
     shown(alloc, &lines.next_into(line))
 }
 
-// The same where memory is exhausted.
+// The same if memory is exhausted.
 fn read_without_memory<'a>(
     alloc: Global,
     lines: &mut ParseLines<'a>,
@@ -172,7 +172,7 @@ fn a_fault_leaves_the_line_empty(rt: HostRuntime) -> Result<(), AllocError> {
     )
 }
 
-// A line that asks for memory leaves a line empty where it is refused, and one that asks for none is read into it.
+// A line that asks for memory leaves a line empty if it is refused, and one that asks for none is read into it.
 fn is_refused_and_goes_on(rt: &impl Abort, alloc: Global, text: &str) -> Result<(), AllocError> {
     let mut lines = parse_lines(alloc, text);
     let mut line = ParsedLine::new(alloc);

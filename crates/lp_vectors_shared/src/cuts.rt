@@ -5,8 +5,8 @@ ghost use Rattle.std.specs.Iterator.{at_most};
 
 use lp_rebuild::{DeviceFault, Failures, Source};
 
-/// The parts of a text of at most 64 bytes, none of them empty. It is cut after its first byte where the lowest bit of
-/// `cuts` is set, after its second where the next bit is, and so on.
+/// The parts of a text of at most 64 bytes, none of them empty. It is cut after its first byte if the lowest bit of
+/// `cuts` is set, after its second if the next bit is, and so on.
 #[derive(Drop)]
 pub struct Parts<'a> {
     left: &'a [u8],
@@ -49,7 +49,7 @@ pub struct CutSource<'a> {
 }
 
 impl<'a> CutSource<'a> {
-    /// It hands over the [`Parts`] of this text, and fails at this call, counted from 1; at none where that is 0.
+    /// It hands over the [`Parts`] of this text, and fails at this call, counted from 1; at none if that is 0.
     pub fn new(text: &'a [u8], cuts: u64, fails_at: usize) -> CutSource<'a> {
         CutSource {
             part: b"".as_slice(),

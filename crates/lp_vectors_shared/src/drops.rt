@@ -15,7 +15,7 @@ pub struct Trickle<'a> {
 }
 
 impl<'a> Trickle<'a> {
-    /// It gives these bytes, and fails at this call, counted from 1; at none where that is 0.
+    /// It gives these bytes, and fails at this call, counted from 1; at none if that is 0.
     pub fn new(bytes: &'a [u8], fails_at: usize) -> Self {
         Trickle {
             left: bytes,
@@ -62,7 +62,7 @@ pub struct Basin {
 }
 
 impl Basin {
-    /// An empty sink, which fails at this call of `write` or `flush`, counted from 1; at none where that is 0.
+    /// An empty sink, which fails at this call of `write` or `flush`, counted from 1; at none if that is 0.
     pub fn new(fails_at: usize) -> Self {
         Basin {
             kept: ArrayVec::new(),

@@ -39,7 +39,7 @@ impl ExhaustedMemory {
         Ok(ExhaustedMemory { blocks, left })
     }
 
-    /// The same, but one request for each of these sizes is granted, where it is for a new block. Up to 1,032 bytes each.
+    /// The same, but one request for each of these sizes is granted, if it is for a new block. Up to 1,032 bytes each.
     pub fn leaving(alloc: Global, sizes: &[usize]) -> Result<ExhaustedMemory, AllocError> {
         let mut left = Vec::with_capacity(alloc, sizes.len())?;
         for size in sizes {

@@ -60,7 +60,7 @@ impl Random {
         mixed ^ (mixed >> 32)
     }
 
-    /// The next number, below this one; 0 where that is 0.
+    /// The next number, below this one; 0 if that is 0.
     pub fn below(&mut self, end: u64) -> u64 {
         self.number().checked_rem(end).unwrap_or(0)
     }

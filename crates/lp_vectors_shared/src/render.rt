@@ -6,7 +6,7 @@ use influxdb_line_protocol::{
 use std::alloc::{AllocError, Global};
 use std::borrow::CowStr;
 
-/// A name: `S` and its text where it is a part of the input or a fixed text, and `C` where it is a
+/// A name: `S` and its text if it is a part of the input or a fixed text, and `C` if it is a
 /// copy.
 pub fn name(alloc: Global, name: &EscapedStr<'_>) -> Result<String, AllocError> {
     let text = name.as_str();
@@ -106,7 +106,7 @@ pub fn fault(alloc: Global, fault: &Error) -> Result<String, AllocError> {
     }
 }
 
-/// A base, `B` where it is borrowed and `O` where it is owned, or the fault.
+/// A base, `B` if it is borrowed and `O` if it is owned, or the fault.
 pub fn base(
     alloc: Global,
     base: &influxdb_line_protocol::Result<CowStr<'_>>,
@@ -123,7 +123,7 @@ pub fn items(alloc: Global, input: &str) -> Result<String, AllocError> {
     items_in(alloc, Dialect::Crate, input)
 }
 
-/// The same, by the rules of a dialect. They are read twice, each by itself and all into one line: where the two differ,
+/// The same, by the rules of a dialect. They are read twice, each by itself and all into one line: if the two differ,
 /// both are rendered.
 pub fn items_in(alloc: Global, dialect: Dialect, input: &str) -> Result<String, AllocError> {
     let rendered = items_by_next(alloc, dialect, input)?;
@@ -203,7 +203,7 @@ pub fn pieces_in(alloc: Global, dialect: Dialect, input: &str) -> Result<String,
     Ok(rendered)
 }
 
-// What is left of a text: between `<` and `>`, or `-` where nothing is.
+// What is left of a text: between `<` and `>`, or `-` if nothing is.
 fn push_rest(rendered: &mut String, rest: Option<&str>) -> Result<(), AllocError> {
     let Some(rest) = rest else {
         return rendered.push_str("-");

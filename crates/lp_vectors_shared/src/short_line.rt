@@ -1,4 +1,4 @@
-//! A line of 19 bytes, and what comes where a buffer has room for less. The answers come from the format's rules.
+//! A line of 19 bytes, and what comes if a buffer has room for less. The answers come from the format's rules.
 
 use influxdb_line_protocol::builder::{BufMut, NoRoom};
 use influxdb_line_protocol::{FloatText, LineProtocolBuilder};

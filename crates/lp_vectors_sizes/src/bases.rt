@@ -18,7 +18,7 @@ fn series(alloc: Global, count: usize, first: usize, step: usize) -> Result<Stri
     Ok(text)
 }
 
-// The series has this base: `B` and its text where it is borrowed, `O` and its text where it is owned, or the fault.
+// The series has this base: `B` and its text if it is borrowed, `O` and its text if it is owned, or the fault.
 fn has_base(rt: &impl Abort, alloc: Global, series: &str, wanted: &str) -> Result<(), Fault> {
     let text = format!(in alloc; "{series} f=1i")?;
     let base = match rows::parsed(alloc, text.as_str())?
@@ -33,13 +33,13 @@ fn has_base(rt: &impl Abort, alloc: Global, series: &str, wanted: &str) -> Resul
     Ok(())
 }
 
-// A base as `has_base` shows it: borrowed where it is the text of the series.
+// A base as `has_base` shows it: borrowed if it is the text of the series.
 fn shown_base(alloc: Global, series: &str, base: &str) -> Result<String, AllocError> {
     let kind = if series == base { "B" } else { "O" };
     format!(in alloc; "{kind}<{base}>")
 }
 
-// Tags whose keys rise, fall or do neither have the base of those that rise. Where two keys come again, the first of these two is
+// Tags whose keys rise, fall or do neither have the base of those that rise. If two keys come again, the first of these two is
 // the fault.
 fn tags_have_bases(rt: &impl Abort, alloc: Global, count: usize) -> Result<(), Fault> {
     let base = series(alloc, count, 0, 1)?;
@@ -65,7 +65,7 @@ fn many_tags_have_a_base(rt: HostRuntime) -> Result<(), Fault> {
     Ok(())
 }
 
-// Series of long names have these bases, where their keys rise, where they fall, and where one comes again.
+// Series of long names have these bases, if their keys rise, if they fall, and if one comes again.
 fn names_have_bases(rt: &impl Abort, alloc: Global, longs: &[LongText]) -> Result<(), Fault> {
     for long in longs {
         let LongText {

@@ -33,7 +33,7 @@ impl<'a> Source for Lines<'a> {
     }
 }
 
-// What must come of a text: the lines that are written again, and the fault lines where they name items and where they name lines.
+// What must come of a text: the lines that are written again, and the fault lines if they name items and if they name lines.
 type Wanted<'a> = [&'a str; 3];
 
 // The text is rebuilt so, as a whole and by a run.

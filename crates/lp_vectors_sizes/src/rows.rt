@@ -6,7 +6,7 @@ use lp_vectors_shared::fault::Fault;
 use std::alloc::{AllocError, Global};
 use std::process::Abort;
 
-/// A text that repeats a part. It is made of texts that repeat it a thousand times: where nothing is optimized, to append a
+/// A text that repeats a part. It is made of texts that repeat it a thousand times: if nothing is optimized, to append a
 /// million parts one by one takes half a minute.
 pub fn repeated(alloc: Global, part: &str, count: usize) -> Result<String, AllocError> {
     let thousand = part.repeat(alloc, 1_000)?;
@@ -16,7 +16,7 @@ pub fn repeated(alloc: Global, part: &str, count: usize) -> Result<String, Alloc
     Ok(text)
 }
 
-/// The texts are the same. They are too long to be shown where they are not.
+/// The texts are the same. They are too long to be shown if they are not.
 pub fn assert_same(rt: &impl Abort, text: &[u8], wanted: &[u8]) {
     assert!(rt;
         text == wanted,
@@ -33,7 +33,7 @@ pub struct LongText {
     /// The text, as a name and a string are spelled.
     pub spelled: String,
     pub literal: String,
-    /// How `render` marks what is spelled so: `C` where reading copies it, else `S`.
+    /// How `render` marks what is spelled so: `C` if reading copies it, else `S`.
     pub mark: &'static str,
 }
 

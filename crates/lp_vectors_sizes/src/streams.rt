@@ -82,7 +82,7 @@ fn are_given(rt: &impl Abort, stream: &mut BoundedLineStream) {
     assert!(rt; stream.next().is_none());
 }
 
-// A long line is given, or where it is longer than lines may be, the fault with the number of its newlines. Then the short ones are.
+// A long line is given, or if it is longer than lines may be, the fault with the number of its newlines. Then the short ones are.
 fn are_given_within(rt: &impl Abort, alloc: Global, limit: usize) -> Result<(), Fault> {
     for (len, count) in ROWS {
         let newlines = len.saturating_mul(count);

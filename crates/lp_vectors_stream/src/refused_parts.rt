@@ -18,7 +18,7 @@ fn is_refused(alloc: Global, stream: &mut LineStream, part: &[u8]) -> Result<boo
     Ok(pushed.is_err())
 }
 
-// Whether the stream gives the pieces of the text in parts of five bytes, where the part at this place is refused at first.
+// Whether the stream gives the pieces of the text in parts of five bytes, if the part at this place is refused at first.
 // Without one, so many parts are there.
 fn gives_pieces(alloc: Global, place: usize) -> Result<bool, Fault> {
     let mut stream = LineStream::new(alloc);
@@ -66,8 +66,8 @@ fn is_short_refused(
     Ok(pushed.is_err())
 }
 
-// How many parts are refused at first of those before this place and after it, where each comes while all memory is taken.
-// `None` where the stream does not give the pieces of at most so many bytes, and faults in the place of the others.
+// How many parts are refused at first of those before this place and after it, if each comes while all memory is taken.
+// `None` if the stream does not give the pieces of at most so many bytes, and faults in the place of the others.
 fn refused_at(
     alloc: Global,
     dialect: Dialect,

@@ -50,7 +50,7 @@ fn newlines_in(bytes: &[u8]) -> usize {
     bytes.iter().filter(|byte| **byte == b'\n').count()
 }
 
-// Whether this is the next piece, or where it has more bytes than the limit a fault with the number of its newlines.
+// Whether this is the next piece, or if it has more bytes than the limit a fault with the number of its newlines.
 fn is_answer(
     answer: Result<&[u8], PieceTooLong>,
     limit: usize,

@@ -156,7 +156,7 @@ fn line_of_each_value(alloc: Global, name: &str) -> Result<Vec<u8>, Fault> {
     Ok(lines.build())
 }
 
-// Each name reads back where it is all names of a line with each kind of value: the measurement and the keys so.
+// Each name reads back if it is all names of a line with each kind of value: the measurement and the keys so.
 fn read_back_with_each_value(
     rt: &impl Abort,
     alloc: Global,

@@ -29,7 +29,7 @@ struct CutText<'a> {
 }
 
 impl<'a> CutText<'a> {
-    // Relays it, where each device fails at its call, and at none where that is 0.
+    // Relays it, if each device fails at its call, and at none if that is 0.
     fn relayed(self, alloc: Global, reader_at: usize, out_at: usize, err_at: usize) -> Ended {
         let mut reader = CutSource::new(self.text.as_bytes(), self.cuts, reader_at);
         relayed_into(alloc, self.dialect, &mut reader, out_at, err_at)
@@ -58,7 +58,7 @@ impl<'a> CutText<'a> {
     }
 }
 
-// Where the read after so many parts fails, the lines that have ended in them are written.
+// If the read after so many parts fails, the lines that have ended in them are written.
 fn writes_ended_lines(
     rt: &impl Abort,
     alloc: Global,
@@ -121,7 +121,7 @@ fn where_a_read_fails_the_lines_that_ended_before_are_written(
     fails_each_read_of_texts(&rt, rt.alloc(), Dialect::Strict)
 }
 
-// Where a write or a flush fails at this call, each sink holds a beginning.
+// If a write or a flush fails at this call, each sink holds a beginning.
 fn writes_beginnings(
     rt: &impl Abort,
     alloc: Global,

@@ -16,7 +16,7 @@ const OUT: &[u8] = b"m a=true 5\n";
 const ERR: &[u8] =
     b"item 2: A generic parsing error occurred: TakeWhile1\nitem 3: a name cannot be written again\n";
 
-// Runs over the text, where each device fails at its call, and at none where that is 0.
+// Runs over the text, if each device fails at its call, and at none if that is 0.
 fn run_with(alloc: Global, reader_at: usize, out_at: usize, err_at: usize) -> Ended {
     let mut reader = Trickle::new(TEXT, reader_at);
     run_into(alloc, &mut reader, out_at, err_at)
@@ -92,7 +92,7 @@ fn run_to<W: Write + Drop, E: Write + Drop>(alloc: Global, out: W, err: E) -> Op
     run(alloc, &mut reader, &mut out, &mut err).err()
 }
 
-// A run over the text ends so where the output and the faults are taken or not, with so many writes and flushes of each.
+// A run over the text ends so if the output and the faults are taken or not, with so many writes and flushes of each.
 fn ends_so(
     rt: &impl Abort,
     alloc: Global,
@@ -175,7 +175,7 @@ fn a_flush_that_fails_is_a_failed_write(rt: HostRuntime) {
     is_failed_write(&rt, relay_with_stuck_faults(rt.alloc()), OUT);
 }
 
-// A reader of std that gives so many bytes at each call, and fails at one where that is `None`. After these it is at its end.
+// A reader of std that gives so many bytes at each call, and fails at one if that is `None`. After these it is at its end.
 #[derive(Drop)]
 struct Stepped<'a> {
     left: &'a [u8],

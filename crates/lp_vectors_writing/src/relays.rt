@@ -44,7 +44,7 @@ impl<'a> Source for Cut<'a> {
     }
 }
 
-// The text is relayed as it is rebuilt, where it is cut there into two reads.
+// The text is relayed as it is rebuilt, if it is cut there into two reads.
 fn is_relayed_as_rebuilt(
     rt: &impl Abort,
     alloc: Global,
@@ -217,7 +217,7 @@ fn what_each_read_completes_is_written_before_the_next_one(
     Ok(())
 }
 
-// Relays the text, where each device fails at its call, and at none where that is 0.
+// Relays the text, if each device fails at its call, and at none if that is 0.
 fn relay_with(alloc: Global, reader_at: usize, out_at: usize, err_at: usize) -> Ended {
     let mut reader = Trickle::new(TEXT, reader_at);
     relayed_into(alloc, Dialect::Crate, &mut reader, out_at, err_at)

@@ -110,7 +110,7 @@ impl Ended {
     }
 }
 
-/// Relays what a source gives into basins that fail at these calls, and at none where that is 0.
+/// Relays what a source gives into basins that fail at these calls, and at none if that is 0.
 pub fn relayed_into<R: Source>(
     alloc: Global,
     dialect: Dialect,
@@ -150,7 +150,7 @@ pub fn run_over<R: Source>(alloc: Global, reader: &mut R) -> Ran {
     Ran { answer, out, err }
 }
 
-/// The same into basins that fail at these calls, and at none where that is 0.
+/// The same into basins that fail at these calls, and at none if that is 0.
 pub fn run_into<R: Source>(alloc: Global, reader: &mut R, out_at: usize, err_at: usize) -> Ended {
     let mut out = Basin::new(out_at);
     let mut err = Basin::new(err_at);

@@ -1,4 +1,4 @@
-//! Values at the start of a text, where they are as the builder writes them.
+//! Values at the start of a text, if they are as the builder writes them.
 
 ghost use Rattle.std.specs.Prelude.{◌≡◌, ◌≢◌, ◌<◌, IsCharBoundary, codes, drop, length, slice_index, take};
 ghost use Rattle.lp_format.specs.format.Bytes.{letter_i, letter_u, quote};
@@ -92,7 +92,7 @@ fn after_number(text: &str, whole: usize) -> Option<&str>
     after_float(text, whole)
 }
 
-// What follows the word for a Boolean at the start of `text`, where neither a number nor a string is.
+// What follows the word for a Boolean at the start of `text`, if neither a number nor a string is.
 #[inline(always)]
 fn after_word(text: &str) -> Option<&str>
     requires no_number { integer_len text.now ≡ 0 }
@@ -105,7 +105,7 @@ fn after_word(text: &str) -> Option<&str>
     text.strip_prefix("false")
 }
 
-/// What follows the value at the start of `text`, where that is as the builder writes it.
+/// What follows the value at the start of `text`, if that is as the builder writes it.
 #[inline(always)]
 pub(crate) fn after_value(text: &str) -> Option<&str>
     ensures { IsOnlyRest (IsWrittenValue text.now) EndsValue result }

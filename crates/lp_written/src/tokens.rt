@@ -68,7 +68,7 @@ fn is_admitted_spelling(kind: NameKind, spelled: &[u8]) -> bool
     !(matches!(kind, NameKind::Measurement) && spelled[0] == b'#')
 }
 
-/// What follows the name at the start of `text`, where that is spelled as the builder spells it, and is admitted.
+/// What follows the name at the start of `text`, if that is spelled as the builder spells it, and is admitted.
 #[inline(always)]
 pub(crate) fn after_name(kind: NameKind, text: &str) -> Option<&str>
     ensures { IsOnlyRest (IsWrittenName (kind_of kind) text.now) (EndsName (kind_of kind)) result }
@@ -82,7 +82,7 @@ pub(crate) fn after_name(kind: NameKind, text: &str) -> Option<&str>
     }
 }
 
-/// What follows the string at the start of `text`, where that is spelled as the builder spells it.
+/// What follows the string at the start of `text`, if that is spelled as the builder spells it.
 #[inline(always)]
 pub(crate) fn after_string(text: &str) -> Option<&str>
     ensures { IsOnlyRest (IsWrittenString text.now) (λ rest. Unit) result }

@@ -12,7 +12,7 @@ use lp_values::literals::integer_len;
 use lp_values::names::NameKind;
 use lp_values::trim::strip_byte;
 
-// What follows the tag at the start of `text`, where that is as the builder writes it.
+// What follows the tag at the start of `text`, if that is as the builder writes it.
 #[inline(always)]
 fn after_tag(text: &str) -> Option<&str>
     ensures { IsOnlyRest (IsWrittenTag text.now) (EndsName a_tag_value) result }
@@ -26,7 +26,7 @@ fn after_tag(text: &str) -> Option<&str>
     after_name(NameKind::TagValue, value)
 }
 
-// What follows the field at the start of `text`, where that is as the builder writes it.
+// What follows the field at the start of `text`, if that is as the builder writes it.
 #[inline(always)]
 fn after_field(text: &str) -> Option<&str>
     ensures { IsOnlyRest (IsWrittenField text.now) EndsValue result }

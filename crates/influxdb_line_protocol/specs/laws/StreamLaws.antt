@@ -63,6 +63,6 @@ StreamsAnswerAll =
     (dialect : Dialect) (given : List ℕ) (pieces : List (List ℕ)) (held : List ℕ) (answers : List (Result Line Fault))
     → Run dialect given pieces held → HaveAnswers dialect (pieces ++ held ∷ []) answers → HasAnswers dialect given answers
 
--- Bytes are UTF-8 exactly where those before a newline are, and those after it.
+-- Bytes are UTF-8 exactly if those before a newline are, and those after it.
 abbrev pub Utf8ByPieces : Type 0
 Utf8ByPieces = (u t : List ℕ) → IsUtf8 (u ++ newline ∷ t) ↔ (IsUtf8 u × IsUtf8 t)

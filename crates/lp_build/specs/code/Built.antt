@@ -25,12 +25,12 @@ pub record Writes {B S T : Type 0} (bytes : B → List ℕ) (room : B → ℕ) (
   pub unchanged : IfErr result (λ r. bytes (buffer_of r.builder) ≡ bytes before)
   -- it leaves no less room
   pub kept : IfErr result (λ r. room before ≤ room (buffer_of r.builder))
-  -- a text is too long exactly where no `usize` holds its length, and then no call is accepted
+  -- a text is too long exactly if no `usize` holds its length, and then no call is accepted
   pub too_long :
       MatchResult result (λ _. length text < 2 ^ 64) (λ r. (r.cause ≡ TooLong) ↔ (2 ^ 64 ≤ length text))
   -- any other refusal is for lack of room
   pub refused : IfErr result (λ r. r.cause ≢ TooLong → room before < length text)
   -- and its cause is one that the buffer gives
   pub cause : IfErr result (λ r. r.cause ≢ TooLong → refuses r.cause)
-  -- where the room suffices and a `usize` holds the length, the call is accepted
+  -- if the room suffices and a `usize` holds the length, the call is accepted
   pub succeeds : length text ≤ room before → length text < 2 ^ 64 → IsOk result

@@ -46,7 +46,7 @@ parts_text p =
 abbrev pub IsPlainTag : EscapedStr × EscapedStr → Type 0
 IsPlainTag t = IsPlainText (escapable a_tag_key) (text_of t.0) × IsPlainText (escapable a_tag_value) (text_of t.1)
 
--- the text between the quotes of a value, and none where it has no quotes
+-- the text between the quotes of a value, and none if it has no quotes
 abbrev pub quoted_text : FieldValue → List ℕ
 quoted_text (String t) = text_of t
 quoted_text other = []

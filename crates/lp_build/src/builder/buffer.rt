@@ -35,7 +35,7 @@ pub trait BufMut: Drop {
     ///
     /// # Errors
     ///
-    /// Where the room was less than `n` and no more could be had: by a cause of the buffer's own,
+    /// If the room was less than `n` and no more could be had: by a cause of the buffer's own,
     /// never `TooLong`.
     fn reserve(&mut self, n: usize) -> Result<(), NoRoom>
         ensures bytes { bytes self.new ≡ bytes self.old }
@@ -75,7 +75,7 @@ impl<A: Allocator> BufMut for Vec<u8, A> {
     }
 }
 
-/// An `ArrayVec` never grows, and is full exactly where it has less room than is asked for.
+/// An `ArrayVec` never grows, and is full exactly if it has less room than is asked for.
 impl<const CAP: usize> BufMut for ArrayVec<u8, CAP> {
     ghost bytes = { λ v. v.items };
 

@@ -97,9 +97,9 @@ fn are_fields_admitted(fields: &[(EscapedStr<'_>, values::FieldValue<'_>)]) -> b
         .all(|(key, _)| is_admitted_name(NameKind::FieldKey, key))
 }
 
-/// Whether a line reads back where it is written again: whether each of its names is admitted.
+/// Whether a line reads back if it is written again: whether each of its names is admitted.
 ///
-/// A name is admitted where it is not empty, holds no tab and no newline, and does not end in a
+/// A name is admitted if it is not empty, holds no tab and no newline, and does not end in a
 /// backslash; a measurement, besides, holds no NUL and does not begin with `#`. It takes no memory.
 #[tactic(auto, using(crate::proofs::lemmas::builder::WrittenAgainLemmas::sets), unfolding(lp_format::specs::format::Points::is_admitted_point))]
 pub fn is_admitted(line: &ParsedLine<'_>) -> bool
@@ -144,7 +144,7 @@ impl FieldValue for ReadValue<'_, '_> {
     }
 }
 
-// The length of a tag with the comma before it, where a `usize` holds it, and whether it gets no backslash.
+// The length of a tag with the comma before it, if a `usize` holds it, and whether it gets no backslash.
 fn measure_tag(tag: &(EscapedStr<'_>, EscapedStr<'_>)) -> Option<Extent>
     ensures len { SomeIff (option_map (λ m. m.len) result) (length (tag_text tag.now) < 2 ^ 64) (length (tag_text tag.now)) }
     ensures plain { IfSome result (λ m. m.is_plain ≡ true → IsPlainTag tag.now) }
@@ -157,7 +157,7 @@ fn measure_tag(tag: &(EscapedStr<'_>, EscapedStr<'_>)) -> Option<Extent>
     })
 }
 
-// The length of the tags, each with its comma, where a `usize` holds it, and whether none gets a backslash.
+// The length of the tags, each with its comma, if a `usize` holds it, and whether none gets a backslash.
 fn measure_tags(tags: &[(EscapedStr<'_>, EscapedStr<'_>)]) -> Option<Extent>
     ensures len { let text = flat_map tag_text tags.now in
         SomeIff (option_map (λ m. m.len) result) (length text < 2 ^ 64) (length text) }
@@ -190,7 +190,7 @@ fn put_tags<B: BufMut>(buf: &mut B, is_plain: bool, tags: &[(EscapedStr<'_>, Esc
     }
 }
 
-// The length of a field with the byte before it, where a `usize` holds it, and whether it gets no backslash.
+// The length of a field with the byte before it, if a `usize` holds it, and whether it gets no backslash.
 fn measure_field(field: &(EscapedStr<'_>, values::FieldValue<'_>)) -> Option<Extent>
     ensures len { let text = space ∷ field_text (text_of field.now.0) (value_text field.now.1) in
         SomeIff (option_map (λ m. m.len) result) (length text < 2 ^ 64) (length text) }
@@ -215,7 +215,7 @@ fn plain_extent(len: Option<usize>) -> Option<Extent>
     })
 }
 
-// The length of a value's text, where a `usize` holds it, and whether it gets no backslash.
+// The length of a value's text, if a `usize` holds it, and whether it gets no backslash.
 #[inline(always)]
 #[tactic(auto, using(crate::proofs::lemmas::builder::BuilderLemmas::escaped_nothing))]
 fn measure_value(value: &values::FieldValue<'_>) -> Option<Extent>
@@ -237,7 +237,7 @@ fn measure_value(value: &values::FieldValue<'_>) -> Option<Extent>
     }
 }
 
-// The length of the fields, each with the byte before it, where a `usize` holds it, and whether none gets a backslash.
+// The length of the fields, each with the byte before it, if a `usize` holds it, and whether none gets a backslash.
 #[tactic(auto, using(crate::proofs::lemmas::builder::WrittenAgainLemmas::length_fields_after))]
 fn measure_fields(fields: &[(EscapedStr<'_>, values::FieldValue<'_>)]) -> Option<Extent>
     ensures len { let text = fields_text space fields.now in
@@ -273,7 +273,7 @@ fn put_fields<B: BufMut>(
     }
 }
 
-// The length of the timestamp with the space before it: 0, where there is none.
+// The length of the timestamp with the space before it: 0, if there is none.
 fn timestamp_len(timestamp: Option<i64>) -> usize
     ensures value { result ≡ length (built_timestamp timestamp) }
     ensures few { result ≤ 21 }
@@ -285,7 +285,7 @@ fn timestamp_len(timestamp: Option<i64>) -> usize
     digits.format(timestamp).len() + 1
 }
 
-// Appends the timestamp, where there is one, with the space before it.
+// Appends the timestamp, if there is one, with the space before it.
 fn put_timestamp<B: BufMut>(buf: &mut B, timestamp: Option<i64>)
     requires { length (built_timestamp timestamp) ≤ B.room buf.old }
     ensures bytes { B.bytes buf.new ≡ B.bytes buf.old ++ built_timestamp timestamp }
@@ -320,7 +320,7 @@ impl<'l, 'a> Parts<'l, 'a> {
         }
     }
 
-    // The length of the line and its newline, where a `usize` holds it, and whether it gets no backslash.
+    // The length of the line and its newline, if a `usize` holds it, and whether it gets no backslash.
     #[tactic(auto, unfolding(crate::specs::code::WrittenAgain::parts_text))]
     fn measure(&self) -> Option<Extent>
         ensures len { let text = parts_text self.now in
@@ -340,7 +340,7 @@ impl<'l, 'a> Parts<'l, 'a> {
         Some(Extent { len, is_plain })
     }
 
-    // Appends the line and its newline. Its texts are not searched where they are known to get no backslash.
+    // Appends the line and its newline. Its texts are not searched if they are known to get no backslash.
     #[tactic(auto, unfolding(crate::specs::code::WrittenAgain::parts_text))]
     fn put<B: BufMut>(&self, buf: &mut B, is_plain: bool)
         requires plain { is_plain ≡ true → ArePlainParts self.now }
@@ -358,11 +358,11 @@ impl<'l, 'a> Parts<'l, 'a> {
 
 /// Appends a parsed line as the builder writes it, with its newline: the measurement, the tags, the
 /// fields and the timestamp by their logical texts. The line has at least one field, as each has
-/// that `parse_lines` gave. Where [`is_admitted`] holds, it reads back.
+/// that `parse_lines` gave. If [`is_admitted`] holds, it reads back.
 ///
 /// # Errors
 ///
-/// `TooLong` where no `usize` holds the length of the line, and else what the buffer answers where
+/// `TooLong` if no `usize` holds the length of the line, and else what the buffer answers if
 /// it has no room for the whole of it. The builder is then as before: no part of the line is written.
 pub fn write_line<B: BufMut>(
     builder: LineProtocolBuilder<B, BeforeMeasurement>,

@@ -120,7 +120,7 @@ fn put_marked<B: BufMut>(buf: &mut B, kind: TokenKind, plain: &[u8], byte: u8, a
     }
 }
 
-// Appends `text` with its backslashes, as a whole where it has none. It is not searched where it is known to have none.
+// Appends `text` with its backslashes, as a whole if it has none. It is not searched if it is known to have none.
 #[inline(always)]
 pub(super) fn put_escaped<B: BufMut>(buf: &mut B, kind: TokenKind, is_plain: bool, text: &[u8])
     requires plain { is_plain ≡ true → IsPlainText (known_of kind) text.now }

@@ -17,7 +17,7 @@ use lp_scan::sets::TokenKind;
 pub trait FieldValue: Drop {
     ghost text: { Self → List ℕ };
 
-    /// The length of the text, and `None` where no `usize` holds it.
+    /// The length of the text, and `None` if no `usize` holds it.
     fn fmt_len(&self) -> Option<usize>
         ensures { SomeIff result (length (text self.now) < 2 ^ 64) (length (text self.now)) };
 

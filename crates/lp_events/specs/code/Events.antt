@@ -52,7 +52,7 @@ pub record AreEventsOfText (dialect : Dialect) (text : List ℕ) (events : List 
   pub has : HasAnswers dialect text answers
   pub are : AreEventsOfAll events answers
 
--- a sink comes from one state to another where it takes these events, one after another
+-- a sink comes from one state to another if it takes these events, one after another
 abbrev pub TakesAll : {S : Type 0} → (S → Event → S → Type 0) → S → List Event → S → Type 0
 TakesAll takes before [] after = before ≡ after
 TakesAll {S} takes before (event ∷ events) after = (next : S) × takes before event next × TakesAll takes next events after
@@ -96,7 +96,7 @@ AreTags {A} (Ok rest) wanted parts =
     (set : Option (List A)) × (wanted ≡ Ok (record { value = set; rest = rest.now })) × (some_tags set ≡ parts)
 AreTags (Err e) wanted parts = wanted ≡ Err (spelled_fault e)
 
--- these are the events of the line that is the answer; or parts of a line, where the code returned the fault
+-- these are the events of the line that is the answer; or parts of a line, if the code returned the fault
 abbrev pub AreToldBefore : {X : Type 0} → Result X SpelledFault → Result Line Fault → List Event → Type 0
 AreToldBefore (Ok done) answer events = (line : Line) × (answer ≡ Ok line) × (events ≡ events_of_line line)
 AreToldBefore (Err e) answer events = (answer ≡ Err (spelled_fault e)) × AreFrontEvents events

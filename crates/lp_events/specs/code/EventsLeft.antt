@@ -113,7 +113,7 @@ most_of_line (Fields p) = length p.rest.now + 1
 abbrev pub most_events : ParseEvents → ℕ
 most_events reader = most_of_line reader.place + most_pieces reader.lines.text
 
--- a call gives the first of the events that are left and leaves the others; or `None` where none is left, and then none comes
+-- a call gives the first of the events that are left and leaves the others; or `None` if none is left, and then none comes
 abbrev pub GivesEvent : ParseEvents → Option given.Event → ParseEvents → Type 0
 GivesEvent before None after = HasEventsLeft before [] × HasEventsLeft after [] × (most_events after ≡ 0)
 GivesEvent before (Some event) after = (others : List Event) → HasEventsLeft after others → HasEventsLeft before (told event ∷ others)

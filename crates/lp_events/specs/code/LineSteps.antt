@@ -24,7 +24,7 @@ pub record HadBlankPieces (before : Left) : Type 0 where
   pub left : PiecesLeft before skipped
   pub blank : All IsBlankPiece skipped
 
--- the line of the first piece that is not blank is given, and the pieces after it are left; or `None` where only blank
+-- the line of the first piece that is not blank is given, and the pieces after it are left; or `None` if only blank
 -- pieces are left, and then none is left
 abbrev pub GivesLine : Left → Option (Bor (List ℕ)) → Left → Type 0
 GivesLine before None after = HadBlankPieces before × PiecesLeft after []

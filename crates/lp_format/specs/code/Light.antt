@@ -42,12 +42,12 @@ abbrev pub is_light_answer : List ℕ → Result Line Fault → Bool
 is_light_answer line (Ok l) = is_single_line l
 is_light_answer line (Err fault) = not (is_one_of line backslash) && carries_no_text fault
 
--- this many after what a reading reads, and none where it does not read
+-- this many after what a reading reads, and none if it does not read
 abbrev pub count_after : {A : Type 0} → Reading A → (List ℕ → ℕ) → ℕ
 count_after (reads x rest) count = count rest
 count_after other count = 0
 
--- one, and as many as are counted after it, or none where it does not read
+-- one, and as many as are counted after it, or none if it does not read
 abbrev pub one_and_after : {A : Type 0} → Reading A → (List ℕ → ℕ) → ℕ
 one_and_after (reads x rest) count = suc (count rest)
 one_and_after other count = 0
@@ -65,7 +65,7 @@ read_count one line = one_and_after (one line) (λ rest. many_count (after_comma
 unfoldable pub tags_in : List ℕ → ℕ
 tags_in line = count_after (name a_measurement line) (λ rest. count_after (byte comma rest) (λ after. read_count tag after))
 
--- this many after a part, and none where it is at fault
+-- this many after a part, and none if it is at fault
 abbrev pub count_then : {A : Type 0} → Result (Read A) Fault → (List ℕ → ℕ) → ℕ
 count_then (Ok r) count = count r.rest
 count_then (Err fault) count = 0
@@ -77,7 +77,7 @@ fields_in line =
     count_then (tag_set rest) (λ after.
     count_after (byte space after) (λ some. read_count field (drop (spaces after) after))))
 
--- whether a trimmed text is answered without memory where there is room for so many tags and fields: no more are read,
+-- whether a trimmed text is answered without memory if there is room for so many tags and fields: no more are read,
 -- and the answer needs none
 unfoldable pub is_light_in : ℕ → ℕ → Dialect → List ℕ → Bool
 is_light_in tags fields dialect line =

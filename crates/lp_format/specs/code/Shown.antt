@@ -40,7 +40,7 @@ abbrev pub comma_before : ℕ → List ℕ
 comma_before zero = []
 comma_before (suc place) = comma ∷ []
 
--- a comma and the tags, where there is a tag set, and be it empty
+-- a comma and the tags, if there is a tag set, and be it empty
 abbrev pub shown_tags : Option (List (Pair Text Text)) → List ℕ
 shown_tags None = []
 shown_tags (Some tags) = comma ∷ join_by shown_tag (comma ∷ []) tags
@@ -49,12 +49,12 @@ shown_tags (Some tags) = comma ∷ join_by shown_tag (comma ∷ []) tags
 abbrev pub shown_series : Text → Option (List (Pair Text Text)) → List ℕ
 shown_series measurement tags = shown_name a_measurement measurement ++ shown_tags tags
 
--- a space and the fields, where there is one
+-- a space and the fields, if there is one
 abbrev pub shown_fields : List (Pair Text (Value Text)) → List ℕ
 shown_fields [] = []
 shown_fields (f ∷ fields) = space ∷ join_by shown_field (comma ∷ []) (f ∷ fields)
 
--- a space and the timestamp, where there is one
+-- a space and the timestamp, if there is one
 abbrev pub shown_timestamp : Option ℤ → List ℕ
 shown_timestamp None = []
 shown_timestamp (Some t) = space ∷ signed_decimal t

@@ -26,7 +26,7 @@ bare text = bare_after [] text
 abbrev pub is_bare_at : (ℕ → Bool) → List ℕ → ℕ → Bool
 is_bare_at passes text place = passes (slice_index text place) && not (is_escaped_after (take place text))
 
--- the first place of the text where a bare byte passes the test, or its length
+-- the first place of the text if a bare byte passes the test, or its length
 unfoldable pub first_bare : (ℕ → Bool) → List ℕ → ℕ
 first_bare passes text = position_or_len (is_bare_at passes text) (range_with_len 0 (length text))
 

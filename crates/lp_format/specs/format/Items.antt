@@ -8,7 +8,7 @@ use Rattle.lp_format.specs.format.Trimming.{trimmed}
 use Rattle.lp_format.specs.format.Pieces.{Pieces}
 use Rattle.lp_format.specs.format.Lines.{Line, answer, point_of}
 
--- the answer for a piece: none where nothing is left of it when it is trimmed
+-- the answer for a piece: none if nothing is left of it when it is trimmed
 unfoldable pub answers_of_piece : Dialect → List ℕ → List (Result Line Fault)
 answers_of_piece dialect piece = if length (trimmed piece) == 0 then [] else answer dialect (trimmed piece) ∷ []
 

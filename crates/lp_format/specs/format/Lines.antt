@@ -83,7 +83,7 @@ prepend xs miss = miss
 prepend xs (fatal e) = fatal e
 prepend xs (reads more rest) = reads (xs ++ more) rest
 
--- nothing where one does not read, and else that one and what is read after it
+-- nothing if one does not read, and else that one and what is read after it
 abbrev pub one_and_more : {A : Type 0} → Reading A → List ℕ → (List ℕ → Reading (List A)) → Reading (List A)
 one_and_more miss line more = reads [] line
 one_and_more (fatal e) line more = fatal e

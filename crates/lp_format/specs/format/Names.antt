@@ -8,7 +8,7 @@ use Rattle.lp_format.specs.format.Readings.{Text, Reading, miss, fatal, reads, e
 pub data NameKind : Type 0 where
   a_measurement a_tag_key a_tag_value a_field_key : NameKind
 
--- the bytes that end a name where they are bare
+-- the bytes that end a name if they are bare
 abbrev pub stops : NameKind → List ℕ
 stops a_measurement = space ∷ tab ∷ newline ∷ nul ∷ comma ∷ []
 stops a_tag_value = space ∷ tab ∷ newline ∷ comma ∷ []

@@ -29,7 +29,7 @@ IsLastPiece Crate piece = IsClosed piece ⊎ IsOpen piece
 IsLastPiece Strict piece =
     IsComment piece ⊎ ((begins_comment piece ≡ false) × (IsClosed piece ⊎ IsOpen piece))
 
--- the place of the newline that ends the first piece, or none where the text is one piece
+-- the place of the newline that ends the first piece, or none if the text is one piece
 abbrev pub IsFirstCut : Dialect → List ℕ → Option ℕ → Type 0
 IsFirstCut dialect text None = IsLastPiece dialect text
 IsFirstCut dialect text (Some i) =
@@ -54,7 +54,7 @@ PiecesOf dialect (Some text) pieces = Pieces dialect text pieces
 abbrev pub PiecesLeft : Left → List (List ℕ) → Type 0
 PiecesLeft left = PiecesOf left.dialect left.text
 
--- a call gives the first of the pieces that are left and leaves the others, or `None` where none is left
+-- a call gives the first of the pieces that are left and leaves the others, or `None` if none is left
 abbrev pub GivesPiece : Left → Option (Bor (List ℕ)) → Left → Type 0
 GivesPiece before None after = PiecesLeft before [] × PiecesLeft after []
 GivesPiece before (Some piece) after =

@@ -26,7 +26,7 @@ digits_len text = prefix_len is_ascii_digit text
 abbrev pub sign_len : List ℕ → List ℕ → ℕ
 sign_len signs text = if is_one_of signs (slice_index text 0) then 1 else 0
 
--- how many bytes a number takes at the start, with one of these signs or none, and 0 where none is there
+-- how many bytes a number takes at the start, with one of these signs or none, and 0 if none is there
 abbrev pub number_len : List ℕ → List ℕ → ℕ
 number_len signs text =
     let sign = sign_len signs text in
@@ -36,7 +36,7 @@ number_len signs text =
 abbrev pub integer_len : List ℕ → ℕ
 integer_len text = number_len (codes "-") text
 
--- how many bytes one of these marks takes with the part after it, and 0 where either is not there
+-- how many bytes one of these marks takes with the part after it, and 0 if either is not there
 abbrev pub marked_len : List ℕ → (List ℕ → ℕ) → List ℕ → ℕ
 marked_len marks part text =
     if is_one_of marks (slice_index text 0) && nat_lt 0 (part (drop 1 text)) then 1 + part (drop 1 text) else 0
@@ -49,7 +49,7 @@ fraction_len text = marked_len (codes ".") digits_len text
 abbrev pub exponent_len : List ℕ → ℕ
 exponent_len text = marked_len (codes "eE") (number_len (codes "+-")) text
 
--- how many bytes the longest front of the form -?D(.D)?([eE][+-]?D)? takes, and 0 where there is none
+-- how many bytes the longest front of the form -?D(.D)?([eE][+-]?D)? takes, and 0 if there is none
 abbrev pub float_len : List ℕ → ℕ
 float_len text =
     let whole = integer_len text in

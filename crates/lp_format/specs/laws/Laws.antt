@@ -61,7 +61,7 @@ NamesAreParsed =
     → HasAnswers dialect text answers → Contains answers (Ok line) → Contains (names_of kind (point_of line)) n
     → IsParsedName kind n
 
--- Each such name is a name of that kind in some line, and the text of that line is UTF-8 where the name is.
+-- Each such name is a name of that kind in some line, and the text of that line is UTF-8 if the name is.
 abbrev pub ParsedNamesAreInLines : Type 0
 ParsedNamesAreInLines =
     (dialect : Dialect) (kind : NameKind) (n : List ℕ) → IsParsedName kind n
@@ -88,7 +88,7 @@ PiecesAreTheText =
     (dialect : Dialect) (text : List ℕ) (pieces : List (List ℕ))
     → Pieces dialect text pieces → join_with_byte newline pieces ≡ text
 
--- A newline between two texts joins their pieces exactly where it may end the last piece of the first.
+-- A newline between two texts joins their pieces exactly if it may end the last piece of the first.
 abbrev pub PiecesJoin : Type 0
 PiecesJoin =
     (dialect : Dialect) (u t : List ℕ) (before : List (List ℕ)) (piece : List ℕ) (after : List (List ℕ))

@@ -47,7 +47,7 @@ pub record LongestList {A : Type 0} (one : List ℕ → Reading A) (text : List 
   pub separated : SeparatedBy one xs text rest
   pub most : (others : List A) (after : List ℕ) → SeparatedBy one others text after → length others ≤ length xs
 
--- one more has this fault: at the front where none is there, and else after a comma
+-- one more has this fault: at the front if none is there, and else after a comma
 abbrev pub NextHasFault : {A : Type 0} → (List ℕ → Reading A) → List A → List ℕ → Fault → Type 0
 NextHasFault one [] rest e = one rest ≡ fatal e
 NextHasFault one (x ∷ xs) rest e = (after : List ℕ) × (rest ≡ comma ∷ after) × (one after ≡ fatal e)
@@ -58,19 +58,19 @@ pub record WholeList {A : Type 0} (one : List ℕ → Reading A) (text : List �
   pub longest : LongestList one text xs rest
   pub no_fault : (e : Fault) → ¬ NextHasFault one xs rest e
 
--- Values are read exactly where they are the most that are at the start of the text, one or more, joined by commas,
+-- Values are read exactly if they are the most that are at the start of the text, one or more, joined by commas,
 -- and one more after them has no fault.
 abbrev pub TheMostIsRead : {A : Type 0} → (List ℕ → Reading A) → Type 0
 TheMostIsRead {A} one =
     (text : List ℕ) (xs : List A) (rest : List ℕ) → (separated_list one text ≡ reads xs rest) ↔ WholeList one text xs rest
 
--- A fault is given exactly where, after the most values that are at the start of the text, one more has that fault.
+-- A fault is given exactly if, after the most values that are at the start of the text, one more has that fault.
 abbrev pub TheNextHasTheFault : {A : Type 0} → (List ℕ → Reading A) → Type 0
 TheNextHasTheFault {A} one =
     (text : List ℕ) (e : Fault)
     → (separated_list one text ≡ fatal e) ↔ ((xs : List A) × (rest : List ℕ) × LongestList one text xs rest × NextHasFault one xs rest e)
 
--- Nothing is read, and no fault is given, exactly where the first value misses.
+-- Nothing is read, and no fault is given, exactly if the first value misses.
 abbrev pub TheFirstMisses : {A : Type 0} → (List ℕ → Reading A) → Type 0
 TheFirstMisses one = (text : List ℕ) → (separated_list one text ≡ miss) ↔ (one text ≡ miss)
 
@@ -111,13 +111,13 @@ abbrev pub IsAtStop : (ℕ → Bool) → List ℕ → List ℕ → Type 0
 IsAtStop passes front [] = Unit {0}
 IsAtStop passes front (b ∷ rest) = IsBareAfter front × (passes b ≡ true)
 
--- the front before the first bare byte that passes, or all where there is none
+-- the front before the first bare byte that passes, or all if there is none
 pub record IsBeforeStop (passes : ℕ → Bool) (front after : List ℕ) : Type 0 where
   pub none : All (λ b. passes b ≡ false) (bare front)
   pub at_stop : IsAtStop passes front after
 
 -- A front spells the name of a text exactly where it ends before the first bare byte that ends such a name, or is
--- the whole text where there is none.
+-- the whole text if there is none.
 abbrev pub NameEndsBeforeStop : Type 0
 NameEndsBeforeStop =
     (kind : NameKind) (front after : List ℕ)

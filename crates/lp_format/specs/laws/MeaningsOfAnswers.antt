@@ -20,7 +20,7 @@ BeginsWith b (c ∷ rest) = c ≡ b
 abbrev pub after_spaces : List ℕ → List ℕ
 after_spaces text = drop (spaces text) text
 
--- a measurement and its tags are read, and this is the rest; where no comma follows the measurement, there is no tag set
+-- a measurement and its tags are read, and this is the rest; if no comma follows the measurement, there is no tag set
 pub data ReadsSeries (text : List ℕ) : Text → Option (List (Pair Text Text)) → List ℕ → Type 0 where
   -- no comma follows the measurement
   alone : (m : Text) (rest : List ℕ) → name a_measurement text ≡ reads m rest → ¬ BeginsWith comma rest → ReadsSeries text m None rest

@@ -35,7 +35,7 @@ keys_of tags = map (λ t. t.key.bytes) tags
 abbrev pub is_repeated_at : List (List ℕ) → ℕ → Bool
 is_repeated_at keys place = list_any (bytes_eq (slice_index_or keys place [])) (take place keys)
 
--- the first place whose text is at an earlier place too, and the length where there is none
+-- the first place whose text is at an earlier place too, and the length if there is none
 unfoldable pub first_repeated : List (List ℕ) → ℕ
 first_repeated keys = position_or_len (is_repeated_at keys) (range_with_len 0 (length keys))
 
@@ -55,7 +55,7 @@ based_tag t = comma ∷ t.0 ++ equals ∷ t.1
 abbrev pub base_text : List ℕ → List (List ℕ × List ℕ) → List ℕ
 base_text measurement tags = measurement ++ flat_map based_tag tags
 
--- the base where the keys do not rise: by the order of the keys, unless one is repeated
+-- the base if the keys do not rise: by the order of the keys, unless one is repeated
 unfoldable pub base_by_key : List ℕ → List (Pair Text Text) → Base
 base_by_key measurement tags =
     if first_repeated (keys_of tags) == length tags then owned (base_text measurement (by_key tags))
@@ -95,7 +95,7 @@ FailsForBase (DuplicateTag key) base = base ≡ duplicate_key (string_bytes key)
 FailsForBase OutOfMemory base = Unit {0}
 FailsForBase e base = ⊥
 
--- what the code answered is this base, and borrowed exactly where that is a part of the input
+-- what the code answered is this base, and borrowed exactly if that is a part of the input
 abbrev pub GivesBase : {A : Type 0} → Result (CowStr A) Error → Base → Type 0
 GivesBase (Ok (Borrowed text)) base = base ≡ borrowed text.now
 GivesBase (Ok (Owned text)) base = base ≡ owned (string_bytes text)

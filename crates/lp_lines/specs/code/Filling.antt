@@ -79,7 +79,7 @@ pub record KeepsRooms (old new : ParsedLine) : Type 0 where
   pub tags : tag_room old ≤ tag_room new
   pub fields : field_room old ≤ field_room new
 
--- a line is filled by an event, unless memory was refused, now or before; it is refused only where the event needs some
+-- a line is filled by an event, unless memory was refused, now or before; it is refused only if the event needs some
 pub record FillsBy (old : Filling) (event : Event) (new : Filling) : Type 0 where
   pub same : new.line.ghost_name ≡ old.line.ghost_name
   pub rooms : KeepsRooms old.line.now new.line.now

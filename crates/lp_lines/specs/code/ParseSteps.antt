@@ -13,7 +13,7 @@ use Rattle.lp_values.specs.code.Outcomes.{IsNotOutOfMemory}
 use Rattle.lp_lines.specs.code.Parsed.{Answers}
 use Rattle.lp_format.specs.format.Lines.{answer}
 
--- a line that was read has at least one tag, where it has a tag set
+-- a line that was read has at least one tag, if it has a tag set
 abbrev pub HasNoEmptyTagSet : Result ParsedLine Error → Type 0
 HasNoEmptyTagSet item = IfOk item (λ line. IfSome line.series.tag_set (λ tags. 0 < length tags.items))
 
@@ -21,7 +21,7 @@ HasNoEmptyTagSet item = IfOk item (λ line. IfSome line.series.tag_set (λ tags.
 abbrev pub CanCountColumns : Result ParsedLine Error → Type 0
 CanCountColumns item = IfOk item (λ line. columns line < 2 ^ 64)
 
--- the item is the answer for a trimmed text, or `OutOfMemory` in its place, but never where the text is light; the tag
+-- the item is the answer for a trimmed text, or `OutOfMemory` in its place, but never if the text is light; the tag
 -- set of a line that was read is not empty, and its columns can be counted
 pub record IsItemOf (dialect : Dialect) (line : List ℕ) (item : Result ParsedLine Error) : Type 0 where
   pub answers : Answers item (answer dialect line)
@@ -39,7 +39,7 @@ pub record GaveItem (before : Left) (item : Result ParsedLine Error) (others : L
   pub item_is : IsItemOf before.dialect (trimmed piece) item
 
 -- a call gives the item of the first piece that is not blank and leaves the pieces after it, whatever the item is;
--- or `None` where only blank pieces are left, and then none is left
+-- or `None` if only blank pieces are left, and then none is left
 abbrev pub GivesItem : Left → Option (Result ParsedLine Error) → Left → Type 0
 GivesItem before None after = HadBlankPieces before × PiecesLeft after []
 GivesItem before (Some item) after =

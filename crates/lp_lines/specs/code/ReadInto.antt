@@ -17,27 +17,27 @@ pub record IsEmptyLine (line : ParsedLine) : Type 0 where
   pub fields : line.field_set.items ≡ []
   pub timestamp : line.timestamp ≡ None
 
--- the item that an answer is, where a line that was read is in this one
+-- the item that an answer is, if a line that was read is in this one
 abbrev pub item_in : {X : Type 0} → ParsedLine → Result X Error → Result ParsedLine Error
 item_in line (Ok done) = Ok line
 item_in line (Err e) = Err e
 
--- where the answer is a fault, the line is empty
+-- if the answer is a fault, the line is empty
 abbrev pub LeavesEmpty : {X : Type 0} → ParsedLine → Option (Result X Error) → Type 0
 LeavesEmpty line answer = IfSome answer (λ r. OnErr r (IsEmptyLine line))
 
--- the tag set of the new line, where it has one, has at least the room of the old line's
+-- the tag set of the new line, if it has one, has at least the room of the old line's
 abbrev pub KeepsTagRoom : ParsedLine → ParsedLine → Type 0
 KeepsTagRoom old new = IfSome new.series.tag_set (λ tags. room_of old.series.tag_set ≤ tags.capacity)
 
 -- the line of the first piece that is not blank was read into sets with room for so many tags and fields: it is not
--- answered with `OutOfMemory` where none is needed in that room
+-- answered with `OutOfMemory` if none is needed in that room
 pub record GaveInRoom {X : Type 0} (tags fields : ℕ) (before : Left) (answer : Result X Error) (others : List (List ℕ)) : Type 0 where
   pub line : List ℕ
   pub gave : GaveLine before line others
   pub light : is_light_in tags fields before.dialect line ≡ true → IsNotOutOfMemory answer
 
--- so it is with a call, where it answers
+-- so it is with a call, if it answers
 abbrev pub GivesInRoom : {X : Type 0} → ℕ → ℕ → Left → Option (Result X Error) → Left → Type 0
 GivesInRoom tags fields before None after = Unit {0}
 GivesInRoom tags fields before (Some answer) after =

@@ -59,7 +59,7 @@ pub record IsSameSeries (measurement other : Text) (tags others : List (Pair Tex
   pub measurement_is : measurement.bytes ≡ other.bytes
   pub tags_are : IsPermutation (in_order tags) (in_order others)
 
--- the text of a base, and none where there is no base
+-- the text of a base, and none if there is no base
 abbrev pub base_bytes : Base → Option (List ℕ)
 base_bytes (borrowed text) = Some text
 base_bytes (owned text) = Some text
@@ -71,14 +71,14 @@ ClearSeriesHaveBases =
     (raw : List ℕ) (measurement : Text) (tags : List (Pair Text Text))
     → IsClearSeries raw measurement tags → is_some (base_bytes (base_of raw measurement tags)) ≡ true
 
--- The bases of clear series are equal where the measurements and the sets of tags are.
+-- The bases of clear series are equal if the measurements and the sets of tags are.
 abbrev pub SameSeriesHaveOneBase : Type 0
 SameSeriesHaveOneBase =
     (raw text : List ℕ) (measurement other : Text) (tags others : List (Pair Text Text))
     → IsClearSeries raw measurement tags → IsClearSeries text other others → IsSameSeries measurement other tags others
     → base_bytes (base_of raw measurement tags) ≡ base_bytes (base_of text other others)
 
--- They are equal only there, where no measurement or value holds a comma and no key an `=`.
+-- They are equal only there, if no measurement or value holds a comma and no key an `=`.
 abbrev pub OneBaseIsOneSeries : Type 0
 OneBaseIsOneSeries =
     (raw text : List ℕ) (measurement other : Text) (tags others : List (Pair Text Text))
@@ -119,7 +119,7 @@ ReadSeriesAreParsed =
 abbrev pub entry_keys : List (List ℕ × List ℕ) → List (List ℕ)
 entry_keys entries = map (λ e. e.0) entries
 
--- Where no key repeats, the tags by their keys are the one list of the same tags whose keys rise.
+-- If no key repeats, the tags by their keys are the one list of the same tags whose keys rise.
 abbrev pub TagsByKeyAreSorted : Type 0
 TagsByKeyAreSorted =
     (tags : List (Pair Text Text)) (entries : List (List ℕ × List ℕ)) → first_repeated (keys_of tags) ≡ length tags

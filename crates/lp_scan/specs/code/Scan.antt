@@ -16,13 +16,13 @@ TellsEscaped backslashes mask =
     (text : List ℕ) (at : ℕ) → at + 64 ≤ length text → IsBareAfter (take at text) → backslashes ≡ mask_of (λ b. b == backslash) text at 64
     → mask ≡ mask_at (λ k. is_escaped_after (take k text)) at 64
 
--- of any such bytes, where the marks among them have a mask, the bare marks have another
+-- of any such bytes, if the marks among them have a mask, the bare marks have another
 abbrev pub TellsBare : ℕ → ℕ → ℕ → Type 0
 TellsBare marks backslashes mask =
     (test : ℕ → Bool) (text : List ℕ) (at : ℕ) → at + 64 ≤ length text → IsBareAfter (take at text)
     → backslashes ≡ mask_of (λ b. b == backslash) text at 64 → marks ≡ mask_of test text at 64 → mask ≡ mask_at (is_bare_at test text) at 64
 
--- of any such bytes, so many bytes after them are escaped: one where the last of them is a bare backslash
+-- of any such bytes, so many bytes after them are escaped: one if the last of them is a bare backslash
 abbrev pub TellsEscapesNext : ℕ → ℕ → Type 0
 TellsEscapesNext backslashes n =
     (text : List ℕ) (at : ℕ) → at + 64 ≤ length text → IsBareAfter (take at text) → backslashes ≡ mask_of (λ b. b == backslash) text at 64

@@ -6,7 +6,7 @@ use Rattle.lp_format.specs.format.Bytes.{quote, backslash, is_one_of}
 use Rattle.lp_format.specs.format.Names.{a_measurement, a_tag_key, a_tag_value, a_field_key, is_stop, escapable}
 use Rattle.lp_format.specs.format.Values.{quotable}
 
--- whether a byte ends a token of this kind where it is bare
+-- whether a byte ends a token of this kind if it is bare
 abbrev pub stops_of : TokenKind → ℕ → Bool
 stops_of Measurement = λ b. is_stop a_measurement b
 stops_of TagKey = λ b. is_stop a_tag_key b
@@ -30,6 +30,6 @@ is_end stops b = stops b || b == backslash
 abbrev pub is_plain : (ℕ → Bool) → ℕ → Bool
 is_plain stops b = not (is_end stops b)
 
--- whether a byte ends a token of this kind where it is bare, or gets a backslash in it
+-- whether a byte ends a token of this kind if it is bare, or gets a backslash in it
 abbrev pub is_mark : TokenKind → ℕ → Bool
 is_mark kind b = stops_of kind b || is_one_of (known_of kind) b

@@ -55,7 +55,7 @@ abbrev pub KeepsRules : HeldWithin → HeldWithin → Type 0
 KeepsRules before after = (after.held.dialect ≡ before.held.dialect) × (after.limit ≡ before.limit)
 
 -- of a text that the stream holds, a call gives the first piece that a newline ends, or in its place a fault where it is
--- too long, which has the number of its newlines; where it gives none, no more bytes are kept than a piece may have
+-- too long, which has the number of its newlines; if it gives none, no more bytes are kept than a piece may have
 abbrev pub GivesOf : HeldWithin → List ℕ → Option (Result (Bor (List ℕ)) PieceTooLong) → HeldWithin → Type 0
 GivesOf before text None after = Holds after text × IsLastPiece before.held.dialect text × (kept after ≤ before.limit)
 GivesOf before text (Some (Ok piece)) after =
@@ -64,7 +64,7 @@ GivesOf before text (Some (Err fault)) after =
     (piece rest : List ℕ) × IsTooLong before.limit piece × CutsTo before.held.dialect text piece rest × Holds after rest
     × (fault.newlines ≡ newlines_in piece)
 
--- a call finds the first cut, or takes the first piece where it is too long
+-- a call finds the first cut, or takes the first piece if it is too long
 abbrev pub FindsWithin : HeldWithin → Option (Result Mark PieceTooLong) → HeldWithin → Type 0
 FindsWithin before None after = (text : List ℕ) → Holds before text → GivesOf before text None after
 FindsWithin before (Some (Ok cut)) after =

@@ -30,7 +30,7 @@ EndsAsLast stream result = Rests the_row stream (GivesLast stream.now result.now
 abbrev pub EndsAsLastText : {E : Type 0} → MutBor LineStream → Result (Bor (List ℕ)) E → Fml
 EndsAsLastText stream result = Rests the_row stream (GivesLastText stream.now result)
 
--- it gave a piece or a fault, where pieces have a greatest length
+-- it gave a piece or a fault, if pieces have a greatest length
 abbrev pub EndsWithin : MutBor BoundedLineStream → Option (Result (Bor (List ℕ)) PieceTooLong) → Fml
 EndsWithin stream result = Rests bounded_row stream (GivesWithin stream.now result)
 

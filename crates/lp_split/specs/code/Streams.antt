@@ -25,7 +25,7 @@ pub record TakesPiece (before : Held) (piece : List ℕ) (after : Held) : Type 0
 abbrev pub TakesNothing : Held → Held → Type 0
 TakesNothing before after = (after ≡ before) × IsLastPiece before.dialect before.bytes
 
--- a call gives the first piece, or `None` where no newline that came yet ends it
+-- a call gives the first piece, or `None` if no newline that came yet ends it
 abbrev pub GivesCut : Held → Option (Bor (List ℕ)) → Held → Type 0
 GivesCut before None after = TakesNothing before after
 GivesCut before (Some piece) after = TakesPiece before piece.now after

@@ -1,7 +1,7 @@
 //! A search for the first cut that goes on as bytes come.
 //!
-//! At first the splitter's own search looks for the cut. Where the text is one piece, the cut waits for a newline: once one
-//! has come, that search looks again, and where it finds no cut, the bytes are tracked, and the track is kept. So however the
+//! At first the splitter's own search looks for the cut. If the text is one piece, the cut waits for a newline: once one
+//! has come, that search looks again, and if it finds no cut, the bytes are tracked, and the track is kept. So however the
 //! bytes come, each is searched a few times at most.
 
 ghost use Rattle.std.specs.Prelude.{◌≡◌, ◌≢◌, ◌≤◌, true, false, length, take};
@@ -61,7 +61,7 @@ pub(super) fn cut_from(text: &[u8], at: usize, track: Track) -> Result<Mark, Sea
     }
 }
 
-/// The place of the newline that ends the first piece, by what is known of the text; or what is known now, where the text
+/// The place of the newline that ends the first piece, by what is known of the text; or what is known now, if the text
 /// is one piece.
 pub(crate) fn search_on(dialect: Dialect, text: &[u8], known: Search) -> Result<Mark, Search>
     requires { IsKnown (rules_of dialect) text.now known }

@@ -80,7 +80,7 @@ fn after_plain(place: Place, byte: u8) -> Option<Place>
     }
 }
 
-// The same of a quoted stretch, where no byte ends the piece.
+// The same of a quoted stretch, if no byte ends the piece.
 fn after_quoted(place: Place, byte: u8) -> Place
     requires quoted { place.part ≡ Part.Quoted }
     requires is_bare { place.is_escaped ≡ false }

@@ -78,7 +78,7 @@ impl BoundedLineStream {
 
     /// Takes the next part of the text.
     ///
-    /// Where memory was refused, nothing is lost, and the same part can be given again. It is also refused where no `usize`
+    /// If memory was refused, nothing is lost, and the same part can be given again. It is also refused if no `usize`
     /// may hold how many newlines, equal signs or commas a piece has that is too long.
     pub fn push(&mut self, part: &[u8]) -> Result<(), AllocError>
         ensures rules { KeepsRules self.old self.new }
@@ -106,7 +106,7 @@ impl BoundedLineStream {
         Ok(())
     }
 
-    // Lets what is held go, where that is more than a piece may have.
+    // Lets what is held go, if that is more than a piece may have.
     fn let_go(&mut self)
         requires nothing { self.old.skipped ≡ Skipped.Nothing }
         requires is_last { IsLastPiece self.old.held.dialect self.old.held.bytes }
@@ -125,7 +125,7 @@ impl BoundedLineStream {
         }
     }
 
-    // The cut of the first piece, or a fault where that is too long and was taken, or `None` until its newline has come.
+    // The cut of the first piece, or a fault if that is too long and was taken, or `None` until its newline has come.
     fn first(&mut self) -> Option<Result<Mark, PieceTooLong>>
         ensures rules { KeepsRules self.old self.new }
         ensures few { kept self.new ≤ kept self.old }
@@ -153,7 +153,7 @@ impl BoundedLineStream {
         }
     }
 
-    /// The first piece that a newline ends, or a fault in its place where it is too long, or `None` until that newline has
+    /// The first piece that a newline ends, or a fault in its place if it is too long, or `None` until that newline has
     /// come.
     pub fn next(&mut self) -> Option<Result<&[u8], PieceTooLong>>
         ensures* after { sem 𝓛 (EndsWithin self.entry result) }
@@ -164,7 +164,7 @@ impl BoundedLineStream {
         }
     }
 
-    // Takes what is held, where that is a piece that is too long, and gives its fault.
+    // Takes what is held, if that is a piece that is too long, and gives its fault.
     fn drops_last(&mut self) -> Option<PieceTooLong>
         ensures long { IfSome result (λ fault. GivesLastWithin self.old (Err fault) self.new) }
         ensures short { result ≡ None → (self.new ≡ self.old) × (self.old.skipped ≡ Skipped.Nothing)
@@ -180,7 +180,7 @@ impl BoundedLineStream {
         Some(PieceTooLong { newlines })
     }
 
-    /// The last piece, or a fault in its place where it is too long, once [`next`](Self::next) has given `None` and no more
+    /// The last piece, or a fault in its place if it is too long, once [`next`](Self::next) has given `None` and no more
     /// parts come. Then nothing is held, and the parts of another text can be given.
     pub fn finish(&mut self) -> Result<&[u8], PieceTooLong>
         ensures* after { sem 𝓛 (EndsLastWithin self.entry result) }

@@ -1,4 +1,4 @@
--- Where names hold none of the bytes that part a base, the base fixes the series; bases that are safe to group by tell their series.
+-- If names hold none of the bytes that part a base, the base fixes the series; bases that are safe to group by tell their series.
 use Rattle.std.proofs.Common.{◌≡◌, ℕ, ◌+◌, Bool, true, false, List, [], ◌∷◌, ◌++◌, ◌||◌, length, take, drop, refl, sym, ap, ◌∙◌}
 use Rattle.std.proofs.Common.{subst, inl, inr, append_assoc}
 use Rattle.std.specs.Prelude.{◌==◌}
@@ -159,7 +159,7 @@ ShowsClear Known =
     → tag suffix ≡ reads t after
     → IsClearName a_tag_key equals suffix t.key × IsClearName a_tag_value comma (value_part suffix) t.value × Known tags after
 
--- tags are clear where each of them is
+-- tags are clear if each of them is
 tags_clear : (Known : List (Pair Text Text) → List ℕ → Type 0) → ShowsClear Known → (tags : List (Pair Text Text)) (text : List ℕ)
     → SeparatedAfterComma tag tags text [] → Known tags text
     → (list_any is_tag_one_escape (spelled_tags (length tags) text) ≡ false) × (list_any is_tag_delimited tags ≡ false)
@@ -182,7 +182,7 @@ tags_clear Known shows (t ∷ tags) text h known =
           (or_from (is_one_of t.key.bytes equals) (is_one_of t.value.bytes comma) s.0.1 s.1.1) more.1,
     )
 
--- a series is clear where its measurement and its tags are
+-- a series is clear if its measurement and its tags are
 series_clear : (Known : List (Pair Text Text) → List ℕ → Type 0) → ShowsClear Known
     → (raw : List ℕ) (m : Text) (tags : List (Pair Text Text)) (h : IsParsedSeries raw m tags)
     → IsClearName a_measurement comma raw m → Known tags h.after

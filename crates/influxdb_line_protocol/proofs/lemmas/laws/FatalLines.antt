@@ -122,7 +122,7 @@ pub record FirstFailing {X : Type 0} (test : X → Bool) (xs : List X) : Type 0 
   pub pass : list_all test front ≡ true
   pub fails : test stop ≡ false
 
--- where not all elements pass, there is a first that fails
+-- if not all elements pass, there is a first that fails
 pub first_failing : {X : Type 0} (test : X → Bool) (xs : List X) → list_all test xs ≡ false → FirstFailing test xs
 first_failing test [] h = absurd (false≢true (sym h))
 first_failing test (x ∷ xs) h = elim (cases_Bool (test x)) [

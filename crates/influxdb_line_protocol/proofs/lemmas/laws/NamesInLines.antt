@@ -1,4 +1,4 @@
--- Each parsed name is a name in some line, whose text is UTF-8 where the name is.
+-- Each parsed name is a name in some line, whose text is UTF-8 if the name is.
 use Rattle.std.proofs.Common.{◌≡◌, ℕ, ◌+◌, ◌<◌, List, [], ◌∷◌, ◌++◌, length, get_or, true, refl, sym, subst, arith, append_assoc}
 use Rattle.std.proofs.Common.{length-append, ◌≢◌, slice_index, false, inl, inr, Some, None, Ok}
 use Rattle.std.specs.Prelude.{IsUtf8, pos}
@@ -63,7 +63,7 @@ never_ascii : (kind : NameKind) (b : ℕ) → is_one_of (never_in kind) b ≡ tr
 never_ascii a_measurement b h = grind (arith, common_steps)
 never_ascii kind b h = grind (arith, common_steps)
 
--- a spelling after this front is UTF-8 where the name after that front is
+-- a spelling after this front is UTF-8 if the name after that front is
 spelled_after : {kind : NameKind} {n s : List ℕ} → SpelledAs kind n s → (front : List ℕ) → IsUtf8 (front ++ n) → IsUtf8 (front ++ s)
 spelled_after {kind = kind} done front u = u
 spelled_after {kind = kind} (escape b n s known more) front u =
@@ -81,7 +81,7 @@ spelled_after {kind = kind} (pair c n s never more) front u =
     IsUtf8-append front (backslash ∷ c ∷ s) parts.0
     (utf8_push backslash (c ∷ s) (omega arith) (utf8_push c s ascii (spelled_after more [] last.1)))
 
--- a spelling is UTF-8 where its name is
+-- a spelling is UTF-8 if its name is
 pub spelling_utf8 : {kind : NameKind} {n s : List ℕ} → SpelledAs kind n s → IsUtf8 n → IsUtf8 s
 spelling_utf8 h u = spelled_after h [] u
 
@@ -166,7 +166,7 @@ last_piece : (dialect : Dialect) (t : List ℕ) → begins_comment t ≡ false �
 last_piece Crate t none r = inl (inr (r.1.0, r.1.1))
 last_piece Strict t none r = inr (none, inl (inr (r.1.0, r.1.1)))
 
--- a line has this name, and its text is UTF-8 where the name is
+-- a line has this name, and its text is UTF-8 if the name is
 abbrev InLine : Dialect → NameKind → List ℕ → Type 0
 InLine dialect kind n =
     (text : List ℕ) × (line : Line) × HasAnswers dialect text (Ok line ∷ []) × Contains (names_of kind (point_of line)) n

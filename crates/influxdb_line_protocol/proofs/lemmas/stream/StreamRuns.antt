@@ -43,7 +43,7 @@ runs_end dialect given pieces held r h =
     (runs_give_pieces dialect given pieces held [] (held ∷ []) r
     (subst (λ text. Pieces dialect text (held ∷ [])) (sym (append-nil held)) (last held h)))
 
--- two texts with a newline between them are UTF-8 exactly where both are
+-- two texts with a newline between them are UTF-8 exactly if both are
 pub utf8_by_pieces : Utf8ByPieces
 utf8_by_pieces u t = (
   λ h. utf8_around u t newline h (omega arith),

@@ -84,7 +84,7 @@ pub escaped_first : (bytes text : List ℕ) (mark : ℕ → Bool) (at : ℕ)
     ≡ take at text ++ backslash ∷ get_or text at 0 ∷ escaped bytes (take (length text - (at + 1)) (drop (at + 1) text))
 escaped_first bytes text mark at same run within = grind (arith, zero-add, rest_of, add-one, escaped_at)
 
--- where no byte is found, the text stays
+-- if no byte is found, the text stays
 pub escaped_none : (bytes text : List ℕ) (mark : ℕ → Bool) (at : ℕ)
     → ((b : ℕ) → mark b ≡ is_one_of bytes b) → ComeBefore mark text 0 (length text) at → at ≡ length text
     → escaped bytes text ≡ text

@@ -24,7 +24,7 @@ record ReadsCut {A : Type 0} (one : List ℕ → Reading A) (text : List ℕ) (x
   is : text ≡ front ++ rest
   again : (kept lost : List ℕ) → rest ≡ kept ++ lost → one (front ++ kept) ≡ reads x kept
 
--- a stop stays one where the text after it is cut
+-- a stop stays one if the text after it is cut
 stop_cut : (passes : ℕ → Bool) (front kept lost : List ℕ) → IsAtStop passes front (kept ++ lost) → IsAtStop passes front kept
 stop_cut passes front kept lost at = grind (arith)
 
@@ -121,7 +121,7 @@ many_read zero (t ∷ tags) text h room = absurd (omega arith)
 many_read (suc n) [] text h room = rw h refl
 many_read (suc n) (t ∷ tags) text h room = rw (h.2, h.3, many_read n tags h.1 h.4 (omega arith)) refl
 
--- these tags, and no set where there are none
+-- these tags, and no set if there are none
 abbrev set_of : List (Pair Text Text) → Option (List (Pair Text Text))
 set_of [] = None
 set_of (t ∷ tags) = Some (t ∷ tags)

@@ -4,7 +4,7 @@ use Rattle.influxdb_line_protocol.specs.code.Parsed.{field_of}
 use Rattle.lp_c.specs.Handed.{IsFieldIn, field_in}
 use Rattle.lp_c.proofs.handed.fields_in.Given as goal
 
--- where the parts that are left are fields, all are; those so far were pushed, and the first four take no memory
+-- if the parts that are left are fields, all are; those so far were pushed, and the first four take no memory
 abbrev pub invariant-loop-part : goal.invariant-loop-part
 invariant-loop-part l =
     (AllByRecursion IsFieldIn (drop l.part-index l.parts) → AllByRecursion IsFieldIn l.parts)

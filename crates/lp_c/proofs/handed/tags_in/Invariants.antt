@@ -4,7 +4,7 @@ use Rattle.influxdb_line_protocol.specs.code.Parsed.{tag_of}
 use Rattle.lp_c.specs.Handed.{IsTagIn, tag_in}
 use Rattle.lp_c.proofs.handed.tags_in.Given as goal
 
--- where the parts that are left are tags, all are; those so far were pushed, and the first eight take no memory
+-- if the parts that are left are tags, all are; those so far were pushed, and the first eight take no memory
 abbrev pub invariant-loop-part : goal.invariant-loop-part
 invariant-loop-part l =
     (AllByRecursion IsTagIn (drop l.part-index l.parts) → AllByRecursion IsTagIn l.parts)

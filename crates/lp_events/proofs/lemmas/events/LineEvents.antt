@@ -100,7 +100,7 @@ module _ {S A : Type 0} (takes : S → Event → S → Type 0) (event : A → Ev
   told_fatal before after text count rest place fault so_far is =
       record { parts = so_far.parts; told = so_far.told; are = reached_fatal one fault so_far.are.1 is }
 
--- a line is complete where nothing is left
+-- a line is complete if nothing is left
 pub complete_none : (l : Line) (rest : List ℕ) → length rest ≡ 0 → complete l rest ≡ Ok l
 complete_none l rest none = grind (arith)
 

@@ -22,7 +22,7 @@ use Rattle.lp_events.specs.code.EventsLeft.{SoFar}
 prepend-prepend : {A : Type 0} (xs ys : List A) (r : Reading (List A)) → prepend xs (prepend ys r) ≡ prepend (xs ++ ys) r
 prepend-prepend xs ys rest = grind (arith, append_assoc)
 
--- where no element is, none are read
+-- if no element is, none are read
 many_miss : {A : Type 0} (one : List ℕ → Reading A) (n : ℕ) (rest : List ℕ) → one rest ≡ miss → many one n rest ≡ reads [] rest
 many_miss one n rest e = grind (arith)
 
@@ -41,7 +41,7 @@ module _ {A : Type 0} (one : List ℕ → Reading A) where
   pub so_far_start : (x : A) (text rest : List ℕ) → one text ≡ reads x rest → SoFar one text (x ∷ []) rest
   so_far_start x text rest e = grind (arith)
 
-  -- where no comma and element follow, the list has ended
+  -- if no comma and element follow, the list has ended
   pub so_far_end : (text : List ℕ) (done : List A) (rest : List ℕ) → SoFar one text done rest
       → after_comma one rest ≡ miss → separated_list one text ≡ reads done rest
   so_far_end text done rest so_far e = grind (arith, many_miss, append-nil)
@@ -72,7 +72,7 @@ module _ {A : Type 0} (one : List ℕ → Reading A) where
   next_is : (rest place : List ℕ) → byte comma rest ≡ reads comma place → after_comma one rest ≡ one place
   next_is rest place mark = rw mark refl
 
-  -- one more is read where it may be
+  -- one more is read if it may be
   pub reached_more : {text : List ℕ} {done : List A} {rest place : List ℕ} (after : List ℕ) (y : A)
       → Reached one text done rest place → one place ≡ reads y after
       → length after < length place → SoFar one text (done ++ y ∷ []) after
@@ -92,7 +92,7 @@ module _ {A : Type 0} (one : List ℕ → Reading A) where
   reached_all {text} {done} {rest} {place} (inl first) e some = absurd (let none = ap length first.0 in omega arith)
   reached_all {text} {done} {rest} {place} (inr more) e some = so_far_end text done rest more.so_far (next_is rest place more.mark ∙ e)
 
-  -- where no comma comes after them, these are all
+  -- if no comma comes after them, these are all
   pub last_read : {text : List ℕ} {done : List A} {rest : List ℕ} → SoFar one text done rest
       → byte comma rest ≡ miss → separated_list one text ≡ reads done rest
   last_read {text} {done} {rest} so_far none = so_far_end text done rest so_far (rw none refl)

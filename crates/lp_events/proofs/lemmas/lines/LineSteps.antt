@@ -58,7 +58,7 @@ left_pieces left = go left.dialect left.text
     go dialect None = ([], refl)
     go dialect (Some text) = pieces_exist dialect text
 
--- where no piece is left, none can come
+-- if no piece is left, none can come
 pub none_comes : (left : Left) → PiecesLeft left [] → most_pieces left.text ≡ 0
 none_comes left none = sym (left_total left [] none)
 

@@ -111,7 +111,7 @@ module _ (line : List ℕ) (m : Text) (tags : List (Pair Text Text)) (rest : Lis
   unfolding answer
   names_malformed dialect x1 place h first mark is = grind (arith)
 
-  -- where no tag follows, all were read
+  -- if no tag follows, all were read
   pub names_end : (is_first : Bool) → NamesRead line m tags rest is_first → (is_first ≡ true → byte comma rest ≡ miss)
       → after_comma tag rest ≡ miss → SeriesRead line m tags rest
   names_end true (e, none) bare is = grind (arith)

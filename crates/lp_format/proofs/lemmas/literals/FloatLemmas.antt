@@ -72,7 +72,7 @@ integer_or_more t = grind (arith, cases_Bool, eqb-true)
 abbrev tail_len : List ℕ → ℕ
 tail_len suffix = fraction_len suffix + exponent_len (drop (fraction_len suffix) suffix)
 
--- the length of a float where no digit follows the digits before the point
+-- the length of a float if no digit follows the digits before the point
 float_len_after : (whole suffix : List ℕ) → IsSigned (codes "-") whole → digits_len suffix ≡ 0
     → float_len (whole ++ suffix) ≡ length whole + tail_len suffix
 float_len_after whole suffix w ends =

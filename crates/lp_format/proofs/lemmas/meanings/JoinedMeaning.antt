@@ -19,7 +19,7 @@ module _ {A : Type 0} where
   next f g [] rest = f rest
   next f g (x ∷ xs) rest = next g g xs rest
 
-  -- where all are given by one, so is the next
+  -- if all are given by one, so is the next
   pub next_same : (g : List ℕ → Reading A) (xs : List A) (rest : List ℕ) → next g g xs rest ≡ g rest
   next_same g [] rest = refl
   next_same g (x ∷ xs) rest = next_same g xs rest
@@ -72,7 +72,7 @@ module _ {A : Type 0} where
   outcome [] rest other = miss
   outcome (x ∷ xs) rest r = ended (x ∷ xs) rest r
 
-  -- where values are given, none reads after them, and they are one or more
+  -- if values are given, none reads after them, and they are one or more
   outcome_reads : (xs ys : List A) (rest suffix : List ℕ) (r : Reading A) → GivesNone r → outcome xs rest r ≡ reads ys suffix
       → (xs ≡ ys) × (rest ≡ suffix) × (0 < length xs) × (r ≡ miss)
   outcome_reads xs ys rest suffix r none e = grind arith
@@ -271,7 +271,7 @@ module _ {A : Type 0} where
         → next one (after_comma one) xs rest ≡ miss → one text ≡ miss
     first_by text xs rest h e last = grind arith
 
-    -- a list is not there where its first element is not there
+    -- a list is not there if its first element is not there
     pub the_first_misses : TheFirstMisses one
     the_first_misses text = (
       (λ h.

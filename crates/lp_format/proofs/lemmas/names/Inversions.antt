@@ -35,11 +35,11 @@ module _ {A : Type 0} (P : A → Type 0) (one : List ℕ → Reading A)
       → (line rest : List ℕ) (xs : List A) → separated_list one line ≡ reads xs rest → AllByRecursion P xs
   joined_of no_longer line rest xs h = joined_all xs line rest ((the_most_is_read one no_longer line xs rest).0 h).longest.separated
 
--- none is counted where none is read
+-- none is counted if none is read
 none_counted : {A : Type 0} (r : Reading A) (count : List ℕ → ℕ) → GivesNone r → one_and_after r count ≡ 0
 none_counted r count none = grind arith
 
--- as many are counted as come one after another, where none is read after them
+-- as many are counted as come one after another, if none is read after them
 chain_counted : {A : Type 0} (g : List ℕ → Reading A)
     → ((text : List ℕ) (x : A) (rest : List ℕ) → g text ≡ reads x rest → length rest < length text)
     → (n : ℕ) (xs : List A) (text rest : List ℕ) → Chain g g xs text rest → GivesNone (g rest) → length text ≤ n

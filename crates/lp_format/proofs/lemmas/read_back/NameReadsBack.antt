@@ -95,7 +95,7 @@ read_tag t = record { key = read_name a_tag_key t.key; value = read_name a_tag_v
 abbrev pub read_field : Field → Pair Text (Value Text)
 read_field f = record { key = read_name a_field_key f.key; value = read_value f.value }
 
--- tags after a comma, and no set of tags where there are none
+-- tags after a comma, and no set of tags if there are none
 abbrev pub read_tags : List Tag → Option (List (Pair Text Text))
 read_tags [] = None
 read_tags (t ∷ ts) = Some (map read_tag (t ∷ ts))

@@ -141,7 +141,7 @@ IsPlain-one counted b n q =
     let one : bare (b ∷ []) ≡ b ∷ [] = bare-push_bare [] b is_escaped-nil in
     record { no_newline = rw one (no_newline b n); no_opening = λ before after p. NoOpening-one counted b q before after (sym one ∙ p) }
 
--- a plain stretch stays plain where no byte after it ends the piece or opens a string
+-- a plain stretch stays plain if no byte after it ends the piece or opens a string
 IsPlain-extend : (counted xs ys added : List ℕ) → IsPlain counted xs → bare_after xs ys ≡ added → All (λ c. c ≢ newline) added
     → NoOpening (counted ++ bare xs) added → IsPlain counted (xs ++ ys)
 IsPlain-extend counted xs ys added h e n q =
@@ -162,11 +162,11 @@ IsPlain-nil counted = grind (arith, no_newline, nil_has_no_place)
 pub EndsPlain-same : {text more counted seen : List ℕ} → text ≡ more → counted ≡ seen → EndsPlain text counted → EndsPlain more seen
 EndsPlain-same {text} {more} {counted} e f h = subst (λ s. EndsPlain more s) f (subst (λ t. EndsPlain t counted) e h)
 
--- the place after the last stretch is bare in the piece where it is bare in the stretch
+-- the place after the last stretch is bare in the piece if it is bare in the stretch
 pub last_place : (front text : List ℕ) (b : ℕ) → b ≢ backslash → is_escaped_after (front ++ b ∷ text) ≡ is_escaped_after text
 last_place front text b h = is_escaped-after_other front text b (ne_eqb b backslash h)
 
--- what ends in a plain stretch still does where no byte after it ends the piece or opens a string
+-- what ends in a plain stretch still does if no byte after it ends the piece or opens a string
 EndsPlain-extend : {piece counted : List ℕ} (text added : List ℕ) → EndsPlain piece counted → bare_after piece text ≡ added
     → All (λ c. c ≢ newline) added → NoOpening counted added → EndsPlain (piece ++ text) (counted ++ added)
 EndsPlain-extend text added (first head plain h i p) e n q =
@@ -202,7 +202,7 @@ EndsPlain-start head h i =
     EndsPlain-same refl (bare-push_bare [] space is_escaped-nil)
     (first head [] h i (IsPlain-one [] space (omega arith) (λ e. absurd (omega arith))))
 
--- what ends in a string still does where no bare byte after it is a quote
+-- what ends in a string still does if no bare byte after it is a quote
 EndsQuoted-extend : {text counted : List ℕ} (more : List ℕ) → EndsQuoted text counted → All (λ c. c ≢ quote) (bare_after text more)
     → EndsQuoted (text ++ more) counted
 EndsQuoted-extend more (opened piece counted quoted h o q) n =

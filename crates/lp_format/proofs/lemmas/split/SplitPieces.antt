@@ -228,7 +228,7 @@ from_piece dialect text (p ∷ before) piece after h = elim (uncons dialect h) [
       }
 ]
 
--- where the last piece of a text may be cut, the pieces of a text after a newline follow it
+-- if the last piece of a text may be cut, the pieces of a text after a newline follow it
 pub join_from_cut : (dialect : Dialect) (u t : List ℕ) (before : List (List ℕ)) (piece : List ℕ)
     (after : List (List ℕ)) → Pieces dialect u (before ++ piece ∷ []) → Pieces dialect t after
     → IsCutPiece dialect piece → Pieces dialect (u ++ newline ∷ t) (before ++ piece ∷ after)

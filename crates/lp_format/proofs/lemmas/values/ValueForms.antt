@@ -23,7 +23,7 @@ use Rattle.std.proofs.lemmas.Grind.{common_steps}
 use Rattle.lp_format.proofs.lemmas.literals.FloatLemmas.{float_misses}
 use Rattle.std.proofs.lemmas.Bool.Decides.{nat_tests}
 
--- where a byte misses, the text does not begin with it
+-- if a byte misses, the text does not begin with it
 pub byte_missing : (b : ℕ) (text : List ℕ) → byte b text ≡ miss → (rest : List ℕ) → text ≢ b ∷ rest
 byte_missing b text none rest e = grind (arith, eq-eqb)
 
@@ -60,7 +60,7 @@ pub string_reads : (text after rest : List ℕ) → text ≡ quote ∷ after →
 unfolding string_at
 string_reads text after rest e closed = grind (arith, common_steps, nat_tests, byte_at_drop, lt-ltb, length-drop)
 
--- where no integer is, no number is
+-- if no integer is, no number is
 pub no_number : (text : List ℕ) → integer_len text ≡ 0 → (integer_at text otherwise unsigned_at text otherwise float_at text) ≡ miss
 no_number text none = grind (arith, eq-eqb, integer_misses, unsigned_misses, digits_no_more, float_misses)
 

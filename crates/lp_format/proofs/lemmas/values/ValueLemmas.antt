@@ -68,7 +68,7 @@ negative_end text r utf8 e =
           (omega (arith, eqb-false (digits_len (drop 1 text)) 0 some)))
     ]
 
--- digits at the start, where there is one
+-- digits at the start, if there is one
 pub front_numeral : (text : List ℕ) → digits_len text ≢ 0 → IsNumeral 10 (take (digits_len text) text)
 front_numeral text some = grind (arith, length-take-le, prefix_len-le-length, all_digits)
 
@@ -119,7 +119,7 @@ in_text text n b e = grind (arith, cases_lt, get_or_past)
 pub after_byte : (text : List ℕ) (n b : ℕ) → slice_index text n ≡ suc b → drop n text ≡ suc b ∷ drop (n + 1) text
 after_byte text n b e = rw (drop_more text n 0 (in_text text n b e), e) refl
 
--- what a parse of the number gives: where it fits
+-- what a parse of the number gives: if it fits
 pub integer_parsed : (text number rest : List ℕ) (z : ℤ) → number ≡ take (integer_len text) text → drop (integer_len text) text ≡ 105 ∷ rest
     → 0 < length number → FitsSigned w64 (signed_digits_value 10 number) → z ≡ signed_digits_value 10 number
     → integer_at text ≡ reads (integer z) rest

@@ -41,7 +41,7 @@ tag_of key v = pair (part key) (part v)
 abbrev field_of : String → Value Text → Pair Text (Value Text)
 field_of key v = pair (part key) v
 
--- a tag set, and none where there is no tag
+-- a tag set, and none if there is no tag
 abbrev tags_of : List (Pair Text Text) → Option (List (Pair Text Text))
 tags_of [] = None
 tags_of (t ∷ ts) = Some (t ∷ ts)

@@ -41,7 +41,7 @@ pub joined_some : {A : Type 0} (one : List ℕ → Reading A) (line rest : List 
     → separated_list one line ≡ reads xs rest → 0 < length xs
 joined_some one line rest xs h = grind (arith, bind_reads, prepend_parts)
 
--- a set that may be missing holds at least one, where it is there
+-- a set that may be missing holds at least one, if it is there
 abbrev pub HasSome : {T : Type 0} → Option (List T) → Type 0
 HasSome o = IfSome o (λ ts. 0 < length ts)
 
@@ -195,7 +195,7 @@ pub filled_answers : {X : Type 0} (line : ParsedLine) (read : Result X Error) (a
     → FillsLine line read answer → Answers (item_in line read) answer
 filled_answers line e answer filled = grind (arith)
 
--- `OutOfMemory` is not the item where it is not the answer
+-- `OutOfMemory` is not the item if it is not the answer
 pub item_is_no_refusal : {X : Type 0} (line : ParsedLine) (read : Result X Error) → IsNotOutOfMemory read
     → IsNotOutOfMemory (item_in line read)
 item_is_no_refusal line e h = grind (arith)

@@ -65,7 +65,7 @@ module _ {A X : Type 0} (event : A → Event) (set : Filling → List A) (room :
     → (old.refused ≡ false) × (set new ≡ set old ++ x ∷ []) × (others new ≡ others old))
     (needs : (old new : Filling) (x : A) → FillsBy old (event x) new → new.refused ≡ true
     → (old.refused ≡ true) ⊎ ((is_single x ≡ false) ⊎ (room old.line.now ≤ length (set old)))) where
-  -- memory is not refused for a part that is no copy, where there is room
+  -- memory is not refused for a part that is no copy, if there is room
   one_fits : (old new : Filling) (x : A) → FillsBy old (event x) new → old.refused ≡ false → is_single x ≡ true
       → length (set old) < room old.line.now → new.refused ≡ false
   one_fits old new x by taken single less = grind (arith, cases_Bool)
@@ -116,7 +116,7 @@ module _ (old : Filling) (l : Line) (begun told_tags told_fields new : Filling) 
   fields : FilledBy fields_so_far field_room is_single_field beside_fields told_tags l.fields told_fields
   fields = filled_fields told_tags told_fields l.fields fields_told
 
-  -- memory is not refused for the measurement where it is no copy
+  -- memory is not refused for the measurement if it is no copy
   name_fits : l.measurement.is_single ≡ true → begun.refused ≡ false
   name_fits single = grind (arith, cases_Bool)
 
@@ -124,7 +124,7 @@ module _ (old : Filling) (l : Line) (begun told_tags told_fields new : Filling) 
   end_fits : told_fields.refused ≡ false → new.refused ≡ false
   end_fits taken = grind (arith, cases_Bool)
 
-  -- so it is not refused for a line without a copy, where there is room
+  -- so it is not refused for a line without a copy, if there is room
   line_fits : is_single_line l ≡ true → length (some_tags l.tags) ≤ tag_room old.line.now → length l.fields ≤ field_room old.line.now
       → new.refused ≡ false
   line_fits single few_tags few_fields = grind (arith, and_parts, tags, fields, name_fits, rooms_kept, end_fits)
@@ -186,7 +186,7 @@ module _ (old new : Filling) (none : old.fault ≡ None) where
       → answer ≡ Err (spelled_fault fault)
   fault_is f fault filled some = grind (arith)
 
-  -- where no fault was kept, the answer is a line
+  -- if no fault was kept, the answer is a line
   line_is : (answer : Result Line Fault) → FillsAnswer old answer new → ((fault : SpelledFault) → new.fault ≡ Some fault → ⊥)
       → (l : Line) × (answer ≡ Ok l) × FilledLine old l new
   line_is f filled without = grind (arith)

@@ -87,7 +87,7 @@ logical_kept kind after (b ∷ c ∷ rest) h =
           rw e (and_from (may_hold kind b || after) _ first (logical_kept kind (b == backslash) (c ∷ rest) more))
     ]
 
--- whether a text ends in a backslash, or, where it is empty, what is said of the place before it
+-- whether a text ends in a backslash, or, if it is empty, what is said of the place before it
 abbrev ends_after : Bool → List ℕ → Bool
 ends_after after [] = after
 ends_after after (b ∷ text) = ends_after (b == backslash) text
@@ -137,7 +137,7 @@ front_begins n text h = grind (arith)
 hash_unescapable : (b : ℕ) → is_escapable a_measurement b ≡ true → b ≢ hash
 hash_unescapable b h = grind (arith, false≢true)
 
--- a measurement begins with `#` only where its spelling does
+-- a measurement begins with `#` only if its spelling does
 logical_begins : (text : List ℕ) → slice_index text 0 ≢ hash → slice_index (logical a_measurement text) 0 ≢ hash
 unfolding without_escapes
 logical_begins rest h = grind (arith, cases_Bool, hash_unescapable)

@@ -48,7 +48,7 @@ field_parsed : (line : List ℕ) (f : Pair Text (Value Text)) (rest : List ℕ) 
 unfolding field
 field_parsed line f rest h = grind (arith, pair_parts, name_parsed)
 
--- two parts that are read are the same where their results are
+-- two parts that are read are the same if their results are
 pub ok_same : {A : Type 0} (x y : A) → (let f : Result A Fault = Ok x in f) ≡ Ok y → x ≡ y
 ok_same x y h = cc
 

@@ -92,7 +92,7 @@ no_backslash kind b plain = λ e. cc (plain, escapable_backslash kind, ap (is_es
 pub no_space : (kind : NameKind) (b : ℕ) → is_escapable kind b ≡ false → b ≢ space
 no_space kind b plain = λ e. cc (plain, space_escapable kind, ap (is_escapable kind) e)
 
--- a spelling of a name: each byte is escaped where it can be, but a backslash alone may come before a byte that no
+-- a spelling of a name: each byte is escaped if it can be, but a backslash alone may come before a byte that no
 -- escape keeps
 pub data SpelledAs (kind : NameKind) : List ℕ → List ℕ → Type 0 where
   done : SpelledAs kind [] []
@@ -108,7 +108,7 @@ never_unescapable a_tag_key c h = grind (arith, common_steps)
 never_unescapable a_tag_value c h = grind (arith, common_steps)
 never_unescapable a_field_key c h = grind (arith, common_steps)
 
--- and it ends a name where it is bare
+-- and it ends a name if it is bare
 pub never_stops : (kind : NameKind) (c : ℕ) → is_one_of (never_in kind) c ≡ true → is_stop kind c ≡ true
 never_stops a_measurement c h = grind (arith, common_steps)
 never_stops a_tag_key c h = grind (arith, common_steps)
@@ -202,7 +202,7 @@ spelled_logical {kind = kind} (plain b n s other may more) =
 spelled_logical {kind = kind} (pair c n s never more) = rw (never_unescapable kind c never)
     (ap (λ (xs : List ℕ). backslash ∷ c ∷ xs) (spelled_logical more))
 
--- and is not empty where the name is not
+-- and is not empty if the name is not
 spelled_some : {kind : NameKind} {n s : List ℕ} → SpelledAs kind n s → 0 < length n → 0 < length s
 spelled_some done h = h
 spelled_some (escape b n s known more) h = omega arith
@@ -218,7 +218,7 @@ record Front (kind : NameKind) (s rest : List ℕ) : Type 0 where
 spelled_front : {kind : NameKind} {n s : List ℕ} → SpelledAs kind n s → (rest : List ℕ) → Stops kind rest → Front kind s rest
 spelled_front {kind = kind} {s = s} h rest ends = grind (arith, first_bare_len, spelled_to, take_at, drop_at)
 
--- so a name is read where it does not end in a backslash
+-- so a name is read if it does not end in a backslash
 pub spelled_reads : {kind : NameKind} {n s : List ℕ} → SpelledAs kind n s → 0 < length n
     → ends_in_backslash n ≡ false → (rest : List ℕ) → Stops kind rest
     → name kind (s ++ rest) ≡ reads (read_text (escapable kind) s) rest
@@ -231,7 +231,7 @@ name_reads_back kind n rest stop ok ends =
     let parts = admitted_parts kind n ok in
     spelled_reads (admitted_spelled kind n ok) parts.some parts.ends (stop ∷ rest) ends
 
--- and where it does, that is fatal
+-- and if it does, that is fatal
 pub spelled_fatal : {kind : NameKind} {n s : List ℕ} → SpelledAs kind n s → 0 < length n
     → ends_in_backslash n ≡ true → (rest : List ℕ) → Stops kind rest
     → name kind (s ++ rest) ≡ fatal ends_with_backslash
@@ -311,7 +311,7 @@ reaches_other b no_backslash no_space no_newline =
 pub reaches_gap : Leads (Reaches Head 0 0) (Reaches Plain 0 0) (32 ∷ [])
 reaches_gap = turns Head 0 0 Plain 0 0 32 (omega arith) (Head-space 0 0)
 
--- a spelling of a field key where no quote can open
+-- a spelling of a field key if no quote can open
 pub reaches_field_key : (m : ℕ) {n s : List ℕ} → SpelledAs a_field_key n s → Leads (Reaches Plain m m) (Reaches Plain m m) s
 reaches_field_key m h =
     reaches_spelled Plain m m

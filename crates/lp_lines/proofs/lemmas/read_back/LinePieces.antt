@@ -147,7 +147,7 @@ AdmittedTag t = (is_admitted_name a_tag_key t.key ≡ true) × (is_admitted_name
 abbrev pub AdmittedField : Field → Type 0
 AdmittedField f = (is_admitted_name a_field_key f.key ≡ true) × IsValue f.value
 
--- a field where as many `=` as `,` were counted
+-- a field if as many `=` as `,` were counted
 pub reaches_field : (m : ℕ) (f : Field) (piece : List ℕ) → AdmittedField f → Reaches Plain m m piece
     → Reaches Plain (m + 1) m (piece ++ built_field f)
 reaches_field m f piece ok r =

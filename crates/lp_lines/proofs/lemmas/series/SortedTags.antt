@@ -65,7 +65,7 @@ tags_move before es (t ∷ tags) same new =
     rw (← append_assoc before ((k, v) ∷ []) (in_order tags))
     (tags_move (before ++ (k, v) ∷ []) (insert_entry (slice_cmp nat_cmp) es k v) tags one new.1)
 
--- where no key is repeated, the tags by their keys are the tags, in another order
+-- if no key is repeated, the tags by their keys are the tags, in another order
 pub by_key_moves : (tags : List (Pair Text Text)) → AreNew [] tags → IsPermutation (in_order tags) (by_key tags)
 unfolding by_key
 by_key_moves tags new = tags_move [] [] tags (IsPermutation-refl []) new
@@ -107,7 +107,7 @@ rise_placed : (k v : List ℕ) (e : List ℕ × List ℕ) (es : List (List ℕ �
     → Rise (match_ordering o ((k, v) ∷ e ∷ es) ((e.0, v) ∷ es) (e ∷ insert_entry (slice_cmp nat_cmp) es k v))
 rise_placed k v e es reater is below rise more = grind (arith, below_all, below_insert, turned, nat_list_cmp_total)
 
--- where an entry goes in, the keys still rise
+-- if an entry goes in, the keys still rise
 rise_insert : (k v : List ℕ) (es : List (List ℕ × List ℕ)) → Rise es → Rise (insert_entry (slice_cmp nat_cmp) es k v)
 rise_insert k v [] rise = (tt, tt)
 rise_insert k v (e ∷ es) rise = rise_placed k v e es (slice_cmp nat_cmp k e.0) refl rise.0 rise.1 (rise_insert k v es rise.1)
@@ -162,7 +162,7 @@ within_after x y xs ys same below h e there = elim (first_or_later y e ys (h e (
   | inr after ↦ after
 ]
 
--- where keys rise, the elements fix the list
+-- if keys rise, the elements fix the list
 same_elements : (xs ys : List (List ℕ × List ℕ)) → Rise xs → Rise ys → IsWithin xs ys → IsWithin ys xs → xs ≡ ys
 same_elements [] [] rise up h k = refl
 same_elements [] (y ∷ ys) rise up h k = let l = (k y (first_element y ys)).1 in absurd (omega arith)
@@ -252,7 +252,7 @@ by_key_permutes tags once =
     let len = length-map tags (λ (t : Pair Text Text). t.key.bytes) in
     by_key_moves tags (new_after [] tags (λ k h. none_repeated (keys_of tags) (once ∙ sym len) k (omega arith)))
 
--- where the keys rise, that is their own order
+-- if the keys rise, that is their own order
 pub by_key_in_order : (tags : List (Pair Text Text)) → first_repeated (keys_of tags) ≡ length tags
     → is_strictly_sorted (keys_of tags) ≡ true → in_order tags ≡ by_key tags
 by_key_in_order tags once rise = grind (arith, same_moved, passes_rise, keys_in_order, by_key_rises, by_key_permutes)

@@ -9,7 +9,7 @@ use Rattle.lp_scan.specs.code.Lanes.{mask_of}
 use Rattle.lp_scan.proofs.lemmas.scan.MaskLemmas.{mask_by_lanes, mask_is}
 use Rattle.std.proofs.Common.{arith}
 
--- a byte as a lane: all ones where it is this one
+-- a byte as a lane: all ones if it is this one
 abbrev pub lane : ℕ → ℕ → ℕ
 lane b x = cond (eqb x b) 255 0
 
@@ -55,7 +55,7 @@ either_set e f = grind arith
 top_set : (e : Bool) → top 7 (cond e 255 0) ≡ e
 top_set e = grind arith
 
--- a lane is set where its byte is one of those
+-- a lane is set if its byte is one of those
 lanes_are : (t : Compared) (n : ℕ) (v : List ℕ) → length v ≡ n → lanes_in t n v ≡ map (λ x. cond (is_in t x) 255 0) v
 lanes_are (one b) n v long = lanes_of v b long
 lanes_are (looked look) n v long = lanes_looked look v refl
@@ -68,7 +68,7 @@ module _ (t : Compared) (bytes : List ℕ) (at n : ℕ) (room : at + n ≤ lengt
   pub mask_in : mask_l (map (top 7) (lanes_in t n (chunk at n bytes))) % 2 ^ 64 ≡ mask_of (is_in t) bytes at n
   mask_in = grind (arith, mask_by_lanes, top_set, lanes_are, length-chunk)
 
-  -- and of those that pass a test, where the test agrees at each of the 256 bytes
+  -- and of those that pass a test, if the test agrees at each of the 256 bytes
   pub mask_as : (test : ℕ → Bool) → ((k : ℕ) → get_or bytes k 0 < 256) → agree_below (λ x. top 7 (cond (is_in t x) 255 0)) test 256 ≡ true
       → mask_l (map (top 7) (lanes_in t n (chunk at n bytes))) % 2 ^ 64 ≡ mask_of test bytes at n
   mask_as test fits all = grind (arith, mask_is, lanes_are, length-chunk)

@@ -42,7 +42,7 @@ abbrev difference : Bool → Bool → List Bool → List Bool
 difference odd e [] = []
 difference odd e (m ∷ ms) = differs (differs e odd) m ∷ difference (not odd) (not e && m) ms
 
--- what is borrowed from a place: at an odd one where it is escaped, at an even one where it is bare after a backslash
+-- what is borrowed from a place: at an odd one if it is escaped, at an even one if it is bare after a backslash
 abbrev borrow : Bool → Bool → Bool → Bool
 borrow true after e = e
 borrow false after e = after && not e
@@ -52,7 +52,7 @@ abbrev borrowed : Bool → Bool → Bool → List Bool → ℕ
 borrowed odd after e [] = cond (borrow odd after e) 1 0
 borrowed odd after e (m ∷ ms) = borrowed (not odd) m (not e && m) ms
 
--- one place of the subtraction, where only a place after a backslash is escaped
+-- one place of the subtraction, if only a place after a backslash is escaped
 one_place : (odd after e m : Bool) → (e && not after) ≡ false
     → cond (after || odd) 1 0 + 2 * cond (borrow (not odd) m (not e && m)) 1 0 ≡ cond (differs (differs e odd) m) 1
     0 + cond m 1 0 + cond (borrow odd after e) 1 0
@@ -145,7 +145,7 @@ module _ (ms : List Bool) (long : length ms ≡ 64) where
       let less = fits ms refl in
       ap (λ (n : ℕ). (n + (2 ^ 64 - mask_l ms)) % 2 ^ 64) minuend_is ∙ omega arith
 
-  -- what the subtraction tells, where the first place is bare
+  -- what the subtraction tells, if the first place is bare
   pub escapes_are : bit_xor
       (bit_xor ((bit_or (mask_l ms * 2 % 2 ^ 64) odd_places + (2 ^ 64 - mask_l ms)) % 2 ^ 64) odd_places)
       (mask_l ms) ≡ mask_l (escapes false ms)

@@ -68,7 +68,7 @@ pub mask_not : (ms : List Bool) → mask_l (map not ms) + mask_l ms + 1 ≡ 2 ^ 
 mask_not [] = refl
 mask_not (m ∷ ms) = rw (pow-suc 2 (length ms)) (not_more m (mask_l (map not ms)) (mask_l ms) (2 ^ length ms) (mask_not ms))
 
--- where two masks are of the same lanes, so is what the operations make of them
+-- if two masks are of the same lanes, so is what the operations make of them
 module _ {V : Type 0} (f g : V → Bool) (vs : List V) where
   -- two tests of the same bytes have as many answers
   same_length : length (map f vs) ≡ length (map g vs)

@@ -37,7 +37,7 @@ module _ (test : ℕ → Bool) (text : List ℕ) (at n m r : ℕ) (room : at + n
   pub is_mark : test (slice_index text (at + r)) ≡ true
   is_mark = not-false _ (run.2 one_of)
 
-  -- where none comes before the mask's bytes, it is the first
+  -- if none comes before the mask's bytes, it is the first
   pub first_is : (place : ℕ) → at + r ≡ place → AllPassBetween (λ b. not (test b)) text 0 at → IsFirstByte test text (Some place)
   first_is place to_place before = grind (arith, one_of, cases_lt, false≢true, not-true, run, is_mark)
 
@@ -87,7 +87,7 @@ module _ (test : ℕ → Bool) (text rest : List ℕ) (at : ℕ) (within : at �
   left : length rest ≡ length text - at
   left = ap length same ∙ length-drop at text
 
-  -- nothing is found before a place after the loads, where nothing is found before it in what is left
+  -- nothing is found before a place after the loads, if nothing is found before it in what is left
   none_before : (n : ℕ) → Nowhere (Passes test rest) 0 n → Nowhere (Passes test text) 0 (at + n)
   none_before n none k from to found =
       elim (cases_lt k at) [
@@ -105,7 +105,7 @@ module _ (test : ℕ → Bool) (text rest : List ℕ) (at : ℕ) (within : at �
     ap test (sym (here n)) ∙ found.1,
   )
 
-  -- where nothing is found in what is left, nothing is found in the text
+  -- if nothing is found in what is left, nothing is found in the text
   pub none_after : IsFirstByte test rest None → IsFirstByte test text None
   none_after none k from to found = none_before (length rest) none k from (omega (arith, left)) found
 

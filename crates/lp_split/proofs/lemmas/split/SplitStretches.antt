@@ -49,7 +49,7 @@ bare_joined xs ys h =
 pub bare_past : (text : List ℕ) (at : ℕ) → at < length text → slice_index text at ≢ backslash → IsBareAfter (take (at + 1) text)
 bare_past text at h other = rw (take_more text at 0 h) (is_escaped-push_other (take at text) (slice_index text at) other)
 
--- a place of what is left after a bare place is bare where it is in the text
+-- a place of what is left after a bare place is bare if it is in the text
 bare_in_rest : (passes : ℕ → Bool) (text rest : List ℕ) (at k : ℕ) → rest ≡ drop at text → IsBareAfter (take at text)
     → is_bare_at passes text (at + k) ≡ is_bare_at passes rest k
 bare_in_rest passes text rest at k same is_bare = grind (arith, get_or-drop, take-add, bare_joined)
@@ -110,7 +110,7 @@ module _ (text : List ℕ) where
         h.2,
       )
 
-  -- a byte of a plain stretch is counted where it is bare
+  -- a byte of a plain stretch is counted if it is bare
   plain_byte : (at e c x y : ℕ) → at < length text → is_bare_at ends_plain text at ≡ false → IsIn Plain e c (take at text)
       → x ≡ e + cond (is_bare_at (λ b. b == 61) text at) 1 0 → y ≡ c + cond (is_bare_at (λ b. b == comma) text at) 1 0
       → IsIn Plain x y (take (at + 1) text)
@@ -152,7 +152,7 @@ module _ (text : List ℕ) where
 
 -- bytes that go on from others, which end at a bare place
 module _ (bytes text : List ℕ) (is_bare : IsBareAfter bytes) where
-  -- a place of the bytes after the others is bare where it is in both
+  -- a place of the bytes after the others is bare if it is in both
   bare_in_both : (passes : ℕ → Bool) (k : ℕ) → is_bare_at passes (bytes ++ text) (length bytes + k) ≡ is_bare_at passes text k
   bare_in_both passes k = grind (arith, bare_in_rest, drop-append_seam, take-append_seam)
 
@@ -205,7 +205,7 @@ module _ (bytes text : List ℕ) (is_bare : IsBareAfter bytes) where
       (record { stops = a.stops; equals = a.equals; commas = a.commas; end = length bytes + a.end })
   shown_in_both a are = grind (arith, take-append-add, bare_joined, tests_in_both, length-append)
 
--- where a head ends
+-- if a head ends
 module _ (text : List ℕ) (n : ℕ) (s : IsStretch (λ b. b == space || b == newline) text 0 n) where
   -- the text ends there
   pub head_last : length text ≤ n → IsLastPiece Crate text
@@ -377,16 +377,16 @@ module _ (text : List ℕ) (at : ℕ) (a : Ahead) (are : IsAhead text at a) wher
             (ap (λ (k : ℕ). e + k) (x_is ∙ low (λ b. b == 61) a.equals are.equals_are))
             (ap (λ (k : ℕ). c + k) (y_is ∙ low (λ b. b == comma) a.commas are.commas_are))
 
-        -- a quote is there where no newline is
+        -- a quote is there if no newline is
         a_quote : slice_index text (at + run) ≢ newline → take (at + run + 1) text ≡ take (at + run) text ++ quote ∷ []
         a_quote other = grind (arith, at_end, take_more, stop_within)
 
-        -- it opens nothing where `=` are no more
+        -- it opens nothing if `=` are no more
         pub quote_stays : slice_index text (at + run) ≢ newline → e + x ≤ c + y → IsIn Plain (e + x) (c + y) (take (at + run + 1) text)
         quote_stays other few = rw (a_quote other) (Plain-other (e + x) (c + y) (take (at + run) text) quote (not-true _ at_end.1)
             (omega arith) (omega arith) (omega arith) (λ _. few) plain_to)
 
-        -- and opens a quoted stretch where they are
+        -- and opens a quoted stretch if they are
         pub quote_opens : slice_index text (at + run) ≢ newline → c + y < e + x → IsIn Quoted (e + x) (c + y) (take (at + run + 1) text)
         quote_opens other more =
             rw (a_quote other) (Plain-opens (e + x) (c + y) (take (at + run) text) (not-true _ at_end.1) more plain_to)
@@ -396,7 +396,7 @@ module _ (text : List ℕ) (at : ℕ) (a : Ahead) (are : IsAhead text at a) wher
         → IsFirstCut Crate text (Some (at + run))
     plain_cut e c h here = let plain = plain_to _ _ refl refl e c h in (stop_within, here, (inr (plain.0, plain.1), not-true _ at_end.1))
 
-    -- where a quote is there, it ends a quoted stretch
+    -- if a quote is there, it ends a quoted stretch
     pub quote_ends : slice_index text (at + run) ≡ quote → IsStretch (λ b. b == quote) text at (at + run)
     quote_ends here = record {
       ordered = omega arith;
@@ -445,7 +445,7 @@ module _ (bytes text : List ℕ) (is_bare : IsBareAfter bytes) (a : Ahead) (are 
   front_of_both : IsIn Plain e c (take (length bytes) (bytes ++ text))
   front_of_both = subst (IsIn Plain e c) (sym (take-append_seam bytes text)) h
 
-  -- all that it tells of, where it shows no end
+  -- all that it tells of, if it shows no end
   pub plain_bytes_past : a.stops ≡ 0 → x ≡ count_ones (a.equals % 2 ^ 64) → y ≡ count_ones (a.commas % 2 ^ 64)
       → IsIn Plain (e + x) (c + y) (bytes ++ take a.end text)
   plain_bytes_past clear x_is y_is = subst (IsIn Plain (e + x) (c + y)) (take-append-add bytes text a.end)

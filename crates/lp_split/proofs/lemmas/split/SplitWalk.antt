@@ -104,7 +104,7 @@ pub Quoted-other : (e c : ℕ) (piece : List ℕ) (b : ℕ) → IsBareAfter piec
     → IsIn Quoted e c (piece ++ b ∷ [])
 Quoted-other e c piece b f n h = (h.0, EndsQuoted-bare b h.1 f n, h.2)
 
--- a bare byte escapes the next one where it is a backslash
+-- a bare byte escapes the next one if it is a backslash
 escapes_next : (bytes : List ℕ) (b : ℕ) → IsBareAfter bytes → is_escaped_after (bytes ++ b ∷ []) ≡ (b == backslash)
 escapes_next bytes b h = is_escaped_push bytes b ∙ ap (λ (t : Bool). not t && b == backslash) h
 
@@ -112,7 +112,7 @@ escapes_next bytes b h = is_escaped_push bytes b ∙ ap (λ (t : Bool). not t &&
 then_bare : (bytes : List ℕ) (b : ℕ) → is_escaped_after bytes ≡ true → IsBareAfter (bytes ++ b ∷ [])
 then_bare bytes b h = is_escaped_push bytes b ∙ ap (λ (t : Bool). not t && b == backslash) h
 
--- a bare byte leads to another place, where it leads to this part and these counts
+-- a bare byte leads to another place, if it leads to this part and these counts
 pub bare_step : (place : Place) (part next to : Part) (b e c : ℕ) (flag : Bool) → place.part ≡ part → place.is_escaped ≡ false
     → to ≡ next → flag ≡ (b == backslash)
     → ((bytes : List ℕ) → IsBareAfter bytes → EndsIn part place.equals place.commas bytes → EndsIn next e c (bytes ++ b ∷ []))

@@ -51,7 +51,7 @@ module _ (passes : ℕ → Bool) where
     none : AllFail (bare_after p front)
     at_stop : IsAtStop passes (p ++ front) after
 
-  -- where the stop comes at once
+  -- if the stop comes at once
   stop_at : (p : List ℕ) (after : List ℕ) → bare_len passes (is_escaped_after p) after ≡ 0 → IsAtStop passes p after
   stop_at p after h = grind (arith, cases_Bool, and_parts, not-true, len_more)
 

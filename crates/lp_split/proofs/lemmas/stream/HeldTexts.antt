@@ -1,4 +1,4 @@
--- What a stream holds, with more after it, and where pieces have a greatest length.
+-- What a stream holds, with more after it, and if pieces have a greatest length.
 use Rattle.std.proofs.Common.{◌≡◌, ℕ, Bool, cond, List, ◌++◌, drop, sym, ap, ◌∙◌, subst, arith, length-append, ◌⊎◌}
 use Rattle.std.proofs.Common.{◌+◌, ◌<◌, [], ◌∷◌, length, take, append_assoc, Ok, Err}
 use Rattle.std.proofs.lemmas.List.{take-append-le, drop-append-le}
@@ -86,13 +86,13 @@ no_end_within dialect bytes track i begins tracks is_last =
 pub taking_keeps_fewer : (held after : Held) (piece : List ℕ) → TakesPiece held piece after → length after.bytes < length held.bytes
 taking_keeps_fewer held after piece takes = grind (arith, length-append)
 
--- a piece is taken where no bytes were skipped
+-- a piece is taken if no bytes were skipped
 pub takes_within : (limit : ℕ) (held after : Held) (skipped : Skipped) (piece text : List ℕ) → skipped ≡ Nothing
     → TakesPiece held piece after → HoldsBy limit held skipped text
     → CutsTo held.dialect text piece after.bytes × HoldsBy limit after skipped after.bytes
 takes_within limit held after skipped piece text is takes h = grind arith
 
--- what is held, which is more than a piece may have, is the text where no bytes were skipped
+-- what is held, which is more than a piece may have, is the text if no bytes were skipped
 pub held_is_too_long : (limit : ℕ) (held : Held) (skipped : Skipped) (n : ℕ) → skipped ≡ Nothing → IsTooLong limit held.bytes
     → n ≡ newlines_in held.bytes → (text : List ℕ) → HoldsBy limit held skipped text → IsTooLong limit text × (n ≡ newlines_in text)
 held_is_too_long limit held skipped n is long counted text h = grind arith
@@ -101,7 +101,7 @@ held_is_too_long limit held skipped n is long counted text h = grind arith
 abbrev pub HasCounted : Skipped → ℕ → Type 0
 HasCounted skipped n = ((track : Track) × (skipped ≡ Within track n)) ⊎ (skipped ≡ Ended n)
 
--- a text that is one piece is too long where bytes were skipped, and has the newlines that were counted
+-- a text that is one piece is too long if bytes were skipped, and has the newlines that were counted
 pub skipped_is_too_long : (limit : ℕ) (held : Held) (skipped : Skipped) (n : ℕ) → HasCounted skipped n → (text : List ℕ)
     → HoldsBy limit held skipped text → IsLastPiece held.dialect text → IsTooLong limit text × (n ≡ newlines_in text)
 skipped_is_too_long limit held skipped n is text h is_last = grind (arith, no_cut_within)

@@ -15,6 +15,6 @@ invariant-loop-ahead l = record {
   counts : (l.equals ≤ l.at) × (l.commas ≤ l.at);
 }
 
--- a load goes on where nothing was seen
+-- a load goes on if nothing was seen
 abbrev pub decreases-loop-ahead : goal.decreases-loop-ahead
 decreases-loop-ahead l = (length l.initial.text - l.at) + (length l.initial.text - l.at) + (1 - (l.ahead.end - l.at))

@@ -125,7 +125,7 @@ module _ (known : List ℕ) (stops : ℕ → Bool) (text : List ℕ) where
       let e : at + (end - at) ≡ end = omega (arith, run.ordered) in
       rw e at (walk_bytes (end - at) at found w (omega (arith, run.within, run.ordered)) (rw (← e) at run.passes))
 
-  -- over a backslash and the byte that it escapes, where it is no stop
+  -- over a backslash and the byte that it escapes, if it is no stop
   pub walk_escape : (at found : ℕ) (t : Bool) → EscapeScan known stops text at found → at + 1 < length text
       → slice_index text at ≡ backslash → stops backslash ≡ false
       → is_one_of known (slice_index text (at + 1)) ≡ t → EscapeScan known stops text (at + 2) (found + cond t 1 0)
@@ -227,7 +227,7 @@ module _ (known : List ℕ) (stops : ℕ → Bool) (text : List ℕ) where
             (ap (λ (k : ℕ). is_escaped_after (take k text)) one_on ∙ bare) (λ k from to. none k (omega arith) (omega arith)))
       ]
 
-  -- the same, where the answer is added as a number
+  -- the same, if the answer is added as a number
   pub walk_counted : (at found n : ℕ) (t : Bool) → EscapeScan known stops text at found → at + 1 < length text
       → slice_index text at ≡ backslash → stops backslash ≡ false
       → is_one_of known (slice_index text (at + 1)) ≡ t → n ≡ bool_byte t → EscapeScan known stops text (at + 2) (found + n)

@@ -35,7 +35,7 @@ module _ (kind : NameKind) (stops : is_stop kind equals ≡ true) (Value : List 
       → (rest : List ℕ) → IsWrittenPair kind Value text rest → Ends rest → ⊥
   pair_no_key text none rest w ends = none (equals ∷ w.after) w.key (sign_ends w.after)
 
-  -- nor where no sign follows the key
+  -- nor if no sign follows the key
   pub pair_no_sign : (text key_end : List ℕ) → ((rest : List ℕ) → IsWrittenName kind text rest → EndsName kind rest → rest ≡ key_end)
       → byte equals key_end ≡ miss → (rest : List ℕ) → IsWrittenPair kind Value text rest → Ends rest → ⊥
   pair_no_sign text key_end only missed rest w ends =
@@ -71,7 +71,7 @@ tag_less text rest w = grind (arith, length-append)
 pub field_less : (text rest : List ℕ) → IsWrittenField text rest → length rest ≤ length text
 field_less text rest w = grind (arith, length-append)
 
--- where the rest of the front is known, the text is of this form where the rest is
+-- if the rest of the front is known, the text is of this form if the rest is
 pub followed_step : (Front : List ℕ → List ℕ → Type 0) (After Ends : List ℕ → Type 0) → ((text : List ℕ) → After text → Ends text)
     → (text : List ℕ) (o : Option (Bor (List ℕ))) → IsOnlyRest (Front text) Ends o
     → MatchOption o (IsFollowed Front After text → ⊥) (λ r. After r.now ↔ IsFollowed Front After text)
@@ -87,7 +87,7 @@ module _ (Item : List ℕ → List ℕ → Type 0) (After Ends : List ℕ → Ty
   after_comma : (left text : List ℕ) → left ≡ comma ∷ text → AreItems Item After left → IsFollowed Item (AreItems Item After) text
   after_comma left text e more = grind (arith)
 
-  -- where the rest of an item after a comma is known, the text is items where the rest is
+  -- if the rest of an item after a comma is known, the text is items if the rest is
   pub items_step : (left text : List ℕ) (o : Option (Bor (List ℕ))) → byte comma left ≡ reads comma text → IsOnlyRest (Item text) Ends o
       → MatchOption o (AreItems Item After left → ⊥) (λ r. AreItems Item After r.now ↔ AreItems Item After left)
   items_step left text o read only = go o (byte_left comma left text read) only
@@ -102,7 +102,7 @@ module _ (Item : List ℕ → List ℕ → Type 0) (After Ends : List ℕ → Ty
             (λ w. step.1 (after_comma left text e w)),
           )
 
-  -- where no comma is, what comes after items is there
+  -- if no comma is, what comes after items is there
   pub items_last : (left : List ℕ) → byte comma left ≡ miss → After left ↔ AreItems Item After left
   items_last left missed = ((λ w. no_item w), last)
     where
@@ -124,7 +124,7 @@ pub field_step : (left text : List ℕ) (o : Option (Bor (List ℕ))) → byte c
     → MatchOption o (IsWrittenAfterField left → ⊥) (λ r. IsWrittenAfterField r.now ↔ IsWrittenAfterField left)
 field_step = items_step IsWrittenField IsWrittenTimestamp EndsValue (λ after. refl) stamp_ends stamp_no_comma
 
--- where no comma is, a timestamp is after a field, or nothing
+-- if no comma is, a timestamp is after a field, or nothing
 pub only_timestamp : (text : List ℕ) → byte comma text ≡ miss → IsWrittenTimestamp text ↔ IsWrittenAfterField text
 only_timestamp = items_last IsWrittenField IsWrittenTimestamp EndsValue (λ after. refl) stamp_ends stamp_no_comma
 
@@ -153,11 +153,11 @@ pub tag_step : (left text : List ℕ) (o : Option (Bor (List ℕ))) → byte com
     → MatchOption o (IsWrittenAfterName left → ⊥) (λ r. IsWrittenAfterName r.now ↔ IsWrittenAfterName left)
 tag_step = items_step IsWrittenTag IsWrittenAfterTags (EndsName a_tag_value) (comma_ends a_tag_value refl) (gap_ends a_tag_value refl) gap_no_comma
 
--- where no comma is, the fields are after a name
+-- if no comma is, the fields are after a name
 only_gap : (text : List ℕ) → byte comma text ≡ miss → IsWrittenAfterTags text ↔ IsWrittenAfterName text
 only_gap = items_last IsWrittenTag IsWrittenAfterTags (EndsName a_tag_value) (comma_ends a_tag_value refl) (gap_ends a_tag_value refl) gap_no_comma
 
--- where neither a comma nor a space is, nothing is after a name
+-- if neither a comma nor a space is, nothing is after a name
 pub no_gap : (text : List ℕ) → byte comma text ≡ miss → byte space text ≡ miss → IsWrittenAfterName text → ⊥
 no_gap text no_comma no_space w = grind (arith, only_gap, byte_missing)
 
@@ -188,7 +188,7 @@ pub whole_number : (number : List ℕ) → 0 < integer_len number → length num
 whole_number number some whole =
     subst (IsSigned (codes "-")) (take_all (integer_len number) number whole) (signed_front (codes "-") number some)
 
--- and is a timestamp where the builder writes it so
+-- and is a timestamp if the builder writes it so
 pub timestamp_answer : (number : List ℕ) → IsSigned (codes "-") number → (is_written_integer number ≡ true) ↔ IsWrittenTimestamp (space ∷ number)
 timestamp_answer number signed = (
   (λ ok. let t = integer_told number signed ok in present t.0 t.1 (ap (λ (xs : List ℕ). space ∷ xs) (sym t.2))),
@@ -354,7 +354,7 @@ line_step line o only = go o (followed_step (IsWrittenName a_measurement) IsWrit
     ends : (text : List ℕ) → IsWrittenAfterName text → EndsName a_measurement text
     ends = items_end IsWrittenTag IsWrittenAfterTags (EndsName a_measurement) (comma_ends a_measurement refl) (gap_ends a_measurement refl) gap_no_comma
 
-    -- a line is as written where it is a measurement, and what comes after it
+    -- a line is as written if it is a measurement, and what comes after it
     parts : IsAsWritten line → IsFollowed (IsWrittenName a_measurement) IsWrittenAfterName line
     parts w = line_of_point line w (admitted_point w.point w.is_point w.admitted)
 

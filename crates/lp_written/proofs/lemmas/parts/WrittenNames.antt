@@ -36,17 +36,17 @@ all_same kind n = grind (arith, holds_same)
 none_empty : (m n : ℕ) → 0 < m → 0 < n → (m == 0) ≡ (n == 0)
 none_empty m n more some = ne_eqb m 0 (λ e. absurd (omega arith)) ∙ sym (ne_eqb n 0 (λ e. absurd (omega arith)))
 
--- a spelling is empty where its name is
+-- a spelling is empty if its name is
 spelled_empty : (known n : List ℕ) → (length (escaped known n) == 0) ≡ (length n == 0)
 unfolding escaped
 spelled_empty known [] = refl
 spelled_empty known (b ∷ n) = grind (arith, cases_Bool, escaped_found, none_empty, escaped_plain)
 
--- it ends in a backslash where its name does
+-- it ends in a backslash if its name does
 spelled_ends : (kind : NameKind) (n : List ℕ) → ends_in_backslash (spelling kind n) ≡ ends_in_backslash n
 spelled_ends kind n = sym (logical_ends kind (spelling kind n)) ∙ ap ends_in_backslash (logical_spelling kind n)
 
--- that of a measurement begins with `#` where the measurement does
+-- that of a measurement begins with `#` if the measurement does
 spelled_hash : (n : List ℕ) → (slice_index (spelling a_measurement n) 0 == hash) ≡ (slice_index n 0 == hash)
 unfolding escaped
 spelled_hash [] = refl
@@ -75,7 +75,7 @@ spelling_tells other n may =
 abbrev pub name_len : NameKind → List ℕ → ℕ
 name_len kind text = written_len (escapable kind) (is_stop kind) text
 
--- what is passed is a name where that is admitted
+-- what is passed is a name if that is admitted
 pub name_found : (kind : NameKind) (text : List ℕ) → is_admitted_spelling kind (take (name_len kind text) text) ≡ true
     → IsWrittenName kind text (drop (name_len kind text) text)
 name_found kind text ok =
@@ -104,7 +104,7 @@ pub name_only : (kind : NameKind) (text rest : List ℕ) → IsWrittenName kind 
     → rest ≡ drop (name_len kind text) text
 name_only kind text rest w ends = grind (arith, drop_at, name_passed)
 
--- and none does where it is not admitted
+-- and none does if it is not admitted
 pub name_none : (kind : NameKind) (text rest : List ℕ) → is_admitted_spelling kind (take (name_len kind text) text) ≡ false
     → IsWrittenName kind text rest → EndsName kind rest → ⊥
 name_none kind text rest refused w ends = grind (arith, take_at, name_passed, false≢true, spelling_tells, admitted_parts)
@@ -134,7 +134,7 @@ pub string_only : (text opened rest : List ℕ) → text ≡ quote ∷ opened �
     → drop (written_len quotable is_quote opened) opened ≡ quote ∷ rest
 string_only text opened rest e w = grind (arith, written_spelling, holds_any, drop_at, written_stops)
 
--- what is left of a text where a byte reads comes after that byte
+-- what is left of a text if a byte reads comes after that byte
 pub byte_left : (b : ℕ) (text rest : List ℕ) → byte b text ≡ reads b rest → text ≡ b ∷ rest
 byte_left b text rest e = grind (arith, cases_Bool, eqb-true)
 

@@ -154,7 +154,7 @@ shape_of (boolean false) rest fits ends = a_word false refl refl
 pub shape : (text rest : List ℕ) → IsWrittenValue text rest → EndsValue rest → Shape text rest
 shape text rest w ends = subst (λ xs. Shape xs rest) w.written (shape_of w.value rest w.fits ends)
 
--- digits where no sign is
+-- digits if no sign is
 pub unsigned_numeral : (number : List ℕ) → IsSigned (codes "-") number → (slice_index number 0 == minus) ≡ false → IsNumeral 10 number
 unsigned_numeral ds never plain = grind (arith, eqb-false, eqb-true, or_one)
 
@@ -192,7 +192,7 @@ marked_found : (v : Value (List ℕ)) (text number rest : List ℕ) (mark k : �
     → number ≡ take k text → drop k text ≡ mark ∷ rest → IsWrittenValue text rest
 marked_found v text number rest mark k fits built front after = grind (arith, append_assoc, take-append-drop)
 
--- the rest after a number and its mark is the only one where the number is written so, and else none is
+-- the rest after a number and its mark is the only one if the number is written so, and else none is
 marked_answer : (text left : List ℕ) (ok : Bool) → (ok ≡ true → IsWrittenValue text left)
     → ((rest : List ℕ) → IsWrittenValue text rest → EndsValue rest → (ok ≡ true) × (rest ≡ left))
     → (r : Bor (List ℕ)) → r.now ≡ left → IsOnlyRest (IsWrittenValue text) EndsValue (then_some ok r)
@@ -207,7 +207,7 @@ pub at_mark : (mark : ℕ) (text after left : List ℕ) (whole : ℕ) → whole 
     → byte mark after ≡ reads mark left → drop (integer_len text) text ≡ mark ∷ left
 at_mark mark text after left whole len back read = rw (← len, ← back) (byte_left mark after left read)
 
--- where `i` follows an integer
+-- if `i` follows an integer
 pub integer_answer : (text number : List ℕ) (r : Bor (List ℕ)) → 0 < integer_len text → number ≡ take (integer_len text) text
     → drop (integer_len text) text ≡ 105 ∷ r.now
     → IsOnlyRest (IsWrittenValue text) EndsValue (then_some (is_written_integer number) r)
@@ -236,7 +236,7 @@ integer_answer text number r some front after =
           | a_word b none word ↦ absurd (omega (arith, some, none))
         ]
 
--- where `u` does
+-- if `u` does
 pub unsigned_answer : (text number : List ℕ) (r : Bor (List ℕ)) → 0 < integer_len text → number ≡ take (integer_len text) text
     → drop (integer_len text) text ≡ 117 ∷ r.now
     → IsOnlyRest (IsWrittenValue text) EndsValue (then_some (is_written_unsigned number) r)
@@ -280,7 +280,7 @@ float_found text t rest read = go (cases_Bool (float_len text == 0)) read
           written = rw (← same, ← left) (take-append-drop (float_len text) text);
         }
 
--- and where neither mark of an integer is, the builder writes no other
+-- and if neither mark of an integer is, the builder writes no other
 pub float_only : (text rest : List ℕ) → 0 < integer_len text → byte 105 (drop (integer_len text) text) ≡ miss
     → byte 117 (drop (integer_len text) text) ≡ miss → IsWrittenValue text rest → EndsValue rest → (t : List ℕ) × (float_at text ≡ reads (float t) rest)
 float_only text rest some no_i no_u w ends =
@@ -314,7 +314,7 @@ pub value_string : (text rest : List ℕ) → integer_len text ≡ 0 → slice_i
     → IsWrittenString text rest
 value_string text rest whole first w ends = grind (arith, shape)
 
--- where neither a number nor a string is, the builder writes a word
+-- if neither a number nor a string is, the builder writes a word
 pub value_word : (text rest : List ℕ) → integer_len text ≡ 0 → slice_index text 0 ≢ 34 → IsWrittenValue text rest → EndsValue rest
     → (b : Bool) × (text ≡ built_value (boolean b) ++ rest)
 value_word text rest whole first w ends =
@@ -346,7 +346,7 @@ word_answer b text left whole first e = (
 pub stripped : (word text left : List ℕ) → StripsPrefix (FindsTextPrefix word) text left → text ≡ word ++ left
 stripped word text left s = s.1.1 ∙ ap (λ (xs : List ℕ). word ++ xs) (sym s.2)
 
--- where the word for true is not there, what is left after that for false is the only rest of a value
+-- if the word for true is not there, what is left after that for false is the only rest of a value
 pub last_word : (text : List ℕ) (o : Option (Bor (List ℕ))) → integer_len text ≡ 0 → slice_index text 0 ≢ 34
     → LacksTextAt (codes "true") text 0
     → MatchOption o (LacksTextAt (codes "false") text 0) (λ r. StripsPrefix (FindsTextPrefix (codes "false")) text r.now)

@@ -31,11 +31,11 @@ both_tests : {A : Type 0} (a b : Bool) (y x : A) (e : Fault) (after rest : List 
     → cond a (cond b (reads y after) (fatal e)) miss ≡ reads x rest → (b ≡ true) × (y ≡ x)
 both_tests x0 b y x e after rest h = grind (arith)
 
--- what is read where a test fails
+-- what is read if a test fails
 no_test : {A : Type 0} (a : Bool) (y x : A) (after rest : List ℕ) → cond a miss (reads y after) ≡ reads x rest → (a ≡ false) × (y ≡ x)
 no_test x0 y x after rest h = grind (arith)
 
--- what is read where a test passes
+-- what is read if a test passes
 one_test : {A : Type 0} (a : Bool) (y x : A) (after rest : List ℕ) → cond a (reads y after) miss ≡ reads x rest → y ≡ x
 one_test x0 y x after rest h = grind (arith)
 

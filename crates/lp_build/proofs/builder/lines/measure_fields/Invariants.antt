@@ -4,7 +4,7 @@ use Rattle.lp_format.specs.format.Bytes.{space, comma}
 use Rattle.lp_build.specs.code.WrittenAgain.{IsPlainField, fields_text}
 use Rattle.lp_build.proofs.builder.lines.measure_fields.Given as goal
 
--- what is counted and what is left to count make the whole; where all that is left is plain, all is
+-- what is counted and what is left to count make the whole; if all that is left is plain, all is
 abbrev pub invariant-loop-field : goal.invariant-loop-field
 invariant-loop-field l =
     (l.len < 2 ^ 64)

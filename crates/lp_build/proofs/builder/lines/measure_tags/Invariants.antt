@@ -3,7 +3,7 @@ use Rattle.std.specs.List.{AllByRecursion, flat_map}
 use Rattle.lp_build.specs.code.WrittenAgain.{IsPlainTag, tag_text}
 use Rattle.lp_build.proofs.builder.lines.measure_tags.Given as goal
 
--- what is counted and what is left to count make the whole; where all that is left is plain, all is
+-- what is counted and what is left to count make the whole; if all that is left is plain, all is
 abbrev pub invariant-loop-tag : goal.invariant-loop-tag
 invariant-loop-tag l =
     (l.len < 2 ^ 64)

@@ -4,7 +4,7 @@ use Rattle.lp_format.specs.format.Bytes.{space}
 use Rattle.lp_build.specs.code.WrittenAgain.{IsPlainField, fields_text}
 use Rattle.lp_build.proofs.builder.lines.put_fields.Given as goal
 
--- what is written and what is left to write make the whole, and there is room for the latter; the latter is plain where all is
+-- what is written and what is left to write make the whole, and there is room for the latter; the latter is plain if all is
 abbrev pub invariant-loop-key : goal.invariant-loop-key
 invariant-loop-key g l =
     let whole = fields_text space l.fields in

@@ -3,7 +3,7 @@ use Rattle.std.specs.List.{AllByRecursion, flat_map}
 use Rattle.lp_build.specs.code.WrittenAgain.{IsPlainTag, tag_text}
 use Rattle.lp_build.proofs.builder.lines.put_tags.Given as goal
 
--- what is written and what is left to write make the whole, and there is room for the latter; the latter is plain where all is
+-- what is written and what is left to write make the whole, and there is room for the latter; the latter is plain if all is
 abbrev pub invariant-loop-key : goal.invariant-loop-key
 invariant-loop-key g l =
     let whole = flat_map tag_text l.tags in
