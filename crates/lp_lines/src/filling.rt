@@ -5,7 +5,10 @@
 //! one of its parts was refused. The line is borrowed, since to move its 904 bytes would be a copy.
 
 ghost use Rattle.std.specs.Prelude.{◌≡◌, ◌≤◌, ◌+◌, ◌⊎◌, ◌++◌, ◌∷◌, [], length, map, true, false};
-ghost use Rattle.lp_format.specs.code.Light.{is_single_field, is_single_tag};
+ghost use Rattle.lp_format.specs.code.Light.{is_single_field, is_single_tag, is_single_value};
+ghost use Rattle.lp_values.specs.code.ReadValues.{value_of};
+ghost use Rattle.lp_values.specs.code.SpelledParts.{spelled_text, spelled_value};
+ghost use Rattle.lp_values.specs.code.Texts.{read_of};
 ghost use Rattle.lp_events.specs.code.Events.{spelled_field, spelled_tag};
 ghost use Rattle.lp_format.specs.format.Lines.{answer};
 ghost use Rattle.lp_split.specs.code.Rules.{rules_of};
@@ -15,9 +18,76 @@ ghost use Rattle.lp_lines.specs.code.Parsed.{field_of, tag_of};
 use crate::{FieldSet, ParsedLine, TagSet};
 use lp_events::{EventSink, read_line_events};
 use lp_split::Dialect;
-use lp_values::values::{put_text, put_value};
-use lp_values::{FieldValue, Spelled, SpelledFault, SpelledValue};
+use lp_values::{EscapedStr, FieldValue, Spelled, SpelledFault, SpelledValue};
 use std::alloc::Global;
+
+// Puts the logical text of a spelling into the place of another text, whatever that is.
+#[inline(never)]
+fn put_any_text<'a>(alloc: Global, place: &mut EscapedStr<'a>, text: Spelled<'a>) -> bool
+    ensures text { result ≡ true → read_of place.new ≡ spelled_text text.entry }
+    ensures needs { result ≡ false → (spelled_text text.entry).is_single ≡ false }
+{
+    match text.to_escaped_str(alloc) {
+        Ok(text) => {
+            *place = text;
+            true
+        }
+        Err(_) => false,
+    }
+}
+
+// Puts the logical text of a spelling into the place of another text, unless memory for it is refused. Only a copy takes memory.
+#[inline(always)]
+fn put_text<'a>(alloc: Global, place: &mut EscapedStr<'a>, text: Spelled<'a>) -> bool
+    ensures text { result ≡ true → read_of place.new ≡ spelled_text text.entry }
+    ensures needs { result ≡ false → (spelled_text text.entry).is_single ≡ false }
+{
+    if !text.is_plain() {
+        return put_any_text(alloc, place, text);
+    }
+    let spelling = text.spelled();
+    // A slice in the place of a slice is two words.
+    if let EscapedStr::SingleSlice(slice) = place {
+        *slice = spelling;
+    } else {
+        *place = EscapedStr::SingleSlice(spelling);
+    }
+    true
+}
+
+// Puts the value that is spelled so into the place of another, whatever that is.
+#[inline(always)]
+fn put_any_value<'a>(alloc: Global, place: &mut FieldValue<'a>, value: SpelledValue<'a>) -> bool
+    ensures value { result ≡ true → value_of place.new ≡ spelled_value value.entry }
+    ensures needs { result ≡ false → is_single_value (spelled_value value.entry) ≡ false }
+{
+    match FieldValue::from_spelled(alloc, value) {
+        Ok(value) => {
+            *place = value;
+            true
+        }
+        Err(_) => false,
+    }
+}
+
+// Puts the value that is spelled so into the place of another, unless memory for it is refused. In the place of a value of the same
+// kind no more than what differs is written.
+#[inline(always)]
+fn put_value<'a>(alloc: Global, place: &mut FieldValue<'a>, value: SpelledValue<'a>) -> bool
+    ensures value { result ≡ true → value_of place.new ≡ spelled_value value.entry }
+    ensures needs { result ≡ false → is_single_value (spelled_value value.entry) ≡ false }
+{
+    match (&mut *place, &value) {
+        (FieldValue::I64(place), SpelledValue::I64(value)) => *place = *value,
+        (FieldValue::U64(place), SpelledValue::U64(value)) => *place = *value,
+        (FieldValue::F64(place), SpelledValue::F64(value)) => *place = *value,
+        (FieldValue::String(place), SpelledValue::String(text)) => {
+            return put_text(alloc, place, *text);
+        }
+        _ => return put_any_value(alloc, place, value),
+    }
+    true
+}
 
 // Appends a tag, unless memory for it is refused.
 #[inline(always)]

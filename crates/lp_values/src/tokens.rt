@@ -8,7 +8,7 @@ ghost use Rattle.lp_format.specs.format.Escapes.{EscapeScan, first_bare, without
 ghost use Rattle.lp_scan.specs.code.Tokens.{stops_of, known_of, is_plain};
 ghost use Rattle.lp_scan.specs.code.Lanes.{IsRunAt};
 ghost use Rattle.lp_values.specs.code.RawTokens.{IsTold};
-ghost use Rattle.lp_format.specs.format.Names.{ends_in_backslash, is_one_escape, is_shared, read_text};
+ghost use Rattle.lp_format.specs.format.Names.{ends_in_backslash, is_shared, read_text};
 ghost use Rattle.lp_values.specs.code.Texts.{read_of};
 
 use crate::escaped::EscapedStr;
@@ -298,17 +298,6 @@ fn put(kind: TokenKind, spelled: &str, to: &mut String) -> Result<(), AllocError
     Ok(())
 }
 
-// Makes of a string the logical text of `spelled`, which takes `len` bytes. It asks for memory at most once, and keeps what it has.
-#[inline(always)]
-fn refill(kind: TokenKind, spelled: &str, len: usize, text: &mut String) -> Result<(), AllocError>
-    requires { len ≡ length (without_escapes (known_of kind) spelled.now) }
-    ensures { OnOk result (string_bytes text.new ≡ without_escapes (known_of kind) spelled.now) }
-{
-    text.clear();
-    text.reserve_exact(len)?;
-    put(kind, spelled, text)
-}
-
 // A copy of the logical text of `spelled`, which takes `len` bytes. It asks for memory once.
 #[inline(never)]
 fn copy(alloc: Global, kind: TokenKind, spelled: &str, len: usize) -> Result<String, AllocError>
@@ -318,14 +307,6 @@ fn copy(alloc: Global, kind: TokenKind, spelled: &str, len: usize) -> Result<Str
     let mut text = String::with_capacity(alloc, len)?;
     put(kind, spelled, &mut text)?;
     Ok(text)
-}
-
-// Whether a text is one known escape.
-#[inline(always)]
-fn is_one_escape(kind: TokenKind, text: &str) -> bool
-    ensures { result ≡ is_one_escape (known_of kind) text.now }
-{
-    matches!(text.as_bytes(), [b'\\', byte] if kind.is_known(*byte))
 }
 
 // The logical text of `text`, which holds a backslash, and takes `len` bytes without its escapes.
@@ -340,65 +321,9 @@ pub(crate) fn unescaped<'a>(
     ensures text { IfOk result (λ r. read_of r ≡ read_text (known_of kind) text.now) }
     ensures no_memory { is_shared (known_of kind) text.now ≡ true → IsOk result }
 {
-    if is_one_escape(kind, text) {
+    if matches!(text.as_bytes(), [b'\\', byte] if kind.is_known(*byte)) {
         return Ok(EscapedStr::SingleSlice(&text[1..]));
     }
     let text = copy(alloc, kind, text, len)?;
     Ok(EscapedStr::CopiedValue(text))
-}
-
-// How many times the room that a copy takes may be kept for it, so that what a line holds is bounded by its text.
-const KEPT_ROOM: usize = 4;
-
-// Puts the logical text of `text`, which holds a backslash, into the place of another text, unless memory for it is refused. A copy
-// that is there keeps its room, if that is not far more.
-#[inline(never)]
-fn put_unescaped<'a>(
-    alloc: Global,
-    kind: TokenKind,
-    text: &'a str,
-    len: usize,
-    place: &mut EscapedStr<'a>,
-) -> bool
-    requires { IsTold (known_of kind) text.now len false }
-    ensures text { result ≡ true → read_of place.new ≡ read_text (known_of kind) text.now }
-    ensures needs { result ≡ false → is_shared (known_of kind) text.now ≡ false }
-{
-    if !is_one_escape(kind, text) {
-        if let EscapedStr::CopiedValue(copied) = place {
-            if copied.capacity() / KEPT_ROOM <= len {
-                return refill(kind, text, len, copied).is_ok();
-            }
-        }
-    }
-    match unescaped(alloc, kind, text, len) {
-        Ok(text) => {
-            *place = text;
-            true
-        }
-        Err(_) => false,
-    }
-}
-
-/// Puts the logical text of a token into the place of another text, unless memory for it is refused. Only a copy takes memory, and
-/// none if the place holds a copy of as much room.
-#[inline(always)]
-pub(crate) fn put_escaped_str<'a>(
-    alloc: Global,
-    token: RawToken<'a>,
-    place: &mut EscapedStr<'a>,
-) -> bool
-    ensures text { result ≡ true → read_of place.new ≡ read_text (known_of token.entry.kind) token.entry.text.now }
-    ensures needs { result ≡ false → is_shared (known_of token.entry.kind) token.entry.text.now ≡ false }
-{
-    if !token.is_plain {
-        return put_unescaped(alloc, token.kind, token.text, token.len, place);
-    }
-    // A slice in the place of a slice is two words.
-    if let EscapedStr::SingleSlice(slice) = place {
-        *slice = token.text;
-    } else {
-        *place = EscapedStr::SingleSlice(token.text);
-    }
-    true
 }

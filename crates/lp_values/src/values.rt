@@ -1,19 +1,17 @@
 //! Values of fields.
 
-ghost use Rattle.std.specs.Prelude.{◌≡◌, ◌≤◌, ◌<◌, ◌-◌, ◌==◌, ◌||◌, true, false, length, slice_index, if◌then◌else◌};
+ghost use Rattle.std.specs.Prelude.{◌≡◌, ◌≤◌, ◌<◌, ◌-◌, ◌==◌, ◌||◌, true, length, slice_index, if◌then◌else◌};
 ghost use Rattle.std.specs.Prelude.{IfOk, IfSome, IsOk, MatchOption};
 ghost use Rattle.std.specs.Char.{is_ascii_digit};
 ghost use Rattle.lp_format.specs.format.Bytes.{minus};
 ghost use Rattle.lp_format.specs.code.Light.{is_single_value};
 ghost use Rattle.lp_format.specs.format.Values.{word_len, true_words, false_words};
 ghost use Rattle.lp_values.specs.code.ReadValues.{is_same_variant, value_of};
-ghost use Rattle.lp_values.specs.code.SpelledParts.{spelled_text, spelled_value};
-ghost use Rattle.lp_values.specs.code.Texts.{read_of};
+ghost use Rattle.lp_values.specs.code.SpelledParts.{spelled_value};
 
 use crate::escaped::EscapedStr;
 use crate::literals::FloatText;
-use crate::spelled::{Spelled, SpelledValue};
-use crate::tokens::put_escaped_str;
+use crate::spelled::SpelledValue;
 use std::alloc::{AllocError, Global};
 
 /// A value of a field.
@@ -95,57 +93,6 @@ impl<'a> FieldValue<'a> {
             SpelledValue::Boolean(value) => FieldValue::Boolean(value),
         })
     }
-}
-
-// Makes of a value the one that is spelled so, whatever it was.
-#[inline(always)]
-fn put_any_value<'a>(alloc: Global, place: &mut FieldValue<'a>, value: SpelledValue<'a>) -> bool
-    ensures value { result ≡ true → value_of place.new ≡ spelled_value value.entry }
-    ensures needs { result ≡ false → is_single_value (spelled_value value.entry) ≡ false }
-{
-    match FieldValue::from_spelled(alloc, value) {
-        Ok(value) => {
-            *place = value;
-            true
-        }
-        Err(_) => false,
-    }
-}
-
-/// Puts the value that is spelled so into the place of another, unless memory for it is refused. Only a text that is a copy takes
-/// memory. In the place of a value of the same kind no more than what differs is written.
-///
-/// ```text
-/// 64i  makes  I64(64)  of  I64(1)
-/// ```
-#[inline(always)]
-pub fn put_value<'a>(alloc: Global, place: &mut FieldValue<'a>, value: SpelledValue<'a>) -> bool
-    ensures value { result ≡ true → value_of place.new ≡ spelled_value value.entry }
-    ensures needs { result ≡ false → is_single_value (spelled_value value.entry) ≡ false }
-{
-    match (&mut *place, &value) {
-        (FieldValue::I64(place), SpelledValue::I64(value)) => *place = *value,
-        (FieldValue::U64(place), SpelledValue::U64(value)) => *place = *value,
-        (FieldValue::F64(place), SpelledValue::F64(value)) => *place = *value,
-        (FieldValue::String(place), SpelledValue::String(text)) => {
-            return put_text(alloc, place, *text);
-        }
-        _ => return put_any_value(alloc, place, value),
-    }
-    true
-}
-
-/// Puts the logical text of a spelling into the place of another text, unless memory for it is refused. Only a copy takes memory.
-///
-/// ```text
-/// cpu  makes a slice of the place,  cpu\ load  the copy  cpu load
-/// ```
-#[inline(always)]
-pub fn put_text<'a>(alloc: Global, place: &mut EscapedStr<'a>, text: Spelled<'a>) -> bool
-    ensures text { result ≡ true → read_of place.new ≡ spelled_text text.entry }
-    ensures needs { result ≡ false → (spelled_text text.entry).is_single ≡ false }
-{
-    put_escaped_str(alloc, text.token, place)
 }
 
 /// Whether `byte` is at `place`.
