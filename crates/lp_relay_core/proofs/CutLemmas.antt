@@ -28,8 +28,7 @@ ends_alike (b ∷ bs) (c ∷ cs) p qs x e =
 -- a text has a first piece
 first_piece : (dialect : Dialect) (text : List ℕ) (pieces : List (List ℕ)) → Pieces dialect text pieces
     → (first : List ℕ) × (others : List (List ℕ)) × (pieces ≡ first ∷ others)
-first_piece dialect text pieces (last piece h) = (piece, [], refl)
-first_piece dialect text pieces (cut piece rest others c h) = (piece, others, refl)
+first_piece dialect text pieces h = grind (arith)
 
 -- no text with a newline is empty
 holds_newline : (u t : List ℕ) → u ++ newline ∷ t ≡ [] → ⊥
@@ -38,8 +37,7 @@ holds_newline (b ∷ u) t e = absurd (cc)
 
 -- a text of no bytes is one piece of none
 nothing_has : (dialect : Dialect) (text : List ℕ) (pieces : List (List ℕ)) → text ≡ [] → Pieces dialect text pieces → pieces ≡ [] ∷ []
-nothing_has dialect text pieces e (last piece h) = ap (λ (p : List ℕ). p ∷ []) e
-nothing_has dialect text pieces e (cut piece rest others c h) = absurd (holds_newline piece rest e)
+nothing_has dialect text pieces e h = grind (arith, holds_newline)
 
 -- an empty text is one empty piece
 pub nothing_is_piece : PiecesExist → (dialect : Dialect) → Pieces dialect [] ([] ∷ [])
@@ -50,16 +48,10 @@ nothing_is_piece exist dialect =
 -- the pieces of a text that ends with a newline that ends a piece, and those of a text after it, are joined
 pub pieces_joined : (dialect : Dialect) (u t : List ℕ) (us fs ts : List (List ℕ)) → us ≡ fs ++ [] ∷ [] → Pieces dialect u us
     → Pieces dialect t ts → Pieces dialect (u ++ t) (fs ++ ts)
-pieces_joined dialect u t us [] ts e (last piece h) k =
-    let empty : piece ≡ [] = cc in
-    subst (λ (l : List ℕ). Pieces dialect (l ++ t) ts) (sym empty) k
+pieces_joined dialect u t us [] ts e (last piece h) k = grind (arith)
 pieces_joined dialect u t us (f ∷ []) ts e (last piece h) k = absurd (cc)
 pieces_joined dialect u t us (f ∷ (g ∷ fs)) ts e (last piece h) k = absurd (cc)
-pieces_joined dialect u t us [] ts e (cut piece rest others c h) k =
-    let none : others ≡ [] = cc in
-    let some = first_piece dialect rest others h in
-    let both : some.0 ∷ some.1 ≡ [] = sym some.2 ∙ none in
-    absurd (cc)
+pieces_joined dialect u t us [] ts e (cut piece rest others c h) k = grind (arith, first_piece)
 pieces_joined dialect u t us (f ∷ fs) ts e (cut piece rest others c h) k =
     let same : piece ≡ f = cc in
     let left : others ≡ fs ++ [] ∷ [] = cc in
@@ -83,9 +75,7 @@ pieces_between exist unique dialect u t us vs h k =
 front_has_none : PiecesExist → PiecesAreUnique → (dialect : Dialect) (text first : List ℕ) (more : List (List ℕ))
     → Pieces dialect text (first ∷ more) → (front rest : List ℕ) (pieces fs : List (List ℕ)) → front ++ rest ≡ text → 0 < length front
     → length front ≤ length first → pieces ≡ fs ++ [] ∷ [] → Pieces dialect front pieces → ⊥
-front_has_none exist unique dialect text first more h front rest pieces [] e some few ends (last piece k) =
-    let empty : piece ≡ [] = cc in
-    absurd (omega (arith, ap (λ (l : List ℕ). length l) empty))
+front_has_none exist unique dialect text first more h front rest pieces [] e some few ends (last piece k) = grind (arith)
 front_has_none exist unique dialect text first more h front rest pieces (f ∷ []) e some few ends (last piece k) = absurd (cc)
 front_has_none exist unique dialect text first more h front rest pieces (f ∷ (g ∷ fs)) e some few ends (last piece k) = absurd (cc)
 front_has_none exist unique dialect text first more h front rest pieces fs e some few ends (cut piece after others c k) =

@@ -23,8 +23,7 @@ pub faults_from_append : (dialect : Dialect) (limit : Option ℕ) (place : Place
     → faults_from dialect limit place number (ps ++ qs)
     ≡ faults_from dialect limit place number ps
     ++ faults_from dialect limit (place_past place ps) (number + length (items_of dialect limit ps)) qs
-faults_from_append dialect limit place number [] qs =
-    ap (λ (n : ℕ). faults_from dialect limit place n qs) {y = number + 0} (omega arith)
+faults_from_append dialect limit place number [] qs = grind (arith)
 faults_from_append dialect limit place number (p ∷ ps) qs =
     let items = items_of_piece dialect limit p in
     let others = items_of dialect limit ps in
@@ -42,9 +41,7 @@ pub faults_from_push : (dialect : Dialect) (limit : Option ℕ) (place : Place) 
     → faults_from dialect limit place number (ps ++ p ∷ [])
     ≡ faults_from dialect limit place number ps
     ++ faults_at (place_past place ps) (number + length (items_of dialect limit ps)) (items_of_piece dialect limit p)
-faults_from_push dialect limit place number ps p =
-    faults_from_append dialect limit place number ps (p ∷ [])
-    ∙ ap (λ (l : List ℕ). faults_from dialect limit place number ps ++ l) (append-nil _)
+faults_from_push dialect limit place number ps p = grind (arith, faults_from_append, append-nil)
 
 -- the fault line of an item that names its number
 fault_by_number : (number : ℕ) (item : Item)

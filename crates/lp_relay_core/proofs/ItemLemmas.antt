@@ -1,26 +1,21 @@
 -- The items of a relay, one after another.
-use Rattle.std.proofs.Common.{◌≡◌, ℕ, ◌+◌, ◌-◌, ◌^◌, ◌==◌, ◌≤◌, nat_lt, true, false, not, cond, List, [], ◌∷◌, ◌++◌, length, map}
-use Rattle.std.proofs.Common.{Option, Some, None, refl, sym, ap, ◌∙◌, arith, append_assoc, append-nil, inl, inr}
-use Rattle.std.specs.List.{flat_map}
+use Rattle.std.proofs.Common.{◌≡◌, ℕ, ◌+◌, ◌≤◌, nat_lt, false, not, cond, List, [], ◌∷◌, ◌++◌, length, map}
+use Rattle.std.proofs.Common.{Option, refl, sym, ap, ◌∙◌, arith, append_assoc, append-nil, inl, inr}
 use Rattle.std.specs.Str.{IsUtf8, is_utf8}
 use Rattle.std.proofs.lemmas.Bool.{cases_Bool}
-use Rattle.std.proofs.lemmas.Bool.Decides.{nat_tests}
 use Rattle.std.proofs.lemmas.Grind.{flat_map-append}
 use Rattle.std.proofs.lemmas.List.Sums.{sum_by-append}
 use Rattle.std.proofs.lemmas.Str.{IsUtf8-from_is_utf8, is_utf8-from_IsUtf8}
 use Rattle.influxdb_line_protocol.specs.format.Dialects.{Dialect}
-use Rattle.influxdb_line_protocol.specs.format.Points.{built}
 use Rattle.influxdb_line_protocol.specs.format.Items.{answers_of_piece}
 use Rattle.influxdb_line_protocol.specs.code.Bounded.{IsTooLong}
 use Rattle.lp_relay_core.specs.Relaying.{Item, answered, not_utf8, too_long, limit_of, is_too_long, items_of_bytes, items_of_piece, items_of}
-use Rattle.lp_relay_core.specs.Relaying.{is_carried_item, item_point, items_batch, item_fault, item_faults, carried_items, refused_items}
+use Rattle.lp_relay_core.specs.Relaying.{is_carried_item, items_batch, item_fault, item_faults, carried_items, refused_items}
 use Rattle.lp_rebuild.proofs.RebuildLemmas.{one_of_two}
 
 -- the batch of items and others
 pub batch_append : (xs ys : List Item) → items_batch (xs ++ ys) ≡ items_batch xs ++ items_batch ys
-batch_append xs ys =
-    ap (flat_map built) (flat_map-append item_point xs ys)
-    ∙ flat_map-append built (flat_map item_point xs) (flat_map item_point ys)
+batch_append xs ys = grind (arith, flat_map-append)
 
 -- their faults
 pub faults_append : (number : ℕ) (xs ys : List Item)
@@ -79,26 +74,15 @@ items_of_fitting dialect limit piece h = rw h refl
 -- so if it has no more bytes than the limit
 pub items_of_short : (dialect : Dialect) (limit : ℕ) (piece : List ℕ) → length piece ≤ limit
     → items_of_piece dialect (limit_of limit) piece ≡ items_of_bytes dialect piece
-items_of_short dialect limit piece h =
-    elim (cases_Bool (limit == 2 ^ 64 - 1)) [
-      | inl none ↦ rw none (items_of_fitting dialect None piece refl)
-      | inr some ↦ rw some (items_of_fitting dialect (Some limit) piece (grind (arith, nat_tests)))
-    ]
+items_of_short dialect limit piece h = grind (arith, cases_Bool, items_of_fitting)
 
 -- the item of a piece that is too long
 pub item_of_long : (dialect : Dialect) (limit : ℕ) (piece : List ℕ) → IsTooLong limit piece
     → items_of_piece dialect (limit_of limit) piece ≡ too_long ∷ []
 unfolding items_of_piece
-item_of_long dialect limit piece h =
-    let longer = h.0 in
-    let real = h.1 in
-    let some : (limit == 2 ^ 64 - 1) ≡ false = grind (arith, nat_tests) in
-    let long : nat_lt limit (length piece) ≡ true = grind (arith, nat_tests) in
-    rw some (rw long refl)
+item_of_long dialect limit piece h = grind (arith, nat_lt)
 
 -- the items of pieces and one more
 pub items_push : (dialect : Dialect) (limit : Option ℕ) (pieces : List (List ℕ)) (piece : List ℕ)
     → items_of dialect limit (pieces ++ piece ∷ []) ≡ items_of dialect limit pieces ++ items_of_piece dialect limit piece
-items_push dialect limit pieces piece =
-    flat_map-append (items_of_piece dialect limit) pieces (piece ∷ [])
-    ∙ ap (λ (l : List Item). items_of dialect limit pieces ++ l) (append-nil (items_of_piece dialect limit piece))
+items_push dialect limit pieces piece = grind (arith, flat_map-append, append-nil)

@@ -1,6 +1,6 @@
 -- The ends of parts that were found so far.
 use Rattle.std.proofs.Common.{◌≡◌, ℕ, suc, ◌+◌, ◌-◌, ◌*◌, ◌/◌, ◌<◌, ◌≤◌, List, [], ◌∷◌, ◌++◌, length, max, slice_index, slice_index_or}
-use Rattle.std.proofs.Common.{refl, sym, ap, subst, ◌∙◌, length-append, arith, inl, inr}
+use Rattle.std.proofs.Common.{refl, sym, ap, subst, ◌∙◌, length-append, arith}
 use Rattle.std.specs.List.Sorted.{IsNonDecreasing}
 use Rattle.std.proofs.Math.Nat.{div-mul-le_self, eq-or-lt_of_le}
 use Rattle.std.proofs.Math.Seq.{get_or-append_seam}
@@ -26,13 +26,7 @@ start_is_cut exist dialect text = record { within = omega arith; pieces = []; ar
 
 -- none was found
 pub ends_none : (dialect : Dialect) (text : List ℕ) (count : ℕ) → EndsSoFar dialect text count [] 0
-ends_none dialect text count =
-    record {
-      each = λ k h. absurd (omega arith);
-      below = λ k d h. absurd (omega arith);
-      rise = λ i j d up h. absurd (omega arith);
-      first = λ other h there. omega arith;
-    }
+ends_none dialect text count = grind (arith)
 
 -- the greater of 1 and a number rises with it
 max_rises : (a b : ℕ) → a ≤ b → max 1 a ≤ max 1 b
@@ -40,10 +34,7 @@ max_rises a b h = grind arith
 
 -- the parts of one length end in order
 even_ends_rise : (k len count : ℕ) → 0 < count → max 1 (k * len / count) ≤ max 1 ((k + 1) * len / count)
-even_ends_rise k len count some =
-    max_rises (k * len / count) ((k + 1) * len / count)
-    (le-div (k * len / count) ((k + 1) * len) count some
-    (omega (arith, div-mul-le_self (k * len) count, mul-le k len (k + 1) len (omega arith) (omega arith))))
+even_ends_rise k len count some = grind (arith, max_rises, le-div, div-mul-le_self, mul-le)
 
 -- the walk has passed no cut for the next end
 pub none_passed : (dialect : Dialect) (text : List ℕ) (count k : ℕ) (ends : List ℕ) (at : ℕ) → EndsSoFar dialect text count ends at
@@ -59,15 +50,7 @@ none_passed dialect text count k ends at so_far is few other cut_there there =
 -- an element of a list, and one after them
 push_cases : (P : ℕ → ℕ → Type 0) (xs : List ℕ) (y d : ℕ) → ((k : ℕ) → k < length xs → P k (slice_index_or xs k d)) → P (length xs) y
     → (k : ℕ) → k < length (xs ++ y ∷ []) → P k (slice_index_or (xs ++ y ∷ []) k d)
-push_cases P xs y d before new k h =
-    let len = length-append xs (y ∷ []) in
-    let few : k ≤ length xs = omega (arith, len) in
-    elim (eq-or-lt_of_le few) [
-      | inl same ↦
-          subst (λ (n : ℕ). P n (slice_index_or (xs ++ y ∷ []) n d)) (sym same)
-          (subst (P (length xs)) (sym (get_or-append_seam xs y [] d)) new)
-      | inr less ↦ subst (P k) (sym (get_or_append_left xs (y ∷ []) d k less)) (before k less)
-    ]
+push_cases P xs y d before new k h = grind (arith, length-append, eq-or-lt_of_le, slice_index_or, get_or-append_seam, get_or_append_left)
 
 -- one more was found
 pub ends_more : (dialect : Dialect) (text : List ℕ) (count k : ℕ) (ends : List ℕ) (at new : ℕ) → EndsSoFar dialect text count ends at

@@ -14,6 +14,7 @@ use Rattle.influxdb_line_protocol.specs.laws.Laws.{PiecesExist, PiecesAreUnique}
 use Rattle.influxdb_line_protocol.specs.laws.StreamLaws.{HaveAnswers}
 use Rattle.lp_relay_core.specs.Cuts.{HavePieces, IsCutAt, JoinsPieces, parts_from}
 use Rattle.lp_relay_core.proofs.CutLemmas.{pieces_between, pieces_joined, take_between}
+use Rattle.std.proofs.Common.{arith}
 
 -- places that rise from a first one, each of them a cut
 abbrev pub AreCutsFrom : Dialect → List ℕ → ℕ → List ℕ → Type 0
@@ -63,26 +64,18 @@ no_answers dialect = refl
 
 -- so the empty piece at the end of a part has none
 answers_before : (dialect : Dialect) (pieces : List (List ℕ)) → answers_of dialect (pieces ++ [] ∷ []) ≡ answers_of dialect pieces
-answers_before dialect pieces =
-    flat_map-append (answers_of_piece dialect) pieces ([] ∷ [])
-    ∙ ap (λ (l : List (Result Line Fault)). answers_of dialect pieces ++ (l ++ [])) (no_answers dialect)
-    ∙ append-nil (answers_of dialect pieces)
+answers_before dialect pieces = grind (arith, flat_map-append, no_answers, append-nil)
 
 -- the answers for a text are those of its pieces
 answers_are : PiecesAreUnique → (dialect : Dialect) (text : List ℕ) (pieces : List (List ℕ)) (answers : List (Result Line Fault))
     → Pieces dialect text pieces → HasAnswers dialect text answers → answers ≡ answers_of dialect pieces
-answers_are unique dialect text pieces answers h has =
-    has.answered ∙ ap (answers_of dialect) (unique dialect text has.pieces pieces has.are h)
+answers_are unique dialect text pieces answers h has = grind (arith)
 
 -- the answers of parts, joined, are those of their pieces
 answers_joined : PiecesAreUnique → (dialect : Dialect) (parts pieces : List (List ℕ)) (answers : List (Result Line Fault))
     → HavePieces dialect parts pieces → HaveAnswers dialect parts answers → answers ≡ answers_of dialect pieces
 answers_joined unique dialect [] pieces answers h has = has ∙ ap (answers_of dialect) (sym h)
-answers_joined unique dialect (part ∷ []) pieces answers h has =
-    has.4
-    ∙ ap (λ (l : List (Result Line Fault)). has.0 ++ l) has.3
-    ∙ append-nil has.0
-    ∙ answers_are unique dialect part pieces has.0 h has.2
+answers_joined unique dialect (part ∷ []) pieces answers h has = grind (arith, append-nil, answers_are)
 answers_joined unique dialect (part ∷ (next ∷ parts)) pieces answers h has =
     let first : has.0 ≡ answers_of dialect h.0 =
     answers_are unique dialect part (h.0 ++ [] ∷ []) has.0 h.2 has.2 ∙ answers_before dialect h.0 in
@@ -96,5 +89,4 @@ answers_joined unique dialect (part ∷ (next ∷ parts)) pieces answers h has =
 -- so they are the answers for the text
 pub parts_answer : PiecesAreUnique → (dialect : Dialect) (text : List ℕ) (parts : List (List ℕ)) → JoinsPieces dialect text parts
     → (answers : List (Result Line Fault)) → HaveAnswers dialect parts answers → HasAnswers dialect text answers
-parts_answer unique dialect text parts h answers has =
-    record { pieces = h.0; are = h.2; answered = answers_joined unique dialect parts h.0 answers h.1 has }
+parts_answer unique dialect text parts h answers has = grind (arith, answers_joined)

@@ -6,6 +6,7 @@ use Rattle.std.specs.Io.KnownBytes.{Appends}
 use Rattle.std.proofs.KnownBytes.{Appends-nil, Appends-trans}
 use Rattle.lp_rebuild.specs.Running.{AppendsFront}
 use Rattle.lp_relay_core.specs.RelaySteps.{Passes}
+use Rattle.std.proofs.Common.{arith}
 
 -- nothing was made or written
 pub passes_none : (a : Option (List ℕ)) (xs : List ℕ) → Passes a a xs [] xs
@@ -28,8 +29,7 @@ passes_front a b held p =
 
 -- if nothing was held and nothing is left, all was written
 pub passes_all : (a b : Option (List ℕ)) (added left : List ℕ) → Passes a b [] added left → left ≡ [] → Appends a b added
-passes_all a b added left p none =
-    subst (Appends a b) (sym (append-nil p.0) ∙ ap (λ l. p.0 ++ l) (sym none) ∙ p.2) p.1
+passes_all a b added left p none = grind (arith, append-nil)
 
 -- else a front of it
 pub passes_some : (a b : Option (List ℕ)) (added left more all : List ℕ) → Passes a b [] added left → all ≡ added ++ more

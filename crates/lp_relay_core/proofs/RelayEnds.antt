@@ -1,10 +1,10 @@
 -- How a relay ends.
-use Rattle.std.proofs.Common.{◌≡◌, ◌≢◌, ℕ, ◌+◌, ◌<◌, ◌⊎◌, ◌≤◌, ◌↔◌, ◌∙◌, [], Option, Some, IfSome, Result, Ok, Err, IsErrAnd}
-use Rattle.std.proofs.Common.{IfOk, OnOk, OnErr, true, refl, sym, subst, arith, inl, inr}
+use Rattle.std.proofs.Common.{◌≡◌, ◌≢◌, ℕ, ◌+◌, ◌<◌, ◌⊎◌, ◌≤◌, ◌↔◌, [], Option, Some, IfSome, Result, Ok, Err, IsErrAnd}
+use Rattle.std.proofs.Common.{IfOk, OnOk, OnErr, true, arith}
 use Rattle.influxdb_line_protocol.specs.format.Dialects.{Dialect}
 use Rattle.lp_rebuild.specs.declared.batch.Place.{Place}
 use Rattle.lp_rebuild.specs.declared.program.RunFault.{RunFault}
-use Rattle.lp_rebuild.specs.declared.program.RunFault.TheVariants.{Read, NotUtf8, OutOfMemory, Write}
+use Rattle.lp_rebuild.specs.declared.program.RunFault.TheVariants.{Read, NotUtf8, Write}
 use Rattle.lp_relay_core.specs.declared.relaying.Relayed.{Relayed}
 use Rattle.lp_rebuild.specs.Running.{CountsReadFault, ReaderTold, WriterTold}
 use Rattle.lp_relay_core.specs.RelaySteps.{CountsWriteFault}
@@ -25,18 +25,15 @@ pub record EndsFrom (dialect : Dialect) (limit : Option ℕ) (place : Place) (re
 
 -- counts that are the same have not risen
 none_rose : (a b c d : ℕ) → b ≡ a → d ≡ c → (a < b) ⊎ (c < d) → ⊥
-none_rose a b c d e f (inl h) = omega (arith, e, h)
-none_rose a b c d e f (inr h) = omega (arith, f, h)
+none_rose a b c d e f h = grind (arith)
 
 -- one of two counts has risen
 one_rose : (a b c d : ℕ) → ((b ≡ a + 1) × (d ≡ c)) ⊎ ((b ≡ a) × (d ≡ c + 1)) → (a < b) ⊎ (c < d)
-one_rose a b c d (inl h) = inl (omega (arith, h.0))
-one_rose a b c d (inr h) = inr (omega (arith, h.1))
+one_rose a b c d h = grind (arith)
 
 -- and none has fallen
 none_fell : (a b c d : ℕ) → ((b ≡ a + 1) × (d ≡ c)) ⊎ ((b ≡ a) × (d ≡ c + 1)) → (a ≤ b) × (c ≤ d)
-none_fell a b c d (inl h) = (omega (arith, h.0), omega (arith, h.1))
-none_fell a b c d (inr h) = (omega (arith, h.0), omega (arith, h.1))
+none_fell a b c d h = grind (arith)
 
 -- a fault of the reader, or memory that was refused
 pub read_fault : (dialect : Dialect) (limit : Option ℕ) (place : Place) (fault : RunFault) (count : ℕ) (reader reader_after : ReaderTold)
@@ -45,28 +42,7 @@ pub read_fault : (dialect : Dialect) (limit : Option ℕ) (place : Place) (fault
     → CountsReadFault {T = ℕ} (Err fault) count reader_after.failures → count ≡ reader.failures
     → out_after.failures ≡ out.failures → err_after.failures ≡ err.failures
     → EndsFrom dialect limit place (Err fault) reader reader_after out out_after err err_after
-read_fault dialect limit place Read count reader reader_after out out_after err err_after fronts c e o f =
-    record {
-      all = tt;
-      flushed = tt;
-      part = fronts;
-      read = (λ h. omega (arith, c, e), λ h. refl);
-      write = (λ h. absurd (cc), λ h. absurd (none_rose _ _ _ _ o f h));
-      utf8 = λ h. cc;
-      counts = (omega (arith, o), omega (arith, f));
-    }
-read_fault dialect limit place OutOfMemory count reader reader_after out out_after err err_after fronts c e o f =
-    record {
-      all = tt;
-      flushed = tt;
-      part = fronts;
-      read = (λ h. absurd (cc), λ h. absurd (omega (arith, c, e, h)));
-      write = (λ h. absurd (cc), λ h. absurd (none_rose _ _ _ _ o f h));
-      utf8 = λ h. cc;
-      counts = (omega (arith, o), omega (arith, f));
-    }
-read_fault dialect limit place NotUtf8 count reader reader_after out out_after err err_after fronts c e o f = absurd c
-read_fault dialect limit place Write count reader reader_after out out_after err err_after fronts c e o f = absurd c
+read_fault dialect limit place rite count reader reader_after out out_after err err_after fronts c e o f = grind (arith, none_rose)
 
 -- a fault of a writer, or memory that was refused
 pub write_fault : (dialect : Dialect) (limit : Option ℕ) (place : Place) (fault : RunFault) (out_count err_count : ℕ)
@@ -75,30 +51,7 @@ pub write_fault : (dialect : Dialect) (limit : Option ℕ) (place : Place) (faul
     → CountsWriteFault {T = Unit {0}} (Err fault) out_count out_after.failures err_count err_after.failures
     → out_count ≡ out.failures → err_count ≡ err.failures → reader_after.failures ≡ reader.failures
     → EndsFrom dialect limit place (Err fault) reader reader_after out out_after err err_after
-write_fault dialect limit place Write o f reader reader_after out out_after err err_after fronts c e k r =
-    let same = subst (λ n. CountsWriteFault {T = Unit {0}} (Err Write) n out_after.failures f err_after.failures) e c in
-    let rose = subst (λ n. CountsWriteFault {T = Unit {0}} (Err Write) out.failures out_after.failures n err_after.failures) k same in
-    record {
-      all = tt;
-      flushed = tt;
-      part = fronts;
-      read = (λ h. absurd (cc), λ h. absurd (omega (arith, r, h)));
-      write = (λ h. one_rose _ _ _ _ rose, λ h. refl);
-      utf8 = λ h. cc;
-      counts = none_fell _ _ _ _ rose;
-    }
-write_fault dialect limit place OutOfMemory o f reader reader_after out out_after err err_after fronts c e k r =
-    record {
-      all = tt;
-      flushed = tt;
-      part = fronts;
-      read = (λ h. absurd (cc), λ h. absurd (omega (arith, r, h)));
-      write = (λ h. absurd (cc), λ h. absurd (none_rose _ _ _ _ (c.0 ∙ e) (c.1 ∙ k) h));
-      utf8 = λ h. cc;
-      counts = (omega (arith, c.0, e), omega (arith, c.1, k));
-    }
-write_fault dialect limit place NotUtf8 o f reader reader_after out out_after err err_after fronts c e k r = absurd c
-write_fault dialect limit place Read o f reader reader_after out out_after err err_after fronts c e k r = absurd c
+write_fault dialect limit place ead o f reader reader_after out out_after err err_after fronts c e k r = grind (arith, one_rose, none_fell, none_rose)
 
 -- all was written
 pub ended : (dialect : Dialect) (limit : Option ℕ) (place : Place) (counts : Relayed) (reader reader_after : ReaderTold)
@@ -108,22 +61,11 @@ pub ended : (dialect : Dialect) (limit : Option ℕ) (place : Place) (counts : R
     → (out_after.is_flushed ≡ true) × (err_after.is_flushed ≡ true) → reader_after.failures ≡ reader.failures
     → out_after.failures ≡ out.failures → err_after.failures ≡ err.failures
     → EndsFrom dialect limit place (Ok counts) reader reader_after out out_after err err_after
-ended dialect limit place counts reader reader_after out out_after err err_after all flushed r o f =
-    record {
-      all = all;
-      flushed = flushed;
-      part = tt;
-      read = (λ h. absurd (cc), λ h. absurd (omega (arith, r, h)));
-      write = (λ h. absurd (cc), λ h. absurd (none_rose _ _ _ _ o f h));
-      utf8 = λ h. cc;
-      counts = (omega (arith, o), omega (arith, f));
-    }
+ended dialect limit place counts reader reader_after out out_after err err_after all flushed r o f = grind (arith, none_rose)
 
 -- a fault that was handed on
 pub handed_on : (dialect : Dialect) (limit : Option ℕ) (place : Place) (result : Result Relayed RunFault) (fault : RunFault)
     (reader reader_after : ReaderTold) (out out_after err err_after : WriterTold) → IsErrAnd result (λ e. e ≡ fault)
     → EndsFrom dialect limit place (Err fault) reader reader_after out out_after err err_after
     → EndsFrom dialect limit place result reader reader_after out out_after err err_after
-handed_on dialect limit place (Ok counts) fault reader reader_after out out_after err err_after is h = absurd is
-handed_on dialect limit place (Err e) fault reader reader_after out out_after err err_after is h =
-    subst (λ f. EndsFrom dialect limit place (Err f) reader reader_after out out_after err err_after) (sym is) h
+handed_on dialect limit place e fault reader reader_after out out_after err err_after is h = grind (arith)

@@ -1,6 +1,6 @@
 -- The steps of a relay, one after another.
 use Rattle.std.proofs.Common.{◌≡◌, ◌<◌, ℕ, List, [], ◌∷◌, ◌++◌, length, map, string_bytes, codes}
-use Rattle.std.proofs.Common.{Option, Result, Ok, Err, refl, sym, ap, subst, ◌∙◌, arith, append-nil}
+use Rattle.std.proofs.Common.{Option, Result, refl, sym, ap, subst, ◌∙◌, arith, append-nil}
 use Rattle.std.proofs.Common.{OnErr, inl, inr}
 use Rattle.std.proofs.Math.Nat.{eq-zero-or-pos}
 use Rattle.std.specs.Str.{IsUtf8}
@@ -9,12 +9,10 @@ use Rattle.std.specs.Io.KnownBytes.{Appends}
 use Rattle.std.proofs.KnownBytes.{Appends-nil}
 use Rattle.influxdb_line_protocol.specs.format.Dialects.{Dialect}
 use Rattle.influxdb_line_protocol.specs.format.Readings.{Fault}
-use Rattle.influxdb_line_protocol.specs.format.Points.{built_all}
 use Rattle.influxdb_line_protocol.specs.format.Lines.{Line, answer}
 use Rattle.influxdb_line_protocol.specs.format.Trimming.{trimmed}
 use Rattle.influxdb_line_protocol.specs.format.Items.{answers_of_piece}
 use Rattle.lp_rebuild.specs.declared.batch.Progress.{Progress}
-use Rattle.lp_rebuild.specs.Rebuilding.{carried_point, is_carried_answer}
 use Rattle.lp_rebuild.specs.RebuildSteps.{Refuses, Takes}
 use Rattle.lp_rebuild.specs.Running.{AppendsFront}
 use Rattle.lp_relay_core.specs.Relaying.{Item, answered, not_utf8, too_long, items_of_bytes, items_batch}
@@ -26,46 +24,22 @@ use Rattle.lp_relay_core.proofs.ItemLemmas.{items_of_text, item_of_no_text}
 
 -- nothing was taken
 takes_nothing : (old : Made) → TakesItems old [] old
-takes_nothing old =
-    record {
-      batch = sym (append-nil old.batch);
-      faults = sym (append-nil old.faults);
-      carried = omega arith;
-      refused = omega arith;
-    }
+takes_nothing old = grind (arith, append-nil)
 
 -- an answer is one item
 takes_answer : (old : Progress) (answer : Result Line Fault) (new : Progress) → Takes old answer new
     → TakesItems (made old) (answered answer ∷ []) (made new)
-takes_answer old answer new t =
-    record {
-      batch = t.batch ∙ ap (λ l. old.batch.items ++ built_all l) (sym (append-nil (carried_point answer)));
-      faults = t.faults ∙ ap (λ l. string_bytes old.faults ++ l) (sym (append-nil _));
-      carried = omega (arith, t.carried ∙ add_where (is_carried_answer answer) old.carried old.carried refl);
-      refused = omega (arith, t.refused ∙ add_elsewhere (is_carried_answer answer) old.refused old.refused refl);
-    }
+takes_answer old answer new t = grind (arith, append-nil, string_bytes, add_where, add_elsewhere)
 
 -- a piece that is not UTF-8 is one item
 takes_no_text : (old new : Progress) → Refuses old (codes "the line is not UTF-8") new
     → TakesItems (made old) (not_utf8 ∷ []) (made new)
-takes_no_text old new r =
-    record {
-      batch = r.batch ∙ sym (append-nil old.batch.items);
-      faults = r.faults ∙ ap (λ l. string_bytes old.faults ++ l) (sym (append-nil _));
-      carried = omega (arith, r.carried);
-      refused = r.refused;
-    }
+takes_no_text old new r = grind (arith, append-nil, string_bytes)
 
 -- so is one that is too long
 pub takes_too_long : (old new : Progress) → Refuses old (codes "the line is too long") new
     → TakesItems (made old) (too_long ∷ []) (made new)
-takes_too_long old new r =
-    record {
-      batch = r.batch ∙ sym (append-nil old.batch.items);
-      faults = r.faults ∙ ap (λ l. string_bytes old.faults ++ l) (sym (append-nil _));
-      carried = omega (arith, r.carried);
-      refused = r.refused;
-    }
+takes_too_long old new r = grind (arith, append-nil, string_bytes)
 
 -- the line of a piece is its one item
 takes_line : (dialect : Dialect) (piece : List ℕ) (old new : Progress) → 0 < length (trimmed piece)
@@ -149,14 +123,12 @@ part_more old mid a b c e f g xs ys fs gs p q =
 -- the same items and the same fault lines
 pub relays_same : (old new : Made) (a c e g : Option (List ℕ)) (xs ys : List Item) (fs gs : List ℕ) → xs ≡ ys → fs ≡ gs
     → RelaysItems old new a c e g xs fs → RelaysItems old new a c e g ys gs
-relays_same old new a c e g xs ys fs gs items lines p =
-    subst (λ l. RelaysItems old new a c e g l gs) items (subst (λ l. RelaysItems old new a c e g xs l) lines p)
+relays_same old new a c e g xs ys fs gs items lines p = grind (arith)
 
 -- the same, if a beginning was written
 pub part_same : (old : Made) (a c e g : Option (List ℕ)) (xs ys : List Item) (fs gs : List ℕ) → xs ≡ ys → fs ≡ gs
     → RelaysPart old a c e g xs fs → RelaysPart old a c e g ys gs
-part_same old a c e g xs ys fs gs items lines p =
-    subst (λ l. RelaysPart old a c e g l gs) items (subst (λ l. RelaysPart old a c e g xs l) lines p)
+part_same old a c e g xs ys fs gs items lines p = grind (arith)
 
 -- one step, and then what is held was written
 pub relays_then : (old mid new : Made) (a b c e f g : Option (List ℕ)) (xs : List Item) (fs : List ℕ)
@@ -174,8 +146,7 @@ part_then old mid a b c e f g xs fs p q =
 -- what is held is a beginning too
 pub part_so_far : (old new : Made) (a b e f : Option (List ℕ)) (xs : List Item) (fs : List ℕ) → RelaysItems old new a b e f xs fs
     → RelaysPart old a b e f xs fs
-part_so_far old new a b e f xs fs p =
-    record { batch_left = new.batch; faults_left = new.faults; batch = p.batch; faults = p.faults }
+part_so_far old new a b e f xs fs p = grind (arith)
 
 -- a front of the batch was written
 pub part_of_batch : (old : Progress) (a b e : Option (List ℕ)) (bytes : List ℕ) → bytes ≡ old.batch.items
@@ -231,5 +202,4 @@ relays_none old a e = relays_taken old old a e [] (takes_nothing old)
 
 -- a fact at a fault
 pub on_err : {T E P : Type 0} (r : Result T E) → P → OnErr r P
-on_err (Ok x) h = tt
-on_err (Err e) h = h
+on_err e h = grind (arith)

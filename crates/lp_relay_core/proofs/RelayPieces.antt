@@ -1,18 +1,18 @@
 -- The pieces that a relay takes, one after another.
-use Rattle.std.proofs.Common.{◌≡◌, ℕ, ◌+◌, ◌≤◌, List, [], ◌∷◌, ◌++◌, length, Option, Some, Result, Ok, Err}
+use Rattle.std.proofs.Common.{◌≡◌, ℕ, ◌≤◌, List, [], ◌∷◌, ◌++◌, length, Option, Some, Result, Ok}
 use Rattle.std.proofs.Common.{refl, sym, ap, subst, ◌∙◌, arith, append_assoc, append-nil}
 use Rattle.std.specs.Borrow.{Bor}
 use Rattle.std.proofs.lemmas.Grind.{flat_map-append}
 use Rattle.influxdb_line_protocol.specs.format.Dialects.{Dialect}
 use Rattle.influxdb_line_protocol.specs.format.Bytes.{newline, newlines_in}
-use Rattle.influxdb_line_protocol.specs.format.Pieces.{IsCutPiece, IsLastPiece}
-use Rattle.influxdb_line_protocol.specs.code.Bounded.{CutsTo, GivesOf, HeldWithin, Holds, IsLastOf, IsTooLong}
+use Rattle.influxdb_line_protocol.specs.format.Pieces.{IsCutPiece}
+use Rattle.influxdb_line_protocol.specs.code.Bounded.{CutsTo, GivesOf, HeldWithin, Holds, IsLastOf}
 use Rattle.influxdb_line_protocol.specs.types.PieceTooLong.{PieceTooLong}
 use Rattle.influxdb_line_protocol.specs.laws.StreamLaws.{Run, Run.taken}
 use Rattle.lp_rebuild.specs.declared.batch.Place.{Place}
-use Rattle.lp_relay_core.specs.Relaying.{Item, limit_of, items_of_bytes, items_of_piece, items_of}
+use Rattle.lp_relay_core.specs.Relaying.{Item, limit_of, items_of_piece, items_of}
 use Rattle.lp_relay_core.specs.RelaySteps.{Made, RelaysItems, RelaysPart, RelaysAllPieces, RelaysSome, RelaysTo, TakesItems}
-use Rattle.lp_relay_core.specs.RelaySteps.{TakesPieces, faults_at, faults_from, faults_next, faults_past, items_given, newlines_given}
+use Rattle.lp_relay_core.specs.RelaySteps.{TakesPieces, faults_next, faults_past, items_given, newlines_given}
 use Rattle.lp_relay_core.specs.RelaySteps.{place_after, place_past}
 use Rattle.lp_relay_core.proofs.ItemLemmas.{item_of_long, items_add_up, items_of_short, items_push}
 use Rattle.lp_relay_core.proofs.FaultLines.{faults_from_append, faults_from_push, place_append}
@@ -31,54 +31,23 @@ pub record Given (dialect : Dialect) (limit : ℕ) (text : List ℕ) (result : R
 -- a piece that is not too long
 pub given_short : (dialect : Dialect) (limit : ℕ) (text : List ℕ) (piece : Bor (List ℕ)) (rest : List ℕ) → length piece.now ≤ limit
     → CutsTo dialect text piece.now rest → Given dialect limit text (Ok piece) rest
-given_short dialect limit text piece rest short cuts =
-    record {
-      piece = piece.now;
-      text_is = cuts.0;
-      is_cut = cuts.1;
-      items = sym (items_of_short dialect limit piece.now short);
-      newlines = refl;
-    }
+given_short dialect limit text piece rest short cuts = grind (arith, items_of_short)
 
 -- the stream gave one, and holds the rest
 pub given_piece : (dialect : Dialect) (limit : ℕ) (before after : HeldWithin) (text : List ℕ)
     (result : Result (Bor (List ℕ)) PieceTooLong) → before.held.dialect ≡ dialect → before.limit ≡ limit
     → GivesOf before text (Some result) after → (rest : List ℕ) × Holds after rest × Given dialect limit text result rest
-given_piece dialect limit before after text (Ok piece) same bound h = (
-  h.0,
-  h.3,
-  given_short dialect limit text piece h.0 (subst (λ n. length piece.now ≤ n) bound h.1)
-      (h.2.0, subst (λ d. IsCutPiece d piece.now) same h.2.1),
-)
-given_piece dialect limit before after text (Err e) same bound h = (
-  h.1,
-  h.4,
-  record {
-    piece = h.0;
-    text_is = h.3.0;
-    is_cut = subst (λ d. IsCutPiece d h.0) same h.3.1;
-    items = sym (item_of_long dialect limit h.0 (subst (λ n. IsTooLong n h.0) bound h.2));
-    newlines = h.5;
-  },
-)
+given_piece dialect limit before after text e same bound h = grind (arith, given_short, item_of_long)
 
 -- so it is where more bytes come
 pub given_on : (dialect : Dialect) (limit : ℕ) (text : List ℕ) (result : Result (Bor (List ℕ)) PieceTooLong) (rest t : List ℕ)
     → Given dialect limit text result rest → Given dialect limit (text ++ t) result (rest ++ t)
-given_on dialect limit text result rest t g =
-    record {
-      piece = g.piece;
-      text_is = ap (λ l. l ++ t) g.text_is ∙ append_assoc g.piece (newline ∷ rest) t;
-      is_cut = g.is_cut;
-      items = g.items;
-      newlines = g.newlines;
-    }
+given_on dialect limit text result rest t g = grind (arith, append_assoc)
 
 -- the items of the last piece
 pub last_items : (dialect : Dialect) (limit : ℕ) (text : List ℕ) (result : Result (Bor (List ℕ)) PieceTooLong)
     → IsLastOf limit text result → items_given dialect result ≡ items_of_piece dialect (limit_of limit) text
-last_items dialect limit text (Ok piece) h = ap (items_of_bytes dialect) h.0 ∙ sym (items_of_short dialect limit text h.1)
-last_items dialect limit text (Err e) h = sym (item_of_long dialect limit text h.0)
+last_items dialect limit text e h = grind (arith, items_of_short, item_of_long)
 
 -- no piece was taken
 takes_none : (dialect : Dialect) (text : List ℕ) → TakesPieces dialect text [] text
@@ -96,8 +65,7 @@ takes_one dialect text mid rest pieces piece takes is cut given t first r =
 -- pieces, and then others
 takes_then : (dialect : Dialect) (text mid rest : List ℕ) (ps qs : List (List ℕ)) → TakesPieces dialect text ps mid
     → TakesPieces dialect mid qs rest → TakesPieces dialect text (ps ++ qs) rest
-takes_then dialect text mid rest ps qs p q given t first r =
-    subst (λ l. Run dialect given l (rest ++ t)) (append_assoc first ps qs) (q given t (first ++ ps) (p given t first r))
+takes_then dialect text mid rest ps qs p q given t first r = grind (arith, append_assoc)
 
 -- what a run holds once pieces of that were taken
 pub run_on : (dialect : Dialect) (given text rest : List ℕ) (first pieces : List (List ℕ)) → Run dialect given first text
@@ -115,34 +83,18 @@ pub next_faults : (dialect : Dialect) (limit : Option ℕ) (old now : Made) (a b
     (items : List Item) (fs : List ℕ) → RelaysItems old now a b e f (items_of dialect limit ps) fs → now.place ≡ place_past old.place ps
     → items ≡ items_of_piece dialect limit p
     → faults_past dialect limit old ps ++ faults_next now items ≡ faults_past dialect limit old (ps ++ p ∷ [])
-next_faults dialect limit old now a b e f ps p items fs relays place is =
-    let number = old.carried + old.refused + 1 in
-    let before = faults_past dialect limit old ps in
-    let at = now.carried + now.refused + 1 in
-    ap (λ (l : List Item). before ++ faults_at now.place at l) is
-    ∙ ap (λ (q : Place). before ++ faults_at q at (items_of_piece dialect limit p)) place
-    ∙ ap (λ (n : ℕ). before ++ faults_at (place_past old.place ps) n (items_of_piece dialect limit p))
-    {y = number + length (items_of dialect limit ps)}
-    (omega (arith, relays.carried, relays.refused, items_add_up (items_of dialect limit ps)))
-    ∙ sym (faults_from_push dialect limit old.place number ps p)
+next_faults dialect limit old now a b e f ps p items fs relays place is = grind (arith, items_add_up, faults_from_push)
 
 -- and so do those of others
 pub faults_then : (dialect : Dialect) (limit : Option ℕ) (old now : Made) (a b e f : Option (List ℕ)) (ps qs : List (List ℕ))
     (fs : List ℕ) → RelaysItems old now a b e f (items_of dialect limit ps) fs → now.place ≡ place_past old.place ps
     → faults_past dialect limit old ps ++ faults_past dialect limit now qs ≡ faults_past dialect limit old (ps ++ qs)
-faults_then dialect limit old now a b e f ps qs fs relays place =
-    let number = old.carried + old.refused + 1 in
-    let before = faults_past dialect limit old ps in
-    ap (λ (q : Place). before ++ faults_from dialect limit q (now.carried + now.refused + 1) qs) place
-    ∙ ap (λ (n : ℕ). before ++ faults_from dialect limit (place_past old.place ps) n qs) {y = number + length (items_of dialect limit ps)}
-    (omega (arith, relays.carried, relays.refused, items_add_up (items_of dialect limit ps)))
-    ∙ sym (faults_from_append dialect limit old.place number ps qs)
+faults_then dialect limit old now a b e f ps qs fs relays place = grind (arith, items_add_up, faults_from_append)
 
 -- what is named after one piece more
 next_place : (place now next : Place) (newlines : ℕ) (ps : List (List ℕ)) (p : List ℕ) → now ≡ place_past place ps
     → newlines ≡ newlines_in p → next ≡ place_after now newlines → next ≡ place_past place (ps ++ p ∷ [])
-next_place place now next newlines ps p is lines step =
-    step ∙ ap (place_after now) lines ∙ ap (λ (q : Place). place_after q (newlines_in p)) is ∙ sym (place_append place ps (p ∷ []))
+next_place place now next newlines ps p is lines step = grind (arith, place_append)
 
 -- no piece was taken so far
 pub to_none : (dialect : Dialect) (limit : Option ℕ) (text : List ℕ) (old : Made) (a e : Option (List ℕ))

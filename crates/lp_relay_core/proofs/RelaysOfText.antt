@@ -12,7 +12,7 @@ use Rattle.influxdb_line_protocol.specs.format.Readings.{Fault}
 use Rattle.influxdb_line_protocol.specs.format.Points.{built_all}
 use Rattle.influxdb_line_protocol.specs.format.Lines.{Line}
 use Rattle.influxdb_line_protocol.specs.format.Pieces.{Pieces, Pieces.cut, Pieces.last}
-use Rattle.influxdb_line_protocol.specs.format.Items.{answers_of, answers_of_piece}
+use Rattle.influxdb_line_protocol.specs.format.Items.{answers_of}
 use Rattle.influxdb_line_protocol.specs.laws.Laws.{PiecesAreUnique}
 use Rattle.influxdb_line_protocol.specs.laws.StreamLaws.{Utf8ByPieces}
 use Rattle.lp_rebuild.specs.declared.batch.Rebuilt.{Rebuilt}
@@ -74,10 +74,7 @@ short_pieces limit (piece ∷ pieces) h =
 items_of_texts : (dialect : Dialect) (limit : Option ℕ) (piece : List ℕ) (pieces : List (List ℕ)) → is_too_long limit piece ≡ false
     → IsUtf8 piece → items_of dialect limit pieces ≡ as_items (answers_of dialect pieces)
     → items_of dialect limit (piece ∷ pieces) ≡ as_items (answers_of dialect (piece ∷ pieces))
-items_of_texts dialect limit piece pieces fits u others =
-    ap (λ l. l ++ items_of dialect limit pieces) (items_of_fitting dialect limit piece fits ∙ items_of_text dialect piece u)
-    ∙ ap (λ l. as_items (answers_of_piece dialect piece) ++ l) others
-    ∙ sym (map-append answered (answers_of_piece dialect piece) (answers_of dialect pieces))
+items_of_texts dialect limit piece pieces fits u others = grind (arith, items_of_fitting, items_of_text, map-append)
 
 -- the items of a text that is UTF-8, and has no piece that is too long, are its answers
 items_are_answers : Utf8ByPieces → (dialect : Dialect) (limit : Option ℕ) (text : List ℕ) (pieces : List (List ℕ))
@@ -92,18 +89,13 @@ items_are_answers law dialect limit text pieces (cut piece rest others c k) u fi
 items_of_rebuilt : Utf8ByPieces → PiecesAreUnique → (dialect : Dialect) (limit : Option ℕ) (text : List ℕ) (items : List Item)
     → (has : HasByteItems dialect limit text items) → NoneTooLong limit has.pieces → IsUtf8 text → (r : Rebuilt)
     → (h : RebuildsIn dialect text r) → items ≡ as_items h.answers
-items_of_rebuilt law unique dialect limit text items has fit u r h =
-    has.items_are ∙ items_are_answers law dialect limit text has.pieces has.are u fit
-    ∙ ap (λ ps. as_items (answers_of dialect ps)) (unique dialect text has.pieces h.has.pieces has.are h.has.are)
-    ∙ ap as_items (sym h.has.answered)
+items_of_rebuilt law unique dialect limit text items has fit u r h = grind (arith, items_are_answers)
 
 -- what holds if no piece is too long holds of a text that is rebuilt
 if_rebuilt : PiecesAreUnique → (dialect : Dialect) (limit : Option ℕ) (text : List ℕ) (pieces : List (List ℕ)) (P : Rebuilt → Type 0)
     → Pieces dialect text pieces
     → (NoneTooLong limit pieces → IsUtf8 text → (r : Rebuilt) → RebuildsIn dialect text r → P r) → IfRebuilt dialect limit text P
-if_rebuilt unique dialect None text pieces P are f = f (no_limit pieces)
-if_rebuilt unique dialect (Some limit) text pieces P are f =
-    λ u short. f (subst (NoneTooLong (Some limit)) (unique dialect text short.0 pieces short.1 are) (short_pieces limit short.0 short.2)) u
+if_rebuilt unique dialect limit text pieces x5 are f = grind (arith, no_limit, short_pieces)
 
 -- what was written of all items is what the rebuild gives
 pub all_rebuilt : Utf8ByPieces → PiecesAreUnique → (dialect : Dialect) (limit : Option ℕ) (text : List ℕ) (counts : Relayed)

@@ -5,7 +5,7 @@ use Rattle.std.specs.Io.KnownBytes.{Appends, Consumes, IsAtEnd}
 use Rattle.std.proofs.KnownBytes.{Consumes-nil, Consumes-trans, Consumes-whole}
 use Rattle.std.proofs.lemmas.Grind.{flat_map-append}
 use Rattle.influxdb_line_protocol.specs.format.Dialects.{Dialect}
-use Rattle.influxdb_line_protocol.specs.format.Pieces.{IsLastPiece, Pieces, Pieces.cut, Pieces.last}
+use Rattle.influxdb_line_protocol.specs.format.Pieces.{IsLastPiece, Pieces}
 use Rattle.influxdb_line_protocol.specs.code.Bounded.{HeldWithin, Holds}
 use Rattle.influxdb_line_protocol.specs.laws.Laws.{PiecesExist}
 use Rattle.influxdb_line_protocol.specs.laws.StreamLaws.{Run, Run.begun, Run.pushed, RunsEnd, RunsGivePieces}
@@ -65,8 +65,7 @@ not_empty (b ∷ u) t e = absurd (cc)
 -- an empty text is its own last piece
 nothing_is_last : (dialect : Dialect) (text : List ℕ) (pieces : List (List ℕ)) → text ≡ [] → Pieces dialect text pieces
     → IsLastPiece dialect text
-nothing_is_last dialect text pieces e (last piece h) = h
-nothing_is_last dialect text pieces e (cut piece rest others c h) = absurd (not_empty piece rest e)
+nothing_is_last dialect text pieces e h = grind (arith, not_empty)
 
 -- a text of no bytes is one piece
 none_is_last : PiecesExist → (dialect : Dialect) → IsLastPiece dialect []
@@ -150,9 +149,7 @@ fronts_of exist give dialect limit place (Some x) (Some y) given pieces held a c
 pub so_far_fronts : PiecesExist → RunsGivePieces → (dialect : Dialect) (limit : Option ℕ) (place : Place) (r s : Option (List ℕ))
     (stream : HeldWithin) (now : Made) (a c e g : Option (List ℕ)) → RelaysSoFar dialect limit place r s stream now a c e g
     → IfSome r (λ bs. FrontsFrom dialect limit place bs a c e g)
-so_far_fronts exist give dialect limit place r s stream now a c e g h =
-    fronts_of exist give dialect limit place r s h.given h.pieces h.held a c e g h.consumed h.run
-    (part_so_far (made_of_none place) now a c e g _ _ h.relays)
+so_far_fronts exist give dialect limit place r s stream now a c e g h = grind (arith, fronts_of, part_so_far)
 
 -- and if a step had a fault
 pub some_fronts : PiecesExist → RunsGivePieces → (dialect : Dialect) (limit : Option ℕ) (place : Place) (r s t : Option (List ℕ))
@@ -174,9 +171,7 @@ some_fronts exist give dialect limit place r s t part stream now a b c e f g h r
 -- all was read
 all_read : (a b : Option (List ℕ)) (bs : List ℕ) (P : List ℕ → Type 0) → Consumes a b bs → IsAtEnd b → P bs
     → IfSome a (λ xs. (b ≡ Some []) × P xs)
-all_read None b bs P p q h = tt
-all_read (Some x) None bs P p q h = absurd p
-all_read (Some x) (Some y) bs P p q h = (ap Some q, subst P (sym (p ∙ ap (λ l. bs ++ l) q ∙ append-nil bs)) h)
+all_read x b bs x3 p q h = grind (arith, append-nil)
 
 -- a read of no bytes
 pub reads_none : (s t : Option (List ℕ)) (bytes : List ℕ) (n : ℕ) → n ≡ 0 → Consumes s t (take n bytes) → Consumes s t []

@@ -5,7 +5,7 @@ use Rattle.std.proofs.Math.Seq.{drop-append-add}
 use Rattle.std.proofs.lemmas.List.{drop-drop, length-append, length-drop, take-append-drop}
 use Rattle.std.proofs.lemmas.List.Elements.{recursion_from_All}
 use Rattle.std.specs.Borrow.{Bor}
-use Rattle.std.specs.List.{All, AllByRecursion, join_with_byte}
+use Rattle.std.specs.List.{All, AllByRecursion}
 use Rattle.influxdb_line_protocol.specs.format.Bytes.{newline}
 use Rattle.influxdb_line_protocol.specs.format.Dialects.{Dialect}
 use Rattle.influxdb_line_protocol.specs.format.Pieces.{GivesPiece, IsCutPiece, IsLastPiece, Left, Pieces, Pieces.cut, Pieces.last}
@@ -23,8 +23,7 @@ not_empty (b ∷ u) t e = absurd (cc)
 
 -- each text has a piece
 some_piece : (dialect : Dialect) (text : List ℕ) (pieces : List (List ℕ)) → Pieces dialect text pieces → pieces ≡ [] → ⊥
-some_piece dialect text pieces (last piece h) e = absurd (cc)
-some_piece dialect text pieces (cut piece rest others c h) e = absurd (cc)
+some_piece dialect text pieces h e = grind (arith)
 
 -- if a newline comes only at the end, a text is cut there
 ends_there : (front piece rest : List ℕ) → AllByRecursion (λ b. b ≢ newline) front → front ++ newline ∷ [] ≡ piece ++ newline ∷ rest
@@ -57,23 +56,12 @@ cut_nowhere exist unique dialect text piece rest is_last is_cut e =
 -- of a text that is one piece, and a line after it that a newline ends, a cut leaves nothing
 pub nothing_left : PiecesExist → PiecesAreUnique → (dialect : Dialect) (text front piece rest : List ℕ) → IsLastPiece dialect text
     → AllByRecursion (λ b. b ≢ newline) front → CutsTo dialect (text ++ (front ++ newline ∷ [])) piece rest → rest ≡ []
-nothing_left exist unique dialect text front piece rest is_last none cuts =
-    elim (cut_there text front piece rest none cuts.0) [
-      | inl done ↦ done
-      | inr before ↦ absurd (cut_nowhere exist unique dialect text piece before.0 is_last cuts.1 before.1)
-    ]
+nothing_left exist unique dialect text front piece rest is_last none cuts = grind (arith, cut_there, cut_nowhere)
 
 -- the first of pieces is cut off before the text of the others
 first_cut : PiecesAreTheText → (dialect : Dialect) (text piece rest : List ℕ) (all others : List (List ℕ)) → Pieces dialect text all
     → all ≡ piece ∷ others → Pieces dialect rest others → CutsTo dialect text piece rest
-first_cut texts dialect text piece rest all others (last p h) e q =
-    let f : others ≡ [] = cc in absurd (some_piece dialect rest others q f)
-first_cut texts dialect text piece rest all others (cut p t ps c h) e q =
-    let first : p ≡ piece = cc in
-    let left : ps ≡ others = cc in
-    let same : t ≡ rest =
-    sym (texts dialect t ps h) ∙ ap (λ (l : List (List ℕ)). join_with_byte newline l) left ∙ texts dialect rest others q in
-    (ap (λ (l : List ℕ). l ++ newline ∷ t) first ∙ ap (λ (l : List ℕ). piece ++ newline ∷ l) same, subst (IsCutPiece dialect) first c)
+first_cut texts dialect text piece rest all others h e q = grind (arith, some_piece)
 
 -- if the stream holds a text that is one piece and was given a part up to its first newline, a piece that it gives leaves
 -- nothing of these, and is the first of all
@@ -100,29 +88,14 @@ first_given exist unique dialect limit text part at stream after result rest sam
 -- no piece was taken of a text and of a part, of which the stream was given a front
 pub begun_none : (dialect : Dialect) (limit : Option ℕ) (text part : List ℕ) (given : ℕ) (after : HeldWithin) (old : Made)
     (a e : Option (List ℕ)) → Holds after (text ++ take given part) → RelaysBegun dialect limit text part given after old old a a e e
-begun_none dialect limit text part given after old a e holds =
-    record {
-      held = text ++ take given part;
-      holds = holds;
-      to = subst (λ (l : List ℕ). RelaysTo dialect limit (text ++ part) l old old a a e e)
-          (ap (λ (l : List ℕ). text ++ l) (sym (take-append-drop given part))
-          ∙ sym (append_assoc text (take given part) (drop given part)))
-          (to_none dialect limit (text ++ part) old a e);
-    }
+begun_none dialect limit text part given after old a e holds = grind (arith, take-append-drop, append_assoc, to_none)
 
 -- the line that the stream began was taken, and then lines of the rest of the part
 pub begun_then : (dialect : Dialect) (limit : Option ℕ) (text part rest : List ℕ) (end taken : ℕ) (after : HeldWithin)
     (old now new : Made) (a b c e f g : Option (List ℕ)) → rest ≡ drop end part → Holds after []
     → RelaysTo dialect limit (text ++ part) rest old now a b e f → RelaysTo dialect limit rest (drop taken rest) now new b c f g
     → RelaysBegun dialect limit text part (end + taken) after old new a c e g
-begun_then dialect limit text part rest end taken after old now new a b c e f g others holds first lines =
-    record {
-      held = [];
-      holds = holds;
-      to = subst (λ (l : List ℕ). RelaysTo dialect limit (text ++ part) l old new a c e g)
-          (ap (λ (l : List ℕ). drop taken l) others ∙ drop-drop taken end part)
-          (to_then dialect limit (text ++ part) rest (drop taken rest) old now new a b c e f g first lines);
-    }
+begun_then dialect limit text part rest end taken after old now new a b c e f g others holds first lines = grind (arith, drop-drop, to_then)
 
 -- the first of the pieces of a text that is not all of it is cut off bytes that begin with the text
 cuts_in : PiecesExist → PiecesAreTheText → (dialect : Dialect) (before after : Option (List ℕ)) (piece rest bytes : List ℕ)
@@ -168,8 +141,7 @@ left_after bytes piece rest taken within is = (
 -- a rest that is there
 some_rest : (rest : Option (Bor (List ℕ))) (text : Option (List ℕ)) → is_some rest ≡ true → option_map (λ r. r.now) rest ≡ text
     → (r : List ℕ) × (text ≡ Some r)
-some_rest None text there is = absurd (cc)
-some_rest (Some r) text there is = (r.now, sym is)
+some_rest r text there is = grind (arith)
 
 -- a text begins with whole lines of it
 pub begins_with : (text : Option (List ℕ)) (bytes lines : List ℕ) → text ≡ Some lines → lines ≡ take (length lines) bytes

@@ -17,7 +17,7 @@ use Rattle.lp_rebuild.specs.declared.program.RunFault.{RunFault}
 use Rattle.lp_rebuild.specs.declared.program.RunFault.TheVariants.{Read, NotUtf8, OutOfMemory, Write}
 use Rattle.lp_rebuild.specs.RebuildSteps.{fault_line_at}
 use Rattle.lp_relay_core.specs.LineFaults.{item_text}
-use Rattle.lp_relay_core.specs.Relaying.{Item, too_long, is_carried_item, items_of_bytes, items_of_piece, items_of, items_batch, carried_items, limit_of}
+use Rattle.lp_relay_core.specs.Relaying.{Item, too_long, is_carried_item, items_of_bytes, items_of_piece, items_of, items_batch, carried_items}
 use Rattle.lp_relay_core.specs.Relaying.{refused_items}
 
 -- the items of what a call gave: those of a piece, or that of one that is too long
