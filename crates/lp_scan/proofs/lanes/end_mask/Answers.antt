@@ -1,4 +1,4 @@
--- A lane is set just if its byte ends a token of the kind or is a backslash, at each of the 256 bytes.
+-- A lane is set exactly if its byte ends a token of the kind or is a backslash, at each of the 256 bytes.
 use Rattle.std.proofs.Common.{◌≡◌, refl, arith, inl, inr}
 use Rattle.lp_format.specs.format.Bytes.{backslash, comma, newline, quote, space, tab}
 use Rattle.lp_scan.specs.code.Tokens.{is_end, stops_of}

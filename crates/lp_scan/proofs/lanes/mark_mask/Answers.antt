@@ -1,4 +1,4 @@
--- A lane is set just if its byte is a mark of the kind, at each of the 256 bytes.
+-- A lane is set exactly if its byte is a mark of the kind, at each of the 256 bytes.
 use Rattle.std.proofs.Common.{◌≡◌, ◌∙◌, ℕ, ap, refl, arith, inl, inr}
 use Rattle.std.proofs.lemmas.Simd.{length-chunk}
 use Rattle.std.proofs.lemmas.Grind.{common_steps}

@@ -1,4 +1,4 @@
--- A lane is set just if its byte passes the test, at each of the 256 bytes.
+-- A lane is set exactly if its byte passes the test, at each of the 256 bytes.
 use Rattle.std.proofs.Common.{◌≡◌, refl, arith, inl, inr}
 use Rattle.lp_format.specs.format.Bytes.{comma, equals, newline, quote, space, tab}
 use Rattle.lp_scan.specs.code.Tokens.{stops_of}

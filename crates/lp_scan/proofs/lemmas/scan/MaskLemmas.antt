@@ -64,7 +64,7 @@ module _ (test : ℕ → Bool) (bytes : List ℕ) (at n : ℕ) (room : at + n �
   in_load : ((k : ℕ) → get_or bytes k 0 < 256) → (k : ℕ) → get_or (chunk at n bytes) k 0 < 256
   in_load fits k = grind (arith, cases_lt, get_or-chunk, get_or_past, length-chunk)
 
-  -- if a lane is set just if its byte passes the test, at each of the 256 bytes, the bits of the lanes are the mask
+  -- if a lane is set exactly if its byte passes the test, at each of the 256 bytes, the bits of the lanes are the mask
   pub mask_is : (z : List ℕ) (f : ℕ → ℕ) → z ≡ map f (chunk at n bytes) → ((k : ℕ) → get_or bytes k 0 < 256)
       → agree_below (λ x. top 7 (f x)) test 256 ≡ true → mask_l (map (top 7) z) % 2 ^ 64 ≡ mask_of test bytes at n
   mask_is z f lanes fits all =

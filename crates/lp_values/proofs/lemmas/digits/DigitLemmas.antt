@@ -35,7 +35,7 @@ prefix_same p q (x ∷ xs) same =
     let rest = prefix_same p q xs (λ k within. same (suc k) (omega (arith, within))) in
     rw (first, rest) refl
 
--- lanes that stop just if no digit is count the digits at the start
+-- lanes that stop just where no digit is count the digits at the start
 pub lanes_count : (v : List ℕ) (n r : ℕ) (z : List ℕ) (f : ℕ → ℕ) → length v ≡ n → n ≤ 64 → ((k : ℕ) → k < length v → get_or v k 0 < 256)
     → r ≡ (if mask_l (map (top 7) z) % 2 ^ 64 == 0 then n else trailing_zeros w64 (mask_l (map (top 7) z) % 2 ^ 64)) → z ≡ map f v
     → agree_below (λ x. not (top 7 (f x))) is_ascii_digit 256 ≡ true → r ≡ digits_len v
