@@ -1,8 +1,9 @@
 #!/usr/bin/env bash
 # Builds the static library of crates/lp_c, and programs over it, watched by the address and undefined behaviour sanitizers;
-# compares what the example prints with example.out, and lets lending.c read with little lent and no request for memory, writing.c
-# write with little lent and memory refused, and sizes.c hand over what is large. threads.c is watched by the thread sanitizer, and by helgrind, which sees the
-# library's own loads and stores too; and the archive must hold no variable. The header goes through a C++ compiler too.
+# compares what the example prints with example.out, and lets answers.c compare the table of answers, lending.c read with little lent
+# and no request for memory, writing.c write with little lent and memory refused, and sizes.c hand over what is large. threads.c is
+# watched by the thread sanitizer, and by helgrind, which sees the library's own loads and stores too; and the archive must hold no
+# variable. The header goes through a C++ compiler too.
 #
 #     bindings/c/test.sh             makes the archive first
 #     bindings/c/test.sh ARCHIVE     takes one that was made before
@@ -31,6 +32,11 @@ watched=("-fsanitize=address,undefined" -fno-sanitize-recover=all)
 build example "${watched[@]}"
 if ! "$built/example" | diff "$here/example.out" -; then
     echo "c: the example does not print example.out" >&2
+    exit 1
+fi
+build answers "${watched[@]}"
+if ! answers=$("$built/answers" "$top/crates/lp_answers/data/answers.tsv"); then
+    echo "c: the table of answers is not as the library says: $answers" >&2
     exit 1
 fi
 build lending "${watched[@]}" -DLP_REFUSE
@@ -95,3 +101,4 @@ else
     left_out "header as C++" "there is no g++"
 fi
 echo "c: $said"
+echo "c: $answers"

@@ -29,9 +29,10 @@ trap 'rm -rf "$built"' EXIT
 "${CC:-cc}" -DLP_REFUSE -O2 -shared -fPIC "$bindings/c/heap.c" -Wl,--whole-archive \
     "${1:-$(dirname "$bindings")/crates/lp_c/out/liblp_c.a}" -Wl,--no-whole-archive -o "$built/refusing.so"
 if ! INFLUXDB_LINE_PROTOCOL_LIBRARY=$bindings/out/libinfluxdb_line_protocol.so LP_REFUSED_LIBRARY=$built/refusing.so \
-    PYTHONPATH=$here "$python" -B -m unittest discover -s "$here/tests" >"$built/said" 2>&1 ||
-    ! grep -q '^Ran [1-9]' "$built/said"; then
+    PYTHONPATH=$here "$python" -B -m unittest discover -s "$here/tests" >"$built/answers" 2>"$built/said" ||
+    ! grep -q '^Ran [1-9]' "$built/said" || ! grep -q '^answers.tsv: ' "$built/answers"; then
     cat "$built/said" >&2
     exit 1
 fi
 echo "python: $(grep '^Ran ' "$built/said"): $(tail -n 1 "$built/said")"
+echo "python: $(grep '^answers.tsv: ' "$built/answers")"

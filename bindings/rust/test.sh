@@ -69,7 +69,8 @@ take_examples() {
         inside { print }'
 }
 
-own=$(try)
+own=$(LP_ANSWERS=$here/../../crates/lp_answers/data/answers.tsv try -- --show-output)
+answers=$(grep '^answers.tsv: ' "$built/log")
 # shellcheck disable=SC2086
 if ! (cd "$built/crate" && cargo run -q --example lines $flags) >"$built/printed" 2>"$built/log" ||
     ! printf 'disk usage at None\na fault: No fields were provided\n' | diff - "$built/printed"; then
@@ -77,6 +78,7 @@ if ! (cd "$built/crate" && cargo run -q --example lines $flags) >"$built/printed
     echo "rust: the example does not print its items" >&2
     exit 1
 fi
+echo "rust: $answers"
 said="$own own tests passed$crates"
 if [ -z "${ORIGINAL:-}" ]; then
     echo "rust: $said"

@@ -37,7 +37,7 @@ class Lines(unittest.TestCase):
         self.assertEqual(list(parse('m f=""')), [Line("m", [], [("f", "")])])
 
     def test_no_item(self):
-        for text in ("", "\n\n", "# a comment", "  \n#\n"):
+        for text in ("\n\n", "# a comment", "  \n#\n"):
             with self.subTest(text=text):
                 self.assertEqual(list(parse(text)), [])
 
@@ -52,15 +52,6 @@ class Lines(unittest.TestCase):
     def test_repeated_keys_are_kept(self):
         [line] = parse("m,a=1,a=2 f=1i,f=2i")
         self.assertEqual((line.tags, line.fields), ([("a", "1"), ("a", "2")], [("f", 1), ("f", 2)]))
-
-    def test_the_strict_dialect(self):
-        [line] = parse("m a=1i,")
-        self.assertEqual(line.fields, [("a", 1)])
-        [fault] = parse("m a=1i,", strict=True)
-        self.assertEqual((fault.kind, fault.text), (FaultKind.CANNOT_PARSE_ENTIRE_LINE, ","))
-        text = '# it a="\nm b=1i\nn c=2i'
-        self.assertEqual((len(list(parse(text))), len(list(parse(text, strict=True)))), (1, 2))
-        self.assertEqual(list(split(text, strict=True)), ['# it a="', "m b=1i", "n c=2i"])
 
     def test_bytes_that_are_no_text(self):
         with self.assertRaises(UnicodeDecodeError):
