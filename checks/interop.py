@@ -1,0 +1,546 @@
+#!/usr/bin/env python3
+"""What readers in use make of the texts below, and what lp_relay makes of them: the tables of docs/INTEROP.md. It is called by
+checks/interop.sh, which starts the servers.
+
+    checks/interop.py [--write | --print] RELAY [READER=VERSION=PLACE..]
+
+RELAY: the program. READER: `influx` or `victoria`, with the address of an empty server, or `parser`, with the program that
+checks/interop.go is built to. Compares what it measures with the page, where the tables are between two marks; `--write` puts them
+there, and `--print` prints them. Of a reader that is not named nothing is compared.
+"""
+
+import json
+import re
+import subprocess
+import sys
+import time
+import urllib.parse
+import urllib.request
+from dataclasses import dataclass
+from pathlib import Path
+
+PAGE = Path(__file__).resolve().parent.parent / "docs" / "INTEROP.md"
+BEGIN, END = "<!-- what checks/interop.sh measured -->", "<!-- the end of it -->"
+
+# The texts, as the page spells them: SIGNS for bytes that are not seen, `a×9` for nine `a`, and `[FF]` for that byte.
+SIGNS = {"⏎": "\n", "⇥": "\t", "␀": "\0", "␍": "\r", "␣": " "}
+SAME = [
+    r"cpu,host=A,region=west usage=64i 1590488773254420000",
+    r"m,b=2,a=1 f=1",
+    r"a\ b,c\ d=e\ f g\ h=1",
+    r"a\,b,c\,d=e\,f g\,h=1",
+    r"m,c\=d=e\=f g\=h=1",
+    r"größe,stadt=köln wert=1",
+    r'm,t="a" f=1',
+    r"m f=-1.5e3,g=1E+2",
+    r"m f=007i,g=-0i,h=007,i=-0",
+    r"m f=9223372036854775807i,g=-9223372036854775808i",
+    r"m a=t,b=T,c=true,d=True,e=TRUE,f=f,g=F,h=false,i=False,j=FALSE",
+    r'm s=""',
+    r'm s="a \"b\" c"',
+    r'm s="C:\\Windows"',
+    r'm s="C:\Windows"',
+    r'm f=1,s="a⏎b"',
+    r'm s="a,b=c d",f=1',
+    r"␣m f=1",
+    r"m␣␣f=1",
+    r"m f=1␣␣5",
+    r"⇥m f=1",
+    r"⏎⏎m f=1⏎⏎",
+    r"# comment⏎m f=1",
+    r"m f=1 -1",
+    r"m f=1 0",
+    r"m f=1 9223372036854775806",
+    r"m f=1 -9223372036854775806",
+    r"m#x f=1",
+    r'"m" f=1',
+    r'm,t="x⏎n f=1',
+]
+REFUSED = [
+    r"m",
+    r"m,t=v",
+    r"m f",
+    r"m f=",
+    r"m f=a",
+    r"m =1",
+    r"m,t= f=1",
+    r"m,=v f=1",
+    r"m, f=1",
+    r",t=v f=1",
+    r"m f=1 a",
+    r"m f=1i2",
+    r'm f="a',
+    r"m f=9223372036854775808i",
+    r"m f=1 9223372036854775808",
+    r"m f=1 1.5",
+    r"m f=1 5 6",
+    r"m f=1, g=2",
+    r"m f=1,g",
+    r"m,a=1,b= f=1",
+    r"m f=NaN",
+    r"m f=+1",
+    r"m f=tRUE",
+    r"m\ f=1",
+    r"m,t=a\ f=1",
+    r'm s="a\"',
+    "m f=1\\",
+]
+OTHER = [
+    r"m,path=C:\Windows f=1",
+    r"m,path=C:\\Windows f=1",
+    r"C:\temp f=1",
+    r"m\\\,x f=1",
+    r"m\\\ x f=1",
+    r"m,t=a\\\,b f=1",
+    r"m a\b=1",
+    r"m\=x f=1",
+    r'm f\"g=1',
+    r"m,t=a\\ f=1",
+    r"m\\,t=a f=1",
+    r"m f\\=1",
+    r"power,lonely,meter=m0077 watts=1",
+    r"m,,t=v f=1",
+    r"m,t=a=b f=1",
+    r"m f,g=1",
+    r"m f=1,",
+    r"m f=1,,g=2",
+    r"m,t=v,t=w f=1",
+    r"m f=1,f=2",
+    r"m f=1u",
+    r"m f=1e400",
+    r"m f=1.",
+    r"m f=.5,g=-.5",
+    r"m f=1 9223372036854775807",
+    r"m f=1 -9223372036854775807",
+    r"m f=1 -9223372036854775808",
+    r"m time=1 5",
+    r"m f=1,time=2 5",
+    r"m,time=x f=1 5",
+    r"m,t=a×70000 f=1",
+    r"m f=1␣",
+    r"m f=1 5␍⏎n f=2 6␍",
+    r'm s="a"␍⏎n s="b"␍',
+    r'm f="abc"def',
+    r"m⇥n f=1",
+    r"m,t=a⇥b f=1",
+    r"m␀n f=1",
+    r"m,t=[FF] f=1",
+    r"m\⏎x f=1",
+    r'# it a="⏎m b=1i⏎n c=2i',
+    r'm a="x⏎n b=1i⏎o c=1i',
+    r"m f=1\⏎n g=2",
+]
+
+
+class Fault(Exception):
+    """What is wrong, in words."""
+
+
+def raw(text):
+    """The bytes that a text of the table stands for."""
+    for sign, char in SIGNS.items():
+        text = text.replace(sign, char)
+    text = re.sub(r"(.)×(\d+)", lambda found: found[1] * int(found[2]), text)
+    head, *rest = text.split("[FF]")
+    return head.encode() + b"".join(b"\xff" + part.encode() for part in rest)
+
+
+def spelled(text):
+    """A text as the table spells it, as code."""
+    text = re.sub(r"(.)\1{999,}", lambda found: f"{found[1]}×{len(found[0])}", text, flags=re.S)
+    for sign, char in SIGNS.items():
+        if char != " ":
+            text = text.replace(char, sign)
+    text = re.sub(r"[\udc80-\udcff]", lambda found: f"[{ord(found[0]) - 0xDC00:X}]", text)
+    text = re.sub(r"^ | $| (?= )|(?<= ) ", "␣", text).replace("|", r"\|")
+    return f"`{text}`" if text else "nothing"
+
+
+@dataclass
+class Reading:
+    """What a reader made of a text: its points, and what it says of the rest."""
+
+    points: list
+    faults: list
+
+
+def point(name, tags, fields, at):
+    """A point to compare: a field is a key, the name of its type and its value. Neither tags nor fields have an order."""
+    values = [(key, kind, float(value) if kind == "float" else value) for key, kind, value in fields]
+    return (name, tuple(sorted(tags)), tuple(sorted(values)), at)
+
+
+def shown_value(kind, value):
+    """A value as the table shows it, spelled as in a line, but without escapes."""
+    if kind == "string":
+        return spelled(f'"{value}"')
+    if kind == "float":
+        return spelled("%.15g" % value)
+    return spelled(str(value) + {"integer": "i", "unsigned": "u", "boolean": ""}[kind])
+
+
+def shown_series(name, tags):
+    """A name and its tags as the table shows them."""
+    return spelled(name) + (" with " if tags else "") + ", ".join(f"{spelled(key)} = {spelled(value)}" for key, value in tags)
+
+
+def shown_point(made):
+    """A point as the table shows it."""
+    name, tags, fields, at = made
+    text = shown_series(name, tags) + ": " + ", ".join(f"{spelled(key)} = {shown_value(kind, value)}" for key, kind, value in fields)
+    return text if at is None else f"{text} at {at}"
+
+
+# What lp_relay makes of a text. Each reader gives what it read, and the place after it.
+
+
+def name_at(text, at, ends):
+    """A name or the body of a string: up to one of `ends` that no backslash comes before."""
+    made = ""
+    while text[at] not in ends:
+        at += text[at] == "\\"
+        made += text[at]
+        at += 1
+    return made, at
+
+
+def value_at(text, at):
+    """The type and the text of a value."""
+    if text[at] == '"':
+        value, at = name_at(text, at + 1, '"')
+        return "string", value, at + 1
+    end = re.compile("[, \n]").search(text, at).start()
+    value = text[at:end]
+    kinds = {"i": "integer", "u": "unsigned", "e": "boolean"}
+    kind = kinds.get(value[-1], "float")
+    return kind, value.rstrip("iu") if kind in ("integer", "unsigned") else value, end
+
+
+def pairs_at(text, at, read):
+    """Pairs with a comma between two: each key, and what `read` gives at its value."""
+    made = []
+    while True:
+        key, at = name_at(text, at, "=")
+        *value, at = read(text, at + 1)
+        made.append((key, *value))
+        if text[at] != ",":
+            return made, at
+        at += 1
+
+
+def written_points(text):
+    """The points of lines that lp_relay wrote. There each backslash escapes the byte after it."""
+    made, at = [], 0
+    while at < len(text):
+        name, at = name_at(text, at, ", ")
+        tags, stamp = [], None
+        if text[at] == ",":
+            tags, at = pairs_at(text, at + 1, lambda text, at: name_at(text, at, ", "))
+        fields, at = pairs_at(text, at + 1, value_at)
+        if text[at] == " ":
+            end = text.index("\n", at)
+            stamp, at = int(text[at:end]), end
+        made.append(point(name, tags, fields, stamp))
+        at += 1
+    return made
+
+
+def relayed(program, text, *options):
+    """What lp_relay writes of a text, and the fault lines."""
+    ran = subprocess.run([program, *options], input=text, capture_output=True, check=False)
+    if ran.returncode not in (0, 1):
+        raise Fault(f"lp_relay of {text[:99]} ends with status {ran.returncode}: {ran.stderr.decode()}")
+    return ran.stdout.decode(), ran.stderr.decode()
+
+
+def shown_relay(text, written, faults):
+    """What the table says of what lp_relay made of a text."""
+    parts = []
+    if written:
+        parts.append("as it is" if written.encode() in (text, text + b"\n") else spelled(written.removesuffix("\n")))
+    found = re.findall(r"^item (\d+): (.*?)\n(?=item \d+: |\Z)", faults, re.M | re.S)
+    parts += [f"refused: {spelled(told)}" if len(found) == 1 and not written else f"item {at} refused: {spelled(told)}"
+              for at, told in found]
+    return "; ".join(parts)
+
+
+# What the readers make of a text.
+
+
+OPENER = urllib.request.build_opener(urllib.request.ProxyHandler({}))
+
+
+def ask(address, data=None):
+    """The answer of a server, of whatever status."""
+    try:
+        with OPENER.open(address, data=data, timeout=60) as answer:
+            return answer.read().decode("utf-8", "surrogateescape")
+    except urllib.error.HTTPError as refused:
+        return refused.read().decode("utf-8", "surrogateescape")
+
+
+def causes(fault):
+    """The causes that InfluxDB gives, without the lines that it repeats."""
+    found = re.findall(r"unable to parse '.*?': (.*?)(?: dropped=\d+)?(?=\n(?:unable|partial)|\Z)", fault, re.S)
+    return found or ([fault] if fault else [])
+
+
+class Influx:
+    """A server of InfluxDB 1.x."""
+
+    def __init__(self, address):
+        self.address = address
+
+    def query(self, text, **more):
+        words = urllib.parse.urlencode({"q": text, "epoch": "ns", **more})
+        return json.loads(ask(f"{self.address}/query?{words}", b""))["results"][0].get("series", [])
+
+    def points(self):
+        """The points that are stored. A time of these minutes is none."""
+        made, kinds = [], {}
+        for series in self.query("SHOW FIELD KEYS", db="texts"):
+            kinds |= {(series["name"], key): kind for key, kind in series["values"]}
+        for series in self.query("SELECT * FROM /.*/ GROUP BY *", db="texts"):
+            name, (_, *keys) = series["name"], series["columns"]
+            for at, *values in series["values"]:
+                fields = [(key, kinds[name, key], self.value(value)) for key, value in zip(keys, values) if value is not None]
+                stamp = None if abs(at - time.time_ns()) < 600e9 else at
+                made.append(point(name, series.get("tags", {}).items(), fields, stamp))
+        return made
+
+    def value(self, value):
+        return str(value).lower() if isinstance(value, bool) else str(value)
+
+    def read(self, text):
+        self.query('DROP DATABASE "texts"')
+        self.query('CREATE DATABASE "texts"')
+        answer = ask(f"{self.address}/write?db=texts&precision=ns", text)
+        faults = [f"refused: {spelled(cause)}" for cause in causes(json.loads(answer)["error"] if answer else "")]
+        points = self.points()
+        if not points:
+            keys = [key for series in self.query("SHOW SERIES", db="texts") for key, in series["values"]]
+            faults += [f"the series {spelled(key)}, of which no query finds a field" for key in keys]
+        return Reading(points, faults)
+
+
+class Parser:
+    """The parser of InfluxDB 1.x alone."""
+
+    def __init__(self, program):
+        self.program = program
+
+    def read(self, text):
+        read = json.loads(subprocess.run([self.program], input=text, capture_output=True, check=True).stdout)
+        points = []
+        for found in read["Points"]:
+            stamp = None if found["Time"] == 1234567890 else found["Time"]
+            points.append(point(found["Name"], [tuple(tag) for tag in found["Tags"]], found["Fields"], stamp))
+        return Reading(points, [f"refused: {spelled(cause)}" for cause in causes(read["Fault"])])
+
+
+class Victoria:
+    """A server of VictoriaMetrics. It keeps numbers, each under the name of its measurement and field. Times are not looked at."""
+
+    def __init__(self, address):
+        self.address = address
+        self.count = 0
+
+    def read(self, text):
+        self.count += 1
+        name = f"t{self.count}"
+        answer = ask(f"{self.address}/write?db={name}&precision=ns", text)
+        ask(f"{self.address}/internal/force_flush")
+        words = urllib.parse.urlencode({"match[]": f'{{db="{name}"}}', "start": "0", "end": str(2**33)})
+        points = []
+        for line in ask(f"{self.address}/api/v1/export?{words}").splitlines():
+            series = json.loads(line.replace("[+Inf]", "[Infinity]"))
+            labels = series["metric"]
+            del labels["db"]
+            key = labels.pop("__name__")
+            points += [(key, tuple(sorted(labels.items())), "%.12g" % (value + 0.0)) for value in series["values"]]
+        return Reading(points, [f"refused: {spelled(answer)}"] if answer else [])
+
+
+def stored_by_victoria(points):
+    """What VictoriaMetrics makes of points, if it reads what they say."""
+    numbers = {"true": 1, "false": 0}
+    return [(f"{name}_{key}", tags, "%.12g" % (float(numbers.get(value, 0 if kind == "string" else value)) + 0.0))
+            for name, tags, fields, _ in points for key, kind, value in fields]
+
+
+def shown_number(made):
+    """A number of VictoriaMetrics as the table shows it."""
+    name, tags, value = made
+    return f"{shown_series(name, tags)}: {spelled(value)}"
+
+
+@dataclass
+class Column:
+    """A reader, what it stores of points that it reads as lp_relay does, and how the table shows what it stores."""
+
+    reader: object
+    stored: object
+    shown: object
+
+    def part(self, text, written, faults=""):
+        """What the reader makes of a text, of which lp_relay made this."""
+        read, wanted = self.reader.read(text), self.stored(written_points(written))
+        if wanted and sorted(read.points) == sorted(wanted) and (faults or not read.faults):
+            return "the same"
+        return "; ".join([self.shown(made) for made in sorted(read.points)] + read.faults) or "nothing"
+
+    def cell(self, text, plain, strict):
+        """What the reader makes of a text and, if that is something else, of what lp_relay writes of it in each dialect."""
+        first = self.part(text, *plain)
+        second = self.part(plain[0].encode(), plain[0]) if plain[0] else first
+        told = first if first == second else f"{first} → {second}"
+        if strict[0] in ("", plain[0]):
+            return told
+        return f"{told}; of `--strict`: {self.part(strict[0].encode(), strict[0])}"
+
+
+COLUMNS = {
+    "influx": lambda place: Column(Influx(place), list, shown_point),
+    "parser": lambda place: Column(Parser(place), list, shown_point),
+    "victoria": lambda place: Column(Victoria(place), stored_by_victoria, shown_number),
+}
+READERS = {"influx": "InfluxDB 1.x", "parser": "its parser alone", "victoria": "VictoriaMetrics"}
+HEADS = ["text", "`lp_relay` writes", "InfluxDB 1.x stores", "VictoriaMetrics stores"]
+ALONE = "; its parser alone: "
+PARTS = {
+    "Texts that `lp_relay` and InfluxDB read the same": SAME,
+    "Texts that both refuse": REFUSED,
+    "Texts that they read otherwise": OTHER,
+}
+
+
+def row(program, columns, text):
+    """The row of a text. A cell of which something is not known is None."""
+    data = raw(text)
+    plain, strict = relayed(program, data), relayed(program, data, "--strict")
+    relay = shown_relay(data, *plain)
+    if strict != plain:
+        relay += f"; `--strict`: {shown_relay(data, *strict)}"
+    cells = {name: column.cell(data, plain, strict) for name, column in columns.items()}
+    influx = cells.get("influx")
+    if influx and cells.get("parser", influx) != influx:
+        influx += ALONE + cells["parser"]
+    return [f"`{text}`", relay, influx, cells.get("victoria")]
+
+
+def must_be_in(part, cells):
+    """Refuses a row that is in another part of the page than it should be."""
+    text, relay, influx, _ = cells
+    if part is SAME and influx not in (None, "the same"):
+        raise Fault(f"InfluxDB does not read {text} as lp_relay does, but stores: {influx}")
+    if part is REFUSED and not (relay.startswith("refused: ") and (influx or "refused: ").startswith("refused: ")):
+        raise Fault(f"{text} is not refused by both, but: {relay}; {influx}")
+    if part is OTHER and influx == "the same":
+        raise Fault(f"InfluxDB reads {text} as lp_relay does")
+
+
+def table(heads, rows):
+    """The lines of a table."""
+    lines = ["| " + " | ".join(cells) + " |" for cells in [heads, *rows]]
+    return [lines[0], "|" + "---|" * len(heads), *lines[1:]]
+
+
+def measured(program, columns):
+    """The rows of each part of the page."""
+    made = {}
+    for title, part in PARTS.items():
+        made[title] = [row(program, columns, text) for text in part]
+        for cells in made[title]:
+            must_be_in(part, cells)
+    return made
+
+
+def page_text(parts, versions):
+    """What is between the marks."""
+    lines = table(["reader", "version"], [[READERS[name], version] for name, version in versions.items()])
+    for title, rows in parts.items():
+        lines += ["", f"### {title}", "", *table(HEADS, rows)]
+    return "\n".join(lines)
+
+
+def parts_of_page():
+    """The page before the mark, between the marks, and after them."""
+    text = PAGE.read_text(encoding="utf-8")
+    if text.count(BEGIN + "\n") != 1 or text.count("\n" + END) != 1:
+        raise Fault(f"{PAGE.name} has not once each of the lines {BEGIN} and {END}")
+    before, rest = text.split(BEGIN + "\n")
+    between, after = rest.split("\n" + END)
+    return before + BEGIN + "\n", between, "\n" + END + after
+
+
+def rows_of_page():
+    """The rows of all tables of the page, by their first cells."""
+    lines = parts_of_page()[1].splitlines()
+    rows = [line.removeprefix("| ").removesuffix(" |").split(" | ") for line in lines if line.startswith("| ")]
+    return {cells[0]: cells for cells in rows}
+
+
+def differences(parts, columns):
+    """The cells that differ from those of the page, in words."""
+    page, found = rows_of_page(), []
+    rows = [cells for rows in parts.values() for cells in rows]
+    for text in sorted({key for key in page if key.startswith("`")} - {cells[0] for cells in rows}):
+        found.append(f"{text} is on the page alone")
+    for cells in rows:
+        old = page.get(cells[0], [cells[0], "nothing, as the text is not there", "", ""])
+        if "parser" not in columns:
+            old[2] = old[2].split(ALONE)[0]
+        found += [f"{cells[0]}, {head}: the page has\n    {was}\nand here it is\n    {now}"
+                  for head, was, now in zip(HEADS, old, cells) if now is not None and was != now]
+    return found
+
+
+def compare(parts, columns, versions):
+    """Refuses what differs from the page, and tells of other versions."""
+    page = rows_of_page()
+    for name, version in versions.items():
+        was = page.get(READERS[name], [None, "no version"])[1]
+        if was != version:
+            print(f"interop: {READERS[name]}: the page was made with {was}, and here is {version}")
+    found = differences(parts, columns)
+    if found:
+        raise Fault(f"docs/INTEROP.md differs in {len(found)} places:\n" + "\n".join(found)
+                    + "\nrun checks/interop.sh --write RELAY")
+    count = sum(len(rows) for rows in parts.values())
+    names = ", ".join(["lp_relay", *(READERS[name] for name in versions)])
+    print(f"interop: {count} texts are read as docs/INTEROP.md says: by {names}")
+
+
+def run(mode, program, words):
+    """Measures, and does what is asked with that."""
+    readers = {name: (version, place) for name, version, place in (word.split("=", 2) for word in words)}
+    versions = {name: version for name, (version, _) in readers.items()}
+    if mode != "" and len(readers) != len(COLUMNS):
+        raise Fault(f"{mode} takes all readers, and there are only: {' '.join(versions)}")
+    columns = {name: COLUMNS[name](place) for name, (_, place) in readers.items()}
+    parts = measured(program, columns)
+    if mode == "--print":
+        print(page_text(parts, versions))
+    elif mode == "--write":
+        before, _, after = parts_of_page()
+        PAGE.write_text(before + page_text(parts, versions) + after, encoding="utf-8")
+        print("interop: docs/INTEROP.md is written")
+    else:
+        compare(parts, columns, versions)
+
+
+def main(words):
+    mode = words.pop(0) if words and words[0] in ("--write", "--print") else ""
+    if not words or words[0].startswith("-"):
+        print(__doc__, file=sys.stderr)
+        return 2
+    try:
+        run(mode, words[0], words[1:])
+    except Fault as fault:
+        print(f"interop: {fault}", file=sys.stderr)
+        return 1
+    return 0
+
+
+if __name__ == "__main__":
+    sys.exit(main(sys.argv[1:]))
