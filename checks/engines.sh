@@ -123,7 +123,10 @@ start_slurm() {
     began=$SECONDS
     # shellcheck disable=SC2016
     LP_RELAY=$1 TMPDIR=$work/waiting "$top/examples/slurm/nodes.sh" sh -c '
-        "$0" input 8 "$@" >out 2>err
+        trap "kill \$relays; wait \$relays; exit 2" TERM
+        "$0" input 8 "$@" >out 2>err &
+        relays=$!
+        wait $relays
         status=$?
         squeue -h -r -t all -o %T | sort | uniq -c | xargs >states
         exit $status' "$top/examples/slurm/relay.sh" "${@:2}" 2>nodes_err &
@@ -149,6 +152,14 @@ check_slurm() {
     compare "a job array that loses $node" lines
     [ "$(cat states)" = "8 COMPLETED" ] || fail "the states of the tasks are $(cat states)"
     echo "engines: a job array that loses a node midway does, too, in $took s"
+
+    rm -r first
+    start_slurm "$work/stops"
+    await_stop
+    kill "$running"
+    ended
+    nothing_runs "a job array that is interrupted"
+    echo "engines: an interrupt ends a job array, and leaves nothing"
 
     rm -r first
     touch fails

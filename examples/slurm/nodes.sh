@@ -8,6 +8,10 @@
 # default 2681.
 set -eu
 here=$(dirname "$(readlink -f "$0")")
+if [ $# = 0 ] || [ "$(id -u)" != 0 ]; then
+    echo "usage, as root: examples/slurm/nodes.sh COMMAND.." >&2
+    exit 2
+fi
 folder=$(mktemp -d)
 servers=()
 

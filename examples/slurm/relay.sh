@@ -15,10 +15,20 @@ take_parts "$@"
 program=$(readlink -f -- "$(command -v "$program")")
 shift 2
 list_parts >"$waiting/parts"
-trap '[ ! -s "$waiting/job" ] || scancel -Q "$(cut -d ";" -f 1 "$waiting/job")" || true; rm -rf "$waiting"' EXIT
+# Ends the job, if the run ends before it, and what waits for it.
+# shellcheck disable=SC2317  # the trap calls it
+end() {
+    [ -z "$submitted" ] || kill "$submitted" 2>/dev/null || true
+    [ ! -s "$waiting/job" ] || scancel -Q "$(cut -d ";" -f 1 "$waiting/job")" || true
+    rm -rf "$waiting"
+}
+submitted=
+trap end EXIT
 # Its status is the highest of the tasks; put_parts says why.
 sbatch --wait --parsable --job-name=lp_relay --array="1-$parts" --requeue --output="$waiting/%a.log" --open-mode=append \
     "$here/part.sh" "$here/../parts.sh" "$file" "$waiting" "$program" "$@" >"$waiting/job" &
-wait $! || true
+submitted=$!
+wait "$submitted" || true
+submitted=
 [ -s "$waiting/job" ] || fail "sbatch took no job"
 put_parts
