@@ -1,13 +1,19 @@
 #!/usr/bin/env bash
 # Installs from Debian what the checks use and this machine lacks, and says what is lacking then. The checks leave out what needs it.
 #
-#   checks/setup.sh               installs where CI is `true`, and elsewhere says what to install; its status is 0
-#   checks/setup.sh --install     installs; its status is 1 where something is still lacking
+#   checks/setup.sh [--engines]               installs if CI is `true`, and else says what to install; its status is 0
+#   checks/setup.sh [--engines] --install     installs; its status is 1 if something is still lacking
 #
+# --engines: also what checks/engines.sh uses, which the test command does not run.
 # It takes root and apt-get to install. The crates, of packages librust-*, are for bindings/rust/test.sh where crates.io is out of
 # reach.
 set -eu
+PATH=$PATH:/usr/sbin
 packages=(gcc g++ git valgrind bsdutils python3 cargo librust-bytes-dev librust-nom-dev librust-smallvec-dev)
+if [ "${1-}" = --engines ]; then
+    packages+=(slurm-wlm munge parallel openssh-client openssh-server)
+    shift
+fi
 
 # Tells whether what the checks use of a package is here, of the package or of anything else.
 is_here() {
@@ -15,6 +21,11 @@ is_here() {
     case $1 in
     gcc) command -v cc ;;
     bsdutils) command -v script ;;
+    slurm-wlm) command -v slurmctld && command -v slurmd && command -v sbatch ;;
+    munge) command -v munged ;;
+    parallel) parallel --version | grep GNU ;;
+    openssh-client) command -v ssh && command -v ssh-keygen ;;
+    openssh-server) command -v sshd ;;
     python3) python3 -c 'import sys; sys.exit(sys.version_info < (3, 10))' ;;
     librust-*) compgen -G "/usr/share/cargo/registry/${crate%-dev}-[0-9]*" ;;
     *) command -v "$1" ;;
@@ -57,7 +68,7 @@ trap 'rm -f "$log"' EXIT
 case "$*" in
 "" | --install) ;;
 *)
-    echo "usage: checks/setup.sh [--install]" >&2
+    echo "usage: checks/setup.sh [--engines] [--install]" >&2
     exit 2
     ;;
 esac
@@ -68,7 +79,7 @@ if [ -z "$wanted" ]; then
     exit 0
 fi
 if [ "$*" != --install ] && [ "${CI:-}" != true ]; then
-    echo "setup: lacking: $wanted; checks/setup.sh --install installs them"
+    echo "setup: lacking: $wanted; checks/setup.sh with --install installs them"
 elif [ "$(id -u)" != 0 ] || ! command -v apt-get >/dev/null; then
     echo "setup: lacking: $wanted; they are installed by root alone, and by apt-get"
 else
