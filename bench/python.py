@@ -1,7 +1,7 @@
 #!/usr/bin/env python3
 """Times the Python package over files, in rows as driver.c gives them: one run after a first one.
 
-    PYTHONPATH=bindings/python bench/python.py FILE..
+    bindings/python/build_backend.py FOLDER && PYTHONPATH=FOLDER bench/python.py FILE..
 
 `python parse` makes every value an object, and its answer is how many items there are.
 """

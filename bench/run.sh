@@ -40,6 +40,7 @@ for crate in lp_bench lp_bench_streams lp_c; do
 done
 heap=$(dirname "$(dirname "$(readlink -f "$(command -v rt)")")")/c/liblibc_c.a
 archive=$top/crates/lp_c/out/liblp_c.a
+ARCHIVE=$archive "${PYTHON:-python3}" "$top/bindings/python/build_backend.py" "$built/package"
 cc -O2 "$here"/{driver,library}.c "$top/crates/lp_bench/out/liblp_bench.a" "$heap" -o "$built/library"
 cc -O2 "$here"/{driver,streams}.c "$top/crates/lp_bench_streams/out/liblp_bench_streams.a" "$heap" -o "$built/streams"
 cc -O2 -I"$top/include" "$here"/{driver,callers}.c "$archive" "$heap" -o "$built/c"
@@ -84,7 +85,7 @@ take_turns() {
     take_turn callers "" "$built/c" "$@"
     take_turn callers "rust " "$built/rust/target/release/lp_bench_crate" "$@"
     if [ $# -gt 0 ]; then
-        PYTHONPATH=$top/bindings/python "${PYTHON:-python3}" "$here/python.py" "$@" >> "$built/callers.rows"
+        PYTHONPATH=$built/package "${PYTHON:-python3}" "$here/python.py" "$@" >> "$built/callers.rows"
     fi
 }
 touch "$built"/{figures,crate,callers,streams}.rows

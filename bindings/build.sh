@@ -6,7 +6,7 @@
 #     bindings/build.sh ARCHIVE [FOLDER]     takes an archive that was made before
 #
 # The shared library is libinfluxdb_line_protocol.so of FOLDER, which is bindings/out if none is given: a link to the file that has
-# the version in its name, as is the link to which programs are bound. It shows the calls of the header alone.
+# the version in its name, as is the link to which programs are bound. It shows the calls of the header, and what is empty, alone.
 set -eu
 here=$(cd "$(dirname "$0")" && pwd)
 . "$here/../launch.sh"
@@ -19,7 +19,8 @@ fi
 mkdir -p "$folder"
 version=$(version)
 shared=libinfluxdb_line_protocol.so
-"${CC:-cc}" -O2 -shared -fPIC "$here/c/heap.c" -Wl,--whole-archive "$archive" -Wl,--no-whole-archive \
+"${CC:-cc}" -O2 -shared -fPIC -I"$top/include" "$here/c/heap.c" "$here/c/empty.c" \
+    -Wl,--whole-archive "$archive" -Wl,--no-whole-archive \
     -Wl,-soname,"$shared.${version%%.*}" -Wl,--version-script,"$here/c/shown.map" -o "$folder/$shared.$version"
 # `rt ci` takes no symbolic links in the repository.
 how=-f

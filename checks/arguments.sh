@@ -5,11 +5,12 @@
 #
 # REBUILD and RELAY are built programs, such as ./lp_rebuild and ./lp_relay. Without them the sources are compiled unproved
 # by `rt try`, which takes seconds; the gate proves them. For a wrong argument a given program must also leave the input
-# unread. Given programs are also run where an input fails, where an output is full or closed, and where standard error is a
-# terminal.
+# unread. Given programs are also run with files to read and to write, where an input fails, where an output is full or closed, and
+# where standard error is a terminal.
 set -eu
 top=$(cd "$(dirname "$0")/.." && pwd)
 . "$top/checks/left_out.sh"
+. "$top/launch.sh"
 PATH=$PATH:/opt/rattle/bin
 rebuild=${1:+$(readlink -f "$1")}
 relay=${2:+$(readlink -f "$2")}
@@ -72,15 +73,17 @@ wanted_of_both "usage: lp_rebuild [--strict]$newline"
 
 crate=lp_relay
 program=$relay
-usage="usage: lp_relay [--strict] [--lines] [--max-line BYTES] [--progress]
-       lp_relay [--strict] --cut PARTS
-       lp_relay --help$newline"
+usage="usage: lp_relay [--strict] [--lines] [--max-line BYTES] [--progress] [--output FILE] [FILE..]
+       lp_relay [--strict] --cut PARTS [FILE..]
+       lp_relay --help | --version$newline"
 wanted_of_both "$usage"
 # Where standard error is no terminal, no progress is shown.
 wanted 0 "$loose" "" --progress
 wanted 1 "" "$strict_fault" --strict --progress
 wanted 2 "" "$usage" --progress --progress
 wanted 2 "" "$usage" --help --strict
+wanted 0 "lp_relay $(version)$newline" "" --version
+wanted 2 "" "$usage" --version --strict
 # The line of the input has seven bytes.
 wanted 0 "$loose" "" --max-line 7
 wanted 1 "" "item 1: the line is too long$newline" --max-line 6
@@ -95,6 +98,9 @@ missing="A generic parsing error occurred: TakeWhile1$newline"
 wanted 1 "$string" "line 5: $missing" --lines
 wanted 1 "$string" "item 2: $missing" --max-line 9
 text='m a=1i,\n'
+# A name of no file.
+unread="lp_relay: cannot read the input: "
+none="No such file or directory (os error 2)"
 # `rt try` compiles the program anew for each list, so these are for a built one.
 if [ -n "$program" ]; then
     wanted 1 "" "$strict_fault" --progress --strict
@@ -103,10 +109,24 @@ if [ -n "$program" ]; then
     wanted 2 "" "$usage" --progress --loose
     wanted 2 "" "$usage" --Progress
     wanted 2 "" "$usage" --progress=1
-    wanted 2 "" "$usage" progress
+    wanted 2 "" "${unread}progress: $none$newline" progress
     wanted 2 "" "$usage" --strict --help
     wanted 2 "" "$usage" --progress --help
     wanted 2 "" "$usage" --help --help
+    wanted 2 "" "$usage" -h -h
+    wanted 2 "" "$usage" -h --help
+    wanted 2 "" "$usage" -h --strict
+    wanted 2 "" "$usage" --strict -h
+    wanted 2 "" "$usage" -H
+    wanted 2 "" "$usage" --h
+    wanted 2 "" "$usage" --version --version
+    wanted 2 "" "$usage" --version --help
+    wanted 2 "" "$usage" --help --version
+    wanted 2 "" "$usage" --strict --version
+    wanted 2 "" "$usage" --cut 2 --version
+    wanted 2 "" "$usage" --version=1
+    wanted 2 "" "$usage" -version
+    wanted 2 "" "$usage" --Version
     wanted 0 "$loose" "" --max-line 0000000000000000000000000007
     wanted 0 "$loose" "" --max-line 18446744073709551615
     wanted 0 "$loose" "" --progress --max-line 7
@@ -124,7 +144,7 @@ if [ -n "$program" ]; then
     wanted 2 "" "$usage" --max-line 1_000
     wanted 2 "" "$usage" --max-line --strict
     wanted 2 "" "$usage" --max-line=7
-    wanted 2 "" "$usage" --max-line 7 7
+    wanted 2 "" "${unread}7: $none$newline" --max-line 7 7
     wanted 2 "" "$usage" --max-line 7 --max-line 7
     wanted 2 "" "$usage" --max-line 16777216 --strict --max-line 16777216
     wanted 2 "" "$usage" --max-line 7 --help
@@ -135,11 +155,33 @@ if [ -n "$program" ]; then
     wanted 2 "" "$usage" --Lines
     wanted 2 "" "$usage" --lines --help
     wanted 2 "" "$usage" --lines --strict --progress --max-line 7 --help
-    wanted 2 "" "$usage" --lines --strict --progress --max-line 7 7
+    wanted 2 "" "${unread}7: $none$newline" --lines --strict --progress --max-line 7 7
     wanted 0 "8${newline}8${newline}8$newline" "" --cut 3
     wanted 2 "" "$usage" --lines --cut 2
     wanted 2 "" "$usage" --cut 2 --strict
     wanted 2 "" "$usage" --cut 2 --lines
+    wanted 2 "" "$usage" --cut -- 2
+    for file in "" -- -x --strict; do
+        wanted 2 "" "$usage" - "$file"
+        wanted 2 "" "$usage" --lines x "$file" x
+        wanted 2 "" "$usage" --cut 2 - "$file"
+        wanted 2 "" "$usage" --strict --cut 2 x "$file"
+    done
+    for option in -o --output; do
+        wanted 2 "" "$usage" "$option"
+        wanted 2 "" "$usage" x "$option" y
+        wanted 2 "" "$usage" "$option" x -o y
+        wanted 2 "" "$usage" --output x --lines "$option" x
+        wanted 2 "" "$usage" "$option" --lines
+        wanted 2 "" "$usage" "$option" -
+        wanted 2 "" "$usage" "$option" ""
+        wanted 2 "" "$usage" "$option" x --help
+        wanted 2 "" "$usage" "$option" x --cut 2
+        wanted 2 "" "$usage" --cut 2 "$option" x
+    done
+    wanted 2 "" "$usage" --output=x
+    wanted 2 "" "$usage" -ox
+    wanted 2 "" "$usage" --out x
     text='# c\n\nm s="a\nb"\nx\n'
     wanted 1 "$string" "line 5: $missing" --strict --lines
     wanted 1 "$string" "line 5: $missing" --lines --strict
@@ -153,13 +195,15 @@ if [ "$status" != 0 ] || [ -s "$work/err" ] || ! printf '%s' "$usage" | cmp -s -
     echo "arguments: --help does not begin with the usage, or its status is $status"
     exit 1
 fi
-if [ "$(tail -n 1 "$work/out")" != "ran out, the output could not be written, or the arguments are wrong." ]; then
+if [ "$(tail -n 1 "$work/out")" != "nothing reads the output, which is said by no message." ]; then
     echo "arguments: --help does not print all of its text"
     exit 1
 fi
+cp "$work/out" "$work/help"
+wanted 0 "$(cat "$work/help")$newline" "" -h
 # Each option of the usage begins a line of its own.
 for option in $(printf '%s' "$usage" | grep -o -e '--[a-z-]*'); do
-    if ! grep -qE "^  $option( [A-Z]+)?  " "$work/out"; then
+    if ! grep -qE "^  $option( [A-Z]+)?(, -[a-z])?  " "$work/help"; then
         echo "arguments: --help does not say what $option does"
         exit 1
     fi
@@ -175,6 +219,14 @@ stopped() {
     # shellcheck disable=SC2053
     if [ "$status" != 2 ] || [[ $last != $1 ]]; then
         echo "arguments: where $2, the status is $status, where 2 is wanted, and standard error ends with: $last"
+        exit 1
+    fi
+    devices=$((devices + 1))
+}
+# quiet WHAT: the program that was run last has status 141, and says nothing.
+quiet() {
+    if [ "$status" != 141 ] || [ -s "$work/err" ]; then
+        echo "arguments: where $1, the status is $status, where 141 is wanted, and standard error has: $(cat "$work/err")"
         exit 1
     fi
     devices=$((devices + 1))
@@ -200,7 +252,11 @@ fail_devices() {
     cat "$work/long" >&3 || true
     exec 3>&-
     wait "$process" && status=0 || status=$?
-    stopped "$name: cannot write the output$reason" "nothing reads the output of $command"
+    if [ "$name" = lp_relay ]; then
+        quiet "nothing reads the output of $command"
+    else
+        stopped "$name: cannot write the output$reason" "nothing reads the output of $command"
+    fi
     : >"$work/err"
     "$@" <"$work" >"$work/out" 2>/dev/full && status=0 || status=$?
     stopped "" "the input of $command is a folder and standard error is full"
@@ -215,9 +271,181 @@ for program in ${rebuild:+"$rebuild"} "$relay"; do
     printf 'm a=1i\nx\n' | "$program" 2>/dev/full >"$work/out" && status=0 || status=$?
     stopped "" "standard error is full, and $program has a fault to write"
 done
-"$relay" --help </dev/null >/dev/full 2>"$work/err" && status=0 || status=$?
-stopped "" "the output of --help is full"
+for option in --help -h --version; do
+    "$relay" "$option" </dev/null >/dev/full 2>"$work/err" && status=0 || status=$?
+    stopped "" "the output of $option is full"
+    "$relay" "$option" >"$work/unread" <"$work/fifo" 2>"$work/err" &
+    process=$!
+    exec 4<"$work/unread" 4<&- 3>"$work/fifo" 3>&-
+    wait "$process" && status=0 || status=$?
+    quiet "nothing reads the output of $option"
+done
 echo "arguments: the programs end where a device fails, in $devices ways"
+
+# Files. `given STATUS OUTPUT FAULTS WORD..`: what the relay gives for these words in the folder `files`, if the file `std` is its input.
+# OUTPUT and FAULTS are as `printf %b` writes them.
+mkdir -p "$work/files/d"
+cd "$work/files"
+given() {
+    local status_wanted=$1
+    printf '%b' "$2" >"$work/out_wanted"
+    printf '%b' "$3" >"$work/err_wanted"
+    shift 3
+    "$relay" "$@" <std >"$work/out" 2>"$work/err" && status=0 || status=$?
+    same "the words ($*)"
+}
+# The names in this folder.
+names() { find . -mindepth 1 -maxdepth 1 -printf '%f\n' | sort; }
+# Compares `out`, `err` and the status with what is wanted, and sees that no file was left that is not in `names`.
+same() {
+    if [ "$status" != "$status_wanted" ] || ! cmp "$work/out" "$work/out_wanted" || ! cmp "$work/err" "$work/err_wanted"; then
+        echo "arguments: with $1 the status of lp_relay is $status, where $status_wanted is wanted, and standard error has"
+        cat "$work/err"
+        exit 1
+    fi
+    if ! names | cmp -s - "$work/names"; then
+        echo "arguments: with $1 lp_relay leaves other files: $(names | paste -sd ' ')"
+        exit 1
+    fi
+    files=$((files + 1))
+}
+files=0
+printf 'm a=1i' >a
+printf 'm b=2i\nx\n' >b
+: >e
+printf 'm s="x' >q
+printf '"' >z
+printf 'm c=3i\n' | tee c >./-c
+printf 'm s=4i\n' >std
+ln -s a link
+ln a hard
+: >out
+names >"$work/names"
+x="A generic parsing error occurred: TakeWhile1"
+given 1 'm a=1i\nm b=2i\n' "item 3: $x\n" a b
+given 1 'm a=1i\nm b=2i\n' "line 3: $x\n" --lines a b
+given 1 'm b=2i\nm a=1i\n' "line 2: $x\n" --lines b a
+given 1 'm a=1i\nm b=2i\n' "line 3: $x\n" --lines e a e e b e
+given 0 'm a=1i\nm a=1i\n' '' a a
+given 0 '' '' e
+given 0 '' '' e e
+given 0 'm c=3i\nm a=1i\n' '' ./-c a
+given 0 'm s=4i\n' '' -
+given 0 'm s=4i\n' '' - -
+given 0 'm a=1i\nm s=4i\nm c=3i\n' '' a - c
+given 0 'm a=1i\nm c=3i\nm s=4i\n' '' --strict --progress --max-line 6 a c -
+given 0 'm c=3i\nm s="x\n"\n' '' c q z
+given 2 'm a=1i\n' "${unread}none: $none\n" a none b
+given 2 'm b=2i\n' "item 2: $x\n${unread}none: $none\n" b none
+given 2 'm a=1i\n' "${unread}d: Is a directory (os error 21)\n" a d a
+given 2 '' "${unread}d/none: $none\n" d/none
+given 2 '' "${unread}a/b: Not a directory (os error 20)\n" a/b -
+given 0 '14\n16\n' '' --cut 2 a b
+given 0 '7\n14\n' '' --strict --cut 2 - c
+given 2 '' "${unread}none: $none\n" --cut 2 a none
+for name in $(seq 300); do printf 'm f=%si' "$name" >"$work/many-$name"; printf 'm f=%si\n' "$name"; done >"$work/many"
+given 0 "$(cat "$work/many")\\n" '' $(seq -f "$work/many-%g" 300)
+given 0 "$(cat "$work/many")\\n" '' --max-line 8 $(seq -f "$work/many-%g" 300)
+echo "arguments: lp_relay reads files, in $files ways"
+
+# `put STATUS OUTPUT FAULTS WORD..`: what the relay then has put into the file `out`, and not to standard output.
+files=0
+put() {
+    local wanted=$2
+    given "$1" "" "${@:3}"
+    printf '%b' "$wanted" | cmp out -
+}
+unwritten="lp_relay: cannot write the output: "
+for option in -o --output; do
+    printf 'old\n' >out
+    put 2 'old\n' "${unread}none: $none\n" "$option" out a none
+    put 2 'old\n' "${unread}d: Is a directory (os error 21)\n" --lines "$option" out d
+    put 0 'm a=1i\n' '' "$option" out a
+    put 1 'm a=1i\nm b=2i\n' "line 3: $x\n" --lines "$option" out --progress a b
+    put 0 'm s=4i\n' '' "$option" out
+    put 0 '' '' "$option" out e
+    put 0 "$(cat "$work/many")\\n" '' "$option" "$work/files/out" "$work/many"
+done
+# A new file, one with other permissions, and one that a link leads to.
+rm out
+sed -i '/^out$/d' "$work/names"
+given 2 '' "${unread}none: $none\n" -o out none
+echo out | sort -o "$work/names" - "$work/names"
+put 0 'm a=1i\n' '' -o out a
+[ "$(stat -c %a out)" = "$(stat -c %a a)" ]
+chmod 604 out
+put 0 'm c=3i\n' '' -o out c
+[ "$(stat -c %a out)" = 604 ]
+ln -sf ../out d/link
+put 0 'm s=4i\n' '' -o d/link -
+[ -L d/link ] && [ "$(ls d)" = link ]
+# What cannot be an output.
+given 2 '' "${unwritten}d: it is no regular file\n" -o d a
+given 2 '' "${unwritten}/dev/null: it is no regular file\n" -o /dev/null a
+given 2 '' "${unwritten}none/x: $none\n" -o none/x a
+given 2 '' "${unwritten}a/x: Not a directory (os error 20)\n" -o a/x a
+[ -c /dev/null ]
+# An output that is an input.
+too="lp_relay: the output is an input too: "
+for name in a link hard ./a d/../a "$work/files/a"; do
+    given 2 '' "${too}a\n" -o "$name" a
+    given 2 '' "${too}$name\n" --output a c - "$name" e
+    given 2 '' "${too}std\n" -o std "$name" std
+    given 2 '' "${too}standard input\n" -o std "$name" -
+    given 2 '' "${too}standard input\n" -o std
+    # Standard output is a file here.
+    status_wanted=2
+    printf '%s%s\n' "$too" "$name" >"$work/err_wanted"
+    : >"$work/out_wanted"
+    for words in "" "--lines c" "--cut 2" "--strict --cut 2 c"; do
+        # shellcheck disable=SC2086
+        "$relay" $words "$name" <std >>a 2>"$work/err" && status=0 || status=$?
+        same "the words ($words $name) and the output >>a"
+    done
+    printf '%sstandard input\n' "$too" >"$work/err_wanted"
+    for words in "" "--lines c -" "--cut 2 -"; do
+        # shellcheck disable=SC2086
+        "$relay" $words <"$name" >>a 2>"$work/err" && status=0 || status=$?
+        same "the words ($words), the input <$name and the output >>a"
+    done
+    printf 'm a=1i' | cmp a -
+done
+"$relay" </dev/null >/dev/null
+"$relay" - /dev/null </dev/null >/dev/null
+# A device that fails while the file is written: a file that may not grow, and standard error that is full, closed or not read.
+printf 'old\n' >out
+fails() {
+    local last
+    last=$(tail -n 1 "$work/err")
+    # shellcheck disable=SC2053
+    if [ "$status" != "$1" ] || [[ $last != $2 ]] || [ -s "$work/out" ] || [ "$(cat out)" != old ] || ! names | cmp -s - "$work/names"; then
+        echo "arguments: where $3, the status is $status, where $1 is wanted, the folder has $(names | paste -sd ' '), and standard error" \
+            "ends with: $last"
+        exit 1
+    fi
+    files=$((files + 1))
+}
+(trap '' XFSZ && ulimit -f 1 && exec "$relay" -o out "$work/long") >"$work/out" 2>"$work/err" && status=0 || status=$?
+fails 2 "${unwritten}out: File too large (os error 27)" "the file may not grow"
+: >"$work/err"
+"$relay" -o out b >"$work/out" 2>/dev/full && status=0 || status=$?
+fails 2 "" "standard error is full"
+"$relay" -o out b >"$work/out" 2>&- && status=0 || status=$?
+fails 2 "" "standard error is closed"
+"$relay" -o out - <&- >"$work/out" 2>"$work/err" && status=0 || status=$?
+fails 2 "${unread}Bad file descriptor (os error 9)" "the input is closed"
+: >"$work/err"
+"$relay" -o out a - <&- >"$work/out" 2>&- && status=0 || status=$?
+fails 2 "" "the input and standard error are closed"
+"$relay" -o out b 2>"$work/unread" <"$work/fifo" >"$work/out" &
+process=$!
+exec 4<"$work/unread" 4<&- 3>"$work/fifo" 3>&-
+wait "$process" && status=0 || status=$?
+fails 141 "" "nothing reads standard error"
+"$relay" -o out a c >&- 2>"$work/err"
+printf 'm a=1i\nm c=3i\n' | cmp out -
+cd "$top"
+echo "arguments: lp_relay writes a file or leaves it, in $files ways"
 
 # Puts `first` into `fifo`, once the relay runs for more than a second `last`, and after a second pause `more`, if it is there.
 feed() { { cat "$work/first"; sleep 2.5; cat "$work/last"; [ ! -s "$work/more" ] || { sleep 2.5; cat "$work/more"; }; } >"$work/fifo" & }
@@ -250,22 +478,24 @@ fi
 clear='\r\033[K'
 show_progress ">'$work/out'"
 shown 1 "standard error is a terminal" \
-    "${clear}13 bytes read, 1 lines written, faults: 0, 0.0 MB/s${clear}item 2: No fields were provided\r\n"
+    "${clear}13 bytes read, 1 lines written, faults: 0, 0.0 MB/s${clear}item 2: No fields were provided\r\n\
+${clear}13 bytes read, 1 lines written, faults: 1, 0.0 MB/s\r\n"
 cmp "$work/first" "$work/out"
 cp "$work/first" "$work/last"
 show_progress ""
-shown 0 "both outputs are a terminal" "m a=1i\r\n${clear}14 bytes read, 1 lines written, faults: 0, 0.0 MB/s${clear}m a=1i\r\n"
+shown 0 "both outputs are a terminal" "m a=1i\r\n${clear}14 bytes read, 1 lines written, faults: 0, 0.0 MB/s${clear}m a=1i\r\n\
+${clear}14 bytes read, 2 lines written, faults: 0, 0.0 MB/s\r\n"
 cp "$work/first" "$work/more"
 show_progress ">'$work/out'"
 shown 0 "there are two pauses" "${clear}14 bytes read, 1 lines written, faults: 0, 0.0 MB/s\
-${clear}21 bytes read, 2 lines written, faults: 0, 0.0 MB/s$clear"
+${clear}21 bytes read, 2 lines written, faults: 0, 0.0 MB/s${clear}21 bytes read, 3 lines written, faults: 0, 0.0 MB/s\r\n"
 rm "$work/more"
 printf '# c\nm a=1i,\n' >"$work/first"
 printf 'm abcd=1i\n' >"$work/last"
 show_progress ">'$work/out'" --strict --lines --max-line 8
 fault=${strict_fault#item 1}
 shown 1 "there are more options" "line 2${fault%?}\r\n${clear}22 bytes read, 0 lines written, faults: 1, 0.0 MB/s\
-${clear}line 3: the line is too long\r\n"
+${clear}line 3: the line is too long\r\n${clear}22 bytes read, 0 lines written, faults: 2, 0.0 MB/s\r\n"
 cmp /dev/null "$work/out"
 
 # Three faults, 300,001 lines of seven bytes, and comments of 40 MB, so that the rate has two digits before its point. It lies
@@ -276,12 +506,42 @@ printf 'm a=1i\n' >"$work/last"
 begun=$(date +%s%3N)
 show_progress ">'$work/out'"
 passed=$(($(date +%s%3N) - begun))
-tenths=$(sed -n '$s/.* faults: 3, \([0-9]*\)\.\([0-9]\) MB.*/\1\2/p' "$work/err")
-tenths=$((10#${tenths:-0}))
-shown 1 "there are faults and lines" "$(printf "item %s: ${missing%?}"'\\r\\n' 1 2 3)${clear}$read_wanted bytes read, \
-300000 lines written, faults: 3, $((tenths / 10)).$((tenths % 10)) MB/s$clear"
-if [ "$tenths" -gt $((read_wanted / 250000)) ] || [ "$tenths" -lt $((read_wanted / (100 * passed))) ]; then
-    echo "arguments: in $passed ms the relay shows a rate of $((tenths / 10)).$((tenths % 10)) MB/s"
-    exit 1
-fi
+# The rate that is shown for the time that is given, in tenths.
+rate() { grep -o 'faults: 3, [0-9]*\.[0-9] MB' "$work/err" | sed -n "$1s/.*, \([0-9]*\)\.\([0-9]\) MB/\1\2/p"; }
+told="$read_wanted bytes read,"
+paused=$((10#$(rate 1)))
+tenths=$((10#$(rate 2)))
+shown 1 "there are faults and lines" "$(printf "item %s: ${missing%?}"'\\r\\n' 1 2 3)\
+$clear$told 300000 lines written, faults: 3, $((paused / 10)).$((paused % 10)) MB/s\
+$clear$told 300001 lines written, faults: 3, $((tenths / 10)).$((tenths % 10)) MB/s\r\n"
+for rate in "$paused" "$tenths"; do
+    if [ "$rate" -gt $((read_wanted / 250000)) ] || [ "$rate" -lt $((read_wanted / (100 * passed))) ]; then
+        echo "arguments: in $passed ms the relay shows a rate of $((rate / 10)).$((rate % 10)) MB/s"
+        exit 1
+    fi
+done
+
+# The inputs are files, whose size is known, and the output pauses.
+cp "$work/first" "$work/more"
+for words in "'$work/first' '$work/more'" "<'$work/first'" "'$work/more' - <'$work/last'"; do
+    case $words in
+    *first*more*) total=$((2 * read_wanted - 14)) ;;
+    *last*) total=$read_wanted ;;
+    *) total=$((read_wanted - 7)) ;;
+    esac
+    script -qec "'$relay' --progress $words | { sleep 1.5; cat >'$work/out'; }" /dev/null </dev/null >"$work/err"
+    tr '\r' '\n' <"$work/err" | sed -n 's/.*K\([0-9]*\) bytes read, \([0-9]*\) %, [0-9]* lines written, .*/\1 \2/p' >"$work/shown"
+    while read -r bytes percent; do
+        if [ "$percent" != $((bytes * 100 / total)) ]; then
+            echo "arguments: of $bytes bytes of $total the relay shows $percent per cent"
+            exit 1
+        fi
+    done <"$work/shown"
+    if [ "$(wc -l <"$work/shown")" -lt 2 ] || [ "$(tail -n 1 "$work/shown")" != "$total 100" ]; then
+        echo "arguments: of $total bytes the relay shows"
+        cat "$work/shown"
+        exit 1
+    fi
+done
+rm "$work/more"
 echo "arguments: the relay shows its progress on a terminal, and nowhere else"

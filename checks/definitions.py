@@ -1,18 +1,23 @@
 #!/usr/bin/env python3
-"""The list of definitions, docs/DEFINITIONS.md, from specs/ of the library crates.
+"""The two lists of definitions, from specs/ of the crates with contracts: docs/DEFINITIONS.md has what the contracts of public
+calls cite, and what that rests on; docs/INNER_DEFINITIONS.md has what the code needs besides.
 
-    checks/definitions.py            whether the list says what specs/ says; status 1 where it does not
-    checks/definitions.py --write    writes the list
+    checks/definitions.py            whether the lists say what specs/ says; status 1 if they do not
+    checks/definitions.py --write    writes the lists
     checks/definitions.py --bare     names the definitions without a comment
+
+A definition is cited if a clause of a public call has its name as a word, or another cited definition has.
 """
 
 import re
 import sys
-from dataclasses import dataclass, field
+from dataclasses import dataclass, field, replace
 from pathlib import Path
 
+from clauses import surface, texts
+
 TOP = Path(__file__).resolve().parent.parent
-LIST = TOP / "docs" / "DEFINITIONS.md"
+DOCS = TOP / "docs"
 LIBRARIES = [
     "lp_format", "lp_scan", "lp_split", "lp_values", "lp_events", "lp_lines", "lp_build", "lp_written",
     "influxdb_line_protocol", "lp_rebuild", "lp_relay_core", "lp_relay", "lp_c",
@@ -21,13 +26,27 @@ LIBRARIES = [
 HEAD = """\
 # Definitions
 
-What the contracts cite: each definition of `specs/`, by its own comment, in the order in which they rest on one
-another. [FORMAT.md](FORMAT.md) has the rules in plain words, with examples; a definition says the same thing exactly,
-and is read in the file that its subject links. [GLOSSARY.md](GLOSSARY.md) has the words of the comments. Where a
-definition has no comment, its type is in its place.
+What the contracts of public calls cite, and what that rests on: definitions of `specs/`, each by its own comment, in the
+order in which they rest on one another. [INNER_DEFINITIONS.md](INNER_DEFINITIONS.md) has those that no caller needs.
+[FORMAT.md](FORMAT.md) has the rules in plain words, with examples; a definition says the same thing exactly, and is read
+in the file that its subject links. [GLOSSARY.md](GLOSSARY.md) has the words of the comments. If a definition has no
+comment, its type is in its place.
 
 `checks/definitions.py --write` writes this page, and the test command compares it with `specs/`.
 """
+
+INNER_HEAD = """\
+# Inner definitions
+
+Definitions of `specs/` that the contract of no public call cites: the code and its proofs need them.
+[DEFINITIONS.md](DEFINITIONS.md) has those that a caller reads.
+
+`checks/definitions.py --write` writes this page too.
+"""
+
+# Crates of which a caller names what their roots hand on, and crates all of whose public functions are for callers.
+HANDED_ON = ["influxdb_line_protocol", "lp_rebuild", "lp_relay_core"]
+PUBLIC = ["influxdb_line_protocol", "lp_c", "lp_relay"]
 
 # The rooms of specs/, and what is in them.
 PARTS = {
@@ -58,6 +77,8 @@ class Definition:
     type: str
     value: str
     members: list = field(default_factory=list)
+    source: str = ""
+    is_cited: bool = False
 
 
 @dataclass
@@ -131,10 +152,14 @@ def subject_of(crate, path):
             at += 1
             continue
         elif DEFINITION.match(line):
+            begin = at
             made, at = definition_at(lines, at, comment)
+            made.source = "\n".join(lines[begin:at])
             definitions.append(made)
             comment = []
             continue
+        if definitions:
+            definitions[-1].source += "\n" + line
         comment = []
         at += 1
     file = str(path.relative_to(TOP))
@@ -162,6 +187,40 @@ def subjects():
         made = [subject_of(crate, path) for path in files_of(folder, folder / "Lib.antt")]
         found += [subject for subject in made if subject.definitions]
     return found
+
+
+def handed_on(crate):
+    """The names that the root of a crate, and its module of the builder, hand on."""
+    names = set()
+    for file in ("lib.rt", "builder.rt"):
+        path = TOP / "crates" / crate / "src" / file
+        if path.exists():
+            for group, single in re.findall(r"^pub use [\w:]*?(?:\{(.*?)\}|(\w+));", path.read_text(encoding="utf-8"), re.S | re.M):
+                names.update(re.findall(r"\w+", group or single))
+    return names
+
+
+def words_of(text):
+    """The words of a text that may be names of definitions."""
+    return set(re.findall(r"[^\s(){}\[\],;.]+", re.sub(r"--.*", "", text)))
+
+
+def cite(found):
+    """Marks the definitions that clauses of public calls cite, and those that cited definitions cite."""
+    names = set().union(*(handed_on(crate) for crate in HANDED_ON))
+    calls = {name: entries for name, entries in surface(texts(",".join(LIBRARIES), None)).items()
+             if names & set(re.findall(r"\w+", name))}
+    calls.update(surface(texts(",".join(PUBLIC), None)))
+    by_name = {}
+    for subject in found:
+        for definition in subject.definitions:
+            by_name.setdefault(definition.name.strip("◌").rpartition(".")[2], []).append(definition)
+    due = words_of("\n".join(line for entries in calls.values() for entry in entries for line in entry))
+    while due:
+        for definition in by_name.get(due.pop(), []):
+            if not definition.is_cited:
+                definition.is_cited = True
+                due |= words_of(definition.source)
 
 
 def stem(subject):
@@ -212,25 +271,36 @@ def subject_text(subject):
     return lines + [""]
 
 
-def list_text():
-    """The whole page."""
-    made = chapters(subjects())
-    lines = HEAD.splitlines() + [""]
-    for key, (title, _) in PARTS.items():
-        lines += [f"| {title} | |", "|---|---|"]
+def list_text(head, found):
+    """A page with these subjects."""
+    made = chapters(found)
+    lines = head.splitlines() + [""]
+    shown = [key for key in PARTS if made[key]]
+    for key in shown:
+        lines += [f"| {PARTS[key][0]} | |", "|---|---|"]
         lines += [f"| [{stem(s)}](#{stem(s).lower()}) | {s.title} |" for s in made[key]] + [""]
-    for key, (title, about) in PARTS.items():
+    for key in shown:
+        title, about = PARTS[key]
         lines += [f"## {title}", "", about, ""]
         for subject in made[key]:
             lines += subject_text(subject)
     return "\n".join(lines).rstrip("\n") + "\n"
 
 
-def differ(wanted):
-    """Where the list as it is differs from the one that is due, in words; nothing where it does not."""
-    if not LIST.exists():
+def pages():
+    """Each page's path and what it is to say."""
+    found = subjects()
+    cite(found)
+    for name, head, is_cited in ("DEFINITIONS.md", HEAD, True), ("INNER_DEFINITIONS.md", INNER_HEAD, False):
+        kept = [replace(s, definitions=[d for d in s.definitions if d.is_cited == is_cited]) for s in found]
+        yield DOCS / name, list_text(head, [subject for subject in kept if subject.definitions])
+
+
+def differ(path, wanted):
+    """Where a page as it is differs from the one that is due, in words; nothing if it does not."""
+    if not path.exists():
         return "it is not there"
-    found = LIST.read_text(encoding="utf-8")
+    found = path.read_text(encoding="utf-8")
     if found == wanted:
         return ""
     old, new = found.splitlines(), wanted.splitlines()
@@ -251,21 +321,22 @@ def main(words):
     if words == ["--bare"]:
         print_bare()
         return 0
-    wanted = list_text()
-    if words == ["--write"]:
-        LIST.write_text(wanted, encoding="utf-8")
-        print(f"definitions: docs/DEFINITIONS.md is written, {wanted.count('- **`')} definitions")
-        return 0
-    if words:
+    if words not in ([], ["--write"]):
         print(__doc__, file=sys.stderr)
         return 2
-    difference = differ(wanted)
-    if difference:
-        print(f"definitions: docs/DEFINITIONS.md is not what specs/ says: {difference}", file=sys.stderr)
-        print("definitions: run checks/definitions.py --write", file=sys.stderr)
-        return 1
-    print(f"definitions: docs/DEFINITIONS.md says what specs/ says, {wanted.count('- **`')} definitions")
-    return 0
+    status = 0
+    for path, wanted in pages():
+        what = f"{wanted.count('- **`')} definitions"
+        if words:
+            path.write_text(wanted, encoding="utf-8")
+            print(f"definitions: docs/{path.name} is written, {what}")
+        elif difference := differ(path, wanted):
+            print(f"definitions: docs/{path.name} is not what specs/ says: {difference}", file=sys.stderr)
+            print("definitions: run checks/definitions.py --write", file=sys.stderr)
+            status = 1
+        else:
+            print(f"definitions: docs/{path.name} says what specs/ says, {what}")
+    return status
 
 
 if __name__ == "__main__":

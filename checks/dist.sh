@@ -326,15 +326,23 @@ complete_all() {
     completed "--strict" lp_rebuild ""
     completed "--strict" lp_rebuild --s
     completed "" lp_rebuild --strict ""
-    completed "--strict --lines --max-line --progress --cut --help" lp_relay ""
-    completed "--lines --max-line --progress --cut" lp_relay --strict --
-    completed "--strict --max-line --progress" lp_relay --lines ""
+    completed "--strict --lines --max-line --progress --output --cut --help --version" lp_relay ""
+    completed "--lines --max-line --progress --output --cut" lp_relay --strict --
+    completed "--strict --max-line --progress --output" lp_relay --lines ""
     completed "--max-line" lp_relay --m
     completed "" lp_relay --max-line ""
-    completed "--strict --lines --progress" lp_relay --max-line 7 ""
+    completed "--strict --lines --progress --output" lp_relay --max-line 7 ""
     completed "" lp_relay --cut ""
-    completed "" lp_relay --strict --cut 4 ""
+    completed "$top/launch.sh" lp_relay --strict --cut 4 "$top/lau"
+    completed "$top/launch.sh" lp_relay "$top/lau"
+    completed "$top/launch.sh" lp_relay --lines "$top/lau"
+    completed "$top/launch.sh" lp_relay --output "$top/lau"
+    completed "$top/launch.sh" lp_relay -o "$top/lau"
+    completed "" lp_relay --output --
     completed "" lp_relay --help ""
+    completed "" lp_relay -h ""
+    completed "--version" lp_relay --v
+    completed "" lp_relay --version ""
     told+=("$completions completions")
 }
 

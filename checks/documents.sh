@@ -1,8 +1,8 @@
 #!/usr/bin/env bash
-# Compares the documents with what they copy: docs/DEFINITIONS.md with specs/, and the blocks of code in README.md, docs/RATTLE.md
+# Compares the documents with what they copy: the two lists of definitions in docs/ with specs/, and the blocks of code in README.md, docs/RATTLE.md
 # and docs/BINDINGS.md with the examples; each link with what it leads to; imports, and files of definitions and lemmas, with the
 # map in docs/ARCHITECTURE.md and the pages of the crates; the licences of the crates with those at the top; the header for C with
-# crates/lp_c; and the packages of bindings/ with the header. And sees that each lemma has a line on what it means. Needs Python 3.10,
+# crates/lp_c; the packages of bindings/ with the header; and the version that lp_relay tells with CHANGELOG.md. And sees that each lemma has a line on what it means. Needs Python 3.10,
 # and no package.
 set -eu
 here=$(cd "$(dirname "$0")" && pwd)
@@ -14,6 +14,12 @@ fi
 for copy in "$here"/../crates/*/LICENSE-*; do
     cmp "$copy" "$here/../$(basename "$copy")"
 done
+. "$here/../launch.sh"
+told=$(sed -n 's/^pub const VERSION: &str = "\(.*\)";$/\1/p' "$here/../crates/lp_relay/src/words.rt")
+if [ "$told" != "$(version)" ]; then
+    echo "documents: lp_relay --version tells $told, where CHANGELOG.md has $(version)"
+    exit 1
+fi
 python3 -B "$here/definitions.py"
 python3 -B "$here/blocks.py"
 python3 -B "$here/links.py"

@@ -1,6 +1,6 @@
 #!/usr/bin/env python3
 """Whether include/influxdb_line_protocol.h says what crates/lp_c exports: the enums with their numbers, the structs with
-their fields, and the calls with their types.
+their fields, and the calls with their types; and whether bindings/c/empty.c has the constants of the header.
 
     checks/header.py            prints each difference; status 1 where there is one
 """
@@ -12,8 +12,10 @@ from pathlib import Path
 TOP = Path(__file__).resolve().parent.parent
 SOURCE = TOP / "crates" / "lp_c" / "src"
 HEADER = TOP / "include" / "influxdb_line_protocol.h"
+EMPTY = TOP / "bindings" / "c" / "empty.c"
 
-SCALARS = {"u8": "uint8_t", "u32": "uint32_t", "u64": "uint64_t", "i64": "int64_t", "usize": "size_t", "bool": "bool"}
+SCALARS = {"u8": "uint8_t", "u32": "uint32_t", "u64": "uint64_t", "i64": "int64_t", "usize": "size_t", "bool": "bool",
+           "f64": "double"}
 WORDS = {"unsigned": "unsigned_integer"}  # fields whose names are words of C
 
 
@@ -102,6 +104,13 @@ def of_header():
     return enums, structs, calls
 
 
+def of_empty():
+    """The constants that the header declares, and those of empty.c, with the initializers that they have."""
+    declared = re.findall(r"^extern const (\w+) (\w+);", HEADER.read_text(encoding="utf-8"), flags=re.M)
+    made = re.findall(r"^const (\w+) (\w+) = (\w+);", EMPTY.read_text(encoding="utf-8"), flags=re.M)
+    return [(kind, name, name.upper()) for kind, name in declared], made
+
+
 def main():
     source, header = of_source(), of_header()
     source[1]["lp_text"] = [("const uint8_t *", "at"), ("size_t", "len")]
@@ -110,6 +119,8 @@ def main():
         for name in sorted(wanted.keys() | given.keys()):
             if wanted.get(name) != given.get(name):
                 found.append(f"{what} {name}: the crate has {wanted.get(name)}, the header {given.get(name)}")
+    wanted, made = of_empty()
+    found += [f"{name} is not {initializer} in the header and in {EMPTY.name}" for _, name, initializer in set(wanted) ^ set(made)]
     if found:
         print("\n".join(f"header: {one}" for one in found), file=sys.stderr)
         return 1

@@ -9,7 +9,8 @@
 # reach.
 set -eu
 PATH=$PATH:/usr/sbin
-packages=(gcc g++ git valgrind bsdutils python3 cargo librust-bytes-dev librust-nom-dev librust-smallvec-dev)
+packages=(gcc g++ git valgrind bsdutils python3 python3-dev python3-venv mypy cargo librust-bytes-dev librust-nom-dev
+    librust-smallvec-dev)
 if [ "${1-}" = --engines ]; then
     packages+=(slurm-wlm munge parallel openssh-client openssh-server)
     shift
@@ -27,6 +28,8 @@ is_here() {
     openssh-client) command -v ssh && command -v ssh-keygen ;;
     openssh-server) command -v sshd ;;
     python3) python3 -c 'import sys; sys.exit(sys.version_info < (3, 10))' ;;
+    python3-dev) python3 -c 'import os, sysconfig; os.stat(sysconfig.get_path("include") + "/Python.h")' ;;
+    python3-venv) python3 -c 'import ensurepip, venv' ;;
     librust-*) compgen -G "/usr/share/cargo/registry/${crate%-dev}-[0-9]*" ;;
     *) command -v "$1" ;;
     esac >/dev/null 2>&1

@@ -13,7 +13,7 @@ fail() {
 
 # Sets, from `FILE PARTS [OPTION..]`: file, parts, the program, the ends of the parts, and waiting, a folder that goes at the end.
 take_parts() {
-    local name=$1 said cut last=0 end length dialect=()
+    local name=$1 said cut last=0 end length word before='' dialect=()
     parts=$2
     [ -f "$name" ] || fail "$name is not a regular file, so it cannot be read in parts"
     # A name such as /dev/stdin is another file for each process.
@@ -21,6 +21,13 @@ take_parts() {
     [[ $parts =~ ^[1-9][0-9]{0,2}$ ]] || fail "$parts is not a number of parts, which is from 1 to 999"
     shift 2
     program=${LP_RELAY:-$(dirname "$(readlink -f "${BASH_SOURCE[0]}")")/../lp_relay}
+    # Each part is an input of its own, and has an output of its own.
+    for word in "$@"; do
+        if [[ $word = --output || $word = -o || ($word != --* && $before != --max-line) ]]; then
+            fail "the options ($*) name a file"
+        fi
+        before=$word
+    done
     said=$("$program" "$@" </dev/null) || fail "with the options ($*) the status of $program is $?"
     [ -z "$said" ] || fail "the options ($*) are not those of a relay"
     case " $* " in *" --strict "*) dialect=(--strict) ;; esac

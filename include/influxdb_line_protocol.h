@@ -37,7 +37,7 @@ enum lp_kind {
     LP_TAG = 0,      /* a tag: its value is `text` */
     LP_INTEGER = 1,  /* a field: `integer` */
     LP_UNSIGNED = 2, /* a field: `unsigned_integer` */
-    LP_FLOAT = 3,    /* a field: the literal `text`, as it was spelled */
+    LP_FLOAT = 3,    /* a field: the literal `text`, as it was spelled: lp_float_value has its number */
     LP_STRING = 4,   /* a field: `text` */
     LP_BOOLEAN = 5   /* a field: `boolean` */
 };
@@ -112,13 +112,22 @@ typedef struct lp_counts {
 
 #define LP_NO_TEXT { (const uint8_t *)"", 0 }
 #define LP_NO_VIEW { LP_NO_TEXT, false }
+#define LP_EMPTY_PART { LP_NO_VIEW, LP_NO_VIEW, 0, 0, LP_TAG, false }
 #define LP_EMPTY_LINE { LP_NO_TEXT, LP_NO_VIEW, LP_NO_TEXT, 0, 0, 0, 0, 0, 0, false, false }
 #define LP_EMPTY_ROW { LP_EMPTY_LINE, 0, 0 }
 #define LP_NO_LINES { LP_NO_TEXT, true, false }
 
+/* The same for what sees no initializers, as cgo and bindgen: bindings/c/empty.c has these. */
+extern const lp_text lp_no_text;
+extern const lp_view lp_no_view;
+extern const lp_line lp_empty_line;
+extern const lp_row lp_empty_row;
+extern const lp_lines lp_no_lines;
+extern const lp_part lp_empty_part;
+
 /* Empties parts that were never written. */
 static inline void lp_empty_parts(lp_part *parts, size_t len) {
-    const lp_part empty = { LP_NO_VIEW, LP_NO_VIEW, 0, 0, LP_TAG, false };
+    const lp_part empty = LP_EMPTY_PART;
     for (size_t i = 0; i < len; i++) parts[i] = empty;
 }
 
@@ -177,6 +186,15 @@ uint32_t lp_line_is_base_safe(const lp_line *line, const lp_part *parts, size_t 
 /* Whether the line reads back where it is written: whether each of its names is admitted. LP_WRITTEN: `admitted` says so.
  * With at most eight tags and four fields it takes no memory. */
 uint32_t lp_line_is_admitted(const lp_line *line, const lp_part *parts, size_t parts_len, bool *admitted);
+
+/* The message of a fault, with no newline: "No fields were provided". Of `line`, `fault` and `fault_text` alone are looked at. A
+ * repeated key, which lp_line_base puts out, is the `fault_text` of LP_DUPLICATE_TAG. It asks for no memory. LP_NOT_A_LINE:
+ * `fault` is LP_NONE or no kind, or `fault_text` is no UTF-8. */
+uint32_t lp_fault_message(const lp_line *line, uint8_t *out, size_t room, size_t *len);
+
+/* The number of the literal of a float: the nearest double, and of two that are as near that with an even significand; it is
+ * infinite where the literal is too large. It asks for no memory. False: the text is no such literal, and `value` is as it was. */
+bool lp_float_value(const uint8_t *text, size_t len, double *value);
 
 /* Writes each line of a text again, where all its names are admitted, into `batch`, and a line for each other item into
  * `faults`. LP_WRITTEN, or LP_MORE_ROOM: one of the two is too short, both are as they were, and `counts` has both needs.

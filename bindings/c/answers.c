@@ -167,15 +167,28 @@ static uint32_t write_first(writer *write, lp_text text, bool strict, lp_text *o
     return answer == LP_LINE ? write(&line, parts, PARTS, written, BYTES, &out->len) : LP_NOT_A_LINE;
 }
 
+static void put_message(FILE *out, const lp_line *line) {
+    lp_text message = { faults, 0 };
+    uint32_t answer = lp_fault_message(line, faults, BYTES, &message.len);
+    if (answer == LP_WRITTEN) put_text(out, message);
+    else fprintf(out, "the answer %u", (unsigned)answer);
+}
+
+static void give_fault(FILE *out, lp_text text, bool strict) {
+    lp_lines lines = begin(text, strict);
+    lp_line line = LP_EMPTY_LINE;
+    if (next(&lines, &line) == LP_FAULT) put_message(out, &line);
+}
+
 /* A buffer does not tell whether a base is a part of the text or a copy. */
 static void give_base(FILE *out, lp_text text, bool strict) {
     lp_text base;
     uint32_t answer = write_first(lp_line_base, text, strict, &base);
     if (answer == LP_WRITTEN) put_within(out, "", base);
     else if (answer == LP_FAULT) {
-        fputs("Must not contain duplicate tags, but \"", out);
-        put_text(out, base);
-        fputs("\" was repeated", out);
+        lp_line repeated = LP_EMPTY_LINE;
+        repeated.fault = LP_DUPLICATE_TAG, repeated.fault_text = base;
+        put_message(out, &repeated);
     }
 }
 
@@ -214,6 +227,13 @@ static void give_float(FILE *out, lp_text text, bool strict) {
     if (answer == LP_WRITTEN || answer == LP_NOT_A_LINE) fputs(answer == LP_WRITTEN ? "true" : "false", out);
 }
 
+/* Whether the text has a number. */
+static void give_number(FILE *out, lp_text text, bool strict) {
+    double value = 0;
+    (void)strict;
+    fputs(lp_float_value(text.at, text.len, &value) ? "true" : "false", out);
+}
+
 /* The kinds of rows: the calls that answer them, or none, and then the rows are passed over. */
 static struct kind { const char *word; giver *give, *again; size_t rows; } kinds[] = {
     { "items", give_items, give_items_of_blocks, 0 },
@@ -225,9 +245,9 @@ static struct kind { const char *word; giver *give, *again; size_t rows; } kinds
     { "shown", give_shown, NULL, 0 },
     { "rebuilt", give_rebuilt, NULL, 0 },
     { "run", give_run, NULL, 0 },
-    { "float", give_float, NULL, 0 },
+    { "float", give_float, give_number, 0 },
     { "columns", NULL, NULL, 0 },
-    { "fault", NULL, NULL, 0 },
+    { "fault", give_fault, NULL, 0 },
     { "as_written", NULL, NULL, 0 },
 };
 enum { KINDS = sizeof kinds / sizeof kinds[0] };

@@ -4,6 +4,9 @@
 #include <stdint.h>
 #include <stdlib.h>
 
+#ifdef __cplusplus
+extern "C" {
+#endif
 struct given { uint64_t ok; void *at; };
 static char nothing[16];
 #ifdef LP_REFUSE
@@ -13,7 +16,10 @@ static int is_refused(void) { return lp_requests++ == lp_refused; }
 static int is_refused(void) { return 0; }
 #endif
 
-static struct given given(void *at) { return (struct given){ at != NULL, at ? at : nothing }; }
+static struct given given(void *at) {
+    struct given made = { at != NULL, at ? at : nothing };
+    return made;
+}
 
 struct given rattle_alloc(size_t size, size_t least) {
     return is_refused() ? given(NULL) : given(malloc(size ? size : least));
@@ -23,3 +29,6 @@ struct given rattle_realloc(void *at, size_t old_size, size_t size, size_t least
     return is_refused() ? given(NULL) : given(realloc(at, size ? size : least));
 }
 void rattle_dealloc(void *at) { free(at); }
+#ifdef __cplusplus
+}
+#endif

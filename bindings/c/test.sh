@@ -1,9 +1,9 @@
 #!/usr/bin/env bash
 # Builds the static library of crates/lp_c, and programs over it, watched by the address and undefined behaviour sanitizers;
 # compares what the example prints with example.out, and lets answers.c compare the table of answers, lending.c read with little lent
-# and no request for memory, writing.c write with little lent and memory refused, and sizes.c hand over what is large. threads.c is
-# watched by the thread sanitizer, and by helgrind, which sees the library's own loads and stores too; and the archive must hold no
-# variable. The header goes through a C++ compiler too.
+# and no request for memory, writing.c write with little lent and memory refused, numbers.c ask for the numbers of literals, and
+# sizes.c hand over what is large. threads.c is watched by the thread sanitizer, and by helgrind, which sees the library's own loads
+# and stores too; and the archive must hold no variable. The header goes through a C++ compiler too.
 #
 #     bindings/c/test.sh             makes the archive first
 #     bindings/c/test.sh ARCHIVE     takes one that was made before
@@ -25,7 +25,7 @@ build() {
     local name=$1
     shift
     "${CC:-cc}" -std=c11 -Wall -Wextra -Wpedantic -Werror -g "$@" -I"$top/include" "$here/$name.c" "$here/heap.c" \
-        "$archive" -o "$built/$name"
+        "$here/empty.c" "$archive" -o "$built/$name"
 }
 watched=("-fsanitize=address,undefined" -fno-sanitize-recover=all)
 
@@ -49,12 +49,17 @@ if ! written=$("$built/writing"); then
     echo "c: what should be written was not: $written" >&2
     exit 1
 fi
+build numbers "${watched[@]}" -DLP_REFUSE
+if ! numbers=$("$built/numbers"); then
+    echo "c: literals do not have the numbers that they should: $numbers" >&2
+    exit 1
+fi
 build sizes "${watched[@]}"
 if ! sizes=$("$built/sizes"); then
     echo "c: what should come of what is large did not come: $sizes" >&2
     exit 1
 fi
-said="the example prints what it should; $lent; $written; $sizes"
+said="the example prints what it should; $lent; $written; $numbers; $sizes"
 
 # Runs threads.c, built with these flags, by this command.
 run_threads() {
@@ -93,10 +98,13 @@ else
     said="$said; $(cat "$built/log"), watched by $(printf '%s and ' "${watchers[@]}" | sed 's/ and $//')"
 fi
 if command -v g++ >/dev/null; then
-    printf '#include "influxdb_line_protocol.h"\nint main() { lp_part parts[2]; lp_empty_parts(parts, 2); return 0; }\n' \
-        >"$built/header.cpp"
-    g++ -Wall -Wextra -Werror -I"$top/include" "$built/header.cpp" -o "$built/header"
-    said="$said, and the header is C++ too"
+    printf '%s\n' '#include "influxdb_line_protocol.h"' 'int main() {' '    lp_part parts[2] = { lp_empty_part, lp_empty_part };' \
+        '    lp_line line = lp_empty_line;' '    uint8_t out[64];' '    size_t len = 0;' '    lp_empty_parts(parts, 2);' \
+        '    return lp_fault_message(&line, out, sizeof out, &len) != LP_NOT_A_LINE || lp_version() != 20000;' '}' >"$built/header.cpp"
+    g++ -Wall -Wextra -Werror -I"$top/include" "$built/header.cpp" -x c++ "$here/heap.c" "$here/empty.c" -x none "$archive" \
+        -o "$built/header"
+    "$built/header"
+    said="$said, and the header and the heap are C++ too"
 else
     left_out "header as C++" "there is no g++"
 fi

@@ -120,6 +120,69 @@ static bool is_nothing_told(void) {
     return good & (lp_line_is_admitted(&line, parts, 10, &told) == LP_NOT_A_LINE) & told;
 }
 
+static uint32_t message(const lp_line *line, const lp_part *parts, size_t parts_len, uint8_t *out, size_t room, size_t *len) {
+    (void)parts, (void)parts_len;
+    return lp_fault_message(line, out, room, len);
+}
+
+/* The message of a fault with this text, into rooms of each length. */
+static bool has_message(uint32_t fault, lp_text text, const char *wanted) {
+    lp_line line = LP_EMPTY_LINE;
+    line.fault = fault, line.fault_text = text;
+    return writes(message, &line, PARTS, LP_WRITTEN, wanted, strlen(wanted));
+}
+
+/* Each fault has its message, without memory; a text of a fault that names none is left out of it. */
+static bool are_messages(void) {
+    const lp_text text = TEXT("q\xc3\xa9"), none = LP_NO_TEXT;
+    lp_requests = 0;
+    bool good = has_message(LP_DUPLICATE_TAG, text, "Must not contain duplicate tags, but \"q\xc3\xa9\" was repeated");
+    good &= has_message(LP_DUPLICATE_TAG, none, "Must not contain duplicate tags, but \"\" was repeated");
+    good &= has_message(LP_MEASUREMENT_VALUE_INVALID, none, "Invalid measurement was provided");
+    good &= has_message(LP_FIELD_SET_MISSING, none, "No fields were provided");
+    good &= has_message(LP_FIELD_SET_MISSING, text, "No fields were provided");
+    good &= has_message(LP_INTEGER_VALUE_INVALID, text, "Unable to parse integer value 'q\xc3\xa9'");
+    good &= has_message(LP_UINTEGER_VALUE_INVALID, text, "Unable to parse unsigned integer value 'q\xc3\xa9'");
+    good &= has_message(LP_TIMESTAMP_VALUE_INVALID, text, "Unable to parse timestamp value 'q\xc3\xa9'");
+    good &= has_message(LP_ENDS_WITH_BACKSLASH, none, "Measurements, tag keys and values, and field keys may not end with a backslash");
+    good &= has_message(LP_CANNOT_PARSE_ENTIRE_LINE, text, "Could not parse entire line. Found trailing content: 'q\xc3\xa9'");
+    good &= has_message(LP_CANNOT_PARSE_ENTIRE_LINE, none, "Could not parse entire line. Found trailing content: ''");
+    good &= has_message(LP_TAG_SET_MALFORMED, none, "Tag Set Malformed");
+    return good & has_message(LP_GENERIC_PARSING_ERROR, none, "A generic parsing error occurred: TakeWhile1") & (lp_requests == 0);
+}
+
+/* What is no fault has no message, and then the room and the length are as they were. */
+static bool is_no_message(uint32_t fault, lp_text text) {
+    uint8_t out[96];
+    size_t told = 77;
+    lp_line line = LP_EMPTY_LINE;
+    bool good = true;
+    line.fault = fault, line.fault_text = text;
+    memset(out, '~', sizeof out);
+    good &= lp_fault_message(&line, out, sizeof out, &told) == LP_NOT_A_LINE && told == 77;
+    for (size_t at = 0; at < sizeof out; at++) good &= out[at] == '~';
+    return good;
+}
+
+static bool are_no_messages(void) {
+    const lp_text text = TEXT("q"), broken = TEXT("\xc3");
+    return is_no_message(LP_NONE, text) && is_no_message(LP_GENERIC_PARSING_ERROR + 1, text) && is_no_message(UINT32_MAX, text) &&
+           is_no_message(LP_INTEGER_VALUE_INVALID, broken) && is_no_message(LP_FIELD_SET_MISSING, broken);
+}
+
+/* What is empty is so in each of its two spellings: a difference shows in a field that is no padding. */
+static bool are_empty(void) {
+    const lp_line line = LP_EMPTY_LINE;
+    const lp_lines lines = LP_NO_LINES;
+    bool good = lp_no_text.at && lp_no_text.len == 0 && lp_no_view.text.at && lp_no_view.text.len == 0 && !lp_no_view.copied;
+    good &= lp_empty_line.series.len == line.series.len && lp_empty_line.measurement.text.len == 0 && lp_empty_line.fault_text.at;
+    good &= lp_empty_line.tags + lp_empty_line.fields + lp_empty_line.copied_len == 0 && lp_empty_line.timestamp == line.timestamp;
+    good &= lp_empty_line.fault == LP_NONE && lp_empty_line.side == LP_NEITHER && !lp_empty_line.has_timestamp;
+    good &= lp_empty_row.parts_at == 0 && lp_empty_row.answer == LP_END && lp_empty_row.line.series.at != NULL;
+    good &= lp_empty_part.kind == LP_TAG && lp_empty_part.key.text.at && lp_empty_part.text.text.len == 0 && !lp_empty_part.boolean;
+    return good && lp_no_lines.ended == lines.ended && lp_no_lines.rest.len == 0 && lp_no_lines.strict == lines.strict;
+}
+
 /* The second item has no field. */
 static bool is_rebuilt(void) {
     static const char text[] = "m f=1i 5\nm f\n b,x=y  g=t\n", carried[] = "m f=1i 5\nb,x=y g=true\n";
@@ -143,8 +206,9 @@ int main(void) {
     good &= writes(lp_line_base, &LINE, PARTS, LP_WRITTEN, BASE, sizeof BASE - 1);
     good &= writes(lp_line_base, &LINE, repeated, LP_FAULT, "k", 1);
     good &= is_tested() && are_bases_safe() && is_nothing_told() && is_rebuilt();
+    good &= are_messages() && are_no_messages() && are_empty();
     long requests = refused(lp_line_write, sizeof WRITTEN - 1, &good) + refused(lp_line_show, sizeof SHOWN - 1, &good);
     requests += refused(lp_line_base, sizeof BASE - 1, &good);
-    printf("lines, bases and rebuilt texts written, each of %ld requests refused in turn\n", requests);
+    printf("lines, bases, messages and rebuilt texts written, each of %ld requests refused in turn\n", requests);
     return !good;
 }

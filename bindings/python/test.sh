@@ -1,7 +1,9 @@
 #!/usr/bin/env bash
-# Builds the shared library, and runs the tests of the Python package over it; one of them refuses each request for memory in turn.
-# They need Python and its standard library alone. Where they cannot be run, a line that begins with `left out: ` says why, on
-# standard output and in the file that LEFT_OUT names, if it is set.
+# Builds the Python package, whose extension must compile without a warning, and runs its tests; two of them refuse each request for
+# memory in turn, of the library and of Python. Then mypy looks at its types, where it is there, and pip installs the package into a
+# new environment, without a network, and the example is run there. All else needs Python and its standard library alone. Where
+# something cannot be run, a line that begins with `left out: ` says why, on standard output and in the file that LEFT_OUT names, if
+# it is set.
 #
 #     bindings/python/test.sh             makes the archive first
 #     bindings/python/test.sh ARCHIVE     takes one that was made before
@@ -23,16 +25,43 @@ fi
 if ! command -v "${CC:-cc}" >/dev/null; then
     leave_out "there is no ${CC:-cc}"
 fi
+include=$("$python" -c 'import sysconfig; print(sysconfig.get_path("include"))')
+if [ ! -f "$include/Python.h" ]; then
+    leave_out "there is no $include/Python.h, the header of $python"
+fi
 "$bindings/build.sh" "$@" >/dev/null
+ARCHIVE=$(realpath "${1:-$(dirname "$bindings")/crates/lp_c/out/liblp_c.a}")
+export ARCHIVE PYTHONDONTWRITEBYTECODE=1
 built=$(mktemp -d)
 trap 'rm -rf "$built"' EXIT
-"${CC:-cc}" -DLP_REFUSE -O2 -shared -fPIC "$bindings/c/heap.c" -Wl,--whole-archive \
-    "${1:-$(dirname "$bindings")/crates/lp_c/out/liblp_c.a}" -Wl,--no-whole-archive -o "$built/refusing.so"
-if ! INFLUXDB_LINE_PROTOCOL_LIBRARY=$bindings/out/libinfluxdb_line_protocol.so LP_REFUSED_LIBRARY=$built/refusing.so \
-    PYTHONPATH=$here "$python" -B -m unittest discover -s "$here/tests" >"$built/answers" 2>"$built/said" ||
-    ! grep -q '^Ran [1-9]' "$built/said" || ! grep -q '^answers.tsv: ' "$built/answers"; then
+cd "$built"
+CFLAGS="${CFLAGS:-} -Werror" "$python" "$here/build_backend.py" "$built/package"
+"$python" "$here/build_backend.py" "$built/refusing" --refuse
+if ! LP_REFUSED_LIBRARY=$built/refusing PYTHONPATH=$built/package "$python" -m unittest discover -s "$here/tests" \
+    >"$built/answers" 2>"$built/said" || ! grep -q '^Ran [1-9]' "$built/said" || ! grep -q '^answers.tsv: ' "$built/answers"; then
     cat "$built/said" >&2
     exit 1
 fi
 echo "python: $(grep '^Ran ' "$built/said"): $(tail -n 1 "$built/said")"
 echo "python: $(grep '^answers.tsv: ' "$built/answers")"
+
+if command -v mypy >/dev/null; then
+    if ! (cd "$here/src" && mypy --strict --cache-dir "$built/mypy" -p line_protocol >"$built/said" 2>&1); then
+        cat "$built/said" >&2
+        exit 1
+    fi
+    echo "python: mypy --strict: $(tail -n 1 "$built/said")"
+else
+    echo "left out: bindings/python by mypy: there is no mypy" | tee -a "${LEFT_OUT:-/dev/null}"
+fi
+if ! "$python" -c 'import ensurepip, venv' 2>/dev/null; then
+    echo "left out: bindings/python by pip: $python has no venv with pip" | tee -a "${LEFT_OUT:-/dev/null}"
+    exit 0
+fi
+"$python" -m venv "$built/new"
+if ! "$built/new/bin/python" -m pip install --quiet --no-index --disable-pip-version-check "$here" >"$built/said" 2>&1 ||
+    ! "$built/new/bin/python" "$here/example.py" >"$built/printed" 2>&1 || ! grep -q '^disk usage ' "$built/printed"; then
+    cat "$built/said" "$built/printed" >&2
+    exit 1
+fi
+echo "python: pip installs version $("$built/new/bin/python" -c 'import line_protocol; print(line_protocol.__version__)') in a new environment"

@@ -1,5 +1,5 @@
-"""Requests for memory: none is made where a text is read, and each other is refused in turn. LP_REFUSED_LIBRARY names a shared
-library that has heap.c with LP_REFUSE."""
+"""Requests for memory: none is made where a text is read, and each other is refused in turn. LP_REFUSED_LIBRARY names a folder with
+the package over heap.c with LP_REFUSE."""
 
 import os
 import subprocess
@@ -9,9 +9,9 @@ import unittest
 PROGRAM = r"""
 import ctypes
 import line_protocol
-from line_protocol import library
+from line_protocol import _fast
 
-refused, requests = (ctypes.c_long.in_dll(library.LIBRARY, name) for name in ("lp_refused", "lp_requests"))
+refused, requests = (ctypes.c_long.in_dll(ctypes.CDLL(_fast.__file__), name) for name in ("lp_refused", "lp_requests"))
 line = line_protocol.Line("m", [("t", "a b")], [("f", 1)])
 builder = line_protocol.Builder().measurement("a").field("f", 1).close_line().measurement("b").field("g", 2)
 refused.value, requests.value = 0, 0
@@ -44,8 +44,8 @@ class Memory(unittest.TestCase):
     def test_each_request_refused_in_turn(self):
         library = os.environ.get("LP_REFUSED_LIBRARY")
         if not library:
-            self.skipTest("LP_REFUSED_LIBRARY names no library")
+            self.skipTest("LP_REFUSED_LIBRARY names no folder")
         said = subprocess.run(
-            [sys.executable, "-B", "-c", PROGRAM], env={**os.environ, "INFLUXDB_LINE_PROTOCOL_LIBRARY": library},
+            [sys.executable, "-B", "-c", PROGRAM], env={**os.environ, "PYTHONPATH": library},
             capture_output=True, text=True, check=False)
         self.assertEqual((said.returncode, said.stdout), (0, "refused\n"), said.stderr)

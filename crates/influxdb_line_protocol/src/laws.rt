@@ -1,15 +1,13 @@
 //! Laws of the definitions, each the contract of a function that does nothing.
 
 ghost use Rattle.lp_format.specs.laws.Laws.{AdmittedBatchesReadBack, OtherBatchesDoNotReadBack, ItemsHaveReadableNames};
-ghost use Rattle.lp_format.specs.laws.Laws.{OtherPointsEndWithBackslash, NamesAreParsed, ParsedNamesAreInLines};
-ghost use Rattle.lp_format.specs.laws.Laws.{StrictFieldsEnd, PiecesExist, PiecesAreUnique, PiecesAreTheText, PiecesJoin};
-ghost use Rattle.lp_format.specs.laws.Laws.{AnswersJoin, CommentTextIsIgnored};
+ghost use Rattle.lp_format.specs.laws.Laws.{OtherPointsEndWithBackslash, NamesAreParsed, ParsedNamesAreInLines, StrictFieldsEnd};
+ghost use Rattle.lp_format.specs.laws.Laws.{PiecesExist, PiecesAreUnique, PiecesAreTheText, PiecesJoin, AnswersJoin, CommentTextIsIgnored};
 ghost use Rattle.lp_format.specs.laws.PointsOfLines.{LinesArePoints, LinesThatStayAreWritten, WrittenLinesStay};
 ghost use Rattle.influxdb_line_protocol.specs.laws.GivenEvents.{AllEventsCome, EventsSoFar};
 ghost use Rattle.influxdb_line_protocol.specs.laws.GivenItems.{ItemsAreOfPieces, ItemsAreAnswers, ItemsSoFar, GivenLinesWereRead};
-ghost use Rattle.lp_lines.specs.laws.BaseLaws.{ClearSeriesHaveBases, SameSeriesHaveOneBase, TagsByKeyAreSorted};
-ghost use Rattle.lp_lines.specs.laws.BaseLaws.{OneBaseIsOneSeries, PlainSeriesAreClear, ReadSeriesAreParsed};
-ghost use Rattle.lp_lines.specs.laws.BaseLaws.{SafeBasesTellSeries, SameSeriesAreSafeAlike};
+ghost use Rattle.lp_lines.specs.laws.BaseLaws.{ClearSeriesHaveBases, SameSeriesHaveOneBase, TagsByKeyAreSorted, OneBaseIsOneSeries};
+ghost use Rattle.lp_lines.specs.laws.BaseLaws.{PlainSeriesAreClear, ReadSeriesAreParsed, SafeBasesTellSeries, SameSeriesAreSafeAlike};
 ghost use Rattle.lp_format.specs.laws.Meanings.{LogicalIsWithoutEscapes, TheMostIsRead, TheNextHasTheFault, TheFirstMisses};
 ghost use Rattle.lp_format.specs.laws.Meanings.{CountIsOfTheMost, FloatFrontIsFloat, FloatFrontIsLongest, WordFrontIsWord};
 ghost use Rattle.lp_format.specs.laws.Meanings.{WordFrontIsLongest, TrimmedIsAfterBlanks, TrimmedFrontIsLongest};
@@ -53,6 +51,7 @@ pub fn lines_are_points()
 
 /// A text that [`builder::is_as_written`](crate::builder::is_as_written) is read in each dialect, and what the builder writes for the
 /// point of that line, whose names are all admitted, is the text and a newline. No other text is read so.
+#[tactic(auto, using(lp_written::proofs::lemmas::points::WrittenLinesStay::stay_laws))]
 pub fn written_lines_stay()
     ensures stay { WrittenLinesStay }
     ensures written { LinesThatStayAreWritten }
@@ -73,6 +72,7 @@ pub fn items_are_answers()
 /// The events that calls of `next` give, from any call on to `None`, are all that were left then. From `parse_events` on these
 /// are the events of the text, as the contract of that call says. Up to any call, the events that came, and after them those
 /// that are left, were left at the start.
+#[tactic(auto, using(crate::proofs::lemmas::laws::GivenItems::all_come, crate::proofs::lemmas::laws::GivenItems::so_far))]
 pub fn all_events_come()
     ensures so_far { EventsSoFar }
     ensures all { AllEventsCome }
@@ -99,6 +99,7 @@ pub fn fronts_keep_their_cuts()
 /// Whatever comes after the parts that were given to a stream, the pieces that it gave, and after them those of what it
 /// holds and what comes, are the pieces of all. If nothing more comes, what it holds is the last of them. The answers of
 /// all are those of each piece alone, in order.
+#[tactic(auto, using(crate::proofs::lemmas::stream::StreamRuns::stream_laws))]
 pub fn runs_give_pieces()
     ensures taken { TakenIsFirst }
     ensures runs { RunsGivePieces }
@@ -113,7 +114,8 @@ pub fn utf8_by_pieces()
 {}
 
 /// Each text has exactly one logical text, whichever bytes a backslash may escape in it: a
-/// backslash goes where one of these bytes follows, and every other byte stays.
+/// backslash goes if one of these bytes follows, and every other byte stays.
+#[tactic(auto, using(lp_format::proofs::lemmas::names::NameLemmas::logical_is))]
 pub fn logical_text_is_unique()
     ensures { LogicalIsWithoutEscapes }
 {}
@@ -134,12 +136,14 @@ pub fn most_are_read()
 
 /// Each trimmed text is answered by the first row of the table of answers that holds for it, and by
 /// no other: each row says, besides its own condition, that the parts before it were read.
+#[tactic(auto, using(lp_lines::proofs::lemmas::meanings::AnswerMeaning::answer_is_by_rows))]
 pub fn answers_are_by_rows()
     ensures { AnswerIsByRows }
 {}
 
 /// What is left of a piece once it is trimmed is what follows its longest front of blanks and
 /// comments: spaces, tabs and newlines, and each `#` with the rest of its line.
+#[tactic(auto, using(crate::proofs::lemmas::laws::WordsAndKeys::word_laws))]
 pub fn longest_blank_front_is_trimmed()
     ensures blanks { TrimmedIsAfterBlanks }
     ensures longest { TrimmedFrontIsLongest }
@@ -160,6 +164,7 @@ pub fn longest_float_is_read()
 {}
 
 /// A boolean is read by its longest word: what it takes is one of its words, and no longer front is one.
+#[tactic(auto, using(crate::proofs::lemmas::laws::WordsAndKeys::word_laws))]
 pub fn longest_word_is_read()
     ensures word { WordFrontIsWord }
     ensures longest { WordFrontIsLongest }

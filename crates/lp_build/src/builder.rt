@@ -4,14 +4,13 @@
 //! line without a field, a tag after a field or a second timestamp does not compile, and
 //! [`LineProtocolBuilder::build`] gives the buffer back between two lines alone.
 
-ghost use Rattle.std.specs.Prelude.{◌≡◌, ◌≢◌, ◌+◌, ◌<◌, ◌≤◌, ◌^◌, [], ◌∷◌, ◌++◌, true, length, IfOk, IfErr, IsOk};
-ghost use Rattle.std.specs.Option.{SomeIff};
+ghost use Rattle.std.specs.Prelude.{◌≡◌, ◌≢◌, ◌+◌, ◌<◌, ◌≤◌, ◌^◌, [], ◌∷◌, ◌++◌, true, length, IfOk, IfErr, IfSome, IsOk, SomeIff};
+ghost use Rattle.std.specs.Prelude.{option_map};
 ghost use Rattle.std.specs.Fmt.{signed_decimal};
 ghost use Rattle.lp_build.specs.declared.builder.buffer.NoRoom.{NoRoom};
 ghost use Rattle.lp_build.specs.declared.builder.buffer.NoRoom.TheVariants.{TooLong};
-ghost use Rattle.lp_format.specs.format.Bytes.{newline, space, comma};
-ghost use Rattle.lp_format.specs.format.Names.{a_field_key, a_measurement, a_tag_key, a_tag_value, escapable};
-ghost use Rattle.lp_format.specs.format.Points.{built_tag, field_text, spelling};
+ghost use Rattle.lp_format.specs.format.{newline, space, comma, a_field_key, a_measurement, a_tag_key, a_tag_value, escapable, built_tag};
+ghost use Rattle.lp_format.specs.format.{field_text, spelling};
 ghost use Rattle.lp_build.specs.code.Built.{IsPlainText, Writes, buffer_of};
 
 use lp_scan::sets::TokenKind;
@@ -26,17 +25,23 @@ mod values;
 
 pub use buffer::{BufMut, NoRoom};
 pub use lines::{is_admitted, write_line};
-use texts::{escaped_len, put_escaped};
+use texts::{Extent, escaped_len, measure, put_escaped};
 pub use values::FieldValue;
 
-// The length of a tag with the comma before it, if a `usize` holds it.
-fn tag_len(key: &[u8], value: &[u8]) -> Option<usize>
-    ensures { let text = built_tag (record { key = key.now; value = value.now }) in
-        SomeIff result (length text < 2 ^ 64) (length text) }
+// The length of a tag with the comma before it, if a `usize` holds it, and whether it gets no backslash.
+#[inline(always)]
+fn measure_tag(key: &[u8], value: &[u8]) -> Option<Extent>
+    ensures len { let text = built_tag (record { key = key.now; value = value.now }) in
+        SomeIff (option_map (λ m. m.len) result) (length text < 2 ^ 64) (length text) }
+    ensures plain { IfSome result (λ m. m.is_plain ≡ true
+        → IsPlainText (escapable a_tag_key) key.now × IsPlainText (escapable a_tag_value) value.now) }
 {
-    let key_len = escaped_len(TokenKind::TagKey, key);
-    let value_len = escaped_len(TokenKind::TagValue, value);
-    key_len.checked_add(value_len)?.checked_add(2)
+    let key = measure(TokenKind::TagKey, key);
+    let value = measure(TokenKind::TagValue, value);
+    Some(Extent {
+        len: key.len.checked_add(value.len)?.checked_add(2)?,
+        is_plain: key.is_plain && value.is_plain,
+    })
 }
 
 // Appends a tag with the comma before it.
@@ -264,10 +269,10 @@ impl<B: BufMut> LineProtocolBuilder<B, AfterMeasurement> {
         ensures { Writes B.bytes B.room B.refuses
             (built_tag (record { key = key.now; value = value.now })) (buffer_of self) result }
     {
-        let Some(n) = tag_len(key.as_bytes(), value.as_bytes()) else {
+        let Some(extent) = measure_tag(key.as_bytes(), value.as_bytes()) else {
             return Err(self.too_long());
         };
-        let mut buf = self.with_room(n)?;
+        let mut buf = self.with_room(extent.len)?;
         put_tag(&mut buf, false, key.as_bytes(), value.as_bytes());
         Ok(LineProtocolBuilder::over(buf))
     }

@@ -1,5 +1,6 @@
 pub mod BlockLemmas
 pub mod CursorLemmas
 pub mod FillLemmas
+pub mod FloatLemmas
 pub mod TextLemmas
 pub mod ToldLemmas

@@ -7,6 +7,8 @@
 mod blocks;
 mod handed;
 mod lent;
+mod messages;
+mod numbers;
 mod reading;
 mod rebuilding;
 mod telling;

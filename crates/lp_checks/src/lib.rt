@@ -402,7 +402,7 @@ pub extern "C" fn lp_checks_rebuild(
 }
 
 /// Runs over bytes, into `out` and `err`; `lens` gets how many bytes each of the two holds then. The answer is 0 if the
-/// run came to its end, 1 if the reader failed, 2 where the bytes are not UTF-8, 3 if memory was refused, and 4 if a
+/// run came to its end, 1 if the reader failed, 2 if the bytes are not UTF-8, 3 if memory was refused, and 4 if a
 /// buffer was full.
 #[unsafe(no_mangle)]
 pub extern "C" fn lp_checks_run(

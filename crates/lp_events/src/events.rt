@@ -1,20 +1,18 @@
 //! Lines, told to a sink part by part, with no memory.
 
 ghost use Rattle.std.specs.Prelude.{◌≡◌, ◌<◌, ◌++◌, ℕ, List, length, slice_index, IfOk, IfSome};
-ghost use Rattle.lp_format.specs.format.Bytes.{space};
-ghost use Rattle.lp_format.specs.format.Items.{answers_of_piece};
-ghost use Rattle.lp_format.specs.format.Lines.{answer, field, field_set, front_before, separated_list, tag, tag_set};
-ghost use Rattle.lp_split.specs.code.Rules.{rules_of};
+ghost use Rattle.lp_format.specs.format.{space, answers_of_piece, answer, field, field_set, front_before, separated_list, tag, tag_set};
+ghost use Rattle.lp_split.specs.code.{rules_of};
 ghost use Rattle.lp_values.specs.code.SpelledParts.{GivesSpelled, spelled_fault, spelled_text};
-ghost use Rattle.lp_events.specs.code.Events.{AreCounted, AreEventsOf, AreEventsOfAll, AreEventsOfText, AreFields, AreTags};
-ghost use Rattle.lp_events.specs.code.Events.{AreToldBefore, Event, WasTold, WasToldParts, ended, failed, named, spelled_field};
-ghost use Rattle.lp_events.specs.code.Events.{spelled_tag, tagged, valued};
+ghost use Rattle.lp_events.specs.code.Events.{AreCounted, AreEventsOf, AreEventsOfAll, AreEventsOfText, AreFields, AreTags, AreToldBefore};
+ghost use Rattle.lp_events.specs.code.Events.{Event, WasTold, WasToldParts, ended, failed, named, spelled_field, spelled_tag, tagged};
+ghost use Rattle.lp_events.specs.code.Events.{valued};
 
+use lp_scan::trim::{strip_byte, trim_start_spaces, trimmed};
 use lp_split::Dialect;
 use lp_split::split::split_lines_in;
 use lp_values::names::NameKind;
 use lp_values::spelled_parts::{self, Front};
-use lp_values::trim::{strip_byte, trim_start_spaces, trimmed};
 use lp_values::{ErrorKind, Spelled, SpelledFault, SpelledValue};
 
 /// What takes the parts of lines, as a reader tells them.

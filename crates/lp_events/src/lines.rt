@@ -3,8 +3,8 @@
 ghost use Rattle.std.specs.Prelude.{◌<◌, ◌^◌, length, IfSome};
 ghost use Rattle.lp_events.specs.code.LineSteps.{GivesLine, most_items};
 
+use lp_scan::trim::trimmed;
 use lp_split::split::SplitLines;
-use lp_values::trim::trimmed;
 
 /// The next of these pieces that holds more than blanks and comments, without those before it. It takes no memory.
 ///

@@ -1,13 +1,9 @@
 //! The parts of lines, given one after another, with no memory.
 
 ghost use Rattle.std.specs.Prelude.{◌≡◌, ◌<◌, ◌+◌, ◌==◌, ◌↔◌, [], List, None, length, IfOk, IfSome, MatchOption, MatchResult};
-ghost use Rattle.lp_format.specs.format.Dialects.{Crate};
-ghost use Rattle.lp_format.specs.format.Lines.{after_comma, field, tag, without_comma};
-ghost use Rattle.lp_format.specs.format.Pieces.{most_pieces};
-ghost use Rattle.lp_format.specs.format.Points.{Pair};
-ghost use Rattle.lp_format.specs.format.Readings.{Text};
-ghost use Rattle.lp_format.specs.format.Values.{Value};
-ghost use Rattle.lp_split.specs.code.Rules.{rules_of};
+ghost use Rattle.std.specs.Iterator.{at_most};
+ghost use Rattle.lp_format.specs.format.{Crate, after_comma, field, tag, without_comma, most_pieces, Pair, Text, Value};
+ghost use Rattle.lp_split.specs.code.{rules_of};
 ghost use Rattle.lp_values.specs.code.SpelledParts.{GivesSpelled};
 ghost use Rattle.lp_events.specs.code.Events.{AreEventsOfText, Event as Told, WasTold, spelled_field, spelled_tag};
 ghost use Rattle.lp_events.specs.code.EventsLeft.{AreLeftAfterSeries, AreLeftFrom, Completes, GivesEvent, HasEventsLeft, Steps};
@@ -16,11 +12,11 @@ ghost use Rattle.lp_events.specs.code.EventsLeft.{most_events, most_of_line, tol
 use crate::events::{self, EventSink, front_before};
 use crate::lines::next_line;
 use crate::place::{Fields, Names, Place};
+use lp_scan::trim::{strip_byte, trim_start_spaces};
 use lp_split::Dialect;
 use lp_split::split::{SplitLines, dialect_of, split_lines_in};
 use lp_values::names::NameKind;
 use lp_values::spelled_parts::{self, Front};
-use lp_values::trim::{strip_byte, trim_start_spaces};
 use lp_values::{ErrorKind, Spelled, SpelledFault, SpelledValue};
 
 /// A part of a line, as a reader comes to it; where the line ends; or its fault.
@@ -270,8 +266,6 @@ impl<'a> ParseEvents<'a> {
 
 impl<'a> Iterator for ParseEvents<'a> {
     type Item = Event<'a>;
-
-    ghost use Rattle.std.specs.Iterator.{at_most};
 
     ghost next_gives = { GivesEvent };
 

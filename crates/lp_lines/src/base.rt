@@ -1,18 +1,16 @@
 //! The base of a series: a text by which series can be grouped, and a test of whether this one can.
 
-ghost use Rattle.std.specs.Prelude.{◌≡◌, ◌&&◌, ◌-◌, ◌^◌, ◌++◌, IfOk, OnOk, length, map, min, not, true, string_bytes};
+ghost use Rattle.std.specs.Prelude.{◌≡◌, ◌&&◌, ◌-◌, ◌^◌, ◌++◌, IfOk, OnOk, length, map, min, not, true, string_bytes, option_map};
 ghost use Rattle.std.specs.List.{list_all, list_any};
-ghost use Rattle.std.specs.Option.{option_map};
-ghost use Rattle.lp_lines.specs.code.Bases.{GivesBase, GivesMap, GivesOwned, base_by_key, base_of, base_text, based_tag};
-ghost use Rattle.lp_lines.specs.code.Bases.{entry_bytes, in_order, is_ambiguous_name, is_ambiguous_tag, is_base_safe, is_borrowed};
-ghost use Rattle.lp_lines.specs.code.Bases.{is_byte_alone, is_strictly_sorted, keys_of};
+ghost use Rattle.lp_lines.specs.code.Bases.{GivesBase, GivesMap, GivesOwned, base_by_key, base_of, base_text, based_tag, entry_bytes};
+ghost use Rattle.lp_lines.specs.code.Bases.{in_order, is_ambiguous_name, is_ambiguous_tag, is_base_safe, is_borrowed, is_byte_alone};
+ghost use Rattle.lp_lines.specs.code.Bases.{is_strictly_sorted, keys_of};
 ghost use Rattle.lp_format.specs.code.Light.{is_single_tag};
-ghost use Rattle.lp_format.specs.format.Bytes.{is_one_of};
-ghost use Rattle.lp_format.specs.format.Lines.{some_tags};
+ghost use Rattle.lp_format.specs.format.{is_one_of, some_tags};
 ghost use Rattle.lp_values.specs.code.Outcomes.{IsNotOutOfMemory};
 ghost use Rattle.lp_lines.specs.code.Parsed.{tag_of, tags_of};
 ghost use Rattle.lp_values.specs.code.Texts.{is_single_slice, read_of, text_of};
-ghost use Rattle.lp_scan.specs.code.Tokens.{known_of};
+ghost use Rattle.lp_scan.specs.code.{known_of};
 
 use crate::parsed::tags_in;
 use crate::{Series, TagSet};
@@ -86,7 +84,7 @@ fn is_known_alone(kind: TokenKind, name: &[u8]) -> bool
     }
 }
 
-// Whether a name is ambiguous in a base, where this byte divides it from the next name.
+// Whether a name is ambiguous in a base, if this byte divides it from the next name.
 fn is_ambiguous_name(kind: TokenKind, divider: u8, name: &EscapedStr<'_>) -> bool
     ensures { result ≡ is_ambiguous_name (known_of kind) divider (text_of name.now) }
 {

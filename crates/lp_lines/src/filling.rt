@@ -18,42 +18,9 @@ ghost use Rattle.lp_lines.specs.code.Parsed.{field_of, tag_of};
 use crate::{FieldSet, ParsedLine, TagSet};
 use lp_events::{EventSink, read_line_events};
 use lp_split::Dialect;
-use lp_values::{EscapedStr, FieldValue, Spelled, SpelledFault, SpelledValue};
+use lp_values::spelled::put_text;
+use lp_values::{FieldValue, Spelled, SpelledFault, SpelledValue};
 use std::alloc::Global;
-
-// Puts the logical text of a spelling into the place of another text, whatever that is.
-#[inline(never)]
-fn put_any_text<'a>(alloc: Global, place: &mut EscapedStr<'a>, text: Spelled<'a>) -> bool
-    ensures text { result ≡ true → read_of place.new ≡ spelled_text text.entry }
-    ensures needs { result ≡ false → (spelled_text text.entry).is_single ≡ false }
-{
-    match text.to_escaped_str(alloc) {
-        Ok(text) => {
-            *place = text;
-            true
-        }
-        Err(_) => false,
-    }
-}
-
-// Puts the logical text of a spelling into the place of another text, unless memory for it is refused. Only a copy takes memory.
-#[inline(always)]
-fn put_text<'a>(alloc: Global, place: &mut EscapedStr<'a>, text: Spelled<'a>) -> bool
-    ensures text { result ≡ true → read_of place.new ≡ spelled_text text.entry }
-    ensures needs { result ≡ false → (spelled_text text.entry).is_single ≡ false }
-{
-    if !text.is_plain() {
-        return put_any_text(alloc, place, text);
-    }
-    let spelling = text.spelled();
-    // A slice in the place of a slice is two words.
-    if let EscapedStr::SingleSlice(slice) = place {
-        *slice = spelling;
-    } else {
-        *place = EscapedStr::SingleSlice(spelling);
-    }
-    true
-}
 
 // Puts the value that is spelled so into the place of another, whatever that is.
 #[inline(always)]
@@ -77,16 +44,33 @@ fn put_value<'a>(alloc: Global, place: &mut FieldValue<'a>, value: SpelledValue<
     ensures value { result ≡ true → value_of place.new ≡ spelled_value value.entry }
     ensures needs { result ≡ false → is_single_value (spelled_value value.entry) ≡ false }
 {
-    match (&mut *place, &value) {
-        (FieldValue::I64(place), SpelledValue::I64(value)) => *place = *value,
-        (FieldValue::U64(place), SpelledValue::U64(value)) => *place = *value,
-        (FieldValue::F64(place), SpelledValue::F64(value)) => *place = *value,
-        (FieldValue::String(place), SpelledValue::String(text)) => {
-            return put_text(alloc, place, *text);
+    match value {
+        SpelledValue::I64(number) => {
+            if let FieldValue::I64(place) = place {
+                *place = number;
+                return true;
+            }
         }
-        _ => return put_any_value(alloc, place, value),
+        SpelledValue::U64(number) => {
+            if let FieldValue::U64(place) = place {
+                *place = number;
+                return true;
+            }
+        }
+        SpelledValue::F64(literal) => {
+            if let FieldValue::F64(place) = place {
+                *place = literal;
+                return true;
+            }
+        }
+        SpelledValue::String(text) => {
+            if let FieldValue::String(place) = place {
+                return put_text(alloc, place, text);
+            }
+        }
+        SpelledValue::Boolean(_) => {}
     }
-    true
+    put_any_value(alloc, place, value)
 }
 
 // Appends a tag, unless memory for it is refused.

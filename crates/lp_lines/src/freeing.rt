@@ -5,56 +5,33 @@
 //! it by [`forget_line`], which must be shown that nothing is held: so no memory is lost.
 
 ghost use Rattle.std.specs.Prelude.{◌≡◌, ◌≤◌, []};
-ghost use Rattle.lp_format.specs.code.Light.{inline_fields, inline_tags};
 ghost use Rattle.lp_lines.specs.code.Freeing.{HoldsNoMemory};
-ghost use Rattle.lp_lines.specs.code.Lookups.{room_of, some_items};
 
-use crate::{FieldSet, ParsedLine, TagSet};
+use crate::ParsedLine;
 use lp_values::EscapedStr;
+use smallvec::SmallVec;
 use std::alloc::Global;
+use std::default::MadeWith;
 use std::mem;
 
-// Frees the memory of a tag set that has grown.
+// Frees the memory of a set that has grown.
 #[inline(never)]
-fn free_tags<'a>(alloc: Global, tags: &mut TagSet<'a>)
-    ensures items { tags.new.items ≡ [] }
-    ensures room { tags.new.capacity ≡ inline_tags }
+fn free_set<T: MadeWith<Global> + Drop, const N: usize>(alloc: Global, set: &mut SmallVec<T, N>)
+    ensures items { set.new.items ≡ [] }
+    ensures room { set.new.capacity ≡ N }
 {
-    *tags = TagSet::new(alloc);
+    *set = SmallVec::new(alloc);
 }
 
-// Frees the memory of a field set that has grown.
-#[inline(never)]
-fn free_fields<'a>(alloc: Global, fields: &mut FieldSet<'a>)
-    ensures items { fields.new.items ≡ [] }
-    ensures room { fields.new.capacity ≡ inline_fields }
-{
-    *fields = FieldSet::new(alloc);
-}
-
-// Empties the tag set of a line, if there is one, and frees its memory if it has grown.
+// Empties a set, and frees its memory if it has grown.
 #[inline(always)]
-fn empty_tags<'a>(alloc: Global, set: &mut Option<TagSet<'a>>)
-    ensures items { some_items set.new ≡ [] }
-    ensures room { room_of set.new ≤ inline_tags }
+fn empty_set<T: MadeWith<Global> + Drop, const N: usize>(alloc: Global, set: &mut SmallVec<T, N>)
+    ensures items { set.new.items ≡ [] }
+    ensures room { set.new.capacity ≤ N }
 {
-    if let Some(tags) = set {
-        tags.clear();
-        if tags.spilled() {
-            free_tags(alloc, tags);
-        }
-    }
-}
-
-// Empties the field set of a line, and frees its memory if it has grown.
-#[inline(always)]
-fn empty_fields<'a>(alloc: Global, fields: &mut FieldSet<'a>)
-    ensures items { fields.new.items ≡ [] }
-    ensures room { fields.new.capacity ≤ inline_fields }
-{
-    fields.clear();
-    if fields.spilled() {
-        free_fields(alloc, fields);
+    set.clear();
+    if set.spilled() {
+        free_set(alloc, set);
     }
 }
 
@@ -64,8 +41,10 @@ pub fn free_line<'a>(alloc: Global, parsed: &mut ParsedLine<'a>)
     ensures { HoldsNoMemory parsed.new }
 {
     parsed.series.measurement = EscapedStr::SingleSlice("");
-    empty_tags(alloc, &mut parsed.series.tag_set);
-    empty_fields(alloc, &mut parsed.field_set);
+    if let Some(tags) = &mut parsed.series.tag_set {
+        empty_set(alloc, tags);
+    }
+    empty_set(alloc, &mut parsed.field_set);
 }
 
 /// Lets a line go that holds no memory, and does not visit the places of its sets.

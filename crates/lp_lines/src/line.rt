@@ -1,16 +1,13 @@
 //! Lines.
 
-ghost use Rattle.std.specs.Prelude.{◌≡◌, ◌<◌, ◌≤◌, ◌^◌, [], length, max, take, true, Err, None, Some, IfSome, OnErr};
-ghost use Rattle.std.specs.Option.{option_map};
-ghost use Rattle.lp_format.specs.format.Dialects.{Crate};
-ghost use Rattle.lp_split.specs.code.Rules.{rules_of};
-ghost use Rattle.lp_format.specs.format.Lines.{answer};
+ghost use Rattle.std.specs.Prelude.{◌≡◌, ◌<◌, ◌≤◌, ◌^◌, [], length, max, take, true, Err, None, Some, IfSome, OnErr, option_map};
+ghost use Rattle.lp_format.specs.format.{Crate, answer, trimmed};
+ghost use Rattle.lp_split.specs.code.{rules_of};
 ghost use Rattle.lp_values.specs.code.Outcomes.{IsNotOutOfMemory};
 ghost use Rattle.lp_format.specs.code.Light.{inline_fields, inline_tags, is_light_in};
 ghost use Rattle.lp_lines.specs.code.Lookups.{room_of, some_items};
 ghost use Rattle.lp_lines.specs.code.Parsed.{FillsLine};
 ghost use Rattle.lp_events.specs.code.LineSteps.{GivesLine, most_items};
-ghost use Rattle.lp_format.specs.format.Trimming.{trimmed};
 ghost use Rattle.lp_lines.specs.code.ReadInto.{IsEmptyLine, KeepsTagRoom};
 
 use crate::filling::{Filling, tell_line};
@@ -201,7 +198,7 @@ pub struct ParseLines<'a> {
 }
 
 impl<'a> Model for ParseLines<'a> {
-    ghost use Rattle.lp_format.specs.format.Pieces.{Left};
+    ghost use Rattle.lp_format.specs.format.{Left};
 
     ghost Value = { Left };
 

@@ -1,10 +1,9 @@
 //! What was read of a line: its series and its fields.
 
-ghost use Rattle.std.specs.Prelude.{◌≡◌, ◌^◌, Some, ◌<◌, None, map};
-ghost use Rattle.std.specs.Option.{option_map};
+ghost use Rattle.std.specs.Prelude.{◌≡◌, ◌^◌, Some, ◌<◌, None, map, option_map};
 ghost use Rattle.lp_lines.specs.code.Lookups.{some_items};
 ghost use Rattle.lp_lines.specs.code.Parsed.{tag_of, tags_of};
-ghost use Rattle.lp_format.specs.format.Lines.{some_tags};
+ghost use Rattle.lp_format.specs.format.{some_tags};
 ghost use Rattle.lp_lines.specs.code.ReadInto.{IsEmptyLine};
 
 use lp_values::{EscapedStr, FieldValue, Measurement};
@@ -57,7 +56,7 @@ pub struct ParsedLine<'a> {
 }
 
 impl<'a> ParsedLine<'a> {
-    ghost use Rattle.std.specs.Option.{option_copied};
+    ghost use Rattle.std.specs.Prelude.{option_copied};
     ghost use Rattle.lp_lines.specs.code.Lookups.{columns, some_items, value_by_key};
 
     /// A line that says nothing: what [`ParseLines::next_into`] reads into.

@@ -1,10 +1,9 @@
 //! Display of series and lines.
 
-ghost use Rattle.std.specs.Prelude.{◌≡◌, ◌∷◌, [], Some, map};
+ghost use Rattle.std.specs.Prelude.{◌≡◌, ◌∷◌, [], Some, map, option_map};
 ghost use Rattle.std.specs.Fmt.{DisplaysOnOk};
 ghost use Rattle.std.specs.List.{join_by};
-ghost use Rattle.std.specs.Option.{option_map};
-ghost use Rattle.lp_format.specs.format.Bytes.{comma};
+ghost use Rattle.lp_format.specs.format.{comma};
 ghost use Rattle.lp_lines.specs.code.Parsed.{field_of, tag_of, tags_of};
 ghost use Rattle.lp_format.specs.code.Shown.{comma_before, shown_field, shown_tag, shown_timestamp};
 ghost use Rattle.lp_values.specs.code.Texts.{read_of};
@@ -77,8 +76,7 @@ fn show_fields<'a, W: fmt::Write>(
 }
 
 impl<'a> fmt::Display for Series<'a> {
-    ghost use Rattle.std.specs.Prelude.{Some};
-    ghost use Rattle.std.specs.Option.{option_map};
+    ghost use Rattle.std.specs.Prelude.{Some, option_map};
     ghost use Rattle.lp_lines.specs.code.Parsed.{tags_of};
     ghost use Rattle.lp_values.specs.code.Texts.{read_of};
     ghost use Rattle.lp_format.specs.code.Shown.{shown_series};

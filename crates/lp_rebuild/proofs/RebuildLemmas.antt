@@ -1,5 +1,5 @@
 -- How a rebuild goes over the pieces of a text.
-use Rattle.std.proofs.Common.{◌≡◌, ◌≢◌, ℕ, ◌+◌, ◌==◌, ◌<◌, Bool, true, false, not, cond, List, [], ◌∷◌, ◌++◌, length}
+use Rattle.std.proofs.Common.{None, Option, ◌≡◌, ◌≢◌, ℕ, ◌+◌, ◌==◌, ◌<◌, Bool, true, false, not, cond, List, [], ◌∷◌, ◌++◌, length}
 use Rattle.std.proofs.Common.{Result, Ok, Err, string_bytes, refl, sym, ap, subst, ◌∙◌, arith, append_assoc}
 use Rattle.std.proofs.Common.{append-nil, eq-eqb, inl, inr}
 use Rattle.std.proofs.Math.Nat.{eq-zero-or-pos}
@@ -11,8 +11,6 @@ use Rattle.influxdb_line_protocol.specs.format.Bytes.{newline}
 use Rattle.influxdb_line_protocol.specs.format.Dialects.{Dialect}
 use Rattle.influxdb_line_protocol.specs.types.Error.{Error}
 use Rattle.influxdb_line_protocol.specs.types.Error.TheVariants as error
-use Rattle.lp_rebuild.specs.declared.batch.Place.{Place}
-use Rattle.lp_rebuild.specs.declared.batch.Place.TheVariants.{ByNumber}
 use Rattle.lp_rebuild.specs.declared.batch.Progress.{Progress}
 use Rattle.lp_rebuild.specs.declared.batch.Rebuilt.{Rebuilt}
 use Rattle.influxdb_line_protocol.specs.code.Outcomes.{side, IsFault}
@@ -144,14 +142,14 @@ add_elsewhere false m n e = omega arith
 
 -- one answer more was taken, whose fault line names its number
 pub Took-more : (answers : List (Result Line Fault)) (answer : Result Line Fault) (old new : Progress)
-    → old.place ≡ ByNumber → Took answers old → Takes old answer new → Took (answers ++ answer ∷ []) new
+    → old.line ≡ None → Took answers old → Takes old answer new → Took (answers ++ answer ∷ []) new
 Took-more answers answer old new numbered h t =
     let number = old.carried + old.refused + 1 in
     record {
       batch = t.batch ∙ ap (λ l. l ++ built_all (carried_point answer)) h.batch ∙ sym (batch_push answers answer);
       faults =
           t.faults
-          ∙ ap (λ (p : Place). string_bytes old.faults
+          ∙ ap (λ (p : Option ℕ). string_bytes old.faults
           ++ cond (is_carried_answer answer) [] (fault_line_at p number (refusal_text answer))) numbered
           ∙ ap (λ (l : List ℕ). l ++ fault_of number answer) h.faults
           ∙ ap (λ (n : ℕ). faults_from 1 answers ++ fault_of n answer) {y = 1 + length answers}
@@ -190,7 +188,7 @@ answers_push dialect front piece =
     ∙ ap (λ (l : List (Result Line Fault)). answers_of dialect front ++ l) (append-nil (answers_of_piece dialect piece))
 
 -- the answers of a piece more were taken
-took_piece : (dialect : Dialect) (front : List (List ℕ)) (piece : List ℕ) (old new : Progress) → old.place ≡ ByNumber
+took_piece : (dialect : Dialect) (front : List (List ℕ)) (piece : List ℕ) (old new : Progress) → old.line ≡ None
     → Took (answers_of dialect front) old → (length (trimmed piece) ≡ 0 → new ≡ old)
     → (0 < length (trimmed piece) → Takes old (answer dialect (trimmed piece)) new)
     → Took (answers_of dialect front ++ answers_of_piece dialect piece) new
@@ -206,7 +204,7 @@ took_piece dialect front piece old new numbered h blank takes =
     ]
 
 -- a piece more was taken
-pub SoFar-piece : (dialect : Dialect) (text piece : List ℕ) (others : List (List ℕ)) (old new : Progress) → old.place ≡ ByNumber
+pub SoFar-piece : (dialect : Dialect) (text piece : List ℕ) (others : List (List ℕ)) (old new : Progress) → old.line ≡ None
     → SoFar dialect text (piece ∷ others) old → (length (trimmed piece) ≡ 0 → new ≡ old)
     → (0 < length (trimmed piece) → Takes old (answer dialect (trimmed piece)) new) → SoFar dialect text others new
 SoFar-piece dialect text piece others old new numbered h blank takes =

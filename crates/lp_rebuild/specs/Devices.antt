@@ -27,7 +27,7 @@ writing_failures w = w.failures.count
 
 -- whether all that was written to a sink over a writer was flushed
 abbrev pub writing_is_flushed : {W : Type 0} → Writing W → Bool
-writing_is_flushed w = w.flushes.is_flushed
+writing_is_flushed w = w.is_flushed
 
 -- the bytes that a sink in memory holds
 abbrev pub kept_bytes : Kept → List ℕ
@@ -43,4 +43,4 @@ kept_failures k = k.failures.count
 
 -- whether all that was written to a sink in memory was flushed
 abbrev pub kept_is_flushed : Kept → Bool
-kept_is_flushed k = k.flushes.is_flushed
+kept_is_flushed k = k.is_flushed

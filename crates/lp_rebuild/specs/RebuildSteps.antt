@@ -1,7 +1,5 @@
 -- What each step of a rebuild adds.
-use Rattle.std.specs.Prelude.{◌≡◌, ℕ, ◌+◌, ◌++◌, string_bytes, List, [], ◌∷◌, codes, decimal, Result, if◌then◌else◌}
-use Rattle.lp_rebuild.specs.declared.batch.Place.{Place}
-use Rattle.lp_rebuild.specs.declared.batch.Place.TheVariants.{ByNumber, OnLine}
+use Rattle.std.specs.Prelude.{◌≡◌, ℕ, ◌+◌, ◌++◌, string_bytes, List, [], ◌∷◌, codes, decimal, Option, Some, None, Result, if◌then◌else◌}
 use Rattle.lp_rebuild.specs.declared.batch.Progress.{Progress}
 use Rattle.influxdb_line_protocol.specs.format.Bytes.{newline}
 use Rattle.influxdb_line_protocol.specs.format.Dialects.{Dialect}
@@ -16,14 +14,14 @@ abbrev pub fault_line_on : ℕ → List ℕ → List ℕ
 fault_line_on line text = codes "line " ++ decimal line ++ codes ": " ++ text ++ newline ∷ []
 
 -- the fault line of an item at a place, which has this number
-abbrev pub fault_line_at : Place → ℕ → List ℕ → List ℕ
-fault_line_at ByNumber number text = fault_line number text
-fault_line_at (OnLine line) number text = fault_line_on line text
+abbrev pub fault_line_at : Option ℕ → ℕ → List ℕ → List ℕ
+fault_line_at None number text = fault_line number text
+fault_line_at (Some line) number text = fault_line_on line text
 
 -- one item was refused with this text
 pub record Refuses (old : Progress) (text : List ℕ) (new : Progress) : Type 0 where
   pub batch : new.batch.items ≡ old.batch.items
-  pub faults : string_bytes new.faults ≡ string_bytes old.faults ++ fault_line_at old.place (old.carried + old.refused + 1) text
+  pub faults : string_bytes new.faults ≡ string_bytes old.faults ++ fault_line_at old.line (old.carried + old.refused + 1) text
   pub carried : new.carried ≡ old.carried
   pub refused : new.refused ≡ old.refused + 1
 
@@ -31,7 +29,7 @@ pub record Refuses (old : Progress) (text : List ℕ) (new : Progress) : Type 0 
 pub record Takes (old : Progress) (answer : Result Line Fault) (new : Progress) : Type 0 where
   pub batch : new.batch.items ≡ old.batch.items ++ built_all (carried_point answer)
   pub faults : string_bytes new.faults ≡ string_bytes old.faults
-      ++ (if is_carried_answer answer then [] else fault_line_at old.place (old.carried + old.refused + 1) (refusal_text answer))
+      ++ (if is_carried_answer answer then [] else fault_line_at old.line (old.carried + old.refused + 1) (refusal_text answer))
   pub carried : new.carried ≡ (if is_carried_answer answer then old.carried + 1 else old.carried)
   pub refused : new.refused ≡ (if is_carried_answer answer then old.refused else old.refused + 1)
 

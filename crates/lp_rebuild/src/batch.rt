@@ -6,7 +6,6 @@ ghost use Rattle.influxdb_line_protocol.specs.format.Points.{IsAsWritten, built}
 ghost use Rattle.influxdb_line_protocol.specs.format.Lines.{Line, answer};
 ghost use Rattle.influxdb_line_protocol.specs.format.Trimming.{trimmed};
 ghost use Rattle.influxdb_line_protocol.specs.code.Parsed.{line_read, parsed_point, Answers, IsReadLine};
-ghost use Rattle.influxdb_line_protocol.specs.code.ReadInto.{item_in};
 ghost use Rattle.lp_rebuild.specs.Rebuilding.{Rebuilds, RebuildsIn, ReadsBack, ReadsBackIn};
 ghost use Rattle.lp_rebuild.specs.RebuildSteps.{IsTrimmed, Refuses, Takes, TakesInEach};
 
@@ -16,7 +15,7 @@ use influxdb_line_protocol::{
     write_line,
 };
 use lp_lines::read_into;
-use lp_values::trim::trimmed;
+use lp_scan::trim::trimmed;
 use std::alloc::{AllocError, Global};
 use std::fmt::Display;
 use std::mem;
@@ -34,15 +33,6 @@ pub struct Rebuilt {
     pub refused: usize,
 }
 
-/// What the fault line of the next item names.
-#[derive(Clone, Copy)]
-pub enum Place {
-    /// The number of the item.
-    ByNumber,
-    /// The line of the input on which the piece of the item begins.
-    OnLine(usize),
-}
-
 /// What was rebuilt so far, and what the fault line of the next item names.
 #[derive(Drop)]
 pub struct Progress {
@@ -50,7 +40,8 @@ pub struct Progress {
     pub faults: String,
     pub carried: usize,
     pub refused: usize,
-    pub place: Place,
+    /// The line of the input on which the piece of the next item begins, if fault lines name lines.
+    pub line: Option<usize>,
 }
 
 // What is wrong with a line that has a name that is not admitted.
@@ -72,14 +63,14 @@ fn append(batch: Vec<u8>, line: &ParsedLine<'_>) -> Result<Vec<u8>, AllocError>
 pub fn refuse<D: Display + Drop>(so_far: &mut Progress, text: D) -> Result<(), AllocError>
     requires { so_far.old.carried + so_far.old.refused < usize.MAX }
     ensures refused { OnOk result (IfSome (D.output text) (λ bs. Refuses so_far.old bs so_far.new)) }
-    ensures place { so_far.new.place ≡ so_far.old.place }
+    ensures line { so_far.new.line ≡ so_far.old.line }
 {
-    match so_far.place {
-        Place::ByNumber => {
+    match so_far.line {
+        None => {
             let number = so_far.carried + so_far.refused + 1;
             writeln!(so_far.faults, "item {number}: {text}")?;
         }
-        Place::OnLine(line) => writeln!(so_far.faults, "line {line}: {text}")?,
+        Some(line) => writeln!(so_far.faults, "line {line}: {text}")?,
     }
     so_far.refused += 1;
     Ok(())
@@ -92,7 +83,7 @@ fn take_line(alloc: Global, so_far: &mut Progress, line: &ParsedLine<'_>) -> Res
     ensures taken { OnOk result (Takes so_far.old (Ok (line_read line.now)) so_far.new) }
     ensures counted { OnOk result
         (so_far.new.carried + so_far.new.refused ≡ so_far.old.carried + so_far.old.refused + 1) }
-    ensures place { so_far.new.place ≡ so_far.old.place }
+    ensures line { so_far.new.line ≡ so_far.old.line }
 {
     if !is_admitted(line) {
         return refuse(so_far, NOT_ADMITTED);
@@ -112,33 +103,11 @@ fn take_fault(so_far: &mut Progress, error: &Error) -> Result<(), AllocError>
         ((answer : Result Line Fault) → Answers (Err error.now) answer → Takes so_far.old answer so_far.new) }
     ensures counted { OnOk result
         (so_far.new.carried + so_far.new.refused ≡ so_far.old.carried + so_far.old.refused + 1) }
-    ensures place { so_far.new.place ≡ so_far.old.place }
+    ensures line { so_far.new.line ≡ so_far.old.line }
 {
     match error {
         Error::OutOfMemory => Err(AllocError),
         fault => refuse(so_far, fault),
-    }
-}
-
-/// Takes the next item of a text: an answer, and the line that was read if it is no fault.
-#[inline(always)]
-pub fn take(
-    alloc: Global,
-    so_far: &mut Progress,
-    answer: &influxdb_line_protocol::Result<()>,
-    line: &ParsedLine<'_>,
-) -> Result<(), AllocError>
-    requires room { so_far.old.carried + so_far.old.refused < usize.MAX }
-    requires read { IfOk (item_in line.now answer.now) (λ read. IsReadLine read) }
-    ensures taken { OnOk result
-        ((wanted : Result Line Fault) → Answers (item_in line.now answer.now) wanted → Takes so_far.old wanted so_far.new) }
-    ensures counted { OnOk result
-        (so_far.new.carried + so_far.new.refused ≡ so_far.old.carried + so_far.old.refused + 1) }
-    ensures place { so_far.new.place ≡ so_far.old.place }
-{
-    match answer {
-        Ok(()) => take_line(alloc, so_far, line),
-        Err(error) => take_fault(so_far, error),
     }
 }
 
@@ -150,7 +119,7 @@ pub fn take_written(so_far: &mut Progress, text: &str) -> Result<(), AllocError>
     ensures taken { OnOk result (TakesInEach so_far.old text.now so_far.new) }
     ensures counted { OnOk result
         (so_far.new.carried + so_far.new.refused ≡ so_far.old.carried + so_far.old.refused + 1) }
-    ensures place { so_far.new.place ≡ so_far.old.place }
+    ensures line { so_far.new.line ≡ so_far.old.line }
 {
     laws::written_lines_stay();
     so_far.batch.reserve(text.len() + 1)?;
@@ -174,10 +143,12 @@ pub fn take_text<'a>(
     ensures taken { OnOk result (Takes so_far.old (answer (rules_of dialect) text.now) so_far.new) }
     ensures counted { OnOk result
         (so_far.new.carried + so_far.new.refused ≡ so_far.old.carried + so_far.old.refused + 1) }
-    ensures place { so_far.new.place ≡ so_far.old.place }
+    ensures line { so_far.new.line ≡ so_far.old.line }
 {
-    let answer = read_into(alloc, dialect, text, line, spare);
-    take(alloc, so_far, &answer, line)
+    match read_into(alloc, dialect, text, line, spare) {
+        Ok(()) => take_line(alloc, so_far, line),
+        Err(error) => take_fault(so_far, &error),
+    }
 }
 
 /// Takes the next piece of a text: its line is copied if it is as the builder writes it, and else read into `line`. A blank
@@ -197,7 +168,7 @@ pub fn take_piece<'a>(
         → Takes so_far.old (answer (rules_of dialect) (trimmed piece.now)) so_far.new) }
     ensures counted { OnOk result
         (so_far.new.carried + so_far.new.refused ≤ so_far.old.carried + so_far.old.refused + 1) }
-    ensures place { so_far.new.place ≡ so_far.old.place }
+    ensures line { so_far.new.line ≡ so_far.old.line }
 {
     let text = trimmed(piece);
     if text.is_empty() {
@@ -251,7 +222,7 @@ pub fn rebuild_in(alloc: Global, dialect: Dialect, input: &str) -> Result<Rebuil
         faults: String::new(alloc),
         carried: 0,
         refused: 0,
-        place: Place::ByNumber,
+        line: None,
     };
     let mut line = ParsedLine::new(alloc);
     let mut spare = None;

@@ -9,7 +9,6 @@ ghost use Rattle.lp_rebuild.specs.Devices.{CountsFailure, kept_bytes, kept_capac
 ghost use Rattle.lp_rebuild.specs.Devices.{reading_failures, reading_inner, writing_failures, writing_inner, writing_is_flushed};
 
 use crate::failures::Failures;
-use crate::flushes::Flushes;
 use std::alloc::Global;
 use std::io::{Read, Write};
 
@@ -135,7 +134,8 @@ impl<'a> Source for &'a [u8] {
 pub struct Writing<W> {
     inner: W,
     failures: Failures,
-    flushes: Flushes,
+    // Whether all that was written was flushed, for contracts.
+    is_flushed: bool,
 }
 
 impl<W: Write> Writing<W> {
@@ -148,7 +148,7 @@ impl<W: Write> Writing<W> {
         Writing {
             inner,
             failures: Failures::new(),
-            flushes: Flushes::new(),
+            is_flushed: true,
         }
     }
 }
@@ -169,7 +169,7 @@ impl<W: Write> Sink for Writing<W> {
     {
         match self.inner.write(buf) {
             Ok(n) if n > 0 || buf.is_empty() => {
-                self.flushes.on_write();
+                self.is_flushed = false;
                 Ok(n)
             }
             _ => {
@@ -186,7 +186,7 @@ impl<W: Write> Sink for Writing<W> {
     {
         match self.inner.flush() {
             Ok(()) => {
-                self.flushes.on_flush();
+                self.is_flushed = true;
                 Ok(())
             }
             Err(_) => {
@@ -202,7 +202,8 @@ impl<W: Write> Sink for Writing<W> {
 pub struct Kept {
     bytes: Vec<u8>,
     failures: Failures,
-    flushes: Flushes,
+    // Whether all that was written was flushed, for contracts.
+    is_flushed: bool,
 }
 
 impl Kept {
@@ -215,7 +216,7 @@ impl Kept {
         Kept {
             bytes: Vec::new(alloc),
             failures: Failures::new(),
-            flushes: Flushes::new(),
+            is_flushed: true,
         }
     }
 
@@ -249,7 +250,7 @@ impl Sink for Kept {
             self.failures.add();
             return Err(DeviceFault);
         }
-        self.flushes.on_write();
+        self.is_flushed = false;
         Ok(buf.len())
     }
 
@@ -260,7 +261,7 @@ impl Sink for Kept {
         ensures succeeds { IsOk result }
     {
         // It holds nothing back.
-        self.flushes.on_flush();
+        self.is_flushed = true;
         Ok(())
     }
 }

@@ -8,7 +8,6 @@
 pub mod batch;
 mod devices;
 mod failures;
-mod flushes;
 pub mod program;
 
 pub use batch::{Rebuilt, rebuild, rebuild_in};

@@ -222,7 +222,7 @@ pub fn status(answer: &Result<Rebuilt, RunFault>) -> u8
     }
 }
 
-/// How the program is called: the line that it prints where its arguments ask for no dialect, without the newline.
+/// How the program is called: the line that it prints if its arguments ask for no dialect, without the newline.
 pub const USAGE: &str = "usage: lp_rebuild [--strict]";
 
 /// The dialect that the words after the program's name ask for: that of the crate if there is no word, the strict

@@ -1,23 +1,26 @@
 -- What words ask of the program for a relay, and its exit status.
-use Rattle.std.specs.Prelude.{ℕ, ◌^◌, nat_lt, Bool, true, false, not, ◌&&◌, List, [], ◌∷◌, length, bytes_eq, codes}
-use Rattle.std.specs.Prelude.{Option, Some, None, is_none, option_map, option_and_then, unwrap_or, Result, Ok, Err}
+use Rattle.std.specs.Prelude.{ℕ, ◌^◌, nat_lt, Bool, true, false, not, ◌&&◌, ◌||◌, List, [], ◌∷◌, length, bytes_eq, codes}
+use Rattle.std.specs.Prelude.{Option, Some, None, is_none, is_some, option_map, option_and_then, unwrap_or, Result, Ok, Err}
 use Rattle.std.specs.Prelude.{◌==◌, if◌then◌else◌}
 use Rattle.std.specs.Borrow.{Bor}
+use Rattle.std.specs.List.{list_all}
 use Rattle.std.specs.Str.{all_ascii_digits}
 use Rattle.std.specs.Str.Parse.{digits_value}
 use Rattle.influxdb_line_protocol.specs.types.Dialect.{Dialect}
 use Rattle.influxdb_line_protocol.specs.types.Dialect.TheVariants.{Crate, Strict}
 use Rattle.lp_rebuild.specs.declared.program.RunFault.{RunFault}
+use Rattle.lp_rebuild.specs.declared.program.RunFault.TheVariants.{Read, NotUtf8, OutOfMemory, Write}
 use Rattle.lp_relay_core.specs.declared.taking.Numbering.TheVariants.{Items, Lines}
 use Rattle.lp_relay_core.specs.declared.relaying.Relayed.{Relayed}
 use Rattle.lp_relay.specs.declared.words.Given.{Given}
+use Rattle.lp_relay.specs.declared.words.Request.{Request}
 use Rattle.lp_relay.specs.declared.words.Settings.{Settings}
 use Rattle.lp_relay.specs.declared.words.Task.{Task}
-use Rattle.lp_relay.specs.declared.words.Task.TheVariants.{Relay, Cut, Help}
+use Rattle.lp_relay.specs.declared.words.Task.TheVariants.{Relay, Cut, Help, Version}
 
 -- no option was given
 abbrev pub nothing_given : Given
-nothing_given = record { strict = false; lines = false; max_line = None; progress = false }
+nothing_given = record { strict = false; lines = false; max_line = None; progress = false; output = None }
 
 -- how many bytes a line may have if no option says it: 16 MiB
 abbrev pub default_max_line : ℕ
@@ -38,62 +41,102 @@ decimal word =
     if nat_lt 0 (length word) && all_ascii_digits word && nat_lt (digits_value 10 word) (2 ^ 64)
     then Some (digits_value 10 word) else None
 
--- the settings that words ask for after the options given: each option is one that was not given before it
+-- whether a word can be the name of a file: it has a byte, and the first is no `-`
+abbrev pub names_file : List ℕ → Bool
+names_file [] = false
+names_file (first ∷ word) = not (first == 45)
+
+-- whether a word names an input: a file, or standard input, which is `-`
+abbrev pub names_input : List ℕ → Bool
+names_input word = bytes_eq word (codes "-") || names_file word
+
+-- whether each word names an input
+abbrev pub are_inputs : List (Bor (List ℕ)) → Bool
+are_inputs words = list_all (λ word. names_input word.now) words
+
+-- whether a word is the option before the file that the lines go to
+abbrev pub asks_output : List ℕ → Bool
+asks_output word = bytes_eq word (codes "--output") || bytes_eq word (codes "-o")
+
+-- the relay of the options that were given and of the inputs that words name, if each names an input
+abbrev pub request_of : Given → List (Bor (List ℕ)) → Option Request
+request_of given words =
+    if are_inputs words
+    then Some (record { settings = given_settings given; output = given.output; inputs = length words }) else None
+
+-- the relay that words ask for after the options given: each option is one that was not given before it, and inputs come last
 abbrev mutual
-  pub asked_settings : Given → List (Bor (List ℕ)) → Option Settings
-  asked_settings given [] = Some (given_settings given)
-  asked_settings given (word ∷ words) =
+  pub asked_request : Given → List (Bor (List ℕ)) → Option Request
+  asked_request given [] = request_of given []
+  asked_request given (word ∷ words) =
       if bytes_eq word.now (codes "--strict") && not given.strict
-      then asked_settings (record given { strict = true }) words
+      then asked_request (record given { strict = true }) words
       else (if bytes_eq word.now (codes "--lines") && not given.lines
-      then asked_settings (record given { lines = true }) words
+      then asked_request (record given { lines = true }) words
       else (if bytes_eq word.now (codes "--progress") && not given.progress
-      then asked_settings (record given { progress = true }) words
+      then asked_request (record given { progress = true }) words
       else (if bytes_eq word.now (codes "--max-line") && is_none given.max_line
       then asked_after_max_line given words
-      else None)))
+      else (if asks_output word.now && is_none given.output
+      then asked_after_output given words
+      else request_of given (word ∷ words)))))
 
   -- the same if `--max-line` was the word before these, of which the first is its number
-  pub asked_after_max_line : Given → List (Bor (List ℕ)) → Option Settings
+  pub asked_after_max_line : Given → List (Bor (List ℕ)) → Option Request
   asked_after_max_line given [] = None
   asked_after_max_line given (word ∷ words) =
-      option_and_then (λ bytes. asked_settings (record given { max_line = Some bytes }) words) (decimal word.now)
+      option_and_then (λ bytes. asked_request (record given { max_line = Some bytes }) words) (decimal word.now)
 
--- whether words are `--help` alone
-abbrev pub asks_help : List (Bor (List ℕ)) → Bool
-asks_help [] = false
-asks_help (word ∷ []) = bytes_eq word.now (codes "--help")
-asks_help (word ∷ next ∷ words) = false
+  -- the same if `--output` was the word before these, of which the first is its file
+  pub asked_after_output : Given → List (Bor (List ℕ)) → Option Request
+  asked_after_output given [] = None
+  asked_after_output given (word ∷ words) =
+      if names_file word.now then asked_request (record given { output = Some word }) words else None
+
+-- what one word alone asks for: `--help` or `-h` the usage, `--version` the version
+abbrev pub asked_alone : List (Bor (List ℕ)) → Option Task
+asked_alone [] = None
+asked_alone (word ∷ []) =
+    if bytes_eq word.now (codes "--help") || bytes_eq word.now (codes "-h") then Some Help
+    else (if bytes_eq word.now (codes "--version") then Some Version else None)
+asked_alone (word ∷ next ∷ words) = None
 
 -- the greatest number of parts that an input is cut into
 abbrev pub most_parts : ℕ
 most_parts = 1000000
 
--- so many parts, or none if they are too many
-abbrev pub few_parts : Dialect → ℕ → Option Task
-few_parts dialect parts = if nat_lt most_parts parts then None else Some (Cut dialect parts)
+-- so many parts of so many inputs, or none if the parts are too many
+abbrev pub few_parts : Dialect → ℕ → ℕ → Option Task
+few_parts dialect inputs parts = if nat_lt most_parts parts then None else Some (Cut dialect parts inputs)
 
--- `--cut` and a number ask for the ends of so many parts
-abbrev pub cut_task : Dialect → List ℕ → List ℕ → Option Task
-cut_task dialect word count =
-    if bytes_eq word (codes "--cut") then option_and_then (few_parts dialect) (decimal count) else None
+-- `--cut` and a number ask for the ends of so many parts of the inputs that the other words name
+abbrev pub cut_task : Dialect → List (Bor (List ℕ)) → Option Task
+cut_task dialect [] = None
+cut_task dialect (word ∷ []) = None
+cut_task dialect (word ∷ count ∷ inputs) =
+    if bytes_eq word.now (codes "--cut") && are_inputs inputs
+    then option_and_then (few_parts dialect (length inputs)) (decimal count.now) else None
 
--- the cut that words ask for: these two words, alone or after `--strict`
+-- the cut that words ask for, first or after `--strict`
 abbrev pub asked_cut : List (Bor (List ℕ)) → Option Task
 asked_cut [] = None
-asked_cut (word ∷ []) = None
-asked_cut (word ∷ count ∷ []) = cut_task Crate word.now count.now
-asked_cut (strict ∷ word ∷ count ∷ []) =
-    if bytes_eq strict.now (codes "--strict") then cut_task Strict word.now count.now else None
-asked_cut (strict ∷ word ∷ count ∷ next ∷ words) = None
+asked_cut (word ∷ words) =
+    if bytes_eq word.now (codes "--strict") then cut_task Strict words else cut_task Crate (word ∷ words)
 
 -- what the words after the program's name ask for
 abbrev pub asked_task : List (Bor (List ℕ)) → Option Task
 asked_task words =
-    if asks_help words then Some Help
-    else (if is_none (asked_cut words) then option_map Relay (asked_settings nothing_given words) else asked_cut words)
+    if is_some (asked_alone words) then asked_alone words
+    else (if is_none (asked_cut words) then option_map Relay (asked_request nothing_given words) else asked_cut words)
 
--- 0 if every item was carried, 1 if some item was not, 2 for a fault of the relay
-abbrev pub relay_status : Result Relayed RunFault → ℕ
-relay_status (Ok counts) = if counts.refused == 0 then 0 else 1
-relay_status (Err _) = 2
+-- 141 if a writer failed since nothing reads what is written, as of a program that a closed pipe ends, 2 for any other fault
+abbrev pub fault_status : Bool → RunFault → ℕ
+fault_status is_pipe_closed Read = 2
+fault_status is_pipe_closed NotUtf8 = 2
+fault_status is_pipe_closed OutOfMemory = 2
+fault_status is_pipe_closed Write = if is_pipe_closed then 141 else 2
+
+-- 0 if every item was carried, 1 if some item was not, the status of the fault for a fault of the relay
+abbrev pub relay_status : Bool → Result Relayed RunFault → ℕ
+relay_status is_pipe_closed (Ok counts) = if counts.refused == 0 then 0 else 1
+relay_status is_pipe_closed (Err fault) = fault_status is_pipe_closed fault

@@ -3,20 +3,20 @@ ghost use Rattle.std.specs.Prelude.{IfOk, IfSome};
 ghost use Rattle.influxdb_line_protocol.specs.code.Rules.{rules_of};
 ghost use Rattle.lp_relay_core.specs.Cuts.{ArePartEnds};
 ghost use Rattle.lp_relay_core.specs.Relaying.{limit_of};
-ghost use Rattle.lp_relay_core.specs.NumberedRelays.{RelaysNumbered};
+ghost use Rattle.lp_relay_core.specs.Relays.{Relays};
 ghost use Rattle.lp_rebuild.specs.Running.{CountsReadFault, reader_told, writer_told};
 
 use crate::words::Settings;
 use influxdb_line_protocol::Dialect;
 use lp_rebuild::{RunFault, Sink, Source, read_all};
-use lp_relay_core::{Relayed, part_ends, relay_numbered};
+use lp_relay_core::{Relayed, part_ends, relay};
 use std::alloc::Global;
 
-/// Relays the lines that `reader` gives, as [`relay_numbered`] does, by these settings.
+/// Relays the lines that `reader` gives, as [`relay`] does, by these settings.
 ///
 /// # Errors
 ///
-/// Those of [`relay_numbered`].
+/// Those of [`relay`].
 pub fn relay_as_asked<R: Source, W: Sink, E: Sink>(
     alloc: Global,
     settings: Settings,
@@ -24,20 +24,17 @@ pub fn relay_as_asked<R: Source, W: Sink, E: Sink>(
     out: &mut W,
     err: &mut E,
 ) -> Result<Relayed, RunFault>
-    ensures { RelaysNumbered (rules_of settings.dialect) (limit_of settings.max_line) settings.numbering result
+    ensures { Relays (rules_of settings.dialect) (limit_of settings.max_line) settings.numbering result
         (reader_told R.bytes R.failures reader.old) (reader_told R.bytes R.failures reader.new)
         (writer_told W.bytes W.failures W.is_flushed out.old) (writer_told W.bytes W.failures W.is_flushed out.new)
         (writer_told E.bytes E.failures E.is_flushed err.old) (writer_told E.bytes E.failures E.is_flushed err.new) }
 {
-    relay_numbered(
-        alloc,
-        settings.dialect,
-        settings.max_line,
-        settings.numbering,
-        reader,
-        out,
-        err,
-    )
+    let settings = lp_relay_core::Settings {
+        dialect: settings.dialect,
+        limit: settings.max_line,
+        numbering: settings.numbering,
+    };
+    relay(alloc, settings, reader, out, err)
 }
 
 /// If all that `reader` has left can be cut into so many parts, as [`part_ends`] says. All of it is held.

@@ -1,135 +1,242 @@
-//! Relays the lines of standard input as they come: those that can be written again to standard output, and a numbered
-//! fault line for each other to standard error.
+//! Relays the lines of its inputs as they come: those that can be written again to its output, and a numbered fault line for each
+//! other to standard error.
 #![tactic(auto)]
 
 mod asked;
+mod inputs;
 mod meter;
 mod noted;
+mod output;
 mod words;
 
 use asked::{part_ends_of, relay_as_asked};
 use influxdb_line_protocol::Dialect;
+use inputs::{Closed, Inputs, STANDARD_INPUT, input_written_to, total_len};
 use lp_rebuild::{Reading, RunFault, Writing};
 use lp_relay_core::Relayed;
 use meter::{Counted, Meter, MeteredSink, MeteredSource};
-use noted::Noted;
-use std::cell::Cell;
+use noted::{Noted, Notes};
+use output::{Lines, Output};
 use std::env;
-use std::io::{self, IsTerminal};
+use std::io::{self, ErrorKind, IsTerminal};
 use std::process::ExitCode;
-use words::{HELP, Settings, Task, USAGE, status_of_relay, task_of};
+use words::{
+    HELP, Request, Settings, Task, USAGE, VERSION, status_of_fault, status_of_relay, task_of,
+};
 
-// What the arguments ask for, or `None` if they ask for nothing, or cannot be read.
-fn asked_of(rt: &HostRuntime) -> Option<Task> {
-    let alloc = rt.alloc();
-    let arguments: Vec<String> = env::args(rt).ok()?.skip(1).collect(alloc).ok()?;
-    let words: Vec<&str> = arguments
-        .iter()
-        .map(|word| word.as_str())
-        .collect(alloc)
-        .ok()?;
-    task_of(words.as_slice())
-}
-
-// Relays standard input.
+// Relays inputs, and shows nothing.
 fn relay_quietly(
     rt: &HostRuntime,
     settings: Settings,
-    error: &Cell<Option<io::Error>>,
+    inputs: Inputs<'_, '_>,
+    lines: Lines<'_>,
+    notes: &Notes<'_>,
 ) -> Result<Relayed, RunFault> {
-    let mut reader = Reading::new(Noted::new(error, rt.stdin()));
-    let mut out = Writing::new(Noted::new(error, rt.stdout()));
-    let mut err = Writing::new(Noted::new(error, rt.stderr()));
+    let mut reader = Reading::new(Noted::new(&notes.input, inputs));
+    let mut out = Writing::new(Noted::new(&notes.output, lines));
+    let mut err = Writing::new(Noted::new(&notes.faults, rt.stderr()));
     relay_as_asked(rt.alloc(), settings, &mut reader, &mut out, &mut err)
 }
 
-// Relays standard input, and shows on the terminal how far it is.
+// Relays inputs, of so many bytes if that is known, and shows on the terminal how far it is.
 fn relay_with_progress(
     rt: &HostRuntime,
     settings: Settings,
-    error: &Cell<Option<io::Error>>,
+    total: Option<u64>,
+    inputs: Inputs<'_, '_>,
+    lines: Lines<'_>,
+    notes: &Notes<'_>,
 ) -> Result<Relayed, RunFault> {
-    let meter = Meter::new(rt);
-    let is_out_shown = rt.stdout().is_terminal();
-    let reader = Reading::new(Noted::new(error, rt.stdin()));
-    let out = Writing::new(Noted::new(error, rt.stdout()));
-    let err = Writing::new(Noted::new(error, rt.stderr()));
+    let meter = Meter::new(rt, total);
+    let is_out_shown = notes.output_name.is_none() && rt.stdout().is_terminal();
+    let reader = Reading::new(Noted::new(&notes.input, inputs));
+    let out = Writing::new(Noted::new(&notes.output, lines));
+    let err = Writing::new(Noted::new(&notes.faults, rt.stderr()));
     let mut reader = MeteredSource::new(&meter, reader);
     let mut out = MeteredSink::new(&meter, Counted::Lines, is_out_shown, out);
     let mut err = MeteredSink::new(&meter, Counted::Faults, true, err);
     let answer = relay_as_asked(rt.alloc(), settings, &mut reader, &mut out, &mut err);
-    meter.clear();
+    meter.finish();
     answer
 }
 
-// Says why a run failed, and what the system said of the device that did.
-fn say_fault(rt: &HostRuntime, fault: RunFault, error: &Cell<Option<io::Error>>) {
-    let _ = match error.get() {
-        Some(error) => eprintln!(rt; "lp_relay: {fault}: {error}"),
-        None => eprintln!(rt; "lp_relay: {fault}"),
+// Relays the inputs of these names.
+fn relay_inputs<'n>(
+    rt: &HostRuntime,
+    settings: Settings,
+    names: &'n [&'n str],
+    lines: Lines<'_>,
+    notes: &Notes<'n>,
+) -> Result<Relayed, RunFault> {
+    let inputs = Inputs::new(rt, names, &notes.input_name);
+    if settings.progress && rt.stderr().is_terminal() {
+        relay_with_progress(rt, settings, total_len(rt, names), inputs, lines, notes)
+    } else {
+        relay_quietly(rt, settings, inputs, lines, notes)
+    }
+}
+
+// Relays the inputs of these names to a file.
+fn relay_to_file<'n>(
+    rt: &HostRuntime,
+    settings: Settings,
+    names: &'n [&'n str],
+    name: &str,
+    notes: &Notes<'n>,
+) -> Result<Relayed, RunFault> {
+    let output = match Output::new(rt, name) {
+        Ok(output) => output,
+        Err(error) => {
+            notes.output.set(Some(error));
+            return Err(RunFault::Write);
+        }
+    };
+    let answer = relay_inputs(rt, settings, names, output.lines(), notes);
+    if answer.is_err() {
+        output.remove();
+        return answer;
+    }
+    if let Err(error) = output.put() {
+        notes.output.set(Some(error));
+        return Err(RunFault::Write);
+    }
+    answer
+}
+
+// Says why a run failed, and what the system said of the device that did; nothing if a closed pipe ended it.
+fn say_fault(rt: &HostRuntime, fault: RunFault, notes: &Notes<'_>) {
+    if fault == RunFault::Write && notes.is_pipe_closed() {
+        return;
+    }
+    let _ = match notes.of_fault(fault) {
+        (Some(name), Some(error)) => eprintln!(rt; "lp_relay: {fault}: {name}: {error}"),
+        (None, Some(error)) => eprintln!(rt; "lp_relay: {fault}: {error}"),
+        (_, None) => eprintln!(rt; "lp_relay: {fault}"),
     };
 }
 
-// Relays standard input, and answers with the exit status.
-fn relay_input(rt: &HostRuntime, settings: Settings) -> u8 {
-    let error = Cell::new(None);
-    let answer = if settings.progress && rt.stderr().is_terminal() {
-        relay_with_progress(rt, settings, &error)
-    } else {
-        relay_quietly(rt, settings, &error)
+// Relays what a request names, and answers with the exit status.
+fn relay<'n>(rt: &HostRuntime, request: Request<'n>, names: &'n [&'n str]) -> u8 {
+    let notes = Notes::new(request.output);
+    let answer = match request.output {
+        Some(name) => relay_to_file(rt, request.settings, names, name, &notes),
+        None => relay_inputs(
+            rt,
+            request.settings,
+            names,
+            Lines::Standard(rt.stdout()),
+            &notes,
+        ),
     };
     if let Err(fault) = answer {
-        say_fault(rt, fault, &error);
+        say_fault(rt, fault, &notes);
     }
-    status_of_relay(&answer)
+    status_of_relay(&answer, notes.is_pipe_closed())
 }
 
-// Prints where standard input can be cut into parts, a line for each end.
-fn print_ends(
+// Prints where the inputs of these names can be cut into parts, a line for each end.
+fn print_ends<'n>(
     rt: &HostRuntime,
     dialect: Dialect,
     count: usize,
-    error: &Cell<Option<io::Error>>,
+    names: &'n [&'n str],
+    notes: &Notes<'n>,
 ) -> Result<(), RunFault> {
-    let mut reader = Reading::new(Noted::new(error, rt.stdin()));
+    let inputs = Inputs::new(rt, names, &notes.input_name);
+    let mut reader = Reading::new(Noted::new(&notes.input, inputs));
     for end in part_ends_of(rt.alloc(), dialect, count, &mut reader)? {
         if let Err(fault) = println!(rt; "{end}") {
-            error.set(Some(fault));
+            notes.output.set(Some(fault));
             return Err(RunFault::Write);
         }
     }
     Ok(())
 }
 
-// Says where standard input can be cut into parts, and answers with the exit status.
-fn cut_input(rt: &HostRuntime, dialect: Dialect, count: usize) -> u8 {
-    let error = Cell::new(None);
-    match print_ends(rt, dialect, count, &error) {
+// Says where the inputs of these names can be cut into parts, and answers with the exit status.
+fn cut(rt: &HostRuntime, dialect: Dialect, count: usize, names: &[&str]) -> u8 {
+    let notes = Notes::new(None);
+    match print_ends(rt, dialect, count, names, &notes) {
         Ok(()) => 0,
         Err(fault) => {
-            say_fault(rt, fault, &error);
-            2
+            say_fault(rt, fault, &notes);
+            status_of_fault(fault, notes.is_pipe_closed())
         }
     }
 }
 
-// Prints how the program is called, and answers with the exit status.
-fn print_help(rt: &HostRuntime) -> u8 {
-    match println!(rt; "{USAGE}\n{HELP}") {
+// The exit status of a program that printed a text.
+fn status_of_print(answer: io::Result<()>) -> u8 {
+    match answer {
         Ok(()) => 0,
-        Err(_) => 2,
+        Err(error) => status_of_fault(RunFault::Write, error.kind() == ErrorKind::BrokenPipe),
     }
+}
+
+// Prints how the program is called, since its words ask for nothing, and answers with the exit status.
+fn refuse_words(rt: &HostRuntime) -> u8 {
+    let _ = eprintln!(rt; "{USAGE}");
+    2
+}
+
+// The names of the inputs, of which so many words are the last.
+fn names_of<'a>(words: &'a [&'a str], count: usize) -> &'a [&'a str] {
+    if count == 0 {
+        return STANDARD_INPUT;
+    }
+    &words[words.len().saturating_sub(count)..]
+}
+
+// Says that the lines would go to an input, and answers with the exit status, if that is so.
+fn refuse_output(rt: &HostRuntime, output: Option<&str>, names: &[&str]) -> Option<u8> {
+    let name = input_written_to(rt, names, output)?;
+    let _ = match name {
+        "-" => eprintln!(rt; "lp_relay: the output is an input too: standard input"),
+        name => eprintln!(rt; "lp_relay: the output is an input too: {name}"),
+    };
+    Some(2)
+}
+
+// Does what the words ask for, and answers with the exit status.
+fn run_words(rt: &HostRuntime, words: &[&str]) -> u8 {
+    match task_of(words) {
+        Some(Task::Relay(request)) => {
+            let names = names_of(words, request.inputs);
+            match refuse_output(rt, request.output, names) {
+                Some(status) => status,
+                None => relay(rt, request, names),
+            }
+        }
+        Some(Task::Cut(dialect, parts, inputs)) => {
+            let names = names_of(words, inputs);
+            match refuse_output(rt, None, names) {
+                Some(status) => status,
+                None => cut(rt, dialect, parts, names),
+            }
+        }
+        Some(Task::Help) => status_of_print(println!(rt; "{USAGE}\n{HELP}")),
+        Some(Task::Version) => status_of_print(println!(rt; "lp_relay {VERSION}")),
+        None => refuse_words(rt),
+    }
+}
+
+// The words after the program's name, or `None` if they cannot be read.
+fn arguments_of(rt: &HostRuntime) -> Option<Vec<String>> {
+    env::args(rt).ok()?.skip(1).collect(rt.alloc()).ok()
 }
 
 fn main(rt: HostRuntime) -> ExitCode {
-    let status = match asked_of(&rt) {
-        Some(Task::Relay(settings)) => relay_input(&rt, settings),
-        Some(Task::Cut(dialect, count)) => cut_input(&rt, dialect, count),
-        Some(Task::Help) => print_help(&rt),
-        None => {
-            let _ = eprintln!(rt; "{USAGE}");
-            2
-        }
+    let _closed = Closed::hold(&rt);
+    let Some(arguments) = arguments_of(&rt) else {
+        return ExitCode::from(refuse_words(&rt));
+    };
+    let words: Result<Vec<&str>, _> = arguments
+        .iter()
+        .map(|word| word.as_str())
+        .collect(rt.alloc());
+    let status = match words {
+        Ok(words) => run_words(&rt, words.as_slice()),
+        Err(_) => refuse_words(&rt),
     };
     ExitCode::from(status)
 }

@@ -2,7 +2,7 @@
 //!
 //! A [`Meter`] counts what the devices of a relay move. They hand on each call to a device of their own, so that what a
 //! relay promises of its bytes and failures is promised of theirs.
-ghost use Rattle.std.specs.Prelude.{◌≡◌, ◌≤◌, ◌+◌, ◌-◌, ◌^◌, length, min};
+ghost use Rattle.std.specs.Prelude.{◌≡◌, ◌≤◌, ◌<◌, ◌+◌, ◌-◌, ◌*◌, ◌/◌, ◌^◌, length, min};
 ghost use Rattle.influxdb_line_protocol.specs.format.Bytes.{newlines_in};
 
 use lp_rebuild::{DeviceFault, Sink, Source};
@@ -17,6 +17,8 @@ const CLEAR: &str = "\r\x1b[K";
 pub(crate) struct Meter<'a, R> {
     rt: &'a R,
     started: Option<Instant>,
+    /// How many bytes there are to read, if that is known.
+    total: Option<u64>,
     /// How many whole seconds had passed when the line was shown last.
     shown_at: Cell<u64>,
     /// Whether the line is on the terminal.
@@ -27,11 +29,12 @@ pub(crate) struct Meter<'a, R> {
 }
 
 impl<'a, R: Clock + Eprint> Meter<'a, R> {
-    /// A meter that starts now. If the clock cannot be read it shows nothing.
-    pub(crate) fn new(rt: &'a R) -> Self {
+    /// A meter that starts now, of so many bytes, if that is known. If the clock cannot be read it shows nothing.
+    pub(crate) fn new(rt: &'a R, total: Option<u64>) -> Self {
         Meter {
             rt,
             started: Instant::now(rt).ok(),
+            total,
             shown_at: Cell::new(0),
             is_shown: Cell::new(false),
             bytes: Cell::new(0),
@@ -47,13 +50,24 @@ impl<'a, R: Clock + Eprint> Meter<'a, R> {
         }
     }
 
+    /// Shows the line a last time, and leaves it on the terminal.
+    pub(crate) fn finish(&self) {
+        if let Some(elapsed) = self.elapsed() {
+            self.show(elapsed);
+            self.is_shown.set(false);
+            let _ = eprint!(self.rt; "\n");
+        }
+    }
+
+    // The time since it started.
+    fn elapsed(&self) -> Option<Duration> {
+        self.started?.elapsed(self.rt).ok()
+    }
+
     // Counts bytes that were read, and shows the line if a second has passed since it was shown last.
     fn on_read(&self, n: usize) {
         add(&self.bytes, n);
-        let Some(started) = self.started else {
-            return;
-        };
-        let Ok(elapsed) = started.elapsed(self.rt) else {
+        let Some(elapsed) = self.elapsed() else {
             return;
         };
         if self.shown_at.get() < elapsed.as_secs() {
@@ -71,9 +85,17 @@ impl<'a, R: Clock + Eprint> Meter<'a, R> {
         let whole = rate / 10;
         let tenth = rate % 10;
         self.is_shown.set(true);
-        let _ = eprint!(self.rt;
-            "{CLEAR}{bytes} bytes read, {lines} lines written, faults: {faults}, {whole}.{tenth} MB/s"
-        );
+        let _ = match self.total {
+            Some(total) if total > 0 => {
+                let percent = percent_of(bytes, total);
+                eprint!(self.rt;
+                    "{CLEAR}{bytes} bytes read, {percent} %, {lines} lines written, faults: {faults}, {whole}.{tenth} MB/s"
+                )
+            }
+            _ => eprint!(self.rt;
+                "{CLEAR}{bytes} bytes read, {lines} lines written, faults: {faults}, {whole}.{tenth} MB/s"
+            ),
+        };
     }
 }
 
@@ -84,6 +106,15 @@ fn tenths_of_megabytes_a_second(bytes: u64, elapsed: Duration) -> u64 {
         .saturating_mul(1000)
         .saturating_add(u64::from(elapsed.subsec_millis()));
     bytes / milliseconds.saturating_mul(100).max(1)
+}
+
+// How many hundredths of all bytes so many bytes are, and 100 if they are more, as of a file that grows.
+fn percent_of(bytes: u64, total: u64) -> u64
+    requires { 0 < total }
+    ensures { result ≡ min (bytes * 100 / total) 100 }
+{
+    let percent = u128::from(bytes) * 100 / u128::from(total);
+    percent.min(100) as u64
 }
 
 // So many and more, and the greatest number if no `u64` holds that.

@@ -2,8 +2,57 @@
 //!
 //! The fault of a run says which side failed, and no more. So the program puts a [`Noted`] before each reader and writer of
 //! std: it hands on each call, and notes the error that comes, for the message.
+use lp_rebuild::RunFault;
 use std::cell::Cell;
-use std::io::{self, Read, Write};
+use std::io::{self, ErrorKind, Read, Write};
+
+/// The last errors of the devices, and the names of those that are files.
+#[derive(Drop)]
+pub(crate) struct Notes<'a> {
+    pub(crate) input: Cell<Option<io::Error>>,
+    pub(crate) output: Cell<Option<io::Error>>,
+    pub(crate) faults: Cell<Option<io::Error>>,
+    /// The file that was read last; none if that was standard input.
+    pub(crate) input_name: Cell<Option<&'a str>>,
+    /// The file that the lines go to; none if that is standard output.
+    pub(crate) output_name: Option<&'a str>,
+}
+
+impl<'a> Notes<'a> {
+    /// No error so far.
+    pub(crate) fn new(output_name: Option<&'a str>) -> Self {
+        Notes {
+            input: Cell::new(None),
+            output: Cell::new(None),
+            faults: Cell::new(None),
+            input_name: Cell::new(None),
+            output_name,
+        }
+    }
+
+    /// Whether a writer failed since nothing reads what is written to it.
+    pub(crate) fn is_pipe_closed(&self) -> bool {
+        is_of_closed_pipe(self.output.get()) || is_of_closed_pipe(self.faults.get())
+    }
+
+    /// The file of the device that failed, and its error.
+    pub(crate) fn of_fault(&self, fault: RunFault) -> (Option<&'a str>, Option<io::Error>) {
+        match fault {
+            RunFault::Read => (self.input_name.get(), self.input.get()),
+            RunFault::Write if self.faults.get().is_none() => (self.output_name, self.output.get()),
+            RunFault::Write => (None, self.faults.get()),
+            RunFault::NotUtf8 | RunFault::OutOfMemory => (None, None),
+        }
+    }
+}
+
+// Whether an error is that nothing reads what is written.
+fn is_of_closed_pipe(error: Option<io::Error>) -> bool {
+    match error {
+        Some(error) => error.kind() == ErrorKind::BrokenPipe,
+        None => false,
+    }
+}
 
 /// A reader or a writer, and the place for its last error.
 #[derive(Drop)]

@@ -1,37 +1,46 @@
 //! What the words after the program's name ask for, and its exit status.
 ghost use Rattle.std.specs.Prelude.{◌≡◌};
-ghost use Rattle.lp_relay.specs.Words.{asked_cut, asked_settings, asked_task, cut_task, decimal};
-ghost use Rattle.lp_relay.specs.Words.{given_settings, nothing_given, relay_status};
+ghost use Rattle.lp_relay.specs.Words.{are_inputs, asked_cut, asked_request, asked_task, asks_output, cut_task, decimal, fault_status};
+ghost use Rattle.lp_relay.specs.Words.{given_settings, names_file, names_input, nothing_given, relay_status, request_of};
 
 use influxdb_line_protocol::Dialect;
 use lp_rebuild::RunFault;
 use lp_relay_core::{Numbering, Relayed};
 
 /// How the program is called: the lines that it prints where its words ask for nothing, without the last newline.
-pub const USAGE: &str = "usage: lp_relay [--strict] [--lines] [--max-line BYTES] [--progress]
-       lp_relay [--strict] --cut PARTS
-       lp_relay --help";
+pub const USAGE: &str =
+    "usage: lp_relay [--strict] [--lines] [--max-line BYTES] [--progress] [--output FILE] [FILE..]
+       lp_relay [--strict] --cut PARTS [FILE..]
+       lp_relay --help | --version";
+
+/// The version of this state, which `--version` prints: the newest of CHANGELOG.md.
+pub const VERSION: &str = "2.0.0";
 
 /// What `--help` prints after that, without the last newline.
 pub const HELP: &str =
-    "Relays lines of InfluxDB line protocol from standard input to standard output as they come,
-and writes `item N: FAULT` to standard error for each item that it cannot write again.
+    "Relays lines of InfluxDB line protocol from each FILE, one after another, or from standard input,
+to standard output as they come, and writes `item N: FAULT` to standard error for each item that
+it cannot write again. A FILE that is - is standard input; ./-x names a file -x.
 
   --strict           reads the strict dialect
   --lines            names the line of the input in each fault, instead of the number of the item
   --max-line BYTES   a longer line is passed over, and is a fault: 16777216 where it is not given
   --progress         shows on standard error, where that is a terminal, how far the relay is: bytes
-                     read, lines written, faults, and MB/s, each second while input comes
+                     read, percent where all inputs are files, lines written, faults, and MB/s,
+                     each second while input comes, and once more at the end
+  --output FILE, -o  writes the lines to FILE, which is there, and whole, once the status is 0 or 1
   --cut PARTS        prints where the input, which is held whole, can be cut into so many parts of
                      about one length, 1000000 at most, to be relayed apart: the end of each, in
                      bytes, a line each
-  --help             prints this
+  --help, -h         prints this
+  --version          prints the version
 
-The options of a relay come in any order, each at most once; --cut PARTS comes alone, or after
---strict.
+The options of a relay come in any order, each at most once, before the files; --cut PARTS comes
+first, or after --strict.
 
 Status 0: every item was carried; 1: some item was not; 2: the input could not be read, memory
-ran out, the output could not be written, or the arguments are wrong.";
+ran out, the output could not be written, it is an input too, or the arguments are wrong; 141:
+nothing reads the output, which is said by no message.";
 
 /// The greatest length of a line, in bytes, if the words give none: 16 MiB.
 pub const DEFAULT_MAX_LINE: usize = 16_777_216;
@@ -53,27 +62,41 @@ pub struct Settings {
     pub progress: bool,
 }
 
+/// A relay that words ask for.
+#[derive(Clone, Copy)]
+pub struct Request<'a> {
+    /// How it is to run.
+    pub settings: Settings,
+    /// The file that the lines go to, or none: standard output.
+    pub output: Option<&'a str>,
+    /// How many words name inputs: so many of the last. 0: standard input.
+    pub inputs: usize,
+}
+
 /// What the program is to do.
-#[derive(Clone, Copy, Debug, PartialEq, Eq)]
-pub enum Task {
-    /// Relay the input.
-    Relay(Settings),
-    /// Print where the input can be cut, by the rules of a dialect, into so many parts.
-    Cut(Dialect, usize),
+#[derive(Clone, Copy)]
+pub enum Task<'a> {
+    /// Relay the inputs.
+    Relay(Request<'a>),
+    /// Print where the inputs can be cut, by the rules of a dialect, into so many parts. So many of the last words name them.
+    Cut(Dialect, usize, usize),
     /// Print how the program is called.
     Help,
+    /// Print the version.
+    Version,
 }
 
 /// The options that words gave so far.
-#[derive(Clone, Copy, Debug, PartialEq, Eq)]
-pub(crate) struct Given {
+#[derive(Clone, Copy)]
+pub(crate) struct Given<'a> {
     strict: bool,
     lines: bool,
     max_line: Option<usize>,
     progress: bool,
+    output: Option<&'a str>,
 }
 
-impl Given {
+impl<'a> Given<'a> {
     fn nothing() -> Self
         ensures { result ≡ nothing_given }
     {
@@ -82,11 +105,12 @@ impl Given {
             lines: false,
             max_line: None,
             progress: false,
+            output: None,
         }
     }
 
     fn settings(self) -> Settings
-        ensures { result ≡ given_settings self }
+        ensures { result ≡ given_settings self.entry }
     {
         Settings {
             dialect: if self.strict {
@@ -103,6 +127,20 @@ impl Given {
             progress: self.progress,
         }
     }
+
+    // The request of these options and inputs, if each word names an input.
+    fn request(self, words: &[&str]) -> Option<Request<'a>>
+        ensures { result ≡ request_of self.entry words.now }
+    {
+        if !are_inputs(words) {
+            return None;
+        }
+        Some(Request {
+            settings: self.settings(),
+            output: self.output,
+            inputs: words.len(),
+        })
+    }
 }
 
 // The number that a word writes in decimal digits, and nothing else; `None` if there is none, or no usize holds it.
@@ -115,109 +153,156 @@ fn decimal_of(word: &str) -> Option<usize>
     word.parse::<usize>().ok()
 }
 
-// The settings that words ask for after the options given. No option is taken twice, so it calls itself a few times at most.
-fn settings_after(given: Given, words: &[&str]) -> Option<Settings>
-    ensures { result ≡ asked_settings given words.now }
+// Whether a word can be the name of a file: it has a byte, and the first is no `-`.
+fn is_file(word: &str) -> bool
+    ensures { result ≡ names_file word.now }
 {
-    match words {
-        [] => Some(given.settings()),
-        [word, rest @ ..] if *word == "--strict" && !given.strict => {
-            settings_after(
-                Given {
-                    strict: true,
-                    ..given
-                },
-                rest,
-            )
-        }
-        [word, rest @ ..] if *word == "--lines" && !given.lines => {
-            settings_after(
-                Given {
-                    lines: true,
-                    ..given
-                },
-                rest,
-            )
-        }
-        [word, rest @ ..] if *word == "--progress" && !given.progress => {
-            settings_after(
-                Given {
-                    progress: true,
-                    ..given
-                },
-                rest,
-            )
-        }
-        [word, number, rest @ ..] if *word == "--max-line" && given.max_line.is_none() => {
-            let max_line = Some(decimal_of(number)?);
-            settings_after(Given { max_line, ..given }, rest)
-        }
-        _ => None,
+    match word.as_bytes() {
+        [] => false,
+        [first, ..] => *first != b'-',
     }
 }
 
-// The cut that two words ask for.
-fn cut_task_of(dialect: Dialect, word: &str, count: &str) -> Option<Task>
-    ensures { result ≡ cut_task dialect word.now count.now }
+// Whether a word is the option before the file that the lines go to.
+fn is_output(word: &str) -> bool
+    ensures { result ≡ asks_output word.now }
 {
-    if word != "--cut" {
-        return None;
+    word == "--output" || word == "-o"
+}
+
+// Whether a word names an input: a file, or standard input.
+fn is_input(word: &str) -> bool
+    ensures { result ≡ names_input word.now }
+{
+    word == "-" || is_file(word)
+}
+
+// Whether each word names an input.
+fn are_inputs(words: &[&str]) -> bool
+    ensures { result ≡ are_inputs words.now }
+{
+    for at in 0..words.len() {
+        if !is_input(words[at]) {
+            return false;
+        }
     }
-    let parts = decimal_of(count)?;
-    if parts > MOST_PARTS {
-        return None;
+    true
+}
+
+// The request that words ask for after the options given. No option is taken twice, so it calls itself a few times at most.
+fn request_after<'a>(given: Given<'a>, words: &[&'a str]) -> Option<Request<'a>>
+    ensures { result ≡ asked_request given.entry words.now }
+{
+    match words {
+        [word, rest @ ..] if *word == "--strict" && !given.strict => {
+            let strict = true;
+            request_after(Given { strict, ..given }, rest)
+        }
+        [word, rest @ ..] if *word == "--lines" && !given.lines => {
+            let lines = true;
+            request_after(Given { lines, ..given }, rest)
+        }
+        [word, rest @ ..] if *word == "--progress" && !given.progress => {
+            let progress = true;
+            request_after(Given { progress, ..given }, rest)
+        }
+        [word, rest @ ..] if *word == "--max-line" && given.max_line.is_none() => {
+            let [number, rest @ ..] = rest else {
+                return None;
+            };
+            let max_line = Some(decimal_of(number)?);
+            request_after(Given { max_line, ..given }, rest)
+        }
+        [word, rest @ ..] if is_output(word) && given.output.is_none() => {
+            match rest {
+                [file, rest @ ..] if is_file(file) => {
+                    let output = Some(*file);
+                    request_after(Given { output, ..given }, rest)
+                }
+                _ => None,
+            }
+        }
+        _ => given.request(words),
     }
-    Some(Task::Cut(dialect, parts))
+}
+
+// The cut that words ask for: of the inputs that the last ones name.
+fn cut_task_of<'a>(dialect: Dialect, words: &[&str]) -> Option<Task<'a>>
+    ensures { result ≡ cut_task dialect words.now }
+{
+    match words {
+        [word, count, inputs @ ..] if *word == "--cut" && are_inputs(inputs) => {
+            let parts = decimal_of(count)?;
+            if parts > MOST_PARTS {
+                return None;
+            }
+            Some(Task::Cut(dialect, parts, inputs.len()))
+        }
+        _ => None,
+    }
 }
 
 // The cut that words ask for.
-fn cut_of(words: &[&str]) -> Option<Task>
+fn cut_of<'a>(words: &[&str]) -> Option<Task<'a>>
     ensures { result ≡ asked_cut words.now }
 {
     match words {
-        [word, count] => cut_task_of(Dialect::Crate, word, count),
-        [strict, word, count] if *strict == "--strict" => {
-            cut_task_of(Dialect::Strict, word, count)
-        }
-        _ => None,
+        [strict, rest @ ..] if *strict == "--strict" => cut_task_of(Dialect::Strict, rest),
+        _ => cut_task_of(Dialect::Crate, words),
     }
 }
 
 /// What the words after the program's name ask for, or `None` if they are not as [`USAGE`] says.
 ///
-/// The options of a relay come in any order, each at most once; `--cut` and a number, [`MOST_PARTS`] at most, come alone or
-/// after `--strict`, and `--help` comes alone. A number, as after `--max-line`, is a decimal one that a `usize` holds: digits
-/// alone, of which the first may be zeros. It takes no memory.
+/// The options of a relay come in any order, each at most once; `--cut` and a number, [`MOST_PARTS`] at most, come first or
+/// after `--strict`. The words after these name inputs. `--help`, `-h` or `--version` comes alone. A number, as after
+/// `--max-line`, is a decimal one that a `usize` holds: digits alone, of which the first may be zeros. A word with no byte, or
+/// that begins with `-`, names no file, and `-` alone names standard input. It takes no memory.
 ///
 /// ```text
 /// task_of(&[])                          gives  a relay of the crate's dialect with the default length
 /// task_of(&["--progress", "--strict"])  gives  a relay of the strict dialect that shows progress
 /// task_of(&["--lines"])                 gives  a relay of the crate's dialect whose fault lines name lines
+/// task_of(&["--lines", "a", "-"])       gives  the same of the file `a`, and of standard input after it
+/// task_of(&["-o", "b", "a"])            gives  a relay of the file `a` to the file `b`
+/// task_of(&["a", "-o", "b"])            gives  None
 /// task_of(&["--strict", "--strict"])    gives  None
 /// task_of(&["--max-line", "+80"])       gives  None
 /// task_of(&["--cut", "4"])              gives  the ends of 4 parts of the input
 /// task_of(&["--cut", "1000001"])        gives  None
 /// task_of(&["--cut", "4", "--strict"])  gives  None
+/// task_of(&["-h"])                      gives  the usage
 /// task_of(&["--help", "--strict"])      gives  None
 /// ```
-pub fn task_of(words: &[&str]) -> Option<Task>
+pub fn task_of<'a>(words: &[&'a str]) -> Option<Task<'a>>
     ensures { result ≡ asked_task words.now }
 {
     match words {
-        [word] if *word == "--help" => Some(Task::Help),
+        [word] if *word == "--help" || *word == "-h" => Some(Task::Help),
+        [word] if *word == "--version" => Some(Task::Version),
         _ => match cut_of(words) {
             Some(task) => Some(task),
-            None => settings_after(Given::nothing(), words).map(Task::Relay),
+            None => request_after(Given::nothing(), words).map(Task::Relay),
         },
     }
 }
 
-/// The exit status of a relay: 0 if every item was carried, 1 if some item was not, and 2 for a fault.
-pub fn status_of_relay(answer: &Result<Relayed, RunFault>) -> u8
-    ensures { result ≡ relay_status answer.now }
+/// The exit status of a run that failed: 141, as of a program that a closed pipe ends, if nothing reads what it wrote, else 2.
+pub fn status_of_fault(fault: RunFault, is_pipe_closed: bool) -> u8
+    ensures { result ≡ fault_status is_pipe_closed fault }
+{
+    match fault {
+        RunFault::Write if is_pipe_closed => 141,
+        _ => 2,
+    }
+}
+
+/// The exit status of a relay: 0 if every item was carried, 1 if some item was not, and that of the fault for a fault.
+pub fn status_of_relay(answer: &Result<Relayed, RunFault>, is_pipe_closed: bool) -> u8
+    ensures { result ≡ relay_status is_pipe_closed answer.now }
 {
     match answer {
         Ok(relayed) => { if relayed.refused == 0 { 0 } else { 1 } }
-        Err(_) => 2,
+        Err(fault) => status_of_fault(*fault, is_pipe_closed),
     }
 }

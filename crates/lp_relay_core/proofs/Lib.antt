@@ -11,4 +11,3 @@ pub mod WholeLines
 pub mod RelaysSoFar
 pub mod RelaysOfText
 pub mod RelayEnds
-pub mod NumberedEnds

@@ -1,27 +1,34 @@
 -- How a relay ends.
-use Rattle.std.proofs.Common.{◌≡◌, ◌≢◌, ℕ, ◌+◌, ◌<◌, ◌⊎◌, ◌≤◌, ◌↔◌, [], Option, Some, IfSome, Result, Ok, Err, IsErrAnd}
-use Rattle.std.proofs.Common.{IfOk, OnOk, OnErr, true, arith}
+use Rattle.std.proofs.Common.{◌≡◌, ℕ, ◌+◌, ◌<◌, ◌⊎◌, ◌≤◌, List, [], Option, Some, None, IfSome, Result, Ok, Err, IsErrAnd}
+use Rattle.std.proofs.Common.{true, arith}
 use Rattle.influxdb_line_protocol.specs.format.Dialects.{Dialect}
-use Rattle.lp_rebuild.specs.declared.batch.Place.{Place}
 use Rattle.lp_rebuild.specs.declared.program.RunFault.{RunFault}
-use Rattle.lp_rebuild.specs.declared.program.RunFault.TheVariants.{Read, NotUtf8, Write}
 use Rattle.lp_relay_core.specs.declared.relaying.Relayed.{Relayed}
 use Rattle.lp_rebuild.specs.Running.{CountsReadFault, ReaderTold, WriterTold}
 use Rattle.lp_relay_core.specs.RelaySteps.{CountsWriteFault}
-use Rattle.lp_relay_core.proofs.RelaysSoFar.{AllFrom, FrontsFrom}
+use Rattle.lp_relay_core.specs.declared.taking.Numbering.{Numbering}
+use Rattle.lp_relay_core.specs.Relays.{IfRebuilt, Relays, RelaysAll, RelaysFronts, RelaysRebuilt, RelaysRebuiltFronts}
+use Rattle.influxdb_line_protocol.specs.laws.Laws.{PiecesAreUnique}
+use Rattle.influxdb_line_protocol.specs.laws.StreamLaws.{Utf8ByPieces}
+use Rattle.lp_relay_core.proofs.RelaysOfText.{all_rebuilt, fronts_rebuilt}
 
--- what a relay answers, and what it leaves in its reader and in its two writers, where the first piece is at this place
-pub record EndsFrom (dialect : Dialect) (limit : Option ℕ) (place : Place) (result : Result Relayed RunFault)
-    (reader reader_after : ReaderTold) (out out_after err err_after : WriterTold) : Type 0 where
-  pub all : IfOk result (λ counts. IfSome reader.bytes (λ bs.
-      (reader_after.bytes ≡ Some []) × AllFrom dialect limit place bs counts out.bytes out_after.bytes err.bytes err_after.bytes))
-  pub flushed : OnOk result ((out_after.is_flushed ≡ true) × (err_after.is_flushed ≡ true))
-  pub part : OnErr result (IfSome reader.bytes (λ bs.
-      FrontsFrom dialect limit place bs out.bytes out_after.bytes err.bytes err_after.bytes))
-  pub read : (result ≡ Err Read) ↔ (reader.failures < reader_after.failures)
-  pub write : (result ≡ Err Write) ↔ ((out.failures < out_after.failures) ⊎ (err.failures < err_after.failures))
-  pub utf8 : result ≢ Err NotUtf8
-  pub counts : (out.failures ≤ out_after.failures) × (err.failures ≤ err_after.failures)
+-- a front of what is relayed of bytes that are known is a front of what a rebuild of them gives
+fronts_known : Utf8ByPieces → PiecesAreUnique → (dialect : Dialect) (limit : Option ℕ) (numbering : Numbering)
+    (bytes out out_after err err_after : Option (List ℕ))
+    → IfSome bytes (λ bs. RelaysFronts dialect limit numbering bs out out_after err err_after)
+    → IfSome bytes (λ bs. IfRebuilt dialect limit bs (λ r. RelaysRebuiltFronts numbering r out out_after err err_after))
+fronts_known law unique dialect limit numbering None out out_after err err_after fronts = tt
+fronts_known law unique dialect limit numbering (Some bs) out out_after err err_after fronts =
+    fronts_rebuilt law unique dialect limit numbering bs out out_after err err_after fronts
+
+-- what is relayed of bytes that are known is what a rebuild of them gives
+all_known : Utf8ByPieces → PiecesAreUnique → (dialect : Dialect) (limit : Option ℕ) (numbering : Numbering) (counts : Relayed)
+    (bytes left out out_after err err_after : Option (List ℕ))
+    → IfSome bytes (λ bs. (left ≡ Some []) × RelaysAll dialect limit numbering bs counts out out_after err err_after)
+    → IfSome bytes (λ bs. IfRebuilt dialect limit bs (λ r. RelaysRebuilt numbering r counts out out_after err err_after))
+all_known law unique dialect limit numbering counts None left out out_after err err_after all = tt
+all_known law unique dialect limit numbering counts (Some bs) left out out_after err err_after all =
+    all_rebuilt law unique dialect limit numbering bs counts out out_after err err_after all.1
 
 -- counts that are the same have not risen
 none_rose : (a b c d : ℕ) → b ≡ a → d ≡ c → (a < b) ⊎ (c < d) → ⊥
@@ -36,36 +43,69 @@ none_fell : (a b c d : ℕ) → ((b ≡ a + 1) × (d ≡ c)) ⊎ ((b ≡ a) × (
 none_fell a b c d h = grind (arith)
 
 -- a fault of the reader, or memory that was refused
-pub read_fault : (dialect : Dialect) (limit : Option ℕ) (place : Place) (fault : RunFault) (count : ℕ) (reader reader_after : ReaderTold)
-    (out out_after err err_after : WriterTold)
-    → IfSome reader.bytes (λ bs. FrontsFrom dialect limit place bs out.bytes out_after.bytes err.bytes err_after.bytes)
+pub read_fault : Utf8ByPieces → PiecesAreUnique → (dialect : Dialect) (limit : Option ℕ) (numbering : Numbering)
+    (fault : RunFault) (count : ℕ) (reader reader_after : ReaderTold) (out out_after err err_after : WriterTold)
+    → IfSome reader.bytes (λ bs. RelaysFronts dialect limit numbering bs out.bytes out_after.bytes err.bytes err_after.bytes)
     → CountsReadFault {T = ℕ} (Err fault) count reader_after.failures → count ≡ reader.failures
     → out_after.failures ≡ out.failures → err_after.failures ≡ err.failures
-    → EndsFrom dialect limit place (Err fault) reader reader_after out out_after err err_after
-read_fault dialect limit place rite count reader reader_after out out_after err err_after fronts c e o f = grind (arith, none_rose)
+    → Relays dialect limit numbering (Err fault) reader reader_after out out_after err err_after
+read_fault law unique dialect limit numbering fault count reader reader_after out out_after err err_after fronts c e o f =
+    record {
+      all = tt;
+      flushed = tt;
+      part = fronts;
+      rebuilt = tt;
+      rebuilt_part = fronts_known law unique dialect limit numbering reader.bytes _ _ _ _ fronts;
+      read = grind (arith);
+      write = grind (arith, none_rose);
+      utf8 = grind (arith);
+      counts = grind (arith);
+    }
 
 -- a fault of a writer, or memory that was refused
-pub write_fault : (dialect : Dialect) (limit : Option ℕ) (place : Place) (fault : RunFault) (out_count err_count : ℕ)
-    (reader reader_after : ReaderTold) (out out_after err err_after : WriterTold)
-    → IfSome reader.bytes (λ bs. FrontsFrom dialect limit place bs out.bytes out_after.bytes err.bytes err_after.bytes)
+pub write_fault : Utf8ByPieces → PiecesAreUnique → (dialect : Dialect) (limit : Option ℕ) (numbering : Numbering)
+    (fault : RunFault) (out_count err_count : ℕ) (reader reader_after : ReaderTold) (out out_after err err_after : WriterTold)
+    → IfSome reader.bytes (λ bs. RelaysFronts dialect limit numbering bs out.bytes out_after.bytes err.bytes err_after.bytes)
     → CountsWriteFault {T = Unit {0}} (Err fault) out_count out_after.failures err_count err_after.failures
     → out_count ≡ out.failures → err_count ≡ err.failures → reader_after.failures ≡ reader.failures
-    → EndsFrom dialect limit place (Err fault) reader reader_after out out_after err err_after
-write_fault dialect limit place ead o f reader reader_after out out_after err err_after fronts c e k r = grind (arith, one_rose, none_fell, none_rose)
+    → Relays dialect limit numbering (Err fault) reader reader_after out out_after err err_after
+write_fault law unique dialect limit numbering fault out_count err_count reader reader_after out out_after err err_after fronts c o f r =
+    record {
+      all = tt;
+      flushed = tt;
+      part = fronts;
+      rebuilt = tt;
+      rebuilt_part = fronts_known law unique dialect limit numbering reader.bytes _ _ _ _ fronts;
+      read = grind (arith);
+      write = grind (arith, one_rose, none_rose);
+      utf8 = grind (arith);
+      counts = grind (arith, none_fell);
+    }
 
 -- all was written
-pub ended : (dialect : Dialect) (limit : Option ℕ) (place : Place) (counts : Relayed) (reader reader_after : ReaderTold)
-    (out out_after err err_after : WriterTold)
+pub ended : Utf8ByPieces → PiecesAreUnique → (dialect : Dialect) (limit : Option ℕ) (numbering : Numbering)
+    (counts : Relayed) (reader reader_after : ReaderTold) (out out_after err err_after : WriterTold)
     → IfSome reader.bytes (λ bs.
-    (reader_after.bytes ≡ Some []) × AllFrom dialect limit place bs counts out.bytes out_after.bytes err.bytes err_after.bytes)
+    (reader_after.bytes ≡ Some []) × RelaysAll dialect limit numbering bs counts out.bytes out_after.bytes err.bytes err_after.bytes)
     → (out_after.is_flushed ≡ true) × (err_after.is_flushed ≡ true) → reader_after.failures ≡ reader.failures
     → out_after.failures ≡ out.failures → err_after.failures ≡ err.failures
-    → EndsFrom dialect limit place (Ok counts) reader reader_after out out_after err err_after
-ended dialect limit place counts reader reader_after out out_after err err_after all flushed r o f = grind (arith, none_rose)
+    → Relays dialect limit numbering (Ok counts) reader reader_after out out_after err err_after
+ended law unique dialect limit numbering counts reader reader_after out out_after err err_after all flushed r o f =
+    record {
+      all = all;
+      flushed = flushed;
+      part = tt;
+      rebuilt = all_known law unique dialect limit numbering counts reader.bytes reader_after.bytes _ _ _ _ all;
+      rebuilt_part = tt;
+      read = grind (arith);
+      write = grind (arith, none_rose);
+      utf8 = grind (arith);
+      counts = grind (arith);
+    }
 
 -- a fault that was handed on
-pub handed_on : (dialect : Dialect) (limit : Option ℕ) (place : Place) (result : Result Relayed RunFault) (fault : RunFault)
+pub handed_on : (dialect : Dialect) (limit : Option ℕ) (numbering : Numbering) (result : Result Relayed RunFault) (fault : RunFault)
     (reader reader_after : ReaderTold) (out out_after err err_after : WriterTold) → IsErrAnd result (λ e. e ≡ fault)
-    → EndsFrom dialect limit place (Err fault) reader reader_after out out_after err err_after
-    → EndsFrom dialect limit place result reader reader_after out out_after err err_after
-handed_on dialect limit place e fault reader reader_after out out_after err err_after is h = grind (arith)
+    → Relays dialect limit numbering (Err fault) reader reader_after out out_after err err_after
+    → Relays dialect limit numbering result reader reader_after out out_after err err_after
+handed_on dialect limit numbering e fault reader reader_after out out_after err err_after is h = grind (arith)

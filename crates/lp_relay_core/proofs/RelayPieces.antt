@@ -9,13 +9,12 @@ use Rattle.influxdb_line_protocol.specs.format.Pieces.{IsCutPiece}
 use Rattle.influxdb_line_protocol.specs.code.Bounded.{CutsTo, GivesOf, HeldWithin, Holds, IsLastOf}
 use Rattle.influxdb_line_protocol.specs.types.PieceTooLong.{PieceTooLong}
 use Rattle.influxdb_line_protocol.specs.laws.StreamLaws.{Run, Run.taken}
-use Rattle.lp_rebuild.specs.declared.batch.Place.{Place}
 use Rattle.lp_relay_core.specs.Relaying.{Item, limit_of, items_of_piece, items_of}
 use Rattle.lp_relay_core.specs.RelaySteps.{Made, RelaysItems, RelaysPart, RelaysAllPieces, RelaysSome, RelaysTo, TakesItems}
 use Rattle.lp_relay_core.specs.RelaySteps.{TakesPieces, faults_next, faults_past, items_given, newlines_given}
-use Rattle.lp_relay_core.specs.RelaySteps.{place_after, place_past}
+use Rattle.lp_relay_core.specs.RelaySteps.{line_after, line_past}
 use Rattle.lp_relay_core.proofs.ItemLemmas.{item_of_long, items_add_up, items_of_short, items_push}
-use Rattle.lp_relay_core.proofs.FaultLines.{faults_from_append, faults_from_push, place_append}
+use Rattle.lp_relay_core.proofs.FaultLines.{faults_from_append, faults_from_push, line_append}
 use Rattle.lp_relay_core.proofs.RelayLemmas.{part_of_none, part_poured, part_so_far, part_then, relays_none, relays_poured, relays_same}
 use Rattle.lp_relay_core.proofs.RelayLemmas.{part_more, part_same, relays_more, relays_then}
 
@@ -80,27 +79,27 @@ next_items dialect limit ps p items is = ap (λ l. items_of dialect limit ps ++ 
 
 -- if pieces were taken, the fault lines of one more name what comes then
 pub next_faults : (dialect : Dialect) (limit : Option ℕ) (old now : Made) (a b e f : Option (List ℕ)) (ps : List (List ℕ)) (p : List ℕ)
-    (items : List Item) (fs : List ℕ) → RelaysItems old now a b e f (items_of dialect limit ps) fs → now.place ≡ place_past old.place ps
+    (items : List Item) (fs : List ℕ) → RelaysItems old now a b e f (items_of dialect limit ps) fs → now.line ≡ line_past old.line ps
     → items ≡ items_of_piece dialect limit p
     → faults_past dialect limit old ps ++ faults_next now items ≡ faults_past dialect limit old (ps ++ p ∷ [])
-next_faults dialect limit old now a b e f ps p items fs relays place is = grind (arith, items_add_up, faults_from_push)
+next_faults dialect limit old now a b e f ps p items fs relays line is = grind (arith, items_add_up, faults_from_push)
 
 -- and so do those of others
 pub faults_then : (dialect : Dialect) (limit : Option ℕ) (old now : Made) (a b e f : Option (List ℕ)) (ps qs : List (List ℕ))
-    (fs : List ℕ) → RelaysItems old now a b e f (items_of dialect limit ps) fs → now.place ≡ place_past old.place ps
+    (fs : List ℕ) → RelaysItems old now a b e f (items_of dialect limit ps) fs → now.line ≡ line_past old.line ps
     → faults_past dialect limit old ps ++ faults_past dialect limit now qs ≡ faults_past dialect limit old (ps ++ qs)
-faults_then dialect limit old now a b e f ps qs fs relays place = grind (arith, items_add_up, faults_from_append)
+faults_then dialect limit old now a b e f ps qs fs relays line = grind (arith, items_add_up, faults_from_append)
 
 -- what is named after one piece more
-next_place : (place now next : Place) (newlines : ℕ) (ps : List (List ℕ)) (p : List ℕ) → now ≡ place_past place ps
-    → newlines ≡ newlines_in p → next ≡ place_after now newlines → next ≡ place_past place (ps ++ p ∷ [])
-next_place place now next newlines ps p is lines step = grind (arith, place_append)
+next_line : (line now next : Option ℕ) (newlines : ℕ) (ps : List (List ℕ)) (p : List ℕ) → now ≡ line_past line ps
+    → newlines ≡ newlines_in p → next ≡ line_after now newlines → next ≡ line_past line (ps ++ p ∷ [])
+next_line line now next newlines ps p is lines step = grind (arith, line_append)
 
 -- no piece was taken so far
 pub to_none : (dialect : Dialect) (limit : Option ℕ) (text : List ℕ) (old : Made) (a e : Option (List ℕ))
     → RelaysTo dialect limit text text old old a a e e
 to_none dialect limit text old a e =
-    record { pieces = []; taken = takes_none dialect text; place = refl; relays = relays_none old a e }
+    record { pieces = []; taken = takes_none dialect text; line = refl; relays = relays_none old a e }
 
 -- nor was any line written
 pub some_none : (dialect : Dialect) (limit : Option ℕ) (text : List ℕ) (old : Made) (a e : Option (List ℕ))
@@ -112,17 +111,17 @@ some_none dialect limit text old a e =
 pub to_more : (dialect : Dialect) (limit : ℕ) (text mid rest : List ℕ) (old now next poured : Made)
     (a b c e f g : Option (List ℕ)) (result : Result (Bor (List ℕ)) PieceTooLong)
     → RelaysTo dialect (limit_of limit) text mid old now a b e f → Given dialect limit mid result rest
-    → TakesItems now (items_given dialect result) next → poured.place ≡ place_after now.place (newlines_given result)
+    → TakesItems now (items_given dialect result) next → poured.line ≡ line_after now.line (newlines_given result)
     → RelaysItems next poured b c f g [] []
     → RelaysTo dialect (limit_of limit) text rest old poured a c e g
-to_more dialect limit text mid rest old now next poured a b c e f g result p one takes place q =
+to_more dialect limit text mid rest old now next poured a b c e f g result p one takes line q =
     record {
       pieces = p.pieces ++ one.piece ∷ [];
       taken = takes_one dialect text mid rest p.pieces one.piece p.taken one.text_is one.is_cut;
-      place = next_place old.place now.place poured.place _ p.pieces one.piece p.place one.newlines place;
+      line = next_line old.line now.line poured.line _ p.pieces one.piece p.line one.newlines line;
       relays = relays_same old poured a c e g _ _ _ _
           (next_items dialect (limit_of limit) p.pieces one.piece (items_given dialect result) one.items)
-          (next_faults dialect (limit_of limit) old now a b e f p.pieces one.piece _ _ p.relays p.place one.items)
+          (next_faults dialect (limit_of limit) old now a b e f p.pieces one.piece _ _ p.relays p.line one.items)
           (relays_poured old now next poured a b c e f g _ _ _ p.relays takes q);
     }
 
@@ -139,7 +138,7 @@ to_part dialect limit text mid rest old now next a b c e f g result p one takes 
       taken = takes_one dialect text mid rest p.pieces one.piece p.taken one.text_is one.is_cut;
       part = part_same old a c e g _ _ _ _
           (next_items dialect (limit_of limit) p.pieces one.piece (items_given dialect result) one.items)
-          (next_faults dialect (limit_of limit) old now a b e f p.pieces one.piece _ _ p.relays p.place one.items)
+          (next_faults dialect (limit_of limit) old now a b e f p.pieces one.piece _ _ p.relays p.line one.items)
           (part_poured old now next a b c e f g _ _ _ p.relays takes q);
     }
 
@@ -156,9 +155,9 @@ to_then dialect limit text mid rest old now new a b c e f g p q =
     record {
       pieces = p.pieces ++ q.pieces;
       taken = takes_then dialect text mid rest p.pieces q.pieces p.taken q.taken;
-      place = q.place ∙ ap (λ (k : Place). place_past k q.pieces) p.place ∙ sym (place_append old.place p.pieces q.pieces);
+      line = q.line ∙ ap (λ (k : Option ℕ). line_past k q.pieces) p.line ∙ sym (line_append old.line p.pieces q.pieces);
       relays = relays_same old new a c e g _ _ _ _ (items_append dialect limit p.pieces q.pieces)
-          (faults_then dialect limit old now a b e f p.pieces q.pieces _ p.relays p.place)
+          (faults_then dialect limit old now a b e f p.pieces q.pieces _ p.relays p.line)
           (relays_more old now new a b c e f g _ _ _ _ p.relays q.relays);
     }
 
@@ -172,7 +171,7 @@ some_then dialect limit text mid old now a b c e f g p q =
       rest = q.rest;
       taken = takes_then dialect text mid q.rest p.pieces q.pieces p.taken q.taken;
       part = part_same old a c e g _ _ _ _ (items_append dialect limit p.pieces q.pieces)
-          (faults_then dialect limit old now a b e f p.pieces q.pieces _ p.relays p.place)
+          (faults_then dialect limit old now a b e f p.pieces q.pieces _ p.relays p.line)
           (part_more old now a b c e f g _ _ _ _ p.relays q.part);
     }
 
@@ -182,28 +181,20 @@ pub to_so_far : (dialect : Dialect) (limit : Option ℕ) (text rest : List ℕ) 
 to_so_far dialect limit text rest old now a b e f p =
     record { pieces = p.pieces; rest = rest; taken = p.taken; part = part_so_far old now a b e f _ _ p.relays }
 
--- the limit is the same
-pub same_limit : (dialect : Dialect) (from to : Option ℕ) (text : List ℕ) (after : HeldWithin) (old new : Made)
-    (a b e f : Option (List ℕ)) → from ≡ to → RelaysAllPieces dialect from text after old new a b e f
-    → RelaysAllPieces dialect to text after old new a b e f
-same_limit dialect from to text after old new a b e f same p =
-    subst (λ limit. RelaysAllPieces dialect limit text after old new a b e f) same p
-
 -- pieces were taken up to a rest, then all of that, and then what is held was written
-pub to_all : (dialect : Dialect) (from to : Option ℕ) (text mid : List ℕ) (after : HeldWithin) (old now new poured : Made)
-    (a b c d e f g h : Option (List ℕ)) → from ≡ to → RelaysTo dialect to text mid old now a b e f
-    → RelaysAllPieces dialect from mid after now new b c f g
-    → poured.place ≡ new.place → RelaysItems new poured c d g h [] [] → RelaysAllPieces dialect to text after old poured a d e h
-to_all dialect from to text mid after old now new poured a b c d e f g h same first others place q =
-    let rest = same_limit dialect from to mid after now new b c f g same others in
-    let p = to_then dialect to text mid rest.0.rest old now new a b c e f g first rest.0.to in (
+pub to_all : (dialect : Dialect) (limit : Option ℕ) (text mid : List ℕ) (after : HeldWithin) (old now new poured : Made)
+    (a b c d e f g h : Option (List ℕ)) → RelaysTo dialect limit text mid old now a b e f
+    → RelaysAllPieces dialect limit mid after now new b c f g
+    → poured.line ≡ new.line → RelaysItems new poured c d g h [] [] → RelaysAllPieces dialect limit text after old poured a d e h
+to_all dialect limit text mid after old now new poured a b c d e f g h first rest line q =
+    let p = to_then dialect limit text mid rest.0.rest old now new a b c e f g first rest.0.to in (
       record {
         rest = rest.0.rest;
         holds = rest.0.holds;
         to = record {
           pieces = p.pieces;
           taken = p.taken;
-          place = place ∙ p.place;
+          line = line ∙ p.line;
           relays = relays_then old new poured a c d e g h _ _ p.relays q;
         };
       },
@@ -211,12 +202,11 @@ to_all dialect from to text mid after old now new poured a b c d e f g h same fi
     )
 
 -- the same, if a beginning of it was written
-pub to_all_part : (dialect : Dialect) (from to : Option ℕ) (text mid : List ℕ) (after : HeldWithin) (old now new : Made)
-    (a b c d e f g h : Option (List ℕ)) → from ≡ to → RelaysTo dialect to text mid old now a b e f
-    → RelaysAllPieces dialect from mid after now new b c f g → RelaysPart new c d g h [] [] → RelaysSome dialect to text old a d e h
-to_all_part dialect from to text mid after old now new a b c d e f g h same first others q =
-    let rest = same_limit dialect from to mid after now new b c f g same others in
-    let p = to_then dialect to text mid rest.0.rest old now new a b c e f g first rest.0.to in
+pub to_all_part : (dialect : Dialect) (limit : Option ℕ) (text mid : List ℕ) (after : HeldWithin) (old now new : Made)
+    (a b c d e f g h : Option (List ℕ)) → RelaysTo dialect limit text mid old now a b e f
+    → RelaysAllPieces dialect limit mid after now new b c f g → RelaysPart new c d g h [] [] → RelaysSome dialect limit text old a d e h
+to_all_part dialect limit text mid after old now new a b c d e f g h first rest q =
+    let p = to_then dialect limit text mid rest.0.rest old now new a b c e f g first rest.0.to in
     record {
       pieces = p.pieces;
       rest = rest.0.rest;

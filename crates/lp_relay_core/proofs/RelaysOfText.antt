@@ -19,10 +19,10 @@ use Rattle.lp_rebuild.specs.declared.batch.Rebuilt.{Rebuilt}
 use Rattle.lp_relay_core.specs.declared.relaying.Relayed.{Relayed}
 use Rattle.lp_rebuild.specs.Rebuilding.{RebuildsIn, carried_of, carried_point, fault_of, faults_from, refused_of}
 use Rattle.lp_rebuild.specs.Running.{AppendsFront}
-use Rattle.lp_relay_core.specs.Relaying.{Item, answered, HasByteItems, is_too_long, items_of, item_point, items_batch, item_faults}
+use Rattle.lp_relay_core.specs.Relaying.{Item, answered, is_too_long, items_of, item_point, items_batch, item_faults}
 use Rattle.lp_relay_core.specs.Relaying.{carried_items, refused_items}
-use Rattle.lp_relay_core.specs.Relays.{IfRebuilt, RelaysAll, RelaysFronts, RelaysRebuilt, RelaysRebuiltFronts}
-use Rattle.lp_relay_core.specs.NumberedRelays.{RelaysAllLines, RelaysBatch, RelaysFrontLines}
+use Rattle.lp_relay_core.specs.Relays.{IfRebuilt, named_faults, RelaysAll, RelaysFronts, RelaysRebuilt, RelaysRebuiltFronts}
+use Rattle.lp_relay_core.specs.declared.taking.Numbering.{Numbering}
 use Rattle.lp_rebuild.proofs.RebuildLemmas.{carried_cons, refused_cons}
 use Rattle.lp_relay_core.proofs.ItemLemmas.{carried_first, refused_first, items_of_fitting, items_of_text}
 
@@ -86,10 +86,10 @@ items_are_answers law dialect limit text pieces (cut piece rest others c k) u fi
     items_of_texts dialect limit piece others fit.0 both.0 (items_are_answers law dialect limit rest others k both.1 fit.1)
 
 -- so they are those of a rebuild
-items_of_rebuilt : Utf8ByPieces → PiecesAreUnique → (dialect : Dialect) (limit : Option ℕ) (text : List ℕ) (items : List Item)
-    → (has : HasByteItems dialect limit text items) → NoneTooLong limit has.pieces → IsUtf8 text → (r : Rebuilt)
-    → (h : RebuildsIn dialect text r) → items ≡ as_items h.answers
-items_of_rebuilt law unique dialect limit text items has fit u r h = grind (arith, items_are_answers)
+items_of_rebuilt : Utf8ByPieces → PiecesAreUnique → (dialect : Dialect) (limit : Option ℕ) (text : List ℕ) (pieces : List (List ℕ))
+    → Pieces dialect text pieces → NoneTooLong limit pieces → IsUtf8 text → (r : Rebuilt) → (h : RebuildsIn dialect text r)
+    → items_of dialect limit pieces ≡ as_items h.answers
+items_of_rebuilt law unique dialect limit text pieces are fit u r h = grind (arith, items_are_answers)
 
 -- what holds if no piece is too long holds of a text that is rebuilt
 if_rebuilt : PiecesAreUnique → (dialect : Dialect) (limit : Option ℕ) (text : List ℕ) (pieces : List (List ℕ)) (P : Rebuilt → Type 0)
@@ -98,63 +98,35 @@ if_rebuilt : PiecesAreUnique → (dialect : Dialect) (limit : Option ℕ) (text 
 if_rebuilt unique dialect limit text pieces x5 are f = grind (arith, no_limit, short_pieces)
 
 -- what was written of all items is what the rebuild gives
-pub all_rebuilt : Utf8ByPieces → PiecesAreUnique → (dialect : Dialect) (limit : Option ℕ) (text : List ℕ) (counts : Relayed)
-    (out out_after err err_after : Option (List ℕ)) → RelaysAll dialect limit text counts out out_after err err_after
-    → IfRebuilt dialect limit text (λ r. RelaysRebuilt r counts out out_after err err_after)
-all_rebuilt law unique dialect limit text counts out out_after err err_after all =
-    if_rebuilt unique dialect limit text all.has.pieces (λ r. RelaysRebuilt r counts out out_after err err_after) all.has.are
+pub all_rebuilt : Utf8ByPieces → PiecesAreUnique → (dialect : Dialect) (limit : Option ℕ) (numbering : Numbering) (text : List ℕ)
+    (counts : Relayed) (out out_after err err_after : Option (List ℕ))
+    → RelaysAll dialect limit numbering text counts out out_after err err_after
+    → IfRebuilt dialect limit text (λ r. RelaysRebuilt numbering r counts out out_after err err_after)
+all_rebuilt law unique dialect limit numbering text counts out out_after err err_after all =
+    if_rebuilt unique dialect limit text all.pieces (λ r. RelaysRebuilt numbering r counts out out_after err err_after) all.are
     (λ fit u r h.
-    let same = items_of_rebuilt law unique dialect limit text all.items all.has fit u r h in
+    let same = items_of_rebuilt law unique dialect limit text all.pieces all.are fit u r h in
     record {
       batch = subst (Appends out out_after)
           (ap items_batch same ∙ ap built_all (points_of_answers h.answers) ∙ sym h.batch) all.batch;
-      faults = subst (Appends err err_after)
-          (ap (item_faults 1) same ∙ faults_of_answers 1 h.answers ∙ sym h.faults) all.faults;
+      faults = λ named. subst (Appends err err_after)
+          (ap (λ n. named_faults n dialect limit all.pieces) named ∙ ap (item_faults 1) same
+          ∙ faults_of_answers 1 h.answers ∙ sym h.faults) all.faults;
       carried = all.carried ∙ ap carried_items same ∙ carried_of_answers h.answers ∙ sym h.carried;
       refused = all.refused ∙ ap refused_items same ∙ refused_of_answers h.answers ∙ sym h.refused;
     })
 
 -- and a beginning is a beginning of that
-pub fronts_rebuilt : Utf8ByPieces → PiecesAreUnique → (dialect : Dialect) (limit : Option ℕ) (text : List ℕ)
-    (out out_after err err_after : Option (List ℕ)) → RelaysFronts dialect limit text out out_after err err_after
-    → IfRebuilt dialect limit text (λ r. RelaysRebuiltFronts r out out_after err err_after)
-fronts_rebuilt law unique dialect limit text out out_after err err_after some =
-    if_rebuilt unique dialect limit text some.has.pieces (λ r. RelaysRebuiltFronts r out out_after err err_after) some.has.are
+pub fronts_rebuilt : Utf8ByPieces → PiecesAreUnique → (dialect : Dialect) (limit : Option ℕ) (numbering : Numbering) (text : List ℕ)
+    (out out_after err err_after : Option (List ℕ)) → RelaysFronts dialect limit numbering text out out_after err err_after
+    → IfRebuilt dialect limit text (λ r. RelaysRebuiltFronts numbering r out out_after err err_after)
+fronts_rebuilt law unique dialect limit numbering text out out_after err err_after some =
+    if_rebuilt unique dialect limit text some.pieces (λ r. RelaysRebuiltFronts numbering r out out_after err err_after) some.are
     (λ fit u r h.
-    let same = items_of_rebuilt law unique dialect limit text some.items some.has fit u r h in (
+    let same = items_of_rebuilt law unique dialect limit text some.pieces some.are fit u r h in (
       subst (AppendsFront out out_after)
           (ap items_batch same ∙ ap built_all (points_of_answers h.answers) ∙ sym h.batch) some.batch,
-      subst (AppendsFront err err_after)
-          (ap (item_faults 1) same ∙ faults_of_answers 1 h.answers ∙ sym h.faults) some.faults,
+      λ named. subst (AppendsFront err err_after)
+          (ap (λ n. named_faults n dialect limit some.pieces) named ∙ ap (item_faults 1) same
+          ∙ faults_of_answers 1 h.answers ∙ sym h.faults) some.faults,
     ))
-
--- the items of pieces are those of the bytes
-abbrev pieces_have : (dialect : Dialect) (limit : Option ℕ) (bytes : List ℕ) (pieces : List (List ℕ)) → Pieces dialect bytes pieces
-    → HasByteItems dialect limit bytes (items_of dialect limit pieces)
-pieces_have dialect limit bytes pieces are = record { pieces = pieces; are = are; items_are = refl }
-
--- if fault lines name lines, the batch and the counts are what the rebuild gives
-pub lines_rebuilt : Utf8ByPieces → PiecesAreUnique → (dialect : Dialect) (limit : Option ℕ) (text : List ℕ) (counts : Relayed)
-    (out out_after err err_after : Option (List ℕ)) → RelaysAllLines dialect limit text counts out out_after err err_after
-    → IfRebuilt dialect limit text (λ r. RelaysBatch r counts out out_after)
-lines_rebuilt law unique dialect limit text counts out out_after err err_after all =
-    if_rebuilt unique dialect limit text all.pieces (λ r. RelaysBatch r counts out out_after) all.are
-    (λ fit u r h.
-    let same = items_of_rebuilt law unique dialect limit text _ (pieces_have dialect limit text all.pieces all.are) fit u r h in
-    record {
-      batch = subst (Appends out out_after)
-          (ap items_batch same ∙ ap built_all (points_of_answers h.answers) ∙ sym h.batch) all.batch;
-      carried = all.carried ∙ ap carried_items same ∙ carried_of_answers h.answers ∙ sym h.carried;
-      refused = all.refused ∙ ap refused_items same ∙ refused_of_answers h.answers ∙ sym h.refused;
-    })
-
--- and a beginning of the batch is a beginning of that
-pub front_lines_rebuilt : Utf8ByPieces → PiecesAreUnique → (dialect : Dialect) (limit : Option ℕ) (text : List ℕ)
-    (out out_after err err_after : Option (List ℕ)) → RelaysFrontLines dialect limit text out out_after err err_after
-    → IfRebuilt dialect limit text (λ r. AppendsFront out out_after r.batch.items)
-front_lines_rebuilt law unique dialect limit text out out_after err err_after some =
-    if_rebuilt unique dialect limit text some.pieces (λ r. AppendsFront out out_after r.batch.items) some.are
-    (λ fit u r h.
-    let same = items_of_rebuilt law unique dialect limit text _ (pieces_have dialect limit text some.pieces some.are) fit u r h in
-    subst (AppendsFront out out_after)
-    (ap items_batch same ∙ ap built_all (points_of_answers h.answers) ∙ sym h.batch) some.batch)

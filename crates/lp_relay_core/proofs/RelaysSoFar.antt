@@ -9,53 +9,33 @@ use Rattle.influxdb_line_protocol.specs.format.Pieces.{IsLastPiece, Pieces}
 use Rattle.influxdb_line_protocol.specs.code.Bounded.{HeldWithin, Holds}
 use Rattle.influxdb_line_protocol.specs.laws.Laws.{PiecesExist}
 use Rattle.influxdb_line_protocol.specs.laws.StreamLaws.{Run, Run.begun, Run.pushed, RunsEnd, RunsGivePieces}
-use Rattle.lp_rebuild.specs.declared.batch.Place.{Place}
 use Rattle.lp_relay_core.specs.declared.relaying.Relayed.{Relayed}
-use Rattle.lp_rebuild.specs.Running.{AppendsFront}
-use Rattle.lp_relay_core.specs.Relaying.{limit_of, items_of_piece, items_of, items_batch, carried_items, refused_items}
+use Rattle.lp_relay_core.specs.declared.taking.Numbering.{Numbering}
+use Rattle.lp_relay_core.specs.Relays.{RelaysAll, RelaysFronts}
+use Rattle.lp_relay_core.specs.Relaying.{items_of_piece, items_of, items_batch}
 use Rattle.lp_relay_core.specs.RelaySteps.{Made, made_of_none, RelaysItems, RelaysPart, RelaysAllPieces, RelaysSome}
-use Rattle.lp_relay_core.specs.RelaySteps.{faults_from, faults_next, place_past}
+use Rattle.lp_relay_core.specs.RelaySteps.{faults_from, faults_next, first_line, line_past}
 use Rattle.lp_relay_core.proofs.PassLemmas.{passes_all, passes_some}
 use Rattle.lp_relay_core.proofs.ItemLemmas.{batch_append, items_push}
-use Rattle.lp_relay_core.proofs.FaultLines.{faults_from_append, place_append}
+use Rattle.lp_relay_core.proofs.FaultLines.{faults_from_append, faults_named, line_append}
 use Rattle.lp_relay_core.proofs.RelayLemmas.{relays_more, relays_none, relays_same, part_more, part_same, part_so_far}
 use Rattle.lp_relay_core.proofs.RelayPieces.{faults_then, next_faults, run_on}
 use Rattle.influxdb_line_protocol.specs.format.Bytes.{newline}
 
--- the first writer gained the batch of the items of these bytes and the second one their faults, where the first piece is at
--- this place, and these are their counts
-pub record AllFrom (dialect : Dialect) (limit : Option ℕ) (place : Place) (bytes : List ℕ) (counts : Relayed)
-    (out out_after err err_after : Option (List ℕ)) : Type 0 where
-  pub pieces : List (List ℕ)
-  pub are : Pieces dialect bytes pieces
-  pub batch : Appends out out_after (items_batch (items_of dialect limit pieces))
-  pub faults : Appends err err_after (faults_from dialect limit place 1 pieces)
-  pub carried : counts.carried ≡ carried_items (items_of dialect limit pieces)
-  pub refused : counts.refused ≡ refused_items (items_of dialect limit pieces)
-
--- the first writer gained a front of that batch, and the second one a front of those faults
-pub record FrontsFrom (dialect : Dialect) (limit : Option ℕ) (place : Place) (bytes : List ℕ)
-    (out out_after err err_after : Option (List ℕ)) : Type 0 where
-  pub pieces : List (List ℕ)
-  pub are : Pieces dialect bytes pieces
-  pub batch : AppendsFront out out_after (items_batch (items_of dialect limit pieces))
-  pub faults : AppendsFront err err_after (faults_from dialect limit place 1 pieces)
-
 -- these bytes were read, these of their pieces were taken, what was made of them is written or held, and the stream holds the
 -- rest, which is one piece
-pub record RelaysSoFar (dialect : Dialect) (limit : Option ℕ) (place : Place) (reader reader_after : Option (List ℕ)) (stream : HeldWithin)
-    (now : Made) (out out_after err err_after : Option (List ℕ)) : Type 0 where
+pub record RelaysSoFar (dialect : Dialect) (limit : Option ℕ) (numbering : Numbering) (reader reader_after : Option (List ℕ))
+    (stream : HeldWithin) (now : Made) (out out_after err err_after : Option (List ℕ)) : Type 0 where
   pub given : List ℕ
   pub pieces : List (List ℕ)
   pub held : List ℕ
-  pub bound : limit_of stream.limit ≡ limit
   pub holds : Holds stream held
   pub last : IsLastPiece dialect held
   pub consumed : Consumes reader reader_after given
   pub run : Run dialect given pieces held
-  pub place_is : now.place ≡ place_past place pieces
-  pub relays : RelaysItems (made_of_none place) now out out_after err err_after (items_of dialect limit pieces)
-      (faults_from dialect limit place 1 pieces)
+  pub line_is : now.line ≡ line_past (first_line numbering) pieces
+  pub relays : RelaysItems (made_of_none (first_line numbering)) now out out_after err err_after (items_of dialect limit pieces)
+      (faults_from dialect limit (first_line numbering) 1 pieces)
 
 -- no text with a newline is empty
 not_empty : (u t : List ℕ) → u ++ newline ∷ t ≡ [] → ⊥
@@ -72,22 +52,21 @@ none_is_last : PiecesExist → (dialect : Dialect) → IsLastPiece dialect []
 none_is_last exist dialect = let p = exist dialect [] in nothing_is_last dialect [] p.0 refl p.1
 
 -- before the first read
-pub so_far_none : PiecesExist → (dialect : Dialect) (limit : Option ℕ) (place : Place) (r a e : Option (List ℕ)) (stream : HeldWithin)
-    (now : Made) → limit_of stream.limit ≡ limit → Holds stream [] → now ≡ made_of_none place
-    → RelaysSoFar dialect limit place r r stream now a a e e
-so_far_none exist dialect limit place r a e stream now bound none is =
-    subst (λ m. RelaysSoFar dialect limit place r r stream m a a e e) (sym is)
+pub so_far_none : PiecesExist → (dialect : Dialect) (limit : Option ℕ) (numbering : Numbering) (r a e : Option (List ℕ))
+    (stream : HeldWithin) (now : Made) → Holds stream [] → now ≡ made_of_none (first_line numbering)
+    → RelaysSoFar dialect limit numbering r r stream now a a e e
+so_far_none exist dialect limit numbering r a e stream now none is =
+    subst (λ m. RelaysSoFar dialect limit numbering r r stream m a a e e) (sym is)
     (record {
       given = [];
       pieces = [];
       held = [];
-      bound = bound;
       holds = none;
       last = none_is_last exist dialect;
       consumed = Consumes-nil r;
       run = begun;
-      place_is = refl;
-      relays = relays_none (made_of_none place) a e;
+      line_is = refl;
+      relays = relays_none (made_of_none (first_line numbering)) a e;
     })
 
 -- the items of pieces and others
@@ -96,17 +75,16 @@ items_append : (dialect : Dialect) (limit : Option ℕ) (ps qs : List (List ℕ)
 items_append dialect limit ps qs = flat_map-append (items_of_piece dialect limit) ps qs
 
 -- a part more was read, and its pieces taken
-pub so_far_more : (dialect : Dialect) (limit : Option ℕ) (place : Place) (r s t : Option (List ℕ)) (part : List ℕ)
-    (stream after : HeldWithin) (now new : Made) (a b c e f g : Option (List ℕ)) → RelaysSoFar dialect limit place r s stream now a b e f
-    → Consumes s t part → after.limit ≡ stream.limit
+pub so_far_more : (dialect : Dialect) (limit : Option ℕ) (numbering : Numbering) (r s t : Option (List ℕ)) (part : List ℕ)
+    (stream after : HeldWithin) (now new : Made) (a b c e f g : Option (List ℕ))
+    → RelaysSoFar dialect limit numbering r s stream now a b e f → Consumes s t part
     → ((text : List ℕ) → Holds stream text → IsLastPiece dialect text
     → RelaysAllPieces dialect limit (text ++ part) after now new b c f g)
-    → RelaysSoFar dialect limit place r t after new a c e g
-so_far_more dialect limit place r s t part stream after now new a b c e f g h read same q =
+    → RelaysSoFar dialect limit numbering r t after new a c e g
+so_far_more dialect limit numbering r s t part stream after now new a b c e f g h read q =
     let p = q h.held h.holds h.last in
     let more = p.0.to in
     record {
-      bound = ap limit_of same ∙ h.bound;
       given = h.given ++ part;
       pieces = h.pieces ++ more.pieces;
       held = p.0.rest;
@@ -115,22 +93,24 @@ so_far_more dialect limit place r s t part stream after now new a b c e f g h re
       consumed = Consumes-trans r s t h.given part h.consumed read;
       run = run_on dialect (h.given ++ part) (h.held ++ part) p.0.rest h.pieces more.pieces
           (pushed h.given h.pieces h.held part h.run) more.taken;
-      place_is =
-          more.place ∙ ap (λ (q : Place). place_past q more.pieces) h.place_is ∙ sym (place_append place h.pieces more.pieces);
-      relays = relays_same (made_of_none place) new a c e g _ _ _ _
+      line_is =
+          more.line ∙ ap (λ q. line_past q more.pieces) h.line_is ∙ sym (line_append (first_line numbering) h.pieces more.pieces);
+      relays = relays_same (made_of_none (first_line numbering)) new a c e g _ _ _ _
           (sym (items_append dialect limit h.pieces more.pieces))
-          (faults_then dialect limit (made_of_none place) now a b e f h.pieces more.pieces _ h.relays h.place_is)
-          (relays_more (made_of_none place) now new a b c e f g _ _ _ _ h.relays more.relays);
+          (faults_then dialect limit (made_of_none (first_line numbering)) now a b e f h.pieces more.pieces _ h.relays h.line_is)
+          (relays_more (made_of_none (first_line numbering)) now new a b c e f g _ _ _ _ h.relays more.relays);
     }
 
 -- a beginning of what the items of all bytes are was written, since that of the items so far was
-fronts_of : PiecesExist → RunsGivePieces → (dialect : Dialect) (limit : Option ℕ) (place : Place) (r s : Option (List ℕ)) (given : List ℕ)
-    (pieces : List (List ℕ)) (held : List ℕ) (a c e g : Option (List ℕ)) → Consumes r s given → Run dialect given pieces held
-    → RelaysPart (made_of_none place) a c e g (items_of dialect limit pieces) (faults_from dialect limit place 1 pieces)
-    → IfSome r (λ bs. FrontsFrom dialect limit place bs a c e g)
-fronts_of exist give dialect limit place None s given pieces held a c e g read run p = tt
-fronts_of exist give dialect limit place (Some x) None given pieces held a c e g read run p = absurd read
-fronts_of exist give dialect limit place (Some x) (Some y) given pieces held a c e g read run p =
+fronts_of : PiecesExist → RunsGivePieces → (dialect : Dialect) (limit : Option ℕ) (numbering : Numbering) (r s : Option (List ℕ))
+    (given : List ℕ) (pieces : List (List ℕ)) (held : List ℕ) (a c e g : Option (List ℕ)) → Consumes r s given
+    → Run dialect given pieces held
+    → RelaysPart (made_of_none (first_line numbering)) a c e g (items_of dialect limit pieces)
+    (faults_from dialect limit (first_line numbering) 1 pieces)
+    → IfSome r (λ bs. RelaysFronts dialect limit numbering bs a c e g)
+fronts_of exist give dialect limit numbering None s given pieces held a c e g read run p = tt
+fronts_of exist give dialect limit numbering (Some x) None given pieces held a c e g read run p = absurd read
+fronts_of exist give dialect limit numbering (Some x) (Some y) given pieces held a c e g read run p =
     let others = exist dialect (held ++ y) in
     let xs = items_of dialect limit pieces in
     let ys = items_of dialect limit others.0 in
@@ -140,33 +120,34 @@ fronts_of exist give dialect limit place (Some x) (Some y) given pieces held a c
           (give dialect given pieces held y others.0 run others.1);
       batch = passes_some a c (items_batch xs) p.batch_left (items_batch ys) _ p.batch
           (ap items_batch (items_append dialect limit pieces others.0) ∙ batch_append xs ys);
-      faults = passes_some e g (faults_from dialect limit place 1 pieces) p.faults_left
-          (faults_from dialect limit (place_past place pieces) (1 + length xs) others.0) _ p.faults
-          (faults_from_append dialect limit place 1 pieces others.0);
+      faults = passes_some e g (faults_from dialect limit (first_line numbering) 1 pieces) p.faults_left
+          (faults_from dialect limit (line_past (first_line numbering) pieces) (1 + length xs) others.0) _ p.faults
+          (sym (faults_named dialect limit numbering (pieces ++ others.0))
+          ∙ faults_from_append dialect limit (first_line numbering) 1 pieces others.0);
     }
 
 -- so it is between two steps
-pub so_far_fronts : PiecesExist → RunsGivePieces → (dialect : Dialect) (limit : Option ℕ) (place : Place) (r s : Option (List ℕ))
-    (stream : HeldWithin) (now : Made) (a c e g : Option (List ℕ)) → RelaysSoFar dialect limit place r s stream now a c e g
-    → IfSome r (λ bs. FrontsFrom dialect limit place bs a c e g)
-so_far_fronts exist give dialect limit place r s stream now a c e g h = grind (arith, fronts_of, part_so_far)
+pub so_far_fronts : PiecesExist → RunsGivePieces → (dialect : Dialect) (limit : Option ℕ) (numbering : Numbering) (r s : Option (List ℕ))
+    (stream : HeldWithin) (now : Made) (a c e g : Option (List ℕ)) → RelaysSoFar dialect limit numbering r s stream now a c e g
+    → IfSome r (λ bs. RelaysFronts dialect limit numbering bs a c e g)
+so_far_fronts exist give dialect limit numbering r s stream now a c e g h = grind (arith, fronts_of, part_so_far)
 
 -- and if a step had a fault
-pub some_fronts : PiecesExist → RunsGivePieces → (dialect : Dialect) (limit : Option ℕ) (place : Place) (r s t : Option (List ℕ))
+pub some_fronts : PiecesExist → RunsGivePieces → (dialect : Dialect) (limit : Option ℕ) (numbering : Numbering) (r s t : Option (List ℕ))
     (part : List ℕ) (stream : HeldWithin) (now : Made) (a b c e f g : Option (List ℕ))
-    → RelaysSoFar dialect limit place r s stream now a b e f → Consumes s t part
+    → RelaysSoFar dialect limit numbering r s stream now a b e f → Consumes s t part
     → ((text : List ℕ) → Holds stream text → IsLastPiece dialect text
     → RelaysSome dialect limit (text ++ part) now b c f g)
-    → IfSome r (λ bs. FrontsFrom dialect limit place bs a c e g)
-some_fronts exist give dialect limit place r s t part stream now a b c e f g h read q =
+    → IfSome r (λ bs. RelaysFronts dialect limit numbering bs a c e g)
+some_fronts exist give dialect limit numbering r s t part stream now a b c e f g h read q =
     let p = q h.held h.holds h.last in
-    fronts_of exist give dialect limit place r t (h.given ++ part) (h.pieces ++ p.pieces) p.rest a c e g
+    fronts_of exist give dialect limit numbering r t (h.given ++ part) (h.pieces ++ p.pieces) p.rest a c e g
     (Consumes-trans r s t h.given part h.consumed read)
     (run_on dialect (h.given ++ part) (h.held ++ part) p.rest h.pieces p.pieces (pushed h.given h.pieces h.held part h.run) p.taken)
-    (part_same (made_of_none place) a c e g _ _ _ _
+    (part_same (made_of_none (first_line numbering)) a c e g _ _ _ _
     (sym (items_append dialect limit h.pieces p.pieces))
-    (faults_then dialect limit (made_of_none place) now a b e f h.pieces p.pieces _ h.relays h.place_is)
-    (part_more (made_of_none place) now a b c e f g _ _ _ _ h.relays p.part))
+    (faults_then dialect limit (made_of_none (first_line numbering)) now a b e f h.pieces p.pieces _ h.relays h.line_is)
+    (part_more (made_of_none (first_line numbering)) now a b c e f g _ _ _ _ h.relays p.part))
 
 -- all was read
 all_read : (a b : Option (List ℕ)) (bs : List ℕ) (P : List ℕ → Type 0) → Consumes a b bs → IsAtEnd b → P bs
@@ -182,55 +163,52 @@ read_none : (r s t : Option (List ℕ)) (bs : List ℕ) → Consumes r s bs → 
 read_none r s t bs h k = subst (Consumes r t) (append-nil bs) (Consumes-trans r s t bs [] h k)
 
 -- at the end, if the last piece was taken and nothing is held, all was written
-pub so_far_all : RunsEnd → (dialect : Dialect) (limit : Option ℕ) (place : Place) (r s t : Option (List ℕ)) (stream : HeldWithin)
-    (now end : Made) (counts : Relayed) (a b c e f g : Option (List ℕ)) → RelaysSoFar dialect limit place r s stream now a b e f
+pub so_far_all : RunsEnd → (dialect : Dialect) (limit : Option ℕ) (numbering : Numbering) (r s t : Option (List ℕ)) (stream : HeldWithin)
+    (now end : Made) (counts : Relayed) (a b c e f g : Option (List ℕ)) → RelaysSoFar dialect limit numbering r s stream now a b e f
     → Consumes s t [] → IsAtEnd t
     → ((text : List ℕ) → Holds stream text → IsLastPiece dialect text → RelaysItems now end b c f g
-    (items_of_piece dialect (limit_of stream.limit) text) (faults_next now (items_of_piece dialect (limit_of stream.limit) text)))
+    (items_of_piece dialect limit text) (faults_next now (items_of_piece dialect limit text)))
     → end.batch ≡ [] → end.faults ≡ [] → counts.carried ≡ end.carried → counts.refused ≡ end.refused
-    → IfSome r (λ bs. (t ≡ Some []) × AllFrom dialect limit place bs counts a c e g)
-so_far_all ends dialect limit place r s t stream now end counts a b c e f g h read at_end p no_batch no_faults carried refused =
-    let old = made_of_none place in
+    → IfSome r (λ bs. (t ≡ Some []) × RelaysAll dialect limit numbering bs counts a c e g)
+so_far_all ends dialect limit numbering r s t stream now end counts a b c e f g h read at_end p no_batch no_faults carried refused =
+    let old = made_of_none (first_line numbering) in
     let items = items_of dialect limit (h.pieces ++ h.held ∷ []) in
-    let lines = faults_from dialect limit place 1 (h.pieces ++ h.held ∷ []) in
-    let last = subst
-    (λ l. RelaysItems now end b c f g (items_of_piece dialect l h.held) (faults_next now (items_of_piece dialect l h.held)))
-    h.bound (p h.held h.holds h.last) in
+    let lines = faults_from dialect limit (first_line numbering) 1 (h.pieces ++ h.held ∷ []) in
+    let last = p h.held h.holds h.last in
     let all : RelaysItems old end a c e g items lines =
     relays_same old end a c e g _ items _ lines (sym (items_push dialect limit h.pieces h.held))
-    (next_faults dialect limit old now a b e f h.pieces h.held (items_of_piece dialect limit h.held) _ h.relays h.place_is refl)
+    (next_faults dialect limit old now a b e f h.pieces h.held (items_of_piece dialect limit h.held) _ h.relays h.line_is refl)
     (relays_more old now end a b c e f g _ _ _ _ h.relays last) in
-    all_read r t h.given (λ bs. AllFrom dialect limit place bs counts a c e g) (read_none r s t h.given h.consumed read) at_end
+    all_read r t h.given (λ bs. RelaysAll dialect limit numbering bs counts a c e g) (read_none r s t h.given h.consumed read) at_end
     (record {
       pieces = h.pieces ++ h.held ∷ [];
       are = ends dialect h.given h.pieces h.held h.run h.last;
       batch = passes_all a c (items_batch items) end.batch all.batch no_batch;
-      faults = passes_all e g lines end.faults all.faults no_faults;
+      faults = subst (Appends e g) (faults_named dialect limit numbering _) (passes_all e g lines end.faults all.faults no_faults);
       carried = omega (arith, carried, all.carried);
       refused = omega (arith, refused, all.refused);
     })
 
 -- there, if a writer had a fault
-pub end_fronts : RunsEnd → (dialect : Dialect) (limit : Option ℕ) (place : Place) (r s t : Option (List ℕ)) (stream : HeldWithin)
-    (now : Made) (a b c e f g : Option (List ℕ)) → RelaysSoFar dialect limit place r s stream now a b e f → Consumes s t [] → IsAtEnd t
+pub end_fronts : RunsEnd → (dialect : Dialect) (limit : Option ℕ) (numbering : Numbering) (r s t : Option (List ℕ)) (stream : HeldWithin)
+    (now : Made) (a b c e f g : Option (List ℕ)) → RelaysSoFar dialect limit numbering r s stream now a b e f → Consumes s t [] → IsAtEnd t
     → ((text : List ℕ) → Holds stream text → IsLastPiece dialect text → RelaysPart now b c f g
-    (items_of_piece dialect (limit_of stream.limit) text) (faults_next now (items_of_piece dialect (limit_of stream.limit) text)))
-    → IfSome r (λ bs. FrontsFrom dialect limit place bs a c e g)
-end_fronts ends dialect limit place r s t stream now a b c e f g h read at_end p =
-    let old = made_of_none place in
+    (items_of_piece dialect limit text) (faults_next now (items_of_piece dialect limit text)))
+    → IfSome r (λ bs. RelaysFronts dialect limit numbering bs a c e g)
+end_fronts ends dialect limit numbering r s t stream now a b c e f g h read at_end p =
+    let old = made_of_none (first_line numbering) in
     let items = items_of dialect limit (h.pieces ++ h.held ∷ []) in
-    let lines = faults_from dialect limit place 1 (h.pieces ++ h.held ∷ []) in
-    let last = subst
-    (λ l. RelaysPart now b c f g (items_of_piece dialect l h.held) (faults_next now (items_of_piece dialect l h.held)))
-    h.bound (p h.held h.holds h.last) in
+    let lines = faults_from dialect limit (first_line numbering) 1 (h.pieces ++ h.held ∷ []) in
+    let last = p h.held h.holds h.last in
     let part : RelaysPart old a c e g items lines =
     part_same old a c e g _ items _ lines (sym (items_push dialect limit h.pieces h.held))
-    (next_faults dialect limit old now a b e f h.pieces h.held (items_of_piece dialect limit h.held) _ h.relays h.place_is refl)
+    (next_faults dialect limit old now a b e f h.pieces h.held (items_of_piece dialect limit h.held) _ h.relays h.line_is refl)
     (part_more old now a b c e f g _ _ _ _ h.relays last) in
-    Consumes-whole r t h.given (λ bs. FrontsFrom dialect limit place bs a c e g) (read_none r s t h.given h.consumed read) at_end
+    Consumes-whole r t h.given (λ bs. RelaysFronts dialect limit numbering bs a c e g) (read_none r s t h.given h.consumed read) at_end
     (record {
       pieces = h.pieces ++ h.held ∷ [];
       are = ends dialect h.given h.pieces h.held h.run h.last;
       batch = passes_some a c (items_batch items) part.batch_left [] _ part.batch (sym (append-nil _));
-      faults = passes_some e g lines part.faults_left [] _ part.faults (sym (append-nil _));
+      faults = passes_some e g lines part.faults_left [] _ part.faults
+          (sym (faults_named dialect limit numbering _) ∙ sym (append-nil _));
     })

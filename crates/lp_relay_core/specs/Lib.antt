@@ -1,7 +1,6 @@
 pub mod Cuts
 pub mod CutSteps
 pub mod LineFaults
-pub mod NumberedRelays
 pub mod Relaying
 pub mod RelaySteps
 pub mod Relays

@@ -1,5 +1,6 @@
 -- What each step of a relay takes of the stream, and what it writes or holds of it.
-use Rattle.std.specs.Prelude.{◌≡◌, ◌⊎◌, ◌<◌, ℕ, ◌+◌, ◌++◌, List, [], ◌∷◌, length, drop, string_bytes, Option, Result, Ok, Err, if◌then◌else◌}
+use Rattle.std.specs.Prelude.{◌≡◌, ◌⊎◌, ◌<◌, ℕ, ◌+◌, ◌++◌, List, [], ◌∷◌, length, drop, string_bytes, Option, Some, None}
+use Rattle.std.specs.Prelude.{Result, Ok, Err, if◌then◌else◌}
 use Rattle.std.specs.Borrow.{Bor}
 use Rattle.std.specs.Io.KnownBytes.{Appends}
 use Rattle.influxdb_line_protocol.specs.format.Dialects.{Dialect}
@@ -8,8 +9,6 @@ use Rattle.influxdb_line_protocol.specs.format.Pieces.{IsLastPiece}
 use Rattle.influxdb_line_protocol.specs.types.PieceTooLong.{PieceTooLong}
 use Rattle.influxdb_line_protocol.specs.code.Bounded.{HeldWithin, Holds}
 use Rattle.influxdb_line_protocol.specs.laws.StreamLaws.{Run}
-use Rattle.lp_rebuild.specs.declared.batch.Place.{Place}
-use Rattle.lp_rebuild.specs.declared.batch.Place.TheVariants.{ByNumber, OnLine}
 use Rattle.lp_rebuild.specs.declared.batch.Progress.{Progress}
 use Rattle.lp_relay_core.specs.declared.taking.Numbering.{Numbering}
 use Rattle.lp_relay_core.specs.declared.taking.Numbering.TheVariants.{Items, Lines}
@@ -42,16 +41,16 @@ pub record Made : Type 0 where
   pub faults : List ℕ
   pub carried : ℕ
   pub refused : ℕ
-  pub place : Place
+  pub line : Option ℕ
 
 -- what the fault line of the first item names
-abbrev pub first_place : Numbering → Place
-first_place Items = ByNumber
-first_place Lines = OnLine 1
+abbrev pub first_line : Numbering → Option ℕ
+first_line Items = None
+first_line Lines = Some 1
 
 -- before the first item
-abbrev pub made_of_none : Place → Made
-made_of_none place = record { batch = []; faults = []; carried = 0; refused = 0; place = place }
+abbrev pub made_of_none : Option ℕ → Made
+made_of_none line = record { batch = []; faults = []; carried = 0; refused = 0; line = line }
 
 -- what a relay has made so far
 abbrev pub made : Progress → Made
@@ -60,7 +59,7 @@ made so_far = record {
   faults = string_bytes so_far.faults;
   carried = so_far.carried;
   refused = so_far.refused;
-  place = so_far.place;
+  line = so_far.line;
 }
 
 -- nothing that was made is held: all of it was written
@@ -72,36 +71,36 @@ abbrev pub HoldsLess : ℕ → Progress → Type 0
 HoldsLess room so_far = (length so_far.batch.items < room) × (length (string_bytes so_far.faults) < room)
 
 -- what the fault lines after a piece with so many newlines name
-abbrev pub place_after : Place → ℕ → Place
-place_after ByNumber newlines = ByNumber
-place_after (OnLine line) newlines = OnLine (line + newlines + 1)
+abbrev pub line_after : Option ℕ → ℕ → Option ℕ
+line_after None newlines = None
+line_after (Some line) newlines = Some (line + newlines + 1)
 
 -- what they name after these pieces
-abbrev pub place_past : Place → List (List ℕ) → Place
-place_past place [] = place
-place_past place (piece ∷ pieces) = place_past (place_after place (newlines_in piece)) pieces
+abbrev pub line_past : Option ℕ → List (List ℕ) → Option ℕ
+line_past line [] = line
+line_past line (piece ∷ pieces) = line_past (line_after line (newlines_in piece)) pieces
 
--- the fault lines of items of one piece that are not carried, at this place, where the first item has this number
-abbrev pub faults_at : Place → ℕ → List Item → List ℕ
-faults_at place number [] = []
-faults_at place number (item ∷ items) =
-    (if is_carried_item item then [] else fault_line_at place number (item_text item)) ++ faults_at place (number + 1) items
+-- the fault lines of items of one piece that are not carried, at this line, where the first item has this number
+abbrev pub faults_at : Option ℕ → ℕ → List Item → List ℕ
+faults_at line number [] = []
+faults_at line number (item ∷ items) =
+    (if is_carried_item item then [] else fault_line_at line number (item_text item)) ++ faults_at line (number + 1) items
 
--- the fault lines of the items of pieces that are not carried, where the first piece is at this place, and the first item has
+-- the fault lines of the items of pieces that are not carried, where the first piece is at this line, and the first item has
 -- this number
-abbrev pub faults_from : Dialect → Option ℕ → Place → ℕ → List (List ℕ) → List ℕ
-faults_from dialect limit place number [] = []
-faults_from dialect limit place number (piece ∷ pieces) =
-    faults_at place number (items_of_piece dialect limit piece)
-    ++ faults_from dialect limit (place_after place (newlines_in piece)) (number + length (items_of_piece dialect limit piece)) pieces
+abbrev pub faults_from : Dialect → Option ℕ → Option ℕ → ℕ → List (List ℕ) → List ℕ
+faults_from dialect limit line number [] = []
+faults_from dialect limit line number (piece ∷ pieces) =
+    faults_at line number (items_of_piece dialect limit piece)
+    ++ faults_from dialect limit (line_after line (newlines_in piece)) (number + length (items_of_piece dialect limit piece)) pieces
 
 -- the fault lines of the items of the next piece, after what was made
 abbrev pub faults_next : Made → List Item → List ℕ
-faults_next old items = faults_at old.place (old.carried + old.refused + 1) items
+faults_next old items = faults_at old.line (old.carried + old.refused + 1) items
 
 -- the fault lines of the next pieces
 abbrev pub faults_past : Dialect → Option ℕ → Made → List (List ℕ) → List ℕ
-faults_past dialect limit old pieces = faults_from dialect limit old.place (old.carried + old.refused + 1) pieces
+faults_past dialect limit old pieces = faults_from dialect limit old.line (old.carried + old.refused + 1) pieces
 
 -- these items of one piece were taken
 pub record TakesItems (old : Made) (items : List Item) (new : Made) : Type 0 where
@@ -135,7 +134,7 @@ pub record RelaysTo (dialect : Dialect) (limit : Option ℕ) (text rest : List �
     (out out_after err err_after : Option (List ℕ)) : Type 0 where
   pub pieces : List (List ℕ)
   pub taken : TakesPieces dialect text pieces rest
-  pub place : new.place ≡ place_past old.place pieces
+  pub line : new.line ≡ line_past old.line pieces
   pub relays : RelaysItems old new out out_after err err_after (items_of dialect limit pieces) (faults_past dialect limit old pieces)
 
 -- so they were up to a rest that the stream holds

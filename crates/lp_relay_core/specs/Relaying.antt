@@ -1,6 +1,6 @@
 -- What bytes give when they are relayed: the items of their pieces, of which one that is too long, or is not UTF-8, is one item
 -- without an answer.
-use Rattle.std.specs.Prelude.{◌≡◌, ℕ, ◌+◌, ◌-◌, ◌^◌, ◌==◌, nat_lt, Bool, false, not, List, [], ◌∷◌, ◌++◌, length, codes, map}
+use Rattle.std.specs.Prelude.{ℕ, ◌+◌, ◌-◌, ◌^◌, ◌==◌, nat_lt, Bool, false, not, List, [], ◌∷◌, ◌++◌, length, codes, map}
 use Rattle.std.specs.Prelude.{Option, Some, None, Result, if◌then◌else◌}
 use Rattle.std.specs.List.{flat_map, count_by}
 use Rattle.std.specs.Str.{is_utf8}
@@ -8,7 +8,6 @@ use Rattle.influxdb_line_protocol.specs.format.Dialects.{Dialect}
 use Rattle.influxdb_line_protocol.specs.format.Readings.{Fault}
 use Rattle.influxdb_line_protocol.specs.format.Points.{Point, built_all}
 use Rattle.influxdb_line_protocol.specs.format.Lines.{Line}
-use Rattle.influxdb_line_protocol.specs.format.Pieces.{Pieces}
 use Rattle.influxdb_line_protocol.specs.format.Items.{answers_of_piece}
 use Rattle.lp_rebuild.specs.Rebuilding.{carried_point, fault_line, fault_of, is_carried_answer}
 
@@ -37,12 +36,6 @@ items_of_piece dialect limit piece = if is_too_long limit piece then too_long �
 -- the items of pieces, in order
 abbrev pub items_of : Dialect → Option ℕ → List (List ℕ) → List Item
 items_of dialect limit pieces = flat_map (items_of_piece dialect limit) pieces
-
--- the items of bytes are those of their pieces, in order
-pub record HasByteItems (dialect : Dialect) (limit : Option ℕ) (bytes : List ℕ) (items : List Item) : Type 0 where
-  pub pieces : List (List ℕ)
-  pub are : Pieces dialect bytes pieces
-  pub items_are : items ≡ items_of dialect limit pieces
 
 -- whether an item is carried
 abbrev pub is_carried_item : Item → Bool

@@ -8,8 +8,7 @@ ghost use Rattle.influxdb_line_protocol.specs.format.Pieces.{IsLastPiece};
 ghost use Rattle.lp_relay_core.specs.Relaying.{items_of_piece, limit_of};
 ghost use Rattle.lp_relay_core.specs.RelaySteps.{CountsWriteFault, HoldsLess, HoldsNone, RelaysAllPieces, RelaysBegun};
 ghost use Rattle.lp_relay_core.specs.RelaySteps.{RelaysItems, RelaysPart, RelaysSome, RelaysTo, faults_next, made};
-ghost use Rattle.lp_relay_core.specs.NumberedRelays.{RelaysNumbered};
-ghost use Rattle.lp_relay_core.specs.Relays.{Relays, RelaysIn, RelaysWithin};
+ghost use Rattle.lp_relay_core.specs.Relays.{Relays};
 ghost use Rattle.lp_rebuild.specs.Running.{reader_told, writer_told};
 
 use crate::taking::{Numbering, nothing_made, take_piece, take_text_piece, text_of};
@@ -19,6 +18,31 @@ use lp_rebuild::program::{BLOCK, read_block, write_bytes};
 use lp_rebuild::{RunFault, Sink, Source};
 use memchr::{memchr, memrchr};
 use std::alloc::Global;
+
+/// How a relay reads lines, and what its fault lines name: by default, it reads them by the rules of the crate, however long
+/// they are, and names items.
+#[derive(Clone, Copy, Debug, PartialEq, Eq)]
+pub struct Settings {
+    /// The dialect whose rules hold.
+    pub dialect: Dialect,
+    /// How many bytes a line may have, those of the newlines within its strings too, but without the one that ends it.
+    /// `usize::MAX` is no limit.
+    pub limit: usize,
+    /// What the fault lines name.
+    pub numbering: Numbering,
+}
+
+impl Default for Settings {
+    fn default() -> Self
+        ensures { result ≡ record { dialect = Dialect.Crate; limit = usize.MAX; numbering = Numbering.Items } }
+    {
+        Settings {
+            dialect: Dialect::Crate,
+            limit: usize::MAX,
+            numbering: Numbering::Items,
+        }
+    }
+}
 
 /// How many items a relay wrote again, and how many it refused.
 #[derive(Clone, Copy, Debug, PartialEq, Eq)]
@@ -31,7 +55,7 @@ pub struct Relayed {
 
 // Writes all that is held.
 fn pour<W: Sink, E: Sink>(so_far: &mut Progress, out: &mut W, err: &mut E) -> Result<(), RunFault>
-    ensures place { so_far.new.place ≡ so_far.old.place }
+    ensures line { so_far.new.line ≡ so_far.old.line }
     ensures ok { OnOk result (RelaysItems (made so_far.old) (made so_far.new)
         (W.bytes out.old) (W.bytes out.new) (E.bytes err.old) (E.bytes err.new) [] []) }
     ensures none { OnOk result (HoldsNone so_far.new) }
@@ -57,7 +81,7 @@ fn pour_full<W: Sink, E: Sink>(
     out: &mut W,
     err: &mut E,
 ) -> Result<(), RunFault>
-    ensures place { so_far.new.place ≡ so_far.old.place }
+    ensures line { so_far.new.line ≡ so_far.old.line }
     ensures ok { OnOk result (RelaysItems (made so_far.old) (made so_far.new)
         (W.bytes out.old) (W.bytes out.new) (E.bytes err.old) (E.bytes err.new) [] []) }
     ensures held { OnOk result (HoldsLess BLOCK so_far.new) }
@@ -78,7 +102,7 @@ fn pour_and_flush<W: Sink, E: Sink>(
     out: &mut W,
     err: &mut E,
 ) -> Result<(), RunFault>
-    ensures place { so_far.new.place ≡ so_far.old.place }
+    ensures line { so_far.new.line ≡ so_far.old.line }
     ensures ok { OnOk result (RelaysItems (made so_far.old) (made so_far.new)
         (W.bytes out.old) (W.bytes out.new) (E.bytes err.old) (E.bytes err.new) [] []) }
     ensures none { OnOk result (HoldsNone so_far.new) }
@@ -89,10 +113,7 @@ fn pour_and_flush<W: Sink, E: Sink>(
     ensures flushed { OnOk result ((W.is_flushed out.new ≡ true) × (E.is_flushed err.new ≡ true)) }
 {
     pour(so_far, out, err)?;
-    if out.flush().is_err() {
-        return Err(RunFault::Write);
-    }
-    if err.flush().is_err() {
+    if out.flush().is_err() || err.flush().is_err() {
         return Err(RunFault::Write);
     }
     Ok(())
@@ -101,31 +122,32 @@ fn pour_and_flush<W: Sink, E: Sink>(
 // Takes each piece that the stream can give.
 fn relay_pieces<W: Sink, E: Sink>(
     alloc: Global,
-    dialect: Dialect,
+    settings: Settings,
     stream: &mut BoundedLineStream,
     so_far: &mut Progress,
     out: &mut W,
     err: &mut E,
 ) -> Result<(), RunFault>
-    requires dialect { stream.old.held.dialect ≡ rules_of dialect }
+    requires dialect { stream.old.held.dialect ≡ rules_of settings.dialect }
+    requires limit { stream.old.limit ≡ settings.limit }
     requires holds { (text : List ℕ) × Holds stream.old text }
     requires fits { so_far.old.carried + so_far.old.refused ≤ usize.MAX }
     requires few { HoldsLess BLOCK so_far.old }
     ensures rules { OnOk result (KeepsRules stream.old stream.new) }
     ensures ok { OnOk result ((text : List ℕ) → Holds stream.old text
-        → RelaysAllPieces (rules_of dialect) (limit_of stream.old.limit) text stream.new
+        → RelaysAllPieces (rules_of settings.dialect) (limit_of settings.limit) text stream.new
         (made so_far.old) (made so_far.new)
         (W.bytes out.old) (W.bytes out.new) (E.bytes err.old) (E.bytes err.new)) }
     ensures held { OnOk result (HoldsLess BLOCK so_far.new) }
     ensures fits { OnOk result (so_far.new.carried + so_far.new.refused ≤ usize.MAX) }
     ensures part { OnErr result ((text : List ℕ) → Holds stream.old text
-        → RelaysSome (rules_of dialect) (limit_of stream.old.limit) text (made so_far.old)
+        → RelaysSome (rules_of settings.dialect) (limit_of settings.limit) text (made so_far.old)
         (W.bytes out.old) (W.bytes out.new) (E.bytes err.old) (E.bytes err.new)) }
     ensures counts { CountsWriteFault result
         (W.failures out.old) (W.failures out.new) (E.failures err.old) (E.failures err.new) }
 {
     while let Some(piece) = stream.next() {
-        if take_piece(alloc, dialect, so_far, piece).is_err() {
+        if take_piece(alloc, settings.dialect, so_far, piece).is_err() {
             return Err(RunFault::OutOfMemory);
         }
         pour_full(so_far, out, err)?;
@@ -146,8 +168,7 @@ fn whole_lines(bytes: &[u8]) -> &str
 // Takes the whole lines at the start of bytes as a rebuild does, up to one that is too long. Gives how many bytes were taken.
 fn relay_lines<W: Sink, E: Sink>(
     alloc: Global,
-    dialect: Dialect,
-    limit: usize,
+    settings: Settings,
     progress: &mut Progress,
     bytes: &[u8],
     out: &mut W,
@@ -156,27 +177,36 @@ fn relay_lines<W: Sink, E: Sink>(
     requires fits { progress.old.carried + progress.old.refused ≤ usize.MAX }
     requires few { HoldsLess BLOCK progress.old }
     ensures within { IfOk result (λ taken. taken ≤ length bytes.now) }
-    ensures ok { IfOk result (λ taken. RelaysTo (rules_of dialect) (limit_of limit) bytes.now (drop taken bytes.now)
+    ensures ok { IfOk result (λ taken. RelaysTo (rules_of settings.dialect) (limit_of settings.limit) bytes.now (drop taken bytes.now)
         (made progress.old) (made progress.new)
         (W.bytes out.old) (W.bytes out.new) (E.bytes err.old) (E.bytes err.new)) }
     ensures held { OnOk result (HoldsLess BLOCK progress.new) }
     ensures fits { OnOk result (progress.new.carried + progress.new.refused ≤ usize.MAX) }
-    ensures part { OnErr result (RelaysSome (rules_of dialect) (limit_of limit) bytes.now (made progress.old)
+    ensures part { OnErr result (RelaysSome (rules_of settings.dialect) (limit_of settings.limit) bytes.now (made progress.old)
         (W.bytes out.old) (W.bytes out.new) (E.bytes err.old) (E.bytes err.new)) }
     ensures counts { CountsWriteFault result
         (W.failures out.old) (W.failures out.new) (E.failures err.old) (E.failures err.new) }
 {
     laws::pieces_join();
-    let mut lines = split_lines_in(dialect, whole_lines(bytes));
+    let mut lines = split_lines_in(settings.dialect, whole_lines(bytes));
     let mut line = ParsedLine::new(alloc);
     let mut spare = None;
     let mut taken = 0;
     while let Some(piece) = lines.next() {
         // The last piece has no newline.
-        if lines.remainder().is_none() || piece.len() > limit {
+        if lines.remainder().is_none() || piece.len() > settings.limit {
             return Ok(taken);
         }
-        if take_text_piece(alloc, dialect, progress, piece, &mut line, &mut spare).is_err() {
+        if take_text_piece(
+            alloc,
+            settings.dialect,
+            progress,
+            piece,
+            &mut line,
+            &mut spare,
+        )
+        .is_err()
+        {
             return Err(RunFault::OutOfMemory);
         }
         pour_full(progress, out, err)?;
@@ -197,27 +227,26 @@ fn first_newline(bytes: &[u8]) -> Option<usize>
 // given. Gives how many bytes of the part were taken, or given to the stream.
 fn relay_begun<W: Sink, E: Sink>(
     alloc: Global,
-    dialect: Dialect,
-    limit: usize,
+    settings: Settings,
     stream: &mut BoundedLineStream,
     so_far: &mut Progress,
     part: &[u8],
     out: &mut W,
     err: &mut E,
 ) -> Result<usize, RunFault>
-    requires dialect { stream.old.held.dialect ≡ rules_of dialect }
-    requires limit { stream.old.limit ≡ limit }
+    requires dialect { stream.old.held.dialect ≡ rules_of settings.dialect }
+    requires limit { stream.old.limit ≡ settings.limit }
     requires fits { so_far.old.carried + so_far.old.refused ≤ usize.MAX }
     requires few { HoldsLess BLOCK so_far.old }
     ensures within { IfOk result (λ given. given ≤ length part.now) }
     ensures rules { OnOk result (KeepsRules stream.old stream.new) }
-    ensures ok { IfOk result (λ given. (text : List ℕ) → Holds stream.old text → IsLastPiece (rules_of dialect) text
-        → RelaysBegun (rules_of dialect) (limit_of limit) text part.now given stream.new (made so_far.old) (made so_far.new)
-        (W.bytes out.old) (W.bytes out.new) (E.bytes err.old) (E.bytes err.new)) }
+    ensures ok { IfOk result (λ given. (text : List ℕ) → Holds stream.old text → IsLastPiece (rules_of settings.dialect) text
+        → RelaysBegun (rules_of settings.dialect) (limit_of settings.limit) text part.now given stream.new
+        (made so_far.old) (made so_far.new) (W.bytes out.old) (W.bytes out.new) (E.bytes err.old) (E.bytes err.new)) }
     ensures held { OnOk result (HoldsLess BLOCK so_far.new) }
     ensures fits { OnOk result (so_far.new.carried + so_far.new.refused ≤ usize.MAX) }
-    ensures part { OnErr result ((text : List ℕ) → Holds stream.old text → IsLastPiece (rules_of dialect) text
-        → RelaysSome (rules_of dialect) (limit_of limit) (text ++ part.now) (made so_far.old)
+    ensures part { OnErr result ((text : List ℕ) → Holds stream.old text → IsLastPiece (rules_of settings.dialect) text
+        → RelaysSome (rules_of settings.dialect) (limit_of settings.limit) (text ++ part.now) (made so_far.old)
         (W.bytes out.old) (W.bytes out.new) (E.bytes err.old) (E.bytes err.new)) }
     ensures counts { CountsWriteFault result
         (W.failures out.old) (W.failures out.new) (E.failures err.old) (E.failures err.new) }
@@ -233,89 +262,89 @@ fn relay_begun<W: Sink, E: Sink>(
     let Some(piece) = stream.next() else {
         return Ok(end);
     };
-    if take_piece(alloc, dialect, so_far, piece).is_err() {
+    if take_piece(alloc, settings.dialect, so_far, piece).is_err() {
         return Err(RunFault::OutOfMemory);
     }
     pour_full(so_far, out, err)?;
-    let taken = relay_lines(alloc, dialect, limit, so_far, &part[end..], out, err)?;
+    let taken = relay_lines(alloc, settings, so_far, &part[end..], out, err)?;
     Ok(end + taken)
 }
 
 // Takes a part of the text, and each piece that is there then. All that these make is written and flushed.
 fn relay_part<W: Sink, E: Sink>(
     alloc: Global,
-    dialect: Dialect,
-    limit: usize,
+    settings: Settings,
     stream: &mut BoundedLineStream,
     so_far: &mut Progress,
     part: &[u8],
     out: &mut W,
     err: &mut E,
 ) -> Result<(), RunFault>
-    requires dialect { stream.old.held.dialect ≡ rules_of dialect }
-    requires limit { stream.old.limit ≡ limit }
-    requires holds { (text : List ℕ) × Holds stream.old text × IsLastPiece (rules_of dialect) text }
+    requires dialect { stream.old.held.dialect ≡ rules_of settings.dialect }
+    requires limit { stream.old.limit ≡ settings.limit }
+    requires holds { (text : List ℕ) × Holds stream.old text × IsLastPiece (rules_of settings.dialect) text }
     requires fits { so_far.old.carried + so_far.old.refused ≤ usize.MAX }
     requires empty { HoldsNone so_far.old }
     requires block { length part.now ≤ BLOCK }
     ensures rules { OnOk result (KeepsRules stream.old stream.new) }
-    ensures ok { OnOk result ((text : List ℕ) → Holds stream.old text → IsLastPiece (rules_of dialect) text
-        → RelaysAllPieces (rules_of dialect) (limit_of limit) (text ++ part.now) stream.new
+    ensures ok { OnOk result ((text : List ℕ) → Holds stream.old text → IsLastPiece (rules_of settings.dialect) text
+        → RelaysAllPieces (rules_of settings.dialect) (limit_of settings.limit) (text ++ part.now) stream.new
         (made so_far.old) (made so_far.new)
         (W.bytes out.old) (W.bytes out.new) (E.bytes err.old) (E.bytes err.new)) }
     ensures none { OnOk result (HoldsNone so_far.new) }
     ensures fits { OnOk result (so_far.new.carried + so_far.new.refused ≤ usize.MAX) }
-    ensures part { OnErr result ((text : List ℕ) → Holds stream.old text → IsLastPiece (rules_of dialect) text
-        → RelaysSome (rules_of dialect) (limit_of limit) (text ++ part.now) (made so_far.old)
+    ensures part { OnErr result ((text : List ℕ) → Holds stream.old text → IsLastPiece (rules_of settings.dialect) text
+        → RelaysSome (rules_of settings.dialect) (limit_of settings.limit) (text ++ part.now) (made so_far.old)
         (W.bytes out.old) (W.bytes out.new) (E.bytes err.old) (E.bytes err.new)) }
     ensures counts { CountsWriteFault result
         (W.failures out.old) (W.failures out.new) (E.failures err.old) (E.failures err.new) }
     ensures flushed { OnOk result ((W.is_flushed out.new ≡ true) × (E.is_flushed err.new ≡ true)) }
 {
-    let given = relay_begun(alloc, dialect, limit, stream, so_far, part, out, err)?;
+    let given = relay_begun(alloc, settings, stream, so_far, part, out, err)?;
     if stream.push(&part[given..]).is_err() {
         return Err(RunFault::OutOfMemory);
     }
-    relay_pieces(alloc, dialect, stream, so_far, out, err)?;
+    relay_pieces(alloc, settings, stream, so_far, out, err)?;
     pour_and_flush(so_far, out, err)
 }
 
 // Takes the last piece, writes all that is held, and flushes.
 fn finish<W: Sink, E: Sink>(
     alloc: Global,
-    dialect: Dialect,
+    settings: Settings,
     stream: &mut BoundedLineStream,
     so_far: &mut Progress,
     out: &mut W,
     err: &mut E,
 ) -> Result<(), RunFault>
-    requires dialect { stream.old.held.dialect ≡ rules_of dialect }
-    requires holds { (text : List ℕ) × Holds stream.old text × IsLastPiece (rules_of dialect) text }
+    requires dialect { stream.old.held.dialect ≡ rules_of settings.dialect }
+    requires limit { stream.old.limit ≡ settings.limit }
+    requires holds { (text : List ℕ) × Holds stream.old text × IsLastPiece (rules_of settings.dialect) text }
     requires fits { so_far.old.carried + so_far.old.refused ≤ usize.MAX }
     requires empty { HoldsNone so_far.old }
-    ensures ok { OnOk result ((text : List ℕ) → Holds stream.old text → IsLastPiece (rules_of dialect) text
+    ensures ok { OnOk result ((text : List ℕ) → Holds stream.old text → IsLastPiece (rules_of settings.dialect) text
         → RelaysItems (made so_far.old) (made so_far.new)
         (W.bytes out.old) (W.bytes out.new) (E.bytes err.old) (E.bytes err.new)
-        (items_of_piece (rules_of dialect) (limit_of stream.old.limit) text)
-        (faults_next (made so_far.old) (items_of_piece (rules_of dialect) (limit_of stream.old.limit) text))) }
+        (items_of_piece (rules_of settings.dialect) (limit_of settings.limit) text)
+        (faults_next (made so_far.old) (items_of_piece (rules_of settings.dialect) (limit_of settings.limit) text))) }
     ensures none { OnOk result (HoldsNone so_far.new) }
-    ensures part { OnErr result ((text : List ℕ) → Holds stream.old text → IsLastPiece (rules_of dialect) text
+    ensures part { OnErr result ((text : List ℕ) → Holds stream.old text → IsLastPiece (rules_of settings.dialect) text
         → RelaysPart (made so_far.old)
         (W.bytes out.old) (W.bytes out.new) (E.bytes err.old) (E.bytes err.new)
-        (items_of_piece (rules_of dialect) (limit_of stream.old.limit) text)
-        (faults_next (made so_far.old) (items_of_piece (rules_of dialect) (limit_of stream.old.limit) text))) }
+        (items_of_piece (rules_of settings.dialect) (limit_of settings.limit) text)
+        (faults_next (made so_far.old) (items_of_piece (rules_of settings.dialect) (limit_of settings.limit) text))) }
     ensures counts { CountsWriteFault result
         (W.failures out.old) (W.failures out.new) (E.failures err.old) (E.failures err.new) }
     ensures flushed { OnOk result ((W.is_flushed out.new ≡ true) × (E.is_flushed err.new ≡ true)) }
 {
-    if take_piece(alloc, dialect, so_far, stream.finish()).is_err() {
+    if take_piece(alloc, settings.dialect, so_far, stream.finish()).is_err() {
         return Err(RunFault::OutOfMemory);
     }
     pour_and_flush(so_far, out, err)
 }
 
 /// Relays the lines that `reader` gives, as they come: each that [`rebuild`](lp_rebuild::rebuild) would write again goes to
-/// `out`, and the fault of every other item, with its number, to `err`.
+/// `out`, and the fault of every other item to `err`, with what `settings.numbering` says.
 ///
 /// What each read completes is written and flushed before the next read is asked for, and the rest at the end. What is held of
 /// the input is the line that has not ended yet and one block, and of the output less than a block and what one line makes,
@@ -323,106 +352,28 @@ fn finish<W: Sink, E: Sink>(
 /// order.
 ///
 /// Input that is not UTF-8 does not end it: each piece that is not is one item, whose fault line is `item N: the line is
-/// not UTF-8`, and the pieces before and after it are read as ever.
+/// not UTF-8`, and the pieces before and after it are read as ever. So is a piece that is longer than `settings.limit`, whose
+/// fault is `the line is too long`, also if it is a comment, blank or not UTF-8; its bytes are passed over up to its end. With
+/// a limit, that many bytes and two blocks of the input are held at most: of the line that has not ended yet no more than the
+/// limit, the block that comes after them, and that block as it was read. The buffer of the first two grows by doubling, and
+/// has lines too that were taken already, so it may have room for four times as many.
 ///
 /// # Errors
 ///
 /// After each of them, `out` has a beginning of the batch and `err` one of the fault lines.
 ///
 /// * `Read` if `reader` failed, and only there.
-/// * `OutOfMemory` if memory was refused, or if no `usize` holds the number of the next item.
+/// * `OutOfMemory` if memory was refused, or if no `usize` holds the number of the next item, how many newlines, equal signs
+///   or commas a line has that is too long, or, if fault lines name lines, the line on which the next piece would begin.
 /// * `Write` if `out` or `err` failed, and only there.
 pub fn relay<R: Source, W: Sink, E: Sink>(
     alloc: Global,
+    settings: Settings,
     reader: &mut R,
     out: &mut W,
     err: &mut E,
 ) -> Result<Relayed, RunFault>
-    ensures { Relays result
-        (reader_told R.bytes R.failures reader.old) (reader_told R.bytes R.failures reader.new)
-        (writer_told W.bytes W.failures W.is_flushed out.old) (writer_told W.bytes W.failures W.is_flushed out.new)
-        (writer_told E.bytes E.failures E.is_flushed err.old) (writer_told E.bytes E.failures E.is_flushed err.new) }
-{
-    relay_in(alloc, Dialect::Crate, reader, out, err)
-}
-
-/// Relays the lines that `reader` gives, as they come, by the rules of a dialect.
-///
-/// [`relay`] does so by those of the crate; what it says of the order, of memory, of UTF-8 and of its faults holds here
-/// too.
-///
-/// # Errors
-///
-/// Those of [`relay`].
-pub fn relay_in<R: Source, W: Sink, E: Sink>(
-    alloc: Global,
-    dialect: Dialect,
-    reader: &mut R,
-    out: &mut W,
-    err: &mut E,
-) -> Result<Relayed, RunFault>
-    ensures { RelaysIn (rules_of dialect) result
-        (reader_told R.bytes R.failures reader.old) (reader_told R.bytes R.failures reader.new)
-        (writer_told W.bytes W.failures W.is_flushed out.old) (writer_told W.bytes W.failures W.is_flushed out.new)
-        (writer_told E.bytes E.failures E.is_flushed err.old) (writer_told E.bytes E.failures E.is_flushed err.new) }
-{
-    relay_within(alloc, dialect, usize::MAX, reader, out, err)
-}
-
-/// Relays the lines that `reader` gives, as they come, by the rules of a dialect, if a line has at most `limit` bytes.
-/// Newlines within its strings are among them, and the one that ends it is not.
-///
-/// A longer one is one item, whose fault line is `item N: the line is too long`, also if it is a comment, blank or not
-/// UTF-8. Its bytes are passed over up to its end, and the lines before and after it are read as ever. A limit of
-/// `usize::MAX` is none.
-///
-/// Of the input, `limit` bytes and two blocks are held at most: of the line that has not ended yet no more than `limit`
-/// bytes, the block that comes after them, and that block as it was read. The buffer of the first two grows by doubling,
-/// and has lines too that were taken already, so it may have room for four times as many. All else is as for
-/// [`relay_in`].
-///
-/// # Errors
-///
-/// Those of [`relay`]. `OutOfMemory` also comes if no `usize` may hold how many newlines, equal signs or commas a line has
-/// that is too long.
-pub fn relay_within<R: Source, W: Sink, E: Sink>(
-    alloc: Global,
-    dialect: Dialect,
-    limit: usize,
-    reader: &mut R,
-    out: &mut W,
-    err: &mut E,
-) -> Result<Relayed, RunFault>
-    ensures { RelaysWithin (rules_of dialect) (limit_of limit) result
-        (reader_told R.bytes R.failures reader.old) (reader_told R.bytes R.failures reader.new)
-        (writer_told W.bytes W.failures W.is_flushed out.old) (writer_told W.bytes W.failures W.is_flushed out.new)
-        (writer_told E.bytes E.failures E.is_flushed err.old) (writer_told E.bytes E.failures E.is_flushed err.new) }
-{
-    relay_numbered(alloc, dialect, limit, Numbering::Items, reader, out, err)
-}
-
-/// Relays the lines that `reader` gives, as they come, by the rules of a dialect, if a line has at most `limit` bytes and
-/// the fault lines name what `numbering` says.
-///
-/// By [`Numbering::Items`] it does what [`relay_within`] does. By [`Numbering::Lines`] each fault line is `line N: TEXT` if
-/// that has `item M: TEXT`, and N is the line of the input on which the piece of the item begins: 1, and one more for each
-/// newline before its first byte. So a fault can be found, though a comment, a blank line or a string of many lines came
-/// before it. All else is as for [`relay_within`].
-///
-/// # Errors
-///
-/// Those of [`relay_within`]. By [`Numbering::Lines`] `OutOfMemory` also comes if no `usize` holds the line on which the
-/// next piece would begin.
-pub fn relay_numbered<R: Source, W: Sink, E: Sink>(
-    alloc: Global,
-    dialect: Dialect,
-    limit: usize,
-    numbering: Numbering,
-    reader: &mut R,
-    out: &mut W,
-    err: &mut E,
-) -> Result<Relayed, RunFault>
-    ensures { RelaysNumbered (rules_of dialect) (limit_of limit) numbering result
+    ensures { Relays (rules_of settings.dialect) (limit_of settings.limit) settings.numbering result
         (reader_told R.bytes R.failures reader.old) (reader_told R.bytes R.failures reader.new)
         (writer_told W.bytes W.failures W.is_flushed out.old) (writer_told W.bytes W.failures W.is_flushed out.new)
         (writer_told E.bytes E.failures E.is_flushed err.old) (writer_told E.bytes E.failures E.is_flushed err.new) }
@@ -430,13 +381,13 @@ pub fn relay_numbered<R: Source, W: Sink, E: Sink>(
     laws::pieces_join();
     laws::runs_give_pieces();
     laws::utf8_by_pieces();
-    let mut stream = BoundedLineStream::new_in(alloc, dialect, limit);
-    let mut so_far = nothing_made(alloc, numbering);
+    let mut stream = BoundedLineStream::new_in(alloc, settings.dialect, settings.limit);
+    let mut so_far = nothing_made(alloc, settings.numbering);
     let mut block = Vec::new(alloc);
     for _ in 0..u64::MAX {
         let n = read_block(reader, &mut block, 0)?;
         if n == 0 {
-            finish(alloc, dialect, &mut stream, &mut so_far, out, err)?;
+            finish(alloc, settings, &mut stream, &mut so_far, out, err)?;
             return Ok(Relayed {
                 carried: so_far.carried,
                 refused: so_far.refused,
@@ -444,8 +395,7 @@ pub fn relay_numbered<R: Source, W: Sink, E: Sink>(
         }
         relay_part(
             alloc,
-            dialect,
-            limit,
+            settings,
             &mut stream,
             &mut so_far,
             &block[..n],

@@ -3,14 +3,14 @@ ghost use Rattle.std.specs.Prelude.{◌≡◌, ◌+◌, ◌<◌, ◌≤◌, leng
 ghost use Rattle.influxdb_line_protocol.specs.code.Rules.{rules_of};
 ghost use Rattle.influxdb_line_protocol.specs.format.Bytes.{newlines_in};
 ghost use Rattle.lp_relay_core.specs.Relaying.{items_of_bytes};
-ghost use Rattle.lp_relay_core.specs.RelaySteps.{HoldsLess, TakesItems, first_place, items_given, made, made_of_none};
-ghost use Rattle.lp_relay_core.specs.RelaySteps.{newlines_given, place_after};
+ghost use Rattle.lp_relay_core.specs.RelaySteps.{HoldsLess, TakesItems, first_line, items_given, made, made_of_none};
+ghost use Rattle.lp_relay_core.specs.RelaySteps.{newlines_given, line_after};
 
 use influxdb_line_protocol::{
     Dialect, EscapedStr, FieldSet, ParsedLine, PieceTooLong, Series, TagSet,
 };
 use lp_lines::freeing::{forget_line, free_line};
-use lp_rebuild::batch::{self, Place, Progress, refuse};
+use lp_rebuild::batch::{self, Progress, refuse};
 use lp_rebuild::program::BLOCK;
 use simdutf8::basic::{self, Utf8Error};
 use std::alloc::{AllocError, Global};
@@ -34,16 +34,16 @@ const TOO_LONG: &str = "the line is too long";
 
 // Before the first item. It takes no memory.
 pub(crate) fn nothing_made(alloc: Global, numbering: Numbering) -> Progress
-    ensures { made result ≡ made_of_none (first_place numbering) }
+    ensures { made result ≡ made_of_none (first_line numbering) }
 {
     Progress {
         batch: Vec::new(alloc),
         faults: String::new(alloc),
         carried: 0,
         refused: 0,
-        place: match numbering {
-            Numbering::Items => Place::ByNumber,
-            Numbering::Lines => Place::OnLine(1),
+        line: match numbering {
+            Numbering::Items => None,
+            Numbering::Lines => Some(1),
         },
     }
 }
@@ -111,29 +111,8 @@ pub(crate) fn text_of(bytes: &[u8]) -> Result<&str, Utf8Error>
     basic::from_utf8(bytes)
 }
 
-// Takes the bytes of a piece: their text, or a fault if they are not UTF-8. An empty piece, which has no item, needs no line.
-fn take_bytes(
-    alloc: Global,
-    dialect: Dialect,
-    so_far: &mut Progress,
-    piece: &[u8],
-) -> Result<(), AllocError>
-    requires room { so_far.old.carried + so_far.old.refused < usize.MAX }
-    ensures taken { OnOk result
-        (TakesItems (made so_far.old) (items_of_bytes (rules_of dialect) piece.now) (made so_far.new)) }
-    ensures counted { OnOk result
-        (so_far.new.carried + so_far.new.refused ≤ so_far.old.carried + so_far.old.refused + 1) }
-{
-    if piece.is_empty() {
-        return Ok(());
-    }
-    match text_of(piece) {
-        Ok(text) => take_alone(alloc, dialect, so_far, text),
-        Err(_) => refuse(so_far, NOT_UTF8),
-    }
-}
-
-// Takes what the stream gave: bytes, or if they are too long a fault.
+// Takes what the stream gave: its text, or a fault if it is not UTF-8 or too long. An empty piece, which has no item, needs no
+// line.
 fn take_given(
     alloc: Global,
     dialect: Dialect,
@@ -146,9 +125,15 @@ fn take_given(
     ensures counted { OnOk result
         (so_far.new.carried + so_far.new.refused ≤ so_far.old.carried + so_far.old.refused + 1) }
 {
-    match piece {
-        Ok(bytes) => take_bytes(alloc, dialect, so_far, bytes),
-        Err(_) => refuse(so_far, TOO_LONG),
+    let Ok(bytes) = piece else {
+        return refuse(so_far, TOO_LONG);
+    };
+    if bytes.is_empty() {
+        return Ok(());
+    }
+    match text_of(bytes) {
+        Ok(text) => take_alone(alloc, dialect, so_far, text),
+        Err(_) => refuse(so_far, NOT_UTF8),
     }
 }
 
@@ -166,19 +151,27 @@ fn newlines_in(bytes: &[u8]) -> usize
     count
 }
 
-// The place of the next piece. Newlines are counted if it is a line, and it is refused if that would not fit.
-fn place_after(place: Place, piece: Result<&[u8], PieceTooLong>) -> Result<Place, AllocError>
-    ensures { IfOk result (λ next. next ≡ place_after place (newlines_given piece.entry)) }
+// The line of the next piece, if fault lines name lines. It is refused if it, or the number of an item more, would not fit.
+fn line_after(
+    so_far: &Progress,
+    piece: Result<&[u8], PieceTooLong>,
+) -> Result<Option<usize>, AllocError>
+    requires fits { so_far.now.carried + so_far.now.refused ≤ usize.MAX }
+    ensures room { OnOk result (so_far.now.carried + so_far.now.refused < usize.MAX) }
+    ensures line { IfOk result (λ next. next ≡ line_after so_far.now.line (newlines_given piece.entry)) }
 {
-    let Place::OnLine(line) = place else {
-        return Ok(place);
+    if so_far.carried + so_far.refused == usize::MAX {
+        return Err(AllocError);
+    }
+    let Some(line) = so_far.line else {
+        return Ok(None);
     };
     let newlines = match piece {
         Ok(bytes) => newlines_in(bytes),
         Err(fault) => fault.newlines,
     };
     let end = line.checked_add(newlines).ok_or(AllocError)?;
-    Ok(Place::OnLine(end.checked_add(1).ok_or(AllocError)?))
+    Ok(Some(end.checked_add(1).ok_or(AllocError)?))
 }
 
 // Takes a piece. It is refused if its number, or the line after it, would not fit.
@@ -192,15 +185,12 @@ pub(crate) fn take_piece(
     requires few { HoldsLess BLOCK so_far.old }
     ensures taken { OnOk result
         (TakesItems (made so_far.old) (items_given (rules_of dialect) piece.entry) (made so_far.new)) }
-    ensures place { OnOk result (so_far.new.place ≡ place_after so_far.old.place (newlines_given piece.entry)) }
+    ensures line { OnOk result (so_far.new.line ≡ line_after so_far.old.line (newlines_given piece.entry)) }
     ensures fits { OnOk result (so_far.new.carried + so_far.new.refused ≤ usize.MAX) }
 {
-    if so_far.carried + so_far.refused == usize::MAX {
-        return Err(AllocError);
-    }
-    let next = place_after(so_far.place, piece)?;
+    let next = line_after(so_far, piece)?;
     take_given(alloc, dialect, so_far, piece)?;
-    so_far.place = next;
+    so_far.line = next;
     Ok(())
 }
 
@@ -218,14 +208,11 @@ pub(crate) fn take_text_piece<'a>(
     requires few { HoldsLess BLOCK so_far.old }
     ensures taken { OnOk result
         (TakesItems (made so_far.old) (items_of_bytes (rules_of dialect) piece.now) (made so_far.new)) }
-    ensures place { OnOk result (so_far.new.place ≡ place_after so_far.old.place (newlines_in piece.now)) }
+    ensures line { OnOk result (so_far.new.line ≡ line_after so_far.old.line (newlines_in piece.now)) }
     ensures fits { OnOk result (so_far.new.carried + so_far.new.refused ≤ usize.MAX) }
 {
-    if so_far.carried + so_far.refused == usize::MAX {
-        return Err(AllocError);
-    }
-    let next = place_after(so_far.place, Ok(piece.as_bytes()))?;
+    let next = line_after(so_far, Ok(piece.as_bytes()))?;
     take_text(alloc, dialect, so_far, piece, line, spare)?;
-    so_far.place = next;
+    so_far.line = next;
     Ok(())
 }

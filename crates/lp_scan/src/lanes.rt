@@ -1,8 +1,7 @@
 //! Which bytes of one load end a token or are backslashes.
 ghost use Rattle.std.specs.Prelude.{◌≡◌, ◌+◌, ◌<◌, ◌≤◌, bit_and, false, length, map, not, slice_index};
-ghost use Rattle.lp_format.specs.format.Bytes.{is_one_of};
-ghost use Rattle.lp_scan.specs.code.Tokens.{is_end, is_mark, is_plain, known_of, stops_of};
-ghost use Rattle.lp_scan.specs.code.Lanes.{IsRunIn, first_set, mask_of};
+ghost use Rattle.lp_format.specs.format.{is_one_of};
+ghost use Rattle.lp_scan.specs.code.{is_end, is_mark, is_plain, known_of, stops_of, IsRunIn, first_set, mask_of};
 
 use crate::scan::WIDE;
 use crate::sets::TokenKind;

@@ -1,4 +1,5 @@
-//! Masks of the bytes of a load: which of them end a name or a string, which are backslashes, which are escaped.
+//! Masks of the bytes of a load: which of them end a name or a string, which are backslashes, which are escaped. And what is
+//! dropped at the start of a text.
 //!
 //! The splitter and the readers of names and strings both search by these masks, and neither uses the other: so what they
 //! share is a crate below both.
@@ -7,3 +8,4 @@
 pub mod lanes;
 pub mod scan;
 pub mod sets;
+pub mod trim;

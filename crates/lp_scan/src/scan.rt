@@ -1,7 +1,6 @@
 //! Masks of 64 bytes of a text, and which of those bytes are escaped.
 ghost use Rattle.std.specs.Prelude.{◌≡◌, ◌+◌, ◌%◌, ◌^◌, ◌≤◌, ◌==◌, count_ones, length};
-ghost use Rattle.lp_scan.specs.code.Lanes.{mask_of};
-ghost use Rattle.lp_scan.specs.code.Scan.{TellsBare, TellsEscaped, TellsEscapesNext};
+ghost use Rattle.lp_scan.specs.code.{mask_of, TellsBare, TellsEscaped, TellsEscapesNext};
 
 use std::simd::prelude::*;
 

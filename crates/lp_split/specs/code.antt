@@ -6,3 +6,11 @@ pub mod Searches
 pub mod Streams
 pub mod Lending
 pub mod Bounded
+pub use Rules.{rules_of}
+pub use Stops.{is_stop, is_mark, IsBarePassed, EndsAt, IsStretch}
+pub use Ahead.{IsAhead, AreSeen}
+pub use Tracks.{IsCountOf, EndsIn, IsPlace, Steps, NeverComment, IsTrackOf, Leads, LeadsTo, most_counted, TracksOn, Part, Head, Plain}
+pub use Tracks.{Quoted, Place, Track, Comment, Blanks, Line}
+pub use Searches.{IsKnown, SearchesOn}
+pub use Streams.{Held, TakesPiece, GivesCut, GivesCutText, FindsCut, GivesLast, GivesLastText, IsHeldAt}
+pub use Bounded.{HeldWithin, IsTooLong, CutsTo, HoldsBy, Holds, kept, most_given, KeepsRules, FindsWithin, GivesWithin, GivesLastWithin}

@@ -1,18 +1,13 @@
 //! The pieces of a text.
 
-ghost use Rattle.std.specs.Prelude.{◌≡◌, ◌≢◌, ◌+◌, ◌/◌, ◌^◌, ◌<◌, ◌≤◌, ◌==◌, ◌||◌, length, take, drop, option_map, slice_index};
-ghost use Rattle.std.specs.Prelude.{IfSome, MatchOption, true, false};
+ghost use Rattle.std.specs.Prelude.{◌≡◌, ◌≢◌, ◌+◌, ◌/◌, ◌^◌, ◌<◌, ◌≤◌, ◌==◌, ◌||◌, length, take, drop, option_map, slice_index, IfSome};
+ghost use Rattle.std.specs.Prelude.{MatchOption, true, false, All, count_by};
 ghost use Rattle.std.specs.Iterator.{at_most};
-ghost use Rattle.std.specs.List.{All, count_by};
-ghost use Rattle.lp_format.specs.format.Bytes.{backslash, newline, quote};
+ghost use Rattle.lp_format.specs.format.{backslash, newline, quote, IsBareAfter, begins_comment, IsFirstCut, GivesPiece, most_pieces};
+ghost use Rattle.lp_format.specs.format.{Crate};
 ghost use Rattle.memchr.specs.Find.{IsFirstByte, is_byte3};
-ghost use Rattle.lp_scan.specs.code.Lanes.{mask_of};
-ghost use Rattle.lp_format.specs.format.Escapes.{IsBareAfter};
-ghost use Rattle.lp_split.specs.code.Ahead.{IsAhead, AreSeen};
-ghost use Rattle.lp_split.specs.code.Stops.{is_stop, is_mark, EndsAt, IsBarePassed, IsStretch};
-ghost use Rattle.lp_format.specs.format.Pieces.{begins_comment, IsFirstCut, GivesPiece, most_pieces};
-ghost use Rattle.lp_format.specs.format.Dialects.{Crate};
-ghost use Rattle.lp_split.specs.code.Rules.{rules_of};
+ghost use Rattle.lp_scan.specs.code.{mask_of};
+ghost use Rattle.lp_split.specs.code.{IsAhead, AreSeen, is_stop, is_mark, EndsAt, IsBarePassed, IsStretch, rules_of};
 
 use lp_scan::lanes::first_set;
 use lp_scan::scan::{WIDE, bare, escapes_next, ones_below, places_of};
@@ -376,6 +371,7 @@ fn first_newline(text: &[u8]) -> Option<usize>
 }
 
 /// The place of the newline that ends the first piece, or `None` if the text is one piece.
+#[tactic(auto, using(lp_format::proofs::lemmas::split::SplitPieces::strict_cuts))]
 #[inline(always)]
 fn late_cut(dialect: Dialect, text: &[u8]) -> Option<usize>
     ensures { IsFirstCut (rules_of dialect) text.now result }
@@ -388,6 +384,7 @@ fn late_cut(dialect: Dialect, text: &[u8]) -> Option<usize>
 }
 
 /// The same, with what was seen at the start of the text, and then of what comes after that newline.
+#[tactic(auto, using(crate::proofs::lemmas::split::FirstMarks::no_cut, crate::proofs::lemmas::split::FirstMarks::cut_at_newline))]
 #[inline(always)]
 pub(crate) fn first_cut(dialect: Dialect, text: &[u8], seen: u64) -> Option<Mark>
     requires { AreSeen text.now seen }
@@ -417,9 +414,8 @@ pub struct SplitLines<'a> {
 
 impl<'a> Model for SplitLines<'a> {
     ghost use Rattle.std.specs.Prelude.{option_map, IfSome};
-    ghost use Rattle.lp_format.specs.format.Pieces.{Left};
-    ghost use Rattle.lp_split.specs.code.Ahead.{AreSeen};
-    ghost use Rattle.lp_split.specs.code.Rules.{rules_of};
+    ghost use Rattle.lp_format.specs.format.{Left};
+    ghost use Rattle.lp_split.specs.code.{AreSeen, rules_of};
 
     ghost Value = { Left };
 

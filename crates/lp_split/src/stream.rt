@@ -2,10 +2,8 @@
 
 ghost use Rattle.std.specs.Prelude.{◌≡◌, ◌++◌, ◌-◌, ◌≤◌, [], drop, length, vec_len, IsUtf8, MatchResult, OnOk, OnErr, Some};
 ghost use Rattle.std.specs.Borrow.{sem};
-ghost use Rattle.lp_format.specs.format.Dialects.{Crate};
-ghost use Rattle.lp_split.specs.code.Rules.{rules_of};
-ghost use Rattle.lp_split.specs.code.Streams.{FindsCut};
-ghost use Rattle.lp_format.specs.format.Pieces.{IsLastPiece};
+ghost use Rattle.lp_format.specs.format.{Crate, IsLastPiece};
+ghost use Rattle.lp_split.specs.code.{rules_of, FindsCut};
 
 use crate::split::{Dialect, Mark, Search, first_cut, search_on};
 use simdutf8::basic;
@@ -60,7 +58,7 @@ fn read_text(bytes: &[u8]) -> Result<&str, Utf8Error>
 pub struct LineStream {
     dialect: Dialect,
     buffer: Vec<u8>,
-    // Where the bytes begin that are held.
+    // Where the held bytes begin.
     start: usize,
     // What a search for a cut knows of them.
     known: Search,
@@ -68,8 +66,7 @@ pub struct LineStream {
 
 impl Model for LineStream {
     ghost use Rattle.std.specs.Prelude.{drop};
-    ghost use Rattle.lp_split.specs.code.Rules.{rules_of};
-    ghost use Rattle.lp_split.specs.code.Streams.{Held, IsHeldAt};
+    ghost use Rattle.lp_split.specs.code.{rules_of, Held, IsHeldAt};
 
     ghost Value = { Held };
 
@@ -105,6 +102,7 @@ impl LineStream {
     /// Takes the next part of the text.
     ///
     /// If memory was refused, nothing is lost, and the same part can be given again.
+    #[tactic(auto, using(crate::proofs::lemmas::stream::HeldTexts::held_longer))]
     pub fn push(&mut self, part: &[u8]) -> Result<(), AllocError>
         ensures dialect { self.new.dialect ≡ self.old.dialect }
         ensures ok { OnOk result (self.new.bytes ≡ self.old.bytes ++ part.now) }
@@ -167,7 +165,7 @@ impl LineStream {
         Some(self.take(cut))
     }
 
-    /// The same as text, or an error if the piece is not UTF-8. It is taken all the same, and the next ones are given.
+    /// The first piece that a newline ends, as text, or an error if it is not UTF-8. Such a piece is taken all the same.
     pub fn next_text(&mut self) -> Option<Result<&str, Utf8Error>>
         ensures* after { sem 𝓛 (EndsAsCutText self.entry result) }
     {
@@ -208,7 +206,7 @@ impl LineStream {
         self.dialect
     }
 
-    /// The same as text, or an error if it is not UTF-8. It is taken all the same.
+    /// The last piece as text, or an error if it is not UTF-8. Such a piece is taken all the same.
     pub fn finish_text(&mut self) -> Result<&str, Utf8Error>
         requires { IsLastPiece self.old.dialect self.old.bytes }
         ensures* after { sem 𝓛 (EndsAsLastText self.entry result) }

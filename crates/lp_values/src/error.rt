@@ -1,6 +1,8 @@
 //! What can be wrong with a line.
 
-ghost use Rattle.std.specs.Prelude.{◌≡◌};
+ghost use Rattle.std.specs.Prelude.{◌≡◌, Some};
+ghost use Rattle.lp_values.specs.code.Faults.{error_text};
+ghost use Rattle.lp_values.specs.declared.error.Error.TheVariants.{OutOfMemory};
 
 use std::alloc::{AllocError, AllocFailed};
 use std::fmt;
@@ -53,9 +55,6 @@ pub enum Error {
 }
 
 impl fmt::Display for Error {
-    ghost use Rattle.std.specs.Prelude.{Some};
-    ghost use Rattle.lp_values.specs.code.Faults.{error_text};
-
     ghost output = { λ e. Some (error_text e) };
 
     fn fmt<W: fmt::Write>(&self, f: &mut fmt::Formatter<W>) -> fmt::Result {
@@ -95,9 +94,6 @@ impl fmt::Display for Error {
 impl std::error::Error for Error {}
 
 impl From<AllocError> for Error {
-    ghost use Rattle.std.specs.Prelude.{◌≡◌};
-    ghost use Rattle.lp_values.specs.declared.error.Error.TheVariants.{OutOfMemory};
-
     ghost from_gives = { λ _ e. e ≡ OutOfMemory };
 
     fn from(_error: AllocError) -> Error {
@@ -106,9 +102,6 @@ impl From<AllocError> for Error {
 }
 
 impl<T: Drop> From<AllocFailed<T>> for Error {
-    ghost use Rattle.std.specs.Prelude.{◌≡◌};
-    ghost use Rattle.lp_values.specs.declared.error.Error.TheVariants.{OutOfMemory};
-
     ghost from_gives = { λ _ e. e ≡ OutOfMemory };
 
     fn from(_error: AllocFailed<T>) -> Error {

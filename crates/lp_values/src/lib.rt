@@ -13,7 +13,6 @@ pub mod shown;
 pub mod spelled;
 pub mod spelled_parts;
 mod tokens;
-pub mod trim;
 pub mod values;
 
 pub use error::{Error, ErrorKind, OutOfRange, Result};

@@ -1,8 +1,11 @@
 //! Numbers by their texts.
 
-ghost use Rattle.std.specs.Prelude.{◌≡◌, ◌≤◌, ◌<◌, ◌+◌, ◌==◌, if◌then◌else◌, IsCharBoundary, codes, length};
-ghost use Rattle.lp_format.specs.format.Values.{IsFloat, digits_len, exponent_len, float_len, fraction_len, integer_len};
-ghost use Rattle.lp_format.specs.format.Values.{number_len};
+ghost use Rattle.std.specs.Prelude.{◌≡◌, ◌≤◌, ◌<◌, ◌+◌, ◌==◌, if◌then◌else◌, IsCharBoundary, codes, length, IfSome, MatchOption, Some};
+ghost use Rattle.std.specs.Prelude.{nat_eq};
+ghost use Rattle.std.specs.Cmp.{on_equiv, on_per, partial_equiv_from_equiv};
+ghost use Rattle.std.specs.Cmp.Lexicographic.{nat_list_eq_equiv, pointwise};
+ghost use Rattle.lp_format.specs.format.{miss, reads, IsFloat, digits_len, exponent_len, float_len, fraction_len, integer_len, float};
+ghost use Rattle.lp_format.specs.format.{float_at, number_len};
 
 use crate::digits::digits_len;
 use std::fmt;
@@ -93,10 +96,7 @@ fn float_len(text: &str, whole: usize) -> usize
 }
 
 impl<'a> FloatText<'a> {
-    ghost use Rattle.std.specs.Prelude.{MatchOption, IfSome};
     ghost use Rattle.lp_values.specs.code.Texts.{literal_of};
-    ghost use Rattle.lp_format.specs.format.Readings.{miss, reads};
-    ghost use Rattle.lp_format.specs.format.Values.{float, float_at};
 
     /// A float of this text: `Some` exactly if the whole text is one.
     pub fn new(text: &'a str) -> Option<Self>
@@ -132,9 +132,6 @@ impl<'a> FloatText<'a> {
 }
 
 impl<'a> PartialEq for FloatText<'a> {
-    ghost use Rattle.std.specs.Prelude.{nat_eq};
-    ghost use Rattle.std.specs.Cmp.{on_per, partial_equiv_from_equiv};
-    ghost use Rattle.std.specs.Cmp.Lexicographic.{pointwise, nat_list_eq_equiv};
     ghost use Rattle.lp_values.specs.code.Texts.{literal_of};
 
     ghost eq = { λ x y. pointwise nat_eq (literal_of x) (literal_of y) };
@@ -147,15 +144,12 @@ impl<'a> PartialEq for FloatText<'a> {
 }
 
 impl<'a> Eq for FloatText<'a> {
-    ghost use Rattle.std.specs.Cmp.{on_equiv};
-    ghost use Rattle.std.specs.Cmp.Lexicographic.{nat_list_eq_equiv};
     ghost use Rattle.lp_values.specs.code.Texts.{literal_of};
 
     ghost laws = { on_equiv literal_of nat_list_eq_equiv };
 }
 
 impl<'a> fmt::Display for FloatText<'a> {
-    ghost use Rattle.std.specs.Prelude.{Some};
     ghost use Rattle.lp_values.specs.code.Texts.{literal_of};
 
     ghost output = { λ f. Some (literal_of f) };

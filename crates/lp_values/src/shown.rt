@@ -4,7 +4,8 @@ ghost use Rattle.std.specs.Prelude.{Some};
 ghost use Rattle.std.specs.Fmt.{DisplaysOnOk};
 ghost use Rattle.lp_format.specs.format.Escapes.{escaped};
 ghost use Rattle.lp_scan.specs.code.Tokens.{known_of};
-ghost use Rattle.lp_format.specs.code.Shown.{shown_escapes};
+ghost use Rattle.lp_format.specs.code.Shown.{shown_escapes, shown_value};
+ghost use Rattle.lp_values.specs.code.ReadValues.{value_of};
 
 use crate::FieldValue;
 use lp_scan::sets::TokenKind;
@@ -32,10 +33,6 @@ pub fn show_escaped<W: fmt::Write>(
 }
 
 impl<'a> fmt::Display for FieldValue<'a> {
-    ghost use Rattle.std.specs.Prelude.{Some};
-    ghost use Rattle.lp_values.specs.code.ReadValues.{value_of};
-    ghost use Rattle.lp_format.specs.code.Shown.{shown_value};
-
     ghost output = { λ v. Some (shown_value (value_of v)) };
 
     fn fmt<W: fmt::Write>(&self, f: &mut fmt::Formatter<W>) -> fmt::Result {

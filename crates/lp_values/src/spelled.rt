@@ -1,15 +1,14 @@
 //! Names, strings, values and faults as they are spelled in the input, with no memory.
 
-ghost use Rattle.std.specs.Prelude.{◌≡◌, ◌≤◌, ◌+◌, ◌++◌, true, drop, length, not, IfOk, IsOk};
-ghost use Rattle.std.specs.Str.{bytes_eq};
-ghost use Rattle.lp_format.specs.format.Bytes.{backslash, is_one_of};
+ghost use Rattle.std.specs.Prelude.{◌≡◌, ◌≤◌, ◌+◌, ◌++◌, true, false, drop, length, not, IfOk, IsOk, bytes_eq};
+ghost use Rattle.lp_format.specs.format.{backslash, is_one_of};
 ghost use Rattle.lp_values.specs.code.SpelledParts.{spelled_text, spelling_of};
 ghost use Rattle.lp_values.specs.code.Texts.{read_of};
 
 use crate::error::{Error, ErrorKind, OutOfRange};
 use crate::escaped::EscapedStr;
 use crate::literals::FloatText;
-use crate::tokens::{RawToken, stretch_at, unescaped};
+use crate::tokens::{RawToken, put_unescaped, stretch_at, unescaped};
 use std::alloc::{AllocError, Global};
 
 /// A name or a string as it is spelled in the input, with its escapes.
@@ -120,6 +119,29 @@ impl<'a> Spelled<'a> {
         }
         unescaped(alloc, token.kind, token.text, token.len)
     }
+}
+
+/// Puts the logical text of a spelling into the place of another text, unless memory for it is refused. Only a copy takes memory.
+///
+/// ```text
+/// cpu\ load  puts the copy  cpu load  in the place of  disk load
+/// ```
+#[inline(always)]
+pub fn put_text<'a>(alloc: Global, place: &mut EscapedStr<'a>, text: Spelled<'a>) -> bool
+    ensures text { result ≡ true → read_of place.new ≡ spelled_text text.entry }
+    ensures needs { result ≡ false → (spelled_text text.entry).is_single ≡ false }
+{
+    let token = text.token;
+    if !token.is_plain {
+        return put_unescaped(alloc, token.kind, token.text, token.len, place);
+    }
+    // A slice in the place of a slice is two words.
+    if let EscapedStr::SingleSlice(slice) = place {
+        *slice = token.text;
+    } else {
+        *place = EscapedStr::SingleSlice(token.text);
+    }
+    true
 }
 
 /// A value of a field as it is spelled in the input.

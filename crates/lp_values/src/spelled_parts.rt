@@ -1,12 +1,8 @@
 //! Reads names, values and timestamps as they are spelled, with no memory.
 
 ghost use Rattle.std.specs.Prelude.{◌≡◌, ◌≤◌, ◌<◌, false, true, length, slice_index, IfOk, IfSome};
-ghost use Rattle.lp_format.specs.format.Bytes.{letter_i, letter_u};
-ghost use Rattle.lp_format.specs.format.Lines.{timestamp};
-ghost use Rattle.lp_format.specs.format.Names.{name};
-ghost use Rattle.lp_format.specs.format.Readings.{◌otherwise◌};
-ghost use Rattle.lp_format.specs.format.Values.{boolean_at, digits_len, false_words, float_at, integer_at, integer_len, side_of};
-ghost use Rattle.lp_format.specs.format.Values.{string_at, true_words, unsigned_at, value};
+ghost use Rattle.lp_format.specs.format.{letter_i, letter_u, timestamp, name, ◌otherwise◌, boolean_at, digits_len, false_words, float_at};
+ghost use Rattle.lp_format.specs.format.{integer_at, integer_len, side_of, string_at, true_words, unsigned_at, value};
 ghost use Rattle.lp_values.specs.code.Outcomes.{kind_of, side};
 ghost use Rattle.lp_values.specs.code.SpelledParts.{GivesSpelled, GivesSpelledRead, spelled_text, spelled_value};
 
@@ -16,9 +12,9 @@ use crate::literals::{FloatText, integer_len};
 use crate::names::NameKind;
 use crate::spelled::{Spelled, SpelledFault, SpelledValue};
 use crate::tokens::take_token;
-use crate::trim::{strip_byte, trim_start_spaces};
 use crate::values::{begins_number, has_byte_at, longest_word};
 use lp_scan::sets::TokenKind;
+use lp_scan::trim::{strip_byte, trim_start_spaces};
 
 /// A part at the start of a text, and the rest; `None` if none is there.
 pub type Front<'a, T> = Result<Option<(T, &'a str)>, SpelledFault<'a>>;
@@ -138,7 +134,7 @@ fn string<'a>(text: &'a str) -> Front<'a, SpelledValue<'a>>
 }
 
 // A Boolean at the start of `text`, and the rest.
-#[inline(never)]
+#[inline(always)]
 fn boolean<'a>(text: &'a str) -> Front<'a, SpelledValue<'a>>
     ensures value { GivesSpelled spelled_value result (boolean_at true true_words text.now otherwise boolean_at false false_words text.now) }
     ensures less { IfOk result (λ o. IfSome o (λ p. length p.1.now < length text.now)) }

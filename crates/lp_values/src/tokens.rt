@@ -1,14 +1,11 @@
 //! Tokens: names and the texts between quotes. Where each ends, and its logical text.
 
 ghost use Rattle.std.specs.Prelude.{◌≡◌, ◌+◌, ◌-◌, ◌<◌, ◌≤◌, ◌==◌, ◌&&◌, ◌++◌, ◌∷◌, [], true, false, length, take, drop, slice_index};
-ghost use Rattle.std.specs.Prelude.{string_bytes, IsCharBoundary, IfOk, IsOk, OnOk};
-ghost use Rattle.std.specs.String.{string_capacity};
-ghost use Rattle.lp_format.specs.format.Bytes.{backslash, is_one_of};
-ghost use Rattle.lp_format.specs.format.Escapes.{EscapeScan, first_bare, without_escapes};
-ghost use Rattle.lp_scan.specs.code.Tokens.{stops_of, known_of, is_plain};
-ghost use Rattle.lp_scan.specs.code.Lanes.{IsRunAt};
+ghost use Rattle.std.specs.Prelude.{string_bytes, IsCharBoundary, IfOk, IsOk, OnOk, string_capacity};
+ghost use Rattle.lp_format.specs.format.{backslash, is_one_of, EscapeScan, first_bare, without_escapes, ends_in_backslash, is_shared};
+ghost use Rattle.lp_format.specs.format.{read_text};
+ghost use Rattle.lp_scan.specs.code.{stops_of, known_of, is_plain, IsRunAt};
 ghost use Rattle.lp_values.specs.code.RawTokens.{IsTold};
-ghost use Rattle.lp_format.specs.format.Names.{ends_in_backslash, is_shared, read_text};
 ghost use Rattle.lp_values.specs.code.Texts.{read_of};
 
 use crate::escaped::EscapedStr;
@@ -326,4 +323,30 @@ pub(crate) fn unescaped<'a>(
     }
     let text = copy(alloc, kind, text, len)?;
     Ok(EscapedStr::CopiedValue(text))
+}
+
+// Puts the logical text of `text`, which holds a backslash, into the place of another, unless memory for it is refused. The other
+// is let go first, so that its memory can serve again.
+//
+// It takes the parts of a token, and not the token: so no reader has to put a token together in memory.
+#[inline(never)]
+pub(crate) fn put_unescaped<'a>(
+    alloc: Global,
+    kind: TokenKind,
+    text: &'a str,
+    len: usize,
+    place: &mut EscapedStr<'a>,
+) -> bool
+    requires { IsTold (known_of kind) text.now len false }
+    ensures text { result ≡ true → read_of place.new ≡ read_text (known_of kind) text.now }
+    ensures needs { result ≡ false → is_shared (known_of kind) text.now ≡ false }
+{
+    *place = EscapedStr::SingleSlice("");
+    match unescaped(alloc, kind, text, len) {
+        Ok(text) => {
+            *place = text;
+            true
+        }
+        Err(_) => false,
+    }
 }

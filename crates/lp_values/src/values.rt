@@ -1,11 +1,10 @@
 //! Values of fields.
 
-ghost use Rattle.std.specs.Prelude.{◌≡◌, ◌≤◌, ◌<◌, ◌-◌, ◌==◌, ◌||◌, true, length, slice_index, if◌then◌else◌};
-ghost use Rattle.std.specs.Prelude.{IfOk, IfSome, IsOk, MatchOption};
+ghost use Rattle.std.specs.Prelude.{◌≡◌, ◌≤◌, ◌<◌, ◌-◌, ◌==◌, ◌||◌, true, length, slice_index, if◌then◌else◌, IfOk, IfSome, IsOk};
+ghost use Rattle.std.specs.Prelude.{MatchOption};
 ghost use Rattle.std.specs.Char.{is_ascii_digit};
-ghost use Rattle.lp_format.specs.format.Bytes.{minus};
+ghost use Rattle.lp_format.specs.format.{minus, word_len, true_words, false_words};
 ghost use Rattle.lp_format.specs.code.Light.{is_single_value};
-ghost use Rattle.lp_format.specs.format.Values.{word_len, true_words, false_words};
 ghost use Rattle.lp_values.specs.code.ReadValues.{is_same_variant, value_of};
 ghost use Rattle.lp_values.specs.code.SpelledParts.{spelled_value};
 
@@ -33,7 +32,7 @@ pub enum FieldValue<'a> {
 impl<'a> Default for FieldValue<'a> {
     ghost use Rattle.std.specs.Prelude.{◌≡◌, pos};
     ghost use Rattle.lp_values.specs.code.ReadValues.{value_of};
-    ghost use Rattle.lp_format.specs.format.Values.{integer};
+    ghost use Rattle.lp_format.specs.format.{integer};
 
     ghost is_default = { λ v. value_of v ≡ integer (pos 0) };
 
@@ -113,7 +112,7 @@ pub(crate) fn begins_number(bytes: &[u8]) -> bool
 }
 
 // Which Boolean the longest word at the start of `bytes` is for, and how many bytes that word takes.
-#[inline(always)]
+#[inline(never)]
 pub(crate) fn longest_word(bytes: &[u8]) -> Option<(bool, usize)>
     ensures value { MatchOption result ((word_len true_words bytes.now ≡ 0) × (word_len false_words bytes.now ≡ 0)) (λ word.
         (word_len true_words bytes.now ≡ if word.0 then word.1 else 0) × (word_len false_words bytes.now ≡ if word.0 then 0 else word.1)) }

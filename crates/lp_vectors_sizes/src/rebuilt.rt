@@ -3,7 +3,7 @@
 use crate::rows::{self, Row, assert_same, repeated};
 use influxdb_line_protocol::Dialect;
 use lp_rebuild::{DeviceFault, Kept, Source, read_all, rebuild_in, run_in};
-use lp_relay_core::{Numbering, part_ends, relay_numbered};
+use lp_relay_core::{Numbering, Settings, part_ends, relay};
 use lp_vectors_shared::fault::Fault;
 use std::alloc::{AllocError, Global};
 use std::process::Abort;
@@ -71,15 +71,12 @@ fn is_relayed_so(rt: &impl Abort, alloc: Global, text: &str, len: usize, wanted:
         let mut reader = Lines { left, len };
         let mut out = Kept::new(alloc);
         let mut err = Kept::new(alloc);
-        let answer = relay_numbered(
-            alloc,
+        let settings = Settings {
             dialect,
-            20_000_000,
+            limit: 20_000_000,
             numbering,
-            &mut reader,
-            &mut out,
-            &mut err,
-        );
+        };
+        let answer = relay(alloc, settings, &mut reader, &mut out, &mut err);
         assert!(rt; answer.is_ok(), "of {} bytes", text.len());
         assert_same(rt, out.as_slice(), lines.as_bytes());
         assert_same(rt, err.as_slice(), faults.as_bytes());
@@ -173,15 +170,11 @@ fn many_pieces_that_are_no_text_or_too_long_are_faults(rt: HostRuntime) -> Resul
     let mut reader = text.as_slice();
     let mut out = Kept::new(alloc);
     let mut err = Kept::new(alloc);
-    let answer = relay_numbered(
-        alloc,
-        Dialect::Crate,
-        6,
-        Numbering::Items,
-        &mut reader,
-        &mut out,
-        &mut err,
-    );
+    let settings = Settings {
+        limit: 6,
+        ..Settings::default()
+    };
+    let answer = relay(alloc, settings, &mut reader, &mut out, &mut err);
     assert!(rt; answer.is_ok());
     assert_same(&rt, out.as_slice(), lines.as_bytes());
     assert_same(&rt, err.as_slice(), faults.as_bytes());

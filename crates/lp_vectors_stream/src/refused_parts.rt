@@ -96,7 +96,7 @@ fn refused_at(
     Ok(Some(refused))
 }
 
-// The second part needs memory also where it ends a piece of which all bytes were let go: each is refused, at each row.
+// The second part needs memory also if it ends a piece of which all bytes were let go: each is refused, at each row.
 #[test]
 fn a_part_that_was_refused_is_given_again_where_pieces_have_a_greatest_length(
     rt: HostRuntime,

@@ -2,7 +2,7 @@
 
 use crate::wrote::{Ended, relayed, run_into, run_over};
 use lp_rebuild::{Reading, RunFault, Writing, run};
-use lp_relay_core::relay;
+use lp_relay_core::{Settings, relay};
 use lp_vectors_shared::drops::{Basin, Trickle};
 use std::alloc::{AllocError, Global};
 use std::cell::Cell;
@@ -158,7 +158,14 @@ fn run_with_stuck_faults(alloc: Global) -> (Option<RunFault>, Basin) {
 fn relay_with_stuck_faults(alloc: Global) -> (Option<RunFault>, Basin) {
     let mut reader = TEXT;
     let mut out = Basin::new(0);
-    let fault = relay(alloc, &mut reader, &mut out, &mut Writing::new(Stuck)).err();
+    let fault = relay(
+        alloc,
+        Settings::default(),
+        &mut reader,
+        &mut out,
+        &mut Writing::new(Stuck),
+    )
+    .err();
     (fault, out)
 }
 

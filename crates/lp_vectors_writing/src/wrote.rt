@@ -3,7 +3,7 @@
 
 use influxdb_line_protocol::Dialect;
 use lp_rebuild::{Kept, Rebuilt, RunFault, Source, run};
-use lp_relay_core::{Numbering, Relayed, relay, relay_in, relay_numbered, relay_within};
+use lp_relay_core::{Numbering, Relayed, Settings, relay};
 use lp_vectors_shared::drops::Basin;
 use std::alloc::Global;
 use std::process::Abort;
@@ -43,20 +43,22 @@ pub fn assert_same(rt: &impl Abort, bytes: &[u8], wanted: &[u8], place: usize) {
     assert_eq!(rt; bytes, wanted, "at {place}");
 }
 
-/// Relays what a source gives.
-pub fn relayed<R: Source>(alloc: Global, reader: &mut R) -> Wrote {
+// Relays what a source gives, by these settings.
+fn relayed_so<R: Source>(alloc: Global, settings: Settings, reader: &mut R) -> Wrote {
     let mut out = Kept::new(alloc);
     let mut err = Kept::new(alloc);
-    let answer = relay(alloc, reader, &mut out, &mut err);
+    let answer = relay(alloc, settings, reader, &mut out, &mut err);
     Wrote { answer, out, err }
+}
+
+/// Relays what a source gives, by the settings that are the default.
+pub fn relayed<R: Source>(alloc: Global, reader: &mut R) -> Wrote {
+    relayed_so(alloc, Settings::default(), reader)
 }
 
 /// The same, by the rules of a dialect.
 pub fn relayed_in<R: Source>(alloc: Global, dialect: Dialect, reader: &mut R) -> Wrote {
-    let mut out = Kept::new(alloc);
-    let mut err = Kept::new(alloc);
-    let answer = relay_in(alloc, dialect, reader, &mut out, &mut err);
-    Wrote { answer, out, err }
+    relayed_within(alloc, dialect, usize::MAX, reader)
 }
 
 /// The same, if a line has at most so many bytes.
@@ -66,10 +68,7 @@ pub fn relayed_within<R: Source>(
     limit: usize,
     reader: &mut R,
 ) -> Wrote {
-    let mut out = Kept::new(alloc);
-    let mut err = Kept::new(alloc);
-    let answer = relay_within(alloc, dialect, limit, reader, &mut out, &mut err);
-    Wrote { answer, out, err }
+    relayed_by(alloc, dialect, limit, Numbering::Items, reader)
 }
 
 /// The same, if the fault lines name what `numbering` says.
@@ -80,10 +79,12 @@ pub fn relayed_by<R: Source>(
     numbering: Numbering,
     reader: &mut R,
 ) -> Wrote {
-    let mut out = Kept::new(alloc);
-    let mut err = Kept::new(alloc);
-    let answer = relay_numbered(alloc, dialect, limit, numbering, reader, &mut out, &mut err);
-    Wrote { answer, out, err }
+    let settings = Settings {
+        dialect,
+        limit,
+        numbering,
+    };
+    relayed_so(alloc, settings, reader)
 }
 
 /// With which fault it ended, if any, and what the basins hold.
@@ -120,7 +121,11 @@ pub fn relayed_into<R: Source>(
 ) -> Ended {
     let mut out = Basin::new(out_at);
     let mut err = Basin::new(err_at);
-    let fault = relay_in(alloc, dialect, reader, &mut out, &mut err).err();
+    let settings = Settings {
+        dialect,
+        ..Settings::default()
+    };
+    let fault = relay(alloc, settings, reader, &mut out, &mut err).err();
     Ended { fault, out, err }
 }
 

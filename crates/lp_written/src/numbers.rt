@@ -1,18 +1,15 @@
 //! Values at the start of a text, if they are as the builder writes them.
 
 ghost use Rattle.std.specs.Prelude.{◌≡◌, ◌≢◌, ◌<◌, IsCharBoundary, codes, drop, length, slice_index, take};
-ghost use Rattle.lp_format.specs.format.Bytes.{letter_i, letter_u, quote};
-ghost use Rattle.lp_format.specs.format.Lines.{byte};
-ghost use Rattle.lp_format.specs.format.Readings.{miss};
-ghost use Rattle.lp_format.specs.format.Values.{IsSigned, integer_len};
-ghost use Rattle.lp_written.specs.code.AsWritten.{EndsValue, IsOnlyRest, IsWrittenValue};
-ghost use Rattle.lp_written.specs.code.AsWritten.{has_extra_zero, is_written_integer, is_written_unsigned};
+ghost use Rattle.lp_format.specs.format.{letter_i, letter_u, quote, byte, miss, IsSigned, integer_len};
+ghost use Rattle.lp_written.specs.code.AsWritten.{EndsValue, IsOnlyRest, IsWrittenValue, has_extra_zero, is_written_integer};
+ghost use Rattle.lp_written.specs.code.AsWritten.{is_written_unsigned};
 
 use crate::tokens::after_string;
+use lp_scan::trim::strip_byte;
 use lp_values::FloatText;
 use lp_values::digits::{integer_value, unsigned_value};
 use lp_values::literals::integer_len;
-use lp_values::trim::strip_byte;
 use lp_values::values::has_byte_at;
 
 // A shorter number, with `-` or not, is in the range of an i64.
@@ -33,13 +30,8 @@ pub(crate) fn is_written_integer(number: &str, text: &str) -> bool
     requires front { number.now ≡ take (length number.now) text.now }
     ensures { result ≡ is_written_integer number.now }
 {
-    if has_extra_zero(number.as_bytes()) {
-        return false;
-    }
-    if number.len() < LEAST_IN_DOUBT {
-        return true;
-    }
-    integer_value(number, text).is_some()
+    !has_extra_zero(number.as_bytes())
+        && (number.len() < LEAST_IN_DOUBT || integer_value(number, text).is_some())
 }
 
 // Whether the builder writes `number`, at the start of `text`, so as an unsigned number.
@@ -50,13 +42,7 @@ fn is_written_unsigned(number: &str, text: &str) -> bool
     ensures { result ≡ is_written_unsigned number.now }
 {
     let bytes = number.as_bytes();
-    if has_byte_at(bytes, 0, b'-') {
-        return false;
-    }
-    if has_extra_zero(bytes) {
-        return false;
-    }
-    unsigned_value(number, text).is_some()
+    !has_byte_at(bytes, 0, b'-') && !has_extra_zero(bytes) && unsigned_value(number, text).is_some()
 }
 
 // What follows the longest float at the start of `text`, where an integer takes `whole` bytes, and no mark of it follows.
@@ -68,13 +54,12 @@ fn after_float(text: &str, whole: usize) -> Option<&str>
     requires no_u { byte letter_u (drop whole text.now) ≡ miss }
     ensures { IsOnlyRest (IsWrittenValue text.now) EndsValue result }
 {
-    let Some((_, rest)) = FloatText::front(text, whole) else {
-        return None;
-    };
+    let (_, rest) = FloatText::front(text, whole)?;
     Some(rest)
 }
 
 // What follows a number at the start of `text`, where an integer takes `whole` bytes.
+#[tactic(auto, using(crate::proofs::lemmas::parts::WrittenNumbers::signed_number))]
 #[inline(always)]
 fn after_number(text: &str, whole: usize) -> Option<&str>
     requires whole { whole ≡ integer_len text.now }

@@ -1,17 +1,15 @@
 //! Names and strings as the builder spells them, at the start of a text.
 
 ghost use Rattle.std.specs.Prelude.{◌≡◌, ◌<◌, ◌≤◌, ℕ, length, not, slice_index, true};
-ghost use Rattle.lp_scan.specs.code.Lanes.{IsRunAt};
-ghost use Rattle.lp_scan.specs.code.Tokens.{is_mark, known_of, stops_of};
-ghost use Rattle.lp_written.specs.code.AsWritten.{written_len};
-ghost use Rattle.lp_format.specs.format.Readings.{reads};
+ghost use Rattle.lp_scan.specs.code.{IsRunAt, is_mark, known_of, stops_of};
+ghost use Rattle.lp_written.specs.code.AsWritten.{written_len, EndsName, IsOnlyRest, IsWrittenName, IsWrittenString, is_admitted_spelling};
+ghost use Rattle.lp_format.specs.format.{reads};
 ghost use Rattle.lp_values.specs.code.Outcomes.{kind_of};
-ghost use Rattle.lp_written.specs.code.AsWritten.{EndsName, IsOnlyRest, IsWrittenName, IsWrittenString, is_admitted_spelling};
 
 use lp_scan::lanes::{LANES, unmarked_run};
 use lp_scan::sets::TokenKind;
+use lp_scan::trim::strip_byte;
 use lp_values::names::NameKind;
-use lp_values::trim::strip_byte;
 
 // The end of the run of bytes from `at` on that neither end a token nor get a backslash in it, one by one.
 #[inline(always)]
@@ -87,9 +85,7 @@ pub(crate) fn after_name(kind: NameKind, text: &str) -> Option<&str>
 pub(crate) fn after_string(text: &str) -> Option<&str>
     ensures { IsOnlyRest (IsWrittenString text.now) (λ rest. Unit) result }
 {
-    let Some(opened) = strip_byte(b'"', text) else {
-        return None;
-    };
+    let opened = strip_byte(b'"', text)?;
     let len = written_len(TokenKind::String, opened.as_bytes());
     strip_byte(b'"', &opened[len..])
 }

@@ -1,28 +1,23 @@
 //! Lines that are as the builder writes them.
 
 ghost use Rattle.std.specs.Prelude.{◌≡◌, ◌↔◌, true};
-ghost use Rattle.lp_format.specs.format.Names.{a_tag_value};
-ghost use Rattle.lp_format.specs.format.Points.{IsAsWritten};
+ghost use Rattle.lp_format.specs.format.{a_tag_value, IsAsWritten};
 ghost use Rattle.lp_written.specs.code.AsWritten.{AreWrittenFields, EndsName, EndsValue, IsOnlyRest, IsWrittenAfterField};
 ghost use Rattle.lp_written.specs.code.AsWritten.{IsWrittenAfterName, IsWrittenField, IsWrittenTag, IsWrittenTimestamp};
 
 use crate::numbers::{after_value, is_written_integer};
 use crate::tokens::after_name;
+use lp_scan::trim::strip_byte;
 use lp_values::literals::integer_len;
 use lp_values::names::NameKind;
-use lp_values::trim::strip_byte;
 
 // What follows the tag at the start of `text`, if that is as the builder writes it.
 #[inline(always)]
 fn after_tag(text: &str) -> Option<&str>
     ensures { IsOnlyRest (IsWrittenTag text.now) (EndsName a_tag_value) result }
 {
-    let Some(key_end) = after_name(NameKind::TagKey, text) else {
-        return None;
-    };
-    let Some(value) = strip_byte(b'=', key_end) else {
-        return None;
-    };
+    let key_end = after_name(NameKind::TagKey, text)?;
+    let value = strip_byte(b'=', key_end)?;
     after_name(NameKind::TagValue, value)
 }
 
@@ -31,12 +26,8 @@ fn after_tag(text: &str) -> Option<&str>
 fn after_field(text: &str) -> Option<&str>
     ensures { IsOnlyRest (IsWrittenField text.now) EndsValue result }
 {
-    let Some(key_end) = after_name(NameKind::FieldKey, text) else {
-        return None;
-    };
-    let Some(value) = strip_byte(b'=', key_end) else {
-        return None;
-    };
+    let key_end = after_name(NameKind::FieldKey, text)?;
+    let value = strip_byte(b'=', key_end)?;
     after_value(value)
 }
 
@@ -62,6 +53,7 @@ fn is_timestamp(text: &str) -> bool
 }
 
 // Whether the builder writes `text` after a field.
+#[tactic(auto, using(crate::proofs::lemmas::parts::WrittenLines::field_less))]
 #[inline(always)]
 fn is_after_field(text: &str) -> bool
     ensures { (result ≡ true) ↔ IsWrittenAfterField text.now }
@@ -88,6 +80,7 @@ fn are_fields(text: &str) -> bool
 }
 
 // Whether the builder writes `text` after a measurement.
+#[tactic(auto, using(crate::proofs::lemmas::parts::WrittenLines::tag_less))]
 #[inline(always)]
 fn is_after_name(text: &str) -> bool
     ensures { (result ≡ true) ↔ IsWrittenAfterName text.now }

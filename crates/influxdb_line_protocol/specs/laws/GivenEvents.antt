@@ -8,8 +8,7 @@ use Rattle.lp_events.specs.declared.pull.ParseEvents.{ParseEvents}
 
 -- Up to any call, the events that came, and after them those that are left, were left at the start.
 abbrev pub EventsSoFar : Type 0
-EventsSoFar =
-    (start reader : ParseEvents) (came : List given.Event) (others : List Event)
+EventsSoFar = (start reader : ParseEvents) (came : List given.Event) (others : List Event)
     → Yields GivesEvent start came reader → HasEventsLeft reader others → HasEventsLeft start (map told came ++ others)
 
 -- Up to the call that gives `None`, the events that came are all that were left at the start.

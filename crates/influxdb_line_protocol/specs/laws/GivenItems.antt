@@ -1,15 +1,10 @@
 -- The items that calls of `next` on a `ParseLines` give, one after another.
-use Rattle.std.specs.Prelude.{ℕ, ◌==◌, if◌then◌else◌, List, [], ◌∷◌, ◌++◌, length, Some, Result, Ok}
+use Rattle.std.specs.Prelude.{ℕ, ◌==◌, if◌then◌else◌, List, [], ◌∷◌, ◌++◌, length, Some, Result, Ok, flat_map}
 use Rattle.std.specs.Iterator.{Drains, Yields}
-use Rattle.std.specs.List.{flat_map}
-use Rattle.lp_format.specs.format.Dialects.{Dialect}
+use Rattle.lp_format.specs.format.{Dialect, Fault, trimmed, Left, PiecesLeft, Line, HasAnswers}
+use Rattle.lp_format.specs.format.Pieces.{Pieces}
 use Rattle.lp_values.specs.declared.error.Error.{Error}
 use Rattle.lp_lines.specs.declared.parsed.ParsedLine.{ParsedLine}
-use Rattle.lp_format.specs.format.Readings.{Fault}
-use Rattle.lp_format.specs.format.Trimming.{trimmed}
-use Rattle.lp_format.specs.format.Pieces.{Left, Pieces, PiecesLeft}
-use Rattle.lp_format.specs.format.Lines.{Line}
-use Rattle.lp_format.specs.format.Items.{HasAnswers}
 use Rattle.lp_lines.specs.code.Parsed.{Answers, IsReadLine}
 use Rattle.lp_lines.specs.code.ParseSteps.{GivesItem, IsItemOf}
 
@@ -36,22 +31,19 @@ AreAnswers items answers = ⊥
 -- From the first call for a text to the one that gives `None`, the items are those of its pieces, trimmed: one for each
 -- piece of which something is left, in order.
 abbrev pub ItemsAreOfPieces : Type 0
-ItemsAreOfPieces =
-    (dialect : Dialect) (text : List ℕ) (pieces : List (List ℕ)) (items : List (Result ParsedLine Error))
+ItemsAreOfPieces = (dialect : Dialect) (text : List ℕ) (pieces : List (List ℕ)) (items : List (Result ParsedLine Error))
     → Pieces dialect text pieces → Drains GivesItem (record { dialect = dialect; text = Some text }) items
     → AreItemsOf dialect (trimmed_lines pieces) items
 
 -- So they are the answers for the text, but `OutOfMemory` may be in the place of each.
 abbrev pub ItemsAreAnswers : Type 0
-ItemsAreAnswers =
-    (dialect : Dialect) (text : List ℕ) (answers : List (Result Line Fault)) (items : List (Result ParsedLine Error))
+ItemsAreAnswers = (dialect : Dialect) (text : List ℕ) (answers : List (Result Line Fault)) (items : List (Result ParsedLine Error))
     → HasAnswers dialect text answers → Drains GivesItem (record { dialect = dialect; text = Some text }) items
     → AreAnswers items answers
 
 -- Up to any call, the items are those of the pieces before the ones that are left.
 abbrev pub ItemsSoFar : Type 0
-ItemsSoFar =
-    (dialect : Dialect) (text : List ℕ) (items : List (Result ParsedLine Error)) (left : Left) (others : List (List ℕ))
+ItemsSoFar = (dialect : Dialect) (text : List ℕ) (items : List (Result ParsedLine Error)) (left : Left) (others : List (List ℕ))
     → Yields GivesItem (record { dialect = dialect; text = Some text }) items left → PiecesLeft left others
     → (front : List (List ℕ)) × Pieces dialect text (front ++ others) × AreItemsOf dialect (trimmed_lines front) items
 

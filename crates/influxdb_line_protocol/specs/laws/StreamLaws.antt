@@ -1,13 +1,8 @@
 -- What the pieces that a stream gives are of all that was pushed.
-use Rattle.std.specs.Prelude.{◌≡◌, ℕ, List, [], ◌∷◌, ◌++◌, Some, ◌↔◌, Result}
-use Rattle.std.specs.Str.{IsUtf8}
-use Rattle.lp_format.specs.format.Dialects.{Dialect}
-use Rattle.lp_format.specs.format.Bytes.{newline}
-use Rattle.lp_format.specs.format.Pieces.{IsCutPiece, IsLastPiece, IsFirstCut, Pieces}
-use Rattle.lp_format.specs.format.Readings.{Fault}
-use Rattle.lp_format.specs.format.Lines.{Line}
-use Rattle.lp_format.specs.format.Items.{HasAnswers}
-use Rattle.lp_split.specs.code.Streams.{Held, TakesPiece}
+use Rattle.std.specs.Prelude.{◌≡◌, ℕ, List, [], ◌∷◌, ◌++◌, Some, ◌↔◌, Result, IsUtf8}
+use Rattle.lp_format.specs.format.{Dialect, newline, IsCutPiece, IsLastPiece, IsFirstCut, Fault, Line, HasAnswers}
+use Rattle.lp_format.specs.format.Pieces.{Pieces}
+use Rattle.lp_split.specs.code.{Held, TakesPiece}
 
 -- The first cut of a text is the first cut of each text that begins with it.
 abbrev pub FrontsKeepTheirCuts : Type 0
@@ -17,8 +12,7 @@ FrontsKeepTheirCuts =
 -- Whatever comes after what a stream holds, the piece that was taken is the first, and the others are those of what it
 -- holds then.
 abbrev pub TakenIsFirst : Type 0
-TakenIsFirst =
-    (before after : Held) (piece t : List ℕ) (others : List (List ℕ)) → TakesPiece before piece after
+TakenIsFirst = (before after : Held) (piece t : List ℕ) (others : List (List ℕ)) → TakesPiece before piece after
     → Pieces before.dialect (after.bytes ++ t) others → Pieces before.dialect (before.bytes ++ t) (piece ∷ others)
 
 -- the calls on a stream from its start: the bytes that were pushed, the pieces that were given, and what it holds
@@ -32,21 +26,18 @@ pub data Run (dialect : Dialect) : List ℕ → List (List ℕ) → List ℕ →
 
 -- Whatever comes then, the pieces that were given, and after them those of what is held and comes, are the pieces of all.
 abbrev pub RunsGivePieces : Type 0
-RunsGivePieces =
-    (dialect : Dialect) (given : List ℕ) (pieces : List (List ℕ)) (held t : List ℕ) (others : List (List ℕ))
+RunsGivePieces = (dialect : Dialect) (given : List ℕ) (pieces : List (List ℕ)) (held t : List ℕ) (others : List (List ℕ))
     → Run dialect given pieces held → Pieces dialect (held ++ t) others → Pieces dialect (given ++ t) (pieces ++ others)
 
 -- At the end, what is held is the last of them.
 abbrev pub RunsEnd : Type 0
-RunsEnd =
-    (dialect : Dialect) (given : List ℕ) (pieces : List (List ℕ)) (held : List ℕ)
+RunsEnd = (dialect : Dialect) (given : List ℕ) (pieces : List (List ℕ)) (held : List ℕ)
     → Run dialect given pieces held → IsLastPiece dialect held → Pieces dialect given (pieces ++ held ∷ [])
 
 -- the answers of each of these texts alone, joined
 abbrev pub HaveAnswers : Dialect → List (List ℕ) → List (Result Line Fault) → Type 0
 HaveAnswers dialect [] answers = answers ≡ []
-HaveAnswers dialect (text ∷ texts) answers =
-    (first others : List (Result Line Fault))
+HaveAnswers dialect (text ∷ texts) answers = (first others : List (Result Line Fault))
     × HasAnswers dialect text first × HaveAnswers dialect texts others × (answers ≡ first ++ others)
 
 -- Each piece that a stream gave is read alone as it is read in all. So the answers of these pieces, and after them those of
@@ -59,8 +50,7 @@ StreamsGiveAnswers =
 
 -- So at the end, the answers of the pieces, of which what is held is the last, are those of all.
 abbrev pub StreamsAnswerAll : Type 0
-StreamsAnswerAll =
-    (dialect : Dialect) (given : List ℕ) (pieces : List (List ℕ)) (held : List ℕ) (answers : List (Result Line Fault))
+StreamsAnswerAll = (dialect : Dialect) (given : List ℕ) (pieces : List (List ℕ)) (held : List ℕ) (answers : List (Result Line Fault))
     → Run dialect given pieces held → HaveAnswers dialect (pieces ++ held ∷ []) answers → HasAnswers dialect given answers
 
 -- Bytes are UTF-8 exactly if those before a newline are, and those after it.

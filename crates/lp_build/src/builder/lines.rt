@@ -1,18 +1,15 @@
 //! Parsed lines that are written again.
 
-ghost use Rattle.std.specs.Prelude.{◌≡◌, ℕ, ◌+◌, ◌<◌, ◌≤◌, ◌^◌, ◌∷◌, ◌++◌, length, not, true, IfSome};
-ghost use Rattle.std.specs.Option.{SomeIff, option_map};
-ghost use Rattle.std.specs.List.{AllByRecursion, flat_map, list_all};
+ghost use Rattle.std.specs.Prelude.{◌≡◌, ℕ, ◌+◌, ◌<◌, ◌≤◌, ◌^◌, ◌∷◌, ◌++◌, length, not, true, IfSome, SomeIff, option_map, flat_map};
+ghost use Rattle.std.specs.List.{AllByRecursion, list_all};
 ghost use Rattle.smallvec.specs.SmallVec.{small_vec_len};
-ghost use Rattle.lp_format.specs.format.Bytes.{is_one_of, space};
+ghost use Rattle.lp_format.specs.format.{is_one_of, space, built, built_timestamp, built_value, field_text, is_admitted_field};
+ghost use Rattle.lp_format.specs.format.{is_admitted_name, is_admitted_point, is_admitted_tag, never_in, float};
 ghost use Rattle.lp_values.specs.code.Outcomes.{kind_of};
 ghost use Rattle.lp_lines.specs.code.Parsed.{parsed_point};
-ghost use Rattle.lp_format.specs.format.Points.{built, built_timestamp, built_value, field_text, is_admitted_field};
-ghost use Rattle.lp_format.specs.format.Points.{is_admitted_name, is_admitted_point, is_admitted_tag, never_in};
-ghost use Rattle.lp_format.specs.format.Values.{float};
 ghost use Rattle.lp_values.specs.code.Texts.{literal_of, text_of};
-ghost use Rattle.lp_build.specs.code.WrittenAgain.{ArePlainParts, IsPlainField, IsPlainTag, IsPlainValue, fields_text};
-ghost use Rattle.lp_build.specs.code.WrittenAgain.{parts_text, point_field, point_tag, tag_text, value_text};
+ghost use Rattle.lp_build.specs.code.WrittenAgain.{ArePlainParts, IsPlainField, IsPlainTag, IsPlainValue, fields_text, parts_text};
+ghost use Rattle.lp_build.specs.code.WrittenAgain.{point_field, point_tag, tag_text, value_text};
 ghost use Rattle.lp_build.specs.code.Marks.{listed};
 ghost use Rattle.lp_build.specs.code.Built.{Writes, buffer_of};
 
@@ -20,7 +17,8 @@ use super::marks::{Marks, is_free_of};
 use super::texts::{Extent, measure, put_escaped};
 use super::values::put_string;
 use super::{
-    BeforeMeasurement, BufMut, FieldValue, LineProtocolBuilder, Refused, put_field, put_tag,
+    BeforeMeasurement, BufMut, FieldValue, LineProtocolBuilder, Refused, measure_tag, put_field,
+    put_tag,
 };
 use lp_lines::ParsedLine;
 use lp_lines::parsed::tags_in;
@@ -58,14 +56,6 @@ fn never_in(kind: NameKind) -> Marks
     }
 }
 
-// Whether a name of this kind may hold each of the bytes.
-#[inline(always)]
-fn may_hold_all(kind: NameKind, bytes: &[u8]) -> bool
-    ensures { result ≡ list_all (λ b. not (is_one_of (never_in (kind_of kind)) b)) bytes.now }
-{
-    is_free_of(never_in(kind), bytes)
-}
-
 // Whether the name is admitted as one of this kind.
 #[tactic(auto, unfolding(lp_format::specs::format::Points::is_admitted_name))]
 fn is_admitted_name(kind: NameKind, name: &EscapedStr<'_>) -> bool
@@ -76,7 +66,7 @@ fn is_admitted_name(kind: NameKind, name: &EscapedStr<'_>) -> bool
         return false;
     }
     let begins_comment = matches!(kind, NameKind::Measurement) && bytes[0] == b'#';
-    may_hold_all(kind, bytes) && !begins_comment
+    is_free_of(never_in(kind), bytes) && !begins_comment
 }
 
 // Whether the key and the value of each tag are admitted.
@@ -122,13 +112,7 @@ impl FieldValue for ReadValue<'_, '_> {
     ghost text = { λ v. value_text v.value.now };
 
     fn fmt_len(&self) -> Option<usize> {
-        match self.value {
-            values::FieldValue::I64(value) => value.fmt_len(),
-            values::FieldValue::U64(value) => value.fmt_len(),
-            values::FieldValue::F64(value) => value.fmt_len(),
-            values::FieldValue::String(value) => value.as_str().fmt_len(),
-            values::FieldValue::Boolean(value) => value.fmt_len(),
-        }
+        Some(measure_value(self.value)?.len)
     }
 
     fn fmt<B: BufMut>(&self, buf: &mut B) {
@@ -144,19 +128,6 @@ impl FieldValue for ReadValue<'_, '_> {
     }
 }
 
-// The length of a tag with the comma before it, if a `usize` holds it, and whether it gets no backslash.
-fn measure_tag(tag: &(EscapedStr<'_>, EscapedStr<'_>)) -> Option<Extent>
-    ensures len { SomeIff (option_map (λ m. m.len) result) (length (tag_text tag.now) < 2 ^ 64) (length (tag_text tag.now)) }
-    ensures plain { IfSome result (λ m. m.is_plain ≡ true → IsPlainTag tag.now) }
-{
-    let key = measure(TokenKind::TagKey, tag.0.as_str().as_bytes());
-    let value = measure(TokenKind::TagValue, tag.1.as_str().as_bytes());
-    Some(Extent {
-        len: key.len.checked_add(value.len)?.checked_add(2)?,
-        is_plain: key.is_plain && value.is_plain,
-    })
-}
-
 // The length of the tags, each with its comma, if a `usize` holds it, and whether none gets a backslash.
 fn measure_tags(tags: &[(EscapedStr<'_>, EscapedStr<'_>)]) -> Option<Extent>
     ensures len { let text = flat_map tag_text tags.now in
@@ -166,7 +137,7 @@ fn measure_tags(tags: &[(EscapedStr<'_>, EscapedStr<'_>)]) -> Option<Extent>
     let mut len = 0usize;
     let mut is_plain = true;
     for tag in tags {
-        let one = measure_tag(tag)?;
+        let one = measure_tag(tag.0.as_str().as_bytes(), tag.1.as_str().as_bytes())?;
         len = len.checked_add(one.len)?;
         is_plain &= one.is_plain;
     }

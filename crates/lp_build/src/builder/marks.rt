@@ -25,68 +25,27 @@ pub(crate) fn is_mark(marks: Marks, byte: u8) -> bool
     (byte == marks.first) | (byte == marks.second) | (byte == marks.third) | (byte == marks.fourth)
 }
 
-// The mask of the marks among the 16 bytes from `at` on.
+// The mask of the marks among the `N` bytes from `at` on.
 #[inline(always)]
-fn mask_of_16(marks: Marks, text: &[u8], at: usize) -> u64
-    requires { at + 16 ≤ length text.now }
-    ensures { result ≡ mask_of (is_one_of (listed marks)) text.now at 16 }
+fn mask_of<const N: usize>(marks: Marks, text: &[u8], at: usize) -> u64
+    requires few { N ≤ 64 }
+    requires room { at + N ≤ length text.now }
+    ensures { result ≡ mask_of (is_one_of (listed marks)) text.now at N }
 {
-    let bytes = u8x16::from_slice(&text[at..]);
-    let found = (bytes.simd_eq(u8x16::splat(marks.first))
-        | bytes.simd_eq(u8x16::splat(marks.second)))
-        | (bytes.simd_eq(u8x16::splat(marks.third)) | bytes.simd_eq(u8x16::splat(marks.fourth)));
+    let bytes = Simd::<u8, N>::from_slice(&text[at..]);
+    let found = (bytes.simd_eq(Simd::splat(marks.first)) | bytes.simd_eq(Simd::splat(marks.second)))
+        | (bytes.simd_eq(Simd::splat(marks.third)) | bytes.simd_eq(Simd::splat(marks.fourth)));
     found.to_bitmask()
 }
 
-// The same of 8 bytes.
+// How many of the `N` bytes from `at` on come before the first mark.
 #[inline(always)]
-fn mask_of_8(marks: Marks, text: &[u8], at: usize) -> u64
-    requires { at + 8 ≤ length text.now }
-    ensures { result ≡ mask_of (is_one_of (listed marks)) text.now at 8 }
+fn run_of<const N: usize>(marks: Marks, text: &[u8], at: usize) -> usize
+    requires few { N ≤ 64 }
+    requires room { at + N ≤ length text.now }
+    ensures { ComeBefore (is_one_of (listed marks)) text.now at N result }
 {
-    let bytes = u8x8::from_slice(&text[at..]);
-    let found = (bytes.simd_eq(u8x8::splat(marks.first)) | bytes.simd_eq(u8x8::splat(marks.second)))
-        | (bytes.simd_eq(u8x8::splat(marks.third)) | bytes.simd_eq(u8x8::splat(marks.fourth)));
-    found.to_bitmask()
-}
-
-// The same of 4 bytes.
-#[inline(always)]
-fn mask_of_4(marks: Marks, text: &[u8], at: usize) -> u64
-    requires { at + 4 ≤ length text.now }
-    ensures { result ≡ mask_of (is_one_of (listed marks)) text.now at 4 }
-{
-    let bytes = u8x4::from_slice(&text[at..]);
-    let found = (bytes.simd_eq(u8x4::splat(marks.first)) | bytes.simd_eq(u8x4::splat(marks.second)))
-        | (bytes.simd_eq(u8x4::splat(marks.third)) | bytes.simd_eq(u8x4::splat(marks.fourth)));
-    found.to_bitmask()
-}
-
-// How many of the 16 bytes from `at` on come before the first mark.
-#[inline(always)]
-fn run_of_16(marks: Marks, text: &[u8], at: usize) -> usize
-    requires { at + 16 ≤ length text.now }
-    ensures { ComeBefore (is_one_of (listed marks)) text.now at 16 result }
-{
-    first_set(mask_of_16(marks, text, at), 16)
-}
-
-// How many of the 8 bytes from `at` on come before the first mark.
-#[inline(always)]
-fn run_of_8(marks: Marks, text: &[u8], at: usize) -> usize
-    requires { at + 8 ≤ length text.now }
-    ensures { ComeBefore (is_one_of (listed marks)) text.now at 8 result }
-{
-    first_set(mask_of_8(marks, text, at), 8)
-}
-
-// How many of the 4 bytes from `at` on come before the first mark.
-#[inline(always)]
-fn run_of_4(marks: Marks, text: &[u8], at: usize) -> usize
-    requires { at + 4 ≤ length text.now }
-    ensures { ComeBefore (is_one_of (listed marks)) text.now at 4 result }
-{
-    first_set(mask_of_4(marks, text, at), 4)
+    first_set(mask_of::<N>(marks, text, at), N)
 }
 
 // How many bytes of the text come before the first mark, one by one.
@@ -101,28 +60,32 @@ fn walked_before_first(marks: Marks, text: &[u8]) -> usize
     at
 }
 
-// How many bytes of a text of less than 16 come before the first mark. Two loads that overlap cover it.
+// How many bytes of a text of `N` to twice as many come before the first mark. Two loads that overlap cover it.
+#[inline(always)]
+fn before_first_of_two<const N: usize>(marks: Marks, text: &[u8]) -> usize
+    requires few { N ≤ 64 }
+    requires least { N ≤ length text.now }
+    requires most { length text.now ≤ N + N }
+    ensures { ComeBefore (is_one_of (listed marks)) text.now 0 (length text.now) result }
+{
+    let run = run_of::<N>(marks, text, 0);
+    if run < N {
+        return run;
+    }
+    text.len() - N + run_of::<N>(marks, text, text.len() - N)
+}
+
+// How many bytes of a text of less than 16 come before the first mark.
 #[inline(always)]
 fn short_before_first(marks: Marks, text: &[u8]) -> usize
     requires { length text.now < 16 }
     ensures { ComeBefore (is_one_of (listed marks)) text.now 0 (length text.now) result }
 {
-    let len = text.len();
-    if len >= 8 {
-        let run = run_of_8(marks, text, 0);
-        return if run < 8 {
-            run
-        } else {
-            len - 8 + run_of_8(marks, text, len - 8)
-        };
+    if text.len() >= 8 {
+        return before_first_of_two::<8>(marks, text);
     }
-    if len >= 4 {
-        let run = run_of_4(marks, text, 0);
-        return if run < 4 {
-            run
-        } else {
-            len - 4 + run_of_4(marks, text, len - 4)
-        };
+    if text.len() >= 4 {
+        return before_first_of_two::<4>(marks, text);
     }
     walked_before_first(marks, text)
 }
@@ -138,13 +101,13 @@ pub(crate) fn before_first(marks: Marks, text: &[u8]) -> usize
     }
     let mut at = 0;
     while len - at > 16 {
-        let run = run_of_16(marks, text, at);
+        let run = run_of::<16>(marks, text, at);
         if run < 16 {
             return at + run;
         }
         at += 16;
     }
-    len - 16 + run_of_16(marks, text, len - 16)
+    len - 16 + run_of::<16>(marks, text, len - 16)
 }
 
 // Whether the text holds no mark.
@@ -163,20 +126,29 @@ fn walked_count(marks: Marks, text: &[u8]) -> usize
     text.iter().filter(|byte| is_mark(marks, **byte)).count()
 }
 
-// How many bytes of a text of less than 16 are marks. Of the second of two loads that overlap only what is new counts.
+// How many bytes of a text of `N` to twice as many are marks. Of the second of two loads that overlap only what is new counts.
+#[inline(always)]
+fn count_of_two<const N: usize>(marks: Marks, text: &[u8]) -> usize
+    requires few { N ≤ 32 }
+    requires least { N ≤ length text.now }
+    requires most { length text.now < N + N }
+    ensures { result ≡ count_by (is_one_of (listed marks)) text.now }
+{
+    let after = mask_of::<N>(marks, text, text.len() - N) >> (N + N - text.len());
+    (mask_of::<N>(marks, text, 0).count_ones() + after.count_ones()) as usize
+}
+
+// How many bytes of a text of less than 16 are marks.
 #[inline(always)]
 fn short_count(marks: Marks, text: &[u8]) -> usize
     requires { length text.now < 16 }
     ensures { result ≡ count_by (is_one_of (listed marks)) text.now }
 {
-    let len = text.len();
-    if len >= 8 {
-        let after = mask_of_8(marks, text, len - 8) >> (16 - len);
-        return (mask_of_8(marks, text, 0).count_ones() + after.count_ones()) as usize;
+    if text.len() >= 8 {
+        return count_of_two::<8>(marks, text);
     }
-    if len >= 4 {
-        let after = mask_of_4(marks, text, len - 4) >> (8 - len);
-        return (mask_of_4(marks, text, 0).count_ones() + after.count_ones()) as usize;
+    if text.len() >= 4 {
+        return count_of_two::<4>(marks, text);
     }
     walked_count(marks, text)
 }
@@ -193,9 +165,9 @@ pub(crate) fn count(marks: Marks, text: &[u8]) -> usize
     let mut front = 0;
     let mut at = 0;
     while len - at > 16 {
-        front += mask_of_16(marks, text, at).count_ones() as usize;
+        front += mask_of::<16>(marks, text, at).count_ones() as usize;
         at += 16;
     }
-    let after = mask_of_16(marks, text, len - 16) >> (16 - (len - at));
+    let after = mask_of::<16>(marks, text, len - 16) >> (16 - (len - at));
     front + after.count_ones() as usize
 }

@@ -1,12 +1,10 @@
 //! Texts that are written with their backslashes, and how long they are so.
 
-ghost use Rattle.std.specs.Prelude.{◌≡◌, ◌+◌, ◌<◌, ◌≤◌, ◌∷◌, ◌++◌, ℕ, true, length, IfNone, IfSome};
-ghost use Rattle.std.specs.List.{count_by};
-ghost use Rattle.lp_format.specs.format.Bytes.{backslash, is_one_of};
-ghost use Rattle.lp_format.specs.format.Escapes.{escaped};
+ghost use Rattle.std.specs.Prelude.{◌≡◌, ◌+◌, ◌<◌, ◌≤◌, ◌∷◌, ◌++◌, ℕ, true, length, IfNone, IfSome, count_by};
+ghost use Rattle.lp_format.specs.format.{backslash, is_one_of, escaped};
 ghost use Rattle.lp_build.specs.code.Marks.{listed};
 ghost use Rattle.lp_build.specs.code.Built.{IsPlainText};
-ghost use Rattle.lp_scan.specs.code.Tokens.{known_of};
+ghost use Rattle.lp_scan.specs.code.{known_of};
 
 use super::buffer::BufMut;
 use super::marks::{self, Marks, before_first};

@@ -1,10 +1,7 @@
 //! Values of fields, as the builder writes them.
 
-ghost use Rattle.std.specs.Prelude.{◌≡◌, ◌+◌, ◌<◌, ◌≤◌, ◌^◌, List, ◌++◌, ℕ, true, length};
-ghost use Rattle.std.specs.Option.{SomeIff};
-ghost use Rattle.std.specs.Fmt.{decimal};
-ghost use Rattle.lp_format.specs.format.Values.{integer, unsigned, string, boolean, quotable};
-ghost use Rattle.lp_format.specs.format.Points.{built_value};
+ghost use Rattle.std.specs.Prelude.{◌≡◌, ◌+◌, ◌<◌, ◌≤◌, ◌^◌, List, ◌++◌, ℕ, true, length, SomeIff, decimal};
+ghost use Rattle.lp_format.specs.format.{integer, unsigned, string, boolean, quotable, built_value};
 ghost use Rattle.lp_build.specs.code.Built.{IsPlainText};
 
 use super::buffer::BufMut;

@@ -1,12 +1,7 @@
 -- What a reader of lines tells a sink.
 use Rattle.std.specs.Prelude.{◌≡◌, ◌⊎◌, ◌++◌, ℕ, ℤ, List, [], ◌∷◌, map, length, Option, Some, None, Result, Ok, Err}
 use Rattle.std.specs.Borrow.{Bor}
-use Rattle.lp_format.specs.format.Dialects.{Dialect}
-use Rattle.lp_format.specs.format.Items.{HasAnswers}
-use Rattle.lp_format.specs.format.Lines.{Line, some_tags}
-use Rattle.lp_format.specs.format.Points.{Pair}
-use Rattle.lp_format.specs.format.Readings.{Fault, Read, Reading, Text, miss, fatal, reads}
-use Rattle.lp_format.specs.format.Values.{Value}
+use Rattle.lp_format.specs.format.{Dialect, HasAnswers, Line, some_tags, Pair, Fault, Read, Reading, Text, miss, fatal, reads, Value}
 use Rattle.lp_values.specs.declared.spelled.Spelled.{Spelled}
 use Rattle.lp_values.specs.declared.spelled.SpelledFault.{SpelledFault}
 use Rattle.lp_values.specs.declared.spelled.SpelledValue.{SpelledValue}

@@ -1,19 +1,13 @@
 -- The events that are left of a text, from a place in one of its lines on.
-use Rattle.std.specs.Prelude.{◌≡◌, ℕ, ◌+◌, ◌<◌, ◌≤◌, ◌==◌, Bool, true, false, List, [], ◌∷◌, ◌++◌, drop, length, Option, Some, None}
-use Rattle.std.specs.Prelude.{Result, Ok, Err}
-use Rattle.lp_format.specs.format.Bytes.{comma, space}
-use Rattle.lp_format.specs.format.Items.{answers_of}
-use Rattle.lp_format.specs.format.Lines.{after_comma, answer, byte, field, front_before, many, prepend, separated_list}
-use Rattle.lp_format.specs.format.Lines.{some_tags, spaces, tag, tag_set}
-use Rattle.lp_format.specs.format.Names.{a_measurement, name}
-use Rattle.lp_format.specs.format.Pieces.{Left, PiecesLeft, most_pieces}
-use Rattle.lp_format.specs.format.Points.{Pair}
-use Rattle.lp_format.specs.format.Readings.{Reading, Text, reads}
-use Rattle.lp_format.specs.format.Values.{Value}
+use Rattle.std.specs.Prelude.{◌≡◌, ℕ, ◌+◌, ◌<◌, ◌≤◌, ◌==◌, Bool, true, false, List, [], ◌∷◌, ◌++◌, drop, length, Option, Some, None, Result}
+use Rattle.std.specs.Prelude.{Ok, Err}
+use Rattle.lp_format.specs.format.{comma, space, answers_of, after_comma, answer, byte, field, front_before, many, prepend, separated_list}
+use Rattle.lp_format.specs.format.{some_tags, spaces, tag, tag_set, a_measurement, name, Left, PiecesLeft, most_pieces, Pair, Reading, Text}
+use Rattle.lp_format.specs.format.{reads, Value}
 use Rattle.lp_values.specs.code.SpelledParts.{spelled_fault, spelled_text}
 use Rattle.lp_values.specs.declared.spelled.SpelledFault.{SpelledFault}
-use Rattle.lp_events.specs.code.Events.{AreEventsOf, AreEventsOfAll, Event, ended, failed, front_events, named, spelled_field}
-use Rattle.lp_events.specs.code.Events.{spelled_tag, tagged, valued}
+use Rattle.lp_events.specs.code.Events.{AreEventsOf, AreEventsOfAll, Event, ended, failed, front_events, named, spelled_field, spelled_tag}
+use Rattle.lp_events.specs.code.Events.{tagged, valued}
 use Rattle.lp_events.specs.declared.place.Place.{Place}
 use Rattle.lp_events.specs.declared.place.Place.TheVariants.{Between, Names, Fields}
 use Rattle.lp_events.specs.declared.pull.Event as given

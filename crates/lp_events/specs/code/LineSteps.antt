@@ -1,9 +1,7 @@
 -- The next line of a text: its next piece that is not blank, trimmed.
-use Rattle.std.specs.Prelude.{◌≡◌, ℕ, ◌<◌, List, ◌∷◌, [], ◌++◌, length, Option, Some, None}
+use Rattle.std.specs.Prelude.{◌≡◌, ℕ, ◌<◌, List, ◌∷◌, [], ◌++◌, length, Option, Some, None, All}
 use Rattle.std.specs.Borrow.{Bor}
-use Rattle.std.specs.List.{All}
-use Rattle.lp_format.specs.format.Pieces.{Left, PiecesLeft}
-use Rattle.lp_format.specs.format.Trimming.{trimmed}
+use Rattle.lp_format.specs.format.{Left, PiecesLeft, trimmed}
 
 -- nothing is left of the piece when it is trimmed
 abbrev pub IsBlankPiece : List ℕ → Type 0

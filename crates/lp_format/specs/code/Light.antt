@@ -1,14 +1,9 @@
 -- Which lines are answered without memory.
 use Rattle.std.specs.Prelude.{ℕ, zero, suc, ◌&&◌, Bool, true, false, not, List, length, drop, Result, Ok, Err, nat_le}
 use Rattle.std.specs.List.{list_all}
-use Rattle.lp_format.specs.format.Dialects.{Dialect}
-use Rattle.lp_format.specs.format.Bytes.{backslash, comma, space, is_one_of}
-use Rattle.lp_format.specs.format.Readings.{Text, Fault, measurement_value_invalid, field_set_missing, ends_with_backslash}
-use Rattle.lp_format.specs.format.Readings.{tag_set_malformed, take_while1, Read, Reading, reads}
-use Rattle.lp_format.specs.format.Names.{a_measurement, name}
-use Rattle.lp_format.specs.format.Values.{Value, string}
-use Rattle.lp_format.specs.format.Points.{Pair}
-use Rattle.lp_format.specs.format.Lines.{Line, some_tags, byte, tag, field, after_comma, tag_set, spaces, answer}
+use Rattle.lp_format.specs.format.{Dialect, backslash, comma, space, is_one_of, Text, Fault, measurement_value_invalid, field_set_missing}
+use Rattle.lp_format.specs.format.{ends_with_backslash, tag_set_malformed, take_while1, Read, Reading, reads, a_measurement, name, Value}
+use Rattle.lp_format.specs.format.{string, Pair, Line, some_tags, byte, tag, field, after_comma, tag_set, spaces, answer}
 
 -- whether a fault carries no text
 abbrev pub carries_no_text : Fault → Bool

@@ -1,14 +1,10 @@
 -- What `{}` writes of values, series and lines. No backslash is doubled.
-use Rattle.std.specs.Prelude.{ℕ, zero, suc, ◌==◌, ℤ, List, [], ◌∷◌, ◌++◌, not, true, false, codes, decimal, Option, Some, None}
+use Rattle.std.specs.Prelude.{ℕ, zero, suc, ◌==◌, ℤ, List, [], ◌∷◌, ◌++◌, not, true, false, codes, decimal, Option, Some, None, filter}
 use Rattle.std.specs.Fmt.{signed_decimal}
-use Rattle.std.specs.List.{filter, join_by}
-use Rattle.lp_format.specs.format.Bytes.{space, comma, equals, backslash, letter_i, letter_u}
-use Rattle.lp_format.specs.format.Escapes.{escaped}
-use Rattle.lp_format.specs.format.Names.{NameKind, a_measurement, a_tag_key, a_tag_value, a_field_key, escapable}
-use Rattle.lp_format.specs.format.Readings.{Text}
-use Rattle.lp_format.specs.format.Values.{quotable, Value, integer, unsigned, float, string, boolean}
-use Rattle.lp_format.specs.format.Points.{Pair}
-use Rattle.lp_format.specs.format.Lines.{Line}
+use Rattle.std.specs.List.{join_by}
+use Rattle.lp_format.specs.format.{space, comma, equals, backslash, letter_i, letter_u, escaped, NameKind, a_measurement, a_tag_key}
+use Rattle.lp_format.specs.format.{a_tag_value, a_field_key, escapable, Text, quotable, Value, integer, unsigned, float, string, boolean}
+use Rattle.lp_format.specs.format.{Pair, Line}
 
 -- the bytes that a backslash is shown before: those that one escapes, but for the backslash
 abbrev pub shown_escapes : List ℕ → List ℕ

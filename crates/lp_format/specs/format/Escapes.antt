@@ -15,8 +15,7 @@ IsBareAfter front = is_escaped_after front ≡ false
 -- the bare bytes of what comes after `front`, in order
 abbrev pub bare_after : List ℕ → List ℕ → List ℕ
 bare_after front [] = []
-bare_after front (b ∷ bs) =
-    (if is_escaped_after front then [] else b ∷ []) ++ bare_after (front ++ b ∷ []) bs
+bare_after front (b ∷ bs) = (if is_escaped_after front then [] else b ∷ []) ++ bare_after (front ++ b ∷ []) bs
 
 -- the bare bytes of a text, in order
 abbrev pub bare : List ℕ → List ℕ

@@ -5,12 +5,11 @@ use Rattle.std.specs.List.{prefix_len}
 use Rattle.std.specs.Str.Parse.{signed_digits_value}
 use Rattle.lp_format.specs.format.Dialects.{Dialect, Crate}
 use Rattle.lp_format.specs.format.Bytes.{space, comma, equals}
-use Rattle.lp_format.specs.format.Readings.{Fault, measurement_value_invalid, field_set_missing, tag_set_malformed}
-use Rattle.lp_format.specs.format.Readings.{take_while1, timestamp_value_invalid, cannot_parse_entire_line, Text, Read}
-use Rattle.lp_format.specs.format.Readings.{Reading, miss, fatal, reads, ◌>>=◌, or_fault}
+use Rattle.lp_format.specs.format.Readings.{Fault, measurement_value_invalid, field_set_missing, tag_set_malformed, take_while1}
+use Rattle.lp_format.specs.format.Readings.{timestamp_value_invalid, cannot_parse_entire_line, Text, Read, Reading, miss, fatal, reads}
+use Rattle.lp_format.specs.format.Readings.{◌>>=◌, or_fault}
 use Rattle.lp_format.specs.format.Names.{NameKind, a_measurement, a_tag_key, a_tag_value, a_field_key, name}
-use Rattle.lp_format.specs.format.Values.{Value, integer, unsigned, float, string, boolean, value, integer_len, fits_i64}
-use Rattle.lp_format.specs.format.Values.{side_of}
+use Rattle.lp_format.specs.format.Values.{Value, integer, unsigned, float, string, boolean, value, integer_len, fits_i64, side_of}
 use Rattle.lp_format.specs.format.Points.{Pair, Point}
 
 -- what was read of a line: `series` is the front that was read as measurement and tags
@@ -98,7 +97,7 @@ many one (suc n) line = one_and_more (one line) line (λ rest. many one n rest)
 abbrev pub separated_list : {A : Type 0} → (List ℕ → Reading A) → List ℕ → Reading (List A)
 separated_list one line = one line >>= λ x. prepend (x.value ∷ []) (many (after_comma one) (length x.rest) x.rest)
 
--- the tags after a comma: where the comma is, a tag must follow
+-- the tags after a comma: if a comma is there, a tag must follow
 abbrev pub tag_set : List ℕ → Result (Read (Option (List (Pair Text Text)))) Fault
 tag_set line = tags_after (byte comma line) line
   where
@@ -117,8 +116,7 @@ without_comma dialect fields rest = rest
 
 -- the fields at the start of a text, joined by commas
 abbrev pub field_set : Dialect → List ℕ → Reading (List (Pair Text (Value Text)))
-field_set dialect line =
-    separated_list field line >>= λ fs. reads fs.value (without_comma dialect fs.value fs.rest)
+field_set dialect line = separated_list field line >>= λ fs. reads fs.value (without_comma dialect fs.value fs.rest)
 
 -- how many spaces are at the start
 abbrev pub spaces : List ℕ → ℕ

@@ -1,7 +1,6 @@
 -- The pieces of a text.
 use Rattle.std.specs.Prelude.{◌≡◌, ◌≢◌, ℕ, ◌+◌, ◌<◌, ◌⊎◌, ◌||◌, ◌&&◌, Bool, false, IsTrue, List, [], ◌∷◌, ◌++◌, ◌==◌, length, take}
-use Rattle.std.specs.Prelude.{slice_index, Option, Some, None}
-use Rattle.std.specs.List.{All}
+use Rattle.std.specs.Prelude.{slice_index, Option, Some, None, All}
 use Rattle.std.specs.Borrow.{Bor}
 use Rattle.lp_format.specs.format.Dialects.{Dialect, Crate, Strict}
 use Rattle.lp_format.specs.format.Bytes.{tab, newline, space, hash}
@@ -20,20 +19,17 @@ IsComment text = IsTrue (begins_comment text) × All (λ b. b ≢ newline) text
 -- a piece that a newline ends: it is closed, and that newline is bare; or it is a comment
 abbrev pub IsCutPiece : Dialect → List ℕ → Type 0
 IsCutPiece Crate piece = IsClosed piece × IsBareAfter piece
-IsCutPiece Strict piece =
-    IsComment piece ⊎ ((begins_comment piece ≡ false) × IsClosed piece × IsBareAfter piece)
+IsCutPiece Strict piece = IsComment piece ⊎ ((begins_comment piece ≡ false) × IsClosed piece × IsBareAfter piece)
 
 -- a piece that the text's end ends: closed or open; or a comment
 abbrev pub IsLastPiece : Dialect → List ℕ → Type 0
 IsLastPiece Crate piece = IsClosed piece ⊎ IsOpen piece
-IsLastPiece Strict piece =
-    IsComment piece ⊎ ((begins_comment piece ≡ false) × (IsClosed piece ⊎ IsOpen piece))
+IsLastPiece Strict piece = IsComment piece ⊎ ((begins_comment piece ≡ false) × (IsClosed piece ⊎ IsOpen piece))
 
 -- the place of the newline that ends the first piece, or none if the text is one piece
 abbrev pub IsFirstCut : Dialect → List ℕ → Option ℕ → Type 0
 IsFirstCut dialect text None = IsLastPiece dialect text
-IsFirstCut dialect text (Some i) =
-    (i < length text) × (slice_index text i ≡ newline) × IsCutPiece dialect (take i text)
+IsFirstCut dialect text (Some i) = (i < length text) × (slice_index text i ≡ newline) × IsCutPiece dialect (take i text)
 
 -- the pieces of a text: joined by newlines they are the text, each but the last is one that a newline ends
 pub data Pieces (dialect : Dialect) : List ℕ → List (List ℕ) → Type 0 where

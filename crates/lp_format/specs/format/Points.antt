@@ -1,12 +1,11 @@
 -- Points, which of them are admitted, and the lines that the builder writes for them.
 use Rattle.std.specs.Prelude.{ℕ, ◌<◌, ℤ, ◌≡◌, ◌==◌, ◌&&◌, ◌^◌, Bool, true, false, not, List, [], ◌∷◌, ◌++◌, length, slice_index, codes}
-use Rattle.std.specs.Prelude.{Option, Some, None, decimal, IfSome, if◌then◌else◌}
-use Rattle.std.specs.List.{list_all, flat_map, AllByRecursion}
+use Rattle.std.specs.Prelude.{Option, Some, None, decimal, IfSome, if◌then◌else◌, flat_map}
+use Rattle.std.specs.List.{list_all, AllByRecursion}
 use Rattle.std.specs.Fmt.{signed_decimal}
 use Rattle.lp_format.specs.format.Bytes.{nul, tab, newline, space, quote, hash, comma, equals, letter_i, letter_u, is_one_of}
 use Rattle.lp_format.specs.format.Escapes.{escaped}
-use Rattle.lp_format.specs.format.Names.{NameKind, a_measurement, a_tag_key, a_tag_value, a_field_key, escapable}
-use Rattle.lp_format.specs.format.Names.{ends_in_backslash}
+use Rattle.lp_format.specs.format.Names.{NameKind, a_measurement, a_tag_key, a_tag_value, a_field_key, escapable, ends_in_backslash}
 use Rattle.lp_format.specs.format.Values.{IsFloat, Value, integer, unsigned, float, string, boolean, quotable, fits_i64}
 
 -- a key and the logical text of it: a tag, or a field
@@ -68,8 +67,7 @@ is_admitted_field f = is_admitted_name a_field_key f.key
 
 -- whether all names of a point are admitted
 unfoldable pub is_admitted_point : Point → Bool
-is_admitted_point p =
-    is_admitted_name a_measurement p.measurement && list_all is_admitted_tag p.tags && list_all is_admitted_field p.fields
+is_admitted_point p = is_admitted_name a_measurement p.measurement && list_all is_admitted_tag p.tags && list_all is_admitted_field p.fields
 
 -- a name as the builder spells it
 abbrev pub spelling : NameKind → List ℕ → List ℕ

@@ -38,8 +38,7 @@ integer_len text = number_len (codes "-") text
 
 -- how many bytes one of these marks takes with the part after it, and 0 if either is not there
 abbrev pub marked_len : List ℕ → (List ℕ → ℕ) → List ℕ → ℕ
-marked_len marks part text =
-    if is_one_of marks (slice_index text 0) && nat_lt 0 (part (drop 1 text)) then 1 + part (drop 1 text) else 0
+marked_len marks part text = if is_one_of marks (slice_index text 0) && nat_lt 0 (part (drop 1 text)) then 1 + part (drop 1 text) else 0
 
 -- how many bytes a point and digits take
 abbrev pub fraction_len : List ℕ → ℕ
@@ -138,8 +137,7 @@ false_words = codes "false" ∷ codes "False" ∷ codes "FALSE" ∷ codes "f" �
 
 -- the longest of the words for this value
 unfoldable pub boolean_at : Bool → List (List ℕ) → List ℕ → Reading (Value Text)
-boolean_at b words text =
-    if word_len words text == 0 then miss else reads (boolean b) (drop (word_len words text) text)
+boolean_at b words text = if word_len words text == 0 then miss else reads (boolean b) (drop (word_len words text) text)
 
 -- the value at the start of a text, by the first case that does not miss
 unfoldable pub value : List ℕ → Reading (Value Text)

@@ -1,15 +1,9 @@
 -- What the definitions say of one another: the statements of the laws.
-use Rattle.std.specs.Prelude.{◌≡◌, ◌≢◌, ◌↔◌, ℕ, true, false, List, [], ◌∷◌, ◌++◌, map, Result, Ok, Err}
-use Rattle.std.specs.List.{All, AllByRecursion, Contains, list_all, join_with_byte}
-use Rattle.std.specs.Str.{IsUtf8}
-use Rattle.lp_format.specs.format.Dialects.{Dialect, Strict}
-use Rattle.lp_format.specs.format.Bytes.{newline}
-use Rattle.lp_format.specs.format.Readings.{Fault, ends_with_backslash}
-use Rattle.lp_format.specs.format.Points.{Point, IsPoint, is_admitted_point, built_all}
-use Rattle.lp_format.specs.format.Pieces.{Pieces, IsCutPiece, begins_comment}
-use Rattle.lp_format.specs.format.Lines.{Line, point_of, answer}
-use Rattle.lp_format.specs.format.Names.{NameKind}
-use Rattle.lp_format.specs.format.Items.{HasAnswers, HasItems}
+use Rattle.std.specs.Prelude.{◌≡◌, ◌≢◌, ◌↔◌, ℕ, true, false, List, [], ◌∷◌, ◌++◌, map, Result, Ok, Err, All, Contains, IsUtf8}
+use Rattle.std.specs.List.{AllByRecursion, list_all, join_with_byte}
+use Rattle.lp_format.specs.format.{Dialect, Strict, newline, Fault, ends_with_backslash, Point, IsPoint, is_admitted_point, built_all}
+use Rattle.lp_format.specs.format.{IsCutPiece, begins_comment, Line, point_of, answer, NameKind, HasAnswers, HasItems}
+use Rattle.lp_format.specs.format.Pieces.{Pieces}
 use Rattle.lp_format.specs.laws.NamesOfLines.{names_of, IsParsedName, EndsItsFields}
 use Rattle.lp_format.specs.laws.UnreadableNames.{HasReadableNames}
 

@@ -1,13 +1,8 @@
 -- What the computing definitions mean: the same said as relations, and the statements of the laws that tie the two.
-use Rattle.std.specs.Prelude.{◌≡◌, ◌≢◌, ◌↔◌, ℕ, ◌<◌, ◌≤◌, ◌==◌, Bool, false, true, List, [], ◌∷◌, ◌++◌, length, take}
-use Rattle.std.specs.List.{All, Contains}
-use Rattle.lp_format.specs.format.Bytes.{tab, newline, space, quote, hash, comma, backslash, is_one_of}
-use Rattle.lp_format.specs.format.Escapes.{bare, without_escapes, IsBareAfter}
-use Rattle.lp_format.specs.format.Names.{NameKind, is_stop, spelled}
-use Rattle.lp_format.specs.format.Values.{body_len, IsFloat, float_len, word_len}
-use Rattle.lp_format.specs.format.Readings.{Fault, Reading, miss, fatal, reads}
-use Rattle.lp_format.specs.format.Trimming.{trimmed}
-use Rattle.lp_format.specs.format.Lines.{separated_list}
+use Rattle.std.specs.Prelude.{◌≡◌, ◌≢◌, ◌↔◌, ℕ, ◌<◌, ◌≤◌, ◌==◌, Bool, false, true, List, [], ◌∷◌, ◌++◌, length, take, All, Contains}
+use Rattle.lp_format.specs.format.{tab, newline, space, quote, hash, comma, backslash, is_one_of, bare, without_escapes, IsBareAfter}
+use Rattle.lp_format.specs.format.{NameKind, is_stop, spelled, body_len, IsFloat, float_len, word_len, Fault, Reading, miss, fatal, reads}
+use Rattle.lp_format.specs.format.{trimmed, separated_list}
 use Rattle.lp_format.specs.code.Light.{read_count}
 
 -- the logical text of a text, where a backslash may escape the known bytes
@@ -15,8 +10,7 @@ pub data IsLogical (known : List ℕ) : List ℕ → List ℕ → Type 0 where
   -- that of nothing is nothing
   empty : IsLogical known [] []
   -- a byte that is no backslash stays
-  plain : (b : ℕ) (spelled logical : List ℕ) → b ≢ backslash → IsLogical known spelled logical
-      → IsLogical known (b ∷ spelled) (b ∷ logical)
+  plain : (b : ℕ) (spelled logical : List ℕ) → b ≢ backslash → IsLogical known spelled logical → IsLogical known (b ∷ spelled) (b ∷ logical)
   -- of a backslash and a known byte, that byte stays
   escape : (c : ℕ) (spelled logical : List ℕ) → is_one_of known c ≡ true → IsLogical known spelled logical
       → IsLogical known (backslash ∷ c ∷ spelled) (c ∷ logical)
@@ -28,8 +22,7 @@ pub data IsLogical (known : List ℕ) : List ℕ → List ℕ → Type 0 where
 
 -- Each text has exactly one logical text, whichever bytes are known: the one without escapes.
 abbrev pub LogicalIsWithoutEscapes : Type 0
-LogicalIsWithoutEscapes =
-    (known spelled logical : List ℕ) → IsLogical known spelled logical ↔ (logical ≡ without_escapes known spelled)
+LogicalIsWithoutEscapes = (known spelled logical : List ℕ) → IsLogical known spelled logical ↔ (logical ≡ without_escapes known spelled)
 
 -- these, each after a comma, are at the start of the text, and this is the rest
 abbrev pub SeparatedAfterComma : {A : Type 0} → (List ℕ → Reading A) → List A → List ℕ → List ℕ → Type 0
@@ -97,8 +90,7 @@ pub data IsBlankFront : List ℕ → List ℕ → Type 0 where
 
 -- The trimmed text of a piece comes after a front of blanks and comments.
 abbrev pub TrimmedIsAfterBlanks : Type 0
-TrimmedIsAfterBlanks =
-    (piece : List ℕ) → (front : List ℕ) × (piece ≡ front ++ trimmed piece) × IsBlankFront front (trimmed piece)
+TrimmedIsAfterBlanks = (piece : List ℕ) → (front : List ℕ) × (piece ≡ front ++ trimmed piece) × IsBlankFront front (trimmed piece)
 
 -- No such front of the piece is longer than the one before its trimmed text.
 abbrev pub TrimmedFrontIsLongest : Type 0
@@ -116,7 +108,7 @@ pub record IsBeforeStop (passes : ℕ → Bool) (front after : List ℕ) : Type 
   pub none : All (λ b. passes b ≡ false) (bare front)
   pub at_stop : IsAtStop passes front after
 
--- A front spells the name of a text exactly where it ends before the first bare byte that ends such a name, or is
+-- A front spells the name of a text if and only if it ends before the first bare byte that ends such a name, or is
 -- the whole text if there is none.
 abbrev pub NameEndsBeforeStop : Type 0
 NameEndsBeforeStop =
@@ -139,8 +131,7 @@ FloatFrontIsLongest = (text : List ℕ) (n : ℕ) → n ≤ length text → IsFl
 
 -- The bytes that the longest of words takes at the start of a text are one of the words.
 abbrev pub WordFrontIsWord : Type 0
-WordFrontIsWord =
-    (words : List (List ℕ)) (text : List ℕ) → 0 < word_len words text → Contains words (take (word_len words text) text)
+WordFrontIsWord = (words : List (List ℕ)) (text : List ℕ) → 0 < word_len words text → Contains words (take (word_len words text) text)
 
 -- No longer front of the text is one of them.
 abbrev pub WordFrontIsLongest : Type 0

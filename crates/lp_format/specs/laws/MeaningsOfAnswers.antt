@@ -1,14 +1,8 @@
 -- What the answer for a trimmed text means: the table of answers, row by row.
 use Rattle.std.specs.Prelude.{◌≡◌, ◌↔◌, ℕ, List, [], ◌∷◌, ◌++◌, drop, Option, Some, None, Result, Ok, Err}
-use Rattle.lp_format.specs.format.Dialects.{Dialect}
-use Rattle.lp_format.specs.format.Bytes.{comma, space}
-use Rattle.lp_format.specs.format.Readings.{Side, Fault, measurement_value_invalid, field_set_missing, ends_with_backslash}
-use Rattle.lp_format.specs.format.Readings.{tag_set_malformed, take_while1, timestamp_value_invalid, cannot_parse_entire_line}
-use Rattle.lp_format.specs.format.Readings.{Text, miss, fatal, reads}
-use Rattle.lp_format.specs.format.Names.{a_measurement, name}
-use Rattle.lp_format.specs.format.Values.{Value}
-use Rattle.lp_format.specs.format.Points.{Pair}
-use Rattle.lp_format.specs.format.Lines.{Line, tag, field, without_comma, spaces, timestamp, answer}
+use Rattle.lp_format.specs.format.{Dialect, comma, space, Side, Fault, measurement_value_invalid, field_set_missing, ends_with_backslash}
+use Rattle.lp_format.specs.format.{tag_set_malformed, take_while1, timestamp_value_invalid, cannot_parse_entire_line, Text, miss, fatal}
+use Rattle.lp_format.specs.format.{reads, a_measurement, name, Value, Pair, Line, tag, field, without_comma, spaces, timestamp, answer}
 use Rattle.lp_format.specs.laws.Meanings.{LongestList, WholeList, NextHasFault}
 
 -- the text begins with this byte
@@ -60,13 +54,11 @@ pub data IsAnswer (dialect : Dialect) (text : List ℕ) : Result Line Fault → 
       → ReadsSeries text m tags after → BeginsWith space after → LongestList field (after_spaces after) fields rest
       → NextHasFault field fields rest e → IsAnswer dialect text (Err e)
   -- the first field misses
-  no_field : (m : Text) (tags : Option (List (Pair Text Text))) (after : List ℕ)
-      → ReadsSeries text m tags after → BeginsWith space after → field (after_spaces after) ≡ miss
-      → IsAnswer dialect text (Err field_set_missing)
+  no_field : (m : Text) (tags : Option (List (Pair Text Text))) (after : List ℕ) → ReadsSeries text m tags after → BeginsWith space after
+      → field (after_spaces after) ≡ miss → IsAnswer dialect text (Err field_set_missing)
   -- the timestamp is fatal
-  fatal_timestamp : (line : Line) (rest : List ℕ) (side : Side) (number : List ℕ)
-      → ReadsFields dialect text line rest → timestamp rest ≡ Err (timestamp_value_invalid side number)
-      → IsAnswer dialect text (Err (timestamp_value_invalid side number))
+  fatal_timestamp : (line : Line) (rest : List ℕ) (side : Side) (number : List ℕ) → ReadsFields dialect text line rest
+      → timestamp rest ≡ Err (timestamp_value_invalid side number) → IsAnswer dialect text (Err (timestamp_value_invalid side number))
   -- something is left
   left : (line : Line) (rest : List ℕ) (b : ℕ) (more : List ℕ)
       → ReadsFields dialect text line rest → timestamp rest ≡ Ok (record { value = line.timestamp; rest = b ∷ more })

@@ -1,11 +1,7 @@
 -- Which names the lines of a text have, and where their fields end.
 use Rattle.std.specs.Prelude.{◌≡◌, ◌≢◌, ◌⊎◌, ℕ, ◌<◌, true, false, List, [], ◌∷◌, ◌++◌, length, drop, map, slice_index, Ok}
-use Rattle.lp_format.specs.format.Dialects.{Strict}
-use Rattle.lp_format.specs.format.Bytes.{space, hash, is_one_of}
-use Rattle.lp_format.specs.format.Readings.{reads}
-use Rattle.lp_format.specs.format.Names.{NameKind, a_measurement, a_tag_key, a_tag_value, a_field_key, ends_in_backslash, name}
-use Rattle.lp_format.specs.format.Points.{Point, never_in}
-use Rattle.lp_format.specs.format.Lines.{Line, tag_set, field_set, spaces}
+use Rattle.lp_format.specs.format.{Strict, space, hash, is_one_of, reads, NameKind, a_measurement, a_tag_key, a_tag_value, a_field_key}
+use Rattle.lp_format.specs.format.{ends_in_backslash, name, Point, never_in, Line, tag_set, field_set, spaces}
 
 -- the names of one kind in a point
 abbrev pub names_of : NameKind → Point → List (List ℕ)

@@ -1,9 +1,6 @@
 -- What the points of lines are, and which lines the builder writes as they are.
 use Rattle.std.specs.Prelude.{◌≡◌, ℕ, List, [], ◌∷◌, ◌++◌, true, Ok}
-use Rattle.lp_format.specs.format.Bytes.{newline}
-use Rattle.lp_format.specs.format.Dialects.{Dialect}
-use Rattle.lp_format.specs.format.Points.{IsAsWritten, IsPoint, built, is_admitted_point}
-use Rattle.lp_format.specs.format.Lines.{Line, point_of, answer}
+use Rattle.lp_format.specs.format.{newline, Dialect, IsAsWritten, IsPoint, built, is_admitted_point, Line, point_of, answer}
 
 -- Each line that is answered has at least one field, numbers in range and literals for its floats.
 abbrev pub LinesArePoints : Type 0

@@ -1,10 +1,7 @@
 -- Names that no line has.
-use Rattle.std.specs.Prelude.{◌≡◌, ℕ, true, false, List, [], ◌∷◌, ◌++◌, slice_index}
-use Rattle.std.specs.List.{Contains}
-use Rattle.lp_format.specs.format.Bytes.{hash, is_one_of}
-use Rattle.lp_format.specs.format.Names.{NameKind, a_measurement, ends_in_backslash}
+use Rattle.std.specs.Prelude.{◌≡◌, ℕ, true, false, List, [], ◌∷◌, ◌++◌, slice_index, Contains}
+use Rattle.lp_format.specs.format.{hash, is_one_of, NameKind, a_measurement, ends_in_backslash, Point, never_in}
 use Rattle.lp_format.specs.laws.NamesOfLines.{names_of}
-use Rattle.lp_format.specs.format.Points.{Point, never_in}
 
 -- a name that no line has
 pub data IsUnreadable : NameKind → List ℕ → Type 0 where

@@ -1,23 +1,19 @@
 -- The base of a series, a text by which series can be grouped, and whether it is safe to do so.
-use Rattle.std.specs.Prelude.{◌≡◌, ℕ, ◌<◌, ◌==◌, ◌&&◌, ◌||◌, Bool, true, false, not, List, [], ◌∷◌, ◌++◌, length, take, map}
-use Rattle.std.specs.Prelude.{slice_index_or, if◌then◌else◌, Result, Ok, Err, String, string_bytes}
+use Rattle.std.specs.Prelude.{◌≡◌, ℕ, ◌<◌, ◌==◌, ◌&&◌, ◌||◌, Bool, true, false, not, List, [], ◌∷◌, ◌++◌, length, take, map, slice_index_or}
+use Rattle.std.specs.Prelude.{if◌then◌else◌, Result, Ok, Err, String, string_bytes, flat_map, fold, bytes_eq}
 use Rattle.std.specs.BTreeMap.{BTreeMap, insert_entry}
 use Rattle.std.specs.Borrow.{Bor}
 use Rattle.std.specs.Cmp.Lexicographic.{slice_cmp}
-use Rattle.std.specs.List.{flat_map, fold, list_all, list_any, position_or_len, range_with_len}
+use Rattle.std.specs.List.{list_all, list_any, position_or_len, range_with_len}
 use Rattle.std.specs.Ordering.{is_lt, nat_cmp}
-use Rattle.std.specs.Str.{bytes_eq}
 use Rattle.std.specs.declared.borrow.CowStr.{CowStr}
 use Rattle.std.specs.declared.borrow.CowStr.TheVariants.{Borrowed, Owned}
 use Rattle.lp_values.specs.declared.error.Error.{Error}
 use Rattle.lp_values.specs.declared.error.Error.TheVariants.{DuplicateTag, OutOfMemory}
-use Rattle.lp_format.specs.format.Bytes.{comma, equals, is_one_of}
-use Rattle.lp_format.specs.format.Names.{a_measurement, a_tag_key, a_tag_value, escapable}
-use Rattle.lp_format.specs.format.Readings.{Text}
-use Rattle.lp_format.specs.format.Points.{Pair}
+use Rattle.lp_format.specs.format.{comma, equals, is_one_of, a_measurement, a_tag_key, a_tag_value, escapable, Text, Pair}
 use Rattle.lp_format.specs.code.Light.{is_single_tag}
 
--- a base is a part of the input or a text of its own, and there is none where this key is repeated
+-- a base is a part of the input or a text of its own, and there is none if this key is repeated
 pub data Base : Type 0 where
   borrowed owned duplicate_key : List ℕ → Base
 
@@ -57,14 +53,12 @@ base_text measurement tags = measurement ++ flat_map based_tag tags
 
 -- the base if the keys do not rise: by the order of the keys, unless one is repeated
 unfoldable pub base_by_key : List ℕ → List (Pair Text Text) → Base
-base_by_key measurement tags =
-    if first_repeated (keys_of tags) == length tags then owned (base_text measurement (by_key tags))
+base_by_key measurement tags = if first_repeated (keys_of tags) == length tags then owned (base_text measurement (by_key tags))
     else duplicate_key (slice_index_or (keys_of tags) (first_repeated (keys_of tags)) [])
 
 -- the base of a series with this raw text, measurement and tags
 unfoldable pub base_of : List ℕ → Text → List (Pair Text Text) → Base
-base_of raw measurement tags =
-    if is_strictly_sorted (keys_of tags) then
+base_of raw measurement tags = if is_strictly_sorted (keys_of tags) then
     if measurement.is_single && list_all is_single_tag tags then borrowed raw
     else owned (base_text measurement.bytes (in_order tags))
     else base_by_key measurement.bytes tags
@@ -86,8 +80,7 @@ is_ambiguous_tag t =
 
 -- whether the base of a series is safe to group by: none of its names is ambiguous
 abbrev pub is_base_safe : Text → List (Pair Text Text) → Bool
-is_base_safe measurement tags =
-    not (is_ambiguous_name (escapable a_measurement) comma measurement.bytes || list_any is_ambiguous_tag tags)
+is_base_safe measurement tags = not (is_ambiguous_name (escapable a_measurement) comma measurement.bytes || list_any is_ambiguous_tag tags)
 
 -- the code fails so for this base: it is a repeated key; `OutOfMemory` may be in the place of each
 abbrev pub FailsForBase : Error → Base → Type 0
@@ -118,8 +111,7 @@ entry_bytes e = (e.0.now, e.1.now)
 -- the code made a map of the tags, unless a key is repeated
 abbrev pub GivesMap : Result (BTreeMap (Bor (List ℕ)) (Bor (List ℕ))) Error → List (Pair Text Text) → Type 0
 GivesMap (Ok entries) tags = (first_repeated (keys_of tags) ≡ length tags) × (map entry_bytes entries.entries ≡ by_key tags)
-GivesMap (Err (DuplicateTag key)) tags =
-    (first_repeated (keys_of tags) < length tags)
+GivesMap (Err (DuplicateTag key)) tags = (first_repeated (keys_of tags) < length tags)
     × (string_bytes key ≡ slice_index_or (keys_of tags) (first_repeated (keys_of tags)) [])
 GivesMap (Err OutOfMemory) tags = Unit {0}
 GivesMap (Err e) tags = ⊥

@@ -1,11 +1,8 @@
 -- What a line is filled with as its parts are told.
 use Rattle.std.specs.Prelude.{◌≡◌, ◌≤◌, ◌⊎◌, ◌++◌, ◌∷◌, ℕ, List, [], length, map, take, true, false, Option, Some, Result, Ok, Err}
-use Rattle.std.specs.Option.{option_map}
+use Rattle.std.specs.Prelude.{option_map}
 use Rattle.smallvec.specs.SmallVec.{SmallVec}
-use Rattle.lp_format.specs.format.Lines.{Line, some_tags}
-use Rattle.lp_format.specs.format.Points.{Pair}
-use Rattle.lp_format.specs.format.Readings.{Fault, Text}
-use Rattle.lp_format.specs.format.Values.{Value}
+use Rattle.lp_format.specs.format.{Line, some_tags, Pair, Fault, Text, Value}
 use Rattle.lp_format.specs.code.Light.{is_single_field, is_single_line, is_single_tag}
 use Rattle.lp_values.specs.declared.spelled.SpelledFault.{SpelledFault}
 use Rattle.lp_values.specs.code.SpelledParts.{spelled_fault}
@@ -56,8 +53,7 @@ Puts old (named m) new =
     (read_of new.line.now.series.measurement ≡ m) × (tags_so_far new ≡ tags_so_far old) × (fields_so_far new ≡ fields_so_far old)
 Puts old (tagged t) new = (tags_so_far new ≡ tags_so_far old ++ t ∷ []) × (beside_tags new ≡ beside_tags old)
 Puts old (valued f) new = (fields_so_far new ≡ fields_so_far old ++ f ∷ []) × (beside_fields new ≡ beside_fields old)
-Puts old (ended series timestamp) new =
-    (new.line.now.series.raw_input.now ≡ series) × (new.line.now.timestamp ≡ timestamp)
+Puts old (ended series timestamp) new = (new.line.now.series.raw_input.now ≡ series) × (new.line.now.timestamp ≡ timestamp)
     × (beside_tags new ≡ beside_tags old) × (tags_so_far new ≡ tags_so_far old)
 Puts old (failed fault) new = Unit {0}
 

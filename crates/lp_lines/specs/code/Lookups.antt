@@ -1,6 +1,5 @@
 -- Values by their keys.
-use Rattle.std.specs.Prelude.{ℕ, ◌+◌, Bool, List, [], length, nat_eq, option_map, Option, Some, None}
-use Rattle.std.specs.List.{find}
+use Rattle.std.specs.Prelude.{ℕ, ◌+◌, Bool, List, [], length, nat_eq, option_map, Option, Some, None, find}
 use Rattle.std.specs.Cmp.Lexicographic.{pointwise}
 use Rattle.smallvec.specs.SmallVec.{SmallVec}
 use Rattle.lp_values.specs.declared.escaped.EscapedStr.{EscapedStr}

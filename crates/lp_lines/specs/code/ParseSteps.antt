@@ -1,17 +1,13 @@
 -- What a call of `next` on a `ParseLines` gives.
-use Rattle.std.specs.Prelude.{◌≡◌, ℕ, ◌<◌, ◌^◌, true, List, ◌∷◌, [], ◌++◌, length, Option, Some, None, IfSome, Result, IfOk}
-use Rattle.std.specs.List.{All}
-use Rattle.lp_format.specs.format.Dialects.{Dialect}
+use Rattle.std.specs.Prelude.{◌≡◌, ℕ, ◌<◌, ◌^◌, true, List, ◌∷◌, [], ◌++◌, length, Option, Some, None, IfSome, Result, IfOk, All}
+use Rattle.lp_format.specs.format.{Dialect, Left, PiecesLeft, trimmed, answer}
 use Rattle.lp_values.specs.declared.error.Error.{Error}
 use Rattle.lp_lines.specs.declared.parsed.ParsedLine.{ParsedLine}
-use Rattle.lp_format.specs.format.Pieces.{Left, PiecesLeft}
-use Rattle.lp_format.specs.format.Trimming.{trimmed}
 use Rattle.lp_format.specs.code.Light.{is_light}
 pub use Rattle.lp_events.specs.code.LineSteps.{IsBlankPiece, GaveLine, HadBlankPieces, GivesLine, most_items}
 use Rattle.lp_lines.specs.code.Lookups.{columns}
 use Rattle.lp_values.specs.code.Outcomes.{IsNotOutOfMemory}
 use Rattle.lp_lines.specs.code.Parsed.{Answers}
-use Rattle.lp_format.specs.format.Lines.{answer}
 
 -- a line that was read has at least one tag, if it has a tag set
 abbrev pub HasNoEmptyTagSet : Result ParsedLine Error → Type 0

@@ -1,20 +1,14 @@
 -- What a parsed line says.
-use Rattle.std.specs.Prelude.{◌≡◌, ℕ, List, map, Result, Ok, Err}
-use Rattle.std.specs.Option.{option_map}
+use Rattle.std.specs.Prelude.{◌≡◌, ℕ, List, map, Result, Ok, Err, option_map}
 use Rattle.smallvec.specs.SmallVec.{SmallVec}
-use Rattle.lp_format.specs.format.Dialects.{Dialect}
+use Rattle.lp_format.specs.format.{Dialect, Fault, Text, Value, Pair, Point, Line, point_of, answer, trimmed}
 use Rattle.lp_values.specs.declared.error.Error.{Error}
 use Rattle.lp_values.specs.declared.escaped.EscapedStr.{EscapedStr}
 use Rattle.lp_values.specs.declared.values.FieldValue.{FieldValue}
 use Rattle.lp_lines.specs.declared.parsed.ParsedLine.{ParsedLine}
-use Rattle.lp_format.specs.format.Readings.{Fault, Text}
 use Rattle.lp_values.specs.code.Outcomes.{IsFault}
 use Rattle.lp_values.specs.code.Texts.{read_of}
 use Rattle.lp_values.specs.code.ReadValues.{value_of}
-use Rattle.lp_format.specs.format.Values.{Value}
-use Rattle.lp_format.specs.format.Points.{Pair, Point}
-use Rattle.lp_format.specs.format.Lines.{Line, point_of, answer}
-use Rattle.lp_format.specs.format.Trimming.{trimmed}
 
 -- a field of the code, as the definitions have it
 abbrev pub field_of : EscapedStr × FieldValue → Pair Text (Value Text)

@@ -1,18 +1,11 @@
 -- What bases tell of their series.
 use Rattle.std.specs.Prelude.{◌≡◌, ◌↔◌, ℕ, zero, suc, ◌+◌, ◌||◌, Bool, true, false, List, [], ◌∷◌, ◌++◌, length, drop, map, Option, Some}
-use Rattle.std.specs.Prelude.{None, Ok}
+use Rattle.std.specs.Prelude.{None, Ok, IsPermutation, is_some}
 use Rattle.std.specs.List.{list_any}
-use Rattle.std.specs.List.Sorted.{IsPermutation}
-use Rattle.std.specs.Option.{is_some}
-use Rattle.lp_format.specs.format.Dialects.{Dialect}
-use Rattle.lp_lines.specs.code.Bases.{Base, borrowed, owned, duplicate_key, base_of, by_key, first_repeated, in_order}
-use Rattle.lp_lines.specs.code.Bases.{is_base_safe, keys_of, is_strictly_sorted}
-use Rattle.lp_format.specs.format.Bytes.{backslash, comma, equals, is_one_of}
-use Rattle.lp_format.specs.format.Lines.{Line, answer, some_tags, tag_set}
-use Rattle.lp_format.specs.format.Names.{a_measurement, a_tag_key, a_tag_value, escapable, is_one_escape, name, spelled}
-use Rattle.lp_format.specs.format.Names.{spelled_len}
-use Rattle.lp_format.specs.format.Points.{Pair}
-use Rattle.lp_format.specs.format.Readings.{Text, reads}
+use Rattle.lp_format.specs.format.{Dialect, backslash, comma, equals, is_one_of, Line, answer, some_tags, tag_set, a_measurement, a_tag_key}
+use Rattle.lp_format.specs.format.{a_tag_value, escapable, is_one_escape, name, spelled, spelled_len, Pair, Text, reads}
+use Rattle.lp_lines.specs.code.Bases.{Base, borrowed, owned, duplicate_key, base_of, by_key, first_repeated, in_order, is_base_safe}
+use Rattle.lp_lines.specs.code.Bases.{keys_of, is_strictly_sorted}
 
 -- a series as it is parsed: its raw text reads to its measurement and its tags, and nothing is left
 pub record IsParsedSeries (raw : List ℕ) (measurement : Text) (tags : List (Pair Text Text)) : Type 0 where
@@ -36,8 +29,7 @@ is_tag_one_escape t = is_one_escape (escapable a_tag_key) t.0 || is_one_escape (
 
 -- whether a name in the raw text of a series with this many tags is spelled as one known escape alone
 abbrev pub has_one_escape : List ℕ → ℕ → Bool
-has_one_escape raw n =
-    is_one_escape (escapable a_measurement) (spelled a_measurement raw)
+has_one_escape raw n = is_one_escape (escapable a_measurement) (spelled a_measurement raw)
     || list_any is_tag_one_escape (spelled_tags n (drop (spelled_len a_measurement raw) raw))
 
 -- a parsed series that repeats no key and spells no name as one known escape alone
@@ -67,21 +59,18 @@ base_bytes (duplicate_key key) = None
 
 -- A clear series has a base.
 abbrev pub ClearSeriesHaveBases : Type 0
-ClearSeriesHaveBases =
-    (raw : List ℕ) (measurement : Text) (tags : List (Pair Text Text))
+ClearSeriesHaveBases = (raw : List ℕ) (measurement : Text) (tags : List (Pair Text Text))
     → IsClearSeries raw measurement tags → is_some (base_bytes (base_of raw measurement tags)) ≡ true
 
 -- The bases of clear series are equal if the measurements and the sets of tags are.
 abbrev pub SameSeriesHaveOneBase : Type 0
-SameSeriesHaveOneBase =
-    (raw text : List ℕ) (measurement other : Text) (tags others : List (Pair Text Text))
+SameSeriesHaveOneBase = (raw text : List ℕ) (measurement other : Text) (tags others : List (Pair Text Text))
     → IsClearSeries raw measurement tags → IsClearSeries text other others → IsSameSeries measurement other tags others
     → base_bytes (base_of raw measurement tags) ≡ base_bytes (base_of text other others)
 
 -- They are equal only there, if no measurement or value holds a comma and no key an `=`.
 abbrev pub OneBaseIsOneSeries : Type 0
-OneBaseIsOneSeries =
-    (raw text : List ℕ) (measurement other : Text) (tags others : List (Pair Text Text))
+OneBaseIsOneSeries = (raw text : List ℕ) (measurement other : Text) (tags others : List (Pair Text Text))
     → IsClearSeries raw measurement tags → IsClearSeries text other others
     → is_delimited measurement tags ≡ false → is_delimited other others ≡ false
     → base_bytes (base_of raw measurement tags) ≡ base_bytes (base_of text other others)
@@ -89,8 +78,7 @@ OneBaseIsOneSeries =
 
 -- Two parsed series that repeat no key, and whose bases are safe to group by, have one base exactly if they are the same series.
 abbrev pub SafeBasesTellSeries : Type 0
-SafeBasesTellSeries =
-    (raw text : List ℕ) (measurement other : Text) (tags others : List (Pair Text Text))
+SafeBasesTellSeries = (raw text : List ℕ) (measurement other : Text) (tags others : List (Pair Text Text))
     → IsParsedSeries raw measurement tags → IsParsedSeries text other others
     → first_repeated (keys_of tags) ≡ length tags → first_repeated (keys_of others) ≡ length others
     → is_base_safe measurement tags ≡ true → is_base_safe other others ≡ true
@@ -98,21 +86,18 @@ SafeBasesTellSeries =
 
 -- The same series are safe to group by alike, however they are spelled.
 abbrev pub SameSeriesAreSafeAlike : Type 0
-SameSeriesAreSafeAlike =
-    (measurement other : Text) (tags others : List (Pair Text Text)) → IsSameSeries measurement other tags others
+SameSeriesAreSafeAlike = (measurement other : Text) (tags others : List (Pair Text Text)) → IsSameSeries measurement other tags others
     → is_base_safe measurement tags ≡ is_base_safe other others
 
 -- A raw text without a backslash spells no name as an escape alone, and its names hold no such comma and no such `=`.
 abbrev pub PlainSeriesAreClear : Type 0
-PlainSeriesAreClear =
-    (raw : List ℕ) (measurement : Text) (tags : List (Pair Text Text))
+PlainSeriesAreClear = (raw : List ℕ) (measurement : Text) (tags : List (Pair Text Text))
     → is_one_of raw backslash ≡ false → IsParsedSeries raw measurement tags
     → (has_one_escape raw (length tags) ≡ false) × (is_delimited measurement tags ≡ false)
 
 -- The series of each line that is read is a parsed one, and it is a front of the line.
 abbrev pub ReadSeriesAreParsed : Type 0
-ReadSeriesAreParsed =
-    (dialect : Dialect) (line : List ℕ) (l : Line) → answer dialect line ≡ Ok l
+ReadSeriesAreParsed = (dialect : Dialect) (line : List ℕ) (l : Line) → answer dialect line ≡ Ok l
     → IsParsedSeries l.series l.measurement (some_tags l.tags) × ((rest : List ℕ) × (line ≡ l.series ++ rest))
 
 -- the keys of entries, in order
@@ -121,6 +106,5 @@ entry_keys entries = map (λ e. e.0) entries
 
 -- If no key repeats, the tags by their keys are the one list of the same tags whose keys rise.
 abbrev pub TagsByKeyAreSorted : Type 0
-TagsByKeyAreSorted =
-    (tags : List (Pair Text Text)) (entries : List (List ℕ × List ℕ)) → first_repeated (keys_of tags) ≡ length tags
+TagsByKeyAreSorted = (tags : List (Pair Text Text)) (entries : List (List ℕ × List ℕ)) → first_repeated (keys_of tags) ≡ length tags
     → (entries ≡ by_key tags) ↔ ((is_strictly_sorted (entry_keys entries) ≡ true) × IsPermutation (in_order tags) entries)

@@ -16,8 +16,7 @@ pub record IsRunAt (test : ℕ → Bool) (bytes : List ℕ) (at end : ℕ) : Typ
 
 -- of the n bytes from a place, the first `run` pass the test, and the next one fails it
 abbrev pub IsRunIn : (ℕ → Bool) → List ℕ → ℕ → ℕ → ℕ → Type 0
-IsRunIn test bytes at n run =
-    (run ≤ n) × AllPassBetween test bytes at (at + run) × (run < n → test (slice_index bytes (at + run)) ≡ false)
+IsRunIn test bytes at n run = (run ≤ n) × AllPassBetween test bytes at (at + run) × (run < n → test (slice_index bytes (at + run)) ≡ false)
 
 -- the place of the lowest bit that is set, or n
 abbrev pub first_set : ℕ → ℕ → ℕ

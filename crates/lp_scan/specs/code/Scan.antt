@@ -2,8 +2,7 @@
 use Rattle.std.specs.Prelude.{◌≡◌, ℕ, ◌+◌, ◌≤◌, ◌==◌, if◌then◌else◌, Bool, List, length, map, take}
 use Rattle.std.specs.List.{range_with_len}
 use Rattle.std.specs.Simd.Lanes.{mask_l}
-use Rattle.lp_format.specs.format.Bytes.{backslash}
-use Rattle.lp_format.specs.format.Escapes.{IsBareAfter, is_bare_at, is_escaped_after}
+use Rattle.lp_format.specs.format.{backslash, IsBareAfter, is_bare_at, is_escaped_after}
 use Rattle.lp_scan.specs.code.Lanes.{mask_of}
 
 -- the mask of those of the n places from one on that pass the test

@@ -1,11 +1,9 @@
 -- What loads showed of the bytes of a text before these are searched.
 use Rattle.std.specs.Prelude.{◌≡◌, ℕ, ◌+◌, ◌<◌, ◌≤◌, ◌==◌, ◌||◌, true, List, length, take}
 use Rattle.lp_split.specs.declared.split.Ahead.{Ahead}
-use Rattle.lp_format.specs.format.Bytes.{comma, equals, newline, quote, backslash}
-use Rattle.lp_format.specs.format.Escapes.{is_bare_at, is_escaped_after, IsBareAfter}
-use Rattle.lp_scan.specs.code.Scan.{mask_at}
+use Rattle.lp_format.specs.format.{comma, equals, newline, quote, backslash, is_bare_at, is_escaped_after, IsBareAfter}
+use Rattle.lp_scan.specs.code.{mask_at, mask_of}
 use Rattle.memchr.specs.Find.{is_byte3}
-use Rattle.lp_scan.specs.code.Lanes.{mask_of}
 
 -- of the bytes from a place on, of at most 64, the masks are of the bare newlines and quotes, of the bare equals signs and of the
 -- bare commas; after them, and the byte that they escape, comes a bare place

@@ -1,13 +1,11 @@
 -- What a stream holds whose pieces have a greatest length, and what a call takes of it.
 use Rattle.std.specs.Prelude.{◌≡◌, ℕ, ◌+◌, ◌-◌, ◌^◌, ◌<◌, ◌≤◌, List, [], ◌∷◌, ◌++◌, length, Option, Some, None, Result, Ok, Err, IfSome}
 use Rattle.std.specs.Borrow.{Bor}
-use Rattle.lp_format.specs.format.Dialects.{Dialect}
+use Rattle.lp_format.specs.format.{Dialect, newline, newlines_in, IsCutPiece, IsLastPiece}
 use Rattle.lp_split.specs.declared.split.Mark.{Mark}
 use Rattle.lp_split.specs.declared.stream.bounded.Skipped.{Skipped}
 use Rattle.lp_split.specs.declared.stream.bounded.Skipped.TheVariants.{Nothing, Within, Ended}
 use Rattle.lp_split.specs.declared.stream.bounded.PieceTooLong.{PieceTooLong}
-use Rattle.lp_format.specs.format.Bytes.{newline, newlines_in}
-use Rattle.lp_format.specs.format.Pieces.{IsCutPiece, IsLastPiece}
 use Rattle.lp_split.specs.code.Streams.{FindsCut, Held}
 use Rattle.lp_split.specs.code.Tracks.{IsTrackOf}
 
@@ -41,12 +39,12 @@ Holds stream text = HoldsBy stream.limit stream.held stream.skipped text
 abbrev pub kept : HeldWithin → ℕ
 kept stream = length stream.held.bytes
 
--- 1 where a piece that is too long was skipped to its end, and its fault is to come
+-- 1 if a piece that is too long was skipped to its end, and its fault is to come
 abbrev pub faults_to_come : Skipped → ℕ
 faults_to_come (Ended newlines) = 1
 faults_to_come other = 0
 
--- so many pieces and faults are given at most before another part comes
+-- how many pieces and faults are given at most before another part comes
 abbrev pub most_given : HeldWithin → ℕ
 most_given stream = kept stream + faults_to_come stream.skipped
 
@@ -54,7 +52,7 @@ most_given stream = kept stream + faults_to_come stream.skipped
 abbrev pub KeepsRules : HeldWithin → HeldWithin → Type 0
 KeepsRules before after = (after.held.dialect ≡ before.held.dialect) × (after.limit ≡ before.limit)
 
--- of a text that the stream holds, a call gives the first piece that a newline ends, or in its place a fault where it is
+-- of a text that the stream holds, a call gives the first piece that a newline ends, or in its place a fault if it is
 -- too long, which has the number of its newlines; if it gives none, no more bytes are kept than a piece may have
 abbrev pub GivesOf : HeldWithin → List ℕ → Option (Result (Bor (List ℕ)) PieceTooLong) → HeldWithin → Type 0
 GivesOf before text None after = Holds after text × IsLastPiece before.held.dialect text × (kept after ≤ before.limit)
@@ -71,7 +69,7 @@ FindsWithin before (Some (Ok cut)) after =
     (after ≡ before) × (before.skipped ≡ Nothing) × FindsCut before.held (Some cut) × (cut.at ≤ before.limit)
 FindsWithin before (Some (Err fault)) after = (text : List ℕ) → Holds before text → GivesOf before text (Some (Err fault)) after
 
--- so it is of each text that it may hold; no more bytes are kept than before, and once one is given, fewer can be
+-- so it is of each text that it may hold; no more bytes are kept than before, and after a piece or a fault fewer can be given
 abbrev pub GivesWithin : HeldWithin → Option (Result (Bor (List ℕ)) PieceTooLong) → HeldWithin → Type 0
 GivesWithin before result after =
     KeepsRules before after × (kept after ≤ kept before) × IfSome result (λ _. most_given after < most_given before)

@@ -1,10 +1,9 @@
 -- What is known where a search for the first cut stopped, so that it can go on as bytes come.
 use Rattle.std.specs.Prelude.{ℕ, ◌+◌, ◌≤◌, List, length, take, drop, Some, Result, Ok, Err}
-use Rattle.lp_format.specs.format.Dialects.{Dialect}
+use Rattle.lp_format.specs.format.{Dialect, IsFirstCut, IsLastPiece}
 use Rattle.lp_split.specs.declared.split.Mark.{Mark}
 use Rattle.lp_split.specs.declared.split.resumed.Search.{Search}
 use Rattle.lp_split.specs.declared.split.resumed.Search.TheVariants.{Begins, Quiet, Within}
-use Rattle.lp_format.specs.format.Pieces.{IsFirstCut, IsLastPiece}
 use Rattle.lp_split.specs.code.Ahead.{AreSeen}
 use Rattle.lp_split.specs.code.Tracks.{IsTrackOf, most_counted}
 

@@ -2,8 +2,7 @@
 use Rattle.std.specs.Prelude.{◌≡◌, ◌⊎◌, ℕ, ◌+◌, ◌<◌, ◌≤◌, ◌==◌, ◌||◌, Bool, true, false, List, length, slice_index, take}
 use Rattle.memchr.specs.Find.{is_byte3}
 use Rattle.lp_split.specs.declared.split.Stops.{Stops}
-use Rattle.lp_format.specs.format.Bytes.{backslash}
-use Rattle.lp_format.specs.format.Escapes.{is_bare_at, IsBareAfter}
+use Rattle.lp_format.specs.format.{backslash, is_bare_at, IsBareAfter}
 
 -- whether the byte ends a stretch
 abbrev pub is_stop : Stops → ℕ → Bool

@@ -1,10 +1,7 @@
 -- What a stream of pieces holds, and what a call takes of it.
-use Rattle.std.specs.Prelude.{◌≡◌, ℕ, ◌+◌, ◌≤◌, List, [], ◌∷◌, ◌++◌, length, drop, Option, Some, None, Result, Ok, Err}
+use Rattle.std.specs.Prelude.{◌≡◌, ℕ, ◌+◌, ◌≤◌, List, [], ◌∷◌, ◌++◌, length, drop, Option, Some, None, Result, Ok, Err, IsUtf8}
 use Rattle.std.specs.Borrow.{Bor}
-use Rattle.std.specs.Str.{IsUtf8}
-use Rattle.lp_format.specs.format.Dialects.{Dialect}
-use Rattle.lp_format.specs.format.Bytes.{newline}
-use Rattle.lp_format.specs.format.Pieces.{IsCutPiece, IsFirstCut, IsLastPiece}
+use Rattle.lp_format.specs.format.{Dialect, newline, IsCutPiece, IsFirstCut, IsLastPiece}
 use Rattle.lp_split.specs.declared.split.Mark.{Mark}
 use Rattle.lp_split.specs.declared.split.resumed.Search.{Search}
 use Rattle.lp_split.specs.code.Ahead.{AreSeen}

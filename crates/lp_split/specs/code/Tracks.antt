@@ -1,17 +1,13 @@
 -- What the bytes of a piece that are not kept say of the byte after them.
-use Rattle.std.specs.Prelude.{◌≡◌, ◌⊎◌, ℕ, ◌+◌, ◌<◌, ◌≤◌, ◌==◌, false, max, List, [], ◌∷◌, ◌++◌, length, take}
-use Rattle.std.specs.Prelude.{slice_index, Option, Some, None, Result, Ok, Err}
-use Rattle.std.specs.List.{All, count_by}
-use Rattle.lp_format.specs.format.Dialects.{Dialect, Crate, Strict}
-use Rattle.lp_split.specs.declared.split.resumed.Part.{Part}
-use Rattle.lp_split.specs.declared.split.resumed.Part.TheVariants.{Head, Plain, Quoted}
-use Rattle.lp_split.specs.declared.split.tracked.Place.{Place}
-use Rattle.lp_split.specs.declared.split.tracked.Track.{Track}
-use Rattle.lp_split.specs.declared.split.tracked.Track.TheVariants.{Comment, Blanks, Line}
-use Rattle.lp_format.specs.format.Bytes.{comma, equals, newline, space, tab}
-use Rattle.lp_format.specs.format.Escapes.{is_escaped_after, IsBareAfter}
-use Rattle.lp_format.specs.format.Piece.{EndsPlain, EndsQuoted, IsClosed, IsHead}
-use Rattle.lp_format.specs.format.Pieces.{begins_comment, IsComment, IsCutPiece}
+use Rattle.std.specs.Prelude.{◌≡◌, ◌⊎◌, ℕ, ◌+◌, ◌<◌, ◌≤◌, ◌==◌, false, max, List, [], ◌∷◌, ◌++◌, length, take, slice_index, Option, Some}
+use Rattle.std.specs.Prelude.{None, Result, Ok, Err, All, count_by}
+use Rattle.lp_format.specs.format.{Dialect, Crate, Strict, comma, equals, newline, space, tab, is_escaped_after, IsBareAfter, EndsPlain}
+use Rattle.lp_format.specs.format.{EndsQuoted, IsClosed, IsHead, begins_comment, IsComment, IsCutPiece}
+pub use Rattle.lp_split.specs.declared.split.resumed.Part.{Part}
+pub use Rattle.lp_split.specs.declared.split.resumed.Part.TheVariants.{Head, Plain, Quoted}
+pub use Rattle.lp_split.specs.declared.split.tracked.Place.{Place}
+pub use Rattle.lp_split.specs.declared.split.tracked.Track.{Track}
+pub use Rattle.lp_split.specs.declared.split.tracked.Track.TheVariants.{Comment, Blanks, Line}
 
 -- as many `=` and as many `,` are counted
 pub record IsCountOf (counted : List ℕ) (equal_signs commas : ℕ) : Type 0 where
@@ -49,8 +45,7 @@ IsTrackOf dialect bytes (Line place) = NeverComment dialect bytes × IsPlace byt
 -- one byte more ends the piece of a track, or leads to another track
 abbrev pub Leads : Track → ℕ → Option Track → Type 0
 Leads track b None = (b ≡ newline) × ((dialect : Dialect) (bytes : List ℕ) → IsTrackOf dialect bytes track → IsCutPiece dialect bytes)
-Leads track b (Some next) =
-    (dialect : Dialect) (bytes : List ℕ) → IsTrackOf dialect bytes track → IsTrackOf dialect (bytes ++ b ∷ []) next
+Leads track b (Some next) = (dialect : Dialect) (bytes : List ℕ) → IsTrackOf dialect bytes track → IsTrackOf dialect (bytes ++ b ∷ []) next
 
 -- bytes that come after those of a track lead to another
 abbrev pub LeadsTo : List ℕ → Track → Track → Type 0

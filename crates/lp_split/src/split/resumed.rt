@@ -4,13 +4,10 @@
 //! has come, that search looks again, and if it finds no cut, the bytes are tracked, and the track is kept. So however the
 //! bytes come, each is searched a few times at most.
 
-ghost use Rattle.std.specs.Prelude.{◌≡◌, ◌≢◌, ◌≤◌, true, false, length, take};
-ghost use Rattle.std.specs.List.{All};
-ghost use Rattle.lp_format.specs.format.Bytes.{newline};
+ghost use Rattle.std.specs.Prelude.{◌≡◌, ◌≢◌, ◌≤◌, true, false, length, take, All};
+ghost use Rattle.lp_format.specs.format.{newline};
 ghost use Rattle.lp_format.specs.format.Dialects as dialects;
-ghost use Rattle.lp_split.specs.code.Rules.{rules_of};
-ghost use Rattle.lp_split.specs.code.Searches.{IsKnown, SearchesOn};
-ghost use Rattle.lp_split.specs.code.Tracks.{IsTrackOf, most_counted};
+ghost use Rattle.lp_split.specs.code.{rules_of, IsKnown, SearchesOn, IsTrackOf, most_counted};
 
 use super::{Dialect, Mark, Track, first_cut, late_cut, track_on};
 use memchr::memchr;
@@ -42,7 +39,7 @@ fn has_newline(bytes: &[u8]) -> bool
     memchr(b'\n', bytes).is_some()
 }
 
-// The place of the newline that ends the first piece, from where the search stopped; or what is known now, where the text is
+// The place of the newline that ends the first piece, from where the search stopped; or what is known now, if the text is
 // one piece.
 pub(super) fn cut_from(text: &[u8], at: usize, track: Track) -> Result<Mark, Search>
     requires within { at ≤ length text.now }

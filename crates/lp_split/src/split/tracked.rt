@@ -1,10 +1,7 @@
 //! The track of a piece whose bytes are not kept: what they say of the byte that comes next.
 
 ghost use Rattle.std.specs.Prelude.{◌≡◌, ◌+◌, ◌<◌, ◌≤◌, ◌^◌, [], false, true, length, take, IfSome};
-ghost use Rattle.lp_split.specs.code.Rules.{rules_of};
-ghost use Rattle.lp_split.specs.declared.split.resumed.Part.TheVariants.{Plain};
-ghost use Rattle.lp_split.specs.declared.split.tracked.Track.TheVariants.{Line};
-ghost use Rattle.lp_split.specs.code.Tracks.{IsTrackOf, Leads, LeadsTo, most_counted, Steps, TracksOn};
+ghost use Rattle.lp_split.specs.code.{rules_of, Plain, Line, IsTrackOf, Leads, LeadsTo, most_counted, Steps, TracksOn};
 
 use super::resumed::Part;
 use super::{Dialect, HEAD, QUOTED, bare_len, load_ahead};
@@ -31,7 +28,7 @@ pub(crate) enum Track {
     Line(Place),
 }
 
-// The place after one byte more of a head, or `None` where the piece ends before it.
+// The place after one byte more of a head, or `None` if the piece ends before it.
 fn after_head(place: Place, byte: u8) -> Option<Place>
     requires head { place.part ≡ Part.Head }
     requires is_bare { place.is_escaped ≡ false }
@@ -99,7 +96,7 @@ fn after_quoted(place: Place, byte: u8) -> Place
     }
 }
 
-// The place after one byte more, or `None` where the piece ends before it.
+// The place after one byte more, or `None` if the piece ends before it.
 fn after_byte(place: Place, byte: u8) -> Option<Place>
     requires room { (place.equals + 1 < 2 ^ 64) × (place.commas + 1 < 2 ^ 64) }
     ensures steps { Steps place byte result }
@@ -118,7 +115,7 @@ fn after_byte(place: Place, byte: u8) -> Option<Place>
     }
 }
 
-// The track after one byte more, or `None` where the piece ends before it.
+// The track after one byte more, or `None` if the piece ends before it.
 fn after(track: Track, byte: u8) -> Option<Track>
     requires room { most_counted track + 1 < 2 ^ 64 }
     ensures leads { Leads track byte result }

@@ -2,11 +2,9 @@
 
 ghost use Rattle.std.specs.Prelude.{◌≡◌, ◌+◌, ◌++◌, ◌<◌, ◌≤◌, ℕ, List, [], length, IfSome, None, Err, OnOk, OnErr};
 ghost use Rattle.std.specs.Borrow.{sem};
-ghost use Rattle.lp_split.specs.code.Rules.{rules_of};
-ghost use Rattle.lp_split.specs.code.Bounded.{FindsWithin, GivesLastWithin, Holds, kept, KeepsRules, most_given};
+ghost use Rattle.lp_split.specs.code.{rules_of, FindsWithin, GivesLastWithin, Holds, kept, KeepsRules, most_given};
 ghost use Rattle.lp_split.specs.declared.stream.bounded.Skipped.{Skipped};
-ghost use Rattle.lp_format.specs.format.Bytes.{newlines_in};
-ghost use Rattle.lp_format.specs.format.Pieces.{IsLastPiece};
+ghost use Rattle.lp_format.specs.format.{newlines_in, IsLastPiece};
 
 use super::LineStream;
 use crate::split::{Dialect, Mark, Track, count_of, track_on};
@@ -52,7 +50,7 @@ pub struct BoundedLineStream {
 }
 
 impl Model for BoundedLineStream {
-    ghost use Rattle.lp_split.specs.code.Bounded.{HeldWithin};
+    ghost use Rattle.lp_split.specs.code.{HeldWithin};
 
     ghost Value = { HeldWithin };
 
@@ -126,6 +124,7 @@ impl BoundedLineStream {
     }
 
     // The cut of the first piece, or a fault if that is too long and was taken, or `None` until its newline has come.
+    #[tactic(auto, using(crate::proofs::lemmas::split::TrackedPieces::tracked_is_last))]
     fn first(&mut self) -> Option<Result<Mark, PieceTooLong>>
         ensures rules { KeepsRules self.old self.new }
         ensures few { kept self.new ≤ kept self.old }

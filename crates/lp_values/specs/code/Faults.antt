@@ -4,9 +4,8 @@ use Rattle.std.specs.Option.{option_map_or}
 use Rattle.lp_values.specs.declared.error.Error.{Error}
 use Rattle.lp_values.specs.declared.error.Error.TheVariants as error
 use Rattle.lp_values.specs.code.Outcomes.{fault_of}
-use Rattle.lp_format.specs.format.Readings.{Fault, measurement_value_invalid, field_set_missing, ends_with_backslash}
-use Rattle.lp_format.specs.format.Readings.{tag_set_malformed, take_while1, integer_value_invalid, uinteger_value_invalid}
-use Rattle.lp_format.specs.format.Readings.{timestamp_value_invalid, cannot_parse_entire_line}
+use Rattle.lp_format.specs.format.{Fault, measurement_value_invalid, field_set_missing, ends_with_backslash, tag_set_malformed, take_while1}
+use Rattle.lp_format.specs.format.{integer_value_invalid, uinteger_value_invalid, timestamp_value_invalid, cannot_parse_entire_line}
 
 -- the text of a fault of a line
 abbrev pub fault_text : Fault → List ℕ

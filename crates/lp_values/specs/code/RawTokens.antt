@@ -1,7 +1,6 @@
 -- What a scan finds of the escapes of a name or a string.
 use Rattle.std.specs.Prelude.{◌≡◌, ℕ, ◌+◌, ◌==◌, ◌&&◌, Bool, List, length, not, slice_index}
-use Rattle.lp_format.specs.format.Bytes.{backslash, is_one_of}
-use Rattle.lp_format.specs.format.Escapes.{is_bare_at, without_escapes}
+use Rattle.lp_format.specs.format.{backslash, is_one_of, is_bare_at, without_escapes}
 
 -- whether a known escape begins at this place: a bare backslash is there, before a byte that it escapes
 abbrev pub is_escape_at : List ℕ → List ℕ → ℕ → Bool

@@ -2,9 +2,8 @@
 use Rattle.std.specs.Prelude.{Bool, true, false}
 use Rattle.lp_values.specs.declared.values.FieldValue.{FieldValue}
 use Rattle.lp_values.specs.declared.values.FieldValue.TheVariants.{I64, U64, F64, String, Boolean}
-use Rattle.lp_format.specs.format.Readings.{Text}
+use Rattle.lp_format.specs.format.{Text, Value, integer, unsigned, float, string, boolean}
 use Rattle.lp_values.specs.code.Texts.{literal_of, read_of}
-use Rattle.lp_format.specs.format.Values.{Value, integer, unsigned, float, string, boolean}
 
 -- a value as it was read
 abbrev pub value_of : FieldValue → Value Text

@@ -6,13 +6,11 @@ use Rattle.lp_values.specs.declared.spelled.SpelledFault.{SpelledFault}
 use Rattle.lp_values.specs.declared.spelled.SpelledFault.TheVariants as fault
 use Rattle.lp_values.specs.declared.spelled.SpelledValue.{SpelledValue}
 use Rattle.lp_values.specs.declared.spelled.SpelledValue.TheVariants.{I64, U64, F64, String, Boolean}
-use Rattle.lp_format.specs.format.Names.{read_text}
-use Rattle.lp_format.specs.format.Readings.{Fault, integer_value_invalid, uinteger_value_invalid, timestamp_value_invalid}
-use Rattle.lp_format.specs.format.Readings.{measurement_value_invalid, field_set_missing, ends_with_backslash}
-use Rattle.lp_format.specs.format.Readings.{tag_set_malformed, take_while1, cannot_parse_entire_line}
-use Rattle.lp_format.specs.format.Readings.{Read, Reading, Text, miss, fatal, reads}
-use Rattle.lp_format.specs.format.Values.{Value, integer, unsigned, float, string, boolean}
-use Rattle.lp_scan.specs.code.Tokens.{known_of}
+use Rattle.lp_format.specs.format.{read_text, Fault, integer_value_invalid, uinteger_value_invalid, timestamp_value_invalid}
+use Rattle.lp_format.specs.format.{measurement_value_invalid, field_set_missing, ends_with_backslash, tag_set_malformed, take_while1}
+use Rattle.lp_format.specs.format.{cannot_parse_entire_line, Read, Reading, Text, miss, fatal, reads, Value, integer, unsigned, float}
+use Rattle.lp_format.specs.format.{string, boolean}
+use Rattle.lp_scan.specs.code.{known_of}
 use Rattle.lp_values.specs.code.Outcomes.{side}
 use Rattle.lp_values.specs.code.Texts.{literal_of}
 

@@ -1,24 +1,19 @@
 -- The parts of a text that are as the builder writes them.
-use Rattle.std.specs.Prelude.{◌≡◌, ◌&&◌, ◌||◌, ◌==◌, ◌+◌, ◌^◌, ℕ, ℤ, Bool, true, false, not, nat_lt, Option, List, [], ◌∷◌, ◌++◌, length, MatchOption}
-use Rattle.std.specs.Prelude.{if◌then◌else◌, slice_index}
+use Rattle.std.specs.Prelude.{◌≡◌, ◌&&◌, ◌||◌, ◌==◌, ◌+◌, ◌^◌, ℕ, ℤ, Bool, true, false, not, nat_lt, Option, List, [], ◌∷◌, ◌++◌, length}
+use Rattle.std.specs.Prelude.{MatchOption, if◌then◌else◌, slice_index}
 use Rattle.std.specs.Borrow.{Bor}
 use Rattle.std.specs.Fmt.{signed_decimal}
 use Rattle.std.specs.Str.Parse.{digits_value, signed_digits_value}
-use Rattle.lp_format.specs.format.Bytes.{backslash, comma, equals, hash, is_one_of, minus, quote, space}
-use Rattle.lp_format.specs.format.Escapes.{escaped}
-use Rattle.lp_format.specs.format.Names.{NameKind, a_measurement, a_tag_key, a_tag_value, a_field_key, ends_in_backslash}
-use Rattle.lp_format.specs.format.Names.{escapable, is_stop}
-use Rattle.lp_format.specs.format.Values.{Value, fits_i64, quotable}
-use Rattle.lp_format.specs.format.Points.{IsValue, built_value}
-use Rattle.lp_format.specs.format.Points.{is_admitted_name, spelling}
+use Rattle.lp_format.specs.format.{backslash, comma, equals, hash, is_one_of, minus, quote, space, escaped, NameKind, a_measurement}
+use Rattle.lp_format.specs.format.{a_tag_key, a_tag_value, a_field_key, ends_in_backslash, escapable, is_stop, Value, fits_i64, quotable}
+use Rattle.lp_format.specs.format.{IsValue, built_value, is_admitted_name, spelling}
 
 -- how many bytes at the start of a text are those of a token as the builder spells it: up to the first byte that ends it or
 -- that has a backslash in it, unless that is a backslash before such a byte
 unfoldable pub written_len : List ℕ → (ℕ → Bool) → List ℕ → ℕ
 written_len known stops [] = 0
 written_len known stops (b ∷ []) = if stops b || is_one_of known b then 0 else 1
-written_len known stops (b ∷ c ∷ rest) =
-    if stops b || is_one_of known b
+written_len known stops (b ∷ c ∷ rest) = if stops b || is_one_of known b
     then if b == backslash && is_one_of known c then 2 + written_len known stops rest else 0
     else 1 + written_len known stops (c ∷ rest)
 
@@ -114,6 +109,5 @@ IsWrittenAfterName text = AreItems IsWrittenTag IsWrittenAfterTags text
 
 -- what is left of a text is the rest that follows such a front, and no other rest that ends it does; or none does
 abbrev pub IsOnlyRest : (List ℕ → Type 0) → (List ℕ → Type 0) → Option (Bor (List ℕ)) → Type 0
-IsOnlyRest Front Ends result =
-    MatchOption result ((rest : List ℕ) → Front rest → Ends rest → ⊥)
+IsOnlyRest Front Ends result = MatchOption result ((rest : List ℕ) → Front rest → Ends rest → ⊥)
     (λ left. Front left.now × ((rest : List ℕ) → Front rest → Ends rest → rest ≡ left.now))

@@ -1,6 +1,5 @@
-use Rattle.std.specs.Prelude.{◌==◌}
-use Rattle.lp_format.specs.format.Bytes.{quote}
-use Rattle.lp_format.specs.format.Names.{is_stop}
+use Rattle.std.proofs.Common.{◌==◌}
+use Rattle.lp_format.specs.format.{quote, is_stop}
 use Rattle.lp_split.proofs.lemmas.split.StopMeaning.{before_stop}
 use Rattle.influxdb_line_protocol.proofs.laws.first_bare_stop_ends.Goals as goal
 

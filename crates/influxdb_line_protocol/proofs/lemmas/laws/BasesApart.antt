@@ -1,32 +1,22 @@
 -- If names hold none of the bytes that part a base, the base fixes the series; bases that are safe to group by tell their series.
-use Rattle.std.proofs.Common.{◌≡◌, ℕ, ◌+◌, Bool, true, false, List, [], ◌∷◌, ◌++◌, ◌||◌, length, take, drop, refl, sym, ap, ◌∙◌}
-use Rattle.std.proofs.Common.{subst, inl, inr, append_assoc}
-use Rattle.std.specs.Prelude.{◌==◌}
-use Rattle.std.specs.List.{flat_map, list_any}
-use Rattle.std.specs.List.Sorted.{IsPermutation}
+use Rattle.std.proofs.Common.{◌≡◌, ℕ, ◌+◌, Bool, true, false, List, [], ◌∷◌, ◌++◌, ◌||◌, length, take, drop, refl, sym, ap, ◌∙◌, subst, inl}
+use Rattle.std.proofs.Common.{inr, append_assoc, arith, ◌==◌, flat_map, IsPermutation, take-append-drop, eq-eqb, ne_eqb}
+use Rattle.std.specs.List.{list_any}
 use Rattle.std.proofs.lemmas.List.Folds.{list_any-append}
-use Rattle.std.proofs.lemmas.List.{take-append-drop}
-use Rattle.std.proofs.lemmas.Bool.{cases_Bool, eq-eqb, ne_eqb, false≢true, or_from, or_parts, not-true}
+use Rattle.std.proofs.lemmas.Bool.{cases_Bool, false≢true, or_from, or_parts, not-true}
 use Rattle.std.proofs.lemmas.List.Sorted.{IsPermutation-sym, IsPermutation-trans, list_any-IsPermutation}
 use Rattle.lp_lines.specs.laws.BaseLaws.{OneBaseIsOneSeries, PlainSeriesAreClear, is_tag_delimited, is_tag_one_escape, spelled_tags}
-use Rattle.lp_lines.specs.laws.BaseLaws.{IsParsedSeries, SafeBasesTellSeries, SameSeriesAreSafeAlike, has_one_escape}
-use Rattle.lp_lines.specs.laws.BaseLaws.{is_delimited}
+use Rattle.lp_lines.specs.laws.BaseLaws.{IsParsedSeries, SafeBasesTellSeries, SameSeriesAreSafeAlike, has_one_escape, is_delimited}
 use Rattle.lp_lines.specs.code.Bases.{base_text, based_tag, by_key, in_order, is_ambiguous_name, is_ambiguous_tag, is_base_safe}
 use Rattle.lp_lines.specs.code.Bases.{is_byte_alone}
-use Rattle.lp_format.specs.format.Bytes.{backslash, comma, equals, is_one_of}
-use Rattle.lp_format.specs.format.Escapes.{without_escapes}
-use Rattle.lp_format.specs.format.Lines.{tag}
+use Rattle.lp_format.specs.format.{backslash, comma, equals, is_one_of, without_escapes, tag, NameKind, a_measurement, a_tag_key}
+use Rattle.lp_format.specs.format.{a_tag_value, escapable, is_one_escape, is_stop, spelled, spelled_len, read_text, Pair, Text, reads}
 use Rattle.lp_format.specs.laws.Meanings.{SeparatedAfterComma}
-use Rattle.lp_format.specs.format.Names.{NameKind, a_measurement, a_tag_key, a_tag_value, escapable, is_one_escape, is_stop}
-use Rattle.lp_format.specs.format.Names.{spelled, spelled_len, read_text}
-use Rattle.lp_format.specs.format.Points.{Pair}
-use Rattle.lp_format.specs.format.Readings.{Text, reads}
 use Rattle.lp_format.proofs.lemmas.names.NameLemmas.{without_escapes_same, no_backslash}
 use Rattle.lp_values.proofs.lemmas.fields.ReadingLemmas.{name_parts}
 use Rattle.lp_split.proofs.lemmas.split.ScanLemmas.{bare_len, first_bare_len}
 use Rattle.lp_lines.proofs.lemmas.series.SortedTags.{by_key_permutes}
 use Rattle.lp_lines.proofs.lemmas.series.BasesTellSeries.{base_is, tag_parts, tags_separated, value_part, same_series_have_one_base}
-use Rattle.std.proofs.Common.{arith}
 
 -- nothing, or a text that begins with this byte
 abbrev Begins : ℕ → List ℕ → Type 0
@@ -84,9 +74,10 @@ same_tags ((a, b) ∷ es) ((c, d) ∷ fs) h k same =
     cc
 
 -- the same test, of tags and of entries
-same_test : (tags : List (Pair Text Text)) → list_any is_parted (in_order tags) ≡ list_any is_tag_delimited tags
-same_test [] = refl
-same_test (t ∷ tags) = ap (λ (b : Bool). is_tag_delimited t || b) (same_test tags)
+same_test : (p : List ℕ × List ℕ → Bool) (tags : List (Pair Text Text))
+    → list_any p (in_order tags) ≡ list_any (λ t. p (t.key.bytes, t.value.bytes)) tags
+same_test p [] = refl
+same_test p (t ∷ tags) = ap (λ (b : Bool). p (t.key.bytes, t.value.bytes) || b) (same_test p tags)
 
 -- a base text fixes the measurement and the tags
 same_parts : (m n : List ℕ) (es fs : List (List ℕ × List ℕ)) → is_one_of m comma ≡ false → is_one_of n comma ≡ false
@@ -101,10 +92,9 @@ one_base_is_one_series raw text m other tags others h k p q same =
     let one = by_key_permutes tags h.repeats_none in
     let two = by_key_permutes others k.repeats_none in
     let bases = sym (base_is raw m tags h) ∙ same ∙ base_is text other others k in
-    let texts : base_text m.bytes (by_key tags) ≡ base_text other.bytes (by_key others) = cc in
     let parts = same_parts m.bytes other.bytes (by_key tags) (by_key others) left.0 right.0
-    (sym (list_any-IsPermutation is_parted (in_order tags) (by_key tags) one) ∙ same_test tags ∙ left.1)
-    (sym (list_any-IsPermutation is_parted (in_order others) (by_key others) two) ∙ same_test others ∙ right.1) texts in
+    (sym (list_any-IsPermutation is_parted (in_order tags) (by_key tags) one) ∙ same_test is_parted tags ∙ left.1)
+    (sym (list_any-IsPermutation is_parted (in_order others) (by_key others) two) ∙ same_test is_parted others ∙ right.1) cc in
     let back : IsPermutation (by_key tags) (in_order others) =
     subst (λ (es : List (List ℕ × List ℕ)). IsPermutation es (in_order others)) (sym parts.1)
     (IsPermutation-sym (in_order others) (by_key others) two) in
@@ -113,16 +103,8 @@ one_base_is_one_series raw text m other tags others h k p q same =
 -- what a text does not hold, neither part of it holds
 none_in_parts : (c n : ℕ) (text : List ℕ) → is_one_of text c ≡ false
     → (is_one_of (take n text) c ≡ false) × (is_one_of (drop n text) c ≡ false)
-none_in_parts c n text none =
-    or_parts (is_one_of (take n text) c) (is_one_of (drop n text) c)
+none_in_parts c n text none = or_parts (is_one_of (take n text) c) (is_one_of (drop n text) c)
     (sym (list_any-append (λ b. b == c) (take n text) (drop n text)) ∙ ap (λ xs. is_one_of xs c) (take-append-drop n text) ∙ none)
-
--- without a backslash there is no escape
-no_escape : (known text : List ℕ) → is_one_of text backslash ≡ false → is_one_escape known text ≡ false
-no_escape known [] none = refl
-no_escape known (b ∷ []) none = refl
-no_escape known (b ∷ c ∷ []) none = rw (or_parts (b == backslash) (is_one_of (c ∷ []) backslash) none).0 refl
-no_escape known (b ∷ c ∷ d ∷ text) none = refl
 
 -- before the first bare byte that passes is none that would be bare
 none_before : (passes : ℕ → Bool) (c : ℕ) (text : List ℕ) → passes c ≡ true → is_one_of text backslash ≡ false
@@ -154,8 +136,7 @@ IsClearName kind divider text t = (is_one_escape (escapable kind) (spelled kind 
 
 -- what is known of tags and their text shows that both names of the first are clear, and is known of the others
 abbrev ShowsClear : (List (Pair Text Text) → List ℕ → Type 0) → Type 0
-ShowsClear Known =
-    (t : Pair Text Text) (tags : List (Pair Text Text)) (suffix after : List ℕ) → Known (t ∷ tags) (comma ∷ suffix)
+ShowsClear Known = (t : Pair Text Text) (tags : List (Pair Text Text)) (suffix after : List ℕ) → Known (t ∷ tags) (comma ∷ suffix)
     → tag suffix ≡ reads t after
     → IsClearName a_tag_key equals suffix t.key × IsClearName a_tag_value comma (value_part suffix) t.value × Known tags after
 
@@ -199,7 +180,7 @@ series_clear Known shows raw m tags h first known =
 -- a name without a backslash is clear
 plain_is_clear : (kind : NameKind) (divider : ℕ) (text : List ℕ) (t : Text) → t ≡ read_text (escapable kind) (spelled kind text)
     → is_stop kind divider ≡ true → is_one_of text backslash ≡ false → IsClearName kind divider text t
-plain_is_clear kind divider text t is stop none = grind (arith, no_escape, none_in_parts, plain_name, no_stop)
+plain_is_clear kind divider text t is stop none = grind (arith, none_in_parts, plain_name, no_stop, or_parts)
 
 -- tags without a backslash are clear
 plain_shows : ShowsClear (λ tags text. is_one_of text backslash ≡ false)
@@ -216,8 +197,7 @@ plain_shows t tags suffix after none e =
 pub plain_series_are_clear : PlainSeriesAreClear
 plain_series_are_clear raw m tags none h =
     let p = name_parts a_measurement raw m h.after h.measurement_is in
-    let after : is_one_of h.after backslash ≡ false = ap (λ (r : List ℕ). is_one_of r backslash) p.1
-    ∙ (none_in_parts backslash (spelled_len a_measurement raw) raw none).1 in
+    let after = ap (λ (r : List ℕ). is_one_of r backslash) p.1 ∙ (none_in_parts backslash (spelled_len a_measurement raw) raw none).1 in
     series_clear (λ tags text. is_one_of text backslash ≡ false) plain_shows raw m tags h
     (plain_is_clear a_measurement comma raw m p.0 refl none) after
 
@@ -225,10 +205,7 @@ plain_series_are_clear raw m tags none h =
 escape_reads_alone : (known spelling : List ℕ) → is_byte_alone known (without_escapes known spelling) ≡ false
     → is_one_escape known spelling ≡ false
 unfolding without_escapes
-escape_reads_alone known [] h = refl
-escape_reads_alone known (b ∷ []) h = refl
-escape_reads_alone known (b ∷ c ∷ []) h = grind (arith, cases_Bool, false≢true)
-escape_reads_alone known (b ∷ c ∷ d ∷ spelling) h = refl
+escape_reads_alone known spelling h = grind (arith, cases_Bool, false≢true)
 
 -- a name that is read and is not ambiguous: it is spelled as no escape alone, and does not hold the byte that divides
 name_apart : (kind : NameKind) (divider : ℕ) (text : List ℕ) (t : Text) → t ≡ read_text (escapable kind) (spelled kind text)
@@ -252,11 +229,10 @@ apart_shows t tags suffix after clear e =
 safe_is_clear : (raw : List ℕ) (m : Text) (tags : List (Pair Text Text)) → IsParsedSeries raw m tags
     → is_base_safe m tags ≡ true → (has_one_escape raw (length tags) ≡ false) × (is_delimited m tags ≡ false)
 safe_is_clear raw m tags h safe =
-    let p = name_parts a_measurement raw m h.after h.measurement_is in
     let apart = or_parts (is_ambiguous_name (escapable a_measurement) comma m.bytes) (list_any is_ambiguous_tag tags)
     (not-true (is_ambiguous_name (escapable a_measurement) comma m.bytes || list_any is_ambiguous_tag tags) safe) in
     series_clear (λ tags text. list_any is_ambiguous_tag tags ≡ false) apart_shows raw m tags h
-    (name_apart a_measurement comma raw m p.0 apart.0) apart.1
+    (name_apart a_measurement comma raw m (name_parts a_measurement raw m h.after h.measurement_is).0 apart.0) apart.1
 
 -- safe bases are the same for the same series alone
 pub safe_bases_tell_series : SafeBasesTellSeries
@@ -266,11 +242,6 @@ safe_bases_tell_series raw text m other tags others h k once alone safe sound = 
 abbrev is_ambiguous_entry : List ℕ × List ℕ → Bool
 is_ambiguous_entry e = is_ambiguous_name (escapable a_tag_key) equals e.0 || is_ambiguous_name (escapable a_tag_value) comma e.1
 
--- the same test, of tags and of entries
-same_ambiguity : (tags : List (Pair Text Text)) → list_any is_ambiguous_entry (in_order tags) ≡ list_any is_ambiguous_tag tags
-same_ambiguity [] = refl
-same_ambiguity (t ∷ tags) = ap (λ (b : Bool). is_ambiguous_tag t || b) (same_ambiguity tags)
-
 -- a base is safe whatever the order of the tags
 pub same_series_are_safe_alike : SameSeriesAreSafeAlike
-same_series_are_safe_alike m other tags others same = grind (arith, same_ambiguity, list_any-IsPermutation)
+same_series_are_safe_alike m other tags others same = grind (arith, same_test is_ambiguous_entry, list_any-IsPermutation)

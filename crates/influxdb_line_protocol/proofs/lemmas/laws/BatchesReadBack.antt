@@ -1,12 +1,12 @@
 -- Batches of points: those with admitted names read back, and no others do.
 use Rattle.std.proofs.Common.{◌≡◌, [], ◌∷◌, ◌++◌, refl, ap, subst, append_assoc, Ok, ℕ, ◌+◌, List, map, true, false, ◌&&◌, sym, ◌∙◌, arith}
-use Rattle.std.proofs.Common.{inl, inr, Err, Result, ◌<◌, length}
-use Rattle.lp_format.specs.format.Dialects.{Dialect}
-use Rattle.lp_format.specs.format.Points.{Point, line_of, built_all, IsPoint, Tag, Field, IsValue, is_admitted_name, is_admitted_tag}
-use Rattle.lp_format.specs.format.Points.{is_admitted_field, is_admitted_point, spelling, built, built_tag, built_field, built_fields}
-use Rattle.lp_format.specs.format.Points.{built_value, built_timestamp}
-use Rattle.lp_format.specs.format.Pieces.{Pieces}
-use Rattle.lp_format.specs.format.Items.{answers_of_piece, HasAnswers, item_of, answers_of}
+use Rattle.std.proofs.Common.{inl, inr, Err, Result, ◌<◌, length, Contains, flat_map, length-append}
+use Rattle.lp_format.specs.format.{Dialect, Point, line_of, built_all, IsPoint, Tag, Field, IsValue, is_admitted_name, is_admitted_tag}
+use Rattle.lp_format.specs.format.{is_admitted_field, is_admitted_point, spelling, built, built_tag, built_field, built_fields, built_value}
+use Rattle.lp_format.specs.format.{built_timestamp, answers_of_piece, HasAnswers, item_of, answers_of, newline, equals}
+use Rattle.lp_format.specs.format.Pieces.{Pieces, Pieces.cut}
+use Rattle.lp_format.specs.format.{space, comma, Fault, ends_with_backslash, a_measurement, a_field_key, NameKind, a_tag_key, a_tag_value}
+use Rattle.lp_format.specs.format.{ends_in_backslash, EndsPlain, Line, point_of, field, spaces, answer}
 use Rattle.lp_format.specs.laws.Laws.{IsAdmittedPoint, BatchesReadBack, OtherBatchesDoNotReadBack, ItemsHaveReadableNames}
 use Rattle.lp_format.specs.laws.Laws.{OtherPointsEndWithBackslash}
 use Rattle.lp_lines.proofs.lemmas.read_back.LinePieces.{IsAdmitted, admitted_point, line_begins, line_is_cut_piece, reaches_tags}
@@ -16,16 +16,11 @@ use Rattle.lp_lines.proofs.lemmas.read_back.LineReadsBack.{line_reads_back, meas
 use Rattle.lp_lines.proofs.lemmas.names.Spellings.{line_trimmed, line_some, admitted_spelled, name_reads_back, measurement_begins}
 use Rattle.lp_lines.proofs.lemmas.names.Spellings.{spelled_spaces, reaches_name, reaches_other, reaches_gap, reaches_field_key, Reaches}
 use Rattle.lp_lines.proofs.lemmas.names.Spellings.{reaches_start}
-use Rattle.lp_format.specs.format.Bytes.{newline, equals, space, comma}
-use Rattle.std.specs.List.{AllByRecursion, Contains, list_all, flat_map}
+use Rattle.std.specs.List.{AllByRecursion, list_all}
 use Rattle.std.proofs.lemmas.Bool.{and_parts, cases_Bool, false≢true, and_from, both_ways}
-use Rattle.std.proofs.lemmas.List.{length-append, length-map, get_or-map}
-use Rattle.lp_split.specs.declared.split.resumed.Part.TheVariants.{Head, Plain}
+use Rattle.std.proofs.lemmas.List.{length-map, get_or-map}
+use Rattle.lp_split.specs.code.{Head, Plain}
 use Rattle.lp_split.proofs.lemmas.split.SplitWalk.{Plain-comma}
-use Rattle.lp_format.specs.format.Readings.{Fault, ends_with_backslash}
-use Rattle.lp_format.specs.format.Names.{a_measurement, a_field_key, NameKind, a_tag_key, a_tag_value, ends_in_backslash}
-use Rattle.lp_format.specs.format.Piece.{EndsPlain}
-use Rattle.lp_format.specs.format.Lines.{Line, point_of, field, spaces, answer}
 use Rattle.lp_format.specs.laws.NamesOfLines.{IsParsedName, names_of, BeginsNoComment}
 use Rattle.lp_format.proofs.lemmas.split.SplitPieces.{pieces_exist, same_pieces}
 use Rattle.lp_format.proofs.lemmas.split.SplitBare.{is_escaped-push_other}
@@ -34,11 +29,9 @@ use Rattle.influxdb_line_protocol.proofs.lemmas.laws.FatalLines.{Fails, first_fa
 use Rattle.influxdb_line_protocol.proofs.lemmas.laws.FatalLines.{and_more, and_before, stops_as, ManyFail, first_of_many, later_of_many}
 use Rattle.influxdb_line_protocol.proofs.lemmas.laws.FatalLines.{first_failing, second_fails, TagsFail, tags_fail}
 use Rattle.std.proofs.lemmas.Grind.{flat_map-append}
-use Rattle.lp_format.specs.laws.UnreadableNames.{IsUnreadable, HasReadableNames}
-use Rattle.lp_format.proofs.lemmas.lists.Elements.{first_element, first_or_later, later_element}
-use Rattle.lp_format.specs.format.Pieces.{Pieces.cut}
-use Rattle.lp_format.specs.laws.UnreadableNames.{IsUnreadable.empty, IsUnreadable.ends, IsUnreadable.begins}
+use Rattle.lp_format.specs.laws.UnreadableNames.{IsUnreadable, HasReadableNames, IsUnreadable.empty, IsUnreadable.ends, IsUnreadable.begins}
 use Rattle.lp_format.specs.laws.UnreadableNames.{IsUnreadable.alone}
+use Rattle.lp_format.proofs.lemmas.lists.Elements.{first_element, first_or_later, later_element}
 
 -- the line of an admitted point has one answer
 line_answers : (dialect : Dialect) (p : Point) → IsAdmitted p → answers_of_piece dialect (line_of p) ≡ Ok (read_line p) ∷ []
@@ -84,8 +77,7 @@ InPlain piece = (counted : List ℕ) × EndsPlain piece counted
 
 -- fields of which one stops too early, without the byte before them
 abbrev FieldsFail : List Field → Type 0
-FieldsFail fs =
-    (text : List ℕ) × ((c : ℕ) → built_fields c fs ≡ c ∷ text)
+FieldsFail fs = (text : List ℕ) × ((c : ℕ) → built_fields c fs ≡ c ∷ text)
     × StopsEarly (λ front. (m : ℕ) (piece : List ℕ) → Reaches Plain m m piece → InPlain (piece ++ front))
     (λ at. (spaces at ≡ 0) × ManyFail field at) text
 
@@ -106,8 +98,7 @@ later_field_fails f fs ok g =
     let text = built_field f in (
       text ++ comma ∷ g.0,
       (λ c. ap (λ (xs : List ℕ). c ∷ (text ++ xs)) (g.1 comma)),
-      and_before text comma
-          (λ front r m piece h.
+      and_before text comma (λ front r m piece h.
           let first = reaches_field m f piece ok h in
           let sign : Reaches Plain (m + 1) (m + 1) ((piece ++ text) ++ comma ∷ []) =
           (is_escaped-push_other (piece ++ text) comma (omega arith), Plain-comma (m + 1) m (piece ++ text) first.0 first.1) in
@@ -126,12 +117,11 @@ later_field_fails f fs ok g =
 fields_fail : (fs : List Field) → AllByRecursion (λ f. IsParsedName a_field_key f.key) fs
     → AllByRecursion (λ f. IsValue f.value) fs → list_all is_admitted_field fs ≡ false → FieldsFail fs
 fields_fail [] names values bad = absurd (false≢true (sym bad))
-fields_fail (f ∷ fs) names values bad =
-    elim (cases_Bool (is_admitted_field f)) [
-      | inl ok ↦ later_field_fails f fs (ok, values.0)
-          (fields_fail fs names.1 values.1 (second_fails (is_admitted_field f) (list_all is_admitted_field fs) bad ok))
-      | inr refused ↦ first_field_fails f fs (name_stops a_field_key f.key names.0 refused)
-    ]
+fields_fail (f ∷ fs) names values bad = elim (cases_Bool (is_admitted_field f)) [
+  | inl ok ↦ later_field_fails f fs (ok, values.0)
+      (fields_fail fs names.1 values.1 (second_fails (is_admitted_field f) (list_all is_admitted_field fs) bad ok))
+  | inr refused ↦ first_field_fails f fs (name_stops a_field_key f.key names.0 refused)
+]
 
 -- a line whose fields stop too early
 fields_line_fails : (m : List ℕ) (ts : List Tag) (fs : List Field) (more : List ℕ)
@@ -249,16 +239,14 @@ readable_point p h =
 line_of_item : (answers : List (Result Line Fault)) (p : Point) → Contains (map item_of answers) (Ok p) → (line : Line)
     × Contains answers (Ok line) × (point_of line ≡ p)
 line_of_item [] p h = absurd (nothing_in_nil _ h)
-line_of_item (Ok line ∷ answers) p h =
-    elim (first_or_later (item_of (Ok line)) (Ok p) (map item_of answers) h) [
-      | inl same ↦ (line, first_element (Ok line) answers, cc)
-      | inr later ↦ let more = line_of_item answers p later in (more.0, later_element (Ok line) (Ok more.0) answers more.1, more.2)
-    ]
-line_of_item (Err fault ∷ answers) p h =
-    elim (first_or_later (item_of (Err fault)) (Ok p) (map item_of answers) h) [
-      | inl same ↦ absurd (cc)
-      | inr later ↦ let more = line_of_item answers p later in (more.0, later_element (Err fault) (Ok more.0) answers more.1, more.2)
-    ]
+line_of_item (Ok line ∷ answers) p h = elim (first_or_later (item_of (Ok line)) (Ok p) (map item_of answers) h) [
+  | inl same ↦ (line, first_element (Ok line) answers, cc)
+  | inr later ↦ let more = line_of_item answers p later in (more.0, later_element (Ok line) (Ok more.0) answers more.1, more.2)
+]
+line_of_item (Err fault ∷ answers) p h = elim (first_or_later (item_of (Err fault)) (Ok p) (map item_of answers) h) [
+  | inl same ↦ absurd (cc)
+  | inr later ↦ let more = line_of_item answers p later in (more.0, later_element (Err fault) (Ok more.0) answers more.1, more.2)
+]
 
 -- no item is a point with an unreadable name
 pub items_have_readable_names : ItemsHaveReadableNames

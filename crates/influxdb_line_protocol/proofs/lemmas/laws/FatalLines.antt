@@ -1,20 +1,15 @@
 -- A line with a name whose spelling stops too early: the name is fatal, and so is the line, at a measurement or a tag.
 use Rattle.std.proofs.Common.{◌≡◌, ◌≢◌, ℕ, ◌<◌, List, [], ◌∷◌, ◌++◌, length, slice_index, true, false, refl, sym, ap, ◌∙◌, subst, arith}
-use Rattle.std.proofs.Common.{inl, inr, append_assoc, append-nil, Err, Result, Bool, ◌&&◌}
-use Rattle.std.specs.Prelude.{◌==◌}
-use Rattle.std.specs.List.{list_all, AllByRecursion, flat_map}
-use Rattle.std.proofs.lemmas.Bool.{cases_Bool, false≢true, both_ways, and_from, and_right, ne_eqb, and_parts}
+use Rattle.std.proofs.Common.{inl, inr, append_assoc, append-nil, Err, Result, Bool, ◌&&◌, flat_map, ne_eqb, length-append}
+use Rattle.std.specs.List.{list_all, AllByRecursion}
+use Rattle.std.proofs.lemmas.Bool.{cases_Bool, false≢true, both_ways, and_from, and_right, and_parts}
 use Rattle.std.proofs.lemmas.Grind.{flat_map-append}
-use Rattle.lp_format.specs.format.Dialects.{Dialect, Crate, Strict}
-use Rattle.lp_format.specs.format.Bytes.{hash, is_one_of, newline, comma, equals, space, backslash}
-use Rattle.lp_format.specs.format.Escapes.{escaped}
-use Rattle.lp_format.specs.format.Readings.{Fault, ends_with_backslash, fatal, Reading, reads}
-use Rattle.lp_format.specs.format.Names.{NameKind, a_measurement, a_tag_key, a_tag_value, ends_in_backslash, is_stop, name}
-use Rattle.lp_format.specs.format.Piece.{IsClosed}
-use Rattle.lp_format.specs.format.Points.{never_in, is_admitted_name, spelling, Tag, is_admitted_tag, built_tag}
-use Rattle.lp_format.specs.format.Pieces.{IsLastPiece, Pieces}
-use Rattle.lp_format.specs.format.Lines.{Line, answer, tag, after_comma, many, separated_list}
-use Rattle.lp_format.specs.format.Items.{answers_of_piece, answers_of}
+use Rattle.lp_format.specs.format.{Dialect, Crate, Strict, is_one_of, newline, comma, equals, space, backslash, escaped, Fault}
+use Rattle.lp_format.specs.format.{ends_with_backslash, fatal, Reading, reads, NameKind, a_measurement, a_tag_key, a_tag_value}
+use Rattle.lp_format.specs.format.{ends_in_backslash, name, IsClosed, never_in, is_admitted_name, spelling, Tag, is_admitted_tag, built_tag}
+use Rattle.lp_format.specs.format.{IsLastPiece, Line, answer, tag, after_comma, many, separated_list}
+use Rattle.lp_format.specs.format.Pieces.{Pieces, Pieces.last, Pieces.cut}
+use Rattle.lp_format.specs.format.{answers_of_piece, answers_of}
 use Rattle.lp_format.specs.laws.NamesOfLines.{IsParsedName}
 use Rattle.lp_format.proofs.lemmas.split.SplitPieces.{no_cut_within}
 use Rattle.lp_format.proofs.lemmas.split.SplitBare.{place_in_append}
@@ -22,11 +17,9 @@ use Rattle.lp_format.proofs.lemmas.read_back.NameReadsBack.{may_hold, escaped_pl
 use Rattle.lp_lines.proofs.lemmas.names.Spellings.{reaches_start, Reaches, SpelledAs, never_unescapable, never_stops, spelling_as, Stops}
 use Rattle.lp_lines.proofs.lemmas.names.Spellings.{spelled_fatal, spelled_begins, reaches_head, BeginsLine, line_no_comment, line_trimmed}
 use Rattle.lp_lines.proofs.lemmas.names.Spellings.{line_some, name_reads_back, reaches_name, reaches_other}
-use Rattle.std.proofs.lemmas.List.{length-append}
-use Rattle.lp_split.specs.declared.split.resumed.Part.TheVariants.{Head}
+use Rattle.lp_split.specs.code.{Head}
 use Rattle.lp_lines.proofs.lemmas.read_back.LineReadsBack.{tag_text, tag_reads_back}
 use Rattle.lp_lines.proofs.lemmas.read_back.LinePieces.{AdmittedTag}
-use Rattle.lp_format.specs.format.Pieces.{Pieces.last, Pieces.cut}
 
 -- nothing, or this byte at the start
 abbrev pub StopsWith : ℕ → List ℕ → Type 0
@@ -61,8 +54,7 @@ module _ {R A S B : List ℕ → Type 0} {text : List ℕ} where
 
 -- a line whose front is not cut, and is answered with a fault
 abbrev pub Fails : List ℕ → Type 0
-Fails line =
-    StopsEarly IsClosed (λ text. BeginsLine text × ((dialect : Dialect) → answer dialect text ≡ Err ends_with_backslash)) line
+Fails line = StopsEarly IsClosed (λ text. BeginsLine text × ((dialect : Dialect) → answer dialect text ≡ Err ends_with_backslash)) line
 
 -- the piece that holds such a front
 piece_fails : (dialect : Dialect) (line : List ℕ) (f : Fails line) (rest : List ℕ) → StopsWith f.stop rest
@@ -77,8 +69,7 @@ front_is_piece Strict line f = inr (line_no_comment f.front (subst BeginsLine (a
 
 -- what comes after it in the piece
 stops_here : (stop : ℕ) (y t after : List ℕ) → y ++ newline ∷ t ≡ stop ∷ after → StopsWith stop y
-stops_here stop [] t after e = tt
-stops_here stop (b ∷ y) t after e = cc
+stops_here stop y t after e = grind arith
 
 -- the first answer for such a line is a fault
 pub first_fails : (dialect : Dialect) (line : List ℕ) (f : Fails line) (after : List ℕ) {text : List ℕ}
@@ -86,16 +77,15 @@ pub first_fails : (dialect : Dialect) (line : List ℕ) (f : Fails line) (after 
     → (others : List (Result Line Fault)) × (answers_of dialect pieces ≡ Err ends_with_backslash ∷ others)
 first_fails dialect line f after e (last piece h) =
     ([], ap (λ xs. answers_of_piece dialect xs ++ []) e ∙ ap (λ xs. xs ++ []) (piece_fails dialect line f (f.stop ∷ after) refl))
-first_fails dialect line f after e (cut piece t more c h) =
-    elim (place_in_append f.front (f.stop ∷ after) newline piece t (sym e)) [
-      | inl w ↦ absurd (no_cut_within dialect piece w.0 c (subst (IsLastPiece dialect) w.1 (front_is_piece dialect line f)))
-      | inr w ↦
-          let stops = stops_here f.stop w.0 t after (sym w.2) in (
-            answers_of dialect more,
-            ap (λ xs. answers_of_piece dialect xs ++ answers_of dialect more) w.1
-                ∙ ap (λ xs. xs ++ answers_of dialect more) (piece_fails dialect line f w.0 stops),
-          )
-    ]
+first_fails dialect line f after e (cut piece t more c h) = elim (place_in_append f.front (f.stop ∷ after) newline piece t (sym e)) [
+  | inl w ↦ absurd (no_cut_within dialect piece w.0 c (subst (IsLastPiece dialect) w.1 (front_is_piece dialect line f)))
+  | inr w ↦
+      let stops = stops_here f.stop w.0 t after (sym w.2) in (
+        answers_of dialect more,
+        ap (λ xs. answers_of_piece dialect xs ++ answers_of dialect more) w.1
+            ∙ ap (λ xs. xs ++ answers_of dialect more) (piece_fails dialect line f w.0 stops),
+      )
+]
 
 -- the spelling of a front of a name, that is not empty
 pub record SpelledFront (kind : NameKind) (n spelling : List ℕ) : Type 0 where
@@ -110,8 +100,7 @@ NameStops kind n = StopsEarly (SpelledFront kind n) (λ text. name kind text ≡
 
 -- the second of two tests that fail together
 pub second_fails : (x y : Bool) → (x && y) ≡ false → x ≡ true → y ≡ false
-second_fails true y h e = h
-second_fails false y h e = absurd (false≢true e)
+second_fails x y h e = grind (arith, false≢true)
 
 -- a list up to the first element that fails a test, and from it on
 pub record FirstFailing {X : Type 0} (test : X → Bool) (xs : List X) : Type 0 where
@@ -139,15 +128,10 @@ first_failing test (x ∷ xs) h = elim (cases_Bool (test x)) [
   | inr failing ↦ record { front = []; stop = x; after = xs; is = refl; pass = refl; fails = failing }
 ]
 
--- a text that is not empty, by its test
-some_test : (n : List ℕ) → 0 < length n → (length n == 0) ≡ false
-some_test n h = ne_eqb (length n) 0 (λ e. absurd (omega arith))
-
 -- a parsed name without such bytes is admitted
 admitted_from : (kind : NameKind) (n : List ℕ) → IsParsedName kind n → list_all (may_hold kind) n ≡ true → is_admitted_name kind n ≡ true
 unfolding is_admitted_name
-admitted_from a_measurement n h all = rw (some_test n h.some, h.ends, all, ne_eqb (slice_index n 0) hash h.begins) refl
-admitted_from kind n h all = rw (some_test n h.some, h.ends, all, and_right (slice_index n 0 == hash) false refl) refl
+admitted_from kind n h all = grind (arith, ne_eqb, and_right)
 
 -- the spelling around a byte that is not escaped
 spelling_around : (kind : NameKind) (front after : List ℕ) (stop : ℕ) → is_one_of (never_in kind) stop ≡ true
@@ -167,8 +151,7 @@ first_same (b ∷ text) more h = refl
 
 -- the stop ends the name
 stops_with : (kind : NameKind) (stop : ℕ) (rest : List ℕ) → is_one_of (never_in kind) stop ≡ true → StopsWith stop rest → Stops kind rest
-stops_with kind stop [] never h = tt
-stops_with kind stop (b ∷ rest) never h = ap (is_stop kind) h ∙ never_stops kind stop never
+stops_with kind stop rest never h = grind (arith, never_stops)
 
 -- a parsed name that is not admitted stops too early
 pub name_stops : (kind : NameKind) (n : List ℕ) → IsParsedName kind n → is_admitted_name kind n ≡ false → NameStops kind n
@@ -200,8 +183,7 @@ name_stops kind n h bad =
 pub measurement_fails : (n more : List ℕ) → IsParsedName a_measurement n → NameStops a_measurement n
     → Fails (spelling a_measurement n ++ more)
 unfolding answer
-measurement_fails n more h f =
-    and_more more (stops_as (λ front r. inl (reaches_head r.spelled [] reaches_start).1.0)
+measurement_fails n more h f = and_more more (stops_as (λ front r. inl (reaches_head r.spelled [] reaches_start).1.0)
     (λ front rest r e. (spelled_begins r.spelled r.some (λ i. h.begins (sym r.first ∙ i)) rest, λ dialect. rw e refl)) f)
 
 -- what is fatal for all that are joined by commas, the first of which this is or which come after others
@@ -271,27 +253,24 @@ later_tag_fails t ts ok f =
     (λ piece h. reaches_name a_tag_key t.key piece ok.0 h) (λ piece h. reaches_name a_tag_value t.value piece ok.1 h) in (
       text ++ comma ∷ f.0,
       ap (λ (xs : List ℕ). comma ∷ (text ++ xs)) f.1,
-      and_before text comma (λ front r. reaches_after text comma front (omega arith) (omega arith) (omega arith) here r)
-          (λ front rest r e.
+      and_before text comma (λ front r. reaches_after text comma front (omega arith) (omega arith) (omega arith) here r) (λ front rest r e.
           let more = front ++ rest in
           later_of_many tag (text ++ comma ∷ more) more (read_tag t) (tag_reads_back t more comma ok refl)
           (omega (arith, length-append text (comma ∷ more))) e) f.2,
     )
 
 -- tags whose names are parsed names, not all of them admitted
-pub tags_fail : (ts : List Tag)
-    → AllByRecursion (λ t. IsParsedName a_tag_key t.key × IsParsedName a_tag_value t.value) ts
+pub tags_fail : (ts : List Tag) → AllByRecursion (λ t. IsParsedName a_tag_key t.key × IsParsedName a_tag_value t.value) ts
     → list_all is_admitted_tag ts ≡ false → TagsFail ts
 tags_fail [] names bad = absurd (false≢true (sym bad))
-tags_fail (t ∷ ts) names bad =
-    elim (cases_Bool (is_admitted_tag t)) [
-      | inl ok ↦ later_tag_fails t ts
-          (and_parts (is_admitted_name a_tag_key t.key) (is_admitted_name a_tag_value t.value) ok)
-          (tags_fail ts names.1 (second_fails (is_admitted_tag t) (list_all is_admitted_tag ts) bad ok))
-      | inr refused ↦ (
-        tag_text t ++ flat_map built_tag ts,
-        refl,
-        and_more (flat_map built_tag ts) (stops_as (λ front r. r) (λ front rest r e. first_of_many tag (front ++ rest) e)
-            (tag_fails t names.0 refused)),
-      )
-    ]
+tags_fail (t ∷ ts) names bad = elim (cases_Bool (is_admitted_tag t)) [
+  | inl ok ↦ later_tag_fails t ts
+      (and_parts (is_admitted_name a_tag_key t.key) (is_admitted_name a_tag_value t.value) ok)
+      (tags_fail ts names.1 (second_fails (is_admitted_tag t) (list_all is_admitted_tag ts) bad ok))
+  | inr refused ↦ (
+    tag_text t ++ flat_map built_tag ts,
+    refl,
+    and_more (flat_map built_tag ts) (stops_as (λ front r. r) (λ front rest r e. first_of_many tag (front ++ rest) e)
+        (tag_fails t names.0 refused)),
+  )
+]

@@ -1,22 +1,17 @@
 -- The items and the events that calls of `next` give are those of the text, one after another.
-use Rattle.std.proofs.Common.{◌≡◌, ℕ, ◌<◌, ◌==◌, true, List, [], ◌∷◌, ◌++◌, length, map, refl, sym, ap, subst, arith}
-use Rattle.std.proofs.Common.{append_assoc, append-nil, inl, inr, Some, Result}
+use Rattle.std.proofs.Common.{◌≡◌, ℕ, ◌<◌, ◌==◌, List, [], ◌∷◌, ◌++◌, length, map, refl, sym, ap, subst, arith, append_assoc, append-nil}
+use Rattle.std.proofs.Common.{inl, inr, Some, Result, All, eq-eqb, ne_eqb}
 use Rattle.std.specs.Iterator.{Yields}
-use Rattle.std.specs.List.{All}
-use Rattle.std.proofs.lemmas.Bool.{cases_Bool, eq-eqb, ne_eqb}
+use Rattle.std.proofs.lemmas.Bool.{cases_Bool}
 use Rattle.std.proofs.lemmas.Grind.{flat_map-append}
 use Rattle.std.proofs.lemmas.List.Elements.{All-tail}
-use Rattle.lp_format.specs.format.Dialects.{Dialect}
+use Rattle.lp_format.specs.format.{Dialect, trimmed, Left, PiecesLeft, answers_of, answers_of_piece, answer}
 use Rattle.lp_values.specs.declared.error.Error.{Error}
 use Rattle.lp_lines.specs.declared.parsed.ParsedLine.{ParsedLine}
-use Rattle.lp_format.specs.format.Trimming.{trimmed}
-use Rattle.lp_format.specs.format.Pieces.{Left, PiecesLeft}
-use Rattle.lp_format.specs.format.Items.{answers_of, answers_of_piece}
 use Rattle.lp_lines.specs.code.ParseSteps.{GivesItem}
 use Rattle.lp_events.specs.code.LineSteps.{IsBlankPiece}
-use Rattle.influxdb_line_protocol.specs.laws.GivenItems.{trimmed_line, trimmed_lines, AreItemsOf, AreAnswers, ItemsAreOfPieces}
-use Rattle.influxdb_line_protocol.specs.laws.GivenItems.{ItemsAreAnswers, GivenLinesWereRead, ItemsSoFar}
-use Rattle.lp_format.specs.format.Lines.{answer}
+use Rattle.influxdb_line_protocol.specs.laws.GivenItems.{trimmed_lines, AreItemsOf, AreAnswers, ItemsAreOfPieces, ItemsAreAnswers}
+use Rattle.influxdb_line_protocol.specs.laws.GivenItems.{GivenLinesWereRead, ItemsSoFar}
 use Rattle.lp_format.proofs.lemmas.split.SplitPieces.{same_pieces}
 use Rattle.lp_events.proofs.lemmas.lines.LineSteps.{left_pieces}
 use Rattle.lp_events.specs.code.EventsLeft.{HasEventsLeft, told}
@@ -26,17 +21,12 @@ use Rattle.influxdb_line_protocol.specs.laws.GivenEvents.{AllEventsCome, EventsS
 blank_lines : (pieces : List (List ℕ)) → All IsBlankPiece pieces → trimmed_lines pieces ≡ []
 blank_lines [] h = refl
 blank_lines (p ∷ pieces) h =
-    let e : (length (trimmed p) == 0) ≡ true = eq-eqb (length (trimmed p)) 0 (h 0 p (omega arith)) in
-    rw e (blank_lines pieces (All-tail IsBlankPiece p pieces h))
-
--- of a piece that is not blank, its trimmed text is left
-one_line : (piece : List ℕ) → 0 < length (trimmed piece) → trimmed_line piece ≡ trimmed piece ∷ []
-one_line piece h = grind (arith, ne_eqb)
+    rw (eq-eqb (length (trimmed p)) 0 (h 0 p (omega arith))) (blank_lines pieces (All-tail IsBlankPiece p pieces h))
 
 -- what is left of blank pieces, one that is not blank, and others
 lines_from : (skipped : List (List ℕ)) (piece : List ℕ) (front : List (List ℕ)) → All IsBlankPiece skipped → 0 < length (trimmed piece)
     → trimmed_lines (skipped ++ piece ∷ front) ≡ trimmed piece ∷ trimmed_lines front
-lines_from skipped piece front blank some = grind (arith, flat_map-append, blank_lines, one_line)
+lines_from skipped piece front blank some = grind (arith, flat_map-append, blank_lines, ne_eqb)
 
 -- the items that calls gave are those of the pieces before the ones that are left
 given_items : (items : List (Result ParsedLine Error)) (before left : Left) (others : List (List ℕ)) → Yields GivesItem before items left
@@ -46,10 +36,9 @@ given_items [] before left others steps h = ([], subst (λ l. PiecesLeft l other
 given_items (item ∷ items) before left others steps h =
     let more = given_items items steps.0 left others steps.2 h in
     let gave = steps.1.1 (more.0 ++ others) more.1 in
-    let front = gave.skipped ++ gave.piece ∷ more.0 in
     let same : steps.0.dialect ≡ before.dialect = steps.1.0 in
     let later = subst (λ d. AreItemsOf d (trimmed_lines more.0) items) same more.2 in (
-      front,
+      (gave.skipped ++ gave.piece ∷ more.0),
       subst (PiecesLeft before) (sym (append_assoc gave.skipped (gave.piece ∷ more.0) others)) gave.left,
       subst (λ ls. AreItemsOf before.dialect ls (item ∷ items)) (sym (lines_from gave.skipped gave.piece more.0 gave.blank gave.some))
           (gave.item_is, later),
@@ -64,15 +53,13 @@ pub items_are_of_pieces : ItemsAreOfPieces
 items_are_of_pieces dialect text pieces items h drained = grind (arith, items_so_far, same_pieces, flat_map-append, blank_lines, append-nil)
 
 -- the answers for pieces are those for what is left of them
-answers_of_lines : (dialect : Dialect) (pieces : List (List ℕ))
-    → answers_of dialect pieces ≡ map (answer dialect) (trimmed_lines pieces)
+answers_of_lines : (dialect : Dialect) (pieces : List (List ℕ)) → answers_of dialect pieces ≡ map (answer dialect) (trimmed_lines pieces)
 unfolding answers_of_piece
 answers_of_lines dialect [] = refl
-answers_of_lines dialect (p ∷ pieces) =
-    elim (cases_Bool (length (trimmed p) == 0)) [
-      | inl none ↦ rw none (answers_of_lines dialect pieces)
-      | inr some ↦ rw some (ap (λ answers. answer dialect (trimmed p) ∷ answers) (answers_of_lines dialect pieces))
-    ]
+answers_of_lines dialect (p ∷ pieces) = elim (cases_Bool (length (trimmed p) == 0)) [
+  | inl none ↦ rw none (answers_of_lines dialect pieces)
+  | inr some ↦ rw some (ap (λ answers. answer dialect (trimmed p) ∷ answers) (answers_of_lines dialect pieces))
+]
 
 -- items of trimmed texts are the answers for them
 items_answer : (dialect : Dialect) (lines : List (List ℕ)) (items : List (Result ParsedLine Error)) → AreItemsOf dialect lines items

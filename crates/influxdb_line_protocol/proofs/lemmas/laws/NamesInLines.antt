@@ -1,46 +1,36 @@
 -- Each parsed name is a name in some line, whose text is UTF-8 if the name is.
 use Rattle.std.proofs.Common.{◌≡◌, ℕ, ◌+◌, ◌<◌, List, [], ◌∷◌, ◌++◌, length, get_or, true, refl, sym, subst, arith, append_assoc}
-use Rattle.std.proofs.Common.{length-append, ◌≢◌, slice_index, false, inl, inr, Some, None, Ok}
-use Rattle.std.specs.Prelude.{IsUtf8, pos}
+use Rattle.std.proofs.Common.{length-append, ◌≢◌, slice_index, false, Some, None, Ok, IsUtf8, pos, take_at, drop_at, Contains}
 use Rattle.std.proofs.Math.Seq.{get_or-append_seam}
 use Rattle.std.proofs.lemmas.Str.Ascii.{IsAscii-cons}
 use Rattle.std.proofs.lemmas.Grind.{common_steps}
-use Rattle.std.proofs.lemmas.List.{take_at, drop_at}
 use Rattle.std.proofs.lemmas.Str.{IsUtf8-append, IsUtf8-take, IsUtf8-drop, IsUtf8-from_ascii, IsCharBoundary-before_ascii}
 use Rattle.std.proofs.lemmas.Str.{IsCharBoundary-after_ascii, IsUtf8-nil}
-use Rattle.lp_format.specs.format.Bytes.{backslash, is_one_of, comma, hash, space}
-use Rattle.lp_format.specs.format.Names.{NameKind, a_measurement, a_tag_key, a_tag_value, a_field_key, is_escapable, ends_in_backslash}
-use Rattle.lp_format.specs.format.Names.{escapable, read_text}
-use Rattle.lp_format.specs.format.Points.{never_in, Pair}
+use Rattle.lp_format.specs.format.{backslash, is_one_of, comma, hash, space, NameKind, a_measurement, a_tag_key, a_tag_value, a_field_key}
+use Rattle.lp_format.specs.format.{is_escapable, ends_in_backslash, escapable, read_text, never_in, Pair, Dialect, Crate, Strict, Text}
+use Rattle.lp_format.specs.format.{reads, Value, integer, value, integer_at, IsLastPiece, begins_comment, Line, point_of, tag}
+use Rattle.lp_format.specs.format.Pieces.{Pieces.last}
+use Rattle.lp_format.specs.format.{field, field_set, front_before, answer, HasAnswers, answers_of_piece}
 use Rattle.lp_lines.proofs.lemmas.names.Spellings.{SpelledAs, spelled_as, spelled_logical, spelled_reads, spelled_begins, spelled_spaces}
 use Rattle.lp_lines.proofs.lemmas.names.Spellings.{BeginsLine, line_no_comment, line_trimmed, line_some, reaches_head, reaches_other}
-use Rattle.lp_lines.proofs.lemmas.names.Spellings.{reaches_gap, reaches_field_key, Reaches, reaches_start}
-use Rattle.std.specs.List.{Contains}
-use Rattle.std.specs.Str.{IsUtf8}
-use Rattle.lp_split.specs.declared.split.resumed.Part.TheVariants.{Plain}
+use Rattle.lp_lines.proofs.lemmas.names.Spellings.{reaches_gap, reaches_field_key, Reaches, reaches_start, SpelledAs.done, SpelledAs.escape}
+use Rattle.lp_lines.proofs.lemmas.names.Spellings.{SpelledAs.plain, SpelledAs.pair}
+use Rattle.lp_split.specs.code.{Plain}
 use Rattle.lp_split.proofs.lemmas.split.SplitWalk.{Plain-equals}
-use Rattle.lp_format.specs.format.Dialects.{Dialect, Crate, Strict}
-use Rattle.lp_format.specs.format.Readings.{Text, reads}
-use Rattle.lp_format.specs.format.Values.{Value, integer, value, integer_at}
-use Rattle.lp_format.specs.format.Pieces.{IsLastPiece, begins_comment}
-use Rattle.lp_format.specs.format.Lines.{Line, point_of, tag, field, tag_set, field_set, front_before, answer}
-use Rattle.lp_format.specs.format.Items.{HasAnswers, answers_of_piece}
 use Rattle.lp_format.specs.laws.NamesOfLines.{IsParsedName, names_of}
 use Rattle.lp_format.specs.laws.Laws.{ParsedNamesAreInLines}
 use Rattle.lp_format.proofs.lemmas.split.SplitBare.{is_escaped-push_other}
 use Rattle.lp_lines.proofs.lemmas.read_back.LinePieces.{reaches_simple}
 use Rattle.lp_lines.proofs.lemmas.read_back.LineReadsBack.{answer_from_parts}
 use Rattle.lp_lines.proofs.lemmas.names.KeptNames.{name_kept}
-use Rattle.lp_lines.proofs.lemmas.names.Spellings.{SpelledAs.done, SpelledAs.escape, SpelledAs.plain, SpelledAs.pair}
-use Rattle.lp_format.specs.format.Pieces.{Pieces.last}
+use Rattle.lp_format.specs.format.Bytes.{equals, letter_i}
 
 -- what comes before an ASCII byte of a text that is UTF-8 is UTF-8, and so is what follows it
 pub utf8_around : (front rest : List ℕ) (b : ℕ) → IsUtf8 (front ++ b ∷ rest) → b < 128 → IsUtf8 front × IsUtf8 rest
 utf8_around front rest b u ascii =
     let whole = front ++ b ∷ rest in
-    let place : get_or whole (length front) 0 ≡ b = get_or-append_seam front b rest 0 in
     let less : length front < length whole = omega (arith, length-append front (b ∷ rest)) in
-    let low : get_or whole (length front) 0 < 128 = omega (arith, place, ascii) in
+    let low : get_or whole (length front) 0 < 128 = omega (arith, (get_or-append_seam front b rest 0), ascii) in
     let before = IsUtf8-take whole (length front) u (IsCharBoundary-before_ascii whole (length front) less low) in
     let after = IsUtf8-drop whole (length front + 1) u (IsCharBoundary-after_ascii whole (length front) u less low) in
     let regrouped : whole ≡ (front ++ b ∷ []) ++ rest = sym (append_assoc front (b ∷ []) rest) in (
@@ -50,17 +40,14 @@ utf8_around front rest b u ascii =
 
 -- an ASCII byte before a text that is UTF-8
 pub utf8_push : (b : ℕ) (text : List ℕ) → b < 128 → IsUtf8 text → IsUtf8 (b ∷ text)
-utf8_push b text h u =
-    IsUtf8-append (b ∷ []) text (IsUtf8-from_ascii (b ∷ []) (IsAscii-cons b [] h (λ i. omega arith))) u
+utf8_push b text h u = IsUtf8-append (b ∷ []) text (IsUtf8-from_ascii (b ∷ []) (IsAscii-cons b [] h (λ i. omega arith))) u
 
 -- a byte that a backslash escapes is ASCII
 escapable_ascii : (kind : NameKind) (b : ℕ) → is_escapable kind b ≡ true → b < 128
-escapable_ascii a_measurement b h = grind (arith, common_steps)
 escapable_ascii kind b h = grind (arith, common_steps)
 
 -- and so is one that no escape keeps
 never_ascii : (kind : NameKind) (b : ℕ) → is_one_of (never_in kind) b ≡ true → b < 128
-never_ascii a_measurement b h = grind (arith, common_steps)
 never_ascii kind b h = grind (arith, common_steps)
 
 -- a spelling after this front is UTF-8 if the name after that front is
@@ -71,15 +58,13 @@ spelled_after {kind = kind} (escape b n s known more) front u =
     let parts = utf8_around front n b u ascii in
     IsUtf8-append front (backslash ∷ b ∷ s) parts.0
     (utf8_push backslash (b ∷ s) (omega arith) (utf8_push b s ascii (spelled_after more [] parts.1)))
-spelled_after {kind = kind} (plain b n s other may more) front u =
-    subst IsUtf8 (append_assoc front (b ∷ []) s)
+spelled_after {kind = kind} (plain b n s other may more) front u = subst IsUtf8 (append_assoc front (b ∷ []) s)
     (spelled_after more (front ++ b ∷ []) (subst IsUtf8 (sym (append_assoc front (b ∷ []) n)) u))
 spelled_after {kind = kind} (pair c n s never more) front u =
     let ascii = never_ascii kind c never in
     let parts = utf8_around front (c ∷ n) backslash u (omega arith) in
-    let last = utf8_around [] n c parts.1 ascii in
     IsUtf8-append front (backslash ∷ c ∷ s) parts.0
-    (utf8_push backslash (c ∷ s) (omega arith) (utf8_push c s ascii (spelled_after more [] last.1)))
+    (utf8_push backslash (c ∷ s) (omega arith) (utf8_push c s ascii (spelled_after more [] (utf8_around [] n c parts.1 ascii).1)))
 
 -- a spelling is UTF-8 if its name is
 pub spelling_utf8 : {kind : NameKind} {n s : List ℕ} → SpelledAs kind n s → IsUtf8 n → IsUtf8 s
@@ -103,7 +88,7 @@ text kind s = read_text (escapable kind) s
 
 -- the line with these spellings of its names, from its field on, its tag's value on, its tag on, and whole
 abbrev from_field : List ℕ → List ℕ
-from_field f = f ++ 61 ∷ 49 ∷ 105 ∷ []
+from_field f = f ++ equals ∷ 49 ∷ letter_i ∷ []
 
 -- from the value of its tag on
 abbrev from_value : List ℕ → List ℕ → List ℕ
@@ -111,7 +96,7 @@ from_value v f = v ++ space ∷ from_field f
 
 -- from the key of its tag on
 abbrev from_key : List ℕ → List ℕ → List ℕ → List ℕ
-from_key k v f = k ++ 61 ∷ from_value v f
+from_key k v f = k ++ equals ∷ from_value v f
 
 -- all of it
 abbrev whole : List ℕ → List ℕ → List ℕ → List ℕ → List ℕ
@@ -142,19 +127,14 @@ tag_read : {k n v x : List ℕ} → Spelled a_tag_key n k → Spelled a_tag_valu
 unfolding tag
 tag_read {v = v} key value
     f = rw (
-      spelled_reads key.spelled key.some key.ends (61 ∷ from_value v f) refl,
+      spelled_reads key.spelled key.some key.ends (equals ∷ from_value v f) refl,
       spelled_reads value.spelled value.some value.ends (space ∷ from_field f) refl,
     ) refl
-
--- the set of its tag
-tags_read : {k n v x : List ℕ} → Spelled a_tag_key n k → Spelled a_tag_value x v → (f : List ℕ)
-    → tag_set (comma ∷ from_key k v f) ≡ Ok (record { value = Some (tag_of k v ∷ []); rest = space ∷ from_field f })
-tags_read key value f = rw (tag_read key value f) refl
 
 -- its field
 field_read : {f n : List ℕ} → Spelled a_field_key n f → field (from_field f) ≡ reads (field_of f) []
 unfolding field value integer_at
-field_read h = rw (spelled_reads h.spelled h.some h.ends (61 ∷ 49 ∷ 105 ∷ []) refl) refl
+field_read h = rw (spelled_reads h.spelled h.some h.ends (equals ∷ 49 ∷ letter_i ∷ []) refl) refl
 
 -- and the set of its field
 fields_read : (dialect : Dialect) {f n : List ℕ} → Spelled a_field_key n f → field_set dialect (from_field f) ≡ reads (field_of f ∷ []) []
@@ -163,8 +143,7 @@ fields_read Strict h = rw (field_read h) refl
 
 -- a closed text that is no comment is a last piece
 last_piece : (dialect : Dialect) (t : List ℕ) → begins_comment t ≡ false → Reaches Plain 1 0 t → IsLastPiece dialect t
-last_piece Crate t none r = inl (inr (r.1.0, r.1.1))
-last_piece Strict t none r = inr (none, inl (inr (r.1.0, r.1.1)))
+last_piece dialect t none r = grind (arith, common_steps)
 
 -- a line has this name, and its text is UTF-8 if the name is
 abbrev InLine : Dialect → NameKind → List ℕ → Type 0
@@ -175,11 +154,11 @@ InLine dialect kind n =
 -- a line whose names are spelled in UTF-8 is UTF-8
 whole_utf8 : {m k v f : List ℕ} → IsUtf8 m → IsUtf8 k → IsUtf8 v → IsUtf8 f → IsUtf8 (whole m k v f)
 whole_utf8 {m = m} {k = k} {v = v} {f = f} a b c d =
-    let end = utf8_push 61 (49 ∷ 105 ∷ []) (omega arith)
-    (utf8_push 49 (105 ∷ []) (omega arith) (utf8_push 105 [] (omega arith) IsUtf8-nil)) in
-    let field = IsUtf8-append f (61 ∷ 49 ∷ 105 ∷ []) d end in
-    let from_v = IsUtf8-append v (space ∷ from_field f) c (utf8_push 32 (from_field f) (omega arith) field) in
-    let from_k = IsUtf8-append k (61 ∷ from_value v f) b (utf8_push 61 (from_value v f) (omega arith) from_v) in
+    let end = utf8_push equals (49 ∷ letter_i ∷ []) (omega arith)
+    (utf8_push 49 (letter_i ∷ []) (omega arith) (utf8_push letter_i [] (omega arith) IsUtf8-nil)) in
+    let field = IsUtf8-append f (equals ∷ 49 ∷ letter_i ∷ []) d end in
+    let from_v = IsUtf8-append v (space ∷ from_field f) c (utf8_push space (from_field f) (omega arith) field) in
+    let from_k = IsUtf8-append k (equals ∷ from_value v f) b (utf8_push equals (from_value v f) (omega arith) from_v) in
     IsUtf8-append m (comma ∷ from_key k v f) a (utf8_push comma (from_key k v f) (omega arith) from_k)
 
 module _ {m k v f m' k' v' f' : List ℕ} (first : Spelled a_measurement m' m) (no_hash : slice_index m' 0 ≢ hash)
@@ -192,26 +171,23 @@ module _ {m k v f m' k' v' f' : List ℕ} (first : Spelled a_measurement m' m) (
   reaches_end : Reaches Plain 1 0 (whole m k v f)
   reaches_end =
       let front = reaches_other comma (omega arith) (omega arith) (omega arith) m (reaches_head first.spelled [] reaches_start) in
-      let tagged = reaches_other 61 (omega arith) (omega arith) (omega arith) ((m ++ comma ∷ []) ++ k)
+      let tagged = reaches_other equals (omega arith) (omega arith) (omega arith) ((m ++ comma ∷ []) ++ k)
       (reaches_head key.spelled (m ++ comma ∷ []) front) in
-      let head = reaches_head value.spelled (((m ++ comma ∷ []) ++ k) ++ 61 ∷ []) tagged in
-      let series = (((m ++ comma ∷ []) ++ k) ++ 61 ∷ []) ++ v in
+      let head = reaches_head value.spelled (((m ++ comma ∷ []) ++ k) ++ equals ∷ []) tagged in
+      let series = (((m ++ comma ∷ []) ++ k) ++ equals ∷ []) ++ v in
       let named = reaches_field_key 0 field.spelled (series ++ space ∷ []) (reaches_gap series head) in
       let text = (series ++ space ∷ []) ++ f in
       let sign : Reaches Plain 1 0
-      (text ++ 61 ∷ []) = (is_escaped-push_other text 61 (omega arith), Plain-equals 0 0 text named.0 named.1) in
-      let all = reaches_simple 1 0 (49 ∷ 105 ∷ []) (text ++ 61 ∷ []) refl sign in
-      subst (Reaches Plain 1 0) (simp append_assoc) all
+      (text ++ equals ∷ []) = (is_escaped-push_other text equals (omega arith), Plain-equals 0 0 text named.0 named.1) in
+      subst (Reaches Plain 1 0) (simp append_assoc) (reaches_simple 1 0 (49 ∷ letter_i ∷ []) (text ++ equals ∷ []) refl sign)
 
   -- its answer is the line
   answered : (dialect : Dialect) → answer dialect (whole m k v f) ≡ Ok (line_of m k v f)
-  answered dialect =
-      answer_from_parts dialect (whole m k v f) (front_before (whole m k v f) (space ∷ from_field f)) (from_field f)
+  answered dialect = answer_from_parts dialect (whole m k v f) (front_before (whole m k v f) (space ∷ from_field f)) (from_field f)
       (comma ∷ from_key k v f) [] (text a_measurement m) (Some (tag_of k v ∷ [])) (field_of f ∷ []) None
       (spelled_reads first.spelled first.some first.ends (comma ∷ from_key k v f) refl)
-      (tags_read key value f)
-      refl
-      (spelled_spaces field.spelled field.some (61 ∷ 49 ∷ 105 ∷ []))
+      (rw (tag_read key value f) refl) refl
+      (spelled_spaces field.spelled field.some (equals ∷ 49 ∷ letter_i ∷ []))
       (fields_read dialect field)
       refl
 

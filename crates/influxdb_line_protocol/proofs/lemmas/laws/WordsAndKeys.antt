@@ -1,23 +1,21 @@
 -- The word at the start of a text is the longest that is there; tags by their keys are the one list of them whose keys rise.
-use Rattle.std.proofs.Common.{◌≡◌, ◌⊎◌, ℕ, ◌≤◌, List, [], ◌∷◌, ◌++◌, length, take, drop, true, false, eqb, refl, sym, ap, ◌∙◌}
-use Rattle.std.proofs.Common.{subst, inl, inr, arith}
-use Rattle.std.specs.Prelude.{nat_lt}
-use Rattle.std.specs.List.{Contains, fold, starts_with}
-use Rattle.std.proofs.lemmas.Bool.{cases_Bool, both_ways, ltb-true, ltb-false, and_from}
+use Rattle.std.proofs.Common.{◌≡◌, ◌⊎◌, ℕ, ◌≤◌, List, [], ◌∷◌, ◌++◌, length, take, drop, true, false, eqb, refl, sym, ap, ◌∙◌, subst, inl}
+use Rattle.std.proofs.Common.{inr, arith, nat_lt, Contains, fold, ltb-true, ltb-false, length-take-le, take-append-drop, take_at}
+use Rattle.std.proofs.Common.{IsPermutation, is_lt, nat_cmp}
+use Rattle.std.specs.List.{starts_with}
+use Rattle.std.proofs.lemmas.Bool.{cases_Bool, both_ways, and_from}
 use Rattle.std.proofs.lemmas.Bool.Decides.{Decides-eqb}
-use Rattle.std.proofs.lemmas.List.{length-take-le, take-append-drop, take_at}
 use Rattle.std.proofs.lemmas.Slice.Eq.{starts_is}
-use Rattle.lp_format.specs.format.Values.{longer_front}
+use Rattle.lp_format.specs.format.{longer_front}
 use Rattle.lp_format.specs.laws.Meanings.{WordFrontIsWord, WordFrontIsLongest}
 use Rattle.lp_lines.proofs.lemmas.names.ParsedNames.{nothing_in_nil}
 use Rattle.lp_format.proofs.lemmas.lists.Elements.{first_element, first_or_later, later_element}
 use Rattle.std.specs.Cmp.Lexicographic.{slice_cmp}
-use Rattle.std.specs.List.Sorted.{IsPermutation}
-use Rattle.std.specs.Ordering.{is_lt, nat_cmp}
 use Rattle.std.proofs.lemmas.List.Sorted.{IsPermutation-sym, IsPermutation-trans}
 use Rattle.lp_lines.specs.code.Bases.{by_key, in_order, is_strictly_sorted}
 use Rattle.lp_lines.specs.laws.BaseLaws.{entry_keys, TagsByKeyAreSorted}
 use Rattle.lp_lines.proofs.lemmas.series.SortedTags.{Rise, by_key_permutes, by_key_rises, passes_rise, same_moved}
+use Rattle.lp_format.proofs.lemmas.line.TrimLemmas.{trimmed_is_after, trimmed_is_longest}
 
 -- what is known of the longer of a front and a word
 record Step (text : List ℕ) (n : ℕ) (word : List ℕ) (m : ℕ) : Type 0 where
@@ -39,23 +37,22 @@ starts_not text word k fits h e =
 
 -- each step is such
 step_is : (text : List ℕ) (n : ℕ) (word : List ℕ) → Step text n word (longer_front text n word)
-step_is text n word =
-    elim (cases_Bool (starts_with eqb text word)) [
-      | inl here ↦ elim (cases_Bool (nat_lt n (length word))) [
-        | inl longer ↦ rw (here, longer) (record {
-          more = let less = ltb-true n (length word) longer in omega arith;
-          front = λ k fits e. omega (arith, ap length e, length-take-le k text fits);
-          one = inr (starts text word here);
-        })
-        | inr short ↦ rw (here, short) (record {
-          more = omega arith;
-          front = λ k fits e. omega (arith, ap length e, length-take-le k text fits, ltb-false n (length word) short);
-          one = inl refl;
-        })
-      ]
-      | inr other ↦
-          rw other (record { more = omega arith; front = λ k fits e. absurd (starts_not text word k fits other e); one = inl refl })
-    ]
+step_is text n word = elim (cases_Bool (starts_with eqb text word)) [
+  | inl here ↦ elim (cases_Bool (nat_lt n (length word))) [
+    | inl longer ↦ rw (here, longer) (record {
+      more = let less = ltb-true n (length word) longer in omega arith;
+      front = λ k fits e. omega (arith, ap length e, length-take-le k text fits);
+      one = inr (starts text word here);
+    })
+    | inr short ↦ rw (here, short) (record {
+      more = omega arith;
+      front = λ k fits e. omega (arith, ap length e, length-take-le k text fits, ltb-false n (length word) short);
+      one = inl refl;
+    })
+  ]
+  | inr other ↦
+      rw other (record { more = omega arith; front = λ k fits e. absurd (starts_not text word k fits other e); one = inl refl })
+]
 
 -- what is known of the longest of a front and words
 record Longest (text : List ℕ) (n : ℕ) (words : List (List ℕ)) (len : ℕ) : Type 0 where
@@ -107,8 +104,7 @@ rise_passes (e ∷ f ∷ es) h =
 pub tags_by_key_are_sorted : TagsByKeyAreSorted
 tags_by_key_are_sorted tags entries once = (
   (λ e. (
-    ap (λ es. is_strictly_sorted (entry_keys es)) e
-        ∙ rise_passes (by_key tags) (by_key_rises tags),
+    ap (λ es. is_strictly_sorted (entry_keys es)) e ∙ rise_passes (by_key tags) (by_key_rises tags),
     subst (IsPermutation (in_order tags)) (sym e) (by_key_permutes tags once),
   )),
   (λ h.
@@ -117,3 +113,6 @@ tags_by_key_are_sorted tags entries once = (
       (by_key_permutes tags once) in
       same_moved entries (by_key tags) (passes_rise entries h.0) (by_key_rises tags) moves),
 )
+
+-- the laws of what is read by its longest front
+pub ruleset word_laws = (word_front_is_word, word_front_is_longest, trimmed_is_after, trimmed_is_longest)

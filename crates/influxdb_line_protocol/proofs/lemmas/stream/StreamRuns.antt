@@ -1,27 +1,22 @@
 -- The pieces that a stream gives, and their answers, are those of all that was pushed.
-use Rattle.std.proofs.Common.{◌≡◌, ℕ, List, [], ◌∷◌, ◌++◌, subst, sym, ◌∙◌, arith, append_assoc}
-use Rattle.std.proofs.Common.{length-append, append-nil, refl, ap, Result}
+use Rattle.std.proofs.Common.{◌≡◌, ℕ, List, [], ◌∷◌, ◌++◌, subst, sym, ◌∙◌, arith, append_assoc, length-append, append-nil, refl, ap}
+use Rattle.std.proofs.Common.{Result, All}
 use Rattle.std.proofs.lemmas.List.{get_or_append_left, take-append-le}
 use Rattle.std.proofs.lemmas.Str.{IsUtf8-append}
-use Rattle.lp_format.specs.format.Pieces.{Pieces, Pieces.cut, Pieces.last, IsLastPiece}
+use Rattle.lp_format.specs.format.{IsLastPiece, newline, Dialect, Fault, Line, HasAnswers, answers_of}
+use Rattle.lp_format.specs.format.Pieces.{Pieces, Pieces.cut, Pieces.last}
+use Rattle.lp_format.specs.format.{answers_of_piece}
 use Rattle.influxdb_line_protocol.specs.laws.StreamLaws.{FrontsKeepTheirCuts, TakenIsFirst, RunsGivePieces, RunsEnd, Utf8ByPieces}
 use Rattle.influxdb_line_protocol.specs.laws.StreamLaws.{Run.begun, Run.pushed, Run.taken, HaveAnswers, StreamsGiveAnswers}
 use Rattle.influxdb_line_protocol.specs.laws.StreamLaws.{StreamsAnswerAll, Run}
-use Rattle.lp_format.specs.format.Bytes.{newline}
-use Rattle.std.specs.List.{All}
 use Rattle.std.proofs.lemmas.Grind.{flat_map-append}
 use Rattle.std.proofs.lemmas.List.Elements.{All-head, All-nil, All-push, All-tail}
-use Rattle.lp_format.specs.format.Dialects.{Dialect}
-use Rattle.lp_format.specs.format.Readings.{Fault}
-use Rattle.lp_format.specs.format.Lines.{Line}
-use Rattle.lp_format.specs.format.Items.{HasAnswers, answers_of, answers_of_piece}
 use Rattle.lp_format.proofs.lemmas.split.SplitPieces.{IsLastPiece-cut, same_pieces}
 use Rattle.influxdb_line_protocol.proofs.lemmas.laws.NamesInLines.{utf8_around, utf8_push}
 
 -- whatever comes then, the piece that was taken is the first
 pub taken_is_first : TakenIsFirst
-taken_is_first before after piece t others k h =
-    rw (k.bytes, append_assoc) (cut piece (after.bytes ++ t) others k.is_cut h)
+taken_is_first before after piece t others k h = rw (k.bytes, append_assoc) (cut piece (after.bytes ++ t) others k.is_cut h)
 
 -- a cut is told by the bytes before it
 pub fronts_keep_their_cuts : FrontsKeepTheirCuts
@@ -32,14 +27,12 @@ pub runs_give_pieces : RunsGivePieces
 runs_give_pieces dialect given pieces held t others begun h = h
 runs_give_pieces dialect given pieces held t others (pushed g ps l part r) h =
     rw append_assoc (runs_give_pieces dialect g ps l (part ++ t) others r (rw append_assoc at h))
-runs_give_pieces dialect given pieces held t others (taken g ps piece l r c) h =
-    rw append_assoc
+runs_give_pieces dialect given pieces held t others (taken g ps piece l r c) h = rw append_assoc
     (runs_give_pieces dialect g ps (piece ++ newline ∷ l) t (piece ∷ others) r (rw append_assoc (cut piece (l ++ t) others c h)))
 
 -- at the end, what is held is the last of them
 pub runs_end : RunsEnd
-runs_end dialect given pieces held r h =
-    subst (λ text. Pieces dialect text (pieces ++ held ∷ [])) (append-nil given)
+runs_end dialect given pieces held r h = subst (λ text. Pieces dialect text (pieces ++ held ∷ [])) (append-nil given)
     (runs_give_pieces dialect given pieces held [] (held ∷ []) r
     (subst (λ text. Pieces dialect text (held ∷ [])) (sym (append-nil held)) (last held h)))
 
@@ -94,3 +87,6 @@ streams_answer_all dialect given pieces held answers r h =
     (subst (λ text. HasAnswers dialect text w.1) (sym (append-nil held)) w.3) in
     subst (λ text. HasAnswers dialect text answers) (append-nil given)
     (subst (λ xs. HasAnswers dialect (given ++ []) xs) (sym w.4) all)
+
+-- the laws of streams
+pub ruleset stream_laws = (taken_is_first, runs_give_pieces, runs_end, streams_give_answers, streams_answer_all)

@@ -1,15 +1,12 @@
 -- Escaped texts: how long they are, and what comes before and after the first byte with a backslash.
 -- And how many digits a number has.
 use Rattle.std.proofs.Common.{◌≡◌, ℕ, suc, zero, ◌+◌, ◌<◌, Bool, true, false, cond, List, [], ◌∷◌, ◌++◌, length, take, drop, get_or, arith}
-use Rattle.std.proofs.Common.{ap, refl, ◌-◌, zero-add, add-one, length-drop, length-append, ◌∙◌, ◌≤◌, ◌^◌, ◌*◌, ◌/◌}
-use Rattle.std.proofs.lemmas.List.{take_all}
-use Rattle.std.specs.Fmt.{decimal}
-use Rattle.std.proofs.Math.Nat.{pow-zero, pow-suc}
+use Rattle.std.proofs.Common.{ap, refl, ◌-◌, zero-add, add-one, length-drop, length-append, ◌∙◌, ◌≤◌, ◌^◌, ◌*◌, ◌/◌, take_all, decimal}
+use Rattle.std.proofs.Common.{pow-suc, count_by}
+use Rattle.std.proofs.Math.Nat.{pow-zero}
 use Rattle.std.proofs.lemmas.Fmt.{decimal_step, decimal_digit}
-use Rattle.std.specs.Prelude.{count_by}
 use Rattle.std.proofs.lemmas.Grind.{common_steps}
-use Rattle.lp_format.specs.format.Bytes.{backslash, is_one_of}
-use Rattle.lp_format.specs.format.Escapes.{escaped}
+use Rattle.lp_format.specs.format.{backslash, is_one_of, escaped}
 use Rattle.lp_build.specs.code.Marks.{ComeBefore}
 
 -- the length with one byte more
@@ -25,8 +22,7 @@ pub length_escaped : (bytes text : List ℕ)
 unfolding escaped
 length_escaped bytes [] = refl
 length_escaped bytes (b ∷ text) =
-    let rest = length_escaped bytes text in
-    length_step (is_one_of bytes) b (is_one_of bytes b) (escaped bytes text) text refl rest
+    length_step (is_one_of bytes) b (is_one_of bytes b) (escaped bytes text) text refl (length_escaped bytes text)
 
 -- nothing gets a backslash in an empty text
 pub escaped_nothing : (bytes : List ℕ) → escaped bytes [] ≡ []
@@ -39,7 +35,7 @@ pub uncounted : (p : ℕ → Bool) (b : ℕ) (v : Bool) (text : List ℕ) → p 
 uncounted p b true text h none = absurd (grind (arith, common_steps))
 uncounted p b false text h none = (refl, grind (arith, common_steps))
 
--- a text stays where no byte of it gets a backslash
+-- a text is spelled as it is if no byte of it gets a backslash
 escaped_uncounted : (bytes text : List ℕ) → count_by (is_one_of bytes) text ≡ 0 → escaped bytes text ≡ text
 unfolding escaped
 escaped_uncounted bytes [] none = refl

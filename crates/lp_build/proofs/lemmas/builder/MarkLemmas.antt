@@ -1,19 +1,18 @@
 -- From the mask of one load to the bytes that are marks, and from loads to a whole text.
 use Rattle.std.proofs.Common.{◌≡◌, ℕ, ◌+◌, ◌-◌, ◌/◌, ◌%◌, ◌^◌, ◌<◌, ◌≤◌, eqb, Bool, true, false, cond, not, ◌||◌, List, map, length, drop}
-use Rattle.std.proofs.Common.{get_or, replicate, bit_or, ap, ◌∙◌, arith}
-use Rattle.std.proofs.lemmas.Bool.{cases_eq, eq-eqb, ne_eqb}
+use Rattle.std.proofs.Common.{get_or, replicate, bit_or, ap, ◌∙◌, arith, eq-eqb, ne_eqb, count_by, count_ones}
+use Rattle.std.proofs.lemmas.Bool.{cases_eq}
 use Rattle.std.proofs.lemmas.Simd.{length-chunk, run_in_chunk_le, run_in_chunk_fails, run_in_chunk_stops, chunk-drop}
 use Rattle.std.proofs.lemmas.List.{take_rest}
 use Rattle.std.proofs.lemmas.List.Sums.{list_all-from_AllPass, sum_by-append}
 use Rattle.std.proofs.lemmas.List.Elements.{All-from_get_or}
 use Rattle.std.proofs.lemmas.List.Folds.{list_all_at}
-use Rattle.std.specs.List.{list_all, count_by}
-use Rattle.std.specs.Prelude.{count_ones}
+use Rattle.std.specs.List.{list_all}
 use lib.Lanes.{chunk, zip2, mask_l, top}
 use Rattle.lp_build.specs.declared.builder.marks.Marks.{Marks}
-use Rattle.lp_format.specs.format.Bytes.{is_one_of}
+use Rattle.lp_format.specs.format.{is_one_of}
 use Rattle.lp_build.specs.code.Marks.{ComeBefore, listed}
-use Rattle.lp_scan.specs.code.Lanes.{first_set, mask_of}
+use Rattle.lp_scan.specs.code.{first_set, mask_of}
 use Rattle.lp_scan.proofs.lemmas.lanes.LaneLemmas.{lanes_of, lanes_or}
 use Rattle.lp_scan.proofs.lemmas.scan.MaskLemmas.{shifted, ones, lowest, mask_by_lanes}
 
@@ -75,13 +74,12 @@ pub count_overlapping : (q : ℕ → Bool) (d : List ℕ) (n first last : ℕ) �
 count_overlapping q d n first last room few front after =
     let shift : n + n - length d ≡ n - (length d - n) = omega arith in
     let from : n ≡ 0 + n = omega arith in
-    let seen = ap count_ones front ∙ ones q d 0 n in
     let rest =
     ap (λ (k : ℕ). count_ones (last / 2 ^ k)) shift
     ∙ ap (λ (m : ℕ). count_ones (m / 2 ^ (n - (length d - n)))) after
     ∙ count_last q d n n room room (omega arith)
     ∙ ap (λ (k : ℕ). count_by q (drop k d)) from in
-    omega (arith, seen, rest, count_after q d 0 n)
+    omega (arith, (ap count_ones front ∙ ones q d 0 n), rest, count_after q d 0 n)
 
 -- a text in which no byte passes the test
 free_whole : (q : ℕ → Bool) (d : List ℕ) → ((k : ℕ) → k < length d → q (get_or d k 0) ≡ false)
@@ -95,6 +93,6 @@ not_free : (q : ℕ → Bool) (d : List ℕ) (k : ℕ) → k < length d → q (g
     → list_all (λ b. not (q b)) d ≡ false
 not_free q d k inside here = list_all_at (λ b. not (q b)) d k 0 inside (ap not here)
 
--- where the first mark is decides
+-- the place of the first mark decides
 pub first_decides : (q : ℕ → Bool) (d : List ℕ) (r : ℕ) → ComeBefore q d 0 (length d) r → eqb r (length d) ≡ list_all (λ b. not (q b)) d
 first_decides q d r run = grind (arith, cases_eq, eq-eqb, free_whole, ne_eqb, not_free)

@@ -1,18 +1,15 @@
 -- Parsed lines that are written again: their points, and the texts of their parts.
-use Rattle.std.proofs.Common.{◌≡◌, ℕ, Bool, ◌&&◌, List, [], ◌∷◌, ◌++◌, map, length, refl, ap}
-use Rattle.std.specs.List.{flat_map, list_all}
-use Rattle.std.specs.Option.{option_map}
+use Rattle.std.proofs.Common.{◌≡◌, ℕ, Bool, ◌&&◌, List, [], ◌∷◌, ◌++◌, map, length, refl, ap, arith, flat_map, option_map}
+use Rattle.std.specs.List.{list_all}
 use Rattle.lp_values.specs.declared.escaped.EscapedStr.{EscapedStr}
 use Rattle.lp_values.specs.declared.values.FieldValue.{FieldValue}
 use Rattle.lp_lines.specs.declared.parsed.ParsedLine.{ParsedLine}
 use Rattle.lp_build.specs.declared.builder.lines.Parts.{Parts}
-use Rattle.lp_format.specs.format.Bytes.{comma, space}
-use Rattle.lp_format.specs.format.Points.{built, built_tag, line_of, is_admitted_tag, is_admitted_field}
-use Rattle.lp_format.specs.format.Lines.{logical_tag, logical_field, some_tags}
+use Rattle.lp_format.specs.format.{comma, space, built, built_tag, line_of, is_admitted_tag, is_admitted_field, logical_tag, logical_field}
+use Rattle.lp_format.specs.format.{some_tags}
 use Rattle.lp_lines.specs.code.Parsed.{tag_of, tags_of, field_of, parsed_point}
 use Rattle.lp_values.specs.code.Texts.{text_of}
 use Rattle.lp_build.specs.code.WrittenAgain.{point_tag, point_field, tag_text, fields_text, parts_text}
-use Rattle.std.proofs.Common.{arith}
 
 -- what comes before the first field is one byte, whichever it is
 pub length_fields_after : (fields : List (EscapedStr × FieldValue))

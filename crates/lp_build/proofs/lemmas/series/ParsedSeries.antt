@@ -1,22 +1,18 @@
 -- The series of each line that is read is a parsed one.
-use Rattle.std.proofs.Common.{◌≡◌, ℕ, zero, suc, ◌≤◌, Bool, List, [], ◌∷◌, ◌++◌, length, drop, refl, sym, ap, ◌∙◌, subst}
-use Rattle.std.proofs.Common.{arith, append_assoc, Option, Some, None, Ok}
+use Rattle.std.proofs.Common.{◌≡◌, ℕ, zero, suc, ◌≤◌, Bool, List, [], ◌∷◌, ◌++◌, length, drop, refl, sym, ap, ◌∙◌, subst, arith}
+use Rattle.std.proofs.Common.{append_assoc, Option, Some, None, Ok, take-append-drop}
 use Rattle.std.proofs.lemmas.Bool.{cases_Bool}
-use Rattle.std.proofs.lemmas.List.{append_cancel_left, take-append-drop}
+use Rattle.std.proofs.lemmas.List.{append_cancel_left}
 use Rattle.lp_lines.specs.laws.BaseLaws.{IsParsedSeries, ReadSeriesAreParsed}
-use Rattle.lp_format.specs.format.Lines.{after_comma, many, some_tags, tag, tag_set}
+use Rattle.lp_format.specs.format.{after_comma, many, some_tags, tag, tag_set, NameKind, a_measurement, a_tag_key, a_tag_value, name}
+use Rattle.lp_format.specs.format.{spelled, spelled_len, Pair, Reading, Text, reads, comma, equals}
 use Rattle.lp_format.specs.laws.Meanings.{IsAtStop, SeparatedAfterComma}
-use Rattle.lp_format.specs.format.Names.{NameKind, a_measurement, a_tag_key, a_tag_value}
-use Rattle.lp_format.specs.format.Names.{name, spelled, spelled_len}
-use Rattle.lp_format.specs.format.Points.{Pair}
-use Rattle.lp_format.specs.format.Readings.{Reading, Text, reads}
 use Rattle.lp_events.proofs.lemmas.fields.ManyLemmas.{set_separated}
 use Rattle.lp_lines.proofs.lemmas.read_back.LineReadsBack.{front_is}
 use Rattle.lp_lines.proofs.lemmas.names.ParsedNames.{answer_parts}
 use Rattle.lp_values.proofs.lemmas.fields.ReadingLemmas.{name_parts, pair_parts, reads_parts}
 use Rattle.lp_format.proofs.lemmas.meanings.ShorterRests.{tag_no_longer}
 use Rattle.lp_split.proofs.lemmas.split.StopMeaning.{before_stop}
-use Rattle.lp_format.specs.format.Bytes.{comma, equals}
 
 -- a front of the text was read, and it reads the same wherever the text after it is cut
 record ReadsCut {A : Type 0} (one : List ℕ → Reading A) (text : List ℕ) (x : A) (rest : List ℕ) : Type 0 where

@@ -1,9 +1,8 @@
-use Rattle.std.proofs.Common.{◌≡◌, ◌<◌, ◌∙◌, [], length, arith, refl, sym}
-use Rattle.std.proofs.lemmas.Bool.{eqb-true}
+use Rattle.std.proofs.Common.{◌≡◌, ◌<◌, ◌∙◌, [], length, arith, refl, sym, eqb-true}
 use Rattle.std.proofs.lemmas.Grind.{common_steps}
 use Rattle.std.proofs.lemmas.Result.{err_from_is_err_and}
-use Rattle.lp_format.specs.format.Lines.{answer}
-use Rattle.lp_split.specs.code.Rules.{rules_of}
+use Rattle.lp_format.specs.format.{answer}
+use Rattle.lp_split.specs.code.{rules_of}
 use Rattle.lp_values.specs.declared.error.ErrorKind.TheVariants.{TakeWhile1}
 use Rattle.lp_values.specs.declared.spelled.SpelledFault.TheVariants.{CannotParseEntireLine, FieldSetMissing, GenericParsingError}
 use Rattle.lp_events.proofs.lemmas.events.LineEvents.{complete_none, complete_some, fault_told, line_told}

@@ -1,4 +1,5 @@
 use Rattle.std.proofs.Common.{◌<◌, length, rules, arith}
+use Rattle.std.proofs.lemmas.Grind.{common_steps}
 use Rattle.std.proofs.lemmas.Result.{err_from_is_err_and}
 use Rattle.lp_format.specs.format.Lines.{tag}
 use Rattle.lp_events.specs.code.Events.{spelled_tag, tagged}
@@ -32,6 +33,4 @@ returns-in-None g c =
     c.tag-in-Some.ensures c.in-None.ensures.value
 
 pub returns : goal.returns
-returns g c =
-    told_all g.S.EventSink.takes tagged tag _ _ _ c.loop-key.count c.loop-key.rest _ c.loop-key.invariant.told
-    (rw c.in_default.is at c.in_ok-key.ensures.value) (omega (arith, c.if-count-eq0.false))
+returns g c = grind (arith, common_steps, told_all)

@@ -1,24 +1,16 @@
 -- What a sink was told of a line, one event after another, and of the pieces of a text.
-use Rattle.std.proofs.Common.{◌≡◌, ℕ, ◌+◌, ◌<◌, List, [], ◌∷◌, ◌++◌, length, length-append, map, refl, arith, inl, inr, true, false}
-use Rattle.std.proofs.Common.{◌∙◌, ap, append_assoc}
-use Rattle.std.specs.Prelude.{Some, Ok, ℤ, ◌==◌, Option, Result, Err}
-use Rattle.std.specs.Borrow.{Bor}
-use Rattle.std.proofs.lemmas.List.{map_push, append-nil}
+use Rattle.std.proofs.Common.{◌≡◌, ℕ, ◌+◌, ◌<◌, List, [], ◌∷◌, ◌++◌, length, length-append, map, refl, arith, inl, inr, true, false, ◌∙◌}
+use Rattle.std.proofs.Common.{ap, append_assoc, Some, Ok, ℤ, ◌==◌, Option, Result, Err, Bor, append-nil}
+use Rattle.std.proofs.lemmas.List.{map_push}
 use Rattle.std.proofs.lemmas.List.Concat.{flat_map-append}
-use Rattle.lp_format.specs.format.Bytes.{comma}
-use Rattle.lp_format.specs.format.Readings.{Fault, Reading, fatal, miss, reads, Text, cannot_parse_entire_line}
-use Rattle.lp_format.specs.format.Lines.{byte, separated_list, Line, answer, some_tags}
-use Rattle.lp_format.specs.format.Lines.{complete}
-use Rattle.lp_format.specs.format.Dialects.{Dialect}
-use Rattle.lp_format.specs.format.Items.{answers_of, answers_of_piece}
-use Rattle.lp_format.specs.format.Pieces.{GivesPiece, Left, Pieces, PiecesLeft}
-use Rattle.lp_format.specs.format.Points.{Pair}
-use Rattle.lp_format.specs.format.Trimming.{trimmed}
-use Rattle.lp_format.specs.format.Values.{Value}
+use Rattle.lp_format.specs.format.{comma, Fault, Reading, fatal, miss, reads, Text, cannot_parse_entire_line, byte, separated_list, Line}
+use Rattle.lp_format.specs.format.{answer, some_tags, complete, Dialect, answers_of, answers_of_piece, GivesPiece, Left, PiecesLeft}
+use Rattle.lp_format.specs.format.Pieces.{Pieces}
+use Rattle.lp_format.specs.format.{Pair, trimmed, Value}
 use Rattle.lp_values.specs.declared.spelled.SpelledFault.{SpelledFault}
 use Rattle.lp_values.specs.code.SpelledParts.{spelled_fault}
-use Rattle.lp_events.specs.code.Events.{AreCounted, Event, TakesAll, WasToldParts, AreEventsOf, AreEventsOfAll}
-use Rattle.lp_events.specs.code.Events.{AreToldBefore, WasTold, ended, front_events, named, tagged, valued}
+use Rattle.lp_events.specs.code.Events.{AreCounted, Event, TakesAll, WasToldParts, AreEventsOf, AreEventsOfAll, AreToldBefore, WasTold}
+use Rattle.lp_events.specs.code.Events.{ended, front_events, named, tagged, valued}
 use Rattle.lp_events.specs.code.EventsLeft.{SoFar}
 use Rattle.lp_events.proofs.lemmas.fields.ManyLemmas.{Reached, last_read, reached_all, reached_fatal, reached_more}
 

@@ -1,21 +1,14 @@
 -- Values that commas join are read one after another; and what a tag set was read from.
 use Rattle.std.proofs.Common.{◌≡◌, ℕ, zero, suc, ◌<◌, ◌≤◌, List, [], ◌∷◌, ◌++◌, length, length-append, refl, ap, ◌∙◌, arith, inl, inr}
-use Rattle.std.proofs.Common.{append_assoc, subst}
-use Rattle.std.specs.Prelude.{◌⊎◌, Option, Some, None, Result, Ok}
+use Rattle.std.proofs.Common.{append_assoc, subst, ◌⊎◌, Option, Some, None, Result, Ok, append-nil}
 use Rattle.std.proofs.lemmas.Bool.{cases_Bool}
-use Rattle.std.proofs.lemmas.List.{append-nil}
-use Rattle.lp_format.specs.format.Bytes.{comma}
-use Rattle.lp_format.specs.format.Dialects.{Dialect}
-use Rattle.lp_format.specs.format.Readings.{Fault, Text, Read, Reading, miss, fatal, reads}
-use Rattle.lp_format.specs.format.Names.{name, a_measurement}
-use Rattle.lp_format.specs.format.Points.{Pair}
-use Rattle.lp_format.specs.format.Values.{Value}
-use Rattle.lp_format.specs.format.Lines.{after_comma, byte, field, field_set, many, prepend, separated_list, some_tags, tag, tag_set}
+use Rattle.lp_format.specs.format.{comma, Dialect, Fault, Text, Read, Reading, miss, fatal, reads, name, a_measurement, Pair, Value}
+use Rattle.lp_format.specs.format.{after_comma, byte, field, field_set, many, prepend, separated_list, some_tags, tag, tag_set}
 use Rattle.lp_format.specs.laws.Meanings.{SeparatedBy, SeparatedAfterComma}
 use Rattle.lp_format.proofs.lemmas.meanings.JoinedMeaning.{the_most_is_read}
 use Rattle.lp_format.proofs.lemmas.meanings.ShorterRests.{tag_no_longer}
-use Rattle.lp_values.proofs.lemmas.fields.ReadingLemmas.{EndsIn, EndsIn-end, EndsIn-self, bind_reads, byte_ends, byte_parts}
-use Rattle.lp_values.proofs.lemmas.fields.ReadingLemmas.{name_ends, tag_ends}
+use Rattle.lp_values.proofs.lemmas.fields.ReadingLemmas.{EndsIn, EndsIn-end, EndsIn-self, bind_reads, byte_ends, byte_parts, name_ends}
+use Rattle.lp_values.proofs.lemmas.fields.ReadingLemmas.{tag_ends}
 use Rattle.lp_events.specs.code.EventsLeft.{SoFar}
 
 -- those that are read after others

@@ -1,14 +1,9 @@
 -- The pieces that a call of `next_line` skips, and how many bytes, pieces and items are left after it.
-use Rattle.std.proofs.Common.{◌≡◌, ℕ, ◌+◌, ◌<◌, ◌≤◌, List, [], ◌∷◌, ◌++◌, length, Bool, true, false, ap, refl, sym, arith, append_assoc, cond}
-use Rattle.std.proofs.Common.{length-append}
-use Rattle.std.specs.Prelude.{◌==◌, ◌||◌, Option, Some, None}
-use Rattle.std.specs.Borrow.{Bor}
-use Rattle.std.specs.List.{All}
+use Rattle.std.proofs.Common.{◌≡◌, ℕ, ◌+◌, ◌<◌, ◌≤◌, List, [], ◌∷◌, ◌++◌, length, Bool, true, false, ap, refl, sym, arith, append_assoc}
+use Rattle.std.proofs.Common.{cond, length-append, ◌==◌, ◌||◌, Option, Some, None, Bor, All}
 use Rattle.std.proofs.lemmas.List.Elements.{All-push}
-use Rattle.lp_format.specs.format.Bytes.{hash, newline}
-use Rattle.lp_format.specs.format.Dialects.{Dialect}
-use Rattle.lp_format.specs.format.Pieces.{Left, Pieces, Pieces.last, Pieces.cut, PiecesLeft, most_pieces}
-use Rattle.lp_format.specs.format.Trimming.{trimmed}
+use Rattle.lp_format.specs.format.{hash, newline, Dialect, Left, PiecesLeft, most_pieces, trimmed}
+use Rattle.lp_format.specs.format.Pieces.{Pieces, Pieces.last, Pieces.cut}
 use Rattle.lp_format.proofs.lemmas.line.TrimLemmas.{is_blank, left_of, trimmed_is}
 use Rattle.lp_format.proofs.lemmas.split.SplitPieces.{pieces_exist}
 use Rattle.lp_events.specs.code.LineSteps.{GivesLine, IsBlankPiece, most_items}

@@ -1,31 +1,20 @@
 -- What one step of a reader means for the events that are left, and what a sink was told of those that came.
 use Rattle.std.proofs.Common.{◌≡◌, ℕ, ◌-◌, ◌<◌, List, [], ◌∷◌, ◌++◌, length, drop, Bool, true, false, refl, sym, ◌∙◌, ap, subst, arith}
-use Rattle.std.proofs.Common.{append_assoc, length-append, length-drop, length-take, ◌+◌, ◌≤◌, eq-eqb}
-use Rattle.std.specs.Prelude.{ℤ, ◌==◌, MatchOption, Option, Some, Result, Ok, Err, is_some, IfOk, MatchResult}
-use Rattle.std.specs.Borrow.{Bor}
-use Rattle.std.proofs.lemmas.Bool.{cases_Bool, ne_eqb}
+use Rattle.std.proofs.Common.{append_assoc, length-append, length-drop, length-take, ◌+◌, ◌≤◌, eq-eqb, ℤ, ◌==◌, MatchOption, Option, Some}
+use Rattle.std.proofs.Common.{Result, Ok, Err, is_some, IfOk, MatchResult, Bor, ne_eqb, append-nil, All}
+use Rattle.std.proofs.lemmas.Bool.{cases_Bool}
 use Rattle.std.proofs.lemmas.Bool.Decides.{nat_tests}
-use Rattle.std.proofs.lemmas.List.{append-nil, map_push}
+use Rattle.std.proofs.lemmas.List.{map_push}
 use Rattle.std.proofs.Math.Seq.{take-append_seam}
-use Rattle.std.specs.List.{All}
 use Rattle.std.proofs.lemmas.List.Elements.{All-head, All-tail}
 use Rattle.lp_events.specs.declared.pull.Event as given
-use Rattle.lp_format.specs.format.Bytes.{comma, space}
-use Rattle.lp_format.specs.format.Dialects.{Dialect}
-use Rattle.lp_format.specs.format.Lines.{after_comma, answer, byte, field, field_set, front_before, spaces, tag, timestamp, without_comma}
-use Rattle.lp_format.specs.format.Lines.{complete}
-use Rattle.lp_format.specs.format.Names.{NameKind, name}
-use Rattle.lp_format.specs.format.Pieces.{Left}
-use Rattle.lp_format.specs.format.Points.{Pair}
-use Rattle.lp_format.specs.format.Readings.{Fault, Text, cannot_parse_entire_line, fatal}
-use Rattle.lp_format.specs.format.Readings.{miss, reads, tag_set_malformed}
-use Rattle.lp_format.specs.format.Values.{Value}
-use Rattle.lp_format.specs.format.Items.{answers_of, answers_of_piece}
-use Rattle.lp_format.specs.format.Trimming.{trimmed}
+use Rattle.lp_format.specs.format.{comma, space, Dialect, after_comma, answer, byte, field, field_set, front_before, spaces, tag, timestamp}
+use Rattle.lp_format.specs.format.{without_comma, complete, NameKind, name, Left, Pair, Fault, Text, cannot_parse_entire_line, fatal, miss}
+use Rattle.lp_format.specs.format.{reads, tag_set_malformed, Value, answers_of, answers_of_piece, trimmed}
 use Rattle.lp_values.proofs.lemmas.fields.ReadingLemmas.{EndsIn, bind_reads, byte_parts, name_parts}
 use Rattle.lp_values.specs.declared.spelled.SpelledFault.{SpelledFault}
-use Rattle.lp_events.specs.code.Events.{AreEventsOf, AreFrontEvents, Event, ended, failed, front_events, tagged, valued}
-use Rattle.lp_events.specs.code.Events.{AreEventsOfAll, TakesAll}
+use Rattle.lp_events.specs.code.Events.{AreEventsOf, AreFrontEvents, Event, ended, failed, front_events, tagged, valued, AreEventsOfAll}
+use Rattle.lp_events.specs.code.Events.{TakesAll}
 use Rattle.lp_events.specs.code.EventsLeft.{AreEventsLeft, Completes, FieldsRead, NamesRead, SeriesRead, Steps, told, GivesEvent}
 use Rattle.lp_events.specs.code.EventsLeft.{HasEventsLeft, most_of_line}
 use Rattle.lp_events.specs.declared.place.Place.{Place}

@@ -1,5 +1,5 @@
-use Rattle.std.proofs.Common.{◌≡◌, ◌<◌, length, sym, ◌∙◌, ap, arith}
-use Rattle.std.proofs.lemmas.Bool.{eqb-true}
+use Rattle.std.proofs.Common.{◌<◌, length, arith, eqb-true}
+use Rattle.std.proofs.lemmas.Grind.{common_steps}
 use Rattle.std.proofs.lemmas.Bool.Decides.{nat_tests}
 use Rattle.lp_events.proofs.lemmas.lines.LineSteps.{Skipped-more, items_less}
 use Rattle.lp_events.proofs.lines.next_line.Goals as goal
@@ -11,14 +11,4 @@ returns-then-not-is_empty-clause-fewer c =
     (λ others h. c.loop-piece.invariant.skipped _ (c.in-Some.ensures.steps.1 others h))
 
 pub loop-piece-preserved : goal.loop-piece-preserved
-loop-piece-preserved c =
-    let blank : length c.trimmed-line.result.now ≡ 0 = eqb-true (length c.trimmed-line.result.now) 0
-    (sym c.is_empty.ensures ∙ c.if-not-is_empty.false) in
-    let g = (c.in-Some.ensures.goes.on tt).2 in
-    record {
-      dialect = c.in-Some.ensures.steps.0 ∙ c.loop-piece.invariant.dialect;
-      skipped = λ others h. Skipped-more _ c.in-Some.piece.now others
-          (ap length (sym c.trimmed-line.ensures) ∙ blank)
-          (c.loop-piece.invariant.skipped _ (c.in-Some.ensures.steps.1 others h));
-      room = omega arith;
-    }
+loop-piece-preserved c = grind (arith, common_steps, eqb-true, Skipped-more)

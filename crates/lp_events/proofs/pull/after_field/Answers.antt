@@ -1,8 +1,7 @@
-use Rattle.std.proofs.Common.{◌≡◌, ◌<◌, ◌∙◌, [], ◌∷◌, ◌++◌, length, arith, refl, sym, inr}
-use Rattle.std.proofs.lemmas.Bool.{eqb-true}
+use Rattle.std.proofs.Common.{◌≡◌, ◌<◌, ◌∙◌, [], ◌∷◌, ◌++◌, length, arith, refl, sym, inr, eqb-true}
 use Rattle.std.proofs.lemmas.Grind.{common_steps}
 use Rattle.std.proofs.lemmas.Result.{err_from_is_err_and}
-use Rattle.lp_split.specs.code.Rules.{rules_of}
+use Rattle.lp_split.specs.code.{rules_of}
 use Rattle.lp_events.specs.code.Events.{spelled_field}
 use Rattle.lp_events.proofs.lemmas.pull.EventSteps.{completes_end, completes_fault, completes_more, field_after, fields_fatal, fields_more}
 use Rattle.lp_events.proofs.lemmas.pull.EventSteps.{left_fault, time_fault}

@@ -1,8 +1,7 @@
-use Rattle.std.proofs.Common.{◌≡◌, [], ◌∷◌, ◌++◌, true, refl, sym, ◌∙◌, inr}
+use Rattle.std.proofs.Common.{◌≡◌, [], ◌∷◌, ◌++◌, true, refl, sym, ◌∙◌, inr, arith}
+use Rattle.std.proofs.lemmas.Grind.{common_steps}
 use Rattle.std.proofs.lemmas.Result.{err_from_is_err_and}
-use Rattle.lp_format.specs.format.Bytes.{comma}
-use Rattle.lp_format.specs.format.Lines.{byte, tag}
-use Rattle.lp_format.specs.format.Readings.{miss}
+use Rattle.lp_format.specs.format.{comma, byte, tag, miss}
 use Rattle.lp_values.proofs.lemmas.fields.ReadingLemmas.{EndsIn, EndsIn-end, after_comma_ends, tag_ends}
 use Rattle.lp_events.specs.code.Events.{spelled_tag}
 use Rattle.lp_events.specs.code.EventsLeft.{AreLeftAfterSeries, AreLeftFrom}
@@ -32,8 +31,7 @@ pub returns-in_default-clause-steps : goal.returns-in_default-clause-steps
 returns-in_default-clause-steps c =
     let names = c.args.names in
     let bare : names.is_first ≡ true → byte comma names.rest.now ≡ miss = elim c.else-names.branch [
-      | else-names-via-then-names+else-is_some w ↦ λ first.
-          not_stripped w.strip_byte.result names.rest.now w.strip_byte.ensures.value (sym w.is_some.ensures ∙ w.if-is_some.false)
+      | else-names-via-then-names+else-is_some w ↦ grind (arith, common_steps, not_stripped)
       | else-names-via-else-names w ↦ λ first. absurd (cc)
     ] in
     let no_tag = rw c.in_default.is at c.in_ok-key.ensures.value in

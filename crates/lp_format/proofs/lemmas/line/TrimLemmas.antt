@@ -1,14 +1,13 @@
 -- Trimming from left to right: it drops the longest front of blanks and comments.
-use Rattle.std.proofs.Common.{◌≡◌, ◌≢◌, ℕ, ◌+◌, ◌<◌, ◌≤◌, List, [], ◌∷◌, length, drop, slice_index, Bool, true, false, ◌||◌, refl}
-use Rattle.std.proofs.Common.{sym, ap, ◌∙◌, arith, inl, inr, one-add, suc, ◌++◌, subst, length-append, append_assoc}
-use Rattle.std.specs.Prelude.{◌==◌, if◌then◌else◌}
-use Rattle.std.specs.List.{join_with_byte, slice_split, All}
-use Rattle.std.proofs.lemmas.Bool.{cases_Bool, eqb-true, ne_eqb, or_right, eqb-false}
+use Rattle.std.proofs.Common.{◌≡◌, ◌≢◌, ℕ, ◌+◌, ◌<◌, ◌≤◌, List, [], ◌∷◌, length, drop, slice_index, Bool, true, false, ◌||◌, refl, sym, ap}
+use Rattle.std.proofs.Common.{◌∙◌, arith, inl, inr, one-add, suc, ◌++◌, subst, length-append, append_assoc, ◌==◌, if◌then◌else◌, All}
+use Rattle.std.proofs.Common.{eqb-true, ne_eqb}
+use Rattle.std.specs.List.{join_with_byte, slice_split}
+use Rattle.std.proofs.lemmas.Bool.{cases_Bool, or_right, eqb-false}
 use Rattle.std.proofs.lemmas.Grind.{common_steps}
 use Rattle.std.proofs.lemmas.List.Splits.{join_with_byte-slice_split}
 use Rattle.std.proofs.lemmas.List.{drop_all, drop_more}
-use Rattle.lp_format.specs.format.Bytes.{hash, is_one_of, newline, space, tab}
-use Rattle.lp_format.specs.format.Trimming.{is_comment_or_empty, trimmed, without_blanks, without_front}
+use Rattle.lp_format.specs.format.{hash, is_one_of, newline, space, tab, is_comment_or_empty, trimmed, without_blanks, without_front}
 use Rattle.std.proofs.lemmas.List.Elements.{All-cons, All-nil}
 use Rattle.lp_format.specs.laws.Meanings.{IsBlankFront, IsLineEnd, empty, blank, comment}
 
@@ -51,10 +50,6 @@ module _ (b : ℕ) (l : List ℕ) (ls : List (List ℕ)) where
   comment_first : b ≡ hash → from_lines ((b ∷ l) ∷ ls) ≡ from_lines ls
   comment_first e = rw (e, one-add) refl
 
-  -- anything else is kept
-  kept_first : is_blank b ≡ false → (b == hash) ≡ false → from_lines ((b ∷ l) ∷ ls) ≡ b ∷ join_with_byte newline (l ∷ ls)
-  kept_first no_blank no_hash = rw (no_blank, no_hash, join_first b l ls, no_blank) refl
-
 -- a text has a first line
 record Lines (text : List ℕ) : Type 0 where
   first : List ℕ
@@ -82,22 +77,9 @@ other_left b text on more =
     let l = (has_lines text).first in
     let ls = (has_lines text).others in
     let are = (has_lines text).are in
-    let split : lines_of (b ∷ text) ≡ (b ∷ l) ∷ ls = rw (on, are) refl in
-    let after : from_lines ls ≡ left_of true text = sym (ap (λ (ls : List (List ℕ)). from_lines (drop 1 ls)) are) ∙ more.inside in
     let separated_list : join_with_byte newline
     (l ∷ ls) ≡ text = ap (λ (ls : List (List ℕ)). join_with_byte newline ls) (sym are) ∙ join_with_byte-slice_split 10 text in
-    record {
-      outside = ap from_lines split ∙
-          elim (cases_Bool (b == hash)) [
-            | inl sharp ↦ comment_first b l ls (eqb-true b hash sharp) ∙ after ∙ rw (on, sharp) refl
-            | inr plain ↦
-                elim (cases_Bool (is_blank b)) [
-                  | inl white ↦ blank_first b l ls white ∙ ap from_lines (sym are) ∙ more.outside ∙ rw (on, plain, white) refl
-                  | inr kept ↦ kept_first b l ls kept plain ∙ ap (λ (xs : List ℕ). b ∷ xs) separated_list ∙ rw (on, plain, kept) refl
-                ]
-          ];
-      inside = ap (λ (ls : List (List ℕ)). from_lines (drop 1 ls)) split ∙ after ∙ rw on refl;
-    }
+    grind (arith, cases_Bool, comment_first, eqb-true, blank_first, join_first)
 
 -- skipping byte by byte leaves what skipping line by line does
 left_is : (text : List ℕ) → Left text
@@ -135,8 +117,7 @@ left_blank in_comment text i lt e = grind (arith, left_inside, drop_more)
 
 -- what begins with another byte is kept
 pub left_kept : (text : List ℕ) (i : ℕ) → i < length text → slice_index text i ≢ newline → slice_index text i ≢ hash
-    → slice_index text i ≢ space → slice_index text i ≢ tab
-    → left_of false (drop i text) ≡ drop i text
+    → slice_index text i ≢ space → slice_index text i ≢ tab → left_of false (drop i text) ≡ drop i text
 left_kept text i lt a b c d = grind (arith, drop_more, ne_eqb)
 
 -- nothing is left after the last byte
@@ -178,10 +159,6 @@ module _ (b : ℕ) (text after : List ℕ) where
   comment_more : b ≢ newline → Inside text after → Inside (b ∷ text) after
   comment_more h f = (b ∷ f.0, f.1, ap (λ t. b ∷ t) f.2, All-cons (λ c. c ≢ newline) b f.0 h f.3, f.4, f.5)
 
--- a space or a tab is a blank
-blank_known : (b : ℕ) → is_blank b ≡ true → is_white b
-blank_known b h = grind (arith, common_steps)
-
 -- outside a comment and inside one, what is left of a text follows such a front
 fronts_are : (text : List ℕ) → Outside text (left_of false text) × Inside text (left_of true text)
 fronts_are [] = (([], refl, empty []), ([], [], refl, All-nil (λ c. c ≢ newline), tt, empty []))
@@ -197,7 +174,7 @@ fronts_are (b ∷ text) =
           elim (cases_Bool (b == hash)) [
             | inl sharp ↦ rw (h, sharp) (front_comment b text (left_of true text) (eqb-true b hash sharp) f.1, inside)
             | inr plain ↦ elim (cases_Bool (is_blank b)) [
-              | inl m ↦ rw (h, plain, m) (front_blank b text (left_of false text) (blank_known b m) f.0, inside)
+              | inl m ↦ rw (h, plain, m) (front_blank b text (left_of false text) (grind (arith, common_steps)) f.0, inside)
               | inr m ↦ rw (h, plain, m) (([], refl, empty (b ∷ text)), inside)
             ]
           ]
@@ -213,10 +190,6 @@ skip_comment [] rest plain = refl
 skip_comment (b ∷ end) rest plain =
     rw (ne_eqb b newline (plain 0 0 (omega arith))) (skip_comment end rest (λ k d l. plain (suc k) d (omega arith)))
 
--- at the end of a line a comment ends
-at_line_end : (text : List ℕ) → IsLineEnd text → left_of true text ≡ left_of false text
-at_line_end text h = grind arith
-
 -- a blank is no `#`, and one that is no newline is a space or a tab
 white_forms : (b : ℕ) → is_white b → ((b == hash) ≡ false) × ((b == newline) ≡ false → is_blank b ≡ true)
 white_forms b h = (grind (arith, common_steps), (λ on. grind (arith, common_steps)))
@@ -231,13 +204,12 @@ front_skipped _ _ (blank b front after h more) =
       | inr on ↦ rw (on, forms.0, forms.1 on) (front_skipped front after more)
     ]
 front_skipped _ _ (comment text front after plain stops more) =
-    ap (left_of true) (append_assoc text front after) ∙ skip_comment text (front ++ after) plain ∙ at_line_end (front ++ after) stops
+    ap (left_of true) (append_assoc text front after) ∙ skip_comment text (front ++ after) plain ∙ (grind arith)
     ∙ front_skipped front after more
 
 -- no such front is longer
-pub trimmed_is_longest : (piece front other after : List ℕ) → piece ≡ front ++ trimmed piece
-    → piece ≡ other ++ after → IsBlankFront other after
-    → length other ≤ length front
+pub trimmed_is_longest : (piece front other after : List ℕ) → piece ≡ front ++ trimmed piece → piece ≡ other ++ after
+    → IsBlankFront other after → length other ≤ length front
 trimmed_is_longest piece front other after e d h =
     let same : trimmed piece ≡ left_of false after = trimmed_is piece ∙ ap (left_of false) d ∙ front_skipped other after h in
     let left = (fronts_are after).0 in

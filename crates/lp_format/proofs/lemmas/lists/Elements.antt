@@ -1,6 +1,5 @@
 -- Elements of lists: the first one and the others.
-use Rattle.std.proofs.Common.{◌≡◌, ◌⊎◌, suc, List, ◌∷◌, refl, arith}
-use Rattle.std.specs.Prelude.{Contains}
+use Rattle.std.proofs.Common.{◌≡◌, ◌⊎◌, suc, List, ◌∷◌, refl, arith, Contains}
 
 -- the first element of a list is one of it
 pub first_element : {X : Type 0} (x : X) (xs : List X) → Contains (x ∷ xs) x

@@ -1,27 +1,24 @@
 -- Floats at the start of a text.
-use Rattle.std.proofs.Common.{◌≡◌, ◌≢◌, subst, if◌then◌else◌, ℕ, suc, ◌+◌, ◌-◌, Bool, ◌<◌, ◌≤◌, List, [], ◌∷◌, ◌++◌, length, take}
-use Rattle.std.proofs.Common.{drop, slice_index, get_or, true, false, refl, sym, ap, ◌∙◌, arith, inl, inr, one-add, zero-add}
-use Rattle.std.proofs.Common.{add-zero}
-use Rattle.std.specs.Prelude.{◌==◌, ◌||◌, codes, IsUtf8, IsCharBoundary}
+use Rattle.std.proofs.Common.{◌≡◌, ◌≢◌, subst, if◌then◌else◌, ℕ, suc, ◌+◌, ◌-◌, Bool, ◌<◌, ◌≤◌, List, [], ◌∷◌, ◌++◌, length, take, drop}
+use Rattle.std.proofs.Common.{slice_index, true, false, refl, sym, ap, ◌∙◌, arith, inl, inr, one-add, zero-add, add-zero, ◌==◌}
+use Rattle.std.proofs.Common.{◌||◌, codes, IsUtf8, IsCharBoundary, IsAscii, take-add, eqb-true, eq-eqb, ne_eqb, le-leb, lt-ltb, ltb-true}
+use Rattle.std.proofs.Common.{append_assoc, take_all, take-append-drop, drop_at, drop-drop, length-append, length-drop, length-take-le}
+use Rattle.std.proofs.Common.{get_or-append-add, get_or-take, take_at}
 use Rattle.std.specs.Char.{is_ascii_digit, digit_value}
-use Rattle.std.specs.Str.{IsAscii}
 use Rattle.std.specs.Str.Parse.{AllDigits, IsNumeral}
-use Rattle.std.proofs.Math.Seq.{take-add, take-nil}
-use Rattle.std.proofs.lemmas.Bool.{both_ways, cases_lt, cases_Bool, and_parts, and_from, eqb-true, eqb-false, eq-eqb, ne_eqb}
-use Rattle.std.proofs.lemmas.Bool.{le-leb, lt-ltb, ltb-true}
+use Rattle.std.proofs.Math.Seq.{take-nil}
+use Rattle.std.proofs.lemmas.Bool.{both_ways, cases_lt, cases_Bool, and_parts, and_from, eqb-false}
 use Rattle.std.proofs.lemmas.Bool.Decides.{nat_tests}
 use Rattle.std.proofs.lemmas.Grind.{common_steps}
-use Rattle.std.proofs.lemmas.List.{append_assoc, take_all, take-append-drop, drop_at, drop-drop, length-append, length-drop}
-use Rattle.std.proofs.lemmas.List.{length-take-le, get_or_append_left, get_or-append-add, get_or-take, get_or_past, take_at}
+use Rattle.std.proofs.lemmas.List.{get_or_append_left, get_or_past}
 use Rattle.std.proofs.lemmas.List.Sums.{prefix_len-le-length, AllPass-from_list_all}
 use Rattle.std.proofs.lemmas.List.Folds.{list_all-append}
 use Rattle.std.specs.List.{list_all, AllPass}
-use Rattle.lp_format.specs.format.Bytes.{comma, space, letter_i, letter_u, is_one_of}
+use Rattle.lp_format.specs.format.{comma, space, letter_i, letter_u, is_one_of, miss, reads, value, IsFloat, IsMarked, IsSigned, float}
+use Rattle.lp_format.specs.format.{float_at, digits_len, number_len, marked_len, integer_len, fraction_len, exponent_len, float_len}
+use Rattle.lp_format.specs.format.{unsigned_at}
 use Rattle.std.proofs.lemmas.Str.{IsCharBoundary-start, IsCharBoundary-from_take, IsUtf8-from_ascii}
 use Rattle.std.proofs.lemmas.Str.Parse.{digit_from_value}
-use Rattle.lp_format.specs.format.Readings.{miss, reads}
-use Rattle.lp_format.specs.format.Values.{value, IsFloat, IsMarked, IsSigned, float, float_at, digits_len, number_len, marked_len}
-use Rattle.lp_format.specs.format.Values.{integer_len, fraction_len, exponent_len, float_len, unsigned_at}
 use Rattle.lp_format.proofs.lemmas.values.ValueLemmas.{front_numeral, digits_no_more, integer_unmarked, unsigned_unmarked}
 
 -- a digit passes the test
@@ -95,8 +92,7 @@ exponent_at_least m x rest (mark, part) =
 
 -- a fraction and an exponent take their bytes at least
 tail_at_least : (fraction exponent rest : List ℕ) → IsMarked (codes ".") (IsNumeral 10) fraction
-    → IsMarked (codes "eE") (IsSigned (codes "+-")) exponent
-    → length fraction + length exponent ≤ tail_len (fraction ++ (exponent ++ rest))
+    → IsMarked (codes "eE") (IsSigned (codes "+-")) exponent → length fraction + length exponent ≤ tail_len (fraction ++ (exponent ++ rest))
 tail_at_least [] [] rest f e = omega arith
 tail_at_least [] (m ∷ x) rest f e = grind (arith, mark_no_digit, exponent_at_least)
 tail_at_least (p ∷ y) [] rest (point, digits) e = grind (arith, marked_before, digits_before)
@@ -161,8 +157,7 @@ signed_front signs (b ∷ rest) some = elim (cases_Bool (is_one_of signs b)) [
 
 -- a mark and a part at the start of a text, or nothing
 marked_front : (marks : List ℕ) (part : List ℕ → ℕ) (Part : List ℕ → Type 0) (t : List ℕ)
-    → ((x : List ℕ) → 0 < part x → Part (take (part x) x))
-    → IsMarked marks Part (take (marked_len marks part t) t)
+    → ((x : List ℕ) → 0 < part x → Part (take (part x) x)) → IsMarked marks Part (take (marked_len marks part t) t)
 marked_front marks part Part t of_part = grind (arith, take-nil, cases_Bool, and_parts, one-add, ltb-true)
 
 -- the longest float at the start of a text is one
@@ -271,10 +266,8 @@ float_whole t some fills =
 pub float_fills : (t : List ℕ) → IsFloat t → (0 < float_len t) × (length t ≤ float_len t)
 float_fills t parts =
     let P : List ℕ → Type 0 = IsFloat in
-    let fills : length t ≤ float_len t = float_len_longest t (length t) (omega arith)
-    (subst P (sym (take_all (length t) t (omega arith))) parts) in
-    let size : length t ≡ length parts.0 + length parts.1 + length parts.2 =
-    ap length parts.3 ∙ omega (arith, length-append parts.0 (parts.1 ++ parts.2), length-append parts.1 parts.2) in
+    let fills : length t ≤ float_len t = grind (arith, float_len_longest, take_all) in
+    let size : length t ≡ length parts.0 + length parts.1 + length parts.2 = grind (arith, length-append) in
     (omega (arith, fills, size, signed_some (codes "-") parts.0 parts.4), fills)
 
 -- what is at the start of a text as a float
@@ -290,10 +283,6 @@ float_reads t some = rw (ne_eqb (float_len t) 0 (λ e. absurd (omega arith))) re
 -- what no value can go on with: the end, a comma or a space
 abbrev pub Ends : List ℕ → Type 0
 Ends rest = is_one_of (0 ∷ comma ∷ space ∷ []) (slice_index rest 0) ≡ true
-
--- no mark of an integer is in a float
-float_byte : (b : ℕ) → in_float b ≡ true → (b ≢ letter_i) × (b ≢ letter_u)
-float_byte b e = ((λ i. grind (arith, common_steps)), (λ i. grind (arith, common_steps)))
 
 -- what no value can go on with is neither in a float nor such a mark
 no_float_byte : (b : ℕ) → is_one_of (0 ∷ comma ∷ space ∷ []) b ≡ true → (in_float b ≡ false) × (b ≢ letter_i) × (b ≢ letter_u)
@@ -327,7 +316,7 @@ unmarked t rest n parts ends fits = elim (cases_lt n (length t)) [
   | inl within ↦
       let byte = float_bytes t parts n 0 within in
       let same = get_or_append_left t rest 0 n within in
-      rw same (float_byte (get_or t n 0) byte)
+      rw same ((λ i. grind (arith, common_steps)), (λ i. grind (arith, common_steps)))
   | inr past ↦
       let at : n ≡ length t = omega arith in
       let other = no_float_byte (slice_index rest 0) ends in
@@ -337,14 +326,10 @@ unmarked t rest n parts ends fits = elim (cases_lt n (length t)) [
 -- a float at the start of a text: its whole part, after which no mark of an integer is, and what it is read as
 pub record FloatFront (text t rest : List ℕ) : Type 0 where
   pub some : 0 < integer_len text
-  pub no_i : slice_index text (integer_len text) ≢ 105
-  pub no_u : slice_index text (integer_len text) ≢ 117
+  pub no_i : slice_index text (integer_len text) ≢ letter_i
+  pub no_u : slice_index text (integer_len text) ≢ letter_u
   pub unsigned : unsigned_at text ≡ miss
   pub reads_it : float_at text ≡ reads (float t) rest
-
--- a float has a whole part
-whole_of_float : (text : List ℕ) → 0 < float_len text → 0 < integer_len text
-whole_of_float text some = grind (arith, cases_Bool, eqb-false)
 
 -- each float before the end, a comma or a space is at the start
 pub float_front : (t rest : List ℕ) → IsFloat t → Ends rest → FloatFront (t ++ rest) t rest
@@ -355,14 +340,7 @@ float_front t rest parts ends =
     let whole = integer_or_more text in
     let digits = digits_no_more text in
     let marks = unmarked t rest (integer_len text) parts ends (omega arith) in
-    record {
-      some = whole_of_float text filled;
-      no_i = marks.0;
-      no_u = marks.1;
-      unsigned = unsigned_unmarked text (unmarked t rest (digits_len text) parts ends (omega arith)).1;
-      reads_it = float_reads text filled
-          ∙ rw (len, take_at t rest (length t) refl, drop_at t rest (length t) refl) refl;
-    }
+    grind (arith, cases_Bool, eqb-false, unsigned_unmarked, unmarked, float_reads, take_at, drop_at)
 
 -- a float reads back before the end, a comma or a space
 pub float_reads_back : (t rest : List ℕ) → IsFloat t → Ends rest → value (t ++ rest) ≡ reads (float t) rest

@@ -1,12 +1,12 @@
 -- What is joined by commas is read as the most that are at the start.
-use Rattle.std.proofs.Common.{◌≡◌, ◌≢◌, ℕ, zero, suc, ◌<◌, ◌≤◌, List, [], ◌∷◌, ◌++◌, length, refl, sym, ap, ◌∙◌, subst}
-use Rattle.std.proofs.Common.{arith, length-append}
-use Rattle.std.proofs.lemmas.Bool.{cases_Bool, eqb-true}
-use Rattle.lp_format.specs.format.Readings.{Fault, Reading, miss, fatal, reads}
-use Rattle.lp_format.specs.format.Lines.{after_comma, separated_list, many, prepend}
+use Rattle.std.proofs.Common.{◌≡◌, ◌≢◌, ℕ, zero, suc, ◌<◌, ◌≤◌, List, [], ◌∷◌, ◌++◌, length, refl, sym, ap, ◌∙◌, subst, arith}
+use Rattle.std.proofs.Common.{length-append, eqb-true}
+use Rattle.std.proofs.lemmas.Bool.{cases_Bool}
+use Rattle.lp_format.specs.format.{Fault, Reading, miss, fatal, reads, after_comma, separated_list, many, prepend}
 use Rattle.lp_format.specs.laws.Meanings.{SeparatedBy, SeparatedAfterComma, LongestList, WholeList, NextHasFault, TheMostIsRead}
 use Rattle.lp_format.specs.laws.Meanings.{TheNextHasTheFault, TheFirstMisses}
 use Rattle.lp_format.proofs.lemmas.meanings.ShorterRests.{byte_reads}
+use Rattle.lp_format.specs.format.Bytes.{comma}
 
 module _ {A : Type 0} where
   -- one value that the first gives, and each other that the second gives
@@ -72,27 +72,6 @@ module _ {A : Type 0} where
   outcome [] rest other = miss
   outcome (x ∷ xs) rest r = ended (x ∷ xs) rest r
 
-  -- if values are given, none reads after them, and they are one or more
-  outcome_reads : (xs ys : List A) (rest suffix : List ℕ) (r : Reading A) → GivesNone r → outcome xs rest r ≡ reads ys suffix
-      → (xs ≡ ys) × (rest ≡ suffix) × (0 < length xs) × (r ≡ miss)
-  outcome_reads xs ys rest suffix r none e = grind arith
-
-  -- a fault is that of the next
-  outcome_fatal : (xs : List A) (rest : List ℕ) (r : Reading A) (f : Fault) → outcome xs rest r ≡ fatal f → r ≡ fatal f
-  outcome_fatal xs rest r f e = grind arith
-
-  -- a miss is that of the first
-  outcome_miss : (xs : List A) (rest : List ℕ) (r : Reading A) → GivesNone r → outcome xs rest r ≡ miss → (xs ≡ []) × (r ≡ miss)
-  outcome_miss xs rest r none e = grind arith
-
-  -- one or more values after which the next misses
-  outcome_is_reads : (xs : List A) (rest : List ℕ) → 0 < length xs → outcome xs rest miss ≡ reads xs rest
-  outcome_is_reads xs rest h = grind arith
-
-  -- values after which the next has a fault
-  outcome_is_fatal : (xs : List A) (rest : List ℕ) (e : Fault) → outcome xs rest (fatal e) ≡ fatal e
-  outcome_is_fatal xs rest e = grind arith
-
   -- what is read by as many as are at the start
   record Tail (g : List ℕ → Reading A) (n : ℕ) (text : List ℕ) : Type 0 where
     xs : List A
@@ -133,12 +112,12 @@ module _ {A : Type 0} where
     pub ends : separated_list one text ≡ outcome xs rest (next one (after_comma one) xs rest)
 
   -- after a comma, it is what the text after the comma gives
-  after_whole : (one : List ℕ → Reading A) (text suffix : List ℕ) → text ≡ 44 ∷ suffix → after_comma one text ≡ one suffix
-  after_whole one text suffix e = rw (byte_reads 44 text suffix e) refl
+  after_whole : (one : List ℕ → Reading A) (text suffix : List ℕ) → text ≡ comma ∷ suffix → after_comma one text ≡ one suffix
+  after_whole one text suffix e = rw (byte_reads comma text suffix e) refl
 
   -- a comma, and one after it
   after_parts : (one : List ℕ → Reading A) (text : List ℕ) (r : Reading A) → after_comma one text ≡ r → r ≢ miss
-      → (suffix : List ℕ) × (text ≡ 44 ∷ suffix) × (one suffix ≡ r)
+      → (suffix : List ℕ) × (text ≡ comma ∷ suffix) × (one suffix ≡ r)
   after_parts one text r e some = grind (arith, cases_Bool, eqb-true, after_whole)
 
   -- the two ways to say what is there
@@ -203,8 +182,7 @@ module _ {A : Type 0} where
           rest = t.rest;
           chain = (after, e, t.chain);
           none = λ y suffix is. t.none y suffix (sym last ∙ is);
-          ends = rw e (ap (prepend (x ∷ [])) t.ends ∙ ended_more x t.xs t.rest (after_comma one t.rest)
-              ∙ ap (ended (x ∷ t.xs) t.rest) (sym last));
+          ends = grind (arith, ended_more);
         }
     whole_by text other e = record { xs = []; rest = text; chain = refl; none = λ y after is. cc; ends = rw e refl }
 
@@ -218,8 +196,7 @@ module _ {A : Type 0} where
     read_is text xs rest h none =
         let w = whole_is text in
         let same = chain_same one (after_comma one) w.xs xs text w.rest rest w.chain h w.none none in
-        subst (λ (ys : List A). separated_list one text ≡ outcome ys rest (next one (after_comma one) ys rest)) same.0
-        (subst (λ (t : List ℕ). separated_list one text ≡ outcome w.xs t (next one (after_comma one) w.xs t)) same.1 w.ends)
+        grind arith
 
     -- they are there, and no more are
     pub longest : (text : List ℕ) (xs : List A) (rest : List ℕ) → Chain one (after_comma one) xs text rest
@@ -230,53 +207,34 @@ module _ {A : Type 0} where
     in_full : (text : List ℕ) (xs : List A) (rest : List ℕ) → separated_list one text ≡ reads xs rest → WholeList one text xs rest
     in_full text xs rest e =
         let w = whole_is text in
-        let p = outcome_reads w.xs xs w.rest rest (next one (after_comma one) w.xs w.rest) w.none (sym w.ends ∙ e) in
-        subst (λ (ys : List A). WholeList one text ys rest) p.0
-        (subst (λ (t : List ℕ). WholeList one text w.xs t) p.1
-        (record {
-          some = p.2;
-          longest = longest text w.xs w.rest w.chain w.none;
-          no_fault = λ f k. let d = sym p.3 ∙ from_fault one w.xs w.rest f k in cc;
-        }))
+        grind (arith, longest, from_fault)
 
     -- a list that ends where no comma and element follow is read
     full_is_read : (text : List ℕ) (xs : List A) (rest : List ℕ) → WholeList one text xs rest → separated_list one text ≡ reads xs rest
     full_is_read text xs rest h =
         let none = none_after_most one text xs rest h.longest in
         let last = misses (next one (after_comma one) xs rest) none (λ f k. h.no_fault f (to_fault one xs rest f k)) in
-        read_is text xs rest (from_separated one xs text rest h.longest.separated) none ∙ ap (outcome xs rest) last
-        ∙ outcome_is_reads xs rest h.some
+        grind (arith, read_is, from_separated, longest)
 
     -- a list is read as far as it goes
     pub the_most_is_read : TheMostIsRead one
     the_most_is_read text xs rest = (in_full text xs rest, full_is_read text xs rest)
-
-    -- a fault of the element after the longest list is the fault of the list
-    fault_is : (text : List ℕ) (e : Fault) (xs : List A) (rest : List ℕ) → LongestList one text xs rest
-        → NextHasFault one xs rest e → separated_list one text ≡ fatal e
-    fault_is text e xs rest h k = grind (arith, read_is, from_separated, none_after_most, from_fault, outcome_is_fatal)
 
     -- a list has a fault only by the element after those that are read
     pub the_next_has_the_fault : TheNextHasTheFault one
     the_next_has_the_fault text e = (
       (λ h.
           let w = whole_is text in
-          let last = outcome_fatal w.xs w.rest (next one (after_comma one) w.xs w.rest) e (sym w.ends ∙ h) in
+          let last : (next one (after_comma one) w.xs w.rest) ≡ fatal e = grind arith in
           (w.xs, w.rest, longest text w.xs w.rest w.chain w.none, to_fault one w.xs w.rest e last)),
-      (λ h. fault_is text e h.0 h.1 h.2 h.3),
+      (λ h. grind (arith, read_is, from_separated, none_after_most, from_fault)),
     )
-
-    -- a list of no elements has a first element that is not there
-    first_by : (text : List ℕ) (xs : List A) (rest : List ℕ) → Chain one (after_comma one) xs text rest → xs ≡ []
-        → next one (after_comma one) xs rest ≡ miss → one text ≡ miss
-    first_by text xs rest h e last = grind arith
 
     -- a list is not there if its first element is not there
     pub the_first_misses : TheFirstMisses one
     the_first_misses text = (
       (λ h.
           let w = whole_is text in
-          let p = outcome_miss w.xs w.rest (next one (after_comma one) w.xs w.rest) w.none (sym w.ends ∙ h) in
-          first_by text w.xs w.rest w.chain p.0 p.1),
+          (grind arith)),
       (λ e. rw e refl),
     )

@@ -1,16 +1,11 @@
 -- What is left after what was read is no longer than the text.
-use Rattle.std.proofs.Common.{◌≡◌, ℕ, zero, suc, add-one, List, ◌∷◌, get_or, true, refl, arith, ◌≤◌, length, drop, Bool}
-use Rattle.std.proofs.Common.{false, cond, ap, length-drop}
-use Rattle.std.specs.Prelude.{◌==◌, IsUtf8, IsCharBoundary}
-use Rattle.std.proofs.lemmas.Bool.{eq-eqb, eqb-true}
+use Rattle.std.proofs.Common.{◌≡◌, ℕ, zero, suc, add-one, List, ◌∷◌, get_or, true, refl, arith, ◌≤◌, length, drop, Bool, false, cond, ap}
+use Rattle.std.proofs.Common.{length-drop, ◌==◌, IsUtf8, IsCharBoundary, eq-eqb, eqb-true}
 use Rattle.std.proofs.lemmas.List.Sums.{prefix_len_passes, prefix_len-le-length}
 use Rattle.std.proofs.lemmas.Str.{IsCharBoundary-after_ascii, IsCharBoundary-start}
-use Rattle.lp_format.specs.format.Lines.{byte, spaces, key_value, tag, field}
-use Rattle.lp_format.specs.format.Readings.{reads, Fault, Read, Reading, miss, fatal, ◌>>=◌, ◌otherwise◌}
-use Rattle.lp_format.specs.format.Bytes.{space, equals}
-use Rattle.lp_format.specs.format.Names.{NameKind, a_tag_key, a_tag_value, a_field_key, name}
-use Rattle.lp_format.specs.format.Values.{value, integer_at, unsigned_at, float_at, string_at, boolean_at, true_words}
-use Rattle.lp_format.specs.format.Values.{false_words}
+use Rattle.lp_format.specs.format.{byte, spaces, key_value, tag, field, reads, Fault, Read, Reading, miss, fatal, ◌>>=◌, ◌otherwise◌, space}
+use Rattle.lp_format.specs.format.{equals, NameKind, a_tag_key, a_tag_value, a_field_key, name, value, integer_at, unsigned_at, float_at}
+use Rattle.lp_format.specs.format.{string_at, boolean_at, true_words, false_words}
 
 -- a byte at the start, by what the text is
 pub byte_reads : (b : ℕ) (text rest : List ℕ) → text ≡ b ∷ rest → byte b text ≡ reads b rest
@@ -58,10 +53,6 @@ and_then : {A B : Type 0} (text : List ℕ) (r : Reading A) (f : Read A → Read
     → ((x : Read A) → IsNoLonger x.rest (f x)) → IsNoLonger text (r >>= f)
 and_then text r f h k = grind (arith, none_left, fault_left)
 
--- a byte
-byte_no_longer : (b : ℕ) (text : List ℕ) → IsNoLonger text (byte b text)
-byte_no_longer b text = grind (arith, none_left, either, some_left)
-
 -- a name
 name_no_longer : (kind : NameKind) (text : List ℕ) → IsNoLonger text (name kind text)
 unfolding name
@@ -78,10 +69,8 @@ unfolding value integer_at unsigned_at float_at boolean_at
 value_no_longer text =
     let word : (b : Bool) (words : List (List ℕ)) → IsNoLonger text (boolean_at b words text) =
     λ b words. either text _ _ _ (none_left text) (dropped text _ _) in
-    let integer : IsNoLonger text (integer_at text) =
-    either text _ _ _ (either text _ _ _ (dropped text _ _) (fault_left text _)) (none_left text) in
-    let unsigned : IsNoLonger text (unsigned_at text) =
-    either text _ _ _ (either text _ _ _ (dropped text _ _) (fault_left text _)) (none_left text) in
+    let integer : IsNoLonger text (integer_at text) = grind (arith, either, dropped, fault_left, none_left) in
+    let unsigned : IsNoLonger text (unsigned_at text) = grind (arith, either, dropped, fault_left, none_left) in
     let float : IsNoLonger text (float_at text) = either text _ _ _ (none_left text) (dropped text _ _) in
     let numbers = one_of_two text _ _ (one_of_two text _ _ integer unsigned) float in
     let texts = one_of_two text _ _ numbers (string_no_longer text) in
@@ -92,7 +81,7 @@ key_value_no_longer : {V : Type 0} (kind : NameKind) (part : List ℕ → Readin
     → (text : List ℕ) → IsNoLonger text (key_value kind part text)
 key_value_no_longer kind part part_no_longer text =
     and_then text (name kind text) _ (name_no_longer kind text) λ key.
-    and_then key.rest (byte equals key.rest) _ (byte_no_longer equals key.rest) λ after.
+    and_then key.rest (byte equals key.rest) _ (grind (arith, none_left, either, some_left)) λ after.
     and_then after.rest (part after.rest) _ (part_no_longer after.rest) λ x.
     some_left x.rest _ x.rest (omega arith)
 

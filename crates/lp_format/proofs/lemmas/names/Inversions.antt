@@ -1,11 +1,10 @@
 -- What a list that is read was read from, what holds of all of it, and how many are counted.
 use Rattle.std.proofs.Common.{◌≡◌, ℕ, ◌≤◌, List, [], ◌∷◌, ◌++◌, length, ap, zero, suc, ◌<◌, refl, ◌∙◌, arith}
 use Rattle.std.specs.List.{AllByRecursion}
-use Rattle.lp_format.specs.format.Readings.{Reading, reads}
-use Rattle.lp_format.specs.format.Lines.{prepend, separated_list, after_comma}
+use Rattle.lp_format.specs.format.{Reading, reads, prepend, separated_list, after_comma}
 use Rattle.lp_format.specs.laws.Meanings.{SeparatedBy, SeparatedAfterComma, CountIsOfTheMost}
-use Rattle.lp_format.proofs.lemmas.meanings.JoinedMeaning.{the_most_is_read, Chain, GivesNone, next, next_same, after_shorter}
-use Rattle.lp_format.proofs.lemmas.meanings.JoinedMeaning.{whole_is, longest}
+use Rattle.lp_format.proofs.lemmas.meanings.JoinedMeaning.{the_most_is_read, Chain, GivesNone, next, next_same, after_shorter, whole_is}
+use Rattle.lp_format.proofs.lemmas.meanings.JoinedMeaning.{longest}
 use Rattle.lp_format.specs.code.Light.{one_and_after, many_count, read_count}
 
 -- what was added to
@@ -54,8 +53,7 @@ module _ {A : Type 0} (one : List ℕ → Reading A)
     (no_longer : (text : List ℕ) (x : A) (rest : List ℕ) → one text ≡ reads x rest → length rest ≤ length text) where
   -- and the first before them
   whole_counted : (text : List ℕ) (xs : List A) (rest : List ℕ) → Chain one (after_comma one) xs text rest
-      → GivesNone (next one (after_comma one) xs rest)
-      → read_count one text ≡ length xs
+      → GivesNone (next one (after_comma one) xs rest) → read_count one text ≡ length xs
   whole_counted text [] rest h none = grind (arith, none_counted)
   whole_counted text (x ∷ xs) rest h none =
       rw h.1 (ap suc (chain_counted (after_comma one) (after_shorter one no_longer) (length h.0) xs h.0 rest h.2

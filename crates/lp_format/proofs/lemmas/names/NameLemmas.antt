@@ -1,13 +1,9 @@
 -- How a spelling is read from left to right, and what its logical text is.
-use Rattle.std.proofs.Common.{◌≡◌, ◌≢◌, ℕ, suc, zero, ◌<◌, List, [], ◌∷◌, length, drop, get_or, true, false, refl, sym, ap}
-use Rattle.std.proofs.Common.{◌∙◌, arith, inl, inr, ◌↔◌, subst}
-use Rattle.std.specs.Prelude.{◌==◌}
-use Rattle.std.proofs.lemmas.Bool.{cases_Bool, or_parts, eqb-false, eq-eqb, ne_eqb, eqb-true}
-use Rattle.lp_format.specs.format.Bytes.{backslash, is_one_of}
-use Rattle.lp_format.specs.format.Names.{NameKind, a_measurement, ends_in_backslash, escapable}
-use Rattle.lp_format.specs.format.Names.{is_escapable, read_text, logical, name, spelled, spelled_len}
-use Rattle.lp_format.specs.format.Escapes.{without_escapes}
-use Rattle.lp_format.specs.format.Readings.{miss, fatal, reads, ends_with_backslash}
+use Rattle.std.proofs.Common.{◌≡◌, ◌≢◌, ℕ, suc, zero, ◌<◌, List, [], ◌∷◌, length, drop, get_or, true, false, refl, sym, ap, ◌∙◌, arith, inl}
+use Rattle.std.proofs.Common.{inr, ◌↔◌, subst, ◌==◌, eq-eqb, ne_eqb, eqb-true}
+use Rattle.std.proofs.lemmas.Bool.{cases_Bool, or_parts, eqb-false}
+use Rattle.lp_format.specs.format.{backslash, is_one_of, NameKind, ends_in_backslash, escapable, is_escapable, read_text}
+use Rattle.lp_format.specs.format.{logical, name, spelled, spelled_len, without_escapes, miss, fatal, reads, ends_with_backslash}
 use Rattle.lp_format.specs.laws.Meanings.{IsLogical, empty, plain, escape, other, end}
 
 -- a byte that is no backslash stays
@@ -36,23 +32,17 @@ without_escapes_same known (b ∷ text) none =
 
 -- a backslash may escape a backslash
 pub escapable_backslash : (kind : NameKind) → is_escapable kind backslash ≡ true
-escapable_backslash a_measurement = refl
-escapable_backslash kind = refl
+escapable_backslash kind = grind arith
 
 -- the last byte of a longer text
 ends_cons : (b : ℕ) (xs : List ℕ) → 0 < length xs → ends_in_backslash (b ∷ xs) ≡ ends_in_backslash xs
 ends_cons b xs h = grind arith
 
--- a spelled name that is not empty means a text that is not empty
-logical_nonempty : (kind : NameKind) (text : List ℕ) → 0 < length text → 0 < length (logical kind text)
-unfolding without_escapes
-logical_nonempty kind text h = grind (arith, cases_Bool)
-
 -- a byte before a text does not change whether it ends in a backslash
 logical_ends_cons : (kind : NameKind) (c : ℕ) (rest : List ℕ) → ends_in_backslash (logical kind rest) ≡ ends_in_backslash rest
     → ends_in_backslash (c ∷ logical kind rest) ≡ ends_in_backslash (c ∷ rest)
 unfolding without_escapes
-logical_ends_cons kind c rest h = grind (arith, ends_cons, logical_nonempty)
+logical_ends_cons kind c rest h = grind (arith, ends_cons, cases_Bool)
 
 -- a name ends in a backslash if its spelling does
 pub logical_ends : (kind : NameKind) (text : List ℕ) → ends_in_backslash (logical kind text) ≡ ends_in_backslash text

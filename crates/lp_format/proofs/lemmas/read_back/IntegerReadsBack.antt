@@ -1,24 +1,19 @@
 -- An integer reads back as it was written.
-use Rattle.std.proofs.Common.{◌≡◌, ℕ, suc, ◌^◌, ◌<◌, List, [], ◌∷◌, ◌++◌, length, true, refl, sym, arith}
-use Rattle.std.proofs.Common.{inl, inr}
-use Rattle.std.specs.Prelude.{ℤ, pos, negsuc, decimal, codes}
+use Rattle.std.proofs.Common.{◌≡◌, ℕ, suc, ◌^◌, ◌<◌, List, [], ◌∷◌, ◌++◌, length, true, refl, sym, arith, inl, inr, ℤ, pos, negsuc, decimal}
+use Rattle.std.proofs.Common.{codes, ne_eqb, take_at, drop_at}
 use Rattle.std.specs.Fmt.{signed_decimal}
 use Rattle.std.specs.Str.Parse.{IsNumeral, digits_value, signed_digits_value}
-use Rattle.std.proofs.lemmas.Bool.{ne_eqb}
 use Rattle.std.proofs.lemmas.Fmt.{decimal_is_IsNumeral}
 use Rattle.std.proofs.lemmas.Str.Parse.{digit_from_value}
-use Rattle.std.proofs.lemmas.List.{take_at, drop_at}
-use Rattle.lp_format.specs.format.Lines.{spaces}
-use Rattle.lp_format.specs.format.Readings.{reads}
-use Rattle.lp_format.specs.format.Values.{digits_len, fits_i64, integer, integer_at, integer_len}
+use Rattle.lp_format.specs.format.{spaces, reads, digits_len, fits_i64, integer, integer_at, integer_len}
 use Rattle.lp_format.proofs.lemmas.values.ValueLemmas.{fits_from_test, integer_parsed}
 use Rattle.lp_format.proofs.lemmas.literals.FloatLemmas.{minus_no_digit, signed_before}
+use Rattle.lp_format.specs.format.Bytes.{letter_i, minus}
 
 -- digits have no sign at the start
 pub unsigned_len : (ds tail : List ℕ) → IsNumeral 10 ds → digits_len tail ≡ 0 → integer_len (ds ++ tail) ≡ length ds
 unsigned_len [] tail numeral ends = absurd (omega arith)
-unsigned_len (d ∷ ds) tail numeral ends =
-    omega (arith, signed_before (codes "-") (d ∷ ds) tail minus_no_digit (inr numeral), ends)
+unsigned_len (d ∷ ds) tail numeral ends = omega (arith, signed_before (codes "-") (d ∷ ds) tail minus_no_digit (inr numeral), ends)
 
 -- digits without a sign have their value
 unsigned_value : (ds : List ℕ) → IsNumeral 10 ds → signed_digits_value 10 ds ≡ pos (digits_value 10 ds)
@@ -45,19 +40,18 @@ integer_written (negsuc n) fits =
     record {
       some = omega arith;
       len = λ tail ends.
-          omega (arith, signed_before (codes "-") (45 ∷ decimal (suc n)) tail minus_no_digit (inl (refl, written.0)), ends);
+          omega (arith, signed_before (codes "-") (minus ∷ decimal (suc n)) tail minus_no_digit (inl (refl, written.0)), ends);
       value = rw written.1 refl;
       no_space = refl;
     }
 
 -- an integer and its mark
-pub integer_reads_back : (z : ℤ) (rest : List ℕ) → fits_i64 z ≡ true → integer_at (signed_decimal z ++ 105 ∷ rest) ≡ reads (integer z) rest
+pub integer_reads_back : (z : ℤ) (rest : List ℕ) → fits_i64 z ≡ true → integer_at (signed_decimal z ++ letter_i ∷ rest) ≡ reads (integer z) rest
 integer_reads_back z rest fits =
     let written = integer_written z fits in
     let number = signed_decimal z in
-    let text = number ++ 105 ∷ rest in
-    let len : integer_len text ≡ length number = written.len (105 ∷ rest) refl in
-    integer_parsed text number rest z
-    (rw len (sym (take_at number (105 ∷ rest) (length number) refl)))
-    (rw len (drop_at number (105 ∷ rest) (length number) refl))
+    let text = number ++ letter_i ∷ rest in
+    let len : integer_len text ≡ length number = written.len (letter_i ∷ rest) refl in
+    integer_parsed text number rest z (rw len (sym (take_at number (letter_i ∷ rest) (length number) refl)))
+    (rw len (drop_at number (letter_i ∷ rest) (length number) refl))
     written.some (rw written.value (fits_from_test z fits)) (sym written.value)

@@ -1,19 +1,15 @@
 -- A name that is admitted reads back as it was spelled, and the line of a point as that point.
-use Rattle.std.proofs.Common.{◌≡◌, ◌≢◌, ℕ, ◌<◌, List, [], ◌∷◌, length, slice_index, Bool, true, false, not, refl, ap, arith, inl}
-use Rattle.std.proofs.Common.{inr, ◌++◌, map, Option, Some, None}
-use Rattle.std.specs.List.{list_all, flat_map}
+use Rattle.std.proofs.Common.{◌≡◌, ◌≢◌, ℕ, ◌<◌, List, [], ◌∷◌, length, slice_index, Bool, true, false, not, refl, ap, arith, inl, inr, ◌++◌}
+use Rattle.std.proofs.Common.{map, Option, Some, None, flat_map}
+use Rattle.std.specs.List.{list_all}
 use Rattle.std.proofs.lemmas.Bool.{cases_Bool, and_parts, eqb-false, not-true}
 use Rattle.std.proofs.lemmas.Grind.{common_steps}
-use Rattle.lp_format.specs.format.Bytes.{backslash, hash, is_one_of, space}
-use Rattle.lp_format.specs.format.Names.{NameKind, a_measurement, a_tag_key, a_tag_value, a_field_key, ends_in_backslash, escapable}
-use Rattle.lp_format.specs.format.Names.{is_escapable, is_stop, logical, read_text}
-use Rattle.lp_format.specs.format.Readings.{Text}
-use Rattle.lp_format.specs.format.Escapes.{escaped, without_escapes}
-use Rattle.lp_format.specs.format.Points.{is_admitted_name, never_in, spelling, Pair, Point, Tag, Field, built_tag}
+use Rattle.lp_format.specs.format.{backslash, hash, is_one_of, space, NameKind, a_measurement, a_tag_key, a_tag_value, a_field_key}
+use Rattle.lp_format.specs.format.{ends_in_backslash, escapable, is_escapable, is_stop, logical, read_text, Text, escaped, without_escapes}
+use Rattle.lp_format.specs.format.{is_admitted_name, never_in, spelling, Pair, Point, Tag, Field, built_tag, Value, integer, unsigned}
+use Rattle.lp_format.specs.format.{float, string, boolean, quotable, Line, point_of, logical_value, logical_tag, logical_field, some_tags}
 use Rattle.lp_format.proofs.lemmas.names.NameLemmas.{escapable_backslash, without_escapes_same, without_escapes_known}
 use Rattle.lp_format.proofs.lemmas.names.NameLemmas.{without_escapes_plain_byte}
-use Rattle.lp_format.specs.format.Values.{Value, integer, unsigned, float, string, boolean, quotable}
-use Rattle.lp_format.specs.format.Lines.{Line, point_of, logical_value, logical_tag, logical_field, some_tags}
 
 -- a byte that may be in a name
 abbrev pub may_hold : NameKind → ℕ → Bool
@@ -21,19 +17,15 @@ may_hold kind b = not (is_one_of (never_in kind) b)
 
 -- a stop byte that may be in a name is escaped there
 pub stop_escapable : (kind : NameKind) (b : ℕ) → may_hold kind b ≡ true → is_escapable kind b ≡ false → is_stop kind b ≡ false
-stop_escapable a_measurement b may plain = grind (arith, common_steps)
-stop_escapable a_tag_value b may plain = grind (arith, common_steps)
-stop_escapable other b may plain = grind (arith, common_steps)
+stop_escapable kind b h k = grind (arith, common_steps)
 
 -- a backslash ends no name
 pub backslash_no_stop : (kind : NameKind) → is_stop kind backslash ≡ false
-backslash_no_stop a_measurement = refl
-backslash_no_stop other = refl
+backslash_no_stop kind = grind arith
 
 -- a space in a name is escaped
 pub space_escapable : (kind : NameKind) → is_escapable kind space ≡ true
-space_escapable a_measurement = refl
-space_escapable other = refl
+space_escapable kind = grind arith
 
 -- the text of a name or a string, a byte further
 pub escaped_found : (known text : List ℕ) (b : ℕ) → is_one_of known b ≡ true → escaped known (b ∷ text) ≡ backslash ∷ b ∷ escaped known text

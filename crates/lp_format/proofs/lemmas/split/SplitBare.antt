@@ -1,35 +1,25 @@
 -- Bare bytes: what a backslash does to the byte after it, and the shape of a piece by its bare bytes, which determine the cut.
-use Rattle.std.proofs.Common.{◌≡◌, ◌≢◌, ℕ, ◌+◌, ◌%◌, Bool, true, false, cond, not, eqb, List, [], ◌∷◌, ◌++◌, reverse, sym, ◌∙◌, ap}
-use Rattle.std.proofs.Common.{refl, arith, append_assoc, append-nil, ◌⊎◌, inl, inr, subst, ◌&&◌}
-use Rattle.std.specs.List.{prefix_len, All, count_by}
+use Rattle.std.proofs.Common.{◌≡◌, ◌≢◌, ℕ, Bool, true, false, cond, not, eqb, List, [], ◌∷◌, ◌++◌, sym, ◌∙◌, ap, refl, arith}
+use Rattle.std.proofs.Common.{append_assoc, append-nil, ◌⊎◌, inl, inr, subst, ◌&&◌, All, count_by, ne_eqb, lt-ltb, le-ltb, ◌==◌}
+use Rattle.std.proofs.Common.{if◌then◌else◌, nat_lt}
 use Rattle.std.proofs.lemmas.List.{reverse-append}
-use Rattle.std.proofs.lemmas.Bool.{ne_eqb, lt-ltb, le-ltb, cases_eq, and_left, and_right}
-use Rattle.std.proofs.lemmas.Bool.Decides.{nat_tests}
-use Rattle.lp_format.specs.format.Escapes.{is_escaped_after, bare_after, bare, IsBareAfter}
-use Rattle.lp_format.specs.format.Bytes.{backslash, newline, quote, space, comma, equals}
+use Rattle.std.proofs.lemmas.Bool.{cases_eq, and_left, and_right}
+use Rattle.lp_format.specs.format.{is_escaped_after, bare_after, bare, IsBareAfter, backslash, newline, quote, space, comma, equals, IsHead}
+use Rattle.lp_format.specs.format.{HasMoreEquals, IsPlain, EndsPlain, EndsQuoted}
+use Rattle.lp_format.specs.format.Piece.{EndsPlain.first, EndsPlain.later, EndsQuoted.opened}
+use Rattle.lp_format.specs.format.{Opens, IsQuoted, IsClosed, IsOpen}
 use Rattle.std.proofs.lemmas.List.Elements.{All-append, All-cons, All-nil, All-push, All-head, All-tail}
-use Rattle.lp_format.specs.format.Piece.{IsHead, HasMoreEquals, IsPlain, EndsPlain, EndsPlain.first, EndsPlain.later, EndsQuoted}
-use Rattle.lp_format.specs.format.Piece.{EndsQuoted.opened, Opens, IsQuoted, IsClosed, IsOpen}
-use Rattle.std.specs.Prelude.{◌==◌, if◌then◌else◌, nat_lt}
 
 -- a byte more: only a backslash escapes, and only a bare one
 pub is_escaped-nil : is_escaped_after [] ≡ false
 unfolding is_escaped_after
 is_escaped-nil = refl
 
--- one more turns odd into even, and even into odd
-odd-suc : (n : ℕ) → eqb ((1 + n) % 2) 1 ≡ not (eqb (n % 2) 1)
-odd-suc n = grind (arith, nat_tests)
-
--- one more backslash turns the parity of a run, and another byte ends it
-run-push : (b n : ℕ) (t : Bool) → eqb (cond t (1 + n) 0 % 2) 1 ≡ cond t (not (eqb (n % 2) 1)) false
-run-push b n t = grind (arith, odd-suc)
-
 -- after a byte something is escaped if that byte is a bare backslash
 pub is_escaped-push : (front : List ℕ) (b : ℕ)
     → is_escaped_after (front ++ b ∷ []) ≡ cond (eqb b backslash) (not (is_escaped_after front)) false
 unfolding is_escaped_after
-is_escaped-push front b = rw reverse-append (run-push b (prefix_len (λ c. eqb c backslash) (reverse front)) (eqb b backslash))
+is_escaped-push front b = rw reverse-append (grind arith)
 
 -- the flag that a walk over a text keeps
 abbrev pub flag_after : Bool → List ℕ → Bool
@@ -54,8 +44,7 @@ is_escaped-after_other front text b h =
 pub bare_after-push : (front text : List ℕ) (b : ℕ)
     → bare_after front (text ++ b ∷ []) ≡ bare_after front text ++ cond (is_escaped_after (front ++ text)) [] (b ∷ [])
 bare_after-push front [] b = append-nil _ ∙ ap (λ f. cond (is_escaped_after f) [] (b ∷ [])) (sym (append-nil front))
-bare_after-push front (a ∷ text) b =
-    rw (bare_after-push (front ++ a ∷ []) text b) (simp append_assoc)
+bare_after-push front (a ∷ text) b = rw (bare_after-push (front ++ a ∷ []) text b) (simp append_assoc)
 
 -- `front` ends in an escaped place, or in a bare one
 pub is_escaped-push_escaped : (front : List ℕ) (b : ℕ) → is_escaped_after front ≡ true → is_escaped_after (front ++ b ∷ []) ≡ false
@@ -90,8 +79,7 @@ bare_after-append : (front xs ys : List ℕ) → bare_after front (xs ++ ys) ≡
 bare_after-append front [] ys = ap (λ t. bare_after t ys) (sym (append-nil front))
 bare_after-append front (x ∷ xs) ys =
     rw (bare_after-append (front ++ x ∷ []) xs ys, append_assoc front (x ∷ []) xs)
-    (sym (append_assoc (cond (is_escaped_after front) [] (x ∷ [])) (bare_after (front ++ x ∷ []) xs)
-    (bare_after (front ++ x ∷ xs) ys)))
+    (sym (append_assoc (cond (is_escaped_after front) [] (x ∷ [])) (bare_after (front ++ x ∷ []) xs) (bare_after (front ++ x ∷ xs) ys)))
 
 -- the bare bytes of two texts, if nothing is escaped after the first
 pub bare-append : (xs ys : List ℕ) → IsBareAfter xs → bare (xs ++ ys) ≡ bare xs ++ bare ys
@@ -148,15 +136,8 @@ IsPlain-extend counted xs ys added h e n q =
     let more = bare_after-append [] xs ys ∙ ap (λ t. bare xs ++ t) e in
     record {
       no_newline = rw more (All-append (λ c. c ≢ newline) (bare xs) added h.no_newline n);
-      no_opening = λ before after p. elim (place_in_append (bare xs) added quote before after (sym more ∙ p)) [
-        | inl w ↦ h.no_opening before w.0 w.1
-        | inr w ↦ λ m. q w.0 after w.2 (rw append_assoc (rw w.1 at m))
-      ];
+      no_opening = grind (arith, place_in_append, append_assoc);
     }
-
--- no bytes are a plain stretch
-IsPlain-nil : (counted : List ℕ) → IsPlain counted []
-IsPlain-nil counted = grind (arith, no_newline, nil_has_no_place)
 
 -- equal texts end in a plain stretch alike
 pub EndsPlain-same : {text more counted seen : List ℕ} → text ≡ more → counted ≡ seen → EndsPlain text counted → EndsPlain more seen
@@ -193,8 +174,7 @@ EndsPlain-escaped {text} {counted} b h e =
 -- a bare byte that neither ends the piece nor opens a string leaves the end in a plain stretch
 pub EndsPlain-bare : {text counted : List ℕ} (b : ℕ) → EndsPlain text counted → IsBareAfter text → b ≢ newline
     → (b ≡ quote → ¬ HasMoreEquals counted) → EndsPlain (text ++ b ∷ []) (counted ++ b ∷ [])
-EndsPlain-bare {text} {counted} b h e n m =
-    EndsPlain-extend (b ∷ []) (b ∷ []) h (rw e refl) (no_newline b n) (NoOpening-one counted b m)
+EndsPlain-bare {text} {counted} b h e n m = EndsPlain-extend (b ∷ []) (b ∷ []) h (rw e refl) (no_newline b n) (NoOpening-one counted b m)
 
 -- the first space
 pub EndsPlain-start : (head : List ℕ) → IsHead head → IsBareAfter head → EndsPlain (head ++ space ∷ []) (space ∷ [])
@@ -230,7 +210,7 @@ EndsQuoted-start {text} {counted} h i m = opened text counted [] h (i, m) (All-n
 -- a bare quote closes a string
 pub EndsQuoted-close : {text counted : List ℕ} → EndsQuoted text counted → IsBareAfter text → EndsPlain (text ++ quote ∷ []) counted
 EndsQuoted-close (opened piece counted quoted h o q) e = EndsPlain-same refl (append-nil counted)
-    (later piece counted quoted [] h o q e (IsPlain-nil counted))
+    (later piece counted quoted [] h o q e (grind (arith, no_newline, nil_has_no_place)))
 
 -- where the machine is, with the bare bytes of the plain stretches so far
 data State : Type 0 where
@@ -290,15 +270,13 @@ plain_step_is : (counted : List ℕ) (b : ℕ) → b ≢ newline → (b ≡ quot
 plain_step_is counted b n q = grind (arith, cases_eq, and_right, le-ltb, and_left, ne_eqb)
 
 -- bytes that neither end the piece nor open a string leave the machine in a plain stretch
-run_plain : (counted xs : List ℕ) → All (λ b. b ≢ newline) xs
-    → NoOpening counted xs → run (in_plain counted) xs ≡ in_plain (counted ++ xs)
+run_plain : (counted xs : List ℕ) → All (λ b. b ≢ newline) xs → NoOpening counted xs → run (in_plain counted) xs ≡ in_plain (counted ++ xs)
 run_plain counted [] n q = rw append-nil refl
 run_plain counted (b ∷ xs) n q =
     let opens_none : b ≡ quote → ¬ HasMoreEquals counted = λ e. rw append-nil at (q [] xs (ap (λ c. c ∷ xs) e)) in
     ap (λ s. run s xs) (plain_step_is counted b (All-head (λ c. c ≢ newline) b xs n) opens_none)
     ∙ run_plain (counted ++ b ∷ []) xs (All-tail (λ c. c ≢ newline) b xs n)
-    (λ before after e. rw append_assoc (q (b ∷ before) after (ap (λ t. b ∷ t) e)))
-    ∙ ap in_plain (append_assoc counted (b ∷ []) xs)
+    (λ before after e. rw append_assoc (q (b ∷ before) after (ap (λ t. b ∷ t) e))) ∙ ap in_plain (append_assoc counted (b ∷ []) xs)
 
 -- bytes that are no quotes leave the machine in a string
 run_quoted : (counted xs : List ℕ) → All (λ b. b ≢ quote) xs → run (in_quoted counted) xs ≡ in_quoted counted
@@ -316,8 +294,7 @@ ends_plain : {text counted : List ℕ} → EndsPlain text counted → run in_hea
 ends_plain (first head plain h i p) =
     let same = bare-cons space plain (omega arith) in
     let counted = run_plain [] (bare (space ∷ plain)) p.no_newline p.no_opening in
-    run-around in_head head space plain i (omega arith)
-    ∙ rw (run_head (bare head) h) (subst (λ t. run (in_plain []) t ≡ in_plain t) same counted ∙ ap in_plain (sym same))
+    grind (arith, run-around, run_head)
 ends_plain (later piece counted quoted plain h o q i p) =
     run-around in_head (piece ++ quote ∷ quoted) quote plain i (omega arith)
     ∙ rw (opening piece counted quoted (ends_plain h) o q) (run_plain counted (bare plain) p.no_newline p.no_opening)

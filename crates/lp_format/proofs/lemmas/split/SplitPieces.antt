@@ -1,20 +1,17 @@
 -- Each text has exactly one list of pieces, and the pieces of joined texts are joined.
-use Rattle.std.proofs.Common.{◌≡◌, ◌≢◌, ℕ, ◌+◌, ◌<◌, Bool, true, false, ◌&&◌, ◌||◌, ◌⊎◌, inl, inr, eqb, List, [], ◌∷◌, ◌++◌, length}
-use Rattle.std.proofs.Common.{get_or, take, drop, Option, Some, None, MatchOption, slice_range, sym, ◌∙◌, ap, refl, subst, arith}
-use Rattle.std.proofs.Common.{append_assoc, append-nil}
-use Rattle.std.specs.List.{All, count_by}
-use Rattle.std.proofs.lemmas.List.{take_at, drop_more, take-append-drop}
+use Rattle.std.proofs.Common.{◌≡◌, ◌≢◌, ℕ, ◌+◌, ◌<◌, Bool, true, false, ◌&&◌, ◌||◌, ◌⊎◌, inl, inr, eqb, List, [], ◌∷◌, ◌++◌, length, get_or}
+use Rattle.std.proofs.Common.{take, drop, Option, Some, None, MatchOption, slice_range, sym, ◌∙◌, ap, refl, subst, arith, append_assoc}
+use Rattle.std.proofs.Common.{append-nil, All, count_by, take_at, take-append-drop}
+use Rattle.std.proofs.lemmas.List.{drop_more}
 use Rattle.std.proofs.lemmas.List.Elements.{All-head, All-tail, All-cons, All-push, All-take, All-append}
 use Rattle.std.proofs.lemmas.Bool.{cases_lt, cases_eq, cases_Bool, false≢true, both_ways}
-use Rattle.lp_format.specs.format.Dialects.{Dialect, Crate, Strict}
-use Rattle.lp_format.specs.format.Escapes.{is_escaped_after}
-use Rattle.lp_format.specs.format.Piece.{IsHead, EndsPlain, EndsQuoted}
-use Rattle.lp_format.specs.format.Pieces.{begins_comment, IsComment, IsCutPiece, IsLastPiece, IsFirstCut, Pieces, Pieces.last}
-use Rattle.lp_format.specs.format.Pieces.{Pieces.cut}
+use Rattle.lp_format.specs.format.{Dialect, Crate, Strict, is_escaped_after, IsHead, EndsPlain, EndsQuoted, begins_comment, IsComment}
+use Rattle.lp_format.specs.format.{IsCutPiece, IsLastPiece, IsFirstCut, comma, equals, hash, newline}
+use Rattle.lp_format.specs.format.Pieces.{Pieces, Pieces.last, Pieces.cut}
+use Rattle.lp_format.specs.format.{quote, space, tab}
 use Rattle.lp_format.proofs.lemmas.split.SplitBare.{IsHead-escaped, IsHead-bare, EndsPlain-escaped, EndsPlain-bare, EndsPlain-start}
 use Rattle.lp_format.proofs.lemmas.split.SplitBare.{EndsQuoted-escaped, EndsQuoted-bare, EndsQuoted-start, EndsQuoted-close}
 use Rattle.lp_format.proofs.lemmas.split.SplitBare.{place_in_append, nil_has_no_place, cut_not_within}
-use Rattle.lp_format.specs.format.Bytes.{comma, equals, hash, newline, quote, space, tab}
 
 -- a byte more is a cut, or lengthens the piece
 abbrev GoesOn : Dialect → List ℕ → ℕ → Type 0
@@ -171,8 +168,7 @@ pub Pieces-nil : (dialect : Dialect) (text : List ℕ) → Pieces dialect text [
 Pieces-nil dialect text h = elim h [ ]
 
 abbrev Cuts : Dialect → List ℕ → List ℕ → List (List ℕ) → Type 0
-Cuts dialect text piece pieces =
-    (rest : List ℕ) × (text ≡ piece ++ newline ∷ rest) × IsCutPiece dialect piece × Pieces dialect rest pieces
+Cuts dialect text piece pieces = (rest : List ℕ) × (text ≡ piece ++ newline ∷ rest) × IsCutPiece dialect piece × Pieces dialect rest pieces
 
 -- a first piece is the whole text, or is cut from it
 uncons : (dialect : Dialect) {text piece : List ℕ} {pieces : List (List ℕ)} → Pieces dialect text (piece ∷ pieces)
@@ -239,10 +235,9 @@ join_from_cut dialect u t before piece after h k c =
       | inr w ↦ absurd (Pieces-nil dialect w.0 w.3)
     ]
 
--- the last piece of a text is cut where the text goes on after a newline with pieces of their own
-pub cut_from_join : (dialect : Dialect) (u t : List ℕ) (before : List (List ℕ)) (piece : List ℕ)
-    (after : List (List ℕ)) → Pieces dialect t after
-    → Pieces dialect (u ++ newline ∷ t) (before ++ piece ∷ after) → IsCutPiece dialect piece
+-- the last piece of a text is cut if the text goes on after a newline with pieces of their own
+pub cut_from_join : (dialect : Dialect) (u t : List ℕ) (before : List (List ℕ)) (piece : List ℕ) (after : List (List ℕ))
+    → Pieces dialect t after → Pieces dialect (u ++ newline ∷ t) (before ++ piece ∷ after) → IsCutPiece dialect piece
 cut_from_join dialect u t before piece after k j =
     elim (uncons dialect (from_piece dialect (u ++ newline ∷ t) before piece after j).are) [
       | inl w ↦ absurd (Pieces-nil dialect t (subst (Pieces dialect t) w.0 k))
@@ -319,6 +314,9 @@ front_begins_none text n e = elim (cases_Bool (begins_comment (take n text))) [
 pub cut_of_other : (text : List ℕ) (place : Option ℕ) → begins_comment text ≡ false → IsFirstCut Crate text place
     → IsFirstCut Strict text place
 cut_of_other text place e h = grind (arith, front_begins_none)
+
+-- the first cut in the strict dialect, in a comment and in another text
+pub ruleset strict_cuts = (cut_of_comment, cut_of_other)
 
 -- what a call of `next` gives, by the bytes that it searched
 pub Pieces-cut_at : (dialect : Dialect) (bytes text piece rest : List ℕ) (i : ℕ) (others : List (List ℕ))

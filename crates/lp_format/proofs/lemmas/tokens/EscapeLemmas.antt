@@ -1,24 +1,17 @@
 -- Escaped places from left to right, as a scan meets them.
 use Rattle.std.proofs.Common.{◌≡◌, ℕ, ◌+◌, ◌<◌, ◌≤◌, List, [], ◌∷◌, ◌++◌, length, take, slice_index, Bool, true, false, not, ◌&&◌}
-use Rattle.std.proofs.Common.{cond, ◌∙◌, zero-add, arith}
-use Rattle.std.specs.Prelude.{◌==◌}
+use Rattle.std.proofs.Common.{◌∙◌, zero-add, arith, ◌==◌, get_or-take, length-take, eq-eqb}
 use Rattle.std.specs.List.{range_with_len}
-use Rattle.std.proofs.lemmas.List.{take_more, get_or-take, length-take}
+use Rattle.std.proofs.lemmas.List.{take_more}
 use Rattle.std.proofs.lemmas.List.Folds.{list_any_at}
-use Rattle.std.proofs.lemmas.Bool.{eq-eqb}
 use Rattle.lp_format.proofs.lemmas.split.SplitBare.{is_escaped-push}
 use Rattle.std.proofs.lemmas.List.FromFn.{length-range_with_len, get_or-range_with_len}
 use Rattle.std.proofs.lemmas.List.Sums.{position_or_len_is}
-use Rattle.lp_format.specs.format.Bytes.{backslash, is_one_of}
-use Rattle.lp_format.specs.format.Escapes.{is_escaped_after, is_bare_at, first_bare}
-
--- the tests in either order
-in_either_order : (f t : Bool) → cond t (not f) false ≡ (not f && t)
-in_either_order f t = grind arith
+use Rattle.lp_format.specs.format.{backslash, is_one_of, is_escaped_after, is_bare_at, first_bare}
 
 -- one byte more
 pub is_escaped_push : (before : List ℕ) (b : ℕ) → is_escaped_after (before ++ b ∷ []) ≡ (not (is_escaped_after before) && b == backslash)
-is_escaped_push before b = is_escaped-push before b ∙ in_either_order (is_escaped_after before) (b == backslash)
+is_escaped_push before b = is_escaped-push before b ∙ (grind arith)
 
 -- the same along a text
 pub is_escaped_more : (text : List ℕ) (i : ℕ) → i < length text
@@ -26,10 +19,8 @@ pub is_escaped_more : (text : List ℕ) (i : ℕ) → i < length text
 is_escaped_more text i h = rw (take_more text i 0 h) (is_escaped_push (take i text) (slice_index text i))
 
 -- what fixes the first bare byte
-pub first_bare_is : (passes : ℕ → Bool) (text : List ℕ) (n : ℕ) → n ≤ length text
-    → ((k : ℕ) → k < n → is_bare_at passes text k ≡ false)
-    → (n < length text → is_bare_at passes text n ≡ true)
-    → first_bare passes text ≡ n
+pub first_bare_is : (passes : ℕ → Bool) (text : List ℕ) (n : ℕ) → n ≤ length text → ((k : ℕ) → k < n → is_bare_at passes text k ≡ false)
+    → (n < length text → is_bare_at passes text n ≡ true) → first_bare passes text ≡ n
 unfolding first_bare
 first_bare_is passes text n fits none found =
     let len : length (range_with_len 0 (length text)) ≡ length text = length-range_with_len 0 (length text) in

@@ -1,27 +1,21 @@
 -- The first bytes of a value decide its form; strings at the start of a text.
-use Rattle.std.proofs.Common.{◌≡◌, ◌≢◌, ℕ, ◌<◌, List, [], ◌∷◌, length, take, drop, get_or, slice_index, true, false, refl, ap, ◌∙◌}
-use Rattle.std.proofs.Common.{arith, zero-add, ◌⊎◌, ◌≤◌}
-use Rattle.std.specs.Prelude.{◌==◌, nat_lt, ◌||◌}
-use Rattle.std.proofs.lemmas.Bool.{and_parts, eq-eqb, eqb-true, ne_eqb, lt-ltb, ltb-true, false_from_ne_true, cases_eq, eqb-false}
-use Rattle.std.proofs.lemmas.Bool.{or_parts}
+use Rattle.std.proofs.Common.{◌≡◌, ◌≢◌, ℕ, ◌<◌, List, [], ◌∷◌, length, take, drop, get_or, slice_index, true, false, refl, ap, ◌∙◌, arith}
+use Rattle.std.proofs.Common.{zero-add, ◌⊎◌, ◌==◌, nat_lt, ◌||◌, eq-eqb, eqb-true, ne_eqb, lt-ltb, ltb-true, length-drop}
+use Rattle.std.proofs.lemmas.Bool.{and_parts, false_from_ne_true, cases_eq, eqb-false, or_parts}
 use Rattle.std.specs.List.{range_with_len}
-use Rattle.std.proofs.lemmas.List.{length-drop}
 use Rattle.std.proofs.lemmas.List.FromFn.{length-range_with_len, get_or-range_with_len}
 use Rattle.std.proofs.lemmas.List.Sums.{passes_at_first}
-use Rattle.lp_format.specs.format.Bytes.{quote}
-use Rattle.lp_format.specs.format.Escapes.{first_bare, is_bare_at}
-use Rattle.lp_format.specs.format.Lines.{byte}
-use Rattle.lp_format.specs.format.Names.{read_text}
-use Rattle.lp_format.specs.format.Readings.{miss, reads, Reading, Text, ◌otherwise◌}
-use Rattle.lp_format.specs.format.Values.{quotable, body_len, string, string_at, Value, value, integer_at, unsigned_at, float_at}
-use Rattle.lp_format.specs.format.Values.{boolean_at, integer_len, longer_front, true_words, false_words}
+use Rattle.lp_format.specs.format.{quote, first_bare, is_bare_at, byte, read_text, miss, reads, Reading, Text, ◌otherwise◌, quotable}
+use Rattle.lp_format.specs.format.{body_len, string, string_at, Value, value, integer_at, unsigned_at, float_at, boolean_at, integer_len}
+use Rattle.lp_format.specs.format.{true_words, false_words}
 use Rattle.lp_format.proofs.lemmas.values.ValueLemmas.{byte_at_drop, after_byte, boolean_misses, digits_no_more, digits_of_minus}
-use Rattle.lp_format.proofs.lemmas.values.ValueLemmas.{digits_of_plain, integer_misses, integer_unmarked, unsigned_decides}
-use Rattle.lp_format.proofs.lemmas.values.ValueLemmas.{unsigned_misses, unsigned_unmarked}
+use Rattle.lp_format.proofs.lemmas.values.ValueLemmas.{digits_of_plain, integer_misses, integer_unmarked, unsigned_decides, unsigned_misses}
+use Rattle.lp_format.proofs.lemmas.values.ValueLemmas.{unsigned_unmarked}
 use Rattle.std.specs.Char.{is_ascii_digit}
 use Rattle.std.proofs.lemmas.Grind.{common_steps}
 use Rattle.lp_format.proofs.lemmas.literals.FloatLemmas.{float_misses}
 use Rattle.std.proofs.lemmas.Bool.Decides.{nat_tests}
+use Rattle.lp_format.specs.format.Bytes.{letter_i, letter_u, minus}
 
 -- if a byte misses, the text does not begin with it
 pub byte_missing : (b : ℕ) (text : List ℕ) → byte b text ≡ miss → (rest : List ℕ) → text ≢ b ∷ rest
@@ -65,14 +59,14 @@ pub no_number : (text : List ℕ) → integer_len text ≡ 0 → (integer_at tex
 no_number text none = grind (arith, eq-eqb, integer_misses, unsigned_misses, digits_no_more, float_misses)
 
 -- digits and `u`, without `-`
-pub unsigned_is : (text : List ℕ) → 0 < integer_len text → slice_index text (integer_len text) ≢ 105
-    → slice_index text (integer_len text) ≡ 117 → slice_index text 0 ≢ 45
+pub unsigned_is : (text : List ℕ) → 0 < integer_len text → slice_index text (integer_len text) ≢ letter_i
+    → slice_index text (integer_len text) ≡ letter_u → slice_index text 0 ≢ minus
     → (integer_at text otherwise unsigned_at text otherwise float_at text) ≡ unsigned_at text
 unsigned_is text some no_i mark plain = grind (arith, digits_of_plain, unsigned_decides, integer_unmarked)
 
 -- without either mark, or with `-` at the start of `u`, it is a float or nothing
-pub float_is : (text : List ℕ) → slice_index text (integer_len text) ≢ 105
-    → (slice_index text (integer_len text) ≢ 117) ⊎ (slice_index text 0 ≡ 45)
+pub float_is : (text : List ℕ) → slice_index text (integer_len text) ≢ letter_i
+    → (slice_index text (integer_len text) ≢ letter_u) ⊎ (slice_index text 0 ≡ minus)
     → (integer_at text otherwise unsigned_at text otherwise float_at text) ≡ float_at text
 float_is text no_i minus = grind (arith, integer_unmarked, cases_eq, unsigned_misses, digits_of_minus, unsigned_unmarked, digits_of_plain)
 
@@ -80,33 +74,25 @@ float_is text no_i minus = grind (arith, integer_unmarked, cases_eq, unsigned_mi
 otherwise_miss : (r : Reading (Value Text)) → (r otherwise miss) ≡ r
 otherwise_miss r = grind arith
 
--- a digit or `-` is neither a quote nor a letter
-number_byte : (b : ℕ) → (is_ascii_digit b || b == 45) ≡ true → (45 ≤ b) × (b ≤ 57)
-number_byte b first = (grind (arith, common_steps), grind (arith, common_steps))
-
--- no integer is where the first byte is neither a digit nor `-`
-no_integer : (text : List ℕ) → (is_ascii_digit (slice_index text 0) || slice_index text 0 == 45) ≡ false → integer_len text ≡ 0
+-- no integer is read if the first byte is neither a digit nor `-`
+no_integer : (text : List ℕ) → (is_ascii_digit (slice_index text 0) || slice_index text 0 == minus) ≡ false → integer_len text ≡ 0
 no_integer [] other = refl
 no_integer (b ∷ rest) other = grind (arith, or_parts, ne_eqb, eqb-false)
-
--- a word that begins with another byte is not at the start
-word_misses : (text word : List ℕ) (n w : ℕ) → slice_index text 0 ≢ w → longer_front text n (w ∷ word) ≡ n
-word_misses text word n w other = grind (arith, ne_eqb)
 
 -- no Boolean is at the start of a text that begins with a byte below the letters
 no_boolean : (text : List ℕ) → slice_index text 0 < 70
     → (boolean_at true true_words text ≡ miss) × (boolean_at false false_words text ≡ miss)
-no_boolean text below = grind (arith, boolean_misses, word_misses)
+no_boolean text below = grind (arith, boolean_misses, ne_eqb)
 
--- no string is where the first byte is no quote
+-- no string is read if the first byte is no quote
 no_string : (text : List ℕ) → slice_index text 0 ≢ quote → string_at text ≡ miss
 no_string text other = string_misses text (λ after e. other (ap (λ t. slice_index t 0) e))
 
 -- a digit or `-` at the start: a number
-pub number_form : (text : List ℕ) → (is_ascii_digit (slice_index text 0) || slice_index text 0 == 45) ≡ true
+pub number_form : (text : List ℕ) → (is_ascii_digit (slice_index text 0) || slice_index text 0 == minus) ≡ true
     → value text ≡ (integer_at text otherwise unsigned_at text otherwise float_at text)
 unfolding value
-number_form text first = grind (arith, number_byte, no_boolean, no_string, otherwise_miss)
+number_form text first = grind (arith, no_boolean, no_string, otherwise_miss)
 
 -- a quote at the start: a text
 pub string_form : (text : List ℕ) → slice_index text 0 ≡ quote → value text ≡ string_at text
@@ -114,7 +100,7 @@ unfolding value
 string_form text first = grind (arith, no_number, no_integer, no_boolean, otherwise_miss)
 
 -- else a Boolean
-pub boolean_form : (text : List ℕ) → (is_ascii_digit (slice_index text 0) || slice_index text 0 == 45) ≡ false → slice_index text 0 ≢ quote
+pub boolean_form : (text : List ℕ) → (is_ascii_digit (slice_index text 0) || slice_index text 0 == minus) ≡ false → slice_index text 0 ≢ quote
     → value text ≡ (boolean_at true true_words text otherwise boolean_at false false_words text)
 unfolding value
 boolean_form text other no_quote = rw (no_number text (no_integer text other), no_string text no_quote) refl

@@ -1,21 +1,20 @@
 -- Numbers at the start of a text.
 use Rattle.std.proofs.Common.{◌≡◌, ◌≢◌, ℕ, zero, suc, ◌+◌, ◌-◌, ◌^◌, ◌<◌, ◌≤◌, List, [], ◌∷◌, length, take, drop, get_or, Bool, slice_index}
-use Rattle.std.proofs.Common.{true, false, refl, ap, subst, arith, inl, inr, add-zero, zero-add, one-add}
-use Rattle.std.specs.Prelude.{◌==◌, ◌&&◌, not, if◌then◌else◌, IsUtf8, IsCharBoundary, ℤ, FitsSigned}
+use Rattle.std.proofs.Common.{true, false, refl, ap, subst, arith, inl, inr, add-zero, zero-add, one-add, ◌==◌, ◌&&◌, not, if◌then◌else◌}
+use Rattle.std.proofs.Common.{IsUtf8, IsCharBoundary, ℤ, FitsSigned, w64, eqb-true, eq-eqb, ne_eqb, leb-true, ltb-true, lt-ltb, le-ltb}
+use Rattle.std.proofs.Common.{le-leb, drop-drop, get_or-drop, length-drop, length-take, length-take-le}
 use Rattle.std.specs.Char.{is_ascii_digit, digit_value}
-use Rattle.std.specs.Int.{w64}
 use Rattle.std.specs.Str.Parse.{AllDigits, IsNumeral, digits_value, signed_digits_value}
-use Rattle.std.proofs.lemmas.Bool.{cases_Bool, cases_eq, cases_lt, and_parts, eqb-false, eqb-true, eq-eqb, ne_eqb, leb-true}
-use Rattle.std.proofs.lemmas.Bool.{ltb-true, lt-ltb, le-ltb, le-leb, and_from}
-use Rattle.std.proofs.lemmas.List.{drop-drop, drop_more, get_or-drop, get_or_past, length-drop, length-take, length-take-le}
+use Rattle.std.proofs.lemmas.Bool.{cases_Bool, cases_eq, cases_lt, and_parts, eqb-false, and_from}
+use Rattle.std.proofs.lemmas.List.{drop_more, get_or_past}
 use Rattle.std.proofs.lemmas.List.Sums.{prefix_len_passes, prefix_len-le-length}
 use Rattle.std.proofs.lemmas.Grind.{common_steps}
 use Rattle.std.proofs.lemmas.Bool.Decides.{nat_tests}
 use Rattle.std.proofs.lemmas.Str.{IsCharBoundary-after_ascii, IsCharBoundary-start, digit_value_digit}
-use Rattle.lp_format.specs.format.Values.{Value, digits_len, integer, integer_at, integer_len, side_of, fits_i64, boolean}
-use Rattle.lp_format.specs.format.Values.{boolean_at, unsigned, unsigned_at, word_len}
-use Rattle.lp_format.specs.format.Readings.{Reading, Text, ◌otherwise◌, above, miss, fatal, reads, integer_value_invalid}
-use Rattle.lp_format.specs.format.Readings.{uinteger_value_invalid}
+use Rattle.lp_format.specs.format.{Value, digits_len, integer, integer_at, integer_len, side_of, fits_i64, boolean, boolean_at, unsigned}
+use Rattle.lp_format.specs.format.{unsigned_at, word_len, Reading, Text, ◌otherwise◌, above, miss, fatal, reads, integer_value_invalid}
+use Rattle.lp_format.specs.format.{uinteger_value_invalid}
+use Rattle.lp_format.specs.format.Bytes.{letter_i, letter_u, minus}
 
 -- a digit, by its test
 pub digit_range : (b : ℕ) → is_ascii_digit b ≡ true → (48 ≤ b) × (b ≤ 57)
@@ -44,8 +43,7 @@ test_from_fits z h = grind (arith, lt-ltb, and_from, le-leb)
 -- after digits a text may be cut
 pub digits_boundary : (text : List ℕ) (sign d : ℕ) → IsUtf8 text → d ≡ digits_len (drop sign text) → 0 < d → IsCharBoundary text (sign + d)
 digits_boundary text sign d utf8 e some =
-    let last : is_ascii_digit (get_or (drop sign text) (d - 1) 0) ≡ true = prefix_len_passes is_ascii_digit
-    (drop sign text) (d - 1) 0 (omega arith) in
+    let last : is_ascii_digit (get_or (drop sign text) (d - 1) 0) ≡ true = grind (arith, prefix_len_passes) in
     let byte : is_ascii_digit (get_or text (sign + (d - 1)) 0) ≡ true = rw (← get_or-drop sign text (d - 1) 0) last in
     let range = digit_range (get_or text (sign + (d - 1)) 0) byte in
     let within : d ≤ length text - sign = omega (arith, prefix_len-le-length is_ascii_digit (drop sign text), length-drop sign text) in
@@ -86,23 +84,23 @@ unfolding integer_at
 integer_misses text e = rw (eq-eqb (integer_len text) 0 e) refl
 
 -- digits without `i` are no integer
-pub integer_unmarked : (text : List ℕ) → slice_index text (integer_len text) ≢ 105 → integer_at text ≡ miss
+pub integer_unmarked : (text : List ℕ) → slice_index text (integer_len text) ≢ letter_i → integer_at text ≡ miss
 unfolding integer_at
-integer_unmarked text other = rw (unmarked (integer_len text) _ 105 other) refl
+integer_unmarked text other = rw (unmarked (integer_len text) _ letter_i other) refl
 
 -- digits in range and `i` are an integer
-pub integer_reads : (text : List ℕ) → 0 < integer_len text → slice_index text (integer_len text) ≡ 105
+pub integer_reads : (text : List ℕ) → 0 < integer_len text → slice_index text (integer_len text) ≡ letter_i
     → fits_i64 (signed_digits_value 10 (take (integer_len text) text)) ≡ true
     → integer_at text ≡ reads (integer (signed_digits_value 10 (take (integer_len text) text))) (drop (integer_len text + 1) text)
 unfolding integer_at
-integer_reads text some mark fits = rw (marked (integer_len text) _ 105 some mark, fits) refl
+integer_reads text some mark fits = rw (marked (integer_len text) _ letter_i some mark, fits) refl
 
 -- digits out of range and `i` are a fault
-pub integer_overflows : (text : List ℕ) → 0 < integer_len text → slice_index text (integer_len text) ≡ 105
+pub integer_overflows : (text : List ℕ) → 0 < integer_len text → slice_index text (integer_len text) ≡ letter_i
     → fits_i64 (signed_digits_value 10 (take (integer_len text) text)) ≡ false
     → integer_at text ≡ fatal (integer_value_invalid (side_of (take (integer_len text) text)) (take (integer_len text) text))
 unfolding integer_at
-integer_overflows text some mark fits = rw (marked (integer_len text) _ 105 some mark, fits) refl
+integer_overflows text some mark fits = rw (marked (integer_len text) _ letter_i some mark, fits) refl
 
 -- the byte at a place, from what follows it
 pub byte_at_drop : (text rest : List ℕ) (n b : ℕ) → drop n text ≡ b ∷ rest → (slice_index text n ≡ b) × (drop (n + 1) text ≡ rest)
@@ -120,13 +118,13 @@ pub after_byte : (text : List ℕ) (n b : ℕ) → slice_index text n ≡ suc b 
 after_byte text n b e = rw (drop_more text n 0 (in_text text n b e), e) refl
 
 -- what a parse of the number gives: if it fits
-pub integer_parsed : (text number rest : List ℕ) (z : ℤ) → number ≡ take (integer_len text) text → drop (integer_len text) text ≡ 105 ∷ rest
+pub integer_parsed : (text number rest : List ℕ) (z : ℤ) → number ≡ take (integer_len text) text → drop (integer_len text) text ≡ letter_i ∷ rest
     → 0 < length number → FitsSigned w64 (signed_digits_value 10 number) → z ≡ signed_digits_value 10 number
     → integer_at text ≡ reads (integer z) rest
 integer_parsed text number rest z e marked some fits same = grind (arith, byte_at_drop, marked, length-take, integer_reads, test_from_fits)
 
 -- an integer and its mark decide
-pub integer_decides : (text : List ℕ) (other : Reading (Value Text)) → 0 < integer_len text → slice_index text (integer_len text) ≡ 105
+pub integer_decides : (text : List ℕ) (other : Reading (Value Text)) → 0 < integer_len text → slice_index text (integer_len text) ≡ letter_i
     → (integer_at text otherwise other) ≡ integer_at text
 unfolding integer_at
 integer_decides text other some mark = grind (arith, marked, cases_Bool)
@@ -136,11 +134,11 @@ pub letter_boundary : (text : List ℕ) (n b : ℕ) → IsUtf8 text → slice_in
 letter_boundary text n b utf8 e small = IsCharBoundary-after_ascii text n utf8 (in_text text n b e) (omega (arith, e))
 
 -- the digits at the start and the integer at the start
-pub digits_of_plain : (text : List ℕ) → slice_index text 0 ≢ 45 → digits_len text ≡ integer_len text
+pub digits_of_plain : (text : List ℕ) → slice_index text 0 ≢ minus → digits_len text ≡ integer_len text
 digits_of_plain text other = grind (arith, ne_eqb, cases_Bool, eqb-true, zero-add)
 
 -- no digits are at a minus
-pub digits_of_minus : (text : List ℕ) → slice_index text 0 ≡ 45 → digits_len text ≡ 0
+pub digits_of_minus : (text : List ℕ) → slice_index text 0 ≡ minus → digits_len text ≡ 0
 digits_of_minus [] e = refl
 digits_of_minus (b ∷ rest) e = rw e refl
 
@@ -154,28 +152,27 @@ unfolding unsigned_at
 unsigned_misses text e = rw (eq-eqb (digits_len text) 0 e) refl
 
 -- digits without `u` are no unsigned integer
-pub unsigned_unmarked : (text : List ℕ) → slice_index text (digits_len text) ≢ 117 → unsigned_at text ≡ miss
+pub unsigned_unmarked : (text : List ℕ) → slice_index text (digits_len text) ≢ letter_u → unsigned_at text ≡ miss
 unfolding unsigned_at
-unsigned_unmarked text other = rw (unmarked (digits_len text) _ 117 other) refl
+unsigned_unmarked text other = rw (unmarked (digits_len text) _ letter_u other) refl
 
 -- digits in range and `u` are an unsigned integer
-pub unsigned_reads : (text : List ℕ) → 0 < digits_len text → slice_index text (digits_len text) ≡ 117
+pub unsigned_reads : (text : List ℕ) → 0 < digits_len text → slice_index text (digits_len text) ≡ letter_u
     → digits_value 10 (take (digits_len text) text) < 2 ^ 64
     → unsigned_at text ≡ reads (unsigned (digits_value 10 (take (digits_len text) text))) (drop (digits_len text + 1) text)
 unfolding unsigned_at
-unsigned_reads text some mark small = rw (marked (digits_len text) _ 117 some mark, lt-ltb _ (2 ^ 64) small) refl
+unsigned_reads text some mark small = rw (marked (digits_len text) _ letter_u some mark, lt-ltb _ (2 ^ 64) small) refl
 
 -- digits out of range and `u` are a fault
-pub unsigned_overflows : (text : List ℕ) → 0 < digits_len text → slice_index text (digits_len text) ≡ 117
+pub unsigned_overflows : (text : List ℕ) → 0 < digits_len text → slice_index text (digits_len text) ≡ letter_u
     → 2 ^ 64 ≤ digits_value 10 (take (digits_len text) text)
     → unsigned_at text ≡ fatal (uinteger_value_invalid above (take (digits_len text) text))
 unfolding unsigned_at
-unsigned_overflows text some mark large = rw (marked (digits_len text) _ 117 some mark, le-ltb _ (2 ^ 64) large) refl
+unsigned_overflows text some mark large = rw (marked (digits_len text) _ letter_u some mark, le-ltb _ (2 ^ 64) large) refl
 
 -- digits and their mark decide
 pub unsigned_decides : (text : List ℕ) (other : Reading (Value Text)) → integer_at text ≡ miss → 0 < digits_len text
-    → slice_index text (digits_len text) ≡ 117
-    → (integer_at text otherwise unsigned_at text otherwise other) ≡ unsigned_at text
+    → slice_index text (digits_len text) ≡ letter_u → (integer_at text otherwise unsigned_at text otherwise other) ≡ unsigned_at text
 unsigned_decides text other no_integer some mark = grind (arith, cases_lt, unsigned_reads, unsigned_overflows)
 
 -- the outcomes of a Boolean

@@ -1,20 +1,14 @@
 -- Worked lines: what each text is read as, and what is written for a point. Each row computes.
-use Rattle.std.proofs.Common.{◌≡◌, List, [], ◌∷◌, map, refl, Ok, Err, Option, Some, None, true, false}
-use Rattle.std.specs.Prelude.{⊤, codes, ℤ, pos, negsuc}
+use Rattle.std.proofs.Common.{◌≡◌, List, [], ◌∷◌, map, refl, Ok, Err, Option, Some, None, true, false, codes, ℤ, pos, negsuc}
+use Rattle.std.specs.Prelude.{⊤}
 use Rattle.std.specs.Fmt.{digits}
 use Prim.Native.String.{String}
-use Rattle.lp_format.specs.format.Dialects.{Crate, Strict}
-use Rattle.lp_format.specs.format.Readings.{Text, measurement_value_invalid, cannot_parse_entire_line}
-use Rattle.lp_format.specs.format.Readings.{timestamp_value_invalid, take_while1, ends_with_backslash, integer_value_invalid}
-use Rattle.lp_format.specs.format.Readings.{uinteger_value_invalid, reads, fatal, miss, above, below, field_set_missing}
-use Rattle.lp_format.specs.format.Readings.{tag_set_malformed}
-use Rattle.lp_format.specs.format.Names.{NameKind, a_measurement, a_tag_key, a_tag_value, a_field_key, name}
-use Rattle.lp_format.specs.format.Escapes.{escaped, first_bare, is_escaped_after, without_escapes}
-use Rattle.lp_format.specs.format.Trimming.{trimmed}
-use Rattle.lp_format.specs.format.Values.{Value, value, integer, unsigned, float, string, boolean, integer_at, unsigned_at}
-use Rattle.lp_format.specs.format.Values.{float_at, string_at, boolean_at}
-use Rattle.lp_format.specs.format.Points.{Pair, built, built_all, line_of}
-use Rattle.lp_format.specs.format.Lines.{Line, answer, tag, field}
+use Rattle.lp_format.specs.format.{Crate, Strict, Text, measurement_value_invalid, cannot_parse_entire_line, timestamp_value_invalid}
+use Rattle.lp_format.specs.format.{take_while1, ends_with_backslash, integer_value_invalid, uinteger_value_invalid, reads, fatal, miss}
+use Rattle.lp_format.specs.format.{above, below, field_set_missing, tag_set_malformed, NameKind, a_measurement, a_tag_key, a_tag_value}
+use Rattle.lp_format.specs.format.{a_field_key, name, escaped, first_bare, is_escaped_after, without_escapes, trimmed, Value, value}
+use Rattle.lp_format.specs.format.{integer, unsigned, float, string, boolean, integer_at, unsigned_at, float_at, string_at, boolean_at}
+use Rattle.lp_format.specs.format.{Pair, built, built_all, line_of, Line, answer, tag, field}
 
 -- what a row unfolds to be computed
 unfoldable on_literals : ⊤
@@ -68,8 +62,8 @@ asked gives wanted = record { asked = asked; wanted = wanted }
 abbrev Computes : {A B : Type 0} → (A → B) → List (Row A B) → Type 0
 Computes f rows = map (λ r. f r.asked) rows ≡ map (λ r. r.wanted) rows
 
--- whole lines, with tags and fields of each kind
-pub whole_lines : Computes (λ text. answer Crate (codes text)) (
+-- what lines are read as: whole lines, with tags and fields of each kind
+pub lines : Computes (λ text. answer Crate (codes text)) (
     "cpu,host=A,region=west usage_system=64i 1590488773254420000" gives
     Ok (line "cpu,host=A,region=west" (part "cpu") (tag_of "host" "A" ∷ tag_of "region" "west" ∷ [])
     (field_of "usage_system" (integer (pos 64)) ∷ []) (Some (pos 1590488773254420000)))
@@ -81,15 +75,9 @@ pub whole_lines : Computes (λ text. answer Crate (codes text)) (
     ∷ "m,tag1=one,tag2=2 value=1 123" gives
     Ok (line "m,tag1=one,tag2=2" (part "m") (tag_of "tag1" "one" ∷ tag_of "tag2" "2" ∷ [])
     (field_of "value" (float (codes "1")) ∷ []) (Some (pos 123)))
-    -- a minus before a timestamp
-    ∷ "m a=1i -5  " gives Ok (of_m (field_of "a" (integer (pos 1)) ∷ []) (Some (negsuc 4)))
-    ∷ [])
-unfolding on_literals
-whole_lines = refl
-
--- faults
-pub faults : Computes (λ text. answer Crate (codes text)) (
-    ",tag1=1,tag2=2 value=1 123" gives Err measurement_value_invalid  -- no measurement
+    ∷ "m a=1i -5  " gives Ok (of_m (field_of "a" (integer (pos 1)) ∷ []) (Some (negsuc 4)))  -- a minus before a timestamp
+    -- faults
+    ∷ ",tag1=1,tag2=2 value=1 123" gives Err measurement_value_invalid  -- no measurement
     ∷ "foo 1234" gives Err field_set_missing  -- no field
     ∷ "testmeasure,foo= bar=1i" gives Err tag_set_malformed  -- a first tag without a value
     ∷ "foo,a=1,b= f=1i" gives Err take_while1  -- a later tag without a value
@@ -97,32 +85,14 @@ pub faults : Computes (λ text. answer Crate (codes text)) (
     ∷ "weather\\" gives Err ends_with_backslash  -- a backslash at the end
     ∷ "weather\\\\ f=1i" gives Err ends_with_backslash  -- a name that ends in an escaped backslash
     ∷ "w\\\\\t f=1i" gives Err ends_with_backslash  -- a tab ends a name after an escaped backslash
-    ∷ [])
-unfolding on_literals
-faults = refl
-
--- the comma after the first field
-pub commas : Computes (λ text. answer Crate (codes text)) (
-    "m a=1i, 5" gives Ok (of_m (field_of "a" (integer (pos 1)) ∷ []) (Some (pos 5)))  -- one comma is taken
+    -- the comma after the first field
+    ∷ "m a=1i, 5" gives Ok (of_m (field_of "a" (integer (pos 1)) ∷ []) (Some (pos 5)))  -- one comma is taken
     ∷ "m a=1i," gives Ok (of_m (field_of "a" (integer (pos 1)) ∷ []) None)  -- also at the end
     ∷ "m a=1i,b=2i, 5" gives Err (cannot_parse_entire_line (codes ", 5"))  -- no comma is taken after two fields
-    ∷ [])
-unfolding on_literals
-commas = refl
-
--- no comma is taken in the strict dialect
-pub no_comma_is_taken_in_the_strict_dialect : answer Strict (codes "m a=1i, 5") ≡ Err (cannot_parse_entire_line (codes ", 5"))
-unfolding on_literals
-no_comma_is_taken_in_the_strict_dialect = refl
-
--- numbers
-pub numbers : Computes (λ text. answer Crate (codes text)) (
-    -- the integer above the greatest
-    "m a=9223372036854775808i" gives Err (integer_value_invalid above (codes "9223372036854775808"))
-    -- the integer below the least
-    ∷ "m a=-9223372036854775809i" gives Err (integer_value_invalid below (codes "-9223372036854775809"))
-    -- the least integer
-    ∷ "m a=-9223372036854775808i" gives Ok (of_m (field_of "a" (integer (negsuc 9223372036854775807)) ∷ []) None)
+    -- numbers
+    ∷ "m a=9223372036854775808i" gives Err (integer_value_invalid above (codes "9223372036854775808"))  -- the integer above the greatest
+    ∷ "m a=-9223372036854775809i" gives Err (integer_value_invalid below (codes "-9223372036854775809"))  -- the integer below the least
+    ∷ "m a=-9223372036854775808i" gives Ok (of_m (field_of "a" (integer (negsuc 9223372036854775807)) ∷ []) None)  -- the least integer
     ∷ "m a=-007i" gives Ok (of_m (field_of "a" (integer (negsuc 6)) ∷ []) None)  -- leading zeros
     -- the unsigned integer above the greatest
     ∷ "m a=18446744073709551616u" gives Err (uinteger_value_invalid above (codes "18446744073709551616"))
@@ -133,14 +103,8 @@ pub numbers : Computes (λ text. answer Crate (codes text)) (
     ∷ "m0 field=-1.234456e+ 99" gives Err (cannot_parse_entire_line (codes "e+ 99"))  -- an exponent without digits
     -- an exponent
     ∷ "m0 field=-1.234456e-0 99" gives Ok (line "m0" (part "m0") [] (field_of "field" (float (codes "-1.234456e-0")) ∷ []) (Some (pos 99)))
-    ∷ [])
-unfolding on_literals
-numbers = refl
-
--- words and strings
-pub words_and_strings : Computes (λ text. answer Crate (codes text)) (
-    -- the longest word
-    "m a=true,b=F" gives Ok (of_m (field_of "a" (boolean true) ∷ field_of "b" (boolean false) ∷ []) None)
+    -- words and strings
+    ∷ "m a=true,b=F" gives Ok (of_m (field_of "a" (boolean true) ∷ field_of "b" (boolean false) ∷ []) None)  -- the longest word
     ∷ "m a=truer" gives Err (cannot_parse_entire_line (codes "r"))  -- no more than a word
     ∷ "m s=\"a\\\\\"" gives Ok (of_m (field_of "s" (string (copy "a\\")) ∷ []) None)  -- a backslash in a string
     ∷ "m s=\"\\\"\"" gives Ok (of_m (field_of "s" (string (part "\"")) ∷ []) None)  -- an escaped quote alone
@@ -149,14 +113,8 @@ pub words_and_strings : Computes (λ text. answer Crate (codes text)) (
     -- a string over two lines
     ∷ "m s=\"a\nb\",t=1i" gives Ok (of_m (field_of "s" (string (part "a\nb")) ∷ field_of "t" (integer (pos 1)) ∷ []) None)
     ∷ "m s=\"ab\\\"" gives Err field_set_missing  -- a string that is not closed
-    ∷ [])
-unfolding on_literals
-words_and_strings = refl
-
--- names
-pub names : Computes (λ text. answer Crate (codes text)) (
-    -- a tab after a backslash stays
-    "w\\\t f=1i" gives Ok (line "w\\\t" (copy "w\\\t") [] (field_of "f" (integer (pos 1)) ∷ []) None)
+    -- names
+    ∷ "w\\\t f=1i" gives Ok (line "w\\\t" (copy "w\\\t") [] (field_of "f" (integer (pos 1)) ∷ []) None)  -- a tab after a backslash stays
     -- keys hold commas, and values equals signs
     ∷ "m,a,b=1,c=d=e f=t" gives
     Ok (line "m,a,b=1,c=d=e" (part "m") (tag_of "a,b" "1" ∷ tag_of "c" "d=e" ∷ []) (field_of "f" (boolean true) ∷ []) None)
@@ -169,7 +127,12 @@ pub names : Computes (λ text. answer Crate (codes text)) (
     (pair (copy "wea=ther") (integer (pos 1)) ∷ []) None)
     ∷ [])
 unfolding on_literals
-names = refl
+lines = refl
+
+-- no comma is taken in the strict dialect
+pub no_comma_is_taken_in_the_strict_dialect : answer Strict (codes "m a=1i, 5") ≡ Err (cannot_parse_entire_line (codes ", 5"))
+unfolding on_literals
+no_comma_is_taken_in_the_strict_dialect = refl
 
 -- one name in two spellings
 pub one_name_in_two_spellings : name a_measurement (codes "\\wea\\ther f=1i") ≡ name a_measurement (codes "\\\\wea\\\\ther f=1i")

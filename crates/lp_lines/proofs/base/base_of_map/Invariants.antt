@@ -1,5 +1,4 @@
-use Rattle.std.proofs.Common.{◌≡◌, ◌++◌, map, string_bytes}
-use Rattle.std.specs.List.{flat_map}
+use Rattle.std.proofs.Common.{◌≡◌, ◌++◌, map, string_bytes, flat_map}
 use Rattle.lp_lines.specs.code.Bases.{base_text, based_tag, entry_bytes}
 use Rattle.lp_lines.proofs.base.base_of_map.Given as goal
 

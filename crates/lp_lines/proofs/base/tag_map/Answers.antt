@@ -3,8 +3,7 @@ use borrow.Author.Count.{below_more}
 use Rattle.std.proofs.lemmas.List.{take_all, length-map}
 use Rattle.lp_lines.specs.code.Bases.{first_repeated, is_repeated_at, keys_of}
 use Rattle.lp_lines.specs.code.Parsed.{tag_of}
-use Rattle.lp_lines.proofs.lemmas.series.BaseLemmas.{by_key_nil, entries_more, first_repeated_is, has_more, key_is}
-use Rattle.lp_lines.proofs.lemmas.series.BaseLemmas.{length_keys}
+use Rattle.lp_lines.proofs.lemmas.series.BaseLemmas.{by_key_nil, entries_more, first_repeated_is, has_more, key_is, length_keys}
 use Rattle.lp_lines.proofs.base.tag_map.Goals as goal
 
 pub loop-key-init : goal.loop-key-init
@@ -51,6 +50,5 @@ returns c =
     let keys = keys_of (map tag_of tags) in
     let i = c.loop-key.key-index in
     let length_is = length_keys tags in
-    let at_end : i ≡ length tags = omega arith in
     let first : first_repeated keys ≡ i = first_repeated_is keys i (omega arith) c.loop-key.invariant.passed (λ h. absurd (omega arith)) in
-    (rw (length-map tags tag_of) (first ∙ at_end), rw (take_all i tags (omega arith)) at c.loop-key.invariant.entries)
+    (rw (length-map tags tag_of) (first ∙ (omega arith)), rw (take_all i tags (omega arith)) at c.loop-key.invariant.entries)

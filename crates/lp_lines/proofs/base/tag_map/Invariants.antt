@@ -1,10 +1,7 @@
-use Rattle.std.proofs.Common.{◌≡◌, ℕ, ◌<◌, List, take, map, false}
+use Rattle.std.proofs.Common.{◌≡◌, ℕ, ◌<◌, List, take, map, false, is_some, nat_cmp, bytes_eq}
 use Rattle.std.specs.BTreeMap.{get_by}
 use Rattle.std.specs.Cmp.Lexicographic.{slice_cmp}
 use Rattle.std.specs.List.{list_any}
-use Rattle.std.specs.Option.{is_some}
-use Rattle.std.specs.Ordering.{nat_cmp}
-use Rattle.std.specs.Str.{bytes_eq}
 use Rattle.lp_lines.specs.code.Bases.{by_key, entry_bytes, is_repeated_at, keys_of}
 use Rattle.lp_lines.specs.code.Parsed.{tag_of}
 use Rattle.lp_lines.proofs.base.tag_map.Given as goal

@@ -1,5 +1,4 @@
-use Rattle.std.proofs.Common.{◌≡◌, arith, take}
-use Rattle.std.proofs.lemmas.List.{take_all}
+use Rattle.std.proofs.Common.{◌≡◌, arith, take, take_all}
 use Rattle.lp_lines.proofs.filling.put_tag.Goals as goal
 
 pub returns-then-at-len-clause-needs : goal.returns-then-at-len-clause-needs

@@ -1,40 +1,31 @@
 -- What a line that is answered has: a tag in its tag set, no more columns than bytes, and no need of memory if it is light; and the
 -- item of a line that was given.
-use Rattle.std.proofs.Common.{◌≡◌, ℕ, ◌<◌, List, [], ◌∷◌, length, refl, ap, arith, Option, Ok, Err, Result, ◌+◌, ◌≤◌}
-use Rattle.std.proofs.Common.{◌^◌, drop, length-append, length-drop, true}
-use Rattle.std.specs.Prelude.{IfSome, Option, Ok, Err}
-use Rattle.std.specs.Option.{option_map}
-use Rattle.std.proofs.lemmas.Bool.{and_parts, le-leb, leb-true}
+use Rattle.std.proofs.Common.{◌≡◌, ℕ, ◌<◌, List, [], ◌∷◌, length, refl, ap, arith, Option, Ok, Err, Result, ◌+◌, ◌≤◌, ◌^◌, drop}
+use Rattle.std.proofs.Common.{length-append, length-drop, true, IfSome, option_map, le-leb, leb-true}
+use Rattle.std.proofs.lemmas.Bool.{and_parts}
 use Rattle.std.proofs.lemmas.List.{length-map}
 use Rattle.smallvec.specs.SmallVec.{SmallVec}
-use Rattle.lp_format.specs.format.Dialects.{Dialect}
-use Rattle.lp_format.specs.format.Readings.{Fault, Text, Reading, miss, fatal, reads}
-use Rattle.lp_format.specs.format.Points.{Pair}
-use Rattle.lp_format.specs.format.Lines.{Line, tag, separated_list, tag_set, answer, field, field_set}
-use Rattle.lp_format.specs.format.Lines.{some_tags, spaces, byte}
+use Rattle.lp_format.specs.format.{Dialect, Fault, Text, Reading, miss, fatal, reads, Pair, Line, tag, separated_list, tag_set, answer}
+use Rattle.lp_format.specs.format.{field, field_set, some_tags, spaces, byte, comma, space, a_measurement, Value, Left}
 use Rattle.lp_format.proofs.lemmas.names.Inversions.{prepend_parts, count_is_of_the_most}
-use Rattle.lp_format.specs.format.Bytes.{comma, space}
-use Rattle.lp_format.specs.format.Names.{a_measurement}
-use Rattle.lp_format.specs.format.Values.{Value}
 use Rattle.lp_format.specs.laws.Meanings.{SeparatedBy, SeparatedAfterComma}
 use Rattle.lp_format.proofs.lemmas.meanings.JoinedMeaning.{the_most_is_read}
 use Rattle.lp_format.proofs.lemmas.meanings.ShorterRests.{tag_no_longer, field_no_longer}
 use Rattle.lp_format.specs.code.Light.{carries_no_text, count_after, fields_in, is_light_answer, is_light_in, is_single_line, read_count}
 use Rattle.lp_format.specs.code.Light.{tags_in, is_light}
-use Rattle.lp_format.specs.format.Pieces.{Left}
 use Rattle.lp_values.specs.declared.error.Error.{Error}
 use Rattle.lp_values.specs.declared.escaped.EscapedStr.{EscapedStr}
 use Rattle.lp_values.proofs.lemmas.fields.ReadingLemmas.{bind_reads, name_ends}
 use Rattle.lp_values.specs.code.Outcomes.{IsNotOutOfMemory}
 use Rattle.lp_events.specs.code.LineSteps.{GaveLine}
-use Rattle.lp_events.proofs.lemmas.fields.ManyLemmas.{TagSetRead, fields_joined, set_separated, tag_set_read}
+use Rattle.lp_events.proofs.lemmas.fields.ManyLemmas.{TagSetRead, fields_joined, set_separated, tag_set_read, TagSetRead.no_set}
+use Rattle.lp_events.proofs.lemmas.fields.ManyLemmas.{TagSetRead.some_set}
 use Rattle.lp_lines.specs.declared.parsed.ParsedLine.{ParsedLine}
 use Rattle.lp_lines.specs.code.Parsed.{Answers, FillsLine, line_read, tags_of, field_of}
 use Rattle.lp_lines.specs.code.ParseSteps.{HasNoEmptyTagSet, CanCountColumns, GaveItem}
 use Rattle.lp_lines.proofs.lemmas.names.ParsedNames.{answer_parts, Parts}
 use Rattle.lp_lines.specs.code.Lookups.{some_items}
 use Rattle.lp_lines.specs.code.ReadInto.{item_in}
-use Rattle.lp_events.proofs.lemmas.fields.ManyLemmas.{TagSetRead.no_set, TagSetRead.some_set}
 
 -- what commas join is at least one
 pub joined_some : {A : Type 0} (one : List ℕ → Reading A) (line rest : List ℕ) (xs : List A)
@@ -71,9 +62,7 @@ module _ {A : Type 0} (one : List ℕ → Reading A)
   -- values that come after commas are no more than the bytes before the rest
   room_after : (xs : List A) (text rest : List ℕ) → SeparatedAfterComma one xs text rest → length xs + length rest ≤ length text
   room_after [] text rest h = omega (arith, ap length h)
-  room_after (x ∷ xs) text rest h =
-      let more = room_after xs h.1 rest h.4 in
-      omega (arith, ap length h.2, no_longer h.0 x h.1 h.3)
+  room_after (x ∷ xs) text rest h = let more = room_after xs h.1 rest h.4 in omega (arith, ap length h.2, no_longer h.0 x h.1 h.3)
 
   -- with a first one they are at most one more
   room_of : (xs : List A) (text rest : List ℕ) → SeparatedBy one xs text rest → length xs ≤ length text + 1

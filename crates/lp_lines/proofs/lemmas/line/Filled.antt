@@ -1,18 +1,12 @@
 -- A line is filled by the events of its text, and what filling it answers.
 use Rattle.std.proofs.Common.{◌≡◌, ℕ, ◌+◌, ◌<◌, ◌≤◌, List, [], ◌∷◌, ◌++◌, length, length-append, map, take, Bool, true, false, refl, sym}
-use Rattle.std.proofs.Common.{ap, ◌∙◌, arith, append_assoc}
-use Rattle.std.specs.Prelude.{◌⊎◌, Result, Ok, Err, ◌≢◌, Option, Some, None, IfSome}
+use Rattle.std.proofs.Common.{ap, ◌∙◌, arith, append_assoc, ◌⊎◌, Result, Ok, Err, ◌≢◌, Option, Some, None, IfSome, append-nil, option_map}
 use Rattle.std.specs.List.{list_all}
 use Rattle.std.proofs.lemmas.Bool.{cases_Bool, and_parts}
-use Rattle.std.proofs.lemmas.List.{append-nil, length-map}
-use Rattle.std.specs.Option.{option_map}
+use Rattle.std.proofs.lemmas.List.{length-map}
 use Rattle.smallvec.specs.SmallVec.{SmallVec}
 use Rattle.lp_format.specs.code.Light.{is_single_field, is_single_line, is_single_tag, carries_no_text, is_light_in}
-use Rattle.lp_format.specs.format.Lines.{Line, some_tags, answer}
-use Rattle.lp_format.specs.format.Points.{Pair}
-use Rattle.lp_format.specs.format.Readings.{Fault, Text}
-use Rattle.lp_format.specs.format.Values.{Value}
-use Rattle.lp_format.specs.format.Dialects.{Dialect}
+use Rattle.lp_format.specs.format.{Line, some_tags, answer, Pair, Fault, Text, Value, Dialect}
 use Rattle.lp_values.specs.declared.error.Error.{Error}
 use Rattle.lp_values.specs.declared.error.Error.TheVariants.{OutOfMemory}
 use Rattle.lp_values.specs.declared.escaped.EscapedStr.{EscapedStr}
@@ -53,10 +47,8 @@ same_line old new (event ∷ events) (mid, first, more) = same_line mid new even
 record FilledBy {A X : Type 0} (set : Filling → List A) (room : ParsedLine → ℕ) (is_single : A → Bool) (others : Filling → X)
     (old : Filling) (xs : List A) (new : Filling) : Type 0 where
   pub fault : new.fault ≡ old.fault
-  pub puts : new.refused ≡ false
-      → (old.refused ≡ false) × (set new ≡ set old ++ xs) × (others new ≡ others old)
-  pub fits : old.refused ≡ false → list_all is_single xs ≡ true → length (set old) + length xs ≤ room old.line.now
-      → new.refused ≡ false
+  pub puts : new.refused ≡ false → (old.refused ≡ false) × (set new ≡ set old ++ xs) × (others new ≡ others old)
+  pub fits : old.refused ≡ false → list_all is_single xs ≡ true → length (set old) + length xs ≤ room old.line.now → new.refused ≡ false
 
 module _ {A X : Type 0} (event : A → Event) (set : Filling → List A) (room : ParsedLine → ℕ) (is_single : A → Bool) (others : Filling → X)
     (grows : (old new : Filling) (x : A) → FillsBy old (event x) new → room old.line.now ≤ room new.line.now)
@@ -91,18 +83,6 @@ module _ {A X : Type 0} (event : A → Event) (set : Filling → List A) (room :
             later.fits free parts.1 (omega (arith, enough, grows old mid x first, one, length-append (set old) (x ∷ [])));
       }
 
--- what tags fill
-filled_tags : (old new : Filling) (tags : List (Pair Text Text)) → TakesAll FillsBy old (map tagged tags) new
-    → FilledBy tags_so_far tag_room is_single_tag beside_tags old tags new
-filled_tags = filled_by tagged tags_so_far tag_room is_single_tag beside_tags
-    (λ old new x by. by.rooms.tags) (λ old new x by. by.fault) (λ old new x by taken. let put = by.puts taken in (put.0, put.1.0, put.1.1)) (λ old new x by refused. by.needs refused)
-
--- what fields fill
-filled_fields : (old new : Filling) (fields : List (Pair Text (Value Text))) → TakesAll FillsBy old (map valued fields) new
-    → FilledBy fields_so_far field_room is_single_field beside_fields old fields new
-filled_fields = filled_by valued fields_so_far field_room is_single_field beside_fields
-    (λ old new x by. by.rooms.fields) (λ old new x by. by.fault) (λ old new x by taken. let put = by.puts taken in (put.0, put.1.0, put.1.1)) (λ old new x by refused. by.needs refused)
-
 module _ (old : Filling) (l : Line) (begun told_tags told_fields new : Filling) (first : FillsBy old (named l.measurement) begun)
     (tags_told : TakesAll FillsBy begun (map tagged (some_tags l.tags)) told_tags)
     (fields_told : TakesAll FillsBy told_tags (map valued l.fields) told_fields)
@@ -110,15 +90,15 @@ module _ (old : Filling) (l : Line) (begun told_tags told_fields new : Filling) 
     (no_tags : tags_so_far old ≡ []) (no_fields : fields_so_far old ≡ []) where
   -- what the tags filled
   tags : FilledBy tags_so_far tag_room is_single_tag beside_tags begun (some_tags l.tags) told_tags
-  tags = filled_tags begun told_tags (some_tags l.tags) tags_told
+  tags = filled_by tagged tags_so_far tag_room is_single_tag beside_tags
+      (λ old new x by. by.rooms.tags) (λ old new x by. by.fault) (λ old new x by taken. let put = by.puts taken in (put.0, put.1.0, put.1.1)) (λ old new x by refused. by.needs refused)
+      begun told_tags (some_tags l.tags) tags_told
 
   -- what the fields filled
   fields : FilledBy fields_so_far field_room is_single_field beside_fields told_tags l.fields told_fields
-  fields = filled_fields told_tags told_fields l.fields fields_told
-
-  -- memory is not refused for the measurement if it is no copy
-  name_fits : l.measurement.is_single ≡ true → begun.refused ≡ false
-  name_fits single = grind (arith, cases_Bool)
+  fields = filled_by valued fields_so_far field_room is_single_field beside_fields
+      (λ old new x by. by.rooms.fields) (λ old new x by. by.fault) (λ old new x by taken. let put = by.puts taken in (put.0, put.1.0, put.1.1)) (λ old new x by refused. by.needs refused)
+      told_tags told_fields l.fields fields_told
 
   -- nor for the end
   end_fits : told_fields.refused ≡ false → new.refused ≡ false
@@ -127,7 +107,7 @@ module _ (old : Filling) (l : Line) (begun told_tags told_fields new : Filling) 
   -- so it is not refused for a line without a copy, if there is room
   line_fits : is_single_line l ≡ true → length (some_tags l.tags) ≤ tag_room old.line.now → length l.fields ≤ field_room old.line.now
       → new.refused ≡ false
-  line_fits single few_tags few_fields = grind (arith, and_parts, tags, fields, name_fits, rooms_kept, end_fits)
+  line_fits single few_tags few_fields = grind (arith, and_parts, tags, fields, rooms_kept, end_fits, cases_Bool)
 
   -- the line is filled
   filled_read : new.refused ≡ false → HasRead new l
@@ -160,12 +140,7 @@ same_tags tags set some kept same = grind (arith, length-map)
 abbrev pub filled_line_of : Filling → Option (SmallVec (EscapedStr × EscapedStr)) → SmallVec (EscapedStr × FieldValue) → ParsedLine
 filled_line_of filling set fields =
     record {
-      series =
-          record {
-            raw_input = filling.line.now.series.raw_input;
-            measurement = filling.line.now.series.measurement;
-            tag_set = set;
-          };
+      series = record { raw_input = filling.line.now.series.raw_input; measurement = filling.line.now.series.measurement; tag_set = set };
       field_set = fields;
       timestamp = filling.line.now.timestamp;
     }

@@ -1,30 +1,22 @@
 -- Each text is answered by one row of the table.
-use Rattle.std.proofs.Common.{◌≡◌, ◌⊎◌, ℕ, ◌==◌, List, [], ◌∷◌, ◌++◌, refl, sym, ap, ◌∙◌, subst, inl, inr, Option, Some}
-use Rattle.std.proofs.Common.{None, Ok, Err, Result}
-use Rattle.std.specs.Prelude.{ℤ}
-use Rattle.std.proofs.lemmas.Bool.{cases_Bool, eqb-true, eq-eqb, both_ways}
-use Rattle.lp_format.specs.format.Dialects.{Dialect}
-use Rattle.lp_format.specs.format.Bytes.{comma, space}
-use Rattle.lp_format.specs.format.Readings.{Side, Fault, measurement_value_invalid, field_set_missing, ends_with_backslash}
-use Rattle.lp_format.specs.format.Readings.{tag_set_malformed, take_while1, timestamp_value_invalid, cannot_parse_entire_line}
-use Rattle.lp_format.specs.format.Readings.{Text, Read, Reading, miss, fatal, reads, ◌>>=◌}
-use Rattle.lp_format.specs.format.Names.{NameKind, a_measurement, name}
-use Rattle.lp_format.specs.format.Values.{Value}
-use Rattle.lp_format.specs.format.Points.{Pair}
-use Rattle.lp_format.specs.format.Lines.{Line, byte, tag, field, separated_list, tag_set, without_comma, timestamp}
-use Rattle.lp_format.specs.format.Lines.{answer}
+use Rattle.std.proofs.Common.{◌≡◌, ◌⊎◌, ℕ, ◌==◌, List, [], ◌∷◌, ◌++◌, refl, sym, ap, ◌∙◌, subst, inl, inr, Option, Some, None, Ok, Err}
+use Rattle.std.proofs.Common.{Result, arith, ℤ, eqb-true, eq-eqb}
+use Rattle.std.proofs.lemmas.Bool.{cases_Bool, both_ways}
+use Rattle.lp_format.specs.format.{Dialect, comma, space, Side, Fault, measurement_value_invalid, field_set_missing, ends_with_backslash}
+use Rattle.lp_format.specs.format.{tag_set_malformed, take_while1, timestamp_value_invalid, cannot_parse_entire_line, Text, Read, Reading}
+use Rattle.lp_format.specs.format.{miss, fatal, reads, ◌>>=◌, NameKind, a_measurement, name, Value, Pair, Line, byte, tag, field}
+use Rattle.lp_format.specs.format.{separated_list, tag_set, without_comma, timestamp, answer}
 use Rattle.lp_format.specs.laws.Meanings.{WholeList, NextHasFault}
-use Rattle.lp_format.specs.laws.MeaningsOfAnswers.{BeginsWith, after_spaces, ReadsSeries, ReadsSeries.alone}
-use Rattle.lp_format.specs.laws.MeaningsOfAnswers.{ReadsSeries.tagged, ReadsFields, IsAnswer, IsAnswer.fatal_measurement}
-use Rattle.lp_format.specs.laws.MeaningsOfAnswers.{IsAnswer.no_measurement, IsAnswer.fatal_tag, IsAnswer.no_tag}
-use Rattle.lp_format.specs.laws.MeaningsOfAnswers.{IsAnswer.no_space, IsAnswer.fatal_field, IsAnswer.no_field}
-use Rattle.lp_format.specs.laws.MeaningsOfAnswers.{IsAnswer.fatal_timestamp, IsAnswer.left, IsAnswer.all_read, AnswerIsByRows}
+use Rattle.lp_format.specs.laws.MeaningsOfAnswers.{BeginsWith, after_spaces, ReadsSeries, ReadsSeries.alone, ReadsSeries.tagged}
+use Rattle.lp_format.specs.laws.MeaningsOfAnswers.{ReadsFields, IsAnswer, IsAnswer.fatal_measurement, IsAnswer.no_measurement}
+use Rattle.lp_format.specs.laws.MeaningsOfAnswers.{IsAnswer.fatal_tag, IsAnswer.no_tag, IsAnswer.no_space, IsAnswer.fatal_field}
+use Rattle.lp_format.specs.laws.MeaningsOfAnswers.{IsAnswer.no_field, IsAnswer.fatal_timestamp, IsAnswer.left, IsAnswer.all_read}
+use Rattle.lp_format.specs.laws.MeaningsOfAnswers.{AnswerIsByRows}
 use Rattle.lp_format.proofs.lemmas.meanings.JoinedMeaning.{the_most_is_read, the_next_has_the_fault, the_first_misses}
 use Rattle.lp_events.proofs.lemmas.fields.ManyLemmas.{tag_set_ends}
 use Rattle.lp_lines.proofs.lemmas.read_back.LineReadsBack.{front_is}
 use Rattle.lp_values.proofs.lemmas.fields.ReadingLemmas.{EndsIn, EndsIn-end, name_ends}
 use Rattle.lp_format.proofs.lemmas.meanings.ShorterRests.{tag_no_longer, field_no_longer}
-use Rattle.std.proofs.Common.{arith}
 
 -- the one fault that a name can have is that it ends in a backslash
 abbrev FailsByBackslash : {A : Type 0} → Reading A → Type 0
@@ -34,11 +26,6 @@ FailsByBackslash r = (e : Fault) → r ≡ fatal e → e ≡ ends_with_backslash
 name_fault : (kind : NameKind) (text : List ℕ) → FailsByBackslash (name kind text)
 unfolding name
 name_fault kind text e h = grind (arith, cases_Bool)
-
--- of two parts
-fault_of_two : {A B : Type 0} (r : Reading A) (f : Read A → Reading B) → FailsByBackslash r → ((x : Read A) → FailsByBackslash (f x))
-    → FailsByBackslash (r >>= f)
-fault_of_two rest f h k e m = grind (arith)
 
 -- a byte has none
 byte_fault : (b : ℕ) (text : List ℕ) → FailsByBackslash (byte b text)
@@ -51,7 +38,7 @@ reads_fault x rest e m = absurd (cc)
 -- of a tag
 tag_fault : (text : List ℕ) → FailsByBackslash (tag text)
 unfolding tag
-tag_fault text = grind (arith, fault_of_two, name_fault, byte_fault, reads_fault)
+tag_fault text = grind (arith, name_fault, byte_fault, reads_fault)
 
 -- so of the next tag
 next_tag_fault : (tags : List (Pair Text Text)) (rest : List ℕ) (e : Fault) → NextHasFault tag tags rest e → e ≡ ends_with_backslash
@@ -113,35 +100,24 @@ module _ (dialect : Dialect) (text : List ℕ) where
   row_answers (no_space m tags rest series gap) = let s = series_parts series in rw (s.named, s.set, no_byte space rest gap) refl
   row_answers (fatal_field m tags after fields rest e series gap most next) =
       let s = series_parts series in
-      let g = space_here after gap in
       let fault = (the_next_has_the_fault field (λ t. (field_no_longer t).holds) (after_spaces after) e).1 (fields, rest, most, next) in
-      rw (s.named, s.set, g.1, fault) refl
+      rw (s.named, s.set, (space_here after gap).1, fault) refl
   row_answers (no_field m tags after series gap h) =
       let s = series_parts series in
-      let g = space_here after gap in
-      rw (s.named, s.set, g.1, h) refl
+      rw (s.named, s.set, (space_here after gap).1, h) refl
   row_answers (fatal_timestamp line rest side number r stamp) =
       let s = series_parts r.series_reads in
-      let g = space_here r.after_series r.gap in
       let fields = fields_read (after_spaces r.after_series) line.fields r.after_fields r.fields_read in
-      rw (s.named, s.set, g.1, fields, ap timestamp (sym r.rest_is) ∙ stamp) refl
+      rw (s.named, s.set, (space_here r.after_series r.gap).1, fields, ap timestamp (sym r.rest_is) ∙ stamp) refl
   row_answers (left line rest b more r stamp) =
       let s = series_parts r.series_reads in
-      let g = space_here r.after_series r.gap in
       let fields = fields_read (after_spaces r.after_series) line.fields r.after_fields r.fields_read in
-      rw (s.named, s.set, g.1, fields, ap timestamp (sym r.rest_is) ∙ stamp) refl
+      rw (s.named, s.set, (space_here r.after_series r.gap).1, fields, ap timestamp (sym r.rest_is) ∙ stamp) refl
   row_answers (all_read line rest r stamp) =
       let s = series_parts r.series_reads in
       let g = space_here r.after_series r.gap in
       let fields = fields_read (after_spaces r.after_series) line.fields r.after_fields r.fields_read in
-      rw (
-        s.named,
-        s.set,
-        g.1,
-        fields,
-        ap timestamp (sym r.rest_is) ∙ stamp,
-        front_is text line.series r.after_series r.series_is,
-      ) refl
+      rw (s.named, s.set, g.1, fields, ap timestamp (sym r.rest_is) ∙ stamp, front_is text line.series r.after_series r.series_is) refl
 
   -- some row holds
   abbrev SomeRow : Type 0
@@ -162,8 +138,7 @@ module _ (dialect : Dialect) (text : List ℕ) where
           (Ok (line t), all_read (line t) rest (h t) (e ∙ ap (λ (u : Option ℤ). Ok (record { value = u; rest = [] })) (sym (same t))))
       whole t (b ∷ more) e = (
         Err (cannot_parse_entire_line (b ∷ more)),
-        left (line t) rest b more (h t)
-            (e ∙ ap (λ (u : Option ℤ). Ok (record { value = u; rest = b ∷ more })) (sym (same t))),
+        left (line t) rest b more (h t) (e ∙ ap (λ (u : Option ℤ). Ok (record { value = u; rest = b ∷ more })) (sym (same t))),
       )
 
   -- once a series is read and a space follows it
@@ -172,14 +147,12 @@ module _ (dialect : Dialect) (text : List ℕ) where
       → (r : Reading (List (Pair Text (Value Text)))) → separated_list field (after_spaces after) ≡ r → SomeRow
   by_fields series m tags after is h gap miss e = (
     Err field_set_missing,
-    no_field m tags after h gap
-        ((the_first_misses field (λ t. (field_no_longer t).holds) (after_spaces after)).0 e),
+    no_field m tags after h gap ((the_first_misses field (λ t. (field_no_longer t).holds) (after_spaces after)).0 e),
   )
   by_fields series m tags after is h gap (fatal d) e =
       let f = (the_next_has_the_fault field (λ t. (field_no_longer t).holds) (after_spaces after) d).0 e in
       (Err d, fatal_field m tags after f.0 f.1 d h gap f.2 f.3)
   by_fields series m tags after is h gap (reads fields last) e =
-      let separated = (the_most_is_read field (λ t. (field_no_longer t).holds) (after_spaces after) fields last).0 e in
       let rest = without_comma dialect fields last in
       by_stamp (λ t. record { series = series; measurement = m; tags = tags; fields = fields; timestamp = t }) rest
       (λ t. record {
@@ -188,15 +161,14 @@ module _ (dialect : Dialect) (text : List ℕ) where
         series_reads = h;
         gap = gap;
         after_fields = last;
-        fields_read = separated;
-        rest_is =
-            refl;
+        fields_read = (the_most_is_read field (λ t. (field_no_longer t).holds) (after_spaces after) fields last).0 e;
+        rest_is = refl;
       })
       (λ t. refl) (timestamp rest) refl
 
   -- once a series is read
   by_series : (m : Text) (tags : Option (List (Pair Text Text))) (after : List ℕ) → ReadsSeries text m tags after → SomeRow
-  by_series m tags after h = elim (begins 32 after) [
+  by_series m tags after h = elim (begins space after) [
     | inl here ↦
         let parts = series_parts h in
         let ends : EndsIn text after = EndsIn-end text parts.after after (name_ends a_measurement text m parts.after parts.named)
@@ -214,8 +186,7 @@ module _ (dialect : Dialect) (text : List ℕ) where
   by_tags m after named (fatal d) e =
       let f = (the_next_has_the_fault tag (λ t. (tag_no_longer t).holds) after d).0 e in
       (Err ends_with_backslash, fatal_tag m after f.0 f.1 d named f.2 f.3)
-  by_tags m after named (reads tags rest) e =
-      by_series m (Some tags) rest
+  by_tags m after named (reads tags rest) e = by_series m (Some tags) rest
       (tagged m tags after rest named ((the_most_is_read tag (λ t. (tag_no_longer t).holds) after tags rest).0 e))
 
   -- once a measurement is read

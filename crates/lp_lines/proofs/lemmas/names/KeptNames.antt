@@ -1,16 +1,11 @@
 -- The bytes of a name that is read: the text of a spelling is a parsed name.
-use Rattle.std.proofs.Common.{◌≡◌, ◌≢◌, ℕ, suc, ◌-◌, ◌<◌, List, [], ◌∷◌, ◌++◌, length, take, slice_index, Bool, true, false, not}
-use Rattle.std.proofs.Common.{◌&&◌, ◌||◌, refl, sym, ap, ◌∙◌, subst, arith, inl, inr}
-use Rattle.std.specs.Prelude.{◌==◌}
+use Rattle.std.proofs.Common.{◌≡◌, ◌≢◌, ℕ, suc, ◌-◌, ◌<◌, List, [], ◌∷◌, ◌++◌, length, take, slice_index, Bool, true, false, not, ◌&&◌}
+use Rattle.std.proofs.Common.{◌||◌, refl, sym, ap, ◌∙◌, subst, arith, inl, inr, ◌==◌, eq-eqb, eqb-true}
 use Rattle.std.proofs.lemmas.Bool.{cases_Bool, false≢true, and_parts, and_from, or_left, or_right, or_cases, not_from_true, not_from_false}
-use Rattle.std.proofs.lemmas.Bool.{eq-eqb, eqb-true}
 use Rattle.std.proofs.lemmas.Grind.{common_steps}
-use Rattle.lp_format.specs.format.Bytes.{backslash, hash, is_one_of}
-use Rattle.lp_format.specs.format.Escapes.{without_escapes}
-use Rattle.lp_format.specs.format.Readings.{Text, reads}
-use Rattle.lp_format.specs.format.Names.{NameKind, a_measurement, a_tag_key, a_tag_value, a_field_key, ends_in_backslash}
-use Rattle.lp_format.specs.format.Names.{escapable, is_escapable, is_stop, logical, name, read_text, spelled, spelled_len}
-use Rattle.lp_format.specs.format.Points.{never_in}
+use Rattle.lp_format.specs.format.{backslash, hash, is_one_of, without_escapes, Text, reads, NameKind, a_measurement, a_tag_key}
+use Rattle.lp_format.specs.format.{a_tag_value, a_field_key, ends_in_backslash, escapable, is_escapable, is_stop, logical, name, read_text}
+use Rattle.lp_format.specs.format.{spelled, spelled_len, never_in}
 use Rattle.lp_format.specs.laws.NamesOfLines.{IsParsedName, BeginsNoComment}
 use Rattle.lp_format.proofs.lemmas.names.NameLemmas.{name_misses, name_fatal, name_reads, logical_ends}
 use Rattle.lp_format.proofs.lemmas.read_back.NameReadsBack.{may_hold}
@@ -28,17 +23,11 @@ is_closed kind escaped (b ∷ text) = (not (is_stop kind b) || escaped) && is_cl
 
 -- a byte that ends no name may be in one
 unstopped_may : (kind : NameKind) (b : ℕ) → is_stop kind b ≡ false → may_hold kind b ≡ true
-unstopped_may a_measurement b h = grind (arith, common_steps)
-unstopped_may a_tag_key b h = grind (arith, common_steps)
-unstopped_may a_tag_value b h = grind (arith, common_steps)
-unstopped_may a_field_key b h = grind (arith, common_steps)
+unstopped_may kind b h = grind (arith, common_steps)
 
 -- a byte that a backslash escapes may be in a name
 pub escapable_may : (kind : NameKind) (b : ℕ) → is_escapable kind b ≡ true → may_hold kind b ≡ true
-escapable_may a_measurement b h = grind (arith, common_steps)
-escapable_may a_tag_key b h = grind (arith, common_steps)
-escapable_may a_tag_value b h = grind (arith, common_steps)
-escapable_may a_field_key b h = grind (arith, common_steps)
+escapable_may kind b h = grind (arith, common_steps)
 
 -- a byte that is no bare stop
 no_bare_stop : (s e : Bool) → (s && not e) ≡ false → (not s || e) ≡ true
@@ -52,12 +41,11 @@ no_stop x0 h = grind (arith, false≢true)
 before_stop_closed : (kind : NameKind) (escaped : Bool) (text : List ℕ)
     → is_closed kind escaped (take (bare_len (is_stop kind) escaped text) text) ≡ true
 before_stop_closed kind escaped [] = refl
-before_stop_closed kind escaped (b ∷ text) =
-    elim (cases_Bool (is_stop kind b && not escaped)) [
-      | inl stop ↦ rw stop refl
-      | inr on ↦ rw on (and_from (not (is_stop kind b) || escaped) _ (no_bare_stop (is_stop kind b) escaped on)
-          (before_stop_closed kind (not escaped && b == backslash) text))
-    ]
+before_stop_closed kind escaped (b ∷ text) = elim (cases_Bool (is_stop kind b && not escaped)) [
+  | inl stop ↦ rw stop refl
+  | inr on ↦ rw on (and_from (not (is_stop kind b) || escaped) _ (no_bare_stop (is_stop kind b) escaped on)
+      (before_stop_closed kind (not escaped && b == backslash) text))
+]
 
 -- the bytes of the logical text of a spelling are kept
 logical_kept : (kind : NameKind) (after : Bool) (text : List ℕ) → is_closed kind false text ≡ true
@@ -83,8 +71,7 @@ logical_kept kind after (b ∷ c ∷ rest) h =
                 (logical_kept kind (c == backslash) rest closed)))
           ]
       | inr e ↦
-          let more : is_closed kind false (c ∷ rest) ≡ true = rw e at parts.1 in
-          rw e (and_from (may_hold kind b || after) _ first (logical_kept kind (b == backslash) (c ∷ rest) more))
+          rw e (and_from (may_hold kind b || after) _ first (logical_kept kind (b == backslash) (c ∷ rest) (rw e at parts.1)))
     ]
 
 -- whether a text ends in a backslash, or, if it is empty, what is said of the place before it
@@ -95,14 +82,11 @@ ends_after after (b ∷ text) = ends_after (b == backslash) text
 -- the same, from the last byte
 ends_after_is : (b : ℕ) (text : List ℕ) → ends_after (b == backslash) text ≡ ends_in_backslash (b ∷ text)
 ends_after_is b [] = refl
-ends_after_is b (c ∷ text) =
-    let e : length (b ∷ c ∷ text) - 1 ≡ suc (length (c ∷ text) - 1) = omega arith in
-    rw e (ends_after_is c text)
+ends_after_is b (c ∷ text) = let e : length (b ∷ c ∷ text) - 1 ≡ suc (length (c ∷ text) - 1) = omega arith in rw e (ends_after_is c text)
 
 -- with nothing before it
 ends_from_start : (text : List ℕ) → ends_after false text ≡ ends_in_backslash text
-ends_from_start [] = refl
-ends_from_start (b ∷ text) = ends_after_is b text
+ends_from_start text = grind (arith, common_steps, ends_after_is)
 
 -- a byte of a text whose bytes are kept
 kept_place : (kind : NameKind) (suffix : Bool) (front back : List ℕ) (b : ℕ)
@@ -129,10 +113,6 @@ kept_from kind after (b ∷ n) h =
 pub name_kept : (kind : NameKind) (n : List ℕ) → IsParsedName kind n → is_kept kind false n ≡ true
 name_kept kind n h = kept_from kind false n (λ front back b e never. ends_from_start front ∙ h.after_backslash front back b e never)
 
--- a spelling begins as the text does
-front_begins : (n : ℕ) (text : List ℕ) → slice_index text 0 ≢ hash → slice_index (take n text) 0 ≢ hash
-front_begins n text h = grind (arith)
-
 -- no escape makes a `#`
 hash_unescapable : (b : ℕ) → is_escapable a_measurement b ≡ true → b ≢ hash
 hash_unescapable b h = grind (arith, false≢true)
@@ -142,12 +122,9 @@ logical_begins : (text : List ℕ) → slice_index text 0 ≢ hash → slice_ind
 unfolding without_escapes
 logical_begins rest h = grind (arith, cases_Bool, hash_unescapable)
 
--- where the text does not begin with `#`, neither does its measurement
+-- if the text does not begin with `#`, neither does its measurement
 name_begins : (kind : NameKind) (text : List ℕ) → BeginsNoComment kind text → BeginsNoComment kind (logical kind (spelled kind text))
-name_begins a_measurement text h = logical_begins (spelled a_measurement text) (front_begins (spelled_len a_measurement text) text h)
-name_begins a_tag_key text h = tt
-name_begins a_tag_value text h = tt
-name_begins a_field_key text h = tt
+name_begins kind text h = grind (arith, common_steps, logical_begins)
 
 -- the logical text of a text that is not empty is not empty
 logical_some : (kind : NameKind) (text : List ℕ) → length text ≢ 0 → 0 < length (logical kind text)
@@ -174,16 +151,15 @@ spelled_is_parsed kind text some ends begins =
 -- each name that is read is a parsed name
 pub name_parsed : (kind : NameKind) (text rest : List ℕ) (x : Text) → name kind text ≡ reads x rest
     → BeginsNoComment kind text → IsParsedName kind x.bytes
-name_parsed kind text rest x h begins =
-    elim (cases_Bool (length (spelled kind text) == 0)) [
-      | inl none ↦ let e = name_misses kind text (eqb-true _ 0 none) in absurd (cc)
-      | inr some ↦
-          let ne : length (spelled kind text) ≢ 0 = λ e. false≢true (sym some ∙ eq-eqb _ 0 e) in
-          elim (cases_Bool (ends_in_backslash (spelled kind text))) [
-            | inl ends ↦ let e = name_fatal kind text (omega arith) ends in absurd (cc)
-            | inr ends ↦
-                let e = name_reads kind text (omega arith) ends in
-                let same : read_text (escapable kind) (spelled kind text) ≡ x = cc in
-                subst (λ (y : Text). IsParsedName kind y.bytes) same (spelled_is_parsed kind text ne ends begins)
-          ]
-    ]
+name_parsed kind text rest x h begins = elim (cases_Bool (length (spelled kind text) == 0)) [
+  | inl none ↦ let e = name_misses kind text (eqb-true _ 0 none) in absurd (cc)
+  | inr some ↦
+      let ne : length (spelled kind text) ≢ 0 = λ e. false≢true (sym some ∙ eq-eqb _ 0 e) in
+      elim (cases_Bool (ends_in_backslash (spelled kind text))) [
+        | inl ends ↦ let e = name_fatal kind text (omega arith) ends in absurd (cc)
+        | inr ends ↦
+            let e = name_reads kind text (omega arith) ends in
+            let same : read_text (escapable kind) (spelled kind text) ≡ x = cc in
+            subst (λ (y : Text). IsParsedName kind y.bytes) same (spelled_is_parsed kind text ne ends begins)
+      ]
+]

@@ -1,21 +1,13 @@
 -- Which names lines can have, and that they can have each of them.
-use Rattle.std.proofs.Common.{◌≡◌, ◌≢◌, ℕ, List, [], ◌∷◌, drop, map, slice_index, Bool, true, false, ◌||◌, refl, sym, ap, subst}
-use Rattle.std.proofs.Common.{arith, inl, inr, Option, Ok, Result}
-use Rattle.std.specs.Prelude.{◌==◌, ℤ}
-use Rattle.std.specs.List.{AllByRecursion, Contains}
-use Rattle.std.proofs.lemmas.Bool.{cases_Bool, or_parts, eqb-false, eqb-true}
+use Rattle.std.proofs.Common.{◌≡◌, ◌≢◌, ℕ, List, [], ◌∷◌, drop, map, slice_index, Bool, true, false, ◌||◌, refl, sym, ap, subst, arith, inl}
+use Rattle.std.proofs.Common.{inr, Option, Ok, Result, ◌==◌, ℤ, Contains, eqb-true}
+use Rattle.std.specs.List.{AllByRecursion}
+use Rattle.std.proofs.lemmas.Bool.{cases_Bool, or_parts, eqb-false}
 use Rattle.std.proofs.lemmas.List.Elements.{Contains-append_cases}
-use Rattle.lp_format.specs.format.Dialects.{Dialect, Strict}
-use Rattle.lp_format.specs.format.Readings.{Fault, Text}
-use Rattle.lp_format.specs.format.Readings.{reads}
-use Rattle.lp_format.specs.format.Names.{NameKind, a_measurement, a_tag_key, a_tag_value, a_field_key, name}
-use Rattle.lp_format.specs.format.Values.{Value}
-use Rattle.lp_format.specs.format.Points.{Pair, Point, Tag}
-use Rattle.lp_format.specs.format.Trimming.{trimmed}
-use Rattle.lp_format.specs.format.Lines.{Line, point_of, logical_tag, logical_field, some_tags, tag, field}
-use Rattle.lp_format.specs.format.Lines.{tag_set, field_set, spaces, timestamp}
-use Rattle.lp_format.specs.format.Lines.{front_before, answer}
-use Rattle.lp_format.specs.format.Items.{HasAnswers, answers_of_piece, answers_of}
+use Rattle.lp_format.specs.format.{Dialect, Strict, Fault, Text, reads, NameKind, a_measurement, a_tag_key, a_tag_value, a_field_key, name}
+use Rattle.lp_format.specs.format.{Value, Pair, Point, Tag, trimmed, Line, point_of, logical_tag, logical_field, some_tags, tag, field}
+use Rattle.lp_format.specs.format.{tag_set, field_set, spaces, timestamp, front_before, answer, HasAnswers, answers_of_piece, answers_of}
+use Rattle.lp_format.specs.format.{hash, newline}
 use Rattle.lp_format.specs.laws.NamesOfLines.{names_of, IsParsedName, IsNothingOrSpaced}
 use Rattle.lp_format.specs.laws.Laws.{NamesAreParsed, StrictFieldsEnd}
 use Rattle.lp_format.proofs.lemmas.line.TrimLemmas.{is_blank, left_of, trimmed_is}
@@ -28,7 +20,6 @@ use Rattle.lp_events.proofs.lemmas.fields.ManyLemmas.{fields_joined, set_separat
 use Rattle.lp_lines.proofs.lemmas.read_back.LineReadsBack.{front_is}
 use Rattle.lp_values.proofs.lemmas.fields.ReadingLemmas.{pair_parts}
 use Rattle.lp_format.proofs.lemmas.lists.Elements.{first_or_later}
-use Rattle.lp_format.specs.format.Bytes.{hash, newline}
 
 -- the names of a tag, and that of a field
 abbrev ParsedTag : Pair Text Text → Type 0
@@ -117,23 +108,18 @@ strict_fields_end text line h =
 -- what is left of a text does not begin with `#`
 left_begins : (in_comment : Bool) (text : List ℕ) → slice_index (left_of in_comment text) 0 ≢ hash
 left_begins in_comment [] = omega arith
-left_begins in_comment (b ∷ rest) =
-    elim (cases_Bool (b == newline)) [
-      | inl cut ↦ rw cut (left_begins false rest)
-      | inr on ↦
-          elim (cases_Bool (in_comment || b == hash)) [
-            | inl skipped ↦ rw (on, skipped) (left_begins true rest)
-            | inr seen ↦
-                elim (cases_Bool (is_blank b)) [
-                  | inl blank ↦ rw (on, seen, blank) (left_begins false rest)
-                  | inr kept ↦ rw (on, seen, kept) (eqb-false b hash (or_parts in_comment (b == hash) seen).1)
-                ]
-          ]
-    ]
-
--- nor does a trimmed text
-pub trimmed_begins : (text : List ℕ) → slice_index (trimmed text) 0 ≢ hash
-trimmed_begins text = rw (trimmed_is text) (left_begins false text)
+left_begins in_comment (b ∷ rest) = elim (cases_Bool (b == newline)) [
+  | inl cut ↦ rw cut (left_begins false rest)
+  | inr on ↦
+      elim (cases_Bool (in_comment || b == hash)) [
+        | inl skipped ↦ rw (on, skipped) (left_begins true rest)
+        | inr seen ↦
+            elim (cases_Bool (is_blank b)) [
+              | inl blank ↦ rw (on, seen, blank) (left_begins false rest)
+              | inr kept ↦ rw (on, seen, kept) (eqb-false b hash (or_parts in_comment (b == hash) seen).1)
+            ]
+      ]
+]
 
 -- an element of a list that is made from others is made from one of them
 pub nothing_in_nil : {X : Type 0} (x : X) → Contains [] x → ⊥
@@ -145,7 +131,7 @@ all_of P [] x all h = absurd (nothing_in_nil x h)
 all_of P (y ∷ xs) x all h = elim (first_or_later y x xs h) [ inl same ↦ subst P same all.0 | inr later ↦ all_of P xs x all.1 later ]
 
 -- what each made element has from what it is made of
-all_made : {X Y : Type 0} (P : X → Type 0) (Q : Y → Type 0) (make : X → Y) → ((x : X) → P x → Q (make x)) → (xs : List X)
+pub all_made : {X Y : Type 0} (P : X → Type 0) (Q : Y → Type 0) (make : X → Y) → ((x : X) → P x → Q (make x)) → (xs : List X)
     → AllByRecursion P xs → AllByRecursion Q (map make xs)
 all_made P Q make part [] all = tt
 all_made P Q make part (x ∷ xs) all = (part x all.0, all_made P Q make part xs all.1)
@@ -167,11 +153,9 @@ line_parsed dialect text line begins h =
     let parts = answer_parts dialect text line h in
     record {
       measurement = name_parsed a_measurement text parts.measurement_rest line.measurement parts.measurement begins;
-      tags =
-          all_made ParsedTag HasParsedNames logical_tag (λ t h. h) (some_tags line.tags)
+      tags = all_made ParsedTag HasParsedNames logical_tag (λ t h. h) (some_tags line.tags)
           (tag_set_parsed parts.measurement_rest parts.tags_rest line.tags parts.tags);
-      fields =
-          all_made ParsedField (λ f. IsParsedName a_field_key f.key) logical_field (λ f h. h) line.fields
+      fields = all_made ParsedField (λ f. IsParsedName a_field_key f.key) logical_field (λ f h. h) line.fields
           (field_set_parsed dialect (drop (spaces parts.tags_rest) parts.tags_rest) parts.fields_rest line.fields parts.fields);
     }
 
@@ -193,7 +177,7 @@ pub record Answered (dialect : Dialect) (line : Line) : Type 0 where
 piece_answered : (dialect : Dialect) (piece : List ℕ) (line : Line)
     → Contains (answers_of_piece dialect piece) (Ok line) → Answered dialect line
 unfolding answers_of_piece
-piece_answered dialect piece line h = grind (arith, cases_Bool, nothing_in_nil, first_or_later, trimmed_begins)
+piece_answered dialect piece line h = grind (arith, cases_Bool, nothing_in_nil, first_or_later, trimmed_is, left_begins)
 
 -- a line that is answered for pieces
 answered_in : (dialect : Dialect) (pieces : List (List ℕ)) (line : Line)
@@ -215,6 +199,5 @@ answers_parsed dialect text answers line has here =
 
 -- and its names
 pub names_are_parsed : NamesAreParsed
-names_are_parsed dialect text answers line kind n has here named =
-    all_of (IsParsedName kind) (names_of kind (point_of line)) n
+names_are_parsed dialect text answers line kind n has here named = all_of (IsParsedName kind) (names_of kind (point_of line)) n
     (point_names kind (point_of line) (answers_parsed dialect text answers line has here)) named

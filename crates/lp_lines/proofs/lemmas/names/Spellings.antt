@@ -1,31 +1,22 @@
 -- Names by any of their spellings: a reader reads each back, and a splitter that is within a stretch stays within it.
 use Rattle.std.proofs.Common.{◌≡◌, ◌≢◌, ℕ, List, [], ◌∷◌, ◌++◌, true, false, refl, ap, subst, append_assoc, ◌<◌, length, drop, slice_index}
-use Rattle.std.proofs.Common.{Bool, ◌||◌, sym, ◌∙◌, arith, inl, inr, append-nil}
+use Rattle.std.proofs.Common.{Bool, ◌||◌, sym, ◌∙◌, arith, inl, inr, append-nil, ◌==◌, eqb-true, ne_eqb, take_at, drop_at}
 use Rattle.std.proofs.lemmas.List.Elements.{All-nil}
-use Rattle.std.specs.Prelude.{◌==◌}
 use Rattle.std.specs.List.{list_all}
-use Rattle.std.proofs.lemmas.Bool.{cases_Bool, false≢true, and_parts, and_right, eqb-true, ne_eqb}
+use Rattle.std.proofs.lemmas.Bool.{cases_Bool, false≢true, and_parts, and_right}
 use Rattle.std.proofs.lemmas.Grind.{common_steps}
-use Rattle.std.proofs.lemmas.List.{take_at, drop_at}
-use Rattle.lp_format.specs.format.Escapes.{IsBareAfter, escaped, without_escapes}
-use Rattle.lp_format.specs.format.Names.{NameKind, a_measurement, a_tag_key, a_tag_value, a_field_key, is_escapable, ends_in_backslash}
-use Rattle.lp_format.specs.format.Names.{escapable, is_stop, logical, name, read_text, spelled, spelled_len}
+use Rattle.lp_format.specs.format.{IsBareAfter, escaped, without_escapes, NameKind, a_measurement, a_tag_key, a_tag_value, a_field_key}
+use Rattle.lp_format.specs.format.{is_escapable, ends_in_backslash, escapable, is_stop, logical, name, read_text, spelled, spelled_len}
+use Rattle.lp_format.specs.format.{newline, space, backslash, comma, equals, hash, is_one_of, tab, fatal, reads, ends_with_backslash}
+use Rattle.lp_format.specs.format.{is_admitted_name, never_in, spelling, begins_comment, trimmed, spaces}
 use Rattle.lp_format.proofs.lemmas.split.SplitBare.{is_escaped-nil, is_escaped-push_backslash, is_escaped-push_escaped}
 use Rattle.lp_format.proofs.lemmas.split.SplitBare.{is_escaped-push_other}
 use Rattle.lp_format.proofs.lemmas.names.NameLemmas.{escapable_backslash, without_escapes_plain_byte, without_escapes_known, logical_ends}
 use Rattle.lp_format.proofs.lemmas.names.NameLemmas.{name_fatal, name_reads}
 use Rattle.lp_format.proofs.lemmas.read_back.NameReadsBack.{may_hold, space_escapable, stop_escapable, backslash_no_stop, escaped_found}
 use Rattle.lp_format.proofs.lemmas.read_back.NameReadsBack.{escaped_plain, admitted_parts, begins_otherwise, read_name}
-use Rattle.lp_format.specs.format.Bytes.{newline, space, backslash, comma, equals, hash, is_one_of, tab}
-use Rattle.lp_format.specs.format.Readings.{fatal, reads, ends_with_backslash}
-use Rattle.lp_format.specs.format.Points.{is_admitted_name, never_in, spelling}
-use Rattle.lp_format.specs.format.Pieces.{begins_comment}
-use Rattle.lp_format.specs.format.Trimming.{trimmed}
-use Rattle.lp_format.specs.format.Lines.{spaces}
 use Rattle.lp_format.proofs.lemmas.line.TrimLemmas.{is_blank, trimmed_is}
-use Rattle.lp_split.specs.declared.split.resumed.Part.{Part}
-use Rattle.lp_split.specs.declared.split.resumed.Part.TheVariants.{Head, Plain}
-use Rattle.lp_split.specs.code.Tracks.{EndsIn as IsIn}
+use Rattle.lp_split.specs.code.{Part, Head, Plain, EndsIn as IsIn}
 use Rattle.lp_split.proofs.lemmas.split.SplitWalk.{IsIn-escaped, IsIn-backslash, Head-other, Head-space, Plain-other}
 use Rattle.lp_split.proofs.lemmas.split.ScanLemmas.{bare_len, first_bare_len}
 use Rattle.lp_lines.proofs.lemmas.names.KeptNames.{is_kept}
@@ -57,17 +48,17 @@ pub turns : (part : Part) (e c : ℕ) (next : Part) (f d b : ℕ) → b ≢ back
 turns part e c next f d b no_backslash after piece r = (is_escaped-push_other piece b no_backslash, after piece r.0 r.1)
 
 -- a byte with a backslash before it changes nothing
-pub reaches_pair : (part : Part) (e c b : ℕ) → Leads (Reaches part e c) (Reaches part e c) (92 ∷ b ∷ [])
+pub reaches_pair : (part : Part) (e c b : ℕ) → Leads (Reaches part e c) (Reaches part e c) (backslash ∷ b ∷ [])
 reaches_pair part e c b piece r =
     let flag = is_escaped-push_backslash piece r.0 in
-    subst (Reaches part e c) (append_assoc piece (92 ∷ []) (b ∷ [])) (
-      is_escaped-push_escaped (piece ++ 92 ∷ []) b flag,
-      IsIn-escaped part e c (piece ++ 92 ∷ []) b flag (IsIn-backslash part e c piece r.0 r.1),
+    subst (Reaches part e c) (append_assoc piece (backslash ∷ []) (b ∷ [])) (
+      is_escaped-push_escaped (piece ++ backslash ∷ []) b flag,
+      IsIn-escaped part e c (piece ++ backslash ∷ []) b flag (IsIn-backslash part e c piece r.0 r.1),
     )
 
 -- a byte that changes nothing wherever it is
 abbrev pub ChangesNothing : Part → ℕ → ℕ → ℕ → Type 0
-ChangesNothing part e c b = (b ≢ 92) × ((q : List ℕ) → IsBareAfter q → IsIn part e c q → IsIn part e c (q ++ b ∷ []))
+ChangesNothing part e c b = (b ≢ backslash) × ((q : List ℕ) → IsBareAfter q → IsIn part e c q → IsIn part e c (q ++ b ∷ []))
 
 -- such a byte leads on from there
 pub reaches_byte : (part : Part) (e c b : ℕ) → ChangesNothing part e c b → Leads (Reaches part e c) (Reaches part e c) (b ∷ [])
@@ -75,17 +66,14 @@ reaches_byte part e c b same = turns part e c part e c b same.0 same.1
 
 -- a name holds no newline, and its spaces and backslashes are escaped
 newline_never : (kind : NameKind) → may_hold kind newline ≡ false
-newline_never a_measurement = refl
-newline_never a_tag_key = refl
-newline_never a_tag_value = refl
-newline_never a_field_key = refl
+newline_never kind = grind (arith, common_steps)
 
 -- so its bare bytes are none of these
 pub no_newline : (kind : NameKind) (b : ℕ) → may_hold kind b ≡ true → b ≢ newline
 no_newline kind b may = λ e. cc (may, newline_never kind, ap (may_hold kind) e)
 
 -- nor is one a backslash
-pub no_backslash : (kind : NameKind) (b : ℕ) → is_escapable kind b ≡ false → b ≢ 92
+pub no_backslash : (kind : NameKind) (b : ℕ) → is_escapable kind b ≡ false → b ≢ backslash
 no_backslash kind b plain = λ e. cc (plain, escapable_backslash kind, ap (is_escapable kind) e)
 
 -- or a space
@@ -103,17 +91,11 @@ pub data SpelledAs (kind : NameKind) : List ℕ → List ℕ → Type 0 where
 
 -- a byte that no escape keeps is no known escape
 pub never_unescapable : (kind : NameKind) (c : ℕ) → is_one_of (never_in kind) c ≡ true → is_escapable kind c ≡ false
-never_unescapable a_measurement c h = grind (arith, common_steps)
-never_unescapable a_tag_key c h = grind (arith, common_steps)
-never_unescapable a_tag_value c h = grind (arith, common_steps)
-never_unescapable a_field_key c h = grind (arith, common_steps)
+never_unescapable kind c h = grind (arith, common_steps)
 
 -- and it ends a name if it is bare
 pub never_stops : (kind : NameKind) (c : ℕ) → is_one_of (never_in kind) c ≡ true → is_stop kind c ≡ true
-never_stops a_measurement c h = grind (arith, common_steps)
-never_stops a_tag_key c h = grind (arith, common_steps)
-never_stops a_tag_value c h = grind (arith, common_steps)
-never_stops a_field_key c h = grind (arith, common_steps)
+never_stops kind c h = grind (arith, common_steps)
 
 -- nor is it a backslash
 never_backslash : (kind : NameKind) (c : ℕ) → is_one_of (never_in kind) c ≡ true → (c == backslash) ≡ false
@@ -126,17 +108,15 @@ may_alone x0 h = grind (arith, false≢true)
 -- a name with a byte at the start that may be bare
 spelled_more : (kind : NameKind) (b : ℕ) (n : List ℕ) → may_hold kind b ≡ true → (s : List ℕ) × SpelledAs kind n s
     → (s : List ℕ) × SpelledAs kind (b ∷ n) s
-spelled_more kind b n may more =
-    elim (cases_Bool (is_escapable kind b)) [
-      | inl known ↦ (backslash ∷ b ∷ more.0, escape b n more.0 known more.1)
-      | inr other ↦ (b ∷ more.0, plain b n more.0 other may more.1)
-    ]
+spelled_more kind b n may more = elim (cases_Bool (is_escapable kind b)) [
+  | inl known ↦ (backslash ∷ b ∷ more.0, escape b n more.0 known more.1)
+  | inr other ↦ (b ∷ more.0, plain b n more.0 other may more.1)
+]
 
 -- each parsed name has a spelling
 pub spelled_as : (kind : NameKind) (n : List ℕ) → is_kept kind false n ≡ true → (s : List ℕ) × SpelledAs kind n s
 spelled_as kind [] h = ([], done)
-spelled_as kind (b ∷ []) h = spelled_more kind b []
-    (may_alone (may_hold kind b) (and_parts (may_hold kind b || false) true h).0) ([], done)
+spelled_as kind (b ∷ []) h = spelled_more kind b [] (may_alone (may_hold kind b) (and_parts (may_hold kind b || false) true h).0) ([], done)
 spelled_as kind (b ∷ c ∷ n) h =
     let parts = and_parts (may_hold kind b || false) (is_kept kind (b == backslash) (c ∷ n)) h in
     let may = may_alone (may_hold kind b) parts.0 in
@@ -196,8 +176,7 @@ unfolding without_escapes
 spelled_logical {kind = kind} done = refl
 spelled_logical {kind = kind} (escape b n s known more) = without_escapes_known (escapable kind) b s known
     ∙ ap (λ (xs : List ℕ). b ∷ xs) (spelled_logical more)
-spelled_logical {kind = kind} (plain b n s other may more) =
-    without_escapes_plain_byte (escapable kind) b s (no_backslash kind b other)
+spelled_logical {kind = kind} (plain b n s other may more) = without_escapes_plain_byte (escapable kind) b s (no_backslash kind b other)
     ∙ ap (λ (xs : List ℕ). b ∷ xs) (spelled_logical more)
 spelled_logical {kind = kind} (pair c n s never more) = rw (never_unescapable kind c never)
     (ap (λ (xs : List ℕ). backslash ∷ c ∷ xs) (spelled_logical more))
@@ -252,11 +231,11 @@ reaches_spelled part e c same (pair b n s never more) =
 -- a text that begins with no blank, no newline and no `#`
 abbrev pub BeginsLine : List ℕ → Type 0
 BeginsLine [] = ⊥
-BeginsLine (b ∷ text) = is_one_of (hash ∷ 32 ∷ tab ∷ newline ∷ []) b ≡ false
+BeginsLine (b ∷ text) = is_one_of (hash ∷ space ∷ tab ∷ newline ∷ []) b ≡ false
 
 -- the first byte of a measurement that may are there
 begins_plain : (b : ℕ) → is_escapable a_measurement b ≡ false → may_hold a_measurement b ≡ true → b ≢ hash
-    → is_one_of (hash ∷ 32 ∷ tab ∷ newline ∷ []) b ≡ false
+    → is_one_of (hash ∷ space ∷ tab ∷ newline ∷ []) b ≡ false
 begins_plain b other may no_hash = grind (arith, common_steps)
 
 -- a measurement that begins with no `#` begins a line so
@@ -276,7 +255,7 @@ measurement_begins m rest ok =
 pub spelled_spaces : {kind : NameKind} {n s : List ℕ} → SpelledAs kind n s → 0 < length n → (rest : List ℕ) → spaces (s ++ rest) ≡ 0
 spelled_spaces done some rest = absurd (omega (arith, some))
 spelled_spaces (escape b n s known more) some rest = refl
-spelled_spaces {kind = kind} (plain b n s other may more) some rest = rw (ne_eqb b 32 (no_space kind b other)) refl
+spelled_spaces {kind = kind} (plain b n s other may more) some rest = rw (ne_eqb b space (no_space kind b other)) refl
 spelled_spaces (pair c n s never more) some rest = refl
 
 -- a text that begins so is no comment, and nothing is trimmed off it
@@ -293,8 +272,7 @@ line_some text h = grind (arith, ne_eqb)
 
 -- a spelling in a head
 pub reaches_head : {kind : NameKind} {n s : List ℕ} → SpelledAs kind n s → Leads (Reaches Head 0 0) (Reaches Head 0 0) s
-reaches_head {kind = kind} h =
-    reaches_spelled Head 0 0 (λ b may other.
+reaches_head {kind = kind} h = reaches_spelled Head 0 0 (λ b may other.
     (no_backslash kind b other, λ q f i. Head-other 0 0 q b f (no_space kind b other) (no_newline kind b may) i)) h
 
 -- a name in the head
@@ -303,23 +281,20 @@ pub reaches_name : (kind : NameKind) (n piece : List ℕ) → is_admitted_name k
 reaches_name kind n piece ok r = reaches_head (admitted_spelled kind n ok) piece r
 
 -- a byte that means nothing there
-pub reaches_other : (b : ℕ) → b ≢ backslash → b ≢ 32 → b ≢ newline → Leads (Reaches Head 0 0) (Reaches Head 0 0) (b ∷ [])
+pub reaches_other : (b : ℕ) → b ≢ backslash → b ≢ space → b ≢ newline → Leads (Reaches Head 0 0) (Reaches Head 0 0) (b ∷ [])
 reaches_other b no_backslash no_space no_newline =
     turns Head 0 0 Head 0 0 b no_backslash (λ q f h. Head-other 0 0 q b f no_space no_newline h)
 
 -- the space after it
-pub reaches_gap : Leads (Reaches Head 0 0) (Reaches Plain 0 0) (32 ∷ [])
-reaches_gap = turns Head 0 0 Plain 0 0 32 (omega arith) (Head-space 0 0)
+pub reaches_gap : Leads (Reaches Head 0 0) (Reaches Plain 0 0) (space ∷ [])
+reaches_gap = turns Head 0 0 Plain 0 0 space (omega arith) (Head-space 0 0)
 
 -- a spelling of a field key if no quote can open
 pub reaches_field_key : (m : ℕ) {n s : List ℕ} → SpelledAs a_field_key n s → Leads (Reaches Plain m m) (Reaches Plain m m) s
-reaches_field_key m h =
-    reaches_spelled Plain m m
-    (λ b may other. (
-      no_backslash a_field_key b other,
-      λ q f i. Plain-other m m q b f (no_equals b other) (no_comma b other) (no_newline a_field_key b may)
-          (λ _. omega arith) i,
-    )) h
+reaches_field_key m h = reaches_spelled Plain m m (λ b may other. (
+  no_backslash a_field_key b other,
+  λ q f i. Plain-other m m q b f (no_equals b other) (no_comma b other) (no_newline a_field_key b may) (λ _. omega arith) i,
+)) h
   where
     -- a byte that a field key does not escape is no `=`
     no_equals : (b : ℕ) → is_escapable a_field_key b ≡ false → b ≢ equals

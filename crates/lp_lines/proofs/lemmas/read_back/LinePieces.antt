@@ -1,42 +1,37 @@
 -- The line of an admitted point is a piece that a newline ends.
-use Rattle.std.proofs.Common.{◌≡◌, ◌≢◌, ℕ, ◌+◌, ◌^◌, ◌<◌, ◌≤◌, List, [], ◌∷◌, ◌++◌, length, Bool, true, false, refl, sym, ap}
-use Rattle.std.proofs.Common.{◌∙◌, subst, arith, inl, inr, append_assoc, Option, Some, None}
-use Rattle.std.specs.Prelude.{◌==◌, ℤ, not, codes, decimal, IfSome}
-use Rattle.std.specs.List.{AllByRecursion, list_all, flat_map}
+use Rattle.std.proofs.Common.{◌≡◌, ◌≢◌, ℕ, ◌+◌, ◌^◌, ◌<◌, ◌≤◌, List, [], ◌∷◌, ◌++◌, length, Bool, true, false, refl, sym, ap, ◌∙◌, subst}
+use Rattle.std.proofs.Common.{arith, inl, inr, append_assoc, Option, Some, None, ◌==◌, ℤ, not, codes, decimal, IfSome, flat_map, eqb-true}
+use Rattle.std.specs.List.{AllByRecursion, list_all}
 use Rattle.std.specs.Fmt.{signed_decimal}
 use Rattle.std.specs.Str.Parse.{AllDigits, IsNumeral}
-use Rattle.std.proofs.lemmas.Bool.{cases_Bool, and_parts, and_from, or_cases, eqb-true, false≢true}
+use Rattle.std.proofs.lemmas.Bool.{cases_Bool, and_parts, and_from, or_cases, false≢true}
 use Rattle.std.proofs.lemmas.Grind.{common_steps}
 use Rattle.std.proofs.lemmas.Fmt.{decimal_is_IsNumeral}
 use Rattle.std.proofs.lemmas.Str.Parse.{digit_from_value}
 use Rattle.std.proofs.lemmas.List.Folds.{list_all-append}
-use Rattle.lp_split.specs.declared.split.resumed.Part.TheVariants.{Head, Plain, Quoted}
-use Rattle.lp_split.proofs.lemmas.split.SplitWalk.{Plain-equals}
-use Rattle.lp_split.proofs.lemmas.split.SplitWalk.{Plain-comma, Plain-opens, Plain-other, Quoted-closes, Quoted-other}
-use Rattle.lp_format.specs.format.Dialects.{Dialect}
-use Rattle.lp_format.specs.format.Bytes.{backslash, is_one_of, newline, quote}
-use Rattle.lp_format.specs.format.Escapes.{escaped}
-use Rattle.lp_format.specs.format.Names.{a_measurement, a_tag_key, a_tag_value, a_field_key}
-use Rattle.lp_format.specs.format.Values.{Value, integer, unsigned, float, string, boolean, quotable, fits_i64, IsSigned}
-use Rattle.lp_format.specs.format.Values.{IsMarked, IsFloat}
-use Rattle.lp_format.specs.format.Points.{Point, IsPoint, Tag, Field, IsValue, is_admitted_tag, is_admitted_field}
-use Rattle.lp_format.specs.format.Points.{is_admitted_point, line_of, built_tag, built_field, built_fields, built_timestamp}
-use Rattle.lp_format.specs.format.Points.{built_value, spelling, is_admitted_name}
-use Rattle.lp_format.specs.format.Pieces.{IsCutPiece, begins_comment}
+use Rattle.lp_split.specs.code.{Head, Plain, Quoted}
+use Rattle.lp_split.proofs.lemmas.split.SplitWalk.{Plain-equals, Plain-comma, Plain-opens, Plain-other, Quoted-closes, Quoted-other}
+use Rattle.lp_format.specs.format.{Dialect, backslash, is_one_of, newline, quote, escaped, a_measurement, a_tag_key, a_tag_value}
+use Rattle.lp_format.specs.format.{a_field_key, Value, integer, unsigned, float, string, boolean, quotable, fits_i64, IsSigned, IsMarked}
+use Rattle.lp_format.specs.format.{IsFloat, Point, IsPoint, Tag, Field, IsValue, is_admitted_tag, is_admitted_field, is_admitted_point}
+use Rattle.lp_format.specs.format.{line_of, built_tag, built_field, built_fields, built_timestamp, built_value, spelling, is_admitted_name}
+use Rattle.lp_format.specs.format.{IsCutPiece, begins_comment}
 use Rattle.lp_format.proofs.lemmas.values.ValueLemmas.{fits_from_test}
-use Rattle.lp_lines.proofs.lemmas.names.Spellings.{Leads, leads_by_none, leads_then, turns, reaches_gap, reaches_other, Reaches, reaches_start, ChangesNothing, reaches_byte, reaches_pair, admitted_spelled}
+use Rattle.lp_lines.proofs.lemmas.names.Spellings.{Leads, leads_by_none, leads_then, turns, reaches_gap, reaches_other, Reaches}
+use Rattle.lp_lines.proofs.lemmas.names.Spellings.{reaches_start, ChangesNothing, reaches_byte, reaches_pair, admitted_spelled}
 use Rattle.lp_lines.proofs.lemmas.names.Spellings.{measurement_begins, reaches_name, reaches_field_key, BeginsLine, line_no_comment}
+use Rattle.lp_format.specs.format.Bytes.{comma, equals, letter_i, letter_u, space}
 
 -- a byte that means nothing in a plain stretch
 abbrev is_simple : ℕ → Bool
-is_simple b = not (is_one_of (backslash ∷ 61 ∷ 44 ∷ newline ∷ quote ∷ []) b)
+is_simple b = not (is_one_of (backslash ∷ equals ∷ comma ∷ newline ∷ quote ∷ []) b)
 
 -- such a byte changes nothing
 simple_same : (e c b : ℕ) → is_simple b ≡ true → ChangesNothing Plain e c b
 simple_same e c b simple =
     let differs : (k : ℕ) → is_simple k ≡ false → b ≢ k = λ k no i. cc (simple, no, ap is_simple i) in (
       differs backslash refl,
-      λ q f h. Plain-other e c q b f (differs 61 refl) (differs 44 refl) (differs 10 refl) (λ i. absurd (differs quote refl i)) h,
+      λ q f h. Plain-other e c q b f (differs equals refl) (differs comma refl) (differs newline refl) (λ i. absurd (differs quote refl i)) h,
     )
 
 abbrev pub IsSimple : List ℕ → Type 0
@@ -90,12 +85,11 @@ simple_sign signs ds of never = grind (arith, and_from, simple_one, simple_digit
 -- a mark and a part, or nothing
 simple_mark : (marks : List ℕ) (Part : List ℕ → Type 0) (text : List ℕ) → IsSimple marks
     → ((x : List ℕ) → Part x → IsSimple x) → IsMarked marks Part text → IsSimple text
-simple_mark marks art x of part marked = grind (arith, and_from, simple_one)
+simple_mark marks p x of part marked = grind (arith, and_from, simple_one)
 
 -- and floats
 simple_float : (t : List ℕ) → IsFloat t → IsSimple t
-simple_float t parts =
-    subst IsSimple (sym parts.3)
+simple_float t parts = subst IsSimple (sym parts.3)
     (IsSimple-append parts.0 (parts.1 ++ parts.2) (simple_sign (codes "-") parts.0 refl parts.4)
     (IsSimple-append parts.1 parts.2
     (simple_mark (codes ".") (IsNumeral 10) parts.1 refl (λ x numeral. simple_digits x numeral.1) parts.5)
@@ -106,13 +100,12 @@ simple_float t parts =
 reaches_quotable : (e c : ℕ) (s : List ℕ) → Leads (Reaches Quoted e c) (Reaches Quoted e c) (escaped quotable s)
 unfolding escaped
 reaches_quotable e c [] = leads_by_none (Reaches Quoted e c)
-reaches_quotable e c (b ∷ s) =
-    elim (cases_Bool (is_one_of quotable b)) [
-      | inl found ↦ rw found
-          (leads_then (Reaches Quoted e c) (backslash ∷ b ∷ []) (escaped quotable s) (reaches_pair Quoted e c b) (reaches_quotable e c s))
-      | inr plain ↦ rw plain
-          (leads_then (Reaches Quoted e c) (b ∷ []) (escaped quotable s) (reaches_byte Quoted e c b (same plain)) (reaches_quotable e c s))
-    ]
+reaches_quotable e c (b ∷ s) = elim (cases_Bool (is_one_of quotable b)) [
+  | inl found ↦ rw found
+      (leads_then (Reaches Quoted e c) (backslash ∷ b ∷ []) (escaped quotable s) (reaches_pair Quoted e c b) (reaches_quotable e c s))
+  | inr plain ↦ rw plain
+      (leads_then (Reaches Quoted e c) (b ∷ []) (escaped quotable s) (reaches_byte Quoted e c b (same plain)) (reaches_quotable e c s))
+]
   where
     -- a byte that a string does not escape changes nothing in it
     same : is_one_of quotable b ≡ false → ChangesNothing Quoted e c b
@@ -123,8 +116,7 @@ reaches_quotable e c (b ∷ s) =
 
 -- a string opens after an `=`, and closes
 reaches_string : (m : ℕ) (s : List ℕ) → Leads (Reaches Plain (m + 1) m) (Reaches Plain (m + 1) m) (built_value (string s))
-reaches_string m s =
-    leads_then (Reaches Plain (m + 1) m) (quote ∷ []) _
+reaches_string m s = leads_then (Reaches Plain (m + 1) m) (quote ∷ []) _
     (turns Plain (m + 1) m Quoted (m + 1) m quote (omega arith) (λ q f h. Plain-opens (m + 1) m q f (omega arith) h))
     (leads_then (Reaches Plain (m + 1) m) (escaped quotable s) _ (reaches_quotable (m + 1) m s)
     (turns Quoted (m + 1) m Plain (m + 1) m quote (omega arith) (Quoted-closes (m + 1) m)))
@@ -133,9 +125,9 @@ reaches_string m s =
 reaches_value : (m : ℕ) (v : Value (List ℕ)) (piece : List ℕ) → IsValue v → Reaches Plain (m + 1) m piece
     → Reaches Plain (m + 1) m (piece ++ built_value v)
 reaches_value m (integer z) piece fits r =
-    reaches_simple (m + 1) m (built_value (integer z)) piece (IsSimple-append (signed_decimal z) (105 ∷ []) (simple_signed z fits) refl) r
+    reaches_simple (m + 1) m (built_value (integer z)) piece (IsSimple-append (signed_decimal z) (letter_i ∷ []) (simple_signed z fits) refl) r
 reaches_value m (unsigned n) piece fits r =
-    reaches_simple (m + 1) m (built_value (unsigned n)) piece (IsSimple-append (decimal n) (117 ∷ []) (simple_decimal n fits) refl) r
+    reaches_simple (m + 1) m (built_value (unsigned n)) piece (IsSimple-append (decimal n) (letter_u ∷ []) (simple_decimal n fits) refl) r
 reaches_value m (float t) piece ok r = reaches_simple (m + 1) m t piece (simple_float t ok) r
 reaches_value m (string s) piece ok r = reaches_string m s piece r
 reaches_value m (boolean true) piece ok r = reaches_simple (m + 1) m (codes "true") piece refl r
@@ -152,7 +144,7 @@ pub reaches_field : (m : ℕ) (f : Field) (piece : List ℕ) → AdmittedField f
     → Reaches Plain (m + 1) m (piece ++ built_field f)
 reaches_field m f piece ok r =
     leads_then (Reaches Plain (m + 1) m) (spelling a_field_key f.key) _ (reaches_field_key m (admitted_spelled a_field_key f.key ok.0))
-    (leads_then (Reaches Plain (m + 1) m) (61 ∷ []) _ (turns Plain m m Plain (m + 1) m 61 (omega arith) (Plain-equals m m))
+    (leads_then (Reaches Plain (m + 1) m) (equals ∷ []) _ (turns Plain m m Plain (m + 1) m equals (omega arith) (Plain-equals m m))
     (λ q h. reaches_value m f.value q ok.1 h)) piece r
 
 -- the fields after the first
@@ -160,13 +152,12 @@ abbrev pub AfterFields : List ℕ → Type 0
 AfterFields piece = (m : ℕ) × Reaches Plain (m + 1) m piece
 
 -- as many fields after commas as there are
-pub reaches_fields : (fs : List Field) → AllByRecursion AdmittedField fs → Leads AfterFields AfterFields (built_fields 44 fs)
+pub reaches_fields : (fs : List Field) → AllByRecursion AdmittedField fs → Leads AfterFields AfterFields (built_fields comma fs)
 reaches_fields [] all = leads_by_none AfterFields
-reaches_fields (f ∷ fs) all = leads_then AfterFields (44 ∷ built_field f) _
-    (λ q h.
+reaches_fields (f ∷ fs) all = leads_then AfterFields (comma ∷ built_field f) _ (λ q h.
     let m = h.0 + 1 in
-    let comma = turns Plain m h.0 Plain m m 44 (omega arith) (Plain-comma m h.0) in
-    (m, leads_then (Reaches Plain (m + 1) m) (44 ∷ []) _ comma (λ p k. reaches_field m f p all.0 k) q h.1))
+    let turn = turns Plain m h.0 Plain m m comma (omega arith) (Plain-comma m h.0) in
+    (m, leads_then (Reaches Plain (m + 1) m) (comma ∷ []) _ turn (λ p k. reaches_field m f p all.0 k) q h.1))
     (reaches_fields fs all.1)
 
 -- the timestamp
@@ -175,19 +166,18 @@ reaches_timestamp : (t : Option ℤ) (piece : List ℕ) → IfSome t (λ z. fits
 reaches_timestamp None piece ok r = leads_by_none AfterFields piece r
 reaches_timestamp (Some z) piece ok r = (
   r.0,
-  reaches_simple (r.0 + 1) r.0 (32 ∷ signed_decimal z) piece
-      (and_from (is_simple 32) (list_all is_simple (signed_decimal z)) refl (simple_signed z ok)) r.1,
+  reaches_simple (r.0 + 1) r.0 (space ∷ signed_decimal z) piece
+      (and_from (is_simple space) (list_all is_simple (signed_decimal z)) refl (simple_signed z ok)) r.1,
 )
 
 -- the tags
 pub reaches_tags : (ts : List Tag) (piece : List ℕ) → AllByRecursion AdmittedTag ts → Reaches Head 0 0 piece
     → Reaches Head 0 0 (piece ++ flat_map built_tag ts)
 reaches_tags [] piece all r = leads_by_none (Reaches Head 0 0) piece r
-reaches_tags (t ∷ ts) piece all r =
-    leads_then (Reaches Head 0 0) (44 ∷ []) _ (reaches_other 44 (omega arith) (omega arith) (omega arith))
-    (leads_then (Reaches Head 0 0) (spelling a_tag_key t.key ++ 61 ∷ spelling a_tag_value t.value) _
+reaches_tags (t ∷ ts) piece all r = leads_then (Reaches Head 0 0) (comma ∷ []) _ (reaches_other comma (omega arith) (omega arith) (omega arith))
+    (leads_then (Reaches Head 0 0) (spelling a_tag_key t.key ++ equals ∷ spelling a_tag_value t.value) _
     (leads_then (Reaches Head 0 0) (spelling a_tag_key t.key) _ (λ q h. reaches_name a_tag_key t.key q all.0.0 h)
-    (leads_then (Reaches Head 0 0) (61 ∷ []) _ (reaches_other 61 (omega arith) (omega arith) (omega arith))
+    (leads_then (Reaches Head 0 0) (equals ∷ []) _ (reaches_other equals (omega arith) (omega arith) (omega arith))
     (λ q h. reaches_name a_tag_value t.value q all.0.1 h)))
     (λ q h. reaches_tags ts q all.1 h)) piece r
 
@@ -195,18 +185,18 @@ reaches_tags (t ∷ ts) piece all r =
 pub reaches_line : (n : List ℕ) (ts : List Tag) (f : Field) (fs : List Field) (t : Option ℤ)
     → is_admitted_name a_measurement n ≡ true → AllByRecursion AdmittedTag ts → AdmittedField f
     → AllByRecursion AdmittedField fs → IfSome t (λ z. fits_i64 z ≡ true)
-    → AfterFields (spelling a_measurement n ++ (flat_map built_tag ts ++ (built_fields 32 (f ∷ fs) ++ built_timestamp t)))
+    → AfterFields (spelling a_measurement n ++ (flat_map built_tag ts ++ (built_fields space (f ∷ fs) ++ built_timestamp t)))
 reaches_line n ts f fs t named tagged first more stamped =
     leads_then AfterFields (spelling a_measurement n) _ (λ q h. reaches_name a_measurement n q named h)
     (leads_then AfterFields (flat_map built_tag ts) _ (λ q h. reaches_tags ts q tagged h)
-    (leads_then AfterFields (built_fields 32 (f ∷ fs)) _
-    (leads_then AfterFields (32 ∷ []) _ reaches_gap
+    (leads_then AfterFields (built_fields space (f ∷ fs)) _
+    (leads_then AfterFields (space ∷ []) _ reaches_gap
     (leads_then AfterFields (built_field f) _ (λ q h. (0, reaches_field 0 f q first h)) (reaches_fields fs more)))
     (λ q h. reaches_timestamp t q stamped h))) [] reaches_start
 
 -- what a newline may end, in both dialects
 is_cut_piece : (dialect : Dialect) (text : List ℕ) → begins_comment text ≡ false → AfterFields text → IsCutPiece dialect text
-is_cut_piece trict text none r = grind (arith)
+is_cut_piece dialect text none r = grind (arith)
 
 -- what a point is whose line reads back: its names are admitted and it has a field
 pub record IsAdmitted (p : Point) : Type 0 where
@@ -237,9 +227,8 @@ unfolding is_admitted_point
 admitted_point p h ok = grind (arith, and_parts, admitted_tags, admitted_fields)
 
 -- the line of a point, part by part
-pub line_parts : (p : Point)
-    → line_of p ≡ spelling a_measurement p.measurement ++
-    (flat_map built_tag p.tags ++ (built_fields 32 p.fields ++ built_timestamp p.timestamp))
+pub line_parts : (p : Point) → line_of p ≡ spelling a_measurement p.measurement ++
+    (flat_map built_tag p.tags ++ (built_fields space p.fields ++ built_timestamp p.timestamp))
 unfolding line_of
 line_parts p = simp append_assoc
 
@@ -252,10 +241,9 @@ line_is_cut_piece dialect p ok = subst (IsCutPiece dialect) (sym (line_parts p))
     whole : (n : List ℕ) (ts : List Tag) (fs : List Field) (t : Option ℤ)
         → is_admitted_name a_measurement n ≡ true → AllByRecursion AdmittedTag ts → AllByRecursion AdmittedField fs
         → 0 < length fs → IfSome t (λ z. fits_i64 z ≡ true)
-        → IsCutPiece dialect (spelling a_measurement n ++ (flat_map built_tag ts ++ (built_fields 32 fs ++ built_timestamp t)))
+        → IsCutPiece dialect (spelling a_measurement n ++ (flat_map built_tag ts ++ (built_fields space fs ++ built_timestamp t)))
     whole n ts [] t named tagged fielded some stamped = absurd (omega arith)
-    whole n ts (f ∷ fs) t named tagged fielded some stamped =
-        is_cut_piece dialect _ (line_no_comment _ (measurement_begins n _ named))
+    whole n ts (f ∷ fs) t named tagged fielded some stamped = is_cut_piece dialect _ (line_no_comment _ (measurement_begins n _ named))
         (reaches_line n ts f fs t named tagged fielded.0 fielded.1 stamped)
 
 -- the line of an admitted point begins with no blank, no newline and no `#`

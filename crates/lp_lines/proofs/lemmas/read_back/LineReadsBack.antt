@@ -1,46 +1,42 @@
 -- Values, tags, fields, timestamps and lines read back as they were written.
 use Rattle.std.proofs.Common.{◌≡◌, ℕ, ◌+◌, ◌^◌, ◌<◌, List, [], ◌∷◌, ◌++◌, length, take, drop, slice_index, Bool, true, false, refl, sym, ap}
-use Rattle.std.proofs.Common.{◌∙◌, arith, inl, inr, zero, suc, ◌≤◌, map, Ok, Option, Some, None, ◌-◌}
-use Rattle.std.specs.Prelude.{◌==◌, ℤ, decimal, nat_lt, codes, IfSome}
+use Rattle.std.proofs.Common.{◌∙◌, arith, inl, inr, zero, suc, ◌≤◌, map, Ok, Option, Some, None, ◌-◌, ◌==◌, ℤ, decimal, nat_lt, codes}
+use Rattle.std.proofs.Common.{IfSome, ne_eqb, lt-ltb, append_assoc, take_at, drop_at, length-append, drop-drop, append-nil, take_all}
+use Rattle.std.proofs.Common.{flat_map}
 use Rattle.std.specs.Fmt.{signed_decimal}
-use Rattle.std.proofs.lemmas.Bool.{cases_Bool, and_right, ne_eqb, lt-ltb}
+use Rattle.std.proofs.lemmas.Bool.{cases_Bool, and_right}
 use Rattle.std.proofs.lemmas.Fmt.{decimal_is_IsNumeral}
 use Rattle.std.proofs.lemmas.Grind.{common_steps}
-use Rattle.std.proofs.lemmas.List.{append_assoc, take_at, drop_at, get_or_at, length-append, drop-drop, append-nil, take_all, drop_all}
-use Rattle.std.specs.List.{AllByRecursion, flat_map}
+use Rattle.std.proofs.lemmas.List.{get_or_at, drop_all}
+use Rattle.std.specs.List.{AllByRecursion}
 use Rattle.std.proofs.Math.Seq.{take-append_seam}
-use Rattle.lp_format.specs.format.Bytes.{backslash, is_one_of, quote, comma, equals, space}
-use Rattle.lp_format.specs.format.Readings.{Reading, reads, Text, miss}
-use Rattle.lp_format.specs.format.Points.{IsValue, built_value, Pair, Tag, Field, built_tag, built_field, built_fields, built_timestamp}
-use Rattle.lp_format.specs.format.Points.{spelling, Point, line_of, is_admitted_name}
-use Rattle.lp_format.specs.format.Escapes.{escaped}
-use Rattle.lp_format.specs.format.Values.{Value, value, integer, unsigned, string, boolean, integer_at, unsigned_at, float_at}
-use Rattle.lp_format.specs.format.Values.{string_at, boolean_at, body_len, digits_len, integer_len, fits_i64, quotable}
+use Rattle.lp_format.specs.format.{backslash, is_one_of, quote, comma, equals, space, Reading, reads, Text, miss, IsValue, built_value}
+use Rattle.lp_format.specs.format.{Pair, Tag, Field, built_tag, built_field, built_fields, built_timestamp, spelling, Point, line_of}
+use Rattle.lp_format.specs.format.{is_admitted_name, escaped, Value, value, integer, unsigned, string, boolean, integer_at, unsigned_at}
+use Rattle.lp_format.specs.format.{float_at, string_at, boolean_at, body_len, digits_len, integer_len, fits_i64, quotable, Dialect}
+use Rattle.lp_format.specs.format.{a_tag_key, a_tag_value, a_field_key, is_stop, a_measurement, name, byte, tag, field, after_comma, many}
+use Rattle.lp_format.specs.format.{tag_set, field_set, timestamp, without_comma, answer, front_before, separated_list, spaces}
 use Rattle.lp_format.proofs.lemmas.read_back.NameReadsBack.{read_value, read_tag, read_tags, read_field, read_line, admitted_parts}
 use Rattle.lp_format.proofs.lemmas.read_back.NameReadsBack.{read_name}
 use Rattle.lp_format.proofs.lemmas.values.ValueLemmas.{integer_unmarked}
 use Rattle.lp_format.proofs.lemmas.literals.FloatLemmas.{Ends, float_reads_back, digits_before}
 use Rattle.lp_format.proofs.lemmas.read_back.IntegerReadsBack.{unsigned_len, integer_reads_back, integer_written}
-use Rattle.lp_format.specs.format.Dialects.{Dialect}
-use Rattle.lp_format.specs.format.Names.{a_tag_key, a_tag_value, a_field_key, is_stop, a_measurement, name}
-use Rattle.lp_format.specs.format.Lines.{byte, tag, field, after_comma, many, tag_set, field_set, timestamp, without_comma, answer}
-use Rattle.lp_format.specs.format.Lines.{front_before, separated_list, spaces}
 use Rattle.lp_split.proofs.lemmas.split.ScanLemmas.{bare_len, first_bare_len}
 use Rattle.lp_lines.proofs.lemmas.names.Spellings.{name_reads_back, admitted_spelled, spelled_spaces}
 use Rattle.lp_lines.proofs.lemmas.read_back.LinePieces.{AdmittedTag, AdmittedField, IsAdmitted, line_parts}
+use Rattle.lp_format.specs.format.Bytes.{letter_u}
 
 -- the body of a string ends at the quote after it
 body_ends : (s rest : List ℕ) → bare_len (λ b. b == quote) false (escaped quotable s ++ quote ∷ rest) ≡ length (escaped quotable s)
 unfolding escaped
 body_ends [] rest = refl
-body_ends (b ∷ s) rest =
-    elim (cases_Bool (is_one_of quotable b)) [
-      | inl found ↦ rw (found, and_right (b == quote) false refl, body_ends s rest) refl
-      | inr plain ↦
-          let no_quote : (b == quote) ≡ false = grind (arith, common_steps) in
-          let no_backslash : (b == backslash) ≡ false = grind (arith, common_steps) in
-          rw (plain, no_quote, no_backslash, body_ends s rest) refl
-    ]
+body_ends (b ∷ s) rest = elim (cases_Bool (is_one_of quotable b)) [
+  | inl found ↦ rw (found, and_right (b == quote) false refl, body_ends s rest) refl
+  | inr plain ↦
+      let no_quote : (b == quote) ≡ false = grind (arith, common_steps) in
+      let no_backslash : (b == backslash) ≡ false = grind (arith, common_steps) in
+      rw (plain, no_quote, no_backslash, body_ends s rest) refl
+]
 
 -- a string reads back
 pub string_reads_back : (s rest : List ℕ) → string_at (quote ∷ (escaped quotable s ++ quote ∷ rest)) ≡ reads (read_value (string s)) rest
@@ -61,18 +57,17 @@ unsigned_reads_back : (n : ℕ) (rest : List ℕ) → n < 2 ^ 64 → value (buil
 unfolding value unsigned_at
 unsigned_reads_back n rest fits =
     let written = decimal_is_IsNumeral n fits in
-    let text = decimal n ++ 117 ∷ rest in
-    let whole : built_value (unsigned n) ++ rest ≡ text = append_assoc (decimal n) (codes "u") rest in
-    let len : integer_len text ≡ length (decimal n) = unsigned_len (decimal n) (117 ∷ rest) written.0 refl in
-    let digits : digits_len text ≡ length (decimal n) = omega (arith, digits_before (decimal n) (117 ∷ rest) written.0.1) in
-    let mark : slice_index text (length (decimal n)) ≡ 117 = get_or_at (decimal n) 117 rest 0 (length (decimal n)) refl in
+    let text = decimal n ++ letter_u ∷ rest in
+    let len : integer_len text ≡ length (decimal n) = unsigned_len (decimal n) (letter_u ∷ rest) written.0 refl in
+    let digits : digits_len text ≡ length (decimal n) = omega (arith, digits_before (decimal n) (letter_u ∷ rest) written.0.1) in
+    let mark : slice_index text (length (decimal n)) ≡ letter_u = get_or_at (decimal n) letter_u rest 0 (length (decimal n)) refl in
     let no_integer = integer_unmarked text (rw (len, mark) (λ e. absurd (omega arith))) in
     let some : (length (decimal n) == 0) ≡ false = ne_eqb _ 0 (λ e. absurd (omega (arith, written.0.0))) in
-    let front : take (length (decimal n)) text ≡ decimal n = take_at (decimal n) (117 ∷ rest) _ refl in
-    let after : drop (length (decimal n)) text ≡ 117 ∷ rest = drop_at (decimal n) (117 ∷ rest) _ refl in
+    let front : take (length (decimal n)) text ≡ decimal n = take_at (decimal n) (letter_u ∷ rest) _ refl in
+    let after : drop (length (decimal n)) text ≡ letter_u ∷ rest = drop_at (decimal n) (letter_u ∷ rest) _ refl in
     let last : drop (length (decimal n) + 1) text ≡ rest = sym (drop-drop 1 (length (decimal n)) text)
     ∙ ap (λ (xs : List ℕ). drop 1 xs) after in
-    rw (whole, no_integer, digits, some, mark, front, written.1, lt-ltb n (2 ^ 64) fits, last) refl
+    rw ((append_assoc (decimal n) (codes "u") rest), no_integer, digits, some, mark, front, written.1, lt-ltb n (2 ^ 64) fits, last) refl
 
 -- the first case of a value
 integer_value_reads : (z : ℤ) (rest : List ℕ) → fits_i64 z ≡ true → value (built_value (integer z) ++ rest) ≡ reads (integer z) rest
@@ -107,7 +102,7 @@ tag_reads_back t rest stop ok ends = grind (arith, append_assoc, name_reads_back
 -- a tag before the others, or before the fields
 tag_before : (t : Tag) (ts : List Tag) (rest : List ℕ) → AdmittedTag t
     → tag (tag_text t ++ (flat_map built_tag ts ++ space ∷ rest)) ≡ reads (read_tag t) (flat_map built_tag ts ++ space ∷ rest)
-tag_before t [] rest ok = tag_reads_back t rest 32 ok refl
+tag_before t [] rest ok = tag_reads_back t rest space ok refl
 tag_before t (u ∷ us) rest ok = grind (arith, append_assoc, tag_reads_back)
 
 module _ {X Y : Type 0} (one : List ℕ → Reading Y) (text : X → List ℕ) (read : X → Y) (Admitted : X → Type 0) (after : List X → List ℕ)
@@ -153,7 +148,7 @@ fields_end (f ∷ fs) rest ends = refl
 -- no comma is taken before a timestamp or at the end
 no_comma : (dialect : Dialect) (fs : List (Pair Text (Value Text))) (t : Option ℤ)
     → without_comma dialect fs (built_timestamp t) ≡ built_timestamp t
-no_comma trict fs t = grind (arith)
+no_comma dialect fs t = grind (arith)
 
 -- what ends the fields of a built line is no comma
 timestamp_ends : (dialect : Dialect) (fs : List (Pair Text (Value Text))) (t : Option ℤ)
@@ -180,11 +175,10 @@ timestamp_reads_back None ok = refl
 timestamp_reads_back (Some z) ok =
     let written = integer_written z ok in
     let number = signed_decimal z in
-    let len : integer_len number ≡ length number = rw append-nil at (written.len [] refl) in
     let some : (length number == 0) ≡ false = ne_eqb (length number) 0 (λ e. absurd (omega (arith, written.some))) in
     rw (
       written.no_space,
-      len,
+      (rw append-nil at (written.len [] refl)),
       some,
       take_all (length number) number (omega arith),
       drop_all (length number) number (omega arith),
@@ -202,7 +196,7 @@ front_is line front rest e =
 pub measurement_reads_back : (m : List ℕ) (ts : List Tag) (rest : List ℕ) → is_admitted_name a_measurement m ≡ true
     → name a_measurement (spelling a_measurement m ++ (flat_map built_tag ts ++ space ∷ rest)) ≡ reads
     (read_name a_measurement m) (flat_map built_tag ts ++ space ∷ rest)
-measurement_reads_back m [] rest ok = name_reads_back a_measurement m rest 32 ok refl
+measurement_reads_back m [] rest ok = name_reads_back a_measurement m rest space ok refl
 measurement_reads_back m (t ∷ ts) rest ok = grind (arith, append_assoc, name_reads_back)
 
 -- the parts of a line make its answer
@@ -221,15 +215,14 @@ answer_from_parts dialect line front after tagged end m ts fs t named tags serie
 
 -- the line of each admitted point reads back as the point
 pub line_reads_back : (dialect : Dialect) (p : Point) → IsAdmitted p → answer dialect (line_of p) ≡ Ok (read_line p)
-line_reads_back dialect p ok =
-    ap (answer dialect) (line_parts p)
+line_reads_back dialect p ok = ap (answer dialect) (line_parts p)
     ∙ parts_read_back p.measurement p.tags p.fields p.timestamp ok.measurement ok.tags ok.fields ok.some_field ok.timestamp
   where
     -- the parts of an admitted point read back from its line
     parts_read_back : (m : List ℕ) (ts : List Tag) (fs : List Field) (t : Option ℤ)
         → is_admitted_name a_measurement m ≡ true → AllByRecursion AdmittedTag ts → AllByRecursion AdmittedField fs
         → 0 < length fs → IfSome t (λ z. fits_i64 z ≡ true)
-        → answer dialect (spelling a_measurement m ++ (flat_map built_tag ts ++ (built_fields 32 fs ++ built_timestamp t)))
+        → answer dialect (spelling a_measurement m ++ (flat_map built_tag ts ++ (built_fields space fs ++ built_timestamp t)))
         ≡ Ok (read_line (record { measurement = m; tags = ts; fields = fs; timestamp = t }))
     parts_read_back m ts [] t named tagged fielded some stamped = absurd (omega arith)
     parts_read_back m ts (f ∷ fs) t named tagged fielded some stamped =
@@ -237,7 +230,7 @@ line_reads_back dialect p ok =
         let front = spelling a_measurement m ++ flat_map built_tag ts in
         let line = spelling a_measurement m ++ (flat_map built_tag ts ++ space ∷ after) in
         let regrouped : spelling a_measurement m ++
-        (flat_map built_tag ts ++ (built_fields 32 (f ∷ fs) ++ built_timestamp t)) ≡ line = simp append_assoc in
+        (flat_map built_tag ts ++ (built_fields space (f ∷ fs) ++ built_timestamp t)) ≡ line = simp append_assoc in
         ap (answer dialect) regrouped
         ∙ answer_from_parts dialect line front after (flat_map built_tag ts ++ space ∷ after) (built_timestamp t)
         (read_name a_measurement m) (read_tags ts) (map read_field (f ∷ fs)) t

@@ -1,27 +1,21 @@
 -- Bases: keys that rise, the first repeated key, and tags by their keys.
 use Rattle.std.proofs.Common.{◌≡◌, ℕ, suc, zero, ◌+◌, ◌<◌, ◌≤◌, Bool, true, false, not, cond, ◌&&◌, ◌||◌, List, [], ◌∷◌, length, take, drop}
-use Rattle.std.proofs.Common.{get_or, map, Some, Option, refl, ap, sym, ◌∙◌, arith, zero-add}
-use Rattle.std.specs.Borrow.{Bor}
-use Rattle.std.specs.declared.cmp.Ordering.{Ordering}
-use Rattle.std.specs.BTreeMap.{BTreeMap, UpdatesBy, get_by, insert_entry}
+use Rattle.std.proofs.Common.{get_or, map, Some, Option, refl, ap, sym, ◌∙◌, arith, zero-add, length-drop, Bor, Ordering, BTreeMap, is_some}
+use Rattle.std.proofs.Common.{is_lt, is_ge, nat_cmp, bytes_eq}
+use Rattle.std.specs.BTreeMap.{UpdatesBy, get_by, insert_entry}
 use Rattle.std.specs.Cmp.Lexicographic.{slice_cmp, nat_list_eq_equiv}
 use Rattle.std.specs.List.{list_all, list_any, range_with_len}
-use Rattle.std.specs.Option.{is_some}
-use Rattle.std.specs.Ordering.{is_lt, is_ge, match_ordering, nat_cmp}
-use Rattle.std.specs.Str.{bytes_eq}
-use Rattle.std.proofs.Common.{length-drop}
+use Rattle.std.specs.Ordering.{match_ordering}
 use Rattle.std.proofs.lemmas.List.{map_more, length-map}
 use Rattle.std.proofs.lemmas.List.Folds.{list_all-map, list_any_more}
 use Rattle.std.proofs.lemmas.List.FromFn.{length-range_with_len, get_or-range_with_len}
 use Rattle.std.proofs.lemmas.List.Sums.{fold_push, position_or_len_is}
 use Rattle.std.proofs.lemmas.Map.Text.{btree_map_updates_str}
 use Rattle.lp_values.specs.declared.escaped.EscapedStr.{EscapedStr}
-use Rattle.lp_lines.specs.code.Bases.{by_key, entry_bytes, first_repeated, is_repeated_at}
-use Rattle.lp_lines.specs.code.Bases.{is_ambiguous_tag, keys_of, is_strictly_sorted}
+use Rattle.lp_lines.specs.code.Bases.{by_key, entry_bytes, first_repeated, is_repeated_at, is_ambiguous_tag, keys_of, is_strictly_sorted}
 use Rattle.lp_format.specs.code.Light.{is_single_tag}
 use Rattle.lp_lines.specs.code.Parsed.{tag_of}
-use Rattle.lp_format.specs.format.Points.{Pair}
-use Rattle.lp_format.specs.format.Readings.{Text}
+use Rattle.lp_format.specs.format.{Pair, Text}
 use Rattle.lp_values.specs.code.Texts.{text_of}
 
 -- keys that rise from a place on
@@ -38,10 +32,6 @@ short_rises : (keys : List (List ℕ)) → length keys ≤ 1 → is_strictly_sor
 short_rises [] h = refl
 short_rises (k ∷ []) h = refl
 short_rises (k ∷ l ∷ keys) h = absurd (omega arith)
-
--- a test that fails is not passed
-lt_from_ge : (o : Ordering) (b : Bool) → is_ge o ≡ b → is_lt o ≡ not b
-lt_from_ge reater b h = grind (arith)
 
 -- the key of a tag
 pub key_at : (tags : List (EscapedStr × EscapedStr)) (i : ℕ) (d : EscapedStr × EscapedStr) → i < length tags
@@ -63,7 +53,7 @@ length_keys tags = length-map (map tag_of tags) _ ∙ length-map tags tag_of
 pub rise_at : (tags : List (EscapedStr × EscapedStr)) (i at : ℕ) (d e : EscapedStr × EscapedStr) (b : Bool) → suc i ≡ at → at < length tags
     → b ≡ is_ge (slice_cmp nat_cmp (text_of (get_or tags i d).0) (text_of (get_or tags at e).0))
     → is_strictly_sorted (drop i (keys_of (map tag_of tags))) ≡ (not b && is_strictly_sorted (drop at (keys_of (map tag_of tags))))
-rise_at tags i at d e b next within test = grind (arith, lt_from_ge, rise_from, length_keys, key_at)
+rise_at tags i at d e b next within test = grind (arith, rise_from, length_keys, key_at)
 
 -- at the end
 pub rise_end : (tags : List (EscapedStr × EscapedStr)) (i : ℕ) → length tags ≤ suc i
@@ -71,8 +61,7 @@ pub rise_end : (tags : List (EscapedStr × EscapedStr)) (i : ℕ) → length tag
 rise_end tags i h = grind (arith, short_rises, length-drop, length_keys)
 
 -- what fixes the first repeated key
-pub first_repeated_is : (keys : List (List ℕ)) (n : ℕ) → n ≤ length keys
-    → ((k : ℕ) → k < n → is_repeated_at keys k ≡ false)
+pub first_repeated_is : (keys : List (List ℕ)) (n : ℕ) → n ≤ length keys → ((k : ℕ) → k < n → is_repeated_at keys k ≡ false)
     → (n < length keys → is_repeated_at keys n ≡ true)
     → first_repeated keys ≡ n
 unfolding first_repeated
@@ -85,7 +74,7 @@ first_repeated_is keys n fits none found =
 -- the bytes of what goes in at an order
 bytes_at : (o : Ordering) (a b c : List (Bor (List ℕ) × Bor (List ℕ)))
     → map entry_bytes (match_ordering o a b c) ≡ match_ordering o (map entry_bytes a) (map entry_bytes b) (map entry_bytes c)
-bytes_at reater a b c = grind (arith)
+bytes_at o a b c = grind (arith)
 
 -- an entry goes in by the bytes of its key
 pub insert_bytes : (es : List (Bor (List ℕ) × Bor (List ℕ))) (k v : Bor (List ℕ))
@@ -94,7 +83,7 @@ pub insert_bytes : (es : List (Bor (List ℕ) × Bor (List ℕ))) (k v : Bor (Li
 insert_bytes [] k v = refl
 insert_bytes (e ∷ es) k v = rw (bytes_at (slice_cmp nat_cmp k.now e.0.now) _ _ _, insert_bytes es k v) refl
 
--- the map has a key exactly where it was among the keys so far: one key more
+-- the map has a key if and only if it was among the keys so far: one key more
 some_or : (b : Bool) (o : Option (Bor (List ℕ))) (v : Bor (List ℕ)) (a : Bool) → is_some o ≡ a → is_some (cond b (Some v) o) ≡ (a || b)
 some_or x0 o v x3 h = grind (arith)
 
@@ -104,13 +93,12 @@ pub has_more : (m n : BTreeMap (Bor (List ℕ)) (Bor (List ℕ))) (k v : Bor (Li
     → UpdatesBy (λ x y. slice_cmp nat_cmp x.now y.now) (λ x. slice_cmp nat_cmp k.now x.now) m n (Some v)
     → ((q : List ℕ) → is_some (get_by (λ x. slice_cmp nat_cmp q x.now) m) ≡ list_any (bytes_eq q) (take i keys))
     → (q : List ℕ) → is_some (get_by (λ x. slice_cmp nat_cmp q x.now) n) ≡ list_any (bytes_eq q) (take (i + 1) keys)
-has_more m n k v keys i within is updates has q =
-    rw (
-      btree_map_updates_str k.now m n (Some v) updates q,
-      list_any_more (bytes_eq q) keys i [] within,
-      ← is,
-      nat_list_eq_equiv.symm q k.now,
-    )
+has_more m n k v keys i within is updates has q = rw (
+  btree_map_updates_str k.now m n (Some v) updates q,
+  list_any_more (bytes_eq q) keys i [] within,
+  ← is,
+  nat_list_eq_equiv.symm q k.now,
+)
     (some_or (bytes_eq k.now q) _ v _ (has q))
 
 -- no tags
@@ -123,8 +111,7 @@ pub by_key_more : (tags : List (EscapedStr × EscapedStr)) (i : ℕ) (t : Escape
     → by_key (map tag_of (take (i + 1) tags)) ≡ insert_entry (slice_cmp nat_cmp) (by_key (map tag_of (take i tags)))
     (text_of t.0) (text_of t.1)
 unfolding by_key
-by_key_more tags i t within is =
-    rw (map_more tag_of tags i t within, ← is)
+by_key_more tags i t within is = rw (map_more tag_of tags i t within, ← is)
     (fold_push (λ (entries : List (List ℕ × List ℕ)) (t : Pair Text Text). insert_entry (slice_cmp nat_cmp) entries
     t.key.bytes t.value.bytes) [] (map tag_of (take i tags)) (tag_of t))
 

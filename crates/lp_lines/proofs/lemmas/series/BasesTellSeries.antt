@@ -1,39 +1,25 @@
 -- Bases tell parsed series from one another.
-use Rattle.std.proofs.Common.{◌≡◌, ℕ, zero, suc, ◌+◌, true, false, List, [], ◌∷◌, ◌++◌, ◌&&◌, length, drop, refl, sym, ap, ◌∙◌}
-use Rattle.std.proofs.Common.{inl, inr, append_assoc, add-one, Some}
-use Rattle.std.specs.List.{flat_map, list_all, list_any}
-use Rattle.std.specs.Option.{is_some}
-use Rattle.std.proofs.lemmas.Bool.{and_parts, cases_Bool, eq-eqb, false≢true, not-true, or_cases, or_parts}
-use Rattle.std.proofs.lemmas.List.{take-append-drop}
-use Rattle.lp_lines.specs.laws.BaseLaws.{IsClearSeries, IsParsedSeries, ClearSeriesHaveBases, SameSeriesHaveOneBase}
-use Rattle.lp_lines.specs.laws.BaseLaws.{base_bytes, is_tag_one_escape, spelled_tags}
-use Rattle.lp_lines.specs.code.Bases.{base_by_key, base_of, base_text, based_tag, by_key, first_repeated, in_order}
-use Rattle.lp_lines.specs.code.Bases.{keys_of, is_strictly_sorted}
+use Rattle.std.proofs.Common.{◌≡◌, ℕ, zero, suc, ◌+◌, true, false, List, [], ◌∷◌, ◌++◌, ◌&&◌, length, drop, refl, sym, ap, ◌∙◌, inl, inr}
+use Rattle.std.proofs.Common.{append_assoc, add-one, Some, arith, flat_map, is_some, eq-eqb, drop-drop, take-append-drop}
+use Rattle.std.specs.List.{list_all, list_any}
+use Rattle.std.proofs.lemmas.Bool.{and_parts, cases_Bool, false≢true, not-true, or_cases, or_parts}
+use Rattle.lp_lines.specs.laws.BaseLaws.{IsClearSeries, IsParsedSeries, ClearSeriesHaveBases, SameSeriesHaveOneBase, base_bytes}
+use Rattle.lp_lines.specs.laws.BaseLaws.{is_tag_one_escape, spelled_tags}
+use Rattle.lp_lines.specs.code.Bases.{base_by_key, base_of, base_text, based_tag, by_key, first_repeated, in_order, keys_of}
+use Rattle.lp_lines.specs.code.Bases.{is_strictly_sorted}
 use Rattle.lp_format.specs.code.Light.{is_single_tag}
-use Rattle.lp_format.specs.format.Bytes.{comma, equals}
-use Rattle.lp_format.specs.format.Escapes.{without_escapes}
-use Rattle.lp_format.specs.format.Lines.{tag}
+use Rattle.lp_format.specs.format.{comma, equals, without_escapes, tag, NameKind, a_measurement, a_tag_key, a_tag_value, escapable}
+use Rattle.lp_format.specs.format.{is_one_escape, is_shared, name, read_text, spelled, spelled_len, Pair, Text, reads}
 use Rattle.lp_format.specs.laws.Meanings.{SeparatedAfterComma}
-use Rattle.lp_format.specs.format.Names.{a_measurement, a_tag_key, a_tag_value, escapable, is_one_escape, is_shared, name}
-use Rattle.lp_format.specs.format.Names.{read_text, spelled, spelled_len}
-use Rattle.lp_format.specs.format.Points.{Pair}
-use Rattle.lp_format.specs.format.Readings.{Text, reads}
 use Rattle.lp_format.proofs.lemmas.names.NameLemmas.{without_escapes_same, no_backslash}
 use Rattle.lp_values.proofs.lemmas.fields.ReadingLemmas.{name_parts, pair_parts}
 use Rattle.lp_events.proofs.lemmas.fields.ManyLemmas.{set_separated}
 use Rattle.lp_lines.proofs.lemmas.series.SortedTags.{by_key_in_order, by_key_same}
-use Rattle.std.proofs.Common.{arith}
 
--- a part of the text that is no escape alone is its own logical text
-single_same : (known text : List ℕ) → is_one_escape known text ≡ false → is_shared known text ≡ true → without_escapes known text ≡ text
-single_same known text apart shared = grind (arith, or_cases, false≢true, without_escapes_same, no_backslash, not-true)
-
--- what is after a byte
-drop_past : (n : ℕ) (text : List ℕ) (b : ℕ) (rest : List ℕ) → drop n text ≡ b ∷ rest → drop (n + 1) text ≡ rest
-drop_past zero [] b rest e = absurd (cc)
-drop_past zero (c ∷ text) b rest e = cc
-drop_past (suc n) [] b rest e = absurd (cc)
-drop_past (suc n) (c ∷ text) b rest e = rw (add-one (suc n)) (rw (add-one n) at (drop_past n text b rest e))
+-- a name that is a part of the text, and no escape alone, is its own logical text
+single_same : (kind : NameKind) (text : List ℕ) (x : Text) → x ≡ read_text (escapable kind) (spelled kind text)
+    → is_one_escape (escapable kind) (spelled kind text) ≡ false → x.is_single ≡ true → x.bytes ≡ spelled kind text
+single_same kind text x is apart single = grind (arith, or_cases, false≢true, without_escapes_same, no_backslash, not-true)
 
 -- the value of a tag and what follows it
 abbrev pub value_part : List ℕ → List ℕ
@@ -54,7 +40,7 @@ tag_parts text x rest e =
     let key = name_parts a_tag_key text x.key (equals ∷ p.mid) p.key in
     let value = name_parts a_tag_value p.mid x.value rest p.value in
     let there : drop (spelled_len a_tag_key text) text ≡ equals ∷ p.mid = sym key.1 in
-    let past : value_part text ≡ p.mid = drop_past (spelled_len a_tag_key text) text equals p.mid there in
+    let past : value_part text ≡ p.mid = sym (drop-drop 1 (spelled_len a_tag_key text) text) ∙ ap (λ (r : List ℕ). drop 1 r) there in
     record {
       key_is = key.0;
       value_is = rw past value.0;
@@ -82,21 +68,14 @@ spells (t ∷ tags) text h apart single =
     (is_one_escape (escapable a_tag_value) (spelled a_tag_value v)) escapes.0 in
     let singles = and_parts (is_single_tag t) (list_all is_single_tag tags) single in
     let both = and_parts t.key.is_single t.value.is_single singles.0 in
-    let key : t.key.bytes ≡ spelled a_tag_key after =
-    ap (λ (x : Text). x.bytes) p.key_is
-    ∙ single_same (escapable a_tag_key) (spelled a_tag_key after) alone.0
-    (ap (λ (x : Text). x.is_single) (sym p.key_is) ∙ both.0) in
-    let value : t.value.bytes ≡ spelled a_tag_value v =
-    ap (λ (x : Text). x.bytes) p.value_is
-    ∙ single_same (escapable a_tag_value) (spelled a_tag_value v) alone.1
-    (ap (λ (x : Text). x.is_single) (sym p.value_is) ∙ both.1) in
+    let value = single_same a_tag_value v t.value p.value_is alone.1 both.1 in
     let more = spells tags h.1 h.4
     (ap (λ (r : List ℕ). list_any is_tag_one_escape (spelled_tags (length tags) r)) p.rest_is ∙ escapes.1) singles.1 in
     let split : v ≡ spelled a_tag_value v ++ h.1 = sym (take-append-drop (spelled_len a_tag_value v) v)
     ∙ ap (λ (r : List ℕ). spelled a_tag_value v ++ r) (sym p.rest_is) in
     one_tag text after (spelled a_tag_key after) v (spelled a_tag_value v) h.1 (flat_map based_tag (in_order tags))
     t.key.bytes t.value.bytes
-    h.2 p.text_is split more key value
+    h.2 p.text_is split more (single_same a_tag_key after t.key p.key_is alone.0 both.0) value
 
 -- the tags of a parsed series come after its measurement
 pub tags_separated : {raw : List ℕ} {m : Text} {tags : List (Pair Text Text)} (h : IsParsedSeries raw m tags)
@@ -112,17 +91,13 @@ raw_is raw m tags h single =
     let singles = and_parts m.is_single (list_all is_single_tag tags) single in
     let apart = or_parts (is_one_escape (escapable a_measurement) (spelled a_measurement raw))
     (list_any is_tag_one_escape (spelled_tags (length tags) (drop (spelled_len a_measurement raw) raw))) h.no_escape_alone in
-    let first : m.bytes ≡ spelled a_measurement raw =
-    ap (λ (x : Text). x.bytes) p.0
-    ∙ single_same (escapable a_measurement) (spelled a_measurement raw) apart.0
-    (ap (λ (x : Text). x.is_single) (sym p.0) ∙ singles.0) in
     let more : h.parsed.after ≡ flat_map based_tag (in_order tags) =
     spells tags h.parsed.after (tags_separated h.parsed)
     (ap (λ (r : List ℕ). list_any is_tag_one_escape (spelled_tags (length tags) r)) p.1 ∙ apart.1) singles.1 in
     let split : raw ≡ spelled a_measurement raw ++ h.parsed.after =
     sym (take-append-drop (spelled_len a_measurement raw) raw) ∙ ap (λ (r : List ℕ). spelled a_measurement raw ++ r) (sym p.1) in
     split ∙ ap (λ (r : List ℕ). spelled a_measurement raw ++ r) more
-    ∙ ap (λ (r : List ℕ). r ++ flat_map based_tag (in_order tags)) (sym first)
+    ∙ ap (λ (r : List ℕ). r ++ flat_map based_tag (in_order tags)) (sym (single_same a_measurement raw m p.0 apart.0 singles.0))
 
 -- the base of a clear series is its measurement and its tags by their keys
 pub base_is : (raw : List ℕ) (m : Text) (tags : List (Pair Text Text)) → IsClearSeries raw m tags

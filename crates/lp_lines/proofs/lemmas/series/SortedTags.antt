@@ -1,24 +1,20 @@
 -- Tags by their keys: one list for each set of tags without a repeated key, which has them in another order.
 use Rattle.std.proofs.Common.{◌≡◌, ℕ, false, List, [], ◌∷◌, ◌++◌, append_assoc, append-nil, sym, ◌∙◌, ◌<◌, true, length, get_or, take, refl}
-use Rattle.std.proofs.Common.{ap, subst, inl, inr, arith, length-append, zero-add}
-use Rattle.std.specs.declared.cmp.Ordering.{Ordering}
-use Rattle.std.specs.declared.cmp.Ordering.TheVariants.{Less, Equal, Greater}
+use Rattle.std.proofs.Common.{ap, subst, inl, inr, arith, length-append, zero-add, Ordering, Less, Equal, Greater, fold, Contains}
+use Rattle.std.proofs.Common.{IsPermutation, is_eq, nat_cmp, is_lt, bytes_eq}
 use Rattle.std.specs.BTreeMap.{insert_entry}
 use Rattle.std.specs.Cmp.Lexicographic.{slice_cmp}
-use Rattle.std.specs.List.{fold, list_any, Contains, range_with_len}
-use Rattle.std.specs.List.Sorted.{IsPermutation}
-use Rattle.std.specs.Ordering.{is_eq, match_ordering, nat_cmp, is_lt, ordering_reverse}
-use Rattle.std.specs.Str.{bytes_eq}
+use Rattle.std.specs.List.{list_any, range_with_len}
+use Rattle.std.specs.Ordering.{match_ordering, ordering_reverse}
 use Rattle.std.proofs.lemmas.List.Sorted.{IsPermutation-refl, IsPermutation-cons, IsPermutation-trans, IsPermutation-middle}
 use Rattle.std.proofs.lemmas.List.Sorted.{IsPermutation-sym, IsPermutation-to_front, list_any-IsPermutation, Contains-permutation}
 use Rattle.std.proofs.lemmas.Map.Text.{is_eq-slice_cmp}
 use Rattle.std.proofs.lemmas.Bool.{false≢true, or_parts, and_parts}
-use Rattle.std.proofs.lemmas.List.{length-map}
+use Rattle.std.proofs.lemmas.List.{length-map, map-append}
 use Rattle.std.proofs.lemmas.Cmp.{nat_list_cmp_total, tied_itself}
 use Rattle.std.proofs.lemmas.List.FromFn.{get_or-range_with_len}
 use Rattle.std.proofs.lemmas.List.Sums.{fails_before_first}
-use Rattle.lp_format.specs.format.Points.{Pair}
-use Rattle.lp_format.specs.format.Readings.{Text}
+use Rattle.lp_format.specs.format.{Pair, Text}
 use Rattle.lp_format.proofs.lemmas.lists.Elements.{first_element, first_or_later, later_element}
 use Rattle.lp_lines.specs.code.Bases.{by_key, in_order, first_repeated, is_repeated_at, keys_of, is_strictly_sorted}
 use Rattle.lp_lines.specs.laws.BaseLaws.{entry_keys}
@@ -28,8 +24,7 @@ at_place : (o : Ordering) (k v : List ℕ) (e : List ℕ × List ℕ) (es rest :
     → IsPermutation ((k, v) ∷ es) rest → IsPermutation ((k, v) ∷ e ∷ es) (match_ordering o ((k, v) ∷ e ∷ es) ((e.0, v) ∷ es) (e ∷ rest))
 at_place Less k v e es rest apart there = IsPermutation-refl ((k, v) ∷ e ∷ es)
 at_place Equal k v e es rest apart there = absurd (false≢true (sym apart))
-at_place Greater k v e es rest apart there =
-    IsPermutation-trans ((k, v) ∷ e ∷ es) (e ∷ (k, v) ∷ es) (e ∷ rest)
+at_place Greater k v e es rest apart there = IsPermutation-trans ((k, v) ∷ e ∷ es) (e ∷ (k, v) ∷ es) (e ∷ rest)
     (IsPermutation-sym (e ∷ (k, v) ∷ es) ((k, v) ∷ e ∷ es) (IsPermutation-middle (e ∷ []) (k, v) es))
     (IsPermutation-cons e ((k, v) ∷ es) rest there)
 
@@ -41,34 +36,6 @@ insert_moves (e ∷ es) k v absent =
     let apart = or_parts (bytes_eq k e.0) (list_any (λ e. bytes_eq k e.0) es) absent in
     at_place (slice_cmp nat_cmp k e.0) k v e es (insert_entry (slice_cmp nat_cmp) es k v)
     (is_eq-slice_cmp k e.0 ∙ apart.0) (insert_moves es k v apart.1)
-
--- no key of the tags after comes before
-abbrev pub AreNew : List (List ℕ × List ℕ) → List (Pair Text Text) → Type 0
-AreNew before [] = Unit {0}
-AreNew before (t ∷ tags) =
-    (list_any (λ e. bytes_eq t.key.bytes e.0) before ≡ false) × AreNew (before ++ (t.key.bytes, t.value.bytes) ∷ []) tags
-
--- tags of new keys go in, in some order
-tags_move : (before es : List (List ℕ × List ℕ)) (tags : List (Pair Text Text)) → IsPermutation before es → AreNew before tags
-    → IsPermutation (before ++ in_order tags)
-    (fold (λ entries t. insert_entry (slice_cmp nat_cmp) entries t.key.bytes t.value.bytes) es tags)
-tags_move before es [] same new = rw (append-nil before) same
-tags_move before es (t ∷ tags) same new =
-    let k = t.key.bytes in
-    let v = t.value.bytes in
-    let absent : list_any (λ e. bytes_eq k e.0) es ≡ false = sym (list_any-IsPermutation (λ e. bytes_eq k e.0) before es same) ∙ new.0 in
-    let one : IsPermutation (before ++ (k, v) ∷ []) (insert_entry (slice_cmp nat_cmp) es k v) =
-    IsPermutation-trans (before ++ (k, v) ∷ []) ((k, v) ∷ es) (insert_entry (slice_cmp nat_cmp) es k v)
-    (IsPermutation-trans (before ++ (k, v) ∷ []) ((k, v) ∷ before) ((k, v) ∷ es)
-    (IsPermutation-to_front before (k, v)) (IsPermutation-cons (k, v) before es same))
-    (insert_moves es k v absent) in
-    rw (← append_assoc before ((k, v) ∷ []) (in_order tags))
-    (tags_move (before ++ (k, v) ∷ []) (insert_entry (slice_cmp nat_cmp) es k v) tags one new.1)
-
--- if no key is repeated, the tags by their keys are the tags, in another order
-pub by_key_moves : (tags : List (Pair Text Text)) → AreNew [] tags → IsPermutation (in_order tags) (by_key tags)
-unfolding by_key
-by_key_moves tags new = tags_move [] [] tags (IsPermutation-refl []) new
 
 -- a key is less than all of these
 abbrev pub IsBelow : List ℕ → List (List ℕ × List ℕ) → Type 0
@@ -88,7 +55,7 @@ below_all k l (e ∷ es) less below = (nat_list_cmp_total.trans k l e.0 less bel
 -- a key that is less than the new key and all of these, is less than all with the new one
 below_placed : (k : List ℕ) (o : Ordering) (a b c : List (List ℕ × List ℕ)) → IsBelow k a → IsBelow k b
     → IsBelow k c → IsBelow k (match_ordering o a b c)
-below_placed k reater a b c x y z = grind (arith)
+below_placed k o a b c x y z = grind (arith)
 
 -- a key below all others is below a new one that it is less than
 below_insert : (k l v : List ℕ) (es : List (List ℕ × List ℕ)) → slice_cmp nat_cmp k l ≡ Less → IsBelow k es
@@ -97,15 +64,11 @@ below_insert k l v [] less below = (less, tt)
 below_insert k l v (e ∷ es) less below =
     below_placed k (slice_cmp nat_cmp l e.0) _ _ _ (less, below) (below.0, below.1) (below.0, below_insert k l v es less below.1)
 
--- the order turned
-turned : (o p : Ordering) → o ≡ ordering_reverse p → p ≡ Greater → o ≡ Less
-turned o p e g = rw g at e
-
 -- entries rise with an entry more, at its place
 rise_placed : (k v : List ℕ) (e : List ℕ × List ℕ) (es : List (List ℕ × List ℕ)) (o : Ordering) → slice_cmp nat_cmp k e.0 ≡ o
     → IsBelow e.0 es → Rise es → Rise (insert_entry (slice_cmp nat_cmp) es k v)
     → Rise (match_ordering o ((k, v) ∷ e ∷ es) ((e.0, v) ∷ es) (e ∷ insert_entry (slice_cmp nat_cmp) es k v))
-rise_placed k v e es reater is below rise more = grind (arith, below_all, below_insert, turned, nat_list_cmp_total)
+rise_placed k v e es o is below rise more = grind (arith, below_all, below_insert, nat_list_cmp_total)
 
 -- if an entry goes in, the keys still rise
 rise_insert : (k v : List ℕ) (es : List (List ℕ × List ℕ)) → Rise es → Rise (insert_entry (slice_cmp nat_cmp) es k v)
@@ -169,19 +132,17 @@ same_elements [] (y ∷ ys) rise up h k = let l = (k y (first_element y ys)).1 i
 same_elements (x ∷ xs) [] rise up h k = let l = (h x (first_element x xs)).1 in absurd (omega arith)
 same_elements (x ∷ xs) (y ∷ ys) rise up h k =
     let same : x ≡ y = same_first x y xs ys rise.0 up.0 h k in
-    let more : xs ≡ ys = same_elements xs ys rise.1 up.1 (within_after x y xs ys same rise.0 h)
-    (within_after y x ys xs (sym same) up.0 k) in
+    let more = same_elements xs ys rise.1 up.1 (within_after x y xs ys same rise.0 h) (within_after y x ys xs (sym same) up.0 k) in
     cc
 
 -- so does any order of it
 pub same_moved : (xs ys : List (List ℕ × List ℕ)) → Rise xs → Rise ys → IsPermutation xs ys → xs ≡ ys
-same_moved xs ys rise up moves =
-    same_elements xs ys rise up (λ e h. Contains-permutation xs ys e moves h)
+same_moved xs ys rise up moves = same_elements xs ys rise up (λ e h. Contains-permutation xs ys e moves h)
     (λ e h. Contains-permutation ys xs e (IsPermutation-sym xs ys moves) h)
 
 -- what the test of less says
 less_from_test : (o : Ordering) → is_lt o ≡ true → o ≡ Less
-less_from_test reater h = grind (arith)
+less_from_test o h = grind (arith)
 
 -- keys that rise from one to the next rise
 pub passes_rise : (es : List (List ℕ × List ℕ)) → is_strictly_sorted (entry_keys es) ≡ true → Rise es
@@ -196,12 +157,6 @@ passes_rise (e ∷ f ∷ es) h =
 keys_in_order : (tags : List (Pair Text Text)) → entry_keys (in_order tags) ≡ keys_of tags
 keys_in_order [] = refl
 keys_in_order (t ∷ tags) = ap (λ (ks : List (List ℕ)). t.key.bytes ∷ ks) (keys_in_order tags)
-
--- one tag more
-in_order_push : (front : List (Pair Text Text)) (t : Pair Text Text)
-    → in_order (front ++ t ∷ []) ≡ in_order front ++ (t.key.bytes, t.value.bytes) ∷ []
-in_order_push [] t = refl
-in_order_push (u ∷ front) t = ap (λ (es : List (List ℕ × List ℕ)). (u.key.bytes, u.value.bytes) ∷ es) (in_order_push front t)
 
 -- the key after these tags, and those before it
 key_after : (front : List (Pair Text Text)) (t : Pair Text Text) (tags : List (Pair Text Text))
@@ -224,19 +179,30 @@ any_key q (t ∷ tags) = rw (any_key q tags) refl
 abbrev NoneRepeated : List (Pair Text Text) → Type 0
 NoneRepeated tags = (k : ℕ) → k < length tags → is_repeated_at (keys_of tags) k ≡ false
 
--- none of the tags that follow repeats a key
-new_after : (front tags : List (Pair Text Text)) → NoneRepeated (front ++ tags) → AreNew (in_order front) tags
-new_after front [] none = tt
-new_after front (t ∷ tags) none =
-    let here : is_repeated_at (keys_of (front ++ t ∷ tags)) (length front) ≡ false = none (length front)
-    (omega (arith, length-append front (t ∷ tags))) in
-    let absent : list_any (bytes_eq t.key.bytes)
-    (keys_of front) ≡ false = rw (key_after front t tags, keys_before front (t ∷ tags)) at here in (
-      any_key t.key.bytes front ∙ absent,
-      subst (λ (es : List (List ℕ × List ℕ)). AreNew es tags) (in_order_push front t)
-          (new_after (front ++ t ∷ []) tags
-          (subst (λ (ts : List (Pair Text Text)). NoneRepeated ts) (sym (append_assoc front (t ∷ []) tags)) none)),
-    )
+-- the key of a tag is none of those before it
+is_new : (front : List (Pair Text Text)) (t : Pair Text Text) (tags : List (Pair Text Text)) → NoneRepeated (front ++ t ∷ tags)
+    → list_any (λ e. bytes_eq t.key.bytes e.0) (in_order front) ≡ false
+is_new front t tags none =
+    let here = none (length front) (omega (arith, length-append front (t ∷ tags))) in
+    any_key t.key.bytes front ∙ (rw (key_after front t tags, keys_before front (t ∷ tags)) at here)
+
+-- tags go in, in some order, if no key is repeated
+tags_move : (front : List (Pair Text Text)) (es : List (List ℕ × List ℕ)) (tags : List (Pair Text Text))
+    → IsPermutation (in_order front) es → NoneRepeated (front ++ tags)
+    → IsPermutation (in_order (front ++ tags))
+    (fold (λ entries t. insert_entry (slice_cmp nat_cmp) entries t.key.bytes t.value.bytes) es tags)
+tags_move front es [] same none = rw (append-nil front) same
+tags_move front es (t ∷ tags) same none =
+    let e : List ℕ × List ℕ = (t.key.bytes, t.value.bytes) in
+    let absent = sym (list_any-IsPermutation (λ x. bytes_eq t.key.bytes x.0) (in_order front) es same) ∙ is_new front t tags none in
+    let more = insert_entry (slice_cmp nat_cmp) es t.key.bytes t.value.bytes in
+    let one : IsPermutation (in_order front ++ e ∷ []) more = IsPermutation-trans (in_order front ++ e ∷ []) (e ∷ in_order front) more
+    (IsPermutation-to_front (in_order front) e) (IsPermutation-trans (e ∷ in_order front) (e ∷ es) more
+    (IsPermutation-cons e (in_order front) es same) (insert_moves es t.key.bytes t.value.bytes absent)) in
+    let pushed = sym (map-append (λ (t : Pair Text Text). (t.key.bytes, t.value.bytes)) front (t ∷ [])) in
+    let grouped = append_assoc front (t ∷ []) tags in
+    subst (λ ts. IsPermutation (in_order ts) (fold (λ entries t. insert_entry (slice_cmp nat_cmp) entries t.key.bytes t.value.bytes) more tags))
+    grouped (tags_move (front ++ t ∷ []) more tags (subst (λ es. IsPermutation es more) pushed one) (subst NoneRepeated (sym grouped) none))
 
 -- no key is repeated if no first one is
 none_repeated : (keys : List (List ℕ)) → first_repeated keys ≡ length keys → (k : ℕ) → k < length keys → is_repeated_at keys k ≡ false
@@ -248,9 +214,10 @@ none_repeated keys e k h =
 -- the tags by their keys are the tags in another order
 pub by_key_permutes : (tags : List (Pair Text Text)) → first_repeated (keys_of tags) ≡ length tags
     → IsPermutation (in_order tags) (by_key tags)
+unfolding by_key
 by_key_permutes tags once =
     let len = length-map tags (λ (t : Pair Text Text). t.key.bytes) in
-    by_key_moves tags (new_after [] tags (λ k h. none_repeated (keys_of tags) (once ∙ sym len) k (omega arith)))
+    tags_move [] [] tags (IsPermutation-refl []) (λ k h. none_repeated (keys_of tags) (once ∙ sym len) k (omega arith))
 
 -- if the keys rise, that is their own order
 pub by_key_in_order : (tags : List (Pair Text Text)) → first_repeated (keys_of tags) ≡ length tags
@@ -261,8 +228,7 @@ by_key_in_order tags once rise = grind (arith, same_moved, passes_rise, keys_in_
 pub by_key_same : (tags others : List (Pair Text Text)) → first_repeated (keys_of tags) ≡ length tags
     → first_repeated (keys_of others) ≡ length others
     → IsPermutation (in_order tags) (in_order others) → by_key tags ≡ by_key others
-by_key_same tags others once too moves =
-    same_moved (by_key tags) (by_key others) (by_key_rises tags) (by_key_rises others)
+by_key_same tags others once too moves = same_moved (by_key tags) (by_key others) (by_key_rises tags) (by_key_rises others)
     (IsPermutation-trans (by_key tags) (in_order tags) (by_key others)
     (IsPermutation-sym (in_order tags) (by_key tags) (by_key_permutes tags once))
     (IsPermutation-trans (in_order tags) (in_order others) (by_key others) moves (by_key_permutes others too)))

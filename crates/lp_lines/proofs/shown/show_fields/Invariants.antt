@@ -7,6 +7,5 @@ use Rattle.lp_format.specs.code.Shown.{shown_field}
 use Rattle.lp_lines.proofs.shown.show_fields.Given as goal
 
 abbrev pub invariant-loop-place : goal.invariant-loop-place
-invariant-loop-place g l =
-    IsPlainFormatter l.initial.f
+invariant-loop-place g l = IsPlainFormatter l.initial.f
     → HasWritten g.W.Write.write_str_gives l.initial.f (join_by shown_field (comma ∷ []) (map field_of (take l.place l.fields))) l.f

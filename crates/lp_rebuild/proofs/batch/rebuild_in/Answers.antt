@@ -12,7 +12,7 @@ loop-piece-preserved c =
     record {
       dialect = given.0 ∙ h.dialect;
       room = omega (arith, taken.counted, (c.in-Some.ensures.goes.on tt).2);
-      numbered = taken.place ∙ h.numbered;
+      numbered = taken.line ∙ h.numbered;
       done = λ others left.
           SoFar-piece (rules_of c.args.dialect) c.args.input.now c.in-Some.piece.now others c.loop-piece.so_far c.take_piece.new.so_far
           h.numbered (h.done _ (given.1 others left)) taken.blank taken.taken;

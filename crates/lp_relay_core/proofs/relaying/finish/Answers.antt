@@ -2,6 +2,7 @@ use Rattle.influxdb_line_protocol.specs.code.Rules.{rules_of}
 use Rattle.std.proofs.Common.{[], subst, sym}
 use Rattle.std.proofs.lemmas.Result.{on_err_weaker, on_ok_weaker}
 use Rattle.influxdb_line_protocol.specs.format.Pieces.{IsLastPiece}
+use Rattle.influxdb_line_protocol.specs.code.Bounded.{IsLastOf}
 use Rattle.lp_relay_core.specs.RelaySteps.{TakesItems, made}
 use Rattle.lp_rebuild.proofs.Parts.{at_no_fault}
 use Rattle.lp_relay_core.proofs.RelayLemmas.{part_of_none, part_poured, relays_none, relays_poured}
@@ -14,13 +15,14 @@ returns-then-is_err-clause-part g c text holds is_last = part_of_none (made c.ar
 pub returns-clause-ok : goal.returns-clause-ok
 returns-clause-ok g c =
     let old = made c.args.so_far.now in
-    let d = rules_of c.args.dialect in
+    let d = rules_of c.args.settings.dialect in
     let gives = c.finish.follows.holds-at-none in
     on_ok_weaker c.pour_and_flush.result
     (λ poured text holds is_last.
-    let last = gives.2 text holds (subst (λ e. IsLastPiece e text) (sym c.requires.dialect) is_last) in
+    let last = subst (λ l. IsLastOf l text c.finish.result) c.requires.limit
+    (gives.2 text holds (subst (λ e. IsLastPiece e text) (sym c.requires.dialect) is_last)) in
     let takes = subst (λ l. TakesItems old l (made c.take_piece.new.so_far))
-    (last_items d c.args.stream.now.limit text c.finish.result last)
+    (last_items d c.args.settings.limit text c.finish.result last)
     (at_no_fault c.take_piece.result c.if-is_err.ensures.value c.take_piece.ensures.taken) in
     relays_poured old old (made c.take_piece.new.so_far) _ _ _ _ _ _ _ [] _ [] (relays_none old _ _) takes poured)
     c.pour_and_flush.ensures.ok
@@ -28,13 +30,14 @@ returns-clause-ok g c =
 pub returns-clause-part : goal.returns-clause-part
 returns-clause-part g c =
     let old = made c.args.so_far.now in
-    let d = rules_of c.args.dialect in
+    let d = rules_of c.args.settings.dialect in
     let gives = c.finish.follows.holds-at-none in
     on_err_weaker c.pour_and_flush.result
     (λ part text holds is_last.
-    let last = gives.2 text holds (subst (λ e. IsLastPiece e text) (sym c.requires.dialect) is_last) in
+    let last = subst (λ l. IsLastOf l text c.finish.result) c.requires.limit
+    (gives.2 text holds (subst (λ e. IsLastPiece e text) (sym c.requires.dialect) is_last)) in
     let takes = subst (λ l. TakesItems old l (made c.take_piece.new.so_far))
-    (last_items d c.args.stream.now.limit text c.finish.result last)
+    (last_items d c.args.settings.limit text c.finish.result last)
     (at_no_fault c.take_piece.result c.if-is_err.ensures.value c.take_piece.ensures.taken) in
     part_poured old old (made c.take_piece.new.so_far) _ _ _ _ _ _ [] _ [] (relays_none old _ _) takes part)
     c.pour_and_flush.ensures.part

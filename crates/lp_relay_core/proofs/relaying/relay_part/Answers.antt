@@ -1,10 +1,9 @@
 use Rattle.influxdb_line_protocol.specs.code.Rules.{rules_of}
-use Rattle.std.proofs.Common.{◌++◌, ◌∙◌, ap, drop, subst}
+use Rattle.std.proofs.Common.{◌++◌, drop, subst}
 use Rattle.std.proofs.lemmas.List.{take_rest}
 use Rattle.std.proofs.lemmas.Result.{on_err_weaker, on_ok_weaker}
 use Rattle.influxdb_line_protocol.specs.code.Bounded.{Holds}
 use Rattle.lp_relay_core.specs.Relaying.{limit_of}
-use Rattle.lp_relay_core.specs.RelaySteps.{RelaysSome, made}
 use Rattle.lp_rebuild.proofs.Parts.{at_no_fault}
 use Rattle.lp_relay_core.proofs.RelayLemmas.{on_err}
 use Rattle.lp_relay_core.proofs.RelayPieces.{some_then, to_all, to_all_part, to_so_far}
@@ -13,46 +12,40 @@ use Rattle.lp_relay_core.proofs.relaying.relay_part.Goals as goal
 pub returns-then-is_err-clause-part : goal.returns-then-is_err-clause-part
 returns-then-is_err-clause-part g c text holds is_last =
     let begun = c.in_ok-given.ensures.ok text holds is_last in
-    to_so_far (rules_of c.args.dialect) (limit_of c.args.limit) (text ++ c.args.part.now) _ _ _ _ _ _ _ begun.to
+    to_so_far (rules_of c.args.settings.dialect) (limit_of c.args.settings.limit) (text ++ c.args.part.now) _ _ _ _ _ _ _ begun.to
 
 pub returns-in_err-relay_pieces-clause-part : goal.returns-in_err-relay_pieces-clause-part
 returns-in_err-relay_pieces-clause-part g c =
-    let d = rules_of c.args.dialect in
+    let d = rules_of c.args.settings.dialect in
     let part = c.args.part.now in
     let pushed = at_no_fault c.push.result c.if-is_err.ensures.value c.push.ensures.ok in
-    let same = ap limit_of (c.push.ensures.rules.1 ∙ c.in_ok-given.ensures.rules.1 ∙ c.requires.limit) in
     on_err c.from_residual-in_err-relay_pieces.result
     (λ text holds is_last.
     let begun = c.in_ok-given.ensures.ok text holds is_last in
     let rest = begun.held ++ drop c.in_ok-given.given part in
-    some_then d (limit_of c.args.limit) (text ++ part) rest _ _ _ _ _ _ _ _ begun.to
-    (subst (λ limit. RelaysSome d limit rest (made c.relay_begun.new.so_far)
-    (g.W.Sink.bytes c.relay_begun.new.out) (g.W.Sink.bytes c.relay_pieces.new.out)
-    (g.E.Sink.bytes c.relay_begun.new.err) (g.E.Sink.bytes c.relay_pieces.new.err)) same
-    (c.in_err-relay_pieces.ensures.part rest (subst (λ l. Holds c.push.new.self (begun.held ++ l)) (take_rest part c.in_ok-given.given) (pushed begun.held begun.holds)))))
+    some_then d (limit_of c.args.settings.limit) (text ++ part) rest _ _ _ _ _ _ _ _ begun.to
+    (c.in_err-relay_pieces.ensures.part rest (subst (λ l. Holds c.push.new.self (begun.held ++ l)) (take_rest part c.in_ok-given.given) (pushed begun.held begun.holds))))
 
 pub returns-clause-ok : goal.returns-clause-ok
 returns-clause-ok g c =
     let part = c.args.part.now in
     let pushed = at_no_fault c.push.result c.if-is_err.ensures.value c.push.ensures.ok in
-    let same = ap limit_of (c.push.ensures.rules.1 ∙ c.in_ok-given.ensures.rules.1 ∙ c.requires.limit) in
     on_ok_weaker c.pour_and_flush.result
     (λ poured text holds is_last.
     let begun = c.in_ok-given.ensures.ok text holds is_last in
     let rest = begun.held ++ drop c.in_ok-given.given part in
-    to_all (rules_of c.args.dialect) _ _ (text ++ part) rest _ _ _ _ _ _ _ _ _ _ _ _ _ same begun.to
-    (c.in_ok-relay_pieces.ensures.ok rest (subst (λ l. Holds c.push.new.self (begun.held ++ l)) (take_rest part c.in_ok-given.given) (pushed begun.held begun.holds))) c.pour_and_flush.ensures.place poured)
+    to_all (rules_of c.args.settings.dialect) _ (text ++ part) rest _ _ _ _ _ _ _ _ _ _ _ _ _ begun.to
+    (c.in_ok-relay_pieces.ensures.ok rest (subst (λ l. Holds c.push.new.self (begun.held ++ l)) (take_rest part c.in_ok-given.given) (pushed begun.held begun.holds))) c.pour_and_flush.ensures.line poured)
     c.pour_and_flush.ensures.ok
 
 pub returns-clause-part : goal.returns-clause-part
 returns-clause-part g c =
     let part = c.args.part.now in
     let pushed = at_no_fault c.push.result c.if-is_err.ensures.value c.push.ensures.ok in
-    let same = ap limit_of (c.push.ensures.rules.1 ∙ c.in_ok-given.ensures.rules.1 ∙ c.requires.limit) in
     on_err_weaker c.pour_and_flush.result
     (λ poured text holds is_last.
     let begun = c.in_ok-given.ensures.ok text holds is_last in
     let rest = begun.held ++ drop c.in_ok-given.given part in
-    to_all_part (rules_of c.args.dialect) _ _ (text ++ part) rest _ _ _ _ _ _ _ _ _ _ _ _ same begun.to
+    to_all_part (rules_of c.args.settings.dialect) _ (text ++ part) rest _ _ _ _ _ _ _ _ _ _ _ _ begun.to
     (c.in_ok-relay_pieces.ensures.ok rest (subst (λ l. Holds c.push.new.self (begun.held ++ l)) (take_rest part c.in_ok-given.given) (pushed begun.held begun.holds))) poured)
     c.pour_and_flush.ensures.part

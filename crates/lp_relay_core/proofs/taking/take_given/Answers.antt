@@ -1,20 +1,22 @@
-use Rattle.influxdb_line_protocol.specs.code.Rules.{rules_of}
-use Rattle.std.proofs.Common.{subst, sym}
+use Rattle.std.proofs.Common.{◌∙◌, length, subst, sym}
+use Rattle.std.proofs.lemmas.Bool.{eqb-true}
+use Rattle.std.proofs.lemmas.List.{nil_from_length}
 use Rattle.std.proofs.lemmas.Result.{on_ok_weaker}
+use Rattle.influxdb_line_protocol.specs.code.Rules.{rules_of}
 use Rattle.lp_relay_core.specs.RelaySteps.{TakesItems, items_given, made}
-use Rattle.lp_relay_core.proofs.RelayLemmas.{takes_too_long}
+use Rattle.lp_relay_core.proofs.RelayLemmas.{takes_bad_bytes, takes_empty}
 use Rattle.lp_relay_core.proofs.taking.take_given.Goals as goal
 
-pub returns-in-Ok-clause-taken : goal.returns-in-Ok-clause-taken
-returns-in-Ok-clause-taken c =
-    on_ok_weaker c.take_bytes.result
-    (subst (λ p. TakesItems (made c.args.so_far.now) (items_given (rules_of c.args.dialect) p) (made c.take_bytes.new.so_far))
-    (sym c.in-Ok.is))
-    c.take_bytes.ensures.taken
+pub returns-then-is_empty-clause-taken : goal.returns-then-is_empty-clause-taken
+returns-then-is_empty-clause-taken c =
+    subst (λ p. TakesItems (made c.args.so_far.now) (items_given (rules_of c.args.dialect) p) (made c.args.so_far.now)) (sym c.in-Ok.is)
+    (takes_empty (rules_of c.args.dialect) c.in-Ok.bytes.now (made c.args.so_far.now)
+    (nil_from_length c.in-Ok.bytes.now (eqb-true (length c.in-Ok.bytes.now) 0 (sym c.is_empty.ensures ∙ c.if-is_empty.true))))
 
 pub returns-in-Err-clause-taken : goal.returns-in-Err-clause-taken
 returns-in-Err-clause-taken c =
-    on_ok_weaker c.refuse.result
-    (λ r. subst (λ p. TakesItems (made c.args.so_far.now) (items_given (rules_of c.args.dialect) p) (made c.refuse.new.so_far))
-    (sym c.in-Err.is) (takes_too_long c.args.so_far.now c.refuse.new.so_far r))
-    c.refuse.ensures.refused
+    on_ok_weaker c.refuse-in-Err.result
+    (λ r. subst (λ p. TakesItems (made c.args.so_far.now) (items_given (rules_of c.args.dialect) p) (made c.refuse-in-Err.new.so_far))
+    (sym c.in-Ok.is)
+    (takes_bad_bytes (rules_of c.args.dialect) c.in-Ok.bytes.now c.args.so_far.now c.refuse-in-Err.new.so_far c.in-Err.ensures.cases r))
+    c.refuse-in-Err.ensures.refused

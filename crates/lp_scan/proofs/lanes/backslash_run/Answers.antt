@@ -1,6 +1,5 @@
 use Rattle.std.proofs.Common.{false, arith, ap, ◌∙◌}
-use Rattle.lp_scan.specs.code.Tokens.{is_end}
-use Rattle.lp_scan.specs.code.Lanes.{first_set}
+use Rattle.lp_scan.specs.code.{is_end, first_set}
 use Rattle.lp_scan.proofs.lemmas.scan.MaskLemmas.{run_is}
 use Rattle.lp_scan.proofs.lanes.backslash_run.Goals as goal
 

@@ -29,5 +29,4 @@ returns c =
     let is : get_or (low v) i 0 ≡ bit_and (get_or v i 0) 15 = get_or-zip2 bit_and v (replicate 16 15) i 0 0 0
     (omega (arith, c.requires)) inside ∙ ap (bit_and (get_or v i 0)) (get_or-replicate 16 i 15 0 inside) in
     get_or-swz_l_below w8 16 table 0 (low v) i (omega (arith, long)) (omega (arith, is, and_le_r (get_or v i 0) 15))
-    ∙ ap (λ k. get_or table k 0) (omega (arith, is))
-    ∙ sym (get_or-map look v i 0 0 (omega (arith, c.requires))))
+    ∙ ap (λ k. get_or table k 0) (omega (arith, is)) ∙ sym (get_or-map look v i 0 0 (omega (arith, c.requires))))

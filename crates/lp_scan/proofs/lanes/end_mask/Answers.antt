@@ -1,8 +1,7 @@
 -- A lane is set exactly if its byte ends a token of the kind or is a backslash, at each of the 256 bytes.
 use Rattle.std.proofs.Common.{◌≡◌, refl, arith, inl, inr}
-use Rattle.lp_format.specs.format.Bytes.{backslash, comma, newline, quote, space, tab}
-use Rattle.lp_scan.specs.code.Tokens.{is_end, stops_of}
-use Rattle.lp_scan.specs.declared.sets.TokenKind.TheVariants.{Measurement, TagKey, TagValue, String}
+use Rattle.lp_format.specs.format.{backslash, comma, newline, quote, space, tab}
+use Rattle.lp_scan.specs.code.{is_end, stops_of, Measurement, TagKey, TagValue, String}
 use Rattle.lp_scan.proofs.lemmas.lanes.LaneLemmas.{either, looked, mask_as, one}
 use Rattle.lp_scan.proofs.lanes.end_mask.Goals as goal
 

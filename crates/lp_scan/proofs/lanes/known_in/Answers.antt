@@ -1,8 +1,7 @@
 -- A lane is set exactly if its byte passes the test, at each of the 256 bytes.
 use Rattle.std.proofs.Common.{◌≡◌, refl, arith, inl, inr}
-use Rattle.lp_format.specs.format.Bytes.{backslash, comma, equals, is_one_of, quote, space}
-use Rattle.lp_scan.specs.code.Tokens.{known_of}
-use Rattle.lp_scan.specs.declared.sets.TokenKind.TheVariants.{Measurement, TagKey, String}
+use Rattle.lp_format.specs.format.{backslash, comma, equals, is_one_of, quote, space}
+use Rattle.lp_scan.specs.code.{known_of, Measurement, TagKey, String}
 use Rattle.lp_scan.proofs.lemmas.lanes.LaneLemmas.{either, mask_as, one}
 use Rattle.lp_scan.proofs.lanes.known_in.Goals as goal
 

@@ -1,29 +1,18 @@
 -- A lane is set exactly if its byte is a mark of the kind, at each of the 256 bytes.
-use Rattle.std.proofs.Common.{◌≡◌, ◌∙◌, ℕ, ap, refl, arith, inl, inr}
+use Rattle.std.proofs.Common.{refl, arith, inl, inr}
 use Rattle.std.proofs.lemmas.Simd.{length-chunk}
 use Rattle.std.proofs.lemmas.Grind.{common_steps}
-use lib.Lanes.{chunk, mask_l}
-use Rattle.lp_scan.specs.code.Tokens.{is_end, is_mark, stops_of}
-use Rattle.lp_scan.specs.declared.sets.TokenKind.TheVariants.{Measurement, TagKey, TagValue, FieldKey, String}
+use lib.Lanes.{chunk}
+use Rattle.lp_scan.specs.code.{is_mark, TagKey, TagValue, FieldKey}
 use Rattle.lp_scan.proofs.lemmas.lanes.LaneLemmas.{lanes_looked, lanes_of, lanes_or, same_tests}
 use Rattle.lp_scan.proofs.lemmas.scan.MaskLemmas.{mask_is}
 use Rattle.lp_scan.proofs.lanes.mark_mask.Goals as goal
-use Rattle.lp_format.specs.format.Bytes.{comma}
-
--- of a measurement, what ends it and a backslash are the marks
-measurement_marks : (b : ℕ) → is_end (stops_of Measurement) b ≡ is_mark Measurement b
-measurement_marks b = grind (arith, common_steps)
-
--- of a string too
-string_marks : (b : ℕ) → is_end (stops_of String) b ≡ is_mark String b
-string_marks b = grind (arith, common_steps)
+use Rattle.lp_format.specs.format.{comma}
 
 pub returns-in-Measurement : goal.returns-in-Measurement
 returns-in-Measurement c =
-    elim c.in-Measurement.is [
-      | inl e ↦ rw e (rw e at c.end_mask.ensures ∙ ap mask_l (same_tests _ _ measurement_marks (chunk c.args.at 16 c.args.bytes.now)))
-      | inr e ↦ rw e (rw e at c.end_mask.ensures ∙ ap mask_l (same_tests _ _ string_marks (chunk c.args.at 16 c.args.bytes.now)))
-    ]
+    let v = chunk c.args.at 16 c.args.bytes.now in
+    grind (arith, common_steps, same_tests)
 
 pub returns-in-TagKey : goal.returns-in-TagKey
 returns-in-TagKey c =

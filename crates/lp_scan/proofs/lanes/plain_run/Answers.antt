@@ -1,6 +1,5 @@
 use Rattle.std.proofs.Common.{arith, ap, ◌∙◌}
-use Rattle.lp_scan.specs.code.Tokens.{is_end, stops_of}
-use Rattle.lp_scan.specs.code.Lanes.{first_set}
+use Rattle.lp_scan.specs.code.{is_end, stops_of, first_set}
 use Rattle.lp_scan.proofs.lemmas.scan.MaskLemmas.{run_is}
 use Rattle.lp_scan.proofs.lanes.plain_run.Goals as goal
 

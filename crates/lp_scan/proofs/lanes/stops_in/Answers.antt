@@ -1,8 +1,7 @@
 -- A lane is set exactly if its byte passes the test, at each of the 256 bytes.
 use Rattle.std.proofs.Common.{◌≡◌, refl, arith, inl, inr}
-use Rattle.lp_format.specs.format.Bytes.{comma, equals, newline, quote, space, tab}
-use Rattle.lp_scan.specs.code.Tokens.{stops_of}
-use Rattle.lp_scan.specs.declared.sets.TokenKind.TheVariants.{Measurement, TagKey, TagValue, String}
+use Rattle.lp_format.specs.format.{comma, equals, newline, quote, space, tab}
+use Rattle.lp_scan.specs.code.{stops_of, Measurement, TagKey, TagValue, String}
 use Rattle.lp_scan.proofs.lemmas.lanes.LaneLemmas.{Compared, either, mask_as, one}
 use Rattle.lp_scan.proofs.lanes.stops_in.Goals as goal
 

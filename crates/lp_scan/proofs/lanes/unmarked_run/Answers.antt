@@ -1,6 +1,5 @@
 use Rattle.std.proofs.Common.{arith, ap, ◌∙◌}
-use Rattle.lp_scan.specs.code.Tokens.{is_mark}
-use Rattle.lp_scan.specs.code.Lanes.{first_set}
+use Rattle.lp_scan.specs.code.{is_mark, first_set}
 use Rattle.lp_scan.proofs.lemmas.scan.MaskLemmas.{run_is}
 use Rattle.lp_scan.proofs.lanes.unmarked_run.Goals as goal
 

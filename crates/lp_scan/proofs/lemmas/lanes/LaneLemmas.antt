@@ -1,13 +1,11 @@
 -- The lanes of one load that was compared with bytes.
-use Rattle.std.proofs.Common.{◌≡◌, ℕ, ◌+◌, ◌<◌, ◌≤◌, ◌%◌, ◌^◌, Bool, true, List, map, length, replicate, eqb, cond, bit_or, ◌||◌}
-use Rattle.std.proofs.Common.{get_or, refl, sym, ap, ◌∙◌}
+use Rattle.std.proofs.Common.{◌≡◌, ℕ, ◌+◌, ◌<◌, ◌≤◌, ◌%◌, ◌^◌, Bool, true, List, map, length, replicate, eqb, cond, bit_or, ◌||◌, get_or}
+use Rattle.std.proofs.Common.{refl, sym, ap, ◌∙◌, map-id, arith}
 use Rattle.std.proofs.lemmas.Bool.{agree_below}
-use Rattle.std.proofs.lemmas.List.{map-id}
 use Rattle.std.proofs.lemmas.Simd.{length-chunk, zip2_splat, zip2_of_maps}
 use lib.Lanes.{chunk, mask_l, top, zip2}
-use Rattle.lp_scan.specs.code.Lanes.{mask_of}
+use Rattle.lp_scan.specs.code.{mask_of}
 use Rattle.lp_scan.proofs.lemmas.scan.MaskLemmas.{mask_by_lanes, mask_is}
-use Rattle.std.proofs.Common.{arith}
 
 -- a byte as a lane: all ones if it is this one
 abbrev pub lane : ℕ → ℕ → ℕ
@@ -60,8 +58,7 @@ lanes_are : (t : Compared) (n : ℕ) (v : List ℕ) → length v ≡ n → lanes
 lanes_are (one b) n v long = lanes_of v b long
 lanes_are (looked look) n v long = lanes_looked look v refl
 lanes_are (either s t) n v long =
-    lanes_or _ _ v (lanes_are s n v long) (lanes_are t n v long)
-    ∙ ap (λ (f : ℕ → ℕ). map f v) (λ j x. either_set (is_in s x) (is_in t x) j)
+    lanes_or _ _ v (lanes_are s n v long) (lanes_are t n v long) ∙ ap (λ (f : ℕ → ℕ). map f v) (λ j x. either_set (is_in s x) (is_in t x) j)
 
 module _ (t : Compared) (bytes : List ℕ) (at n : ℕ) (room : at + n ≤ length bytes) (few : n ≤ 64) where
   -- the bits of the lanes are the mask of the bytes that are one of those

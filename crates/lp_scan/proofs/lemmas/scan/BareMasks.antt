@@ -1,9 +1,9 @@
 -- What the mask of the bare marks of a load tells.
-use Rattle.std.proofs.Common.{◌≡◌, ℕ, zero, suc, ◌+◌, ◌-◌, ◌/◌, ◌%◌, ◌^◌, ◌<◌, ◌≤◌, Bool, true, false, cond, not, map, List, ◌∷◌}
-use Rattle.std.proofs.Common.{length, take, get_or, slice_index, bit_and, count_ones, refl, sym, ap, ap₂, ◌∙◌, subst, arith, inl, inr}
-use Rattle.std.specs.Prelude.{◌==◌}
-use Rattle.std.specs.Int.{w64, bit_not}
-use Rattle.std.specs.List.{count_by, range_with_len, prefix_len}
+use Rattle.std.proofs.Common.{◌≡◌, ℕ, zero, suc, ◌+◌, ◌-◌, ◌/◌, ◌%◌, ◌^◌, ◌<◌, ◌≤◌, Bool, true, false, cond, not, map, List, ◌∷◌, length}
+use Rattle.std.proofs.Common.{take, get_or, slice_index, bit_and, count_ones, refl, sym, ap, ap₂, ◌∙◌, subst, arith, inl, inr, ◌==◌, w64}
+use Rattle.std.proofs.Common.{count_by}
+use Rattle.std.specs.Int.{bit_not}
+use Rattle.std.specs.List.{range_with_len, prefix_len}
 use Rattle.std.proofs.lemmas.Bool.{cases_Bool, cases_lt, and_parts, and_right, not-true, not-false}
 use Rattle.std.proofs.Math.Bool.{and_comm}
 use Rattle.std.proofs.lemmas.List.{length-map}
@@ -12,14 +12,12 @@ use Rattle.std.proofs.lemmas.List.FromFn.{get_or-map-range_with_len, take-map-ra
 use Rattle.std.proofs.lemmas.List.Sums.{prefix_len-le-length, prefix_len_passes, prefix_len_stops}
 use Rattle.std.proofs.lemmas.Simd.{first_set_mask_l, bit_mask_l, mask_l-lt, ones-mask_l}
 use lib.Lanes.{mask_l}
-use Rattle.lp_format.specs.format.Escapes.{is_escaped_after, is_bare_at, IsBareAfter, IsPassed}
-use Rattle.lp_scan.specs.code.Lanes.{first_set}
-use Rattle.lp_scan.specs.code.Scan.{mask_at, TellsEscaped, TellsBare}
+use Rattle.lp_format.specs.format.{is_escaped_after, is_bare_at, IsBareAfter, IsPassed, backslash}
+use Rattle.lp_scan.specs.code.{first_set, mask_at, TellsEscaped, TellsBare}
 use Rattle.lp_format.proofs.lemmas.tokens.EscapeLemmas.{is_escaped_more}
 use Rattle.lp_scan.proofs.lemmas.scan.EscapedMasks.{of_places}
 use Rattle.lp_scan.proofs.lemmas.scan.MaskBits.{and_of_maps, not_of_map}
 use Rattle.lp_scan.proofs.lemmas.scan.MaskLemmas.{mask_mod}
-use Rattle.lp_format.specs.format.Bytes.{backslash}
 
 -- the marks that are not escaped are the bare ones
 pub tells_bare : (marks m e r : ℕ) → TellsEscaped m e → r ≡ bit_and marks (bit_not w64 e) → TellsBare marks m r
@@ -27,8 +25,7 @@ tells_bare marks m e r escaped made test text at room bare is marked =
     let places = range_with_len at 64 in
     let passes : ℕ → Bool = λ k. test (slice_index text k) in
     let is_escaped : ℕ → Bool = λ k. is_escaped_after (take k text) in
-    made
-    ∙ ap₂ (λ (a b : ℕ). bit_and a (bit_not w64 b)) (marked ∙ of_places text test at 64 room) (escaped text at room bare is)
+    made ∙ ap₂ (λ (a b : ℕ). bit_and a (bit_not w64 b)) (marked ∙ of_places text test at 64 room) (escaped text at room bare is)
     ∙ ap (bit_and (mask_l (map passes places))) (not_of_map is_escaped places (length-range_with_len at 64))
     ∙ and_of_maps passes (λ k. not (is_escaped k)) places
 
@@ -75,13 +72,10 @@ highest p at =
     bit_mask_l ms 63 ∙ ap (λ (t : Bool). cond t 1 0) (get_or-map-range_with_len p at 64 63 (at + 63) false (omega arith) refl) in
     omega arith
 
--- its lowest bits are the mask of the first places
-pub mask_low : (p : ℕ → Bool) (at w n : ℕ) → n ≤ w → mask_at p at w % 2 ^ n ≡ mask_at p at n
-mask_low p at w n few = grind (arith, mask_mod, length-map-range_with_len, take-map-range_with_len)
-
 -- they tell how many of those pass
 pub ones_low : (p : ℕ → Bool) (at w n : ℕ) → n ≤ w → count_ones (mask_at p at w % 2 ^ n) ≡ count_by p (range_with_len at n)
-ones_low p at w n few = ap count_ones (mask_low p at w n few) ∙ ones-mask_l p (range_with_len at n)
+ones_low p at w n few = ap count_ones
+    (grind (arith, mask_mod, length-map-range_with_len, take-map-range_with_len)) ∙ ones-mask_l p (range_with_len at n)
 
 -- a mask of places from the next one on, as one of places from this one on
 range_next : {X : Type 0} (f : ℕ → X) (n at : ℕ) → map f (range_with_len (at + 1) n) ≡ map (λ k. f (k + 1)) (range_with_len at n)

@@ -1,19 +1,16 @@
 -- Which bytes of a load are escaped, by the borrow of one subtraction.
 use Rattle.std.proofs.Common.{◌≡◌, ℕ, zero, suc, ◌+◌, ◌-◌, ◌*◌, ◌%◌, ◌^◌, ◌<◌, ◌≤◌, Bool, true, false, cond, not, ◌&&◌, ◌||◌, List, [], ◌∷◌}
-use Rattle.std.proofs.Common.{map, length, take, get_or, slice_index, bit_or, bit_xor, refl, sym, ap, ap₂, ◌∙◌, subst, arith}
+use Rattle.std.proofs.Common.{map, length, take, get_or, slice_index, bit_or, bit_xor, refl, sym, ap, ap₂, ◌∙◌, subst, arith, ◌==◌}
 use native.Mathlib.Nat.{pow-suc}
-use Rattle.std.specs.Prelude.{◌==◌}
 use Rattle.std.specs.List.{range_with_len}
 use Rattle.std.proofs.lemmas.List.{length-map}
 use Rattle.std.proofs.lemmas.List.FromFn.{length-range_with_len}
 use Rattle.std.proofs.lemmas.Simd.{map-map, mask_l-lt, length-zip2, pick_l-range_with_len}
 use lib.Lanes.{zip2, mask_l}
-use Rattle.lp_format.specs.format.Escapes.{is_escaped_after}
-use Rattle.lp_scan.specs.code.Lanes.{mask_of}
-use Rattle.lp_scan.specs.code.Scan.{mask_at, TellsEscaped}
+use Rattle.lp_format.specs.format.{is_escaped_after, backslash}
+use Rattle.lp_scan.specs.code.{mask_of, mask_at, TellsEscaped}
 use Rattle.lp_format.proofs.lemmas.tokens.EscapeLemmas.{is_escaped_more}
 use Rattle.lp_scan.proofs.lemmas.scan.MaskBits.{differs, mask_or, mask_xor}
-use Rattle.lp_format.specs.format.Bytes.{backslash}
 
 -- In what follows `ms` are the backslashes from a place on, `odd` says whether that place is an odd one, `after` whether a
 -- backslash comes before it, and `e` whether it is escaped.
@@ -52,24 +49,15 @@ abbrev borrowed : Bool → Bool → Bool → List Bool → ℕ
 borrowed odd after e [] = cond (borrow odd after e) 1 0
 borrowed odd after e (m ∷ ms) = borrowed (not odd) m (not e && m) ms
 
--- one place of the subtraction, if only a place after a backslash is escaped
-one_place : (odd after e m : Bool) → (e && not after) ≡ false
-    → cond (after || odd) 1 0 + 2 * cond (borrow (not odd) m (not e && m)) 1 0 ≡ cond (differs (differs e odd) m) 1
-    0 + cond m 1 0 + cond (borrow odd after e) 1 0
-one_place odd after e m h = grind arith
-
--- a backslash is not both bare and no backslash
-after_it : (e m : Bool) → ((not e && m) && not m) ≡ false
-after_it e m = grind arith
-
 -- the subtraction: what is left, and the backslashes
 subtracted : (odd after e : Bool) (ms : List Bool) → (e && not after) ≡ false
     → mask_l (minuend odd after ms) + 2 ^ length ms * borrowed odd after e ms ≡ mask_l (difference odd e ms) +
     mask_l ms + cond (borrow odd after e) 1 0
 subtracted odd after e [] h = omega arith
 subtracted odd after e (m ∷ ms) h =
-    let rest = subtracted (not odd) m (not e && m) ms (after_it e m) in
-    let here = one_place odd after e m h in
+    let rest = subtracted (not odd) m (not e && m) ms (grind arith) in
+    let here : cond (after || odd) 1 0 + 2 * cond (borrow (not odd) m (not e && m)) 1 0 ≡ cond (differs (differs e odd) m) 1 0
+    + cond m 1 0 + cond (borrow odd after e) 1 0 = grind arith in
     rw (pow-suc 2 (length ms)) (omega (arith, rest, here))
 
 -- the last of the lanes that come after a first one
@@ -83,14 +71,10 @@ shifted : (after : Bool) (ms : List Bool)
 shifted after [] = omega arith
 shifted after (m ∷ ms) = rw (pow-suc 2 (length ms)) (omega (arith, shifted m ms))
 
--- from what is left to the escaped places
-undone : (e odd m : Bool) → differs (differs (differs (differs e odd) m) odd) m ≡ e
-undone e odd m = grind arith
-
 -- undoing the difference gives the escaped places
 all_undone : (odd e : Bool) (ms : List Bool) → zip2 differs (zip2 differs (difference odd e ms) (odds odd (length ms))) ms ≡ escapes e ms
 all_undone odd e [] = refl
-all_undone odd e (m ∷ ms) = ap₂ (λ (b : Bool) (bs : List Bool). b ∷ bs) (undone e odd m) (all_undone (not odd) (not e && m) ms)
+all_undone odd e (m ∷ ms) = ap₂ (λ (b : Bool) (bs : List Bool). b ∷ bs) (grind arith) (all_undone (not odd) (not e && m) ms)
 
 -- each list has a lane for each byte
 long_afters : (after : Bool) (ms : List Bool) → length (afters after ms) ≡ length ms
@@ -128,10 +112,6 @@ module _ (ms : List Bool) (long : length ms ≡ 64) where
   minuend_is : bit_or (mask_l ms * 2 % 2 ^ 64) odd_places ≡ mask_l (minuend false false ms)
   minuend_is = grind (arith, bit_or, afters_are, odds_are, mask_or, long_afters, long_odds)
 
-  -- the minuend has as many places as the mask
-  long_minuend : length (minuend false false ms) ≡ length ms
-  long_minuend = grind (arith, length-zip2, long_afters, long_odds)
-
   -- the subtraction gives the mask of the difference
   left_is : (bit_or (mask_l ms * 2 % 2 ^ 64) odd_places + (2 ^ 64 - mask_l ms)) % 2 ^ 64 ≡ mask_l (difference false false ms)
   left_is =
@@ -140,7 +120,7 @@ module _ (ms : List Bool) (long : length ms ≡ 64) where
       subst (λ (n : ℕ). mask_l (minuend false false ms) + 2 ^ n * borrowed false false false ms ≡ mask_l
       (difference false false ms) + mask_l ms + 0)
       long (subtracted false false false ms refl) in
-      let from = fits (minuend false false ms) long_minuend in
+      let from = fits (minuend false false ms) (grind (arith, length-zip2, long_afters, long_odds)) in
       let rest = fits (difference false false ms) (long_difference false false ms) in
       let less = fits ms refl in
       ap (λ (n : ℕ). (n + (2 ^ 64 - mask_l ms)) % 2 ^ 64) minuend_is ∙ omega arith
@@ -153,10 +133,7 @@ module _ (ms : List Bool) (long : length ms ≡ 64) where
       let odd = odds false (length ms) in
       let diff = difference false false ms in
       let same : length diff ≡ length odd = long_difference false false ms ∙ sym (long_odds false (length ms)) in
-      ap₂ (λ (a b : ℕ). bit_xor (bit_xor a b) (mask_l ms)) left_is (sym odds_are)
-      ∙ ap (λ (n : ℕ). bit_xor n (mask_l ms)) (mask_xor diff odd same)
-      ∙ mask_xor (zip2 differs diff odd) ms (length-zip2 differs diff odd same ∙ long_difference false false ms)
-      ∙ ap mask_l (all_undone false false ms)
+      grind (arith, bit_xor, left_is, odds_are, mask_xor, differs, length-zip2, long_difference, all_undone)
 
 -- the places of a text from one on
 module _ (text : List ℕ) where

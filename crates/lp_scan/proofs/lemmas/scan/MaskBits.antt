@@ -35,29 +35,13 @@ module _ (op digit : ℕ → ℕ → ℕ) (f : Bool → Bool → Bool) (none : o
       let lows = ap₂ digit (low x (mask_l xs)) (low y (mask_l ys)) ∙ one x y in
       step (mask_l (x ∷ xs)) (mask_l (y ∷ ys)) ∙ ap₂ (λ (a b : ℕ). a * 2 + b) highs lows ∙ omega arith
 
--- the larger of two bits is their or
-or_digit : (x y : Bool) → max (cond x 1 0) (cond y 1 0) ≡ cond (x || y) 1 0
-or_digit x y = grind arith
-
--- the smaller of two bits is their and
-and_digit : (x y : Bool) → min (cond x 1 0) (cond y 1 0) ≡ cond (x && y) 1 0
-and_digit x y = grind arith
-
--- the difference of two bits is their exclusive or
-xor_digit : (x y : Bool) → differ (cond x 1 0) (cond y 1 0) ≡ cond (differs x y) 1 0
-xor_digit x y = grind arith
-
 -- the or of two masks, place by place
 pub mask_or : (xs ys : List Bool) → length xs ≡ length ys → bit_or (mask_l xs) (mask_l ys) ≡ mask_l (zip2 (λ a b. a || b) xs ys)
-mask_or = by_lanes bit_or max (λ a b. a || b) refl or_step or_digit
-
--- the and of two masks, place by place
-pub mask_and : (xs ys : List Bool) → length xs ≡ length ys → bit_and (mask_l xs) (mask_l ys) ≡ mask_l (zip2 (λ a b. a && b) xs ys)
-mask_and = by_lanes bit_and min (λ a b. a && b) refl and_step and_digit
+mask_or = by_lanes bit_or max (λ a b. a || b) refl or_step (grind arith)
 
 -- the exclusive or of two masks, place by place
 pub mask_xor : (xs ys : List Bool) → length xs ≡ length ys → bit_xor (mask_l xs) (mask_l ys) ≡ mask_l (zip2 differs xs ys)
-mask_xor = by_lanes bit_xor differ differs refl xor_step xor_digit
+mask_xor = by_lanes bit_xor differ differs refl xor_step (grind arith)
 
 -- the lanes that are not set
 not_more : (t : Bool) (a b n : ℕ) → a + b + 1 ≡ n → cond (not t) 1 0 + 2 * a + (cond t 1 0 + 2 * b) + 1 ≡ n * 2
@@ -70,13 +54,10 @@ mask_not (m ∷ ms) = rw (pow-suc 2 (length ms)) (not_more m (mask_l (map not ms
 
 -- if two masks are of the same lanes, so is what the operations make of them
 module _ {V : Type 0} (f g : V → Bool) (vs : List V) where
-  -- two tests of the same bytes have as many answers
-  same_length : length (map f vs) ≡ length (map g vs)
-  same_length = length-map vs f ∙ sym (length-map vs g)
-
   -- the and of the masks of two tests is the mask of both
   pub and_of_maps : bit_and (mask_l (map f vs)) (mask_l (map g vs)) ≡ mask_l (map (λ v. f v && g v) vs)
-  and_of_maps = mask_and (map f vs) (map g vs) same_length ∙ ap mask_l (zip2_of_maps (λ a b. a && b) f g vs refl refl)
+  and_of_maps = (by_lanes bit_and min (λ a b. a && b) refl and_step (grind arith)) (map f vs) (map g vs)
+      (length-map vs f ∙ sym (length-map vs g)) ∙ ap mask_l (zip2_of_maps (λ a b. a && b) f g vs refl refl)
 
 -- the places that do not pass, of 64
 pub not_of_map : {V : Type 0} (f : V → Bool) (vs : List V) → length vs ≡ 64

@@ -1,20 +1,19 @@
 -- Masks of loads and of places: what is left of one without its lowest bits, and what its bits tell.
 use Rattle.std.proofs.Common.{◌≡◌, ℕ, zero, suc, ◌+◌, ◌-◌, ◌*◌, ◌/◌, ◌^◌, ◌<◌, ◌≤◌, Bool, true, cond, not, List, [], ◌∷◌, map, length, take}
-use Rattle.std.proofs.Common.{drop, sym, ap, ◌∙◌, arith, ◌%◌, ◌++◌, get_or, refl, inl, inr, take-append-drop, subst}
+use Rattle.std.proofs.Common.{drop, sym, ap, ◌∙◌, arith, ◌%◌, ◌++◌, get_or, refl, inl, inr, take-append-drop, subst, drop-drop, length-take}
+use Rattle.std.proofs.Common.{count_by, count_ones, w64}
 use native.Mathlib.Nat.{pow-suc, mul_comm, zero-div, div-one, div-div-eq-div-mul, add-mul-mod_self_right}
 use Rattle.std.proofs.lemmas.Simd.{ones-mask_l, length-chunk, first_set_mask_l, run_in_chunk_le, run_in_chunk_fails, run_in_chunk_stops}
 use Rattle.std.proofs.lemmas.Simd.{map-map, mask_l-mod, get_or-chunk, mask_l-lt}
-use Rattle.std.proofs.lemmas.List.{drop-drop, drop-take, drop-map, drop_all, length-map, length-take, get_or_past}
-use Rattle.std.specs.List.{count_by, prefix_len, range_with_len}
-use Rattle.std.specs.Prelude.{count_ones}
+use Rattle.std.proofs.lemmas.List.{drop-take, drop-map, drop_all, length-map, get_or_past}
+use Rattle.std.specs.List.{prefix_len, range_with_len}
 use lib.Lanes.{chunk, mask_l, top}
-use Rattle.lp_scan.specs.code.Lanes.{first_set, mask_of, IsRunIn}
+use Rattle.lp_scan.specs.code.{first_set, mask_of, IsRunIn, mask_at}
 use Rattle.std.proofs.lemmas.Bool.{cases_lt, agree_below, agree_below_at}
-use Rattle.std.specs.Int.{w64, bit_at, trailing_zeros}
+use Rattle.std.specs.Int.{bit_at, trailing_zeros}
 use Rattle.std.proofs.Math.Nat.{pow-le-pow_right}
 use Rattle.std.proofs.lemmas.Nat.Bits.{bit_at-trailing_zeros, bit_at_above}
 use Rattle.std.proofs.lemmas.List.FromFn.{length-map-range_with_len}
-use Rattle.lp_scan.specs.code.Scan.{mask_at}
 
 -- half of a mask is the mask without its lowest bit
 pub half : (b : Bool) (n : ℕ) → (cond b 1 0 + 2 * n) / 2 ≡ n
@@ -26,10 +25,8 @@ mask_l-drop [] zero = zero-div (2 ^ 0)
 mask_l-drop [] (suc k) = zero-div (2 ^ suc k)
 mask_l-drop (m ∷ ms) zero = div-one (mask_l (m ∷ ms))
 mask_l-drop (m ∷ ms) (suc k) =
-    ap (λ n. mask_l (m ∷ ms) / n) (pow-suc 2 k ∙ mul_comm (2 ^ k) 2)
-    ∙ sym (div-div-eq-div-mul (mask_l (m ∷ ms)) 2 (2 ^ k))
-    ∙ ap (λ n. n / 2 ^ k) (half m (mask_l ms))
-    ∙ mask_l-drop ms k
+    ap (λ n. mask_l (m ∷ ms) / n) (pow-suc 2 k ∙ mul_comm (2 ^ k) 2) ∙ sym (div-div-eq-div-mul (mask_l (m ∷ ms)) 2 (2 ^ k))
+    ∙ ap (λ n. n / 2 ^ k) (half m (mask_l ms)) ∙ mask_l-drop ms k
 
 module _ (test : ℕ → Bool) (bytes : List ℕ) (at n : ℕ) where
   -- shifted, the mask of a load is that of the bytes after
@@ -38,13 +35,11 @@ module _ (test : ℕ → Bool) (bytes : List ℕ) (at n : ℕ) where
       mask_l-drop (map test (chunk at n bytes)) k
       ∙ ap mask_l (drop-map test k (chunk at n bytes)
       ∙ ap (map test) (
-      ap (λ m. drop k (take m (drop at bytes))) (omega arith)
-      ∙ drop-take k (n - k) (drop at bytes)
+      ap (λ m. drop k (take m (drop at bytes))) (omega arith) ∙ drop-take k (n - k) (drop at bytes)
       ∙ ap (take (n - k)) (drop-drop k at bytes)))
 
   -- its lowest bit is the first byte that passes the test
-  pub lowest : at + n ≤ length bytes → n ≤ 64
-      → first_set (mask_of test bytes at n) n ≡ prefix_len (λ b. not (test b)) (chunk at n bytes)
+  pub lowest : at + n ≤ length bytes → n ≤ 64 → first_set (mask_of test bytes at n) n ≡ prefix_len (λ b. not (test b)) (chunk at n bytes)
   lowest room few = first_set_mask_l test (chunk at n bytes) n (length-chunk at n bytes room) few
 
   -- its bits count the bytes that pass the test

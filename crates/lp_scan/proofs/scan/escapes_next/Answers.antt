@@ -1,9 +1,7 @@
-use Rattle.std.proofs.Common.{◌∙◌, ap, ◌/◌, ◌^◌, ℕ}
-use Rattle.std.specs.Prelude.{◌==◌}
-use Rattle.lp_format.specs.format.Escapes.{is_bare_at}
+use Rattle.std.proofs.Common.{◌∙◌, ap, ◌/◌, ◌^◌, ℕ, ◌==◌}
+use Rattle.lp_format.specs.format.{is_bare_at, backslash}
 use Rattle.lp_scan.proofs.lemmas.scan.BareMasks.{highest}
 use Rattle.lp_scan.proofs.scan.escapes_next.Goals as goal
-use Rattle.lp_format.specs.format.Bytes.{backslash}
 
 pub returns : goal.returns
 returns c text at room bare is =

@@ -1,21 +1,20 @@
 -- The first newline, quote or backslash of a text, as loads and searches find it, and the cut that it tells.
 use Rattle.std.proofs.Common.{◌≡◌, ℕ, ◌+◌, ◌-◌, ◌/◌, ◌^◌, ◌<◌, ◌≤◌, Bool, true, cond, not, List, length, drop, slice_index, Some, sym, ap}
-use Rattle.std.proofs.Common.{subst, ◌∙◌, inl, inr, refl, length-drop, arith, None, ◌≢◌, zero, suc, take}
-use Rattle.std.specs.Int.{w64, trailing_zeros}
-use Rattle.std.proofs.lemmas.Bool.{cases_lt, ne_eqb, not-true, not-false, false≢true, cases_Bool}
-use Rattle.std.proofs.lemmas.List.{length-map, get_or-drop, take_all, take_more}
+use Rattle.std.proofs.Common.{subst, ◌∙◌, inl, inr, refl, length-drop, arith, None, ◌≢◌, zero, suc, take, w64, ne_eqb, get_or-drop}
+use Rattle.std.proofs.Common.{take_all, All}
+use Rattle.std.specs.Int.{trailing_zeros}
+use Rattle.std.proofs.lemmas.Bool.{cases_lt, not-true, not-false, false≢true, cases_Bool}
+use Rattle.std.proofs.lemmas.List.{length-map, take_more}
 use Rattle.std.proofs.lemmas.Simd.{length-chunk, mask_l-lt}
 use Rattle.memchr.specs.Find.{IsFirstByte, is_byte3, Nowhere, Passes}
-use Rattle.lp_scan.specs.code.Lanes.{AllPassBetween, IsRunIn, first_set, mask_of}
-use Rattle.lp_split.specs.code.Ahead.{AreSeen}
+use Rattle.lp_scan.specs.code.{AllPassBetween, IsRunIn, first_set, mask_of}
+use Rattle.lp_split.specs.code.{AreSeen}
 use Rattle.lp_scan.proofs.lemmas.scan.MaskLemmas.{run_is, shifted, tz_below}
-use Rattle.lp_format.specs.format.Bytes.{backslash, quote}
-use Rattle.std.specs.List.{All}
+use Rattle.lp_format.specs.format.{backslash, quote, Dialect, Crate, Strict, begins_comment, IsFirstCut}
 use Rattle.std.proofs.lemmas.List.Elements.{All-nil, All-push}
-use Rattle.lp_format.specs.format.Dialects.{Dialect, Crate, Strict}
-use Rattle.lp_format.specs.format.Pieces.{begins_comment, IsFirstCut}
 use Rattle.lp_format.proofs.lemmas.split.SplitPieces.{cut_of_comment, cut_of_other}
 use Rattle.lp_split.proofs.lemmas.split.SplitStretches.{quiet_cut, quiet_last}
+use Rattle.lp_format.specs.format.Bytes.{newline}
 
 module _ (test : ℕ → Bool) (text : List ℕ) (at n m r : ℕ) (room : at + n ≤ length text) (few : n ≤ 64)
     (is : m ≡ mask_of test text at n) (some : 0 < m) (lowest : r ≡ trailing_zeros w64 m) where
@@ -46,22 +45,13 @@ module _ (test : ℕ → Bool) (text : List ℕ) (at n m r : ℕ) (room : at + n
   later_are =
       let inside = one_of in
       let count : n - r - 1 ≡ n - (r + 1) = omega arith in
-      ap (λ (k : ℕ). k / 2 ^ r / 2) is
-      ∙ ap (λ (k : ℕ). k / 2) (shifted test text at n r (omega (arith, inside)))
-      ∙ shifted test text (at + r) (n - r) 1 (omega (arith, inside))
-      ∙ ap (mask_of test text (at + r + 1)) count
+      ap (λ (k : ℕ). k / 2 ^ r / 2) is ∙ ap (λ (k : ℕ). k / 2) (shifted test text at n r (omega (arith, inside)))
+      ∙ shifted test text (at + r) (n - r) 1 (omega (arith, inside)) ∙ ap (mask_of test text (at + r + 1)) count
 
 -- so are they seen
-pub seen_later : (text : List ℕ) (at n m r place : ℕ) → at + n ≤ length text → n ≤ 64
-    → m ≡ mask_of (is_byte3 backslash 10 quote) text at n → 0 < m → r ≡ trailing_zeros w64 m
-    → at + r ≡ place → AreSeen (drop (place + 1) text) (m / 2 ^ r / 2)
-seen_later text at n m r place room few is some lowest to_place = subst
-    (λ (k : ℕ). AreSeen (drop (k + 1) text) (m / 2 ^ r / 2)) to_place (record {
-      count = n - (r + 1);
-      within = omega (arith, length-drop (at + r + 1) text);
-      few = omega arith;
-      are = later_are (is_byte3 backslash 10 quote) text at n m r room few is some lowest;
-    })
+pub seen_later : (text : List ℕ) (at n m r place : ℕ) → at + n ≤ length text → n ≤ 64 → m ≡ mask_of (is_byte3 backslash 10 quote) text at n
+    → 0 < m → r ≡ trailing_zeros w64 m → at + r ≡ place → AreSeen (drop (place + 1) text) (m / 2 ^ r / 2)
+seen_later text at n m r place room few is some lowest to_place = grind (arith, length-drop, later_are)
 
 -- of no bytes nothing is seen
 pub none_are_seen : (text : List ℕ) → AreSeen text 0
@@ -72,10 +62,7 @@ pub none_seen : (test : ℕ → Bool) (text : List ℕ) (at n m : ℕ) → at + 
     → AllPassBetween (λ b. not (test b)) text 0 at → AllPassBetween (λ b. not (test b)) text 0 (at + n)
 none_seen test text at n m room few is empty before k from to =
     let run = run_is test text at n room few n (ap (λ (k : ℕ). first_set k n) (sym empty ∙ is)) in
-    elim (cases_lt k at) [
-      | inl early ↦ before k from early
-      | inr late ↦ run.1 k late to
-    ]
+    grind (arith, cases_lt, run)
 
 module _ (test : ℕ → Bool) (text rest : List ℕ) (at : ℕ) (within : at ≤ length text) (same : rest ≡ drop at text)
     (quiet : AllPassBetween (λ b. not (test b)) text 0 at) where
@@ -111,19 +98,18 @@ module _ (test : ℕ → Bool) (text rest : List ℕ) (at : ℕ) (within : at �
 
 -- the front before the first of them holds no newline
 no_newline : (text : List ℕ) (n : ℕ) → n ≤ length text → Nowhere (Passes (is_byte3 backslash 10 quote) text) 0 n
-    → All (λ b. b ≢ 10) (take n text)
-no_newline text zero h none = All-nil (λ b. b ≢ 10)
+    → All (λ b. b ≢ newline) (take n text)
+no_newline text zero h none = All-nil (λ b. b ≢ newline)
 no_newline text (suc n) h none =
     let before = no_newline text n (omega arith) (λ k l m. none k l (omega arith)) in
     let next : suc n ≡ n + 1 = omega arith in
-    let other : slice_index text n ≢ 10 = λ e. none n (omega arith) (omega arith) (rw e refl) in
+    let other : slice_index text n ≢ newline = λ e. none n (omega arith) (omega arith) (rw e refl) in
     rw (ap (λ (k : ℕ). take k text) next ∙ take_more text n 0 (omega arith))
-    (All-push (λ b. b ≢ 10) (take n text) (slice_index text n) before other)
+    (All-push (λ b. b ≢ newline) (take n text) (slice_index text n) before other)
 
 -- a newline that is the first of them is the cut
 pub cut_at_newline : (dialect : Dialect) (text : List ℕ) (n : ℕ) → IsFirstByte (is_byte3 backslash 10 quote) text (Some n)
-    → slice_index text n ≡ 10
-    → IsFirstCut dialect text (Some n)
+    → slice_index text n ≡ newline → IsFirstCut dialect text (Some n)
 cut_at_newline dialect text n found newline = grind (arith, quiet_cut, cases_Bool, cut_of_comment, no_newline, cut_of_other)
 
 -- a text without any of them is one piece
@@ -131,6 +117,6 @@ pub no_cut : (dialect : Dialect) (text : List ℕ) → IsFirstByte (is_byte3 bac
 no_cut Crate text none = quiet_last text none
 no_cut Strict text none = elim (cases_Bool (begins_comment text)) [
   | inl e ↦ cut_of_comment text None e
-      (subst (All (λ b. b ≢ 10)) (take_all (length text) text (omega arith)) (no_newline text (length text) (omega arith) none))
+      (subst (All (λ b. b ≢ newline)) (take_all (length text) text (omega arith)) (no_newline text (length text) (omega arith) none))
   | inr e ↦ cut_of_other text None e (quiet_last text none)
 ]

@@ -1,11 +1,8 @@
 -- The first bare byte, found from left to right.
 use Rattle.std.proofs.Common.{◌≡◌, ℕ, zero, suc, ◌<◌, ◌≤◌, List, [], ◌∷◌, ◌++◌, length, take, get_or, Bool, true, false, not, ◌&&◌, cond}
-use Rattle.std.proofs.Common.{sym, ap, ◌∙◌, arith, inl, inr}
-use Rattle.std.specs.Prelude.{◌==◌}
+use Rattle.std.proofs.Common.{sym, ap, ◌∙◌, arith, inl, inr, ◌==◌, append_assoc, append-nil}
 use Rattle.std.proofs.lemmas.Bool.{cases_Bool}
-use Rattle.std.proofs.lemmas.List.{append_assoc, append-nil}
-use Rattle.lp_format.specs.format.Bytes.{backslash}
-use Rattle.lp_format.specs.format.Escapes.{is_escaped_after, first_bare}
+use Rattle.lp_format.specs.format.{backslash, is_escaped_after, first_bare}
 use Rattle.lp_format.proofs.lemmas.tokens.EscapeLemmas.{is_escaped_push, first_bare_is}
 
 -- whether the place after these bytes is escaped, from whether the place before them is

@@ -1,23 +1,19 @@
 -- What loads and searches tell: the first bare byte that passes a test, how many bytes pass it, and which end a stretch.
 use Rattle.std.proofs.Common.{◌≡◌, ◌≢◌, ℕ, zero, suc, ◌+◌, ◌<◌, ◌≤◌, List, length, take, drop, slice_index, Bool, true, false, ◌||◌, Some}
 use Rattle.std.proofs.Common.{None, length-drop, refl, sym, ap, ◌∙◌, subst, inl, inr, arith, take-append-drop, ◌%◌, ◌^◌, map, cond}
-use Rattle.std.proofs.Common.{count_ones}
-use Rattle.std.specs.Prelude.{◌==◌}
-use Rattle.std.proofs.lemmas.Bool.{and_right, cases_Bool, eqb-true, eqb-false}
-use Rattle.std.proofs.lemmas.List.{get_or-drop, length-map}
+use Rattle.std.proofs.Common.{count_ones, ◌==◌, eqb-true, get_or-drop, count_by, take-add}
+use Rattle.std.proofs.lemmas.Bool.{and_right, cases_Bool, eqb-false}
+use Rattle.std.proofs.lemmas.List.{length-map}
 use Rattle.memchr.specs.Find.{Nowhere, Passes, IsFirstByte}
-use Rattle.lp_format.specs.format.Bytes.{backslash}
-use Rattle.lp_format.specs.format.Escapes.{is_escaped_after, is_bare_at, IsPassed}
+use Rattle.lp_format.specs.format.{backslash, is_escaped_after, is_bare_at, IsPassed}
 use Rattle.lp_format.proofs.lemmas.tokens.EscapeLemmas.{is_escaped_more}
 use Rattle.lp_format.proofs.lemmas.split.SplitBare.{is_escaped-nil}
-use Rattle.lp_split.specs.code.Stops.{EndsAt, IsBarePassed, IsStretch}
+use Rattle.lp_split.specs.code.{EndsAt, IsBarePassed, IsStretch}
 use Rattle.lp_split.proofs.lemmas.split.SplitStretches.{bare_past}
-use Rattle.std.specs.List.{count_by}
-use Rattle.std.proofs.Math.Seq.{take-add}
 use Rattle.std.proofs.lemmas.List.Sums.{count_by-le-length, sum_by-append}
 use Rattle.std.proofs.lemmas.Simd.{length-chunk, mask_l-mod}
 use lib.Lanes.{chunk}
-use Rattle.lp_scan.specs.code.Lanes.{mask_of}
+use Rattle.lp_scan.specs.code.{mask_of}
 use Rattle.lp_scan.proofs.lemmas.scan.MaskLemmas.{ones}
 
 -- a search looks for backslashes and for the bytes that pass
@@ -47,13 +43,8 @@ module _ (passes : ℕ → Bool) (text : List ℕ) where
   passed_bytes at zero h none p = subst (IsBarePassed passes text) (omega arith) p
   passed_bytes at (suc n) h none p =
       let before = passed_bytes at n (omega arith) (λ k l. none k (omega arith)) p in
-      let here = none n (omega arith) in
       let next : at + n + 1 ≡ at + suc n = omega arith in
-      subst (IsBarePassed passes text) next (record {
-        within = omega arith;
-        is_bare = bare_past text (at + n) (omega arith) here.0;
-        none = passed_more (at + n) before.none (rw here.1 refl);
-      })
+      grind (arith, bare_past, passed_more)
 
   -- a backslash and the byte after it
   passed_escape : (at : ℕ) → at + 1 < length text → slice_index text at ≡ backslash → passes backslash ≡ false
@@ -62,11 +53,7 @@ module _ (passes : ℕ → Bool) (text : List ℕ) where
       let flag : is_escaped_after (take (at + 1) text) ≡ true = rw (is_escaped_more text at (omega arith), p.is_bare, here) refl in
       let escaped : is_bare_at passes text (at + 1) ≡ false = rw flag (and_right (passes (slice_index text (at + 1))) false refl) in
       let next : (at + 1) + 1 ≡ at + 2 = omega arith in
-      subst (IsBarePassed passes text) next (record {
-        within = omega arith;
-        is_bare = rw (is_escaped_more text (at + 1) h, flag) refl;
-        none = passed_more (at + 1) (passed_more at p.none (rw (here, fails) refl)) escaped;
-      })
+      grind (arith, is_escaped_more, passed_more)
 
   -- a stretch ends where a byte passes, or with the text
   pub passed_to_stop : (n : ℕ) → IsBarePassed passes text n → (n < length text → passes (slice_index text n) ≡ true)
@@ -124,8 +111,7 @@ looks_for_two c d other = grind arith
 
 -- the bytes that pass of a whole text
 pub count_whole : (p : ℕ → Bool) (text : List ℕ) (at : ℕ) → count_by p (take at text) + count_by p (drop at text) ≡ count_by p text
-count_whole p text at =
-    sym (sum_by-append (λ x. cond (p x) 1 0) (take at text) (drop at text)) ∙ ap (count_by p) (take-append-drop at text)
+count_whole p text at = sym (sum_by-append (λ x. cond (p x) 1 0) (take at text) (drop at text)) ∙ ap (count_by p) (take-append-drop at text)
 
 -- one load
 module _ (p : ℕ → Bool) (text : List ℕ) (at m : ℕ) (room : at + 64 ≤ length text) (is : m ≡ mask_of p text at 64) where

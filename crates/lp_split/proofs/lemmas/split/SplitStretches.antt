@@ -1,36 +1,30 @@
 -- A piece, a stretch at a time, by what searches and loads show.
 use Rattle.std.proofs.Common.{◌≡◌, ◌≢◌, ℕ, zero, suc, ◌+◌, ◌-◌, ◌/◌, ◌%◌, ◌^◌, ◌<◌, ◌≤◌, Bool, true, false, cond, not, ◌&&◌, List, [], ◌∷◌}
 use Rattle.std.proofs.Common.{◌++◌, length, take, drop, map, slice_index, Some, None, count_ones, sym, ap, ap₂, ◌∙◌, subst, refl, inl, inr}
-use Rattle.std.proofs.Common.{arith, length-append, length-drop}
-use Rattle.std.specs.Prelude.{◌==◌, ◌||◌}
-use Rattle.std.specs.Int.{w64, trailing_zeros}
-use Rattle.std.specs.List.{count_by, range_with_len}
-use Rattle.std.proofs.lemmas.Bool.{and_parts, cases_Bool, cases_eq, cases_lt, ne_eqb, not-true}
+use Rattle.std.proofs.Common.{arith, length-append, length-drop, ◌==◌, ◌||◌, w64, count_by, ne_eqb, get_or-drop, take_all, take-add}
+use Rattle.std.specs.Int.{trailing_zeros}
+use Rattle.std.specs.List.{range_with_len}
+use Rattle.std.proofs.lemmas.Bool.{and_parts, cases_Bool, cases_eq, cases_lt, not-true}
 use Rattle.std.proofs.lemmas.Bool.Decides.{nat_tests}
-use Rattle.std.proofs.lemmas.List.{get_or-drop, take_all, take_more}
+use Rattle.std.proofs.lemmas.List.{take_more}
 use Rattle.std.proofs.lemmas.List.Elements.{All-nil}
 use Rattle.std.proofs.lemmas.List.FromFn.{length-map-range_with_len, length-range_with_len}
 use Rattle.std.proofs.lemmas.List.Sums.{count_by-le-length, sum_by-cons}
 use Rattle.std.proofs.lemmas.Simd.{mask_l-mod, ones-mask_l}
-use Rattle.std.proofs.Math.Seq.{drop-append_seam, take-add, take-append-add, take-append_seam}
+use Rattle.std.proofs.Math.Seq.{drop-append_seam, take-append-add, take-append_seam}
 use Rattle.memchr.specs.Find.{IsFirstByte, Nowhere, Passes, is_byte3}
-use Rattle.lp_format.specs.format.Bytes.{backslash, comma, newline, quote, space}
-use Rattle.lp_format.specs.format.Dialects.{Crate}
-use Rattle.lp_format.specs.format.Escapes.{is_bare_at, is_escaped_after, IsBareAfter}
-use Rattle.lp_format.specs.format.Piece.{IsHead, EndsQuoted, IsClosed}
-use Rattle.lp_format.specs.format.Pieces.{IsLastPiece, IsFirstCut}
+use Rattle.lp_format.specs.format.{backslash, comma, newline, quote, space, Crate, is_bare_at, is_escaped_after, IsBareAfter, IsHead}
+use Rattle.lp_format.specs.format.{EndsQuoted, IsClosed, IsLastPiece, IsFirstCut}
 use Rattle.lp_split.specs.declared.split.Ahead.{Ahead}
-use Rattle.lp_split.specs.code.Ahead.{IsAhead}
-use Rattle.lp_split.specs.code.Stops.{IsBarePassed, IsStretch}
-use Rattle.lp_split.specs.code.Tracks.{IsCountOf}
-use Rattle.lp_scan.specs.code.Lanes.{first_set}
-use Rattle.lp_scan.specs.code.Scan.{mask_at}
+use Rattle.lp_split.specs.code.{IsAhead, IsBarePassed, IsStretch, IsCountOf}
+use Rattle.lp_scan.specs.code.{first_set, mask_at}
 use Rattle.lp_scan.proofs.lemmas.scan.BareMasks.{at_most_one, lowest_passes, next_bare, none_before, one_escaped, ones_low}
 use Rattle.lp_scan.proofs.lemmas.scan.MaskLemmas.{mask_after, mask_fits, tz_below}
 use Rattle.lp_format.proofs.lemmas.split.SplitBare.{is_escaped-nil, is_escaped-append, is_escaped-push_other, flag_after, IsHead-bare}
 use Rattle.lp_format.proofs.lemmas.split.SplitBare.{IsHead-escaped, EndsPlain-start, EndsPlain-bare, EndsQuoted-bare, EndsQuoted-escaped}
 use Rattle.lp_split.proofs.lemmas.split.SplitWalk.{Head, IsIn, IsIn-escaped, Head-space, Plain, Plain-any, Plain-opens, Plain-other, Quoted}
 use Rattle.lp_split.proofs.lemmas.split.SplitWalk.{Quoted-closes}
+use Rattle.lp_format.specs.format.Bytes.{equals}
 
 -- a newline or a quote
 abbrev pub ends_plain : ℕ → Bool
@@ -42,8 +36,7 @@ fails_bare t e h k = grind arith
 
 -- a text in which nothing is escaped at its end does not change what is escaped after it
 pub bare_joined : (xs ys : List ℕ) → IsBareAfter xs → is_escaped_after (xs ++ ys) ≡ is_escaped_after ys
-bare_joined xs ys h =
-    is_escaped-append xs ys ∙ ap (λ (f : Bool). flag_after f ys) (h ∙ sym is_escaped-nil) ∙ sym (is_escaped-append [] ys)
+bare_joined xs ys h = is_escaped-append xs ys ∙ ap (λ (f : Bool). flag_after f ys) (h ∙ sym is_escaped-nil) ∙ sym (is_escaped-append [] ys)
 
 -- after a byte that is no backslash nothing is escaped
 pub bare_past : (text : List ℕ) (at : ℕ) → at < length text → slice_index text at ≢ backslash → IsBareAfter (take (at + 1) text)
@@ -59,7 +52,6 @@ pub stretch_in : (passes : ℕ → Bool) (text rest : List ℕ) (at n : ℕ) →
     → IsBareAfter (take at text) → IsStretch passes rest 0 n → IsStretch passes text at (at + n)
 stretch_in passes text rest at n same from is_bare s =
     let left : length rest ≡ length text - at = ap length same ∙ length-drop at text in
-    let inside : n ≤ length rest = s.within in
     record {
       ordered = omega arith;
       within = omega arith;
@@ -78,9 +70,8 @@ module _ (text : List ℕ) where
   -- what each byte keeps that is no bare stop is kept along several
   along : (P : List ℕ → Type 0) (stop : ℕ → Bool)
       → ((piece : List ℕ) (b : ℕ) → is_escaped_after piece ≡ true → P piece → P (piece ++ b ∷ []))
-      → ((piece : List ℕ) (b : ℕ) → IsBareAfter piece → stop b ≡ false → P piece → P (piece ++ b ∷ []))
-      → (n at end : ℕ) → at + n ≡ end → end ≤ length text → ((k : ℕ) → at ≤ k → k < end → is_bare_at stop text k ≡ false)
-      → P (take at text) → P (take end text)
+      → ((piece : List ℕ) (b : ℕ) → IsBareAfter piece → stop b ≡ false → P piece → P (piece ++ b ∷ [])) → (n at end : ℕ) → at + n ≡ end
+      → end ≤ length text → ((k : ℕ) → at ≤ k → k < end → is_bare_at stop text k ≡ false) → P (take at text) → P (take end text)
   along P stop if_escaped if_bare zero at end to room none h = grind arith
   along P stop if_escaped if_bare (suc n) at end to room none h =
       let piece = take (at + n) text in
@@ -112,18 +103,18 @@ module _ (text : List ℕ) where
 
   -- a byte of a plain stretch is counted if it is bare
   plain_byte : (at e c x y : ℕ) → at < length text → is_bare_at ends_plain text at ≡ false → IsIn Plain e c (take at text)
-      → x ≡ e + cond (is_bare_at (λ b. b == 61) text at) 1 0 → y ≡ c + cond (is_bare_at (λ b. b == comma) text at) 1 0
+      → x ≡ e + cond (is_bare_at (λ b. b == equals) text at) 1 0 → y ≡ c + cond (is_bare_at (λ b. b == comma) text at) 1 0
       → IsIn Plain x y (take (at + 1) text)
   plain_byte at e c x y room none h to_x to_y =
       let piece = take at text in
       let b = slice_index text at in
       rw (take_more text at 0 room) (elim (cases_Bool (is_escaped_after piece)) [
         | inl escaped ↦
-            let same_x : x ≡ e = to_x ∙ not_counted (b == 61) (is_escaped_after piece) e escaped in
+            let same_x : x ≡ e = to_x ∙ not_counted (b == equals) (is_escaped_after piece) e escaped in
             let same_y : y ≡ c = to_y ∙ not_counted (b == comma) (is_escaped_after piece) c escaped in
             rw (same_x, same_y) (IsIn-escaped Plain e c piece b escaped h)
         | inr is_bare ↦
-            let same_x = to_x ∙ counted (b == 61) (is_escaped_after piece) e is_bare in
+            let same_x = to_x ∙ counted (b == equals) (is_escaped_after piece) e is_bare in
             let same_y = to_y ∙ counted (b == comma) (is_escaped_after piece) c is_bare in
             rw (same_x, same_y) (Plain-any e c piece b is_bare (fails_bare _ _ none is_bare) h)
       ])
@@ -138,7 +129,7 @@ module _ (text : List ℕ) where
 
   -- along a plain stretch the bare `=` and `,` are counted
   plain_on : (n at e c x y : ℕ) → at + n ≤ length text → ((k : ℕ) → at ≤ k → k < at + n → is_bare_at ends_plain text k ≡ false)
-      → IsIn Plain e c (take at text) → x ≡ e + count_by (is_bare_at (λ b. b == 61) text) (range_with_len at n)
+      → IsIn Plain e c (take at text) → x ≡ e + count_by (is_bare_at (λ b. b == equals) text) (range_with_len at n)
       → y ≡ c + count_by (is_bare_at (λ b. b == comma) text) (range_with_len at n) → IsIn Plain x y (take (at + n) text)
   plain_on zero at e c x y room none h to_x to_y = grind arith
   plain_on (suc n) at e c x y room none h to_x to_y =
@@ -148,7 +139,7 @@ module _ (text : List ℕ) where
       let one = plain_byte at e c _ _ (omega arith) (none at (omega arith) (omega arith)) h refl refl in
       subst (λ (k : ℕ). IsIn Plain x y (take k text)) place
       (plain_on n (at + 1) _ _ x y (omega arith) (λ k l m. none k (omega arith) (omega arith)) one
-      (omega (arith, to_x, more (is_bare_at (λ b. b == 61) text))) (omega (arith, to_y, more (is_bare_at (λ b. b == comma) text))))
+      (omega (arith, to_x, more (is_bare_at (λ b. b == equals) text))) (omega (arith, to_y, more (is_bare_at (λ b. b == comma) text))))
 
 -- bytes that go on from others, which end at a bare place
 module _ (bytes text : List ℕ) (is_bare : IsBareAfter bytes) where
@@ -196,8 +187,7 @@ module _ (bytes text : List ℕ) (is_bare : IsBareAfter bytes) where
       → map (is_bare_at passes (bytes ++ text)) (range_with_len to n) ≡ map (is_bare_at passes text) (range_with_len from n)
   tests_in_both passes zero from to place = refl
   tests_in_both passes (suc n) from to place =
-      ap₂ (λ (t : Bool) (ts : List Bool). t ∷ ts)
-      (ap (is_bare_at passes (bytes ++ text)) (sym place) ∙ bare_in_both passes from)
+      ap₂ (λ (t : Bool) (ts : List Bool). t ∷ ts) (ap (is_bare_at passes (bytes ++ text)) (sym place) ∙ bare_in_both passes from)
       (tests_in_both passes n (from + 1) (to + 1) (omega (arith, place)))
 
   -- so what a load shows of them it shows of both
@@ -230,7 +220,7 @@ module _ (text : List ℕ) (n : ℕ) (s : IsStretch (λ b. b == space || b == ne
           bare_past text n inside (omega (arith, here)),
         )
 
--- where a quoted stretch ends at a quote
+-- if a quoted stretch ends at a quote
 module _ (text : List ℕ) (at end : ℕ) (s : IsStretch (λ b. b == quote) text at end) (inside : end < length text) where
   -- the quote is there, and bare
   at_quote : ((slice_index text end == quote) ≡ true) × (not (is_escaped_after (take end text)) ≡ true)
@@ -247,7 +237,7 @@ module _ (text : List ℕ) (at end : ℕ) (s : IsStretch (λ b. b == quote) text
       let here : slice_index text end ≡ quote = grind (arith, nat_tests) in
       rw (take_more text end 0 inside, here) (Quoted-closes e c (take end text) (not-true _ at_quote.1) (quoted_to text e c at end h s))
 
--- where it ends with the text, that is one piece
+-- if it ends with the text, that is one piece
 pub quoted_last : (text : List ℕ) (at end e c : ℕ) → IsStretch (λ b. b == quote) text at end → IsIn Quoted e c (take at text)
     → length text ≤ end → IsLastPiece Crate text
 quoted_last text at end e c s h past =
@@ -261,7 +251,7 @@ nothing_ahead text at within is_bare = grind arith
 
 -- what a load shows
 pub load_shows : (text : List ℕ) (at s e c last : ℕ) → at + 64 < length text → IsBareAfter (take at text)
-    → s ≡ mask_at (is_bare_at ends_plain text) at 64 → e ≡ mask_at (is_bare_at (λ b. b == 61) text) at 64
+    → s ≡ mask_at (is_bare_at ends_plain text) at 64 → e ≡ mask_at (is_bare_at (λ b. b == equals) text) at 64
     → c ≡ mask_at (is_bare_at (λ b. b == comma) text) at 64 → last ≡ cond (is_bare_at (λ b. b == backslash) text (at + 63)) 1 0
     → IsAhead text at (record { stops = s; equals = e; commas = c; end = at + 64 + last })
 load_shows text at s e c last room is_bare s_is e_is c_is last_is =
@@ -305,7 +295,7 @@ module _ (text : List ℕ) (at : ℕ) (a : Ahead) (are : IsAhead text at a) wher
     pub few_past : (x ≤ a.end - at) × (y ≤ a.end - at)
     few_past =
         let within = are.within in (
-          omega (arith, few_ones (λ b. b == 61) x are.count (x_is ∙ whole (λ b. b == 61) a.equals are.equals_are)),
+          omega (arith, few_ones (λ b. b == equals) x are.count (x_is ∙ whole (λ b. b == equals) a.equals are.equals_are)),
           omega (arith, few_ones (λ b. b == comma) y are.count (y_is ∙ whole (λ b. b == comma) a.commas are.commas_are)),
         )
 
@@ -316,7 +306,7 @@ module _ (text : List ℕ) (at : ℕ) (a : Ahead) (are : IsAhead text at a) wher
         let none = none_before (bare_at ends_plain) at are.count are.count are.few
         (ap (λ (m : ℕ). first_set m are.count) (sym clear ∙ are.stops_are)) in
         let front = plain_on text are.count at e c (e + x) (c + y) (omega (arith, are.fits)) none h
-        (ap (λ (k : ℕ). e + k) (x_is ∙ whole (λ b. b == 61) a.equals are.equals_are))
+        (ap (λ (k : ℕ). e + k) (x_is ∙ whole (λ b. b == equals) a.equals are.equals_are))
         (ap (λ (k : ℕ). c + k) (y_is ∙ whole (λ b. b == comma) a.commas are.commas_are)) in
         elim (cases_lt (at + are.count) a.end) [
           | inl more ↦
@@ -364,7 +354,7 @@ module _ (text : List ℕ) (at : ℕ) (a : Ahead) (are : IsAhead text at a) wher
       -- no more bytes are counted than come before it
       pub few_to : (x ≤ run) × (y ≤ run)
       few_to = (
-        few_ones (λ b. b == 61) x run (x_is ∙ low (λ b. b == 61) a.equals are.equals_are),
+        few_ones (λ b. b == equals) x run (x_is ∙ low (λ b. b == equals) a.equals are.equals_are),
         few_ones (λ b. b == comma) y run (y_is ∙ low (λ b. b == comma) a.commas are.commas_are),
       )
 
@@ -374,7 +364,7 @@ module _ (text : List ℕ) (at : ℕ) (a : Ahead) (are : IsAhead text at a) wher
         plain_to =
             plain_on text run at e c (e + x) (c + y) (omega (arith, stop_within))
             (none_before (bare_at ends_plain) at are.count run are.few found) h
-            (ap (λ (k : ℕ). e + k) (x_is ∙ low (λ b. b == 61) a.equals are.equals_are))
+            (ap (λ (k : ℕ). e + k) (x_is ∙ low (λ b. b == equals) a.equals are.equals_are))
             (ap (λ (k : ℕ). c + k) (y_is ∙ low (λ b. b == comma) a.commas are.commas_are))
 
         -- a quote is there if no newline is
@@ -388,8 +378,7 @@ module _ (text : List ℕ) (at : ℕ) (a : Ahead) (are : IsAhead text at a) wher
 
         -- and opens a quoted stretch if they are
         pub quote_opens : slice_index text (at + run) ≢ newline → c + y < e + x → IsIn Quoted (e + x) (c + y) (take (at + run + 1) text)
-        quote_opens other more =
-            rw (a_quote other) (Plain-opens (e + x) (c + y) (take (at + run) text) (not-true _ at_end.1) more plain_to)
+        quote_opens other more = rw (a_quote other) (Plain-opens (e + x) (c + y) (take (at + run) text) (not-true _ at_end.1) more plain_to)
 
     -- a newline there cuts
     pub plain_cut : (e c : ℕ) → IsIn Plain e c (take at text) → slice_index text (at + run) ≡ newline
@@ -420,8 +409,7 @@ module _ (text : List ℕ) (at : ℕ) (a : Ahead) (are : IsAhead text at a) wher
         let near = are.near in
         let rest : (p : ℕ → Bool) (m : ℕ) → m ≡ mask_at (bare_at p) at are.count
         → m / 2 ^ run / 2 ≡ mask_at (bare_at p) (at + run + 1) left = λ p m is.
-        ap (λ (k : ℕ). k / 2 ^ run / 2) is
-        ∙ ap (λ (k : ℕ). k / 2) (mask_after (bare_at p) at are.count run (left + 1) (omega arith))
+        ap (λ (k : ℕ). k / 2 ^ run / 2) is ∙ ap (λ (k : ℕ). k / 2) (mask_after (bare_at p) at are.count run (left + 1) (omega arith))
         ∙ mask_after (bare_at p) (at + run) (left + 1) 1 left (omega arith) in
         record {
           count = left;
@@ -430,11 +418,9 @@ module _ (text : List ℕ) (at : ℕ) (a : Ahead) (are : IsAhead text at a) wher
           near = omega arith;
           fits = are.fits;
           is_bare = are.is_bare;
-          escaped = λ h.
-              let place : at + are.count ≡ at + run + 1 + left = omega arith in
-              subst (λ (k : ℕ). is_escaped_after (take k text) ≡ true) place (are.escaped (omega arith));
+          escaped = grind arith;
           stops_are = rest ends_plain a.stops are.stops_are;
-          equals_are = rest (λ b. b == 61) a.equals are.equals_are;
+          equals_are = rest (λ b. b == equals) a.equals are.equals_are;
           commas_are = rest (λ b. b == comma) a.commas are.commas_are;
         }
 

@@ -1,20 +1,14 @@
 -- What a walk knows of a piece, a byte further.
 use Rattle.std.proofs.Common.{◌≡◌, ◌≢◌, ℕ, ◌+◌, ◌<◌, ◌≤◌, Bool, true, false, cond, eqb, List, [], ◌∷◌, ◌++◌, ◌∙◌, ap, arith, add-zero, ◌&&◌}
-use Rattle.std.proofs.Common.{not, Some}
-use Rattle.std.specs.List.{count_by}
+use Rattle.std.proofs.Common.{not, Some, count_by, ne_eqb, ◌==◌, ◌||◌}
 use Rattle.std.proofs.lemmas.List.Sums.{sum_by-append}
-use Rattle.std.proofs.lemmas.Bool.{ne_eqb}
 use Rattle.std.proofs.lemmas.Bool.Decides.{nat_tests}
-use Rattle.std.specs.Prelude.{◌==◌, ◌||◌}
-use Rattle.lp_split.specs.code.Tracks.{IsCountOf, EndsIn, Steps}
-use Rattle.lp_format.specs.format.Escapes.{is_escaped_after, IsBareAfter}
-use Rattle.lp_format.specs.format.Piece.{HasMoreEquals}
+use Rattle.lp_split.specs.code.{IsCountOf, EndsIn, Steps, Part, Place}
+use Rattle.lp_format.specs.format.{is_escaped_after, IsBareAfter, HasMoreEquals, newline, quote, backslash}
 use Rattle.lp_format.proofs.lemmas.split.SplitBare.{IsHead-escaped, IsHead-bare, EndsPlain-escaped, EndsPlain-bare, EndsPlain-start}
 use Rattle.lp_format.proofs.lemmas.split.SplitBare.{EndsQuoted-escaped, EndsQuoted-bare, EndsQuoted-start, EndsQuoted-close}
-use Rattle.lp_format.specs.format.Bytes.{newline, quote, backslash}
-use Rattle.lp_split.specs.declared.split.resumed.Part.{Part}
-use Rattle.lp_split.specs.declared.split.tracked.Place.{Place}
 use Rattle.lp_format.proofs.lemmas.tokens.EscapeLemmas.{is_escaped_push}
+use Rattle.lp_format.specs.format.Bytes.{comma, equals, space}
 pub use Rattle.lp_split.specs.declared.split.resumed.Part.{Part}
 pub use Rattle.lp_split.specs.declared.split.resumed.Part.TheVariants.{Head, Plain, Quoted}
 pub use Rattle.lp_split.specs.code.Tracks.{EndsIn as IsIn}
@@ -25,16 +19,12 @@ count_by-push p xs b = omega (arith, sum_by-append (λ x. cond (p x) 1 0) xs (b 
 
 -- a byte more counts if it is `=` or `,`
 IsCountOf-push : (counted : List ℕ) (e c b : ℕ) → IsCountOf counted e c
-    → IsCountOf (counted ++ b ∷ []) (e + cond (eqb b 61) 1 0) (c + cond (eqb b 44) 1 0)
+    → IsCountOf (counted ++ b ∷ []) (e + cond (eqb b equals) 1 0) (c + cond (eqb b comma) 1 0)
 IsCountOf-push counted e c b h = grind (arith, count_by-push, eqb)
 
 -- another byte counts for nothing
-IsCountOf-other : (counted : List ℕ) (e c b : ℕ) → IsCountOf counted e c → b ≢ 61 → b ≢ 44 → IsCountOf (counted ++ b ∷ []) e c
+IsCountOf-other : (counted : List ℕ) (e c b : ℕ) → IsCountOf counted e c → b ≢ equals → b ≢ comma → IsCountOf (counted ++ b ∷ []) e c
 IsCountOf-other counted e c b h n m = grind (arith, count_by-push, eqb, ne_eqb)
-
--- more counted `=` than `,` are more of them
-pub HasMoreEquals-from : (counted : List ℕ) (e c : ℕ) → IsCountOf counted e c → c < e → HasMoreEquals counted
-HasMoreEquals-from counted e c h l = omega (arith, h.equals_is, h.commas_is)
 
 -- a count of `=` that is not greater says that there are not more
 not_more : (counted : List ℕ) (e c : ℕ) → IsCountOf counted e c → e ≤ c → ¬ HasMoreEquals counted
@@ -43,52 +33,50 @@ not_more counted e c h l m = omega (arith, h.equals_is, h.commas_is)
 -- a byte that is escaped, and a backslash that is not
 pub IsIn-escaped : (part : Part) (e c : ℕ) (piece : List ℕ) (b : ℕ) → is_escaped_after piece ≡ true
     → IsIn part e c piece → IsIn part e c (piece ++ b ∷ [])
-IsIn-escaped Head e c piece b f h = (IsHead-escaped piece b h.0 f, h.1)
-IsIn-escaped Plain e c piece b f h = (h.0, EndsPlain-escaped b h.1 f, h.2)
-IsIn-escaped Quoted e c piece b f h = (h.0, EndsQuoted-escaped b h.1 f, h.2)
+IsIn-escaped part e c piece b h k = grind (arith, IsHead-escaped, EndsPlain-escaped, EndsQuoted-escaped)
 
 -- a bare backslash changes no part and no count
-pub IsIn-backslash : (part : Part) (e c : ℕ) (piece : List ℕ) → IsBareAfter piece → IsIn part e c piece → IsIn part e c (piece ++ 92 ∷ [])
-IsIn-backslash Head e c piece f h = (IsHead-bare piece 92 h.0 f (omega arith) (omega arith), h.1)
+pub IsIn-backslash : (part : Part) (e c : ℕ) (piece : List ℕ) → IsBareAfter piece → IsIn part e c piece → IsIn part e c (piece ++ backslash ∷ [])
+IsIn-backslash Head e c piece f h = (IsHead-bare piece backslash h.0 f (omega arith) (omega arith), h.1)
 IsIn-backslash Plain e c piece f h = (
-  h.0 ++ 92 ∷ [],
-  EndsPlain-bare 92 h.1 f (omega arith) (λ q. absurd (omega arith)),
-  IsCountOf-other h.0 e c 92 h.2 (omega arith) (omega arith),
+  h.0 ++ backslash ∷ [],
+  EndsPlain-bare backslash h.1 f (omega arith) (λ q. absurd (omega arith)),
+  IsCountOf-other h.0 e c backslash h.2 (omega arith) (omega arith),
 )
-IsIn-backslash Quoted e c piece f h = (h.0, EndsQuoted-bare 92 h.1 f (omega arith), h.2)
+IsIn-backslash Quoted e c piece f h = (h.0, EndsQuoted-bare backslash h.1 f (omega arith), h.2)
 
 -- a bare space ends a head
-pub Head-space : (e c : ℕ) (piece : List ℕ) → IsBareAfter piece → IsIn Head e c piece → IsIn Plain e c (piece ++ 32 ∷ [])
-Head-space e c piece f h = (32 ∷ [], EndsPlain-start piece h.0 f, IsCountOf-other [] e c 32 h.1 (omega arith) (omega arith))
+pub Head-space : (e c : ℕ) (piece : List ℕ) → IsBareAfter piece → IsIn Head e c piece → IsIn Plain e c (piece ++ space ∷ [])
+Head-space e c piece f h = (space ∷ [], EndsPlain-start piece h.0 f, IsCountOf-other [] e c space h.1 (omega arith) (omega arith))
 
 -- another bare byte stays in the head
-pub Head-other : (e c : ℕ) (piece : List ℕ) (b : ℕ) → IsBareAfter piece → b ≢ 32 → b ≢ newline → IsIn Head e c piece
+pub Head-other : (e c : ℕ) (piece : List ℕ) (b : ℕ) → IsBareAfter piece → b ≢ space → b ≢ newline → IsIn Head e c piece
     → IsIn Head e c (piece ++ b ∷ [])
 Head-other e c piece b f n m h = (IsHead-bare piece b h.0 f n m, h.1)
 
 -- a bare `=` is counted
-pub Plain-equals : (e c : ℕ) (piece : List ℕ) → IsBareAfter piece → IsIn Plain e c piece → IsIn Plain (e + 1) c (piece ++ 61 ∷ [])
+pub Plain-equals : (e c : ℕ) (piece : List ℕ) → IsBareAfter piece → IsIn Plain e c piece → IsIn Plain (e + 1) c (piece ++ equals ∷ [])
 Plain-equals e c piece f h =
-    (h.0 ++ 61 ∷ [], EndsPlain-bare 61 h.1 f (omega arith) (λ q. absurd (omega arith)), rw add-zero at (IsCountOf-push h.0 e c 61 h.2))
+    (h.0 ++ equals ∷ [], EndsPlain-bare equals h.1 f (omega arith) (λ q. absurd (omega arith)), rw add-zero at (IsCountOf-push h.0 e c equals h.2))
 
 -- a bare `,` is counted
-pub Plain-comma : (e c : ℕ) (piece : List ℕ) → IsBareAfter piece → IsIn Plain e c piece → IsIn Plain e (c + 1) (piece ++ 44 ∷ [])
+pub Plain-comma : (e c : ℕ) (piece : List ℕ) → IsBareAfter piece → IsIn Plain e c piece → IsIn Plain e (c + 1) (piece ++ comma ∷ [])
 Plain-comma e c piece f h =
-    (h.0 ++ 44 ∷ [], EndsPlain-bare 44 h.1 f (omega arith) (λ q. absurd (omega arith)), rw add-zero at (IsCountOf-push h.0 e c 44 h.2))
+    (h.0 ++ comma ∷ [], EndsPlain-bare comma h.1 f (omega arith) (λ q. absurd (omega arith)), rw add-zero at (IsCountOf-push h.0 e c comma h.2))
 
 -- a bare quote after more `=` than `,` opens a string
 pub Plain-opens : (e c : ℕ) (piece : List ℕ) → IsBareAfter piece → c < e → IsIn Plain e c piece → IsIn Quoted e c (piece ++ quote ∷ [])
-Plain-opens e c piece f l h = (h.0, EndsQuoted-start h.1 f (HasMoreEquals-from h.0 e c h.2 l), h.2)
+Plain-opens e c piece f l h = (h.0, EndsQuoted-start h.1 f (omega (arith, h.2.equals_is, h.2.commas_is)), h.2)
 
 -- another bare byte stays in the plain stretch
-pub Plain-other : (e c : ℕ) (piece : List ℕ) (b : ℕ) → IsBareAfter piece → b ≢ 61 → b ≢ 44 → b ≢ newline
+pub Plain-other : (e c : ℕ) (piece : List ℕ) (b : ℕ) → IsBareAfter piece → b ≢ equals → b ≢ comma → b ≢ newline
     → (b ≡ quote → e ≤ c) → IsIn Plain e c piece → IsIn Plain e c (piece ++ b ∷ [])
 Plain-other e c piece b f n m l q h =
     (h.0 ++ b ∷ [], EndsPlain-bare b h.1 f l (λ i. not_more h.0 e c h.2 (q i)), IsCountOf-other h.0 e c b h.2 n m)
 
 -- a bare byte that is no newline or quote stays in the plain stretch, and counts if it is `=` or `,`
 pub Plain-any : (e c : ℕ) (piece : List ℕ) (b : ℕ) → IsBareAfter piece → (b == newline || b == quote) ≡ false → IsIn Plain e c piece
-    → IsIn Plain (e + cond (eqb b 61) 1 0) (c + cond (eqb b 44) 1 0) (piece ++ b ∷ [])
+    → IsIn Plain (e + cond (eqb b equals) 1 0) (c + cond (eqb b comma) 1 0) (piece ++ b ∷ [])
 Plain-any e c piece b f none h = (
   h.0 ++ b ∷ [],
   EndsPlain-bare b h.1 f (grind (arith, nat_tests)) (λ q. absurd (grind (arith, nat_tests))),
@@ -122,9 +110,4 @@ bare_step place part next to b e c flag is_part is_bare is_next flag_is step = g
 -- so does an escaped one, to the same part
 pub after_escape : (place : Place) (b : ℕ) → place.is_escaped ≡ true
     → Steps place b (Some (record { part = place.part; is_escaped = false; equals = place.equals; commas = place.commas }))
-after_escape place b is_escaped = λ bytes h.
-    let escaped = h.escaped_is ∙ is_escaped in
-    record {
-      escaped_is = then_bare bytes b escaped;
-      ends_in = IsIn-escaped place.part place.equals place.commas bytes b escaped h.ends_in;
-    }
+after_escape place b is_escaped = grind (arith, then_bare, IsIn-escaped)

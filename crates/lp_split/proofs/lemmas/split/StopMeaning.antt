@@ -1,12 +1,11 @@
 -- The front before the first bare byte that passes a test.
 use Rattle.std.proofs.Common.{◌≡◌, ◌↔◌, ℕ, suc, ◌≤◌, List, [], ◌∷◌, ◌++◌, length, take, Bool, true, false, not, ◌&&◌, cond, refl, sym, ap}
-use Rattle.std.proofs.Common.{◌∙◌, subst, inl, inr, arith, length-take, append_assoc, append-nil}
-use Rattle.std.specs.List.{All}
+use Rattle.std.proofs.Common.{◌∙◌, subst, inl, inr, arith, length-take, append_assoc, append-nil, All}
 use Rattle.std.proofs.lemmas.Bool.{cases_Bool, and_parts, and_right, not-true}
 use Rattle.std.proofs.Math.Seq.{take-append_seam}
 use Rattle.std.proofs.lemmas.List.Sums.{prefix_len-le-length}
 use Rattle.std.proofs.lemmas.List.FromFn.{length-range_with_len}
-use Rattle.lp_format.specs.format.Escapes.{bare_after, first_bare, is_escaped_after}
+use Rattle.lp_format.specs.format.{bare_after, first_bare, is_escaped_after}
 use Rattle.lp_format.specs.laws.Meanings.{IsAtStop, IsBeforeStop}
 use Rattle.lp_format.proofs.lemmas.tokens.EscapeLemmas.{is_escaped_push}
 use Rattle.lp_split.proofs.lemmas.split.ScanLemmas.{bare_len, first_bare_len}
@@ -25,10 +24,6 @@ module _ (passes : ℕ → Bool) where
   others_fail : (e : Bool) (b : ℕ) (rest : List ℕ) → AllFail (cond e [] (b ∷ []) ++ rest) → AllFail rest
   others_fail true b rest h = h
   others_fail false b rest h = λ k d l. h (suc k) d (omega arith)
-
-  -- and back
-  all_fail : (e : Bool) (b : ℕ) (rest : List ℕ) → (passes b && not e) ≡ false → AllFail rest → AllFail (cond e [] (b ∷ []) ++ rest)
-  all_fail e b rest h k = grind arith
 
   -- one byte before the stop
   len_more : (p : List ℕ) (b : ℕ) (rest : List ℕ) → (passes b && not (is_escaped_after p)) ≡ false
@@ -65,7 +60,7 @@ module _ (passes : ℕ → Bool) where
             let more = sym (len_more p b (front ++ after) on) ∙ h in
             let rest = before_by (p ++ b ∷ []) front after (omega arith) in
             record {
-              none = all_fail (is_escaped_after p) b (bare_after (p ++ b ∷ []) front) on rest.none;
+              none = grind arith;
               at_stop = subst (λ (t : List ℕ). IsAtStop passes t after) (append_assoc p (b ∷ []) front) rest.at_stop;
             }
       ]
@@ -85,8 +80,7 @@ module _ (passes : ℕ → Bool) where
   before_stop front after = (
     (λ h.
         let fits = first_fits (front ++ after) in
-        let len : first_bare passes (front ++ after) ≡ length front = omega
-        (arith, ap length h, length-take (first_bare passes (front ++ after)) (front ++ after)) in
+        let len : first_bare passes (front ++ after) ≡ length front = grind (arith, length-take) in
         let b = before_by [] front after (sym (first_len (front ++ after)) ∙ len) in
         record { none = b.none; at_stop = b.at_stop }),
     (λ h.

@@ -1,28 +1,17 @@
 -- The track of a piece, and what a search knows of a text, by the rules of both dialects.
 use Rattle.std.proofs.Common.{◌≡◌, ◌≢◌, ℕ, false, List, [], length, take, drop, Err, sym, ap, ◌∙◌, subst, arith, append-nil}
-use Rattle.std.proofs.Common.{take-append-drop, ◌⊎◌, inl, inr, eqb, ◌∷◌, ◌++◌, refl, append_assoc, Some, None, Ok, ◌+◌, ◌≤◌}
-use Rattle.std.proofs.Common.{length-drop}
-use Rattle.std.specs.List.{All}
-use Rattle.std.proofs.lemmas.List.{take_all, get_or-drop}
-use Rattle.lp_format.specs.format.Dialects.{Dialect, Strict, Crate}
+use Rattle.std.proofs.Common.{take-append-drop, ◌⊎◌, inl, inr, eqb, ◌∷◌, ◌++◌, refl, append_assoc, Some, None, Ok, ◌+◌, ◌≤◌, length-drop}
+use Rattle.std.proofs.Common.{All, take_all, get_or-drop, take-add, ne_eqb}
+use Rattle.lp_format.specs.format.{Dialect, Strict, Crate, begins_comment, IsLastPiece, IsCutPiece, IsFirstCut, newline, IsBareAfter}
+use Rattle.lp_format.specs.format.{IsClosed, IsOpen}
 use Rattle.lp_split.specs.declared.split.resumed.Search.TheVariants.{Quiet}
-use Rattle.lp_format.specs.format.Pieces.{begins_comment, IsLastPiece, IsCutPiece, IsFirstCut}
-use Rattle.lp_split.specs.code.Searches.{SearchesOn}
-use Rattle.lp_split.specs.code.Tracks.{NeverComment, EndsIn, IsPlace, IsTrackOf, Leads, LeadsTo, Steps, TracksOn}
+use Rattle.lp_split.specs.code.{SearchesOn, NeverComment, EndsIn, IsPlace, IsTrackOf, Leads, LeadsTo, Steps, TracksOn, Part, Head, Plain}
+use Rattle.lp_split.specs.code.{Track, Place, Comment, Blanks, Line}
 use Rattle.lp_format.proofs.lemmas.split.SplitPieces.{IsLastPiece-extend, begins_comment-append}
-use Rattle.lp_format.specs.format.Bytes.{newline}
-use Rattle.std.proofs.Math.Seq.{take-add}
 use Rattle.std.proofs.lemmas.List.Elements.{All-head, All-tail, All-push, All-weaker}
-use Rattle.std.proofs.lemmas.Bool.{ne_eqb}
-use Rattle.lp_split.specs.declared.split.resumed.Part.{Part}
-use Rattle.lp_split.specs.declared.split.resumed.Part.TheVariants.{Head, Plain}
-use Rattle.lp_split.specs.declared.split.tracked.Track.{Track}
-use Rattle.lp_split.specs.declared.split.tracked.Place.{Place}
-use Rattle.lp_split.specs.declared.split.tracked.Track.TheVariants.{Comment, Blanks, Line}
-use Rattle.lp_format.specs.format.Escapes.{IsBareAfter}
-use Rattle.lp_format.specs.format.Piece.{IsClosed, IsOpen}
 use Rattle.lp_format.proofs.lemmas.split.SplitBare.{is_escaped-nil}
 use Rattle.lp_split.proofs.lemmas.split.SplitStretches.{bare_joined}
+use Rattle.lp_format.specs.format.Bytes.{hash, space, tab}
 
 -- a text without a cut up to a place, and without a newline after it, is one piece
 pub still_last : (dialect : Dialect) (text after : List ℕ) (quiet : ℕ) → IsLastPiece dialect (take quiet text)
@@ -41,23 +30,20 @@ no_comment text never = ap begins_comment (sym (append-nil text)) ∙ never []
 
 -- spaces and tabs
 abbrev pub AreBlanks : List ℕ → Type 0
-AreBlanks bytes = All (λ b. (b ≡ 32) ⊎ (b ≡ 9)) bytes
+AreBlanks bytes = All (λ b. (b ≡ space) ⊎ (b ≡ tab)) bytes
 
 -- blanks leave it to what comes after them whether a comment begins
 after_blanks : (bytes rest : List ℕ) → AreBlanks bytes → begins_comment (bytes ++ rest) ≡ begins_comment rest
 after_blanks [] rest h = refl
 after_blanks (b ∷ bytes) rest h =
-    let more = after_blanks bytes rest (All-tail (λ c. (c ≡ 32) ⊎ (c ≡ 9)) b bytes h) in
-    elim (All-head (λ c. (c ≡ 32) ⊎ (c ≡ 9)) b bytes h) [
-      | inl e ↦ rw e more
-      | inr e ↦ rw e more
-    ]
+    let more = after_blanks bytes rest (All-tail (λ c. (c ≡ space) ⊎ (c ≡ tab)) b bytes h) in
+    grind (arith, All-head)
 
 -- blanks alone begin none
 pub blanks_begin_none : (bytes : List ℕ) → AreBlanks bytes → begins_comment bytes ≡ false
 blanks_begin_none bytes h = ap begins_comment (sym (append-nil bytes)) ∙ after_blanks bytes [] h
 
--- a piece that begins none is cut where it is closed and bare
+-- a piece that begins none is cut if it is closed and bare
 pub cut_of_line : (dialect : Dialect) (bytes : List ℕ) → NeverComment dialect bytes → IsClosed bytes → IsBareAfter bytes
     → IsCutPiece dialect bytes
 cut_of_line dialect bytes never closed is_bare = grind (arith, no_comment)
@@ -68,26 +54,26 @@ comment_goes_on b n = λ dialect bytes h.
     (h.0, (begins_comment-append bytes (b ∷ []) h.1.0, All-push (λ c. c ≢ newline) bytes b h.1.1 n))
 
 -- after blanks a `#` begins one
-pub comment_begins : (place : Place) → Leads (Blanks place) 35 (Some Comment)
+pub comment_begins : (place : Place) → Leads (Blanks place) hash (Some Comment)
 comment_begins place = λ dialect bytes h. (
   h.0,
   (
-    after_blanks bytes (35 ∷ []) h.1,
-    All-push (λ c. c ≢ newline) bytes 35
-        (All-weaker (λ c. (c ≡ 32) ⊎ (c ≡ 9)) (λ c. c ≢ newline)
+    after_blanks bytes (hash ∷ []) h.1,
+    All-push (λ c. c ≢ newline) bytes hash
+        (All-weaker (λ c. (c ≡ space) ⊎ (c ≡ tab)) (λ c. c ≢ newline)
         (λ c k e. elim k [ inl s ↦ absurd (omega (arith, s, e)) | inr s ↦ absurd (omega (arith, s, e)) ]) bytes h.1)
         (omega arith),
   ),
 )
 
 -- a blank after blanks
-pub blanks_go_on : (place next : Place) (b : ℕ) → (b ≡ 32) ⊎ (b ≡ 9) → Steps place b (Some next)
+pub blanks_go_on : (place next : Place) (b : ℕ) → (b ≡ space) ⊎ (b ≡ tab) → Steps place b (Some next)
     → Leads (Blanks place) b (Some (Blanks next))
 blanks_go_on place next b blank step = λ dialect bytes h.
-    (h.0, All-push (λ c. (c ≡ 32) ⊎ (c ≡ 9)) bytes b h.1 blank, step bytes h.2)
+    (h.0, All-push (λ c. (c ≡ space) ⊎ (c ≡ tab)) bytes b h.1 blank, step bytes h.2)
 
 -- another byte after blanks
-pub blanks_end : (place next : Place) (b : ℕ) → b ≢ 35 → b ≢ 32 → b ≢ 9 → Steps place b (Some next)
+pub blanks_end : (place next : Place) (b : ℕ) → b ≢ hash → b ≢ space → b ≢ tab → Steps place b (Some next)
     → Leads (Blanks place) b (Some (Line next))
 blanks_end place next b hash space tab step = grind (arith, append_assoc, after_blanks, eqb, ne_eqb)
 
@@ -134,7 +120,7 @@ pub tracks_cut : (dialect : Dialect) (text rest : List ℕ) (at i : ℕ) (track 
     → IsTrackOf dialect (take at text) track → TracksOn rest track (Ok i) → IsFirstCut dialect text (Some (at + i))
 tracks_cut dialect text rest at i track same within is tracks = grind (arith, get_or-drop, take-add, length-drop)
 
--- so where they end none
+-- so if they end none
 pub tracks_on : (dialect : Dialect) (text rest : List ℕ) (at : ℕ) (from to : Track) → rest ≡ drop at text → at ≤ length text
     → IsTrackOf dialect (take at text) from → TracksOn rest from (Err to) → IsTrackOf dialect text to
 tracks_on dialect text rest at from to same within is tracks = grind (arith, take-append-drop)

@@ -1,21 +1,14 @@
 -- What a stream holds, with more after it, and if pieces have a greatest length.
-use Rattle.std.proofs.Common.{◌≡◌, ℕ, Bool, cond, List, ◌++◌, drop, sym, ap, ◌∙◌, subst, arith, length-append, ◌⊎◌}
-use Rattle.std.proofs.Common.{◌+◌, ◌<◌, [], ◌∷◌, length, take, append_assoc, Ok, Err}
+use Rattle.std.proofs.Common.{◌≡◌, ℕ, Bool, cond, List, ◌++◌, drop, sym, ap, ◌∙◌, subst, arith, length-append, ◌⊎◌, ◌+◌, ◌<◌, [], ◌∷◌}
+use Rattle.std.proofs.Common.{length, take, append_assoc, Ok, Err}
 use Rattle.std.proofs.lemmas.List.{take-append-le, drop-append-le}
-use Rattle.lp_format.specs.format.Dialects.{Dialect}
+use Rattle.lp_format.specs.format.{Dialect, IsLastPiece, IsCutPiece, newline, newlines_in}
 use Rattle.lp_split.specs.declared.split.resumed.Search.{Search}
 use Rattle.lp_split.specs.declared.split.resumed.Search.TheVariants.{Within}
-use Rattle.lp_format.specs.format.Pieces.{IsLastPiece, IsCutPiece}
-use Rattle.lp_split.specs.code.Searches.{IsKnown}
-use Rattle.lp_split.specs.code.Ahead.{AreSeen}
-use Rattle.lp_split.specs.code.Streams.{IsHeldAt, Held, TakesPiece}
-use Rattle.lp_split.specs.code.Tracks.{IsTrackOf, TracksOn}
-use Rattle.lp_format.specs.format.Bytes.{newline, newlines_in}
+use Rattle.lp_split.specs.code.{IsKnown, AreSeen, IsHeldAt, Held, TakesPiece, IsTrackOf, TracksOn, Track, CutsTo, HoldsBy, IsTooLong}
 use Rattle.std.proofs.lemmas.List.Sums.{sum_by-append}
-use Rattle.lp_split.specs.declared.split.tracked.Track.{Track}
 use Rattle.lp_split.specs.declared.stream.bounded.Skipped.{Skipped}
 use Rattle.lp_split.specs.declared.stream.bounded.Skipped.TheVariants.{Nothing, Within, Ended}
-use Rattle.lp_split.specs.code.Bounded.{CutsTo, HoldsBy, IsTooLong}
 use Rattle.lp_format.proofs.lemmas.split.SplitPieces.{no_cut_within, split_at}
 
 -- the marks that were seen
@@ -29,8 +22,7 @@ known_longer dialect text more known h = grind (arith, seen_longer, length-appen
 
 -- so it is of the bytes that a stream holds, whether a part comes after them or memory was refused
 pub held_longer : (dialect : Dialect) (items part new : List ℕ) (start : ℕ) (known : Search) (ok : Bool)
-    → IsHeldAt dialect items start known
-    → new ≡ cond ok (items ++ part) items → IsHeldAt dialect new start known
+    → IsHeldAt dialect items start known → new ≡ cond ok (items ++ part) items → IsHeldAt dialect new start known
 held_longer dialect items part new start known ok h e = grind (arith, length-append, drop-append-le, known_longer)
 
 -- a piece that is too long is so with more bytes
@@ -38,8 +30,7 @@ longer_is_too_long : (limit : ℕ) (text part : List ℕ) → IsTooLong limit te
 longer_is_too_long limit text part h = (omega (arith, length-append text part, h.0), h.1)
 
 -- the newlines of a text and those of a part after it
-more_newlines : (text part : List ℕ) (n more : ℕ) → n ≡ newlines_in text → more ≡ newlines_in part
-    → n + more ≡ newlines_in (text ++ part)
+more_newlines : (text part : List ℕ) (n more : ℕ) → n ≡ newlines_in text → more ≡ newlines_in part → n + more ≡ newlines_in (text ++ part)
 more_newlines text part n more h g = grind (arith, sum_by-append)
 
 -- a part that goes on in a piece that is too long

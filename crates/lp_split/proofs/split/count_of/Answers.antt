@@ -1,5 +1,4 @@
-use Rattle.std.proofs.Common.{◌==◌, ◌∙◌, ℕ, ◌+◌, ap, ap₂, sym, arith}
-use Rattle.std.specs.List.{count_by}
+use Rattle.std.proofs.Common.{◌==◌, ◌∙◌, ℕ, ◌+◌, ap₂, sym, arith}
 use Rattle.std.proofs.lemmas.List.{take_rest}
 use Rattle.lp_split.proofs.lemmas.split.SplitSearches.{count_load, count_whole, load_at_most}
 use Rattle.lp_split.proofs.split.count_of.Goals as goal
@@ -17,8 +16,4 @@ loop-at-preserved c =
     )
 
 pub returns-clause-value : goal.returns-clause-value
-returns-clause-value c =
-    let text = c.args.text.now in
-    let p = λ (b : ℕ). b == c.args.byte in
-    ap₂ (λ (a b : ℕ). a + b) c.loop-at.invariant.2 (c.count_few.ensures.value ∙ ap (count_by p) (take_rest text c.loop-at.at))
-    ∙ count_whole p text c.loop-at.at
+returns-clause-value c = grind (arith, take_rest, count_whole)

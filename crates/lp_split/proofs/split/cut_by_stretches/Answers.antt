@@ -18,13 +18,7 @@ pub loop-ahead-init : goal.loop-ahead-init
 loop-ahead-init c =
     let text = c.args.text.now in
     let plain = head_space text _ c.stretch_len-head.ensures (grind (arith, common_steps)) (λ h. grind (arith, common_steps)) in
-    record {
-      within = grind (arith, common_steps);
-      is_bare = plain.1;
-      plain = plain.0;
-      seen = rw c.nothing_from-ahead.ensures (nothing_ahead text _ (grind (arith, common_steps)) plain.1);
-      counts = (omega arith, omega arith);
-    }
+    grind (arith, common_steps, nothing_ahead)
 
 pub bounds-text-end : goal.bounds-text-end
 bounds-text-end c = let l = c.loop-ahead in stop_within c.args.text.now l.at l.ahead l.invariant.seen _ (omega arith) refl

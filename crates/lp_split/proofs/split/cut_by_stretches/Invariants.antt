@@ -1,8 +1,6 @@
 use Rattle.std.proofs.Common.{◌+◌, ◌-◌, ◌≤◌, length, take}
-use Rattle.lp_format.specs.format.Escapes.{IsBareAfter}
-use Rattle.lp_split.specs.declared.split.resumed.Part.TheVariants.{Plain}
-use Rattle.lp_split.specs.code.Ahead.{IsAhead}
-use Rattle.lp_split.specs.code.Tracks.{EndsIn}
+use Rattle.lp_format.specs.format.{IsBareAfter}
+use Rattle.lp_split.specs.code.{Plain, IsAhead, EndsIn}
 use Rattle.lp_split.proofs.split.cut_by_stretches.Given as goal
 
 -- the place is a bare one of a plain stretch

@@ -1,8 +1,7 @@
-use Rattle.std.proofs.Common.{arith}
-use Rattle.std.specs.Prelude.{◌==◌}
+use Rattle.std.proofs.Common.{arith, ◌==◌}
 use Rattle.lp_split.proofs.lemmas.split.SplitStretches.{ends_plain, load_shows}
 use Rattle.lp_split.proofs.split.load_ahead.Goals as goal
-use Rattle.lp_format.specs.format.Bytes.{comma, equals}
+use Rattle.lp_format.specs.format.{comma, equals}
 
 pub returns-clause-seen : goal.returns-clause-seen
 returns-clause-seen c =

@@ -13,11 +13,7 @@ returns-then-run-lt-WIDE c =
     let mask = c.bare.ensures stops text c.args.at (omega arith) p.is_bare c.requires.given c.stops_in.ensures in
     let stop = to_stop stops text c.args.at c.requires.room (as_passed stops text c.args.at p) c.first_set-run.result
     (c.first_set-run.ensures ∙ ap (λ (m : ℕ). first_set m 64) mask) c.if-run-lt-WIDE.true in
-    record {
-      within = omega arith;
-      passed = record { within = stop.0.within; is_bare = stop.0.is_bare (omega arith); none = stop.0.passed };
-      stops = λ _. stop.1;
-    }
+    grind arith
 
 pub returns : goal.returns
 returns c =
@@ -30,10 +26,6 @@ returns c =
     (c.first_set-run.ensures ∙ ap (λ (m : ℕ). first_set m 64) mask) c.escapes_next.result c.if-run-lt-WIDE.false last in
     record {
       within = omega (arith, at_most_one text c.args.at c.requires.room c.escapes_next.result last);
-      passed = record {
-        within = next.within;
-        is_bare = next_bare text c.args.at c.requires.room c.escapes_next.result last;
-        none = next.passed;
-      };
+      passed = grind (arith, next_bare);
       stops = λ short. absurd (omega arith);
     }

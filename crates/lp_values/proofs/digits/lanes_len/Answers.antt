@@ -1,6 +1,5 @@
-use Rattle.std.proofs.Common.{ℕ, leb, cond, take, refl, arith}
+use Rattle.std.proofs.Common.{ℕ, leb, cond, take, refl, arith, length-take-le, get_or-take}
 use Rattle.std.proofs.lemmas.Simd.{splat_is_map, zip2_of_maps, zip2_splat}
-use Rattle.std.proofs.lemmas.List.{length-take-le, get_or-take}
 use Rattle.lp_values.proofs.lemmas.digits.DigitLemmas.{lanes_count}
 use Rattle.lp_values.proofs.digits.lanes_len.Goals as goal
 

@@ -6,33 +6,27 @@ use Rattle.lp_values.proofs.digits.lanes_number.Goals as goal
 
 pub dot4-firsts : goal.dot4-firsts
 dot4-firsts c =
-    let are = are_groups 4 c.args.digits c.requires.whole c.requires.digits in
-    (pairs_below (products c.args.digits (firsts 4)) are.firsts_fit, tt)
+    (pairs_below (products c.args.digits (firsts 4)) (are_groups 4 c.args.digits c.requires.whole c.requires.digits).firsts_fit, tt)
 
 pub dot4-others : goal.dot4-others
 dot4-others c =
-    let are = are_groups 4 c.args.digits c.requires.whole c.requires.digits in
-    (pairs_below (products c.args.digits (others 4)) are.others_fit, tt)
+    (pairs_below (products c.args.digits (others 4)) (are_groups 4 c.args.digits c.requires.whole c.requires.digits).others_fit, tt)
 
 pub overflow_mul-result : goal.overflow_mul-result
 overflow_mul-result c =
     let are = are_groups 4 c.args.digits c.requires.whole c.requires.digits in
     let by = by_groups c.args.digits are in
-    let first = c.from.ensures ∙ ap (λ l. get_or l 0 0) are.sums in
     let second = c.from-2.ensures ∙ ap (λ l. get_or l 1 0) are.sums in
-    record { fits = omega (arith, first, second, by.0, by.1) }
+    record { fits = omega (arith, (c.from.ensures ∙ ap (λ l. get_or l 0 0) are.sums), second, by.0, by.1) }
 
 pub returns : goal.returns
 returns c =
     let are = are_groups 4 c.args.digits c.requires.whole c.requires.digits in
-    let by = by_groups c.args.digits are in
-    let first = c.from.ensures ∙ ap (λ l. get_or l 0 0) are.sums in
     let second = c.from-2.ensures ∙ ap (λ l. get_or l 1 0) are.sums in
     let third = c.from-3.ensures ∙ ap (λ l. get_or l 2 0) are.sums in
     let fourth = c.from-4.ensures ∙ ap (λ l. get_or l 3 0) are.sums in
-    omega (arith, first, second, third, fourth, by.0)
+    omega (arith, (c.from.ensures ∙ ap (λ l. get_or l 0 0) are.sums), second, third, fourth, (by_groups c.args.digits are).0)
 
 pub overflow_add-result : goal.overflow_add-result
 overflow_add-result c =
-    let are = are_groups 4 c.args.digits c.requires.whole c.requires.digits in
-    record { fits = omega (arith, returns c, by_groups c.args.digits are) }
+    record { fits = omega (arith, returns c, by_groups c.args.digits (are_groups 4 c.args.digits c.requires.whole c.requires.digits)) }

@@ -1,27 +1,26 @@
 -- Digits at the start of a text, by lanes and by groups, and the window of the table that moves lanes to the end.
 use Rattle.std.proofs.Common.{◌≡◌, ◌∙◌, ℕ, suc, ◌+◌, ◌-◌, ◌*◌, ◌^◌, ◌%◌, ◌<◌, ◌≤◌, Bool, true, false, not, eqb, List, [], ◌∷◌, map, length}
 use Rattle.std.proofs.Common.{take, drop, get_or, refl, sym, ap, arith, zero, ◌++◌, replicate, ap₂, subst, ◌/◌, cond, ◌||◌, inl, inr, w8}
-use Rattle.std.specs.Prelude.{◌==◌, if◌then◌else◌}
-use Rattle.std.specs.Int.{w64, trailing_zeros}
+use Rattle.std.proofs.Common.{◌==◌, if◌then◌else◌, w64, ne_eqb, length-take-le, take-append-drop, length-drop, take-take, take_all}
+use Rattle.std.proofs.Common.{ext_get_or, get_or-take, length-append, mul_assoc}
+use Rattle.std.specs.Int.{trailing_zeros}
 use Rattle.std.specs.List.{prefix_len, range_with_len}
 use Rattle.std.specs.Char.{is_ascii_digit, digit_value}
 use Rattle.std.specs.Str.Parse.{AllDigits, digits_value, digits_value_after}
-use Rattle.std.proofs.lemmas.Bool.{agree_below, agree_below_at, ne_eqb, cases_lt}
+use Rattle.std.proofs.lemmas.Bool.{agree_below, agree_below_at, cases_lt}
 use Rattle.std.proofs.lemmas.Simd.{map-map, mask_l-mod, first_set_mask_l, zip2_splat, Each1-from_get_or, SwzOk-from_Each1, get_or-chunk}
 use Rattle.std.proofs.lemmas.Simd.{get_or-replicate, get_or-swz_l, get_or-swz_l_below, length-chunk, length-replicate, length-swz_l, swz_l}
 use Rattle.std.proofs.lemmas.Simd.{SwzOk}
-use Rattle.std.proofs.lemmas.List.{length-map, length-take-le, take-append-drop, length-drop, take-map, take-take, take_all, ext_get_or}
-use Rattle.std.proofs.lemmas.List.{get_or_append_left, get_or-append_right, get_or-take, length-append}
+use Rattle.std.proofs.lemmas.List.{length-map, take-map, get_or_append_left, get_or-append_right}
 use Rattle.std.proofs.lemmas.List.Folds.{prefix_len-append}
 use Rattle.std.proofs.lemmas.Str.Parse.{digit_from_value}
 use Rattle.std.proofs.lemmas.Str.{digit_value_digit}
 use Rattle.std.proofs.lemmas.Int.Digits.{digits_value-lt, all_below_base_from_digits, digits_value_is, number_lt}
-use Rattle.std.proofs.Math.Nat.{pow-le-pow_right, mul_assoc, pow-succ'}
+use Rattle.std.proofs.Math.Nat.{pow-le-pow_right, pow-succ'}
 use lib.Lanes.{mask_l, top, zip2, Each1, chunk}
-use Rattle.lp_format.specs.format.Values.{digits_len}
+use Rattle.lp_format.specs.format.{digits_len, newline}
 use Rattle.std.specs.Int.Digits.{AllBelowBase, number_from_digits, number_from_digits_after}
 use Rattle.std.specs.Simd.Lanes.{dots, products}
-use Rattle.lp_format.specs.format.Bytes.{newline}
 use Rattle.std.proofs.lemmas.List.FromFn.{get_or-range_with_len}
 use lib.Dec.{T, ltb}
 use mir.Val.{zeroes}
@@ -32,8 +31,7 @@ prefix_same : (p q : ℕ → Bool) (xs : List ℕ) → ((k : ℕ) → k < length
 prefix_same p q [] same = refl
 prefix_same p q (x ∷ xs) same =
     let first : p x ≡ q x = same 0 (omega arith) in
-    let rest = prefix_same p q xs (λ k within. same (suc k) (omega (arith, within))) in
-    rw (first, rest) refl
+    rw (first, (prefix_same p q xs (λ k within. same (suc k) (omega (arith, within))))) refl
 
 -- lanes that stop just where no digit is count the digits at the start
 pub lanes_count : (v : List ℕ) (n r : ℕ) (z : List ℕ) (f : ℕ → ℕ) → length v ≡ n → n ≤ 64 → ((k : ℕ) → k < length v → get_or v k 0 < 256)
@@ -51,9 +49,8 @@ lanes_count v n r z f long few small found lanes all =
 -- fewer digits than n bytes hold are the digits at the start
 pub digits_within : (text : List ℕ) (n : ℕ) → n ≤ length text → digits_len (take n text) < n → digits_len (take n text) ≡ digits_len text
 digits_within text n fits less =
-    let size = length-take-le n text fits in
     let other : eqb (prefix_len is_ascii_digit (take n text)) (length (take n text)) ≡ false = ne_eqb _ _
-    (λ e. absurd (omega (arith, e, size))) in
+    (λ e. absurd (omega (arith, e, (length-take-le n text fits)))) in
     let parts = prefix_len-append is_ascii_digit (take n text) (drop n text) in
     sym (ap digits_len (sym (take-append-drop n text)) ∙ parts ∙ rw other refl)
 
@@ -196,9 +193,7 @@ moved_number k n bytes lanes moved is are = grind (arith, replicate, zeros_befor
 -- a byte less the code of zero is the value of its digit
 less_zero : (ds : List ℕ) → AllDigits 10 ds → map (λ b. (b + (2 ^ 8 - 48)) % 2 ^ 8) ds ≡ map digit_value ds
 less_zero [] digits = refl
-less_zero (d ∷ ds) (small, digits) =
-    let range = digit_from_value d small in
-    ap₂ (λ (x : ℕ) l. x ∷ l) (omega (arith, digit_value_digit d range, range)) (less_zero ds digits)
+less_zero (d ∷ ds) (small, digits) = grind (arith, digit_from_value, digit_value_digit, less_zero ds digits)
 
 -- so the lanes of bytes less the code of zero are digits, as far as the bytes are
 pub lanes_are_digits : (n : ℕ) (bytes : List ℕ) → 16 ≤ length bytes → n ≤ 16 → AllDigits 10 (take n bytes)
@@ -228,11 +223,7 @@ digits_parts (suc n) (d ∷ ds) (small, digits) = let parts = digits_parts n ds 
 -- a number before digits is worth as many places as those are
 number_before : (m k : ℕ) (ds : List ℕ) → digits_value_after 10 (m + k) ds ≡ m * 10 ^ length ds + digits_value_after 10 k ds
 number_before m k [] = omega arith
-number_before m k (d ∷ ds) =
-    let places : m * 10 * 10 ^ length ds ≡ m * 10 ^ length (d ∷ ds) = mul_assoc m 10 (10 ^ length ds)
-    ∙ ap (λ x. m * x) (sym (pow-succ' 10 (length ds))) in
-    ap (λ x. digits_value_after 10 x ds) (omega arith) ∙ number_before (m * 10) (k * 10 + digit_value d) ds
-    ∙ ap (λ x. x + digits_value_after 10 (k * 10 + digit_value d) ds) places
+number_before m k (d ∷ ds) = grind (arith, mul_assoc, pow-succ', number_before (m * 10) (k * 10 + digit_value d) ds)
 
 -- digits write on after others
 digits_append : (n : ℕ) (xs ys : List ℕ) → digits_value_after 10 n (xs ++ ys) ≡ digits_value_after 10 (digits_value_after 10 n xs) ys
@@ -273,29 +264,26 @@ window_fits n fits =
     let size = window_len n fits in
     SwzOk-from_Each1 w8 16 1 16 0 (window n) refl (omega (arith, size))
     (Each1-from_get_or (λ j. T (zeroes 16 w8 j || ltb j 16)) (window n) 0 (λ i lt.
-    let at = window_at n i fits (omega (arith, lt, size)) in
     let fine = agree_below_at (λ k. zeroes 16 w8 (get_or moves k 0) || ltb (get_or moves k 0) 16) (λ k. true) 32 (n + i) refl
     (omega (arith, lt, size, fits)) in
-    subst T (sym (ap (λ j. zeroes 16 w8 j || ltb j 16) at ∙ fine)) tt))
+    subst T (sym (ap (λ j. zeroes 16 w8 j || ltb j 16) (window_at n i fits (omega (arith, lt, size))) ∙ fine)) tt))
 
 -- a lane before those that were moved is 0
 moved_front : (n i : ℕ) (lanes : List ℕ) → n ≤ 16 → n + i < 16 → get_or (swz_l w8 16 lanes 0 (window n)) i 0 ≡ 0
 moved_front n i lanes fits before =
-    let size = window_len n fits in
     let at : get_or (window n) i 0 ≡ 255 = window_at n i fits (omega (arith, before))
     ∙ get_or_append_left (replicate 16 255) (range_with_len 0 16) 0 (n + i) before ∙ get_or-replicate 16 (n + i) 255 0 before in
-    get_or-swz_l w8 16 lanes 0 (window n) i (omega (arith, size, before))
+    get_or-swz_l w8 16 lanes 0 (window n) i (omega (arith, (window_len n fits), before))
     ∙ ap (λ j. cond (zeroes 16 w8 j) 0 (get_or lanes (16 * ((0 + i) / 16) + j) 0)) at
 
 -- the others are those from the first on
 moved_back : (n i : ℕ) (lanes : List ℕ) → n ≤ 16 → i < 16 → 16 ≤ n + i
     → get_or (swz_l w8 16 lanes 0 (window n)) i 0 ≡ get_or lanes (n + i - 16) 0
 moved_back n i lanes fits within after =
-    let size = window_len n fits in
     let at : get_or (window n) i 0 ≡ n + i - 16 = window_at n i fits within
     ∙ get_or-append_right (replicate 16 255) (range_with_len 0 16) 16 (n + i) 0 refl after
     ∙ get_or-range_with_len 0 16 (n + i - 16) 0 (omega (arith, fits, within)) ∙ omega arith in
-    get_or-swz_l_below w8 16 lanes 0 (window n) i (omega (arith, size, within)) (omega (arith, at, fits, within))
+    get_or-swz_l_below w8 16 lanes 0 (window n) i (omega (arith, (window_len n fits), within)) (omega (arith, at, fits, within))
     ∙ ap (λ j. get_or lanes j 0) (omega (arith, at, within))
 
 -- so the window of n moves the first n lanes to the end, after zeros

@@ -1,15 +1,8 @@
 -- What comes after a reading ends the text.
-use Rattle.std.proofs.Common.{◌≡◌, ℕ, List, [], ◌∷◌, ◌++◌, take, drop, sym, ◌∙◌, ap}
-use Rattle.std.proofs.Common.{refl, append_assoc}
-use Rattle.std.proofs.lemmas.Bool.{cases_Bool, eqb-true}
-use Rattle.std.proofs.lemmas.List.{take-append-drop}
-use Rattle.lp_format.specs.format.Bytes.{comma, equals}
-use Rattle.lp_format.specs.format.Readings.{Text, Read, Reading, reads, ◌>>=◌}
-use Rattle.lp_format.specs.format.Names.{NameKind, name, a_tag_key, a_tag_value, escapable, spelled, spelled_len}
-use Rattle.lp_format.specs.format.Names.{read_text}
-use Rattle.lp_format.specs.format.Points.{Pair}
-use Rattle.lp_format.specs.format.Lines.{byte, key_value, tag, after_comma}
-use Rattle.std.proofs.Common.{arith}
+use Rattle.std.proofs.Common.{◌≡◌, ℕ, List, [], ◌∷◌, ◌++◌, take, drop, sym, ◌∙◌, ap, refl, append_assoc, arith, eqb-true, take-append-drop}
+use Rattle.std.proofs.lemmas.Bool.{cases_Bool}
+use Rattle.lp_format.specs.format.{comma, equals, Text, Read, Reading, reads, ◌>>=◌, NameKind, name, a_tag_key, a_tag_value, escapable}
+use Rattle.lp_format.specs.format.{spelled, spelled_len, read_text, Pair, byte, key_value, tag, after_comma}
 
 -- the rest is the end of the text
 pub record EndsIn (text rest : List ℕ) : Type 0 where

@@ -1,14 +1,13 @@
 -- Texts as they are shown: what one byte more and one item more add.
-use Rattle.std.proofs.Common.{◌≡◌, ℕ, ◌+◌, ◌<◌, ◌≤◌, List, [], ◌∷◌, ◌++◌, length, take, drop, get_or, slice_index, length-drop, arith, ap}
-use Rattle.std.proofs.Common.{refl, ◌-◌, ◌∙◌, append_assoc, append-nil, true, false}
+use Rattle.std.proofs.Common.{◌≡◌, ℕ, ◌+◌, ◌<◌, ◌≤◌, List, [], ◌∷◌, ◌++◌, length, take, drop, get_or, slice_index, length-drop, arith, refl}
+use Rattle.std.proofs.Common.{◌-◌, append_assoc, append-nil, true, false}
 use Rattle.std.proofs.lemmas.Grind.{common_steps, flat_map-append}
 use Rattle.std.proofs.lemmas.List.{take_more}
 use Rattle.std.proofs.Math.Nat.{sub_self}
-use Rattle.lp_format.specs.format.Bytes.{backslash, is_one_of}
-use Rattle.lp_format.specs.format.Escapes.{escaped, escaped_byte}
-use Rattle.lp_scan.specs.code.Tokens.{known_of}
-use Rattle.lp_format.specs.code.Shown.{shown_escapes}
+use Rattle.lp_format.specs.format.{backslash, is_one_of, escaped, escaped_byte}
 use Rattle.lp_scan.specs.declared.sets.TokenKind.{TokenKind}
+use Rattle.lp_scan.specs.code.{known_of}
+use Rattle.lp_format.specs.code.Shown.{shown_escapes}
 
 -- an empty text
 pub escaped_nil : (bytes : List ℕ) → [] ≡ escaped bytes []
@@ -19,10 +18,7 @@ escaped_nil bytes = refl
 pub escaped_more : (bytes text : List ℕ) (i : ℕ) → i < length text
     → escaped bytes (take (i + 1) text) ≡ escaped bytes (take i text) ++ escaped_byte bytes (slice_index text i)
 unfolding escaped
-escaped_more bytes text i h =
-    rw (take_more text i 0 h)
-    (flat_map-append (escaped_byte bytes) (take i text) (slice_index text i ∷ [])
-    ∙ ap (λ (xs : List ℕ). escaped bytes (take i text) ++ xs) (append-nil _))
+escaped_more bytes text i h = grind (arith, common_steps, take_more, flat_map-append, append-nil)
 
 -- the run that is not yet written, with one byte more
 run_more : (text : List ℕ) (start at : ℕ) → start ≤ at → at < length text

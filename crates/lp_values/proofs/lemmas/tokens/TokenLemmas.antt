@@ -1,22 +1,18 @@
 -- The kinds of token, and the logical text of a token, stretch by stretch.
 use Rattle.std.proofs.Common.{◌≡◌, ℕ, ◌<◌, Bool, List, [], ◌∷◌, drop, true, false, refl, sym, ◌∙◌, arith, ◌≢◌, suc, ◌+◌, ◌-◌, ◌≤◌, ◌++◌}
-use Rattle.std.proofs.Common.{take, length, slice_index, ap, append_assoc, length-append, add-one, add-zero, drop-cons}
-use Rattle.std.specs.Prelude.{◌==◌, ◌&&◌}
-use Rattle.std.proofs.lemmas.Bool.{and_parts, or_right, cases_Bool, eq-eqb, eqb-true, ne_eqb, or_parts}
+use Rattle.std.proofs.Common.{take, length, slice_index, ap, append_assoc, length-append, add-one, add-zero, drop-cons, ◌==◌, ◌&&◌, eq-eqb}
+use Rattle.std.proofs.Common.{eqb-true, ne_eqb, bytes_eq, append-nil, drop-drop, get_or-drop, length-drop, length-take-le, take-append-drop}
+use Rattle.std.proofs.Common.{length-take}
+use Rattle.std.proofs.lemmas.Grind.{common_steps}
+use Rattle.std.proofs.lemmas.Bool.{and_parts, or_right, cases_Bool, or_parts}
 use Rattle.lp_scan.specs.declared.sets.TokenKind.{TokenKind}
-use Rattle.lp_format.specs.format.Bytes.{backslash, is_one_of}
-use Rattle.lp_format.specs.format.Escapes.{without_escapes}
-use Rattle.lp_scan.specs.code.Tokens.{stops_of, known_of, is_plain}
-use Rattle.lp_format.specs.format.Names.{is_one_escape, read_text}
-use Rattle.lp_format.specs.format.Readings.{Text}
+use Rattle.lp_scan.specs.code.{stops_of, known_of, is_plain, IsRunAt}
+use Rattle.lp_format.specs.format.{backslash, is_one_of, without_escapes, is_one_escape, read_text, Text}
 use Rattle.lp_format.proofs.lemmas.names.NameLemmas.{no_backslash, without_escapes_same}
-use Rattle.std.specs.Str.{bytes_eq}
 use Rattle.std.proofs.lemmas.Slice.Eq.{bytes_eq-Decides}
-use Rattle.std.proofs.lemmas.List.{append-nil, drop_all, drop-drop, get_or-drop, length-drop, length-take-le, take-append-drop}
-use Rattle.std.proofs.lemmas.List.{length-take}
+use Rattle.std.proofs.lemmas.List.{drop_all}
 use Rattle.std.proofs.lemmas.Slice.{drop-put_mid, take-put_mid}
 use borrow.Rule.Slice.PartMut.{put_mid, same_len_mid}
-use Rattle.lp_scan.specs.code.Lanes.{IsRunAt}
 use Rattle.lp_values.proofs.lemmas.tokens.WalkLemmas.{run_is_plain}
 
 -- a backslash ends no token
@@ -104,8 +100,7 @@ escape_at kind text at h = byte_of_escape kind (drop at text) h ∙ from_place (
 pub byte_at : (kind : TokenKind) (text : List ℕ) (at : ℕ) → at < length text
     → (slice_index (drop at text) 0 == backslash && is_one_of (known_of kind) (slice_index (drop at text) 1)) ≡ false
     → without_escapes (known_of kind) (drop at text) ≡ slice_index text at ∷ without_escapes (known_of kind) (drop (at + 1) text)
-byte_at kind text at within h =
-    byte_of_itself kind (drop at text) (omega (arith, length-drop at text)) h ∙ rw add-zero at (from_place (known_of kind) text at 0)
+byte_at kind text at within h = grind (arith, common_steps, byte_of_itself, length-drop, add-zero, from_place)
 
 -- bytes up to a backslash stand for themselves
 run_stays : (known text : List ℕ) (at end : ℕ) → IsRunAt (is_plain (λ b. false)) text at end
@@ -175,7 +170,7 @@ pub same_after : (stretch xs ys : List ℕ) → bytes_eq (stretch ++ xs) (stretc
 same_after [] xs ys = refl
 same_after (b ∷ stretch) xs ys = rw (eq-eqb b b refl) (same_after stretch xs ys)
 
--- a text that does not begin with a stretch is none that does
+-- a text that does not begin with a stretch differs from each that does
 pub other_front : (stretch xs ys : List ℕ) → ((rest : List ℕ) → ys ≢ stretch ++ rest) → bytes_eq (stretch ++ xs) ys ≡ false
 other_front stretch xs ys other = grind (arith, cases_Bool, bytes_eq-Decides)
 

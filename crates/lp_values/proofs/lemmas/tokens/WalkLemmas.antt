@@ -1,24 +1,20 @@
 -- A walk over a token, from escape to escape and by the masks of one load.
 use Rattle.std.proofs.Common.{◌≡◌, ◌≢◌, ℕ, zero, suc, ◌+◌, ◌-◌, ◌<◌, ◌≤◌, Bool, List, [], ◌∷◌, ◌++◌, length, take, slice_index, true, false}
 use Rattle.std.proofs.Common.{cond, eqb, not, ◌&&◌, refl, sym, ap, ap₂, ◌∙◌, subst, arith, inl, inr, add-one, add-zero, append_assoc, ◌%◌}
-use Rattle.std.proofs.Common.{◌^◌, bit_and, count_ones}
-use Rattle.std.specs.Prelude.{◌==◌}
-use Rattle.std.proofs.lemmas.Bool.{false≢true, cases_Bool, or_parts, not-true, not-false, or_cases, eqb-true, eqb-false, cases_lt, cases_eq}
+use Rattle.std.proofs.Common.{◌^◌, bit_and, count_ones, ◌==◌, eqb-true, length-append, count_by}
+use Rattle.std.proofs.lemmas.Bool.{false≢true, cases_Bool, or_parts, not-true, not-false, or_cases, eqb-false, cases_lt, cases_eq}
 use Rattle.std.proofs.lemmas.Bool.{and_right}
-use Rattle.std.proofs.lemmas.List.{take_more, length-append}
+use Rattle.std.proofs.lemmas.List.{take_more}
 use Rattle.std.proofs.lemmas.List.Folds.{list_any_more}
 use Rattle.std.proofs.lemmas.List.Sums.{sum_by-cons}
-use Rattle.std.specs.List.{count_by, range_with_len}
+use Rattle.std.specs.List.{range_with_len}
 use mir.Val.{bool_byte}
-use Rattle.lp_format.specs.format.Bytes.{backslash, is_one_of}
-use Rattle.lp_format.specs.format.Escapes.{is_escaped_after, is_bare_at, first_bare, without_escapes, EscapeScan, IsPassed}
-use Rattle.lp_scan.specs.code.Tokens.{is_plain}
-use Rattle.lp_scan.specs.code.Lanes.{AllPassBetween, IsRunAt, first_set, mask_of}
+use Rattle.lp_format.specs.format.{backslash, is_one_of, is_escaped_after, is_bare_at, first_bare, without_escapes, EscapeScan, IsPassed}
+use Rattle.lp_scan.specs.code.{is_plain, AllPassBetween, IsRunAt, first_set, mask_of, mask_at}
 use Rattle.lp_values.specs.code.RawTokens.{is_escape_at}
 use Rattle.lp_format.proofs.lemmas.tokens.EscapeLemmas.{first_bare_is, is_escaped_more}
 use Rattle.lp_format.proofs.lemmas.names.NameLemmas.{without_escapes_plain_byte}
 use Rattle.lp_format.proofs.lemmas.split.SplitBare.{is_escaped-nil, is_escaped-append, is_escaped-after_other, flag_after}
-use Rattle.lp_scan.specs.code.Scan.{mask_at}
 use Rattle.lp_scan.proofs.lemmas.scan.BareMasks.{at_most_one, escaped_is_not_bare, lowest_within, mask_next, next_bare, one_escaped}
 use Rattle.lp_scan.proofs.lemmas.scan.BareMasks.{ones_low, to_next, to_stop}
 use Rattle.lp_scan.proofs.lemmas.scan.EscapedMasks.{of_places}
@@ -28,7 +24,7 @@ use Rattle.lp_scan.proofs.lemmas.scan.MaskBits.{and_of_maps}
 escaped_is_flag : (text : List ℕ) → is_escaped_after text ≡ flag_after false text
 escaped_is_flag text = is_escaped-append [] text ∙ ap (λ f. flag_after f text) is_escaped-nil
 
--- what comes after a backslash and a byte is escaped just where it is without them
+-- what comes after a backslash and a byte is escaped if and only if it is without them
 escaped_after_pair : (c : ℕ) (rest : List ℕ) → is_escaped_after (backslash ∷ c ∷ rest) ≡ is_escaped_after rest
 escaped_after_pair c rest = grind (arith, escaped_is_flag, flag_after, eqb)
 
@@ -91,21 +87,13 @@ module _ (known : List ℕ) (stops : ℕ → Bool) (text : List ℕ) where
       → is_plain stops (slice_index text at) ≡ true → EscapeScan known stops text (at + 1) found
   unfolding without_escapes
   walk_byte at found w within plain =
-      let parts = plain_parts (slice_index text at) plain in
       let more = take_more text at 0 within in
       let separated_list = without_escapes_append known (take at text) (slice_index text at ∷ []) w.bare in
       record {
         within = omega arith;
-        bare = rw (is_escaped_more text at within, w.bare, parts.1) refl;
-        passed = λ k h. elim (cases_Bool (k == at)) [
-          | inl e ↦ rw (eqb-true k at e, parts.0) refl
-          | inr before ↦ w.passed k (omega (arith, eqb-false k at before))
-        ];
-        counted = rw (
-          more,
-          separated_list,
-          length-append (without_escapes known (take at text)) (slice_index text at ∷ []),
-        ) (omega (arith, w.counted));
+        bare = rw (is_escaped_more text at within, w.bare, (plain_parts (slice_index text at) plain).1) refl;
+        passed = grind (arith, cases_Bool, eqb-true, eqb-false);
+        counted = grind (arith, length-append);
       }
 
   -- some plain bytes further
@@ -114,9 +102,8 @@ module _ (known : List ℕ) (stops : ℕ → Bool) (text : List ℕ) where
   walk_bytes zero at found w fits pass = rw add-zero w
   walk_bytes (suc n) at found w fits pass =
       let one = walk_byte at found w (omega arith) (pass at (omega arith) (omega arith)) in
-      let rest = walk_bytes n (at + 1) found one (omega arith) (λ k from to. pass k (omega arith) (omega arith)) in
       let e : at + suc n ≡ at + 1 + n = omega arith in
-      rw e rest
+      rw e (walk_bytes n (at + 1) found one (omega arith) (λ k from to. pass k (omega arith) (omega arith)))
 
   -- up to the end of the plain bytes
   pub walk_run : (at end found : ℕ) → EscapeScan known stops text at found → IsRunAt (is_plain stops) text at end
@@ -131,29 +118,16 @@ module _ (known : List ℕ) (stops : ℕ → Bool) (text : List ℕ) where
       → is_one_of known (slice_index text (at + 1)) ≡ t → EscapeScan known stops text (at + 2) (found + cond t 1 0)
   unfolding without_escapes
   walk_escape at found t w within here kept is =
-      let first = take_more text at 0 (omega arith) in
-      let second = take_more text (at + 1) 0 within in
       let two : at + 1 + 1 ≡ at + 2 = omega arith in
       let escaped : is_escaped_after (take (at + 1) text) ≡ true = rw (is_escaped_more text at (omega arith), w.bare, here) refl in
       let front : take (at + 2) text ≡ take at text ++ (backslash ∷ slice_index text (at + 1) ∷ []) = rw (← two)
-      (rw (second, first, here) (simp append_assoc)) in
+      (rw ((take_more text (at + 1) 0 within), (take_more text at 0 (omega arith)), here) (simp append_assoc)) in
       let separated_list = without_escapes_append known (take at text) (backslash ∷ slice_index text (at + 1) ∷ []) w.bare in
       record {
         within = omega arith;
         bare = rw (← two) (rw (is_escaped_more text (at + 1) within, escaped) refl);
-        passed = λ k h. elim (cases_lt k at) [
-          | inl before ↦ w.passed k before
-          | inr after ↦ elim (cases_eq k at) [
-            | inl e ↦ rw (e, here, kept) refl
-            | inr other ↦
-                let last : k ≡ at + 1 = omega arith in
-                rw (last, escaped) (and_right _ false refl)
-          ]
-        ];
-        counted = elim (cases_Bool t) [
-          | inl k ↦ rw (front, separated_list, is, k, length-append (without_escapes known (take at text)) _) (omega (arith, w.counted))
-          | inr k ↦ rw (front, separated_list, is, k, length-append (without_escapes known (take at text)) _) (omega (arith, w.counted))
-        ];
+        passed = grind (arith, cases_lt, cases_eq, and_right);
+        counted = grind (arith, cases_Bool, length-append);
       }
 
   -- over a byte that is neither a backslash nor a stop
@@ -265,10 +239,9 @@ module _ (known : List ℕ) (stops : ℕ → Bool) (text : List ℕ) where
   plain_front : (n : ℕ) → n ≤ length text → AllPassBetween (is_plain stops) text 0 n → is_one_of (take n text) backslash ≡ false
   plain_front zero fits pass = refl
   plain_front (suc n) fits pass =
-      let before = plain_front n (omega arith) (λ k from to. pass k from (omega arith)) in
       let last = (plain_parts (slice_index text n) (pass n (omega arith) (omega arith))).1 in
       let more = list_any_more (λ b. b == backslash) text n 0 (omega arith) in
-      rw (← add-one n) (rw (more, before) last)
+      rw (← add-one n) (rw (more, (plain_front n (omega arith) (λ k from to. pass k from (omega arith)))) last)
 
   -- a stretch that nothing in it ends has no backslash
   pub run_is_plain : (end : ℕ) → IsRunAt (is_plain stops) text 0 end → is_one_of (take end text) backslash ≡ false
@@ -313,11 +286,10 @@ module _ (known : List ℕ) (stops : ℕ → Bool) (text : List ℕ) (at found :
   pub load_goes_on : (last : ℕ) → 64 ≤ run → last ≡ cond (is_bare_at (λ b. b == backslash) text (at + 63)) 1 0
       → EscapeScan known stops text (at + (64 + last)) (found + n)
   load_goes_on last far is =
-      let next = to_next stops text at room passed run run_is last far is in
       let one = at_most_one text at room last is in
       let whole : run ≡ 64 = omega (arith, lowest_within (is_bare_at stops text) at 64 run (omega arith) run_is) in
       let walked = walk_to known stops text (64 + last) at found kept w (omega arith)
-      (next_bare text at room last is) (λ k from to. next.passed k to) in
+      (next_bare text at room last is) (λ k from to. (to_next stops text at room passed run run_is last far is).passed k to) in
       let same : escapes_from known text at (64 + last) ≡ n = elim (cases_eq last 0) [
         | inl none ↦ ap (λ (k : ℕ). escapes_from known text at (64 + k)) none ∙ ap (escapes_from known text at) (sym whole) ∙ sym counted
         | inr some ↦

@@ -12,9 +12,7 @@ pub slice_bounds-after-count : goal.slice_bounds-after-count
 slice_bounds-after-count c = omega (arith, integer_len_fits c.args.text.now)
 
 pub slice_bounds-after-start : goal.slice_bounds-after-start
-slice_bounds-after-start c =
-    let fits : c.args.whole ≤ length c.as_bytes.result.now = omega (arith, integer_len_fits c.args.text.now) in
-    search rules
+slice_bounds-after-start c = grind (arith, common_steps, integer_len_fits, rules)
 
 pub returns-clause-boundary : goal.returns-clause-boundary
 returns-clause-boundary c =

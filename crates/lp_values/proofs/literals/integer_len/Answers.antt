@@ -1,4 +1,6 @@
 use Rattle.std.proofs.lemmas.List.{take_rest}
+use Rattle.std.proofs.Common.{arith}
+use Rattle.std.proofs.lemmas.Grind.{common_steps}
 use Rattle.lp_format.proofs.lemmas.values.ValueLemmas.{digits_end, negative_end}
 use Rattle.lp_values.proofs.literals.integer_len.Goals as goal
 
@@ -8,6 +10,4 @@ returns-in-45-clause-boundary c =
     negative_end c.args.text.now c.negative_len.result c.utf8.text value
 
 pub returns-in_default-clause-boundary : goal.returns-in_default-clause-boundary
-returns-in_default-clause-boundary c =
-    let value = rw c.as_bytes.ensures.value at c.digits_len.ensures.value in
-    digits_end c.args.text.now c.digits_len.result c.utf8.text value
+returns-in_default-clause-boundary c = grind (arith, common_steps, digits_end)

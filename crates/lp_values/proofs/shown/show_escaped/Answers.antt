@@ -1,4 +1,4 @@
-use Rattle.std.proofs.Common.{◌≡◌, ◌-◌, ◌<◌, true, false, [], ◌∷◌, ◌++◌, length, get_or, take, drop, rules, arith, append_assoc}
+use Rattle.std.proofs.Common.{◌≡◌, ◌-◌, ◌<◌, true, [], ◌∷◌, ◌++◌, length, get_or, take, drop, rules, arith, append_assoc}
 use Rattle.std.proofs.lemmas.Grind.{common_steps}
 use Rattle.std.proofs.lemmas.Str.{IsCharBoundary-start, IsCharBoundary-before_ascii}
 use Rattle.std.proofs.Output.{has_written_append, has_written_of_eq}
@@ -23,11 +23,10 @@ loop-at-preserved g c =
     elim c.if-bytes-at-ne92.branch [
       | then-bytes-at-ne92+then-is_known+in_ok-write_str+in_ok-write_str-2 w ↦
           let special : is_one_of bytes (get_or text l.at 0) ≡ true = grind (arith, common_steps) in
-          let run = take (l.at - l.start) (drop l.start text) in
           rw (w.start-is, w.f-is) (
             omega arith,
             IsCharBoundary-before_ascii text l.at within (shown_ascii c.args.kind _ special),
-            done ++ (run ++ backslash ∷ []),
+            done ++ ((take (l.at - l.start) (drop l.start text)) ++ backslash ∷ []),
             escape_byte bytes text done l.start l.at within special whole,
             λ plain.
                 let so_far = wrote plain in
@@ -36,7 +35,5 @@ loop-at-preserved g c =
                 has_written_of_eq _ _ _ _ _ (grind (arith, common_steps, append_assoc))
                 (has_written_append _ _ _ _ _ _ (has_written_append _ _ _ _ _ _ so_far one) two),
           )
-      | else-bytes-at-ne92 w ↦
-          let plain : is_one_of bytes (get_or text l.at 0) ≡ false = grind (arith, common_steps) in
-          rw (w.start-is, w.f-is) (omega arith, bound, done, keep_byte bytes text done l.start l.at low within plain whole, wrote)
+      | else-bytes-at-ne92 w ↦ grind (arith, common_steps, keep_byte)
     ]

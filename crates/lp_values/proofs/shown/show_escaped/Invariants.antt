@@ -1,8 +1,7 @@
-use Rattle.std.proofs.Common.{◌≡◌, ◌-◌, ◌≤◌, List, ℕ, ◌++◌, take, drop}
+use Rattle.std.proofs.Common.{◌≡◌, ◌-◌, ◌≤◌, List, ℕ, ◌++◌, take, drop, IsCharBoundary}
 use Rattle.std.specs.Fmt.{HasWritten, IsPlainFormatter}
-use Rattle.std.specs.Str.{IsCharBoundary}
-use Rattle.lp_format.specs.format.Escapes.{escaped}
-use Rattle.lp_scan.specs.code.Tokens.{known_of}
+use Rattle.lp_format.specs.format.{escaped}
+use Rattle.lp_scan.specs.code.{known_of}
 use Rattle.lp_format.specs.code.Shown.{shown_escapes}
 use Rattle.lp_values.proofs.shown.show_escaped.Given as goal
 

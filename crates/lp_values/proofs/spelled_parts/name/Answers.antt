@@ -22,7 +22,6 @@ pub returns-clause-value : goal.returns-clause-value
 returns-clause-value c =
     let front : c.take_token.result.0.text.now ≡ spelled (kind_of c.args.kind)
     c.args.text.now = rw (← c.token.ensures.stops) c.take_token.ensures.text in
-    let rest = rw c.token.ensures.stops at c.take_token.ensures.rest in
     let read = name_reads (kind_of c.args.kind) c.args.text.now (rw (← front) (grind (arith, common_steps)))
     (rw (← front) (grind (arith, common_steps))) in
-    rw (c.take_token.ensures.kind, c.token.ensures.known, front, rest) read
+    rw (c.take_token.ensures.kind, c.token.ensures.known, front, (rw c.token.ensures.stops at c.take_token.ensures.rest)) read

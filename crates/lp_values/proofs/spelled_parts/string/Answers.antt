@@ -1,4 +1,5 @@
-use Rattle.std.proofs.Common.{sym, ◌∙◌}
+use Rattle.std.proofs.Common.{◌∙◌, arith}
+use Rattle.std.proofs.lemmas.Grind.{common_steps}
 use Rattle.lp_values.proofs.lemmas.fields.ReadingLemmas.{byte_parts}
 use Rattle.lp_format.proofs.lemmas.values.ValueForms.{byte_missing, string_misses, string_open, string_reads}
 use Rattle.lp_format.specs.format.Bytes.{quote}
@@ -15,9 +16,4 @@ returns-in_default-strip_byte-clause-value c =
     string_open c.args.text.now inner opened (λ rest e. unclosed rest (c.take_token.ensures.rest ∙ e))
 
 pub returns-clause-value : goal.returns-clause-value
-returns-clause-value c =
-    let inner = c.in-Some.opened.now in
-    let opened = (byte_parts quote c.args.text.now quote inner c.in-Some.ensures.value).1 in
-    let closed = (byte_parts quote c.take_token.result.1.now quote c.in-Some-strip_byte.rest.now c.in-Some-strip_byte.ensures.value).1 in
-    let read = string_reads c.args.text.now inner c.in-Some-strip_byte.rest.now opened (sym c.take_token.ensures.rest ∙ closed) in
-    rw (c.take_token.ensures.kind, c.take_token.ensures.text) read
+returns-clause-value c = grind (arith, common_steps, byte_parts, string_reads)

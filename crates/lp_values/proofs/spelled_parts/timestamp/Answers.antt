@@ -1,8 +1,6 @@
-use Rattle.std.proofs.Common.{◌<◌, length, arith, ap}
-use Rattle.std.specs.Prelude.{codes}
-use Rattle.std.proofs.lemmas.List.{length-take}
+use Rattle.std.proofs.Common.{◌<◌, length, arith, ap, codes, length-take}
 use Rattle.std.proofs.lemmas.Grind.{common_steps}
-use Rattle.lp_format.specs.format.Values.{integer_len}
+use Rattle.lp_format.specs.format.{integer_len}
 use Rattle.lp_format.proofs.lemmas.literals.FloatLemmas.{signed_front}
 use Rattle.lp_values.proofs.spelled_parts.timestamp.Goals as goal
 

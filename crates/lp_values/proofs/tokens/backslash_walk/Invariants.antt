@@ -1,6 +1,5 @@
 use Rattle.std.proofs.Common.{◌-◌, ◌≤◌, length, false}
-use Rattle.lp_scan.specs.code.Tokens.{is_plain}
-use Rattle.lp_scan.specs.code.Lanes.{AllPassBetween}
+use Rattle.lp_scan.specs.code.{is_plain, AllPassBetween}
 use Rattle.lp_values.proofs.tokens.backslash_walk.Given as goal
 
 abbrev pub invariant-loop-end : goal.invariant-loop-end

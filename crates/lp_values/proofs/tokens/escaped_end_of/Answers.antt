@@ -1,14 +1,14 @@
-use Rattle.std.proofs.Common.{◌≡◌, ℕ, ◌+◌, ◌-◌, ◌<◌, ◌≤◌, List, length, take, slice_index, true, false, not, ◌∙◌, sym, ap, arith, inl, inr, refl}
+use Rattle.std.proofs.Common.{◌≡◌, ℕ, ◌+◌, ◌-◌, ◌<◌, ◌≤◌, List, length, take, slice_index, true, false, sym, arith, inl, inr, refl}
+use Rattle.std.proofs.lemmas.Grind.{common_steps}
 use Rattle.std.proofs.lemmas.Bool.{false≢true, cases_eq}
 use Rattle.lp_scan.specs.declared.sets.TokenKind.{TokenKind}
-use Rattle.lp_format.specs.format.Escapes.{without_escapes}
-use Rattle.lp_scan.specs.code.Tokens.{stops_of, known_of}
+use Rattle.lp_scan.specs.code.{stops_of, known_of}
+use Rattle.lp_format.specs.format.{without_escapes, backslash}
 use Rattle.lp_values.specs.code.RawTokens.{IsTold}
 use Rattle.lp_format.proofs.lemmas.tokens.EscapeLemmas.{is_one_of_front}
 use Rattle.lp_values.proofs.lemmas.tokens.TokenLemmas.{backslash_goes_on}
 use Rattle.lp_values.proofs.lemmas.tokens.WalkLemmas.{walk_start, walk_run, walk_ends}
 use Rattle.lp_values.proofs.tokens.escaped_end_of.Goals as goal
-use Rattle.lp_format.specs.format.Bytes.{backslash}
 
 pub loop-end-init : goal.loop-end-init
 loop-end-init c =
@@ -23,19 +23,12 @@ loop-end-init c =
 -- what the walk counted is told, if the first backslash is before its end
 told : (kind : TokenKind) (text : List ℕ) (at end found len : ℕ) → slice_index text at ≡ backslash → at < end → end ≤ length text
     → length (without_escapes (known_of kind) (take end text)) + found ≡ end → len ≡ end - found → IsTold (known_of kind) (take end text) len false
-told kind text at end found len here after fits counted is = record {
-  counts = omega (arith, is, counted);
-  tells = ap not (sym (is_one_of_front text at end backslash after (omega (arith, after, fits)) here));
-}
+told kind text at end found len here after fits counted is = grind (arith, common_steps, is_one_of_front)
 
 -- the first backslash is before the stop of a load
 after_first : (kind : TokenKind) (bytes : List ℕ) (at next : ℕ) → at ≤ next → slice_index bytes at ≡ backslash
     → stops_of kind (slice_index bytes next) ≡ true → at < next
-after_first kind bytes at next further here stop = elim (cases_eq next at) [
-  | inl e ↦ absurd (false≢true
-      (sym (backslash_goes_on kind) ∙ ap (stops_of kind) (sym here ∙ ap (slice_index bytes) (sym e)) ∙ stop))
-  | inr other ↦ omega arith
-]
+after_first kind bytes at next further here stop = grind (arith, common_steps, cases_eq, false≢true, backslash_goes_on)
 
 pub returns-then-next-end-clause-end : goal.returns-then-next-end-clause-end
 returns-then-next-end-clause-end c =
@@ -59,7 +52,6 @@ returns-then-next-end-clause-told c =
 
 pub returns-clause-told : goal.returns-clause-told
 returns-clause-told c =
-    let kind = c.args.kind in
     let bytes = c.as_bytes-bytes.result.now in
     let at = c.args.at in
     let end = c.escapes_to_end-end.result.0 in
@@ -70,4 +62,4 @@ returns-clause-told c =
       | inl e ↦ rw (← e) (tail.moves (rw e within) (rw e here))
       | inr other ↦ omega (arith, tail.further, c.loop-end.invariant.after)
     ] in
-    rw (← c.as_bytes-bytes.ensures.value) (told kind bytes at end _ _ here after tail.within tail.len refl)
+    rw (← c.as_bytes-bytes.ensures.value) (told c.args.kind bytes at end _ _ here after tail.within tail.len refl)

@@ -52,14 +52,11 @@ returns-else-bytes-end-eq92-clause-value c =
     let stop : end < length bytes → stops_of kind (slice_index bytes end) ≡ true = λ within.
     is_stop_then (known_of kind) (stops_of kind) bytes (slice_index bytes end) (c.loop-end.invariant.stopped within)
     c.if-bytes-end-eq92.false in
-    let ends = walk_ends (known_of kind) (stops_of kind) bytes end c.loop-end.known c.loop-end.invariant.walked stop in
-    sym ends.0
+    sym (walk_ends (known_of kind) (stops_of kind) bytes end c.loop-end.known c.loop-end.invariant.walked stop).0
 
 pub returns-after-loop-end-clause-value : goal.returns-after-loop-end-clause-value
 returns-after-loop-end-clause-value c =
     let kind = c.args.kind in
-    let bytes = c.args.bytes.now in
-    let end = c.loop-end.end in
-    let ends = walk_ends (known_of kind) (stops_of kind) bytes end c.loop-end.known c.loop-end.invariant.walked
+    let ends = walk_ends (known_of kind) (stops_of kind) c.args.bytes.now c.loop-end.end c.loop-end.known c.loop-end.invariant.walked
     (λ within. absurd (omega arith)) in
     sym ends.0

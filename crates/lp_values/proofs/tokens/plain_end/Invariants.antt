@@ -1,6 +1,5 @@
 use Rattle.std.proofs.Common.{◌-◌, ◌≤◌, length}
-use Rattle.lp_scan.specs.code.Tokens.{is_plain, stops_of}
-use Rattle.lp_scan.specs.code.Lanes.{AllPassBetween}
+use Rattle.lp_scan.specs.code.{is_plain, stops_of, AllPassBetween}
 use Rattle.lp_values.proofs.tokens.plain_end.Given as goal
 
 abbrev pub invariant-loop-end : goal.invariant-loop-end

@@ -1,8 +1,6 @@
-use Rattle.std.proofs.Common.{◌≡◌, ◌≤◌, ◌-◌, ◌++◌, length, drop, string_bytes}
-use Rattle.std.specs.Prelude.{IsCharBoundary}
-use Rattle.std.specs.String.{string_capacity}
-use Rattle.lp_format.specs.format.Escapes.{without_escapes}
-use Rattle.lp_scan.specs.code.Tokens.{known_of}
+use Rattle.std.proofs.Common.{◌≡◌, ◌≤◌, ◌-◌, ◌++◌, length, drop, string_bytes, IsCharBoundary, string_capacity}
+use Rattle.lp_format.specs.format.{without_escapes}
+use Rattle.lp_scan.specs.code.{known_of}
 use Rattle.lp_values.proofs.tokens.put.Given as goal
 
 -- what is written and what is left to write make the whole, and there is room for it

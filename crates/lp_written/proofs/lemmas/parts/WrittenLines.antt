@@ -1,19 +1,14 @@
 -- Tags, fields, timestamps and lines as the builder writes them.
-use Rattle.std.proofs.Common.{◌≡◌, ◌≢◌, ℕ, ◌<◌, ◌≤◌, Bool, true, List, [], ◌∷◌, ◌++◌, length, drop, slice_index, refl, sym}
-use Rattle.std.proofs.Common.{ap, subst, ◌∙◌, arith, append_assoc, append-nil, length-append, Option, Some, None}
-use Rattle.std.specs.Prelude.{◌↔◌, ℤ, IfSome, MatchOption, codes}
+use Rattle.std.proofs.Common.{◌≡◌, ℕ, ◌<◌, ◌≤◌, Bool, true, List, [], ◌∷◌, ◌++◌, length, drop, slice_index, refl, sym, ap, subst, ◌∙◌}
+use Rattle.std.proofs.Common.{arith, append_assoc, append-nil, length-append, Option, Some, None, ◌↔◌, ℤ, IfSome, MatchOption, codes, Bor}
+use Rattle.std.proofs.Common.{flat_map, take_all}
 use Rattle.std.specs.Fmt.{signed_decimal}
-use Rattle.std.specs.Borrow.{Bor}
-use Rattle.std.specs.List.{AllByRecursion, flat_map, list_all}
+use Rattle.std.specs.List.{AllByRecursion, list_all}
 use Rattle.std.proofs.lemmas.Bool.{and_from}
-use Rattle.std.proofs.lemmas.List.{take_all}
-use Rattle.lp_format.specs.format.Bytes.{comma, equals, space}
-use Rattle.lp_format.specs.format.Names.{NameKind, a_measurement, a_tag_key, a_tag_value, a_field_key, is_stop}
-use Rattle.lp_format.specs.format.Lines.{byte}
-use Rattle.lp_format.specs.format.Readings.{miss, reads}
-use Rattle.lp_format.specs.format.Values.{IsSigned, integer_len, fits_i64}
-use Rattle.lp_format.specs.format.Points.{Field, Point, Tag, IsAsWritten, IsValue, built_field, built_fields, built_tag, built_timestamp}
-use Rattle.lp_format.specs.format.Points.{built_value, is_admitted_field, is_admitted_point, is_admitted_tag, spelling}
+use Rattle.lp_format.specs.format.{comma, equals, space, NameKind, a_measurement, a_tag_key, a_tag_value, a_field_key, is_stop, byte, miss}
+use Rattle.lp_format.specs.format.{reads, IsSigned, integer_len, fits_i64, Field, Point, Tag, IsAsWritten, IsValue, built_field}
+use Rattle.lp_format.specs.format.{built_fields, built_tag, built_timestamp, built_value, is_admitted_field, is_admitted_point}
+use Rattle.lp_format.specs.format.{is_admitted_tag, spelling}
 use Rattle.lp_format.proofs.lemmas.literals.FloatLemmas.{signed_front}
 use Rattle.lp_format.proofs.lemmas.read_back.IntegerReadsBack.{integer_written}
 use Rattle.lp_format.proofs.lemmas.values.ValueForms.{byte_missing}
@@ -30,7 +25,7 @@ module _ (kind : NameKind) (stops : is_stop kind equals ≡ true) (Value : List 
   sign_ends : (after : List ℕ) → EndsName kind (equals ∷ after)
   sign_ends after = stop_ends kind equals after stops (λ e. omega (arith, e))
 
-  -- no pair is where no key is
+  -- no pair is read if no key is
   pub pair_no_key : (text : List ℕ) → ((rest : List ℕ) → IsWrittenName kind text rest → EndsName kind rest → ⊥)
       → (rest : List ℕ) → IsWrittenPair kind Value text rest → Ends rest → ⊥
   pair_no_key text none rest w ends = none (equals ∷ w.after) w.key (sign_ends w.after)
@@ -50,8 +45,7 @@ module _ (kind : NameKind) (stops : is_stop kind equals ≡ true) (Value : List 
       -- the same value comes after the sign
       again : key_end ≡ equals ∷ after → (rest : List ℕ) → IsWrittenPair kind Value text rest → Value after rest
       again left rest w =
-          let same : w.after ≡ after =
-          ap (λ (xs : List ℕ). drop 1 xs) (key.1 (equals ∷ w.after) w.key (sign_ends w.after) ∙ left) in
+          let same : w.after ≡ after = ap (λ (xs : List ℕ). drop 1 xs) (key.1 (equals ∷ w.after) w.key (sign_ends w.after) ∙ left) in
           subst (λ xs. Value xs rest) same w.value
 
       -- by what follows the value
@@ -75,7 +69,7 @@ field_less text rest w = grind (arith, length-append)
 pub followed_step : (Front : List ℕ → List ℕ → Type 0) (After Ends : List ℕ → Type 0) → ((text : List ℕ) → After text → Ends text)
     → (text : List ℕ) (o : Option (Bor (List ℕ))) → IsOnlyRest (Front text) Ends o
     → MatchOption o (IsFollowed Front After text → ⊥) (λ r. After r.now ↔ IsFollowed Front After text)
-followed_step ront fter nds ends text r none = grind (arith)
+followed_step front after e ends text r none = grind (arith)
 
 module _ (Item : List ℕ → List ℕ → Type 0) (After Ends : List ℕ → Type 0) (comma_ends : (after : List ℕ) → Ends (comma ∷ after))
     (after_ends : (text : List ℕ) → After text → Ends text) (no_comma : (after : List ℕ) → After (comma ∷ after) → ⊥) where
@@ -131,8 +125,7 @@ only_timestamp = items_last IsWrittenField IsWrittenTimestamp EndsValue (λ afte
 -- the first field, and what comes after it
 pub first_step : (text : List ℕ) (o : Option (Bor (List ℕ))) → IsOnlyRest (IsWrittenField text) EndsValue o
     → MatchOption o (AreWrittenFields text → ⊥) (λ r. IsWrittenAfterField r.now ↔ AreWrittenFields text)
-first_step =
-    followed_step IsWrittenField IsWrittenAfterField EndsValue
+first_step = followed_step IsWrittenField IsWrittenAfterField EndsValue
     (items_end IsWrittenField IsWrittenTimestamp EndsValue (λ after. refl) stamp_ends stamp_no_comma)
 
 -- the space before the fields ends a name of each kind that comes before them
@@ -194,15 +187,6 @@ timestamp_answer number signed = (
   (λ ok. let t = integer_told number signed ok in present t.0 t.1 (ap (λ (xs : List ℕ). space ∷ xs) (sym t.2))),
   (λ w. let t = timestamp_number number w in subst (λ xs. is_written_integer xs ≡ true) t.2 (integer_tells t.0 t.1)),
 )
-
--- nothing is a timestamp that is not there
-pub no_timestamp : (text : List ℕ) → length text ≡ 0 → IsWrittenTimestamp text
-no_timestamp [] none = absent refl
-no_timestamp (b ∷ text) some = absurd (omega (arith, some))
-
--- and what begins with no space is none
-pub timestamp_space : (text : List ℕ) → length text ≢ 0 → byte space text ≡ miss → IsWrittenTimestamp text → ⊥
-timestamp_space text some missed e = grind (arith, byte_missing)
 
 -- the timestamp of a point is one
 stamp_item : (t : Option ℤ) → IfSome t (λ z. fits_i64 z ≡ true) → IsWrittenTimestamp (built_timestamp t)
@@ -359,8 +343,7 @@ line_step line o only = go o (followed_step (IsWrittenName a_measurement) IsWrit
     parts w = line_of_point line w (admitted_point w.point w.is_point w.admitted)
 
     -- by the rest of the measurement
-    go : (o : Option (Bor (List ℕ)))
-        → MatchOption o (IsFollowed (IsWrittenName a_measurement) IsWrittenAfterName line → ⊥)
+    go : (o : Option (Bor (List ℕ))) → MatchOption o (IsFollowed (IsWrittenName a_measurement) IsWrittenAfterName line → ⊥)
         (λ r. IsWrittenAfterName r.now ↔ IsFollowed (IsWrittenName a_measurement) IsWrittenAfterName line)
         → MatchOption o (IsAsWritten line → ⊥) (λ r. IsWrittenAfterName r.now ↔ IsAsWritten line)
     go r none = grind (arith, parts, point_of_line)

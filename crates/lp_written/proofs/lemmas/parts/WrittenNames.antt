@@ -1,46 +1,32 @@
 -- Names and strings that are spelled as the builder spells them.
-use Rattle.std.proofs.Common.{◌≡◌, ℕ, ◌<◌, ◌&&◌, Bool, true, false, not, List, [], ◌∷◌, length, take, drop, slice_index, refl, sym}
-use Rattle.std.proofs.Common.{ap, subst, ◌∙◌, arith, ◌≢◌, Option, Some, None}
-use Rattle.std.specs.Prelude.{◌==◌, MatchOption}
+use Rattle.std.proofs.Common.{◌≡◌, ℕ, ◌&&◌, Bool, true, false, not, List, [], ◌∷◌, length, take, drop, slice_index, refl, sym, ap, subst}
+use Rattle.std.proofs.Common.{◌∙◌, arith, ◌≢◌, Option, Some, None, ◌==◌, MatchOption, Bor, ne_eqb, eqb-true, drop_at, take_at}
+use Rattle.std.proofs.Common.{take-append-drop}
 use Rattle.std.specs.List.{list_all}
-use Rattle.std.specs.Borrow.{Bor}
-use Rattle.std.proofs.lemmas.Bool.{cases_Bool, false≢true, ne_eqb, eqb-true}
+use Rattle.std.proofs.lemmas.Bool.{cases_Bool, false≢true}
 use Rattle.std.proofs.lemmas.Grind.{common_steps}
-use Rattle.std.proofs.lemmas.List.{drop_at, take_at, take-append-drop, append_cancel_right}
-use Rattle.lp_format.specs.format.Bytes.{backslash, hash, quote}
-use Rattle.lp_format.specs.format.Escapes.{escaped}
-use Rattle.lp_format.specs.format.Names.{NameKind, a_measurement, a_tag_key, a_tag_value, a_field_key, ends_in_backslash, escapable}
-use Rattle.lp_format.specs.format.Names.{is_stop}
-use Rattle.lp_format.specs.format.Values.{quotable}
-use Rattle.lp_format.specs.format.Points.{is_admitted_name, spelling}
+use Rattle.std.proofs.lemmas.List.{append_cancel_right}
+use Rattle.lp_format.specs.format.{backslash, hash, quote, escaped, NameKind, a_measurement, ends_in_backslash, escapable, is_stop}
+use Rattle.lp_format.specs.format.{quotable, is_admitted_name, spelling, byte, miss, reads}
 use Rattle.lp_format.proofs.lemmas.names.NameLemmas.{escapable_backslash, logical_ends}
 use Rattle.lp_format.proofs.lemmas.read_back.NameReadsBack.{admitted_parts, escaped_found, escaped_plain, logical_spelling, may_hold}
-use Rattle.lp_format.specs.format.Lines.{byte}
-use Rattle.lp_format.specs.format.Readings.{miss, reads}
 use Rattle.lp_format.proofs.lemmas.values.ValueForms.{byte_missing}
 use Rattle.lp_written.specs.code.AsWritten.{written_len, EndsName, IsOnlyRest, IsWrittenName, IsWrittenString, is_admitted_spelling}
 use Rattle.lp_written.proofs.lemmas.parts.WrittenTokens.{can_hold, written_spelled, written_spelling, written_stops}
 
 -- what may be in a name is what its token can hold
 holds_same : (kind : NameKind) (b : ℕ) → can_hold (escapable kind) (is_stop kind) b ≡ may_hold kind b
-holds_same a_measurement b = grind (arith, common_steps)
-holds_same a_tag_key b = grind (arith, common_steps)
-holds_same a_tag_value b = grind (arith, common_steps)
-holds_same a_field_key b = grind (arith, common_steps)
+holds_same kind b = grind (arith, common_steps)
 
 -- and so of a text
 all_same : (kind : NameKind) (n : List ℕ) → list_all (can_hold (escapable kind) (is_stop kind)) n ≡ list_all (may_hold kind) n
 all_same kind n = grind (arith, holds_same)
 
--- neither of two texts is empty
-none_empty : (m n : ℕ) → 0 < m → 0 < n → (m == 0) ≡ (n == 0)
-none_empty m n more some = ne_eqb m 0 (λ e. absurd (omega arith)) ∙ sym (ne_eqb n 0 (λ e. absurd (omega arith)))
-
 -- a spelling is empty if its name is
 spelled_empty : (known n : List ℕ) → (length (escaped known n) == 0) ≡ (length n == 0)
 unfolding escaped
 spelled_empty known [] = refl
-spelled_empty known (b ∷ n) = grind (arith, cases_Bool, escaped_found, none_empty, escaped_plain)
+spelled_empty known (b ∷ n) = grind (arith, cases_Bool, escaped_found, escaped_plain, ne_eqb)
 
 -- it ends in a backslash if its name does
 spelled_ends : (kind : NameKind) (n : List ℕ) → ends_in_backslash (spelling kind n) ≡ ends_in_backslash n
@@ -49,8 +35,7 @@ spelled_ends kind n = sym (logical_ends kind (spelling kind n)) ∙ ap ends_in_b
 -- that of a measurement begins with `#` if the measurement does
 spelled_hash : (n : List ℕ) → (slice_index (spelling a_measurement n) 0 == hash) ≡ (slice_index n 0 == hash)
 unfolding escaped
-spelled_hash [] = refl
-spelled_hash (b ∷ n) = grind (arith, cases_Bool, escaped_found, escaped_plain)
+spelled_hash n = grind (arith, common_steps, cases_Bool, escaped_found, escaped_plain)
 
 -- a test that holds does not change the others
 other_tests : (a b x : Bool) → (a && b && not x) ≡ (a && b && true && not (x && true))
@@ -64,11 +49,9 @@ no_test a b x = grind (arith, common_steps)
 spelling_tells : (kind : NameKind) (n : List ℕ) → list_all (may_hold kind) n ≡ true
     → is_admitted_spelling kind (spelling kind n) ≡ is_admitted_name kind n
 unfolding is_admitted_name
-spelling_tells a_measurement n may =
-    rw (spelled_empty (escapable a_measurement) n, spelled_ends a_measurement n, spelled_hash n, may)
+spelling_tells a_measurement n may = rw (spelled_empty (escapable a_measurement) n, spelled_ends a_measurement n, spelled_hash n, may)
     (other_tests (not (length n == 0)) (not (ends_in_backslash n)) (slice_index n 0 == hash))
-spelling_tells other n may =
-    rw (spelled_empty (escapable other) n, spelled_ends other n, may)
+spelling_tells other n may = rw (spelled_empty (escapable other) n, spelled_ends other n, may)
     (no_test (not (length n == 0)) (not (ends_in_backslash n)) (slice_index n 0 == hash))
 
 -- where the bytes of a name end
@@ -94,8 +77,7 @@ name_found kind text ok =
 name_passed : (kind : NameKind) (text rest : List ℕ) (w : IsWrittenName kind text rest) → EndsName kind rest
     → name_len kind text ≡ length (spelling kind w.name)
 name_passed kind text rest w ends =
-    let may : list_all (can_hold (escapable kind) (is_stop kind)) w.name ≡ true =
-    all_same kind w.name ∙ (admitted_parts kind w.name w.admitted).may in
+    let may = all_same kind w.name ∙ (admitted_parts kind w.name w.admitted).may in
     subst (λ xs. name_len kind xs ≡ length (spelling kind w.name)) w.written
     (written_spelling (escapable kind) (is_stop kind) w.name rest (escapable_backslash kind) may ends)
 

@@ -1,35 +1,27 @@
 -- Numbers as the builder writes them.
-use Rattle.std.proofs.Common.{◌≡◌, ◌≢◌, ◌⊎◌, ℕ, ◌^◌, ◌<◌, ◌&&◌, ◌||◌, Bool, true, false, not, List, [], ◌∷◌, ◌++◌}
-use Rattle.std.proofs.Common.{length, take, drop, slice_index, get_or, refl, sym, ap, subst, ◌∙◌, arith, inl, inr, append_assoc, Option}
-use Rattle.std.proofs.Common.{Some, None}
-use Rattle.std.specs.Prelude.{◌==◌, ℤ, pos, decimal, codes, nat_lt, neg_ℤ, MatchOption}
+use Rattle.std.proofs.Common.{◌≡◌, ◌≢◌, ◌⊎◌, ℕ, ◌^◌, ◌<◌, ◌&&◌, ◌||◌, Bool, true, false, not, List, [], ◌∷◌, ◌++◌, length, take, drop}
+use Rattle.std.proofs.Common.{slice_index, get_or, refl, sym, ap, subst, ◌∙◌, arith, inl, inr, append_assoc, Option, Some, None, ◌==◌, ℤ}
+use Rattle.std.proofs.Common.{pos, decimal, codes, nat_lt, neg_ℤ, MatchOption, Bor, eqb-true, ne_eqb, lt-ltb, ltb-true, take_at, drop_at}
+use Rattle.std.proofs.Common.{take-append-drop}
 use Rattle.std.specs.Fmt.{signed_decimal}
 use Rattle.std.specs.Str.Parse.{AllDigits, IsNumeral, digits_value, signed_digits_value}
 use Rattle.std.proofs.Math.Nat.{pow-le-pow_right}
-use Rattle.std.specs.Option.{is_some}
 use Rattle.std.specs.Bool.{then_some}
 use Rattle.std.specs.Str.Pattern.{FindsTextPrefix, LacksTextAt, StripsPrefix}
-use Rattle.std.specs.Borrow.{Bor}
-use Rattle.lp_format.specs.format.Escapes.{escaped}
-use Rattle.lp_format.specs.format.Values.{quotable, IsSigned, IsFloat, Value, integer, unsigned, float, string, boolean, integer_len}
-use Rattle.lp_format.specs.format.Values.{fits_i64, float_at, float_len}
-use Rattle.std.proofs.lemmas.Bool.{cases_Bool, cases_lt, and_parts, eqb-true, eqb-false, ne_eqb, or_parts, false≢true, lt-ltb, ltb-true}
-use Rattle.std.proofs.lemmas.Bool.{not-true}
+use Rattle.lp_format.specs.format.{escaped, quotable, IsSigned, IsFloat, Value, integer, unsigned, float, string, boolean, integer_len}
+use Rattle.lp_format.specs.format.{fits_i64, float_at, float_len, minus, miss, reads, IsValue, built_value, byte}
+use Rattle.std.proofs.lemmas.Bool.{cases_Bool, cases_lt, and_parts, eqb-false, or_parts, false≢true, not-true}
 use Rattle.std.proofs.lemmas.Fmt.{decimal_is_IsNumeral, decimal-digits_value, decimal_digit, first_decimal}
 use Rattle.std.proofs.lemmas.Int.Digits.{digits_value-lt}
-use Rattle.std.proofs.lemmas.List.{take_at, drop_at, take-append-drop}
 use Rattle.std.proofs.lemmas.Str.Parse.{digit_from_value, numerals_by_value, tells_digits}
-use Rattle.lp_format.specs.format.Bytes.{minus}
-use Rattle.lp_format.specs.format.Readings.{miss, reads}
-use Rattle.lp_format.specs.format.Points.{IsValue, built_value}
 use Rattle.lp_format.proofs.lemmas.literals.FloatLemmas.{float_len_float, signed_front, FloatFront, float_front}
 use Rattle.lp_format.proofs.lemmas.read_back.IntegerReadsBack.{integer_written, unsigned_len}
 use Rattle.lp_format.proofs.lemmas.values.ValueLemmas.{byte_at_drop, fits_from_test, test_from_fits}
 use Rattle.lp_format.proofs.lemmas.values.ValueForms.{byte_missing}
-use Rattle.lp_format.specs.format.Lines.{byte}
 use Rattle.lp_written.proofs.lemmas.parts.WrittenNames.{byte_left}
-use Rattle.lp_written.specs.code.AsWritten.{EndsValue, IsOnlyRest, IsWrittenString, IsWrittenValue, has_extra_zero}
-use Rattle.lp_written.specs.code.AsWritten.{is_written_integer, is_written_unsigned}
+use Rattle.lp_written.specs.code.AsWritten.{EndsValue, IsOnlyRest, IsWrittenString, IsWrittenValue, has_extra_zero, is_written_integer}
+use Rattle.lp_written.specs.code.AsWritten.{is_written_unsigned}
+use Rattle.lp_format.specs.format.Bytes.{letter_i, letter_u, quote}
 
 -- digits without a zero before more of them are what the builder writes for their number
 pub unsigned_again : (ds : List ℕ) → IsNumeral 10 ds → has_extra_zero ds ≡ false → digits_value 10 ds < 2 ^ 64 → decimal (digits_value 10 ds) ≡ ds
@@ -49,37 +41,21 @@ pub decimal_zero : (n : ℕ) → n < 2 ^ 64 → has_extra_zero (decimal n) ≡ f
 decimal_zero n fits = grind (arith, decimal_digit, first_digit, first_decimal)
 
 -- a sign before a text that begins with no zero
-minus_zero : (ds : List ℕ) → 48 < get_or ds 0 0 → has_extra_zero (45 ∷ ds) ≡ false
+minus_zero : (ds : List ℕ) → 48 < get_or ds 0 0 → has_extra_zero (minus ∷ ds) ≡ false
 minus_zero ds more = grind (arith, ne_eqb)
 
 -- nor has that of an integer
 pub signed_zero : (z : ℤ) → fits_i64 z ≡ true → has_extra_zero (signed_decimal z) ≡ false
 signed_zero n fits = grind (arith, fits_from_test, decimal_zero, minus_zero, first_decimal)
 
--- the negative of a number that is not 0
-negated : (n : ℕ) → 0 < n → fits_i64 (neg_ℤ (pos n)) ≡ true → (n < 2 ^ 64) × (signed_decimal (neg_ℤ (pos n)) ≡ 45 ∷ decimal n)
-negated n some fits = grind (arith, fits_from_test)
-
 -- digits after a sign have no zero at the start
-first_after_minus : (ds : List ℕ) → IsNumeral 10 ds → has_extra_zero (45 ∷ ds) ≡ false → 48 < get_or ds 0 0
+first_after_minus : (ds : List ℕ) → IsNumeral 10 ds → has_extra_zero (minus ∷ ds) ≡ false → 48 < get_or ds 0 0
 first_after_minus ds numeral plain = grind (arith, digit_from_value, or_parts, eqb-false)
 
--- so they are not those of 0
-some_value : (ds : List ℕ) → IsNumeral 10 ds → 48 < get_or ds 0 0 → 0 < digits_value 10 ds
-some_value ds numeral first =
-    elim (cases_lt 0 (digits_value 10 ds)) [
-      | inl some ↦ some
-      | inr none ↦
-          let nought : digits_value 10 ds ≡ 0 = omega (arith, none) in
-          let again : decimal (digits_value 10 ds) ≡ ds = unsigned_again ds numeral (first_digit ds first) (omega (arith, nought)) in
-          let digit : 48 ∷ [] ≡ ds = sym (ap decimal nought ∙ decimal_digit 0 (omega arith)) ∙ again in
-          absurd (omega (arith, first, ap (λ (xs : List ℕ). get_or xs 0 0) digit))
-    ]
-
 -- digits after a sign are what the builder writes for their number
-minus_again : (ds : List ℕ) → IsNumeral 10 ds → has_extra_zero (45 ∷ ds) ≡ false
-    → fits_i64 (neg_ℤ (pos (digits_value 10 ds))) ≡ true → signed_decimal (neg_ℤ (pos (digits_value 10 ds))) ≡ 45 ∷ ds
-minus_again ds numeral plain fits = grind (arith, first_after_minus, negated, some_value, unsigned_again, first_digit)
+minus_again : (ds : List ℕ) → IsNumeral 10 ds → has_extra_zero (minus ∷ ds) ≡ false
+    → fits_i64 (neg_ℤ (pos (digits_value 10 ds))) ≡ true → signed_decimal (neg_ℤ (pos (digits_value 10 ds))) ≡ minus ∷ ds
+minus_again ds numeral plain fits = grind (arith, first_after_minus, unsigned_again, first_digit, fits_from_test, cases_lt, decimal_digit)
 
 -- digits without a sign have their value
 plain_value : (d : ℕ) (ds : List ℕ) → IsNumeral 10 (d ∷ ds) → signed_digits_value 10 (d ∷ ds) ≡ pos (digits_value 10 (d ∷ ds))
@@ -96,24 +72,9 @@ integer_again [] never plain fits = absurd never
 integer_again (b ∷ ds) (inl signed) plain fits = grind (arith, eqb-true, or_one, minus_again)
 integer_again (b ∷ ds) (inr numeral) plain fits = grind (arith, plain_value, fits_from_test, unsigned_again)
 
--- a number of at most 18 digits
-short_value : (ds : List ℕ) → AllDigits 10 ds → length ds < 19 → digits_value 10 ds < 2 ^ 63
-short_value ds digits short = grind (arith, pow-le-pow_right, digits_value-lt)
-
--- its negative fits an i64
-negated_fits : (n : ℕ) → n < 2 ^ 63 → fits_i64 (neg_ℤ (pos n)) ≡ true
-negated_fits n small = grind (arith, test_from_fits)
-
 -- an integer of less than 19 bytes fits an i64
 pub short_fits : (number : List ℕ) → IsSigned (codes "-") number → length number < 19 → fits_i64 (signed_digits_value 10 number) ≡ true
-short_fits ds never short = grind (arith, eqb-true, or_one, negated_fits, short_value, plain_value, test_from_fits)
-
--- what a parse of a number tells is whether it fits
-pub fits_told : (number : List ℕ) (o : Option ℤ)
-    → MatchOption o (fits_i64 (signed_digits_value 10 number) ≡ false)
-    (λ value. (fits_i64 (signed_digits_value 10 number) ≡ true) × (value ≡ signed_digits_value 10 number))
-    → is_some o ≡ fits_i64 (signed_digits_value 10 number)
-fits_told number value told = grind (arith)
+short_fits ds never short = grind (arith, eqb-true, or_one, plain_value, test_from_fits, pow-le-pow_right, digits_value-lt)
 
 -- a number and its mark, at the start of a text
 pub record NumberText (text number rest : List ℕ) (mark : ℕ) : Type 0 where
@@ -128,23 +89,23 @@ number_text number rest mark len some = grind (arith, take_at, drop_at)
 
 -- what a value is that the builder writes at the start of a text
 pub data Shape (text rest : List ℕ) : Type 0 where
-  an_integer : (z : ℤ) → fits_i64 z ≡ true → NumberText text (signed_decimal z) rest 105 → Shape text rest
-  an_unsigned : (n : ℕ) → n < 2 ^ 64 → NumberText text (decimal n) rest 117 → Shape text rest
+  an_integer : (z : ℤ) → fits_i64 z ≡ true → NumberText text (signed_decimal z) rest letter_i → Shape text rest
+  an_unsigned : (n : ℕ) → n < 2 ^ 64 → NumberText text (decimal n) rest letter_u → Shape text rest
   a_float : (t : List ℕ) → FloatFront text t rest → Shape text rest
-  a_string : integer_len text ≡ 0 → slice_index text 0 ≡ 34 → IsWrittenString text rest → Shape text rest
+  a_string : integer_len text ≡ 0 → slice_index text 0 ≡ quote → IsWrittenString text rest → Shape text rest
   a_word : (b : Bool) → integer_len text ≡ 0 → text ≡ built_value (boolean b) ++ rest → Shape text rest
 
 -- each value has its shape
 shape_of : (v : Value (List ℕ)) (rest : List ℕ) → IsValue v → EndsValue rest → Shape (built_value v ++ rest) rest
 shape_of (integer z) rest fits ends =
     let written = integer_written z fits in
-    subst (λ xs. Shape xs rest) (sym (append_assoc (signed_decimal z) (105 ∷ []) rest))
-    (an_integer z fits (number_text (signed_decimal z) rest 105 (written.len (105 ∷ rest) refl) written.some))
+    subst (λ xs. Shape xs rest) (sym (append_assoc (signed_decimal z) (letter_i ∷ []) rest))
+    (an_integer z fits (number_text (signed_decimal z) rest letter_i (written.len (letter_i ∷ rest) refl) written.some))
 shape_of (unsigned n) rest fits ends =
     let written = decimal_is_IsNumeral n fits in
-    subst (λ xs. Shape xs rest) (sym (append_assoc (decimal n) (117 ∷ []) rest))
+    subst (λ xs. Shape xs rest) (sym (append_assoc (decimal n) (letter_u ∷ []) rest))
     (an_unsigned n fits
-    (number_text (decimal n) rest 117 (unsigned_len (decimal n) (117 ∷ rest) written.0 refl) written.0.0))
+    (number_text (decimal n) rest letter_u (unsigned_len (decimal n) (letter_u ∷ rest) written.0 refl) written.0.0))
 shape_of (float t) rest fits ends = a_float t (float_front t rest fits ends)
 shape_of (string s) rest fits ends = grind (arith, append_assoc)
 shape_of (boolean true) rest fits ends = a_word true refl refl
@@ -161,7 +122,7 @@ unsigned_numeral ds never plain = grind (arith, eqb-false, eqb-true, or_one)
 -- digits begin with no sign
 no_minus : (ds : List ℕ) → IsNumeral 10 ds → (slice_index ds 0 == minus) ≡ false
 no_minus [] numeral = refl
-no_minus (d ∷ ds) numeral = let range = digit_from_value d numeral.1.0 in ne_eqb d 45 (λ e. absurd (omega (arith, range, e)))
+no_minus (d ∷ ds) numeral = let range = digit_from_value d numeral.1.0 in ne_eqb d minus (λ e. absurd (omega (arith, range, e)))
 
 -- an integer that is written so is that of its number
 pub integer_told : (number : List ℕ) → IsSigned (codes "-") number → is_written_integer number ≡ true
@@ -182,10 +143,6 @@ unsigned_told number signed ok =
     let small : n < 2 ^ 64 = ltb-true n (2 ^ 64) last.1 in
     let numeral = unsigned_numeral number signed (not-true (slice_index number 0 == minus) first.0) in
     (n, small, unsigned_again number numeral (not-true (has_extra_zero number) first.1) small)
-
--- and that of each number is written so
-unsigned_tells : (n : ℕ) → n < 2 ^ 64 → is_written_unsigned (decimal n) ≡ true
-unsigned_tells n fits = grind (arith, decimal_is_IsNumeral, no_minus, decimal_zero, lt-ltb)
 
 -- a number that is written so is a value with its mark
 marked_found : (v : Value (List ℕ)) (text number rest : List ℕ) (mark k : ℕ) → IsValue v → built_value v ≡ number ++ mark ∷ []
@@ -209,10 +166,9 @@ at_mark mark text after left whole len back read = rw (← len, ← back) (byte_
 
 -- if `i` follows an integer
 pub integer_answer : (text number : List ℕ) (r : Bor (List ℕ)) → 0 < integer_len text → number ≡ take (integer_len text) text
-    → drop (integer_len text) text ≡ 105 ∷ r.now
+    → drop (integer_len text) text ≡ letter_i ∷ r.now
     → IsOnlyRest (IsWrittenValue text) EndsValue (then_some (is_written_integer number) r)
-integer_answer text number r some front after =
-    marked_answer text r.now (is_written_integer number) found only r refl
+integer_answer text number r some front after = marked_answer text r.now (is_written_integer number) found only r refl
   where
     -- the number is signed
     signed : IsSigned (codes "-") number
@@ -222,44 +178,39 @@ integer_answer text number r some front after =
     found : is_written_integer number ≡ true → IsWrittenValue text r.now
     found ok =
         let t = integer_told number signed ok in
-        marked_found (integer t.0) text number r.now 105 (integer_len text) t.1 (ap (λ (xs : List ℕ). xs ++ 105 ∷ []) t.2) front after
+        marked_found (integer t.0) text number r.now 105 (integer_len text) t.1 (ap (λ (xs : List ℕ). xs ++ letter_i ∷ []) t.2) front after
 
     -- and the builder writes no other there
     only : (rest : List ℕ) → IsWrittenValue text rest → EndsValue rest → (is_written_integer number ≡ true) × (rest ≡ r.now)
-    only rest w ends =
-        elim (shape text rest w ends) [
-          | an_integer z fits t ↦
-              (rw (front, t.front) (integer_tells z fits), ap (λ (xs : List ℕ). drop 1 xs) (sym t.after ∙ after))
-          | an_unsigned n fits t ↦ absurd (omega (arith, ap (λ (xs : List ℕ). slice_index xs 0) (sym after ∙ t.after)))
-          | a_float x front ↦ absurd (front.no_i (byte_at_drop text r.now (integer_len text) 105 after).0)
-          | a_string none quote x ↦ absurd (omega (arith, some, none))
-          | a_word b none word ↦ absurd (omega (arith, some, none))
-        ]
+    only rest w ends = elim (shape text rest w ends) [
+      | an_integer z fits t ↦ grind (arith, front, integer_tells, after)
+      | an_unsigned n fits t ↦ absurd (omega (arith, ap (λ (xs : List ℕ). slice_index xs 0) (sym after ∙ t.after)))
+      | a_float x front ↦ absurd (front.no_i (byte_at_drop text r.now (integer_len text) letter_i after).0)
+      | a_string none quote x ↦ absurd (omega (arith, some, none))
+      | a_word b none word ↦ absurd (omega (arith, some, none))
+    ]
 
 -- if `u` does
 pub unsigned_answer : (text number : List ℕ) (r : Bor (List ℕ)) → 0 < integer_len text → number ≡ take (integer_len text) text
-    → drop (integer_len text) text ≡ 117 ∷ r.now
+    → drop (integer_len text) text ≡ letter_u ∷ r.now
     → IsOnlyRest (IsWrittenValue text) EndsValue (then_some (is_written_unsigned number) r)
-unsigned_answer text number r some front after =
-    marked_answer text r.now (is_written_unsigned number) found only r refl
+unsigned_answer text number r some front after = marked_answer text r.now (is_written_unsigned number) found only r refl
   where
     -- the number is found
     found : is_written_unsigned number ≡ true → IsWrittenValue text r.now
     found ok =
         let t = unsigned_told number (rw front (signed_front (codes "-") text some)) ok in
-        marked_found (unsigned t.0) text number r.now 117 (integer_len text) t.1 (ap (λ (xs : List ℕ). xs ++ 117 ∷ []) t.2) front after
+        marked_found (unsigned t.0) text number r.now 117 (integer_len text) t.1 (ap (λ (xs : List ℕ). xs ++ letter_u ∷ []) t.2) front after
 
     -- and the builder writes no other there
     only : (rest : List ℕ) → IsWrittenValue text rest → EndsValue rest → (is_written_unsigned number ≡ true) × (rest ≡ r.now)
-    only rest w ends =
-        elim (shape text rest w ends) [
-          | an_integer z fits t ↦ absurd (omega (arith, ap (λ (xs : List ℕ). slice_index xs 0) (sym after ∙ t.after)))
-          | an_unsigned n fits t ↦
-              (rw (front, t.front) (unsigned_tells n fits), ap (λ (xs : List ℕ). drop 1 xs) (sym t.after ∙ after))
-          | a_float x front ↦ absurd (front.no_u (byte_at_drop text r.now (integer_len text) 117 after).0)
-          | a_string none quote x ↦ absurd (omega (arith, some, none))
-          | a_word b none word ↦ absurd (omega (arith, some, none))
-        ]
+    only rest w ends = elim (shape text rest w ends) [
+      | an_integer z fits t ↦ absurd (omega (arith, ap (λ (xs : List ℕ). slice_index xs 0) (sym after ∙ t.after)))
+      | an_unsigned n fits t ↦ grind (arith, front, after, decimal_is_IsNumeral, no_minus, decimal_zero, lt-ltb)
+      | a_float x front ↦ absurd (front.no_u (byte_at_drop text r.now (integer_len text) letter_u after).0)
+      | a_string none quote x ↦ absurd (omega (arith, some, none))
+      | a_word b none word ↦ absurd (omega (arith, some, none))
+    ]
 
 -- what is read as a float is one that the builder writes
 pub float_found : (text t rest : List ℕ) → float_at text ≡ reads (float t) rest → IsWrittenValue text rest
@@ -281,16 +232,15 @@ float_found text t rest read = go (cases_Bool (float_len text == 0)) read
         }
 
 -- and if neither mark of an integer is, the builder writes no other
-pub float_only : (text rest : List ℕ) → 0 < integer_len text → byte 105 (drop (integer_len text) text) ≡ miss
-    → byte 117 (drop (integer_len text) text) ≡ miss → IsWrittenValue text rest → EndsValue rest → (t : List ℕ) × (float_at text ≡ reads (float t) rest)
-float_only text rest some no_i no_u w ends =
-    elim (shape text rest w ends) [
-      | an_integer z fits t ↦ absurd (byte_missing 105 (drop (integer_len text) text) no_i rest t.after)
-      | an_unsigned n fits t ↦ absurd (byte_missing 117 (drop (integer_len text) text) no_u rest t.after)
-      | a_float x front ↦ (x, front.reads_it)
-      | a_string none quote x ↦ absurd (omega (arith, some, none))
-      | a_word b none word ↦ absurd (omega (arith, some, none))
-    ]
+pub float_only : (text rest : List ℕ) → 0 < integer_len text → byte letter_i (drop (integer_len text) text) ≡ miss
+    → byte letter_u (drop (integer_len text) text) ≡ miss → IsWrittenValue text rest → EndsValue rest → (t : List ℕ) × (float_at text ≡ reads (float t) rest)
+float_only text rest some no_i no_u w ends = elim (shape text rest w ends) [
+  | an_integer z fits t ↦ absurd (byte_missing letter_i (drop (integer_len text) text) no_i rest t.after)
+  | an_unsigned n fits t ↦ absurd (byte_missing letter_u (drop (integer_len text) text) no_u rest t.after)
+  | a_float x front ↦ (x, front.reads_it)
+  | a_string none quote x ↦ absurd (omega (arith, some, none))
+  | a_word b none word ↦ absurd (omega (arith, some, none))
+]
 
 -- a text in which a float reads does not miss
 pub float_misses : (text rest t : List ℕ) → float_at text ≡ reads (float t) rest → float_at text ≡ miss → ⊥
@@ -306,25 +256,24 @@ string_value text rest w =
     record {
       value = string w.body;
       fits = tt;
-      written = ap (λ (xs : List ℕ). 34 ∷ xs) (append_assoc (escaped quotable w.body) (34 ∷ []) rest) ∙ w.written;
+      written = ap (λ (xs : List ℕ). quote ∷ xs) (append_assoc (escaped quotable w.body) (quote ∷ []) rest) ∙ w.written;
     }
 
 -- and after a quote the builder writes no other
-pub value_string : (text rest : List ℕ) → integer_len text ≡ 0 → slice_index text 0 ≡ 34 → IsWrittenValue text rest → EndsValue rest
+pub value_string : (text rest : List ℕ) → integer_len text ≡ 0 → slice_index text 0 ≡ quote → IsWrittenValue text rest → EndsValue rest
     → IsWrittenString text rest
 value_string text rest whole first w ends = grind (arith, shape)
 
 -- if neither a number nor a string is, the builder writes a word
-pub value_word : (text rest : List ℕ) → integer_len text ≡ 0 → slice_index text 0 ≢ 34 → IsWrittenValue text rest → EndsValue rest
+pub value_word : (text rest : List ℕ) → integer_len text ≡ 0 → slice_index text 0 ≢ quote → IsWrittenValue text rest → EndsValue rest
     → (b : Bool) × (text ≡ built_value (boolean b) ++ rest)
-value_word text rest whole first w ends =
-    elim (shape text rest w ends) [
-      | an_integer z fits t ↦ absurd (omega (arith, t.some, whole))
-      | an_unsigned n fits t ↦ absurd (omega (arith, t.some, whole))
-      | a_float x front ↦ absurd (omega (arith, front.some, whole))
-      | a_string none quote x ↦ absurd (first quote)
-      | a_word b none word ↦ (b, word)
-    ]
+value_word text rest whole first w ends = elim (shape text rest w ends) [
+  | an_integer z fits t ↦ absurd (omega (arith, t.some, whole))
+  | an_unsigned n fits t ↦ absurd (omega (arith, t.some, whole))
+  | a_float x front ↦ absurd (omega (arith, front.some, whole))
+  | a_string none quote x ↦ absurd (first quote)
+  | a_word b none word ↦ (b, word)
+]
 
 -- a word before a rest is a value
 word_value : (text rest : List ℕ) (b : Bool) → text ≡ built_value (boolean b) ++ rest → IsWrittenValue text rest
@@ -335,7 +284,7 @@ word_same : (a b : Bool) (rest left : List ℕ) → built_value (boolean a) ++ r
 word_same x0 x1 rest left e = grind (arith)
 
 -- what follows a word is the only rest of a value
-pub word_answer : (b : Bool) (text left : List ℕ) → integer_len text ≡ 0 → slice_index text 0 ≢ 34 → text ≡ built_value (boolean b) ++ left
+pub word_answer : (b : Bool) (text left : List ℕ) → integer_len text ≡ 0 → slice_index text 0 ≢ quote → text ≡ built_value (boolean b) ++ left
     → IsWrittenValue text left × ((rest : List ℕ) → IsWrittenValue text rest → EndsValue rest → rest ≡ left)
 word_answer b text left whole first e = (
   word_value text left b e,
@@ -347,7 +296,7 @@ pub stripped : (word text left : List ℕ) → StripsPrefix (FindsTextPrefix wor
 stripped word text left s = s.1.1 ∙ ap (λ (xs : List ℕ). word ++ xs) (sym s.2)
 
 -- if the word for true is not there, what is left after that for false is the only rest of a value
-pub last_word : (text : List ℕ) (o : Option (Bor (List ℕ))) → integer_len text ≡ 0 → slice_index text 0 ≢ 34
+pub last_word : (text : List ℕ) (o : Option (Bor (List ℕ))) → integer_len text ≡ 0 → slice_index text 0 ≢ quote
     → LacksTextAt (codes "true") text 0
     → MatchOption o (LacksTextAt (codes "false") text 0) (λ r. StripsPrefix (FindsTextPrefix (codes "false")) text r.now)
     → IsOnlyRest (IsWrittenValue text) EndsValue o
@@ -360,7 +309,7 @@ last_word text None whole first no_true no_false = λ rest w ends. let x = value
     go rest false e = no_false rest e
 
 -- after a quote, what follows a string is the only rest of a value
-pub string_only_value : (text : List ℕ) (o : Option (Bor (List ℕ))) → integer_len text ≡ 0 → slice_index text 0 ≡ 34
+pub string_only_value : (text : List ℕ) (o : Option (Bor (List ℕ))) → integer_len text ≡ 0 → slice_index text 0 ≡ quote
     → IsOnlyRest (IsWrittenString text) (λ rest. Unit) o → IsOnlyRest (IsWrittenValue text) EndsValue o
 string_only_value text None whole first none = λ rest w ends. none rest (value_string text rest whole first w ends) tt
 string_only_value text (Some left) whole first only = (

@@ -1,18 +1,15 @@
 -- How far a token goes that is spelled as the builder spells it.
-use Rattle.std.proofs.Common.{◌≡◌, ◌≢◌, ℕ, suc, zero, ◌+◌, ◌-◌, ◌<◌, ◌≤◌, ◌&&◌, ◌||◌, Bool, true, false, not, List, [], ◌∷◌, ◌++◌, length, drop}
-use Rattle.std.proofs.Common.{slice_index, refl, sym, ap, ◌∙◌, arith, inl, inr, one-add, zero-add}
-use Rattle.std.specs.Prelude.{◌==◌}
+use Rattle.std.proofs.Common.{◌≡◌, ◌≢◌, ℕ, suc, zero, ◌+◌, ◌-◌, ◌<◌, ◌≤◌, ◌&&◌, ◌||◌, Bool, true, false, not, List, [], ◌∷◌, ◌++◌, length}
+use Rattle.std.proofs.Common.{drop, slice_index, refl, sym, ap, ◌∙◌, arith, inl, inr, one-add, zero-add, subst, ◌==◌, ne_eqb, eqb-true}
+use Rattle.std.proofs.Common.{drop-drop, get_or-drop, length-drop}
 use Rattle.std.specs.List.{list_all}
-use Rattle.std.proofs.Common.{subst}
-use Rattle.std.proofs.lemmas.Bool.{cases_Bool, and_parts, and_from, ne_eqb, eqb-true, or_parts, not-true, not-false}
-use Rattle.std.proofs.lemmas.List.{drop-drop, drop_more, get_or-drop, length-drop}
+use Rattle.std.proofs.lemmas.Bool.{cases_Bool, and_parts, and_from, or_parts, not-true, not-false}
+use Rattle.std.proofs.lemmas.List.{drop_more}
 use Rattle.std.proofs.lemmas.Grind.{common_steps}
-use Rattle.lp_format.specs.format.Bytes.{backslash, is_one_of}
-use Rattle.lp_format.specs.format.Escapes.{escaped}
+use Rattle.lp_format.specs.format.{backslash, is_one_of, escaped}
 use Rattle.lp_format.proofs.lemmas.read_back.NameReadsBack.{escaped_found, escaped_plain}
 use Rattle.lp_scan.specs.declared.sets.TokenKind.{TokenKind}
-use Rattle.lp_scan.specs.code.Tokens.{is_mark, known_of, stops_of}
-use Rattle.lp_scan.specs.code.Lanes.{IsRunAt}
+use Rattle.lp_scan.specs.code.{is_mark, known_of, stops_of, IsRunAt}
 use Rattle.lp_written.specs.code.AsWritten.{written_len}
 
 -- a byte that is no mark is one of the token
@@ -117,23 +114,18 @@ pub written_spelled : (known : List ℕ) (stops : ℕ → Bool) (text : List ℕ
 unfolding written_len
 written_spelled known stops [] = spelled_none known stops [] refl
 written_spelled known stops (b ∷ []) = grind (arith, cases_Bool, spelled_none, spelled_plain)
-written_spelled known stops (b ∷ c ∷ text) =
-    elim (cases_Bool (stops b || is_one_of known b)) [
-      | inl mark ↦ elim (cases_Bool (b == backslash && is_one_of known c)) [
-        | inl escape ↦
-            let parts = and_parts (b == backslash) (is_one_of known c) escape in
-            let same : b ≡ backslash = eqb-true b backslash parts.0 in
-            subst (λ x. Spelled known stops (x ∷ c ∷ text)) (sym same)
-            (spelled_escape known stops c text (subst (λ x. (stops x || is_one_of known x) ≡ true) same mark) parts.1
-            (written_spelled known stops text))
-        | inr other ↦ spelled_none known stops (b ∷ c ∷ text) (rw (mark, other) refl)
-      ]
-      | inr plain ↦ spelled_plain known stops b (c ∷ text) plain (written_spelled known stops (c ∷ text))
-    ]
-
--- a backslash is a mark of each kind
-pub backslash_mark : (kind : TokenKind) → is_mark kind backslash ≡ true
-backslash_mark tring = grind (arith)
+written_spelled known stops (b ∷ c ∷ text) = elim (cases_Bool (stops b || is_one_of known b)) [
+  | inl mark ↦ elim (cases_Bool (b == backslash && is_one_of known c)) [
+    | inl escape ↦
+        let parts = and_parts (b == backslash) (is_one_of known c) escape in
+        let same : b ≡ backslash = eqb-true b backslash parts.0 in
+        subst (λ x. Spelled known stops (x ∷ c ∷ text)) (sym same)
+        (spelled_escape known stops c text (subst (λ x. (stops x || is_one_of known x) ≡ true) same mark) parts.1
+        (written_spelled known stops text))
+    | inr other ↦ spelled_none known stops (b ∷ c ∷ text) (rw (mark, other) refl)
+  ]
+  | inr plain ↦ spelled_plain known stops b (c ∷ text) plain (written_spelled known stops (c ∷ text))
+]
 
 -- the token goes on after a run of bytes that are no marks
 pub run_passed : (kind : TokenKind) (bytes : List ℕ) (at end : ℕ) → IsRunAt (λ b. not (is_mark kind b)) bytes at end
@@ -158,16 +150,11 @@ pub escape_passed : (kind : TokenKind) (bytes : List ℕ) (at : ℕ) → at + 1 
     → is_one_of (known_of kind) (slice_index bytes (at + 1)) ≡ true
     → written_len (known_of kind) (stops_of kind) (drop at bytes)
     ≡ 2 + written_len (known_of kind) (stops_of kind) (drop (at + 2) bytes)
-escape_passed kind bytes at inside here found = grind (arith, drop_more, written_escape, backslash_mark)
+escape_passed kind bytes at inside here found = grind (arith, drop_more, written_escape)
 
 -- it ends at any other mark, and at the end of the text
 pub ends_here : (kind : TokenKind) (bytes : List ℕ) (at : ℕ) → at ≤ length bytes
     → (at < length bytes → is_mark kind (slice_index bytes at) ≡ true)
     → (at + 1 < length bytes → slice_index bytes at ≡ backslash → is_one_of (known_of kind) (slice_index bytes (at + 1)) ≡ true → ⊥)
     → written_len (known_of kind) (stops_of kind) (drop at bytes) ≡ 0
-ends_here kind bytes at within mark other =
-    written_ends (known_of kind) (stops_of kind) (drop at bytes)
-    (λ some. subst (λ x. is_mark kind x ≡ true) (sym (get_or-drop at bytes 0 0 ∙ ap (λ k. slice_index bytes k) (omega arith)))
-    (mark (omega (arith, length-drop at bytes))))
-    (λ two here found. other (omega (arith, length-drop at bytes))
-    (sym (get_or-drop at bytes 0 0 ∙ ap (λ k. slice_index bytes k) (omega arith)) ∙ here) (rw (get_or-drop at bytes 1 0) at found))
+ends_here kind bytes at within mark other = grind (arith, common_steps, written_ends, get_or-drop, length-drop)

@@ -8,8 +8,7 @@ pub returns-then-is_admitted_spelling : goal.returns-then-is_admitted_spelling
 returns-then-is_admitted_spelling c =
     let kind = kind_of c.args.kind in
     let text = c.args.text.now in
-    let len : c.written_len-len.result ≡ name_len kind text =
-    c.written_len-len.ensures.value ∙ rw (c.token.ensures.stops, c.token.ensures.known, c.as_bytes-bytes.ensures.value) refl in
+    let len = c.written_len-len.ensures.value ∙ rw (c.token.ensures.stops, c.token.ensures.known, c.as_bytes-bytes.ensures.value) refl in
     let ok : is_admitted_spelling kind (take (name_len kind text) text) ≡ true =
     rw (← len, ← c.as_bytes-bytes.ensures.value) (sym c.is_admitted_spelling.ensures ∙ c.if-is_admitted_spelling.true) in
     rw (c.range_from.ensures.value, len) (name_found kind text ok, λ rest w ends. name_only kind text rest w ends)

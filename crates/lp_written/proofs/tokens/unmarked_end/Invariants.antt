@@ -1,6 +1,5 @@
 use Rattle.std.proofs.Common.{◌-◌, ◌≤◌, length, not}
-use Rattle.lp_scan.specs.code.Tokens.{is_mark}
-use Rattle.lp_scan.specs.code.Lanes.{AllPassBetween}
+use Rattle.lp_scan.specs.code.{is_mark, AllPassBetween}
 use Rattle.lp_written.proofs.tokens.unmarked_end.Given as goal
 
 abbrev pub invariant-loop-end : goal.invariant-loop-end

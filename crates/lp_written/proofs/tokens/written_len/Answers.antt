@@ -1,7 +1,5 @@
-use Rattle.std.proofs.Common.{◌≡◌, ◌+◌, ◌-◌, ◌∙◌, drop, sym, arith}
+use Rattle.std.proofs.Common.{◌+◌, ◌∙◌, sym, arith}
 use Rattle.std.proofs.lemmas.Bool.{false≢true}
-use Rattle.lp_scan.specs.code.Tokens.{known_of, stops_of}
-use Rattle.lp_written.specs.code.AsWritten.{written_len}
 use Rattle.lp_written.proofs.lemmas.parts.WrittenTokens.{ends_here, escape_passed, run_mark, run_passed}
 use Rattle.lp_written.proofs.tokens.written_len.Goals as goal
 
@@ -11,8 +9,7 @@ loop-end-init c =
     let bytes = c.args.bytes.now in
     let end = c.unmarked_end-end.result in
     let run = c.unmarked_end-end.ensures in
-    let passed : written_len (known_of kind) (stops_of kind) bytes ≡ end - 0 + written_len (known_of kind) (stops_of kind) (drop end bytes) =
-    run_passed kind bytes 0 end run in
+    let passed = run_passed kind bytes 0 end run in
     record { within = run.within; mark = run_mark kind bytes 0 end run; passed = omega (arith, passed) }
 
 pub loop-end-preserved : goal.loop-end-preserved

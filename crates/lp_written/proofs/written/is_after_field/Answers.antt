@@ -1,10 +1,7 @@
-use Rattle.std.proofs.Common.{◌<◌, length, rules, arith, Some, None}
+use Rattle.std.proofs.Common.{rules, Some, None}
 use Rattle.std.proofs.lemmas.Bool.{false≢true}
-use Rattle.lp_written.proofs.lemmas.parts.WrittenLines.{field_less, field_step, only_timestamp}
+use Rattle.lp_written.proofs.lemmas.parts.WrittenLines.{field_step, only_timestamp}
 use Rattle.lp_written.proofs.written.is_after_field.Goals as goal
-
-pub loop-field-init : goal.loop-field-init
-loop-field-init c = record { utf8_left = search rules; same = (λ w. w, λ w. w) }
 
 pub loop-field-preserved : goal.loop-field-preserved
 loop-field-preserved c =
@@ -12,12 +9,6 @@ loop-field-preserved c =
     let step = field_step c.loop-field.left.now c.in-Some.field.now (Some c.in-Some-after_field.rest) c.in-Some.ensures.value
     c.in-Some-after_field.ensures in
     record { utf8_left = search rules; same = (λ w. now.0 (step.0 w), λ w. step.1 (now.1 w)) }
-
-pub loop-field-smaller : goal.loop-field-smaller
-loop-field-smaller c =
-    let less : length c.in-Some-after_field.rest.now < length c.loop-field.left.now =
-    omega (arith, c.in-Some.ensures.less, field_less c.in-Some.field.now c.in-Some-after_field.rest.now c.in-Some-after_field.ensures.0) in
-    less
 
 pub returns-in_default-after_field : goal.returns-in_default-after_field
 returns-in_default-after_field c =

@@ -1,7 +1,6 @@
 use denote.Shadow.{shadow}
 use denote.Text.{Utf8}
-use Rattle.std.proofs.Common.{length}
-use Rattle.std.specs.Prelude.{◌↔◌}
+use Rattle.std.proofs.Common.{length, ◌↔◌}
 use Rattle.lp_written.specs.code.AsWritten.{IsWrittenAfterField}
 use Rattle.lp_written.proofs.written.is_after_field.Given as goal
 

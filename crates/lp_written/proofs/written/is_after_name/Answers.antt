@@ -1,10 +1,7 @@
-use Rattle.std.proofs.Common.{◌<◌, length, rules, arith, Some, None}
+use Rattle.std.proofs.Common.{rules, Some, None}
 use Rattle.std.proofs.lemmas.Bool.{false≢true}
-use Rattle.lp_written.proofs.lemmas.parts.WrittenLines.{fields_after, no_gap, tag_less, tag_step}
+use Rattle.lp_written.proofs.lemmas.parts.WrittenLines.{fields_after, no_gap, tag_step}
 use Rattle.lp_written.proofs.written.is_after_name.Goals as goal
-
-pub loop-tag-init : goal.loop-tag-init
-loop-tag-init c = record { utf8_left = search rules; same = (λ w. w, λ w. w) }
 
 pub loop-tag-preserved : goal.loop-tag-preserved
 loop-tag-preserved c =
@@ -12,12 +9,6 @@ loop-tag-preserved c =
     let step = tag_step c.loop-tag.left.now c.in-Some.tag.now (Some c.in-Some-after_tag.rest) c.in-Some.ensures.value
     c.in-Some-after_tag.ensures in
     record { utf8_left = search rules; same = (λ w. now.0 (step.0 w), λ w. step.1 (now.1 w)) }
-
-pub loop-tag-smaller : goal.loop-tag-smaller
-loop-tag-smaller c =
-    let less : length c.in-Some-after_tag.rest.now < length c.loop-tag.left.now =
-    omega (arith, c.in-Some.ensures.less, tag_less c.in-Some.tag.now c.in-Some-after_tag.rest.now c.in-Some-after_tag.ensures.0) in
-    less
 
 pub returns-in_default-after_tag : goal.returns-in_default-after_tag
 returns-in_default-after_tag c =

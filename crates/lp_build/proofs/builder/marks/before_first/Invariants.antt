@@ -5,11 +5,7 @@ use Rattle.lp_build.proofs.builder.marks.before_first.Given as goal
 
 -- what was loaded holds no mark
 abbrev pub invariant-loop-at : goal.invariant-loop-at
-invariant-loop-at l =
-    record {
-      within : l.at ≤ length l.text;
-      none : (k : ℕ) → k < l.at → is_one_of (listed l.marks) (get_or l.text k 0) ≡ false;
-    }
+invariant-loop-at l = (l.at ≤ length l.text) × ((k : ℕ) → k < l.at → is_one_of (listed l.marks) (get_or l.text k 0) ≡ false)
 
 abbrev pub decreases-loop-at : goal.decreases-loop-at
 decreases-loop-at l = length l.text - l.at

@@ -1,9 +1,8 @@
-use Rattle.std.proofs.Common.{◌-◌, ◌/◌, ◌^◌, ap, ◌∙◌, length, arith}
-use Rattle.std.specs.Prelude.{count_ones}
+use Rattle.std.proofs.Common.{◌-◌, ◌/◌, ◌^◌, ap, ◌∙◌, length, arith, count_ones}
 use Rattle.std.proofs.lemmas.List.Sums.{count_by-le-length}
 use Rattle.std.proofs.lemmas.Simd.{length-chunk}
 use lib.Lanes.{chunk}
-use Rattle.lp_format.specs.format.Bytes.{is_one_of}
+use Rattle.lp_format.specs.format.{is_one_of}
 use Rattle.lp_build.specs.code.Marks.{listed}
 use Rattle.lp_scan.proofs.lemmas.scan.MaskLemmas.{ones}
 use Rattle.lp_build.proofs.lemmas.builder.MarkLemmas.{count_after, count_last}
@@ -13,7 +12,7 @@ pub loop-at-preserved : goal.loop-at-preserved
 loop-at-preserved c =
     let q = is_one_of (listed c.args.marks) in
     let text = c.args.text.now in
-    let counted = ap count_ones c.mask_of_16.ensures ∙ ones q text c.loop-at.at 16 in
+    let counted = ap count_ones c.mask_of.ensures ∙ ones q text c.loop-at.at 16 in
     let all = count_by-le-length q (chunk c.loop-at.at 16 text) in
     record {
       within = omega arith;
@@ -26,6 +25,6 @@ returns c =
     let q = is_one_of (listed c.args.marks) in
     let text = c.args.text.now in
     let rest =
-    ap (λ m. count_ones (m / 2 ^ (16 - (length text - c.loop-at.at)))) c.mask_of_16-2.ensures
+    ap (λ m. count_ones (m / 2 ^ (16 - (length text - c.loop-at.at)))) c.mask_of-2.ensures
     ∙ count_last q text c.loop-at.at 16 (omega (arith, c.if-len-lt16)) c.loop-at.invariant.within (omega (arith, c.loop-at-test)) in
     omega (arith, c.loop-at.invariant.counted, rest)

@@ -1,6 +1,5 @@
-use Rattle.std.proofs.Common.{◌≡◌, ◌+◌, ◌-◌, ◌≤◌, drop, length}
-use Rattle.std.specs.List.{count_by}
-use Rattle.lp_format.specs.format.Bytes.{is_one_of}
+use Rattle.std.proofs.Common.{◌≡◌, ◌+◌, ◌-◌, ◌≤◌, drop, length, count_by}
+use Rattle.lp_format.specs.format.{is_one_of}
 use Rattle.lp_build.specs.code.Marks.{listed}
 use Rattle.lp_build.proofs.builder.marks.count.Given as goal
 

@@ -1,25 +1,15 @@
-use Rattle.std.proofs.Common.{◌≡◌, [], arith, refl, subst, sym}
-use Rattle.std.specs.Prelude.{Some}
-use Rattle.lp_split.specs.code.Rules.{rules_of}
+use Rattle.std.proofs.Common.{◌≡◌, [], arith, subst, sym, Some}
+use Rattle.std.proofs.lemmas.Grind.{common_steps}
+use Rattle.lp_split.specs.code.{rules_of}
 use Rattle.lp_events.specs.code.EventsLeft.{AreLeftFrom, Completes, HasEventsLeft}
 use Rattle.lp_events.specs.code.LineSteps.{GivesLine}
-use Rattle.lp_events.specs.declared.place.Place.TheVariants.{Fields, Names}
+use Rattle.lp_events.specs.declared.place.Place.TheVariants.{Fields}
 use Rattle.lp_events.proofs.lemmas.pull.EventSteps.{steps_from, blank_events, line_left, step_less}
 use Rattle.lp_events.proofs.lemmas.lines.LineSteps.{line_less, none_comes}
 use Rattle.lp_events.proofs.pull.ParseEvents.step.Goals as goal
 
 pub returns-in_err-next_line-in-Between-clause-steps : goal.returns-in_err-next_line-in-Between-clause-steps
-returns-in_err-next_line-in-Between-clause-steps c =
-    let gives = c.in_err-next_line-in-Between.ensures.gives in
-    rw (c.from_residual.ensures, c.in-Between.is) (
-      record {
-        pieces = gives.0.skipped;
-        are_left = gives.0.left;
-        are = blank_events c.args.self.now.lines.dialect gives.0.skipped gives.0.blank;
-      },
-      record { pieces = []; are_left = gives.1; are = refl },
-      omega (arith, none_comes c.next_line.new.lines gives.1),
-    )
+returns-in_err-next_line-in-Between-clause-steps c = grind (arith, common_steps, blank_events, none_comes)
 
 pub returns-in_ok-next_line-in-Between-clause-steps : goal.returns-in_ok-next_line-in-Between-clause-steps
 returns-in_ok-next_line-in-Between-clause-steps c =
@@ -32,17 +22,10 @@ returns-in_ok-next_line-in-Between-clause-steps c =
     c.begin.ensures.steps
 
 pub returns-in_ok-next_line-in-Between-clause-less : goal.returns-in_ok-next_line-in-Between-clause-less
-returns-in_ok-next_line-in-Between-clause-less c =
-    let line = c.in_ok-next_line-in-Between.field-0 in
-    rw c.in-Between.is
-    (step_less c.begin.result _ _ _ c.begin.ensures.less
-    (omega (arith, line_less c.args.self.now.lines c.next_line.new.lines line c.in_ok-next_line-in-Between.ensures.gives)))
+returns-in_ok-next_line-in-Between-clause-less c = grind (arith, common_steps, step_less, line_less)
 
 pub returns-in-Names-clause-steps : goal.returns-in-Names-clause-steps
-returns-in-Names-clause-steps c =
-    steps_from (AreLeftFrom (Names c.in-Names.names)) (λ left events. left ≡ c.args.self.now.lines → HasEventsLeft c.args.self.now events)
-    c.after_name.result
-    (λ left events h same. rw (c.in-Names.is, ← same) h) c.after_name.ensures.steps
+returns-in-Names-clause-steps c = grind (arith, common_steps, steps_from)
 
 pub returns-in-Fields-clause-steps : goal.returns-in-Fields-clause-steps
 returns-in-Fields-clause-steps c =

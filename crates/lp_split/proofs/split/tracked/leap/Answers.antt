@@ -1,9 +1,6 @@
 use Rattle.std.proofs.Common.{take, sym, subst}
 use Rattle.std.proofs.lemmas.Bool.{not-true}
-use Rattle.lp_split.specs.declared.split.resumed.Part.TheVariants.{Head, Quoted}
-use Rattle.lp_split.specs.declared.split.tracked.Track.{Track}
-use Rattle.lp_split.specs.declared.split.tracked.Track.TheVariants.{Line}
-use Rattle.lp_split.specs.code.Tracks.{LeadsTo}
+use Rattle.lp_split.specs.code.{Head, Quoted, Track, Line, LeadsTo}
 use Rattle.lp_split.proofs.lemmas.split.SplitStretches.{head_bytes, quoted_bytes}
 use Rattle.lp_split.proofs.lemmas.split.TrackedPieces.{line_goes_on}
 use Rattle.lp_split.proofs.split.tracked.leap.Goals as goal

@@ -1,9 +1,9 @@
-use Rattle.std.proofs.Common.{◌-◌, ◌∙◌, take, drop, sym, ap, arith}
-use Rattle.std.specs.Str.{bytes_eq}
+use Rattle.std.proofs.Common.{◌-◌, ◌∙◌, take, drop, sym, ap, arith, bytes_eq}
+use Rattle.std.proofs.lemmas.Grind.{common_steps}
 use Rattle.std.proofs.lemmas.Bool.Decides.{Decides-eqb}
 use Rattle.std.proofs.lemmas.Slice.Eq.{strip_prefix_is}
-use Rattle.lp_format.specs.format.Escapes.{without_escapes}
-use Rattle.lp_scan.specs.code.Tokens.{known_of}
+use Rattle.lp_format.specs.format.{without_escapes}
+use Rattle.lp_scan.specs.code.{known_of}
 use Rattle.lp_values.proofs.lemmas.tokens.TokenLemmas.{nothing_left, nothing_same, other_front, same_after}
 use Rattle.lp_values.proofs.spelled.Spelled.eq_text.Goals as goal
 
@@ -21,19 +21,13 @@ returns-in_default c =
 pub loop-at-preserved : goal.loop-at-preserved
 loop-at-preserved c =
     let next = c.stretch_at-from in
-    let left = c.loop-at.left.now in
     let stretch = take (next.result.1 - next.result.0) (drop next.result.0 c.as_bytes-spelling.result.now) in
-    let cases = strip_prefix_is Decides-eqb left stretch c.strip_prefix.result c.strip_prefix.ensures.cases in
+    let cases = strip_prefix_is Decides-eqb c.loop-at.left.now stretch c.strip_prefix.result c.strip_prefix.ensures.cases in
     let begins = rw c.in-Some.is at cases in
-    let after = without_escapes (known_of c.args.self.now.token.kind) (drop next.result.1 c.as_bytes-spelling.result.now) in
     record {
       within = next.ensures.within;
-      same = sym (same_after stretch after c.in-Some.others.now)
-          ∙ rw (← next.ensures.value, ← begins) c.loop-at.invariant.same;
+      same = grind (arith, common_steps, same_after);
     }
 
 pub returns : goal.returns
-returns c =
-    let none = nothing_left (known_of c.args.self.now.token.kind) c.as_bytes-spelling.result.now c.loop-at.at (omega arith) in
-    rw (← c.as_bytes-spelling.ensures.value)
-    (c.is_empty.ensures ∙ sym (nothing_same c.loop-at.left.now) ∙ rw none at c.loop-at.invariant.same)
+returns c = grind (arith, common_steps, nothing_left, nothing_same)

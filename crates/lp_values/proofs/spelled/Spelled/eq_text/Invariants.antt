@@ -1,7 +1,6 @@
-use Rattle.std.proofs.Common.{◌≡◌, ◌≤◌, ◌-◌, length, drop}
-use Rattle.std.specs.Str.{bytes_eq}
-use Rattle.lp_format.specs.format.Escapes.{without_escapes}
-use Rattle.lp_scan.specs.code.Tokens.{known_of}
+use Rattle.std.proofs.Common.{◌≡◌, ◌≤◌, ◌-◌, length, drop, bytes_eq}
+use Rattle.lp_format.specs.format.{without_escapes}
+use Rattle.lp_scan.specs.code.{known_of}
 use Rattle.lp_values.proofs.spelled.Spelled.eq_text.Given as goal
 
 -- what is left of the two is the same if the two are

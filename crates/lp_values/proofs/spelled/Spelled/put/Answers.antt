@@ -1,5 +1,5 @@
 use Rattle.std.proofs.Common.{arith, rules}
-use Rattle.lp_scan.specs.code.Tokens.{known_of}
+use Rattle.std.proofs.lemmas.Grind.{common_steps}
 use Rattle.lp_values.proofs.lemmas.tokens.TokenLemmas.{nothing_left, room_left, stretch_put, whole_put}
 use Rattle.lp_values.proofs.spelled.Spelled.put.Goals as goal
 
@@ -15,6 +15,4 @@ loop-at-preserved c =
     }
 
 pub returns : goal.returns
-returns c =
-    let none = nothing_left (known_of c.args.self.now.token.kind) c.as_bytes-spelling.result.now c.loop-at.at (omega arith) in
-    rw (← c.as_bytes-spelling.ensures.value) (whole_put _ c.args.to.now c.loop-at.to c.loop-at.place (rw none at c.loop-at.invariant.put))
+returns c = grind (arith, common_steps, nothing_left, whole_put)

@@ -1,11 +1,10 @@
 use Rattle.std.proofs.Common.{ap, subst, sym, ◌≡◌, ◌⊎◌, []}
 use Rattle.std.proofs.lemmas.List.Elements.{All-nil}
 use Rattle.lp_split.specs.declared.split.Dialect.{Dialect}
-use Rattle.lp_split.specs.code.Rules.{rules_of}
-use Rattle.lp_split.specs.code.Tracks.{NeverComment}
+use Rattle.lp_split.specs.code.{rules_of, NeverComment}
 use Rattle.lp_split.proofs.lemmas.split.TrackedPieces.{first_place}
 use Rattle.lp_split.proofs.split.tracked.Track.new.Goals as goal
-use Rattle.lp_format.specs.format.Bytes.{space, tab}
+use Rattle.lp_format.specs.format.{space, tab}
 
 pub returns-in-Crate-clause-track : goal.returns-in-Crate-clause-track
 returns-in-Crate-clause-track c = (subst (λ (d : Dialect). NeverComment (rules_of d) []) (sym c.in-Crate.is) tt, first_place)

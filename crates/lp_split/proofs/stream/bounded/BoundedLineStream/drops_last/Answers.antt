@@ -1,8 +1,6 @@
 use Rattle.std.proofs.Common.{rules, ◌≡◌, ℕ, List, ap, arith, subst, sym, ◌∙◌}
-use Rattle.lp_split.specs.code.Bounded.{HeldWithin, Holds, IsTooLong}
-use Rattle.lp_split.specs.code.Streams.{Held}
-use Rattle.lp_format.specs.format.Bytes.{newlines_in}
-use Rattle.lp_format.specs.format.Pieces.{IsLastPiece}
+use Rattle.lp_split.specs.code.{HeldWithin, Holds, IsTooLong, Held}
+use Rattle.lp_format.specs.format.{newlines_in, IsLastPiece}
 use Rattle.lp_split.proofs.lemmas.stream.HeldTexts.{held_is_too_long, skipped_is_too_long}
 use Rattle.lp_split.proofs.stream.bounded.BoundedLineStream.drops_last.Goals as goal
 use Rattle.lp_split.proofs.stream.bounded.BoundedLineStream.drops_last.Goals.{in-Nothing-2, in-Within, in-Within-2}

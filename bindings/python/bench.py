@@ -1,0 +1,75 @@
+#!/usr/bin/env python3
+"""Times the package over files, and another build of it beside it, in turns: MB of a file for each second of the processor, the best
+round of each.
+
+    PYTHONPATH=FOLDER bindings/python/bench.py FILE..                  times the package of a folder
+    PYTHONPATH=FOLDER BESIDE=OTHER bindings/python/bench.py FILE..     and that of another folder, and how many times as fast the first is
+
+ROUNDS is how many rounds there are, 5 by default. Each round of each package is a process of its own.
+"""
+
+import os
+import subprocess
+import sys
+import time
+from pathlib import Path
+
+
+def calls():
+    """What is timed, as far as the package has it, each with what it takes of a file."""
+    import line_protocol as package
+
+    def lines_of(path):
+        return [item for item in package.parse(path.read_bytes()) if isinstance(item, package.Line)]
+
+    def count(items):
+        return sum(1 for _ in items)
+
+    yield "parse", Path.read_bytes, lambda data: count(package.parse(data))
+    yield "write", lines_of, lambda lines: sum(len(package.write(line)) for line in lines)
+    yield "rebuild", Path.read_bytes, lambda data: len(package.rebuild(data).batch)
+    if hasattr(package, "write_many"):
+        yield "parse a path", lambda path: path, lambda path: count(package.parse(path))
+        yield "write_many", lines_of, package.write_many
+    if hasattr(package, "columns"):
+        yield "columns", Path.read_bytes, package.columns
+
+
+def one_round(files):
+    """Prints a line for each call over each file."""
+    for name, prepare, call in calls():
+        for file in map(Path, files):
+            given = prepare(file)
+            start = time.process_time()
+            call(given)
+            print(name, file.name, file.stat().st_size / 1e6 / (time.process_time() - start), sep="\t")
+
+
+def take_turn(folder, files, best):
+    """A round of the package of a folder; the best figures are kept."""
+    run = subprocess.run(
+        [sys.executable, "-B", __file__, "--round", *files], env={**os.environ, "PYTHONPATH": folder}, stdout=subprocess.PIPE,
+        universal_newlines=True, check=True)
+    for row in run.stdout.splitlines():
+        name, file, figure = row.split("\t")
+        best[name, file] = max(best.get((name, file), 0.0), float(figure))
+
+
+def main():
+    files = sys.argv[1:]
+    if files[:1] == ["--round"]:
+        one_round(files[1:])
+        return
+    folders = [folder for folder in (os.environ.get("PYTHONPATH", "."), os.environ.get("BESIDE")) if folder]
+    figures = [{} for _ in folders]
+    for _ in range(int(os.environ.get("ROUNDS", "5"))):
+        for folder, best in zip(folders, figures):
+            take_turn(folder, files, best)
+    for name, file in figures[0]:
+        told = [best[name, file] for best in figures if (name, file) in best]
+        times = f"{told[0] / told[1]:.1f} times" if len(told) > 1 else ""
+        print(name, file, *(f"{figure:.1f}" for figure in told), times, sep="\t")
+
+
+if __name__ == "__main__":
+    main()

@@ -1,0 +1,115 @@
+/* What the package line_protocol calls: the library of include/influxdb_line_protocol.h as Python sees it, on CPython's stable ABI, so
+ * that one file serves Python 3.8 and all later ones.
+ *
+ * Here is nothing that can as well be said in Python: sources are cut into segments by sources.py, and what is no plain value is tested,
+ * or refused, by the functions of checking.py, which `setup` hands in. The module keeps what it was handed: an interpreter has one. */
+#ifndef FAST_H
+#define FAST_H
+#define Py_LIMITED_API 0x03080000
+#define PY_SSIZE_T_CLEAN
+#include <Python.h>
+#include <structmember.h>
+
+#include "influxdb_line_protocol.h"
+#include <stdlib.h>
+#include <string.h>
+
+/* What `setup` hands in. */
+struct given {
+    PyObject *line, *fault, *unsigned_type, *float_text, *new_int, *kinds, *sides, *duplicate_tag;
+    PyObject *plain_value, *plain_timestamp, *refuse;
+};
+extern struct given given;
+
+/* A line. `spelled` is NULL, or the literals of its floats as they were read, each before a newline. */
+typedef struct { PyObject_HEAD PyObject *measurement, *tags, *fields, *timestamp, *spelled; } Line;
+typedef struct { PyObject_HEAD PyObject *kind, *text, *side, *item, *line, *offset, *refused; } Fault;
+extern PyTypeObject *line_base, *reader_type;
+extern PyObject *no_bytes; /* b"" */
+
+enum { NAMES = 1024, NAME = 46 }; /* So many names are kept, each of at most so many bytes. */
+
+/* A name that was read, or a pair `key=value`, of which the value begins at `split`: its bytes, and the object made of them. */
+typedef struct { uint16_t len, split; char bytes[NAME]; PyObject *object; } Name;
+
+/* What is left of a source, and the items that were read last. */
+typedef struct {
+    PyObject_HEAD
+    PyObject *text;     /* the segment that is read, as bytes */
+    PyObject *segments; /* an iterator of what comes after it: segments, and pieces that are refused; or NULL */
+    lp_lines lines;     /* what is left of the segment */
+    lp_lines walk;      /* what is left of it after the item number `walked` of the rows */
+    lp_text piece;      /* the piece of that item */
+    lp_row *rows;
+    lp_part *parts;
+    uint8_t *room;
+    Name *names; /* NULL where the segment is short */
+    size_t rows_len, parts_len, room_len, filled, at, walked;
+    const uint8_t *counted;              /* up to here the newlines of the segment are counted */
+    unsigned long long items, line, offset; /* how many items came; the line number at `counted`; and the bytes before the segment */
+    uint32_t answer;
+    bool strict, by_pieces, is_busy;
+} Reader;
+
+/* Lets Python's lock go while a text of so many bytes is read, if it is long enough that this pays, and takes it again. */
+static inline PyThreadState *let_go(size_t len) { return len < 1 << 14 ? NULL : PyEval_SaveThread(); }
+static inline void take_back(PyThreadState *state) {
+    if (state) PyEval_RestoreThread(state);
+}
+
+/* module.c */
+
+/* Visits the type of an object, and frees the object; its type is made at run time. */
+int visit_type(PyObject *self, visitproc visit, void *arg);
+void free_object(PyObject *self);
+
+/* The bytes of a text, which is a str or what lends its bytes. */
+PyObject *encoded(PyObject *text);
+
+/* A str, or bytes, of a text; and the text of bytes, which live as long as these. */
+PyObject *str_of(lp_text text);
+PyObject *bytes_of(lp_text text);
+lp_text text_of(PyObject *bytes);
+
+/* Sets the UnicodeDecodeError that says where bytes are no UTF-8. */
+void set_decode_error(lp_text text);
+
+/* numbers.c */
+
+/* The float nearest to a literal, and whether `float.__repr__` is sure to spell it so. A byte follows that is in no literal. -1 and a
+ * Python error where it fails. */
+double double_of(lp_text literal, bool *is_plain);
+
+/* reading.c */
+
+/* The object for a name that was read: that which was made of the same bytes, if it is kept. */
+PyObject *name_of(Reader *reader, lp_view view);
+
+/* The value of a field. `is_plain` becomes false where it is a float whose literal has to be kept. */
+PyObject *value_of(const lp_part *part, bool *is_plain);
+
+/* The next row, or a fault that came before it was read. `row` is NULL at the end, after a fault, and after an error. */
+PyObject *next_row(Reader *reader, const lp_row **row);
+
+/* The fault of the row that came last. */
+PyObject *fault_of(Reader *reader);
+
+/* Begins and ends a call that reads: false, and an error, where another call reads. */
+bool begin_call(Reader *reader);
+void end_call(Reader *reader);
+
+/* The functions and the slots of the type that Python calls. */
+extern PyType_Spec reader_spec;
+PyObject *fast_read(PyObject *module, PyObject *args);
+PyObject *fast_whole(PyObject *module, PyObject *args);
+PyObject *fast_outliers(PyObject *module, PyObject *args);
+PyObject *fast_skip(PyObject *module, PyObject *args);
+PyObject *fast_columns(PyObject *module, PyObject *args);
+PyObject *fast_write(PyObject *module, PyObject *line);
+PyObject *fast_write_many(PyObject *module, PyObject *lines);
+PyObject *fast_show(PyObject *module, PyObject *line);
+PyObject *fast_base(PyObject *module, PyObject *line);
+PyObject *fast_is_base_safe(PyObject *module, PyObject *line);
+PyObject *fast_is_admitted(PyObject *module, PyObject *line);
+PyObject *fast_rebuild(PyObject *module, PyObject *args);
+#endif

@@ -1,0 +1,400 @@
+/* Lines are written, shown and tested; texts are rebuilt. */
+#include "fast.h"
+
+/* A line that is handed in: its parts, and the bytes objects that hold its texts. */
+typedef struct {
+    lp_line line;
+    lp_part *parts;
+    PyObject **texts;
+    size_t parts_len, parts_room, texts_len, texts_room;
+    lp_text spelled; /* what is left of the literals that were read */
+} Handed;
+
+static void clear_handed(Handed *handed) {
+    while (handed->texts_len > 0) Py_DECREF(handed->texts[--handed->texts_len]);
+    handed->parts_len = 0;
+}
+static void free_handed(Handed *handed) {
+    clear_handed(handed);
+    PyMem_Free(handed->parts);
+    PyMem_Free(handed->texts);
+}
+
+/* Makes room for one more element. */
+static bool grow(void *elements, size_t *room, size_t len, size_t size) {
+    void **memory = elements;
+    if (len < *room) return true;
+    void *more = PyMem_Realloc(*memory, (2 * *room + 16) * size);
+    if (!more) {
+        PyErr_NoMemory();
+        return false;
+    }
+    *memory = more;
+    *room = 2 * *room + 16;
+    return true;
+}
+
+/* Keeps a bytes object, which it takes, also where it fails, and gives its text. */
+static bool hold(Handed *handed, PyObject *bytes, lp_view *view) {
+    if (!bytes || !grow(&handed->texts, &handed->texts_room, handed->texts_len, sizeof *handed->texts)) {
+        Py_XDECREF(bytes);
+        return false;
+    }
+    handed->texts[handed->texts_len++] = bytes;
+    view->text = text_of(bytes);
+    view->copied = true;
+    return true;
+}
+
+/* Lets `refuse` of checking.py raise. */
+static bool refuse(const char *what, PyObject *key, PyObject *value) {
+    PyObject *nothing = PyObject_CallFunction(given.refuse, "sOO", what, key ? key : Py_None, value ? value : Py_None);
+    if (nothing) PyErr_SetString(PyExc_TypeError, what);
+    Py_XDECREF(nothing);
+    return false;
+}
+
+/* A text, which must be a str. */
+static bool put_text(Handed *handed, const char *what, PyObject *key, PyObject *text, lp_view *view) {
+    if (!PyUnicode_Check(text)) return refuse(what, key, text);
+    return hold(handed, PyUnicode_AsUTF8String(text), view);
+}
+
+/* The literal of a finite float as Python spells it. */
+static PyObject *spelling_of(double value) {
+    char *text = PyOS_double_to_string(value, 'r', 0, Py_DTSF_ADD_DOT_0, NULL);
+    PyObject *bytes = text ? PyBytes_FromString(text) : NULL;
+    PyMem_Free(text);
+    return bytes;
+}
+
+/* Takes the next literal of those that were read. It is empty where there is none. */
+static lp_text take_literal(Handed *handed) {
+    const lp_text left = handed->spelled, nothing = LP_NO_TEXT;
+    const uint8_t *end = left.len > 0 ? memchr(left.at, '\n', left.len) : NULL;
+    if (!end) return nothing;
+    const lp_text literal = { left.at, (size_t)(end - left.at) };
+    handed->spelled.at = end + 1;
+    handed->spelled.len = left.len - literal.len - 1;
+    return literal;
+}
+
+/* The next literal of those that were read, if its float is this one to the bit; else none, which is NULL without an error. */
+static PyObject *kept_spelling(Handed *handed, double value) {
+    const lp_text literal = take_literal(handed);
+    bool is_plain;
+    if (literal.len == 0) return NULL;
+    const double read = double_of(literal, &is_plain);
+    if (read == -1.0 && PyErr_Occurred()) return NULL;
+    return memcmp(&read, &value, sizeof value) == 0 ? bytes_of(literal) : NULL;
+}
+
+static bool put_float(Handed *handed, double value, lp_part *part) {
+    PyObject *literal = kept_spelling(handed, value);
+    if (!literal && PyErr_Occurred()) return false;
+    part->kind = LP_FLOAT;
+    return hold(handed, literal ? literal : spelling_of(value), &part->text);
+}
+
+/* A value of one of the types that are read. False without an error: it is none, or out of its range. */
+static bool put_plain_value(Handed *handed, PyObject *value, lp_part *part) {
+    if (PyBool_Check(value)) {
+        part->kind = LP_BOOLEAN;
+        part->boolean = value == Py_True;
+        return true;
+    }
+    if (PyLong_CheckExact(value)) {
+        int overflow;
+        part->kind = LP_INTEGER;
+        part->integer = PyLong_AsLongLongAndOverflow(value, &overflow);
+        return overflow == 0;
+    }
+    if (PyUnicode_CheckExact(value)) {
+        part->kind = LP_STRING;
+        return hold(handed, PyUnicode_AsUTF8String(value), &part->text);
+    }
+    if (PyFloat_CheckExact(value)) {
+        const double number = PyFloat_AsDouble(value);
+        return number - number == 0 && put_float(handed, number, part);
+    }
+    if (Py_TYPE(value) == (PyTypeObject *)given.unsigned_type) {
+        part->kind = LP_UNSIGNED;
+        part->unsigned_integer = PyLong_AsUnsignedLongLong(value);
+        if (part->unsigned_integer != (uint64_t)-1 || !PyErr_Occurred()) return true;
+        if (PyErr_ExceptionMatches(PyExc_OverflowError)) PyErr_Clear();
+        return false;
+    }
+    if (Py_TYPE(value) == (PyTypeObject *)given.float_text) {
+        PyObject *text = PyObject_GetAttrString(value, "text");
+        const bool is_held = text && hold(handed, PyUnicode_AsUTF8String(text), &part->text);
+        take_literal(handed); /* its place among them is passed */
+        Py_XDECREF(text);
+        part->kind = LP_FLOAT;
+        return is_held;
+    }
+    return false;
+}
+
+/* The value of a field. What is none of the types that are read, `plain_value` makes one of, or raises. */
+static bool put_value(Handed *handed, PyObject *key, PyObject *value, lp_part *part) {
+    if (put_plain_value(handed, value, part)) return true;
+    if (PyErr_Occurred()) return false;
+    PyObject *plain = PyObject_CallFunctionObjArgs(given.plain_value, key, value, NULL);
+    const bool is_put = plain && put_plain_value(handed, plain, part);
+    if (!is_put && !PyErr_Occurred()) refuse("the field", key, value);
+    Py_XDECREF(plain);
+    return is_put;
+}
+
+static bool put_pair(Handed *handed, bool is_tag, PyObject *key, PyObject *value) {
+    static const lp_part empty = { LP_NO_VIEW, LP_NO_VIEW, 0, 0, LP_TAG, false };
+    lp_part part = empty;
+    if (!put_text(handed, is_tag ? "the key of a tag" : "the key of a field", NULL, key, &part.key)) return false;
+    if (is_tag ? !put_text(handed, "the value of the tag", key, value, &part.text) : !put_value(handed, key, value, &part)) return false;
+    if (!grow(&handed->parts, &handed->parts_room, handed->parts_len, sizeof *handed->parts)) return false;
+    handed->parts[handed->parts_len++] = part;
+    return true;
+}
+
+/* An element of a list or a tuple, as a new reference. NULL without an error: there is none. */
+static PyObject *element_of(PyObject *elements, Py_ssize_t at) {
+    PyObject *element = NULL;
+    if (PyList_Check(elements)) element = at < PyList_Size(elements) ? PyList_GetItem(elements, at) : NULL;
+    else if (PyTuple_Check(elements)) element = at < PyTuple_Size(elements) ? PyTuple_GetItem(elements, at) : NULL;
+    Py_XINCREF(element);
+    return element;
+}
+
+/* The pairs of the tags or of the fields, which are a list or a tuple of such. Calls of `checking` may change a list meanwhile. */
+static bool put_pairs(Handed *handed, bool is_tag, PyObject *pairs) {
+    const char *what = is_tag ? "tags" : "fields";
+    if (!PyList_Check(pairs) && !PyTuple_Check(pairs)) return refuse(what, NULL, pairs);
+    PyObject *pair;
+    for (Py_ssize_t i = 0; (pair = element_of(pairs, i)) != NULL; i++) {
+        PyObject *key = element_of(pair, 0), *value = element_of(pair, 1), *third = element_of(pair, 2);
+        const bool is_put = key && value && !third ? put_pair(handed, is_tag, key, value) : refuse(what, Py_True, pair);
+        Py_XDECREF(key);
+        Py_XDECREF(value);
+        Py_XDECREF(third);
+        Py_DECREF(pair);
+        if (!is_put) return false;
+    }
+    return true;
+}
+
+static bool put_timestamp(Handed *handed, PyObject *timestamp) {
+    int overflow = 1;
+    if (timestamp == Py_None) return true;
+    handed->line.has_timestamp = true;
+    if (PyLong_CheckExact(timestamp)) handed->line.timestamp = PyLong_AsLongLongAndOverflow(timestamp, &overflow);
+    if (!overflow) return true;
+    PyObject *plain = PyObject_CallFunctionObjArgs(given.plain_timestamp, timestamp, NULL);
+    if (!plain) return false;
+    handed->line.timestamp = PyLong_AsLongLong(plain);
+    Py_DECREF(plain);
+    return handed->line.timestamp != -1 || !PyErr_Occurred();
+}
+
+/* Says that an object is no line, where a member is missing. */
+static void refuse_line(PyObject *line) {
+    if (PyErr_Occurred() && !PyErr_ExceptionMatches(PyExc_AttributeError)) return;
+    PyErr_Clear();
+    refuse("a line", NULL, line);
+}
+
+/* The members of what is handed in as a line, each a new reference: NULL where they are not wanted. */
+typedef struct { PyObject *measurement, *tags, *fields, *timestamp, *spelled; } Members;
+
+static void free_members(Members *members) {
+    Py_XDECREF(members->measurement);
+    Py_XDECREF(members->tags);
+    Py_XDECREF(members->fields);
+    Py_XDECREF(members->timestamp);
+    Py_XDECREF(members->spelled);
+}
+
+/* Takes the members of a line, or of what has members of the same names. */
+static bool take_members(Members *members, PyObject *line, bool is_series) {
+    if (Py_TYPE(line) == (PyTypeObject *)given.line) {
+        const Line *own = (Line *)line;
+        Members taken = { own->measurement, own->tags, is_series ? NULL : own->fields, is_series ? NULL : own->timestamp, own->spelled };
+        Py_XINCREF(taken.measurement);
+        Py_XINCREF(taken.tags);
+        Py_XINCREF(taken.fields);
+        Py_XINCREF(taken.timestamp);
+        Py_XINCREF(taken.spelled);
+        *members = taken;
+    } else if ((members->measurement = PyObject_GetAttrString(line, "measurement")) != NULL &&
+               (members->tags = PyObject_GetAttrString(line, "tags")) != NULL && !is_series &&
+               (members->fields = PyObject_GetAttrString(line, "fields")) != NULL) {
+        members->timestamp = PyObject_GetAttrString(line, "timestamp");
+        members->spelled = PyObject_TypeCheck(line, line_base) ? ((Line *)line)->spelled : NULL;
+        Py_XINCREF(members->spelled);
+    }
+    if (members->measurement && members->tags && (is_series || (members->fields && members->timestamp))) return true;
+    refuse_line(line);
+    return false;
+}
+
+/* Hands in the members of a line. */
+static bool put_members(Handed *handed, const Members *members, bool is_series) {
+    const lp_text nothing = LP_NO_TEXT;
+    if (!put_text(handed, "the measurement", NULL, members->measurement, &handed->line.measurement)) return false;
+    if (!put_pairs(handed, true, members->tags)) return false;
+    handed->line.tags = handed->parts_len;
+    handed->line.has_tag_set = handed->parts_len > 0;
+    if (is_series) return true;
+    handed->spelled = members->spelled && PyBytes_Check(members->spelled) ? text_of(members->spelled) : nothing;
+    if (!put_pairs(handed, false, members->fields) || !put_timestamp(handed, members->timestamp)) return false;
+    handed->line.fields = handed->parts_len - handed->line.tags;
+    return handed->line.fields > 0 || refuse("no field", NULL, members->measurement);
+}
+
+/* Hands in a line; without fields and timestamp, where the series is all that counts. */
+static bool put_line(Handed *handed, PyObject *line, bool is_series) {
+    static const lp_line empty = LP_EMPTY_LINE;
+    Members members = { NULL, NULL, NULL, NULL, NULL };
+    clear_handed(handed);
+    handed->line = empty;
+    const bool is_put = take_members(&members, line, is_series) && put_members(handed, &members, is_series);
+    free_members(&members);
+    return is_put;
+}
+
+/* What a call says that is neither written nor put out. */
+static bool set_answer_error(uint32_t answer) {
+    if (answer == LP_NOT_A_LINE) PyErr_SetString(PyExc_ValueError, "the library does not take it for a line");
+    else PyErr_SetString(PyExc_MemoryError, "a request for memory was refused");
+    return false;
+}
+
+/* What calls put out: one text after another. */
+typedef struct { uint8_t *at; size_t len, room; } Out;
+typedef uint32_t PutsOut(const lp_line *, const lp_part *, size_t, uint8_t *, size_t, size_t *);
+
+/* Appends what a call puts out for the line that was handed in, and gives its answer; 0 after an error. */
+static uint32_t put_out(PutsOut *call, const Handed *handed, Out *out) {
+    static const lp_part no_parts[1] = { { LP_NO_VIEW, LP_NO_VIEW, 0, 0, LP_TAG, false } };
+    const lp_part *parts = handed->parts_len > 0 ? handed->parts : no_parts;
+    for (size_t wanted = 256;;) {
+        if (out->room - out->len < wanted) {
+            uint8_t *more = PyMem_Realloc(out->at, 2 * out->room + wanted);
+            if (!more) {
+                PyErr_NoMemory();
+                return 0;
+            }
+            out->at = more;
+            out->room = 2 * out->room + wanted;
+        }
+        const uint32_t answer = call(&handed->line, parts, handed->parts_len, out->at + out->len, out->room - out->len, &wanted);
+        if (answer == LP_WRITTEN || answer == LP_FAULT) {
+            out->len += wanted;
+            return answer;
+        }
+        if (answer != LP_MORE_ROOM) return set_answer_error(answer);
+    }
+}
+
+/* Makes a str of all that was put out, where there was no error, and frees it. */
+static PyObject *str_of_out(Out *out, bool is_written) {
+    PyObject *text = is_written ? PyUnicode_FromStringAndSize((const char *)out->at, (Py_ssize_t)out->len) : NULL;
+    PyMem_Free(out->at);
+    return text;
+}
+
+/* What a call puts out for one line. */
+static PyObject *put_out_one(PutsOut *call, PyObject *line) {
+    Handed handed = { 0 };
+    Out out = { NULL, 0, 0 };
+    const uint32_t answer = put_line(&handed, line, call == lp_line_base) ? put_out(call, &handed, &out) : 0;
+    free_handed(&handed);
+    PyObject *text = str_of_out(&out, answer != 0);
+    if (!text || answer == LP_WRITTEN) return text;
+    PyErr_SetObject(given.duplicate_tag, text);
+    Py_DECREF(text);
+    return NULL;
+}
+PyObject *fast_write(PyObject *module, PyObject *line) { (void)module; return put_out_one(lp_line_write, line); }
+PyObject *fast_show(PyObject *module, PyObject *line) { (void)module; return put_out_one(lp_line_show, line); }
+PyObject *fast_base(PyObject *module, PyObject *line) { (void)module; return put_out_one(lp_line_base, line); }
+
+/* write_many(lines): all lines of an iterable, one after another. */
+PyObject *fast_write_many(PyObject *module, PyObject *lines) {
+    Handed handed = { 0 };
+    Out out = { NULL, 0, 0 };
+    PyObject *iterator = PyObject_GetIter(lines), *line;
+    (void)module;
+    if (!iterator) return NULL;
+    bool is_written = true;
+    while (is_written && (line = PyIter_Next(iterator)) != NULL) {
+        is_written = put_line(&handed, line, false) && put_out(lp_line_write, &handed, &out) == LP_WRITTEN;
+        Py_DECREF(line);
+    }
+    Py_DECREF(iterator);
+    free_handed(&handed);
+    if (!out.at && !PyErr_Occurred()) return PyUnicode_FromStringAndSize("", 0);
+    return str_of_out(&out, !PyErr_Occurred());
+}
+
+/* What a call says of a line. */
+static PyObject *tell_of(uint32_t (*call)(const lp_line *, const lp_part *, size_t, bool *), PyObject *line, bool is_series) {
+    static const lp_part no_parts[1] = { { LP_NO_VIEW, LP_NO_VIEW, 0, 0, LP_TAG, false } };
+    Handed handed = { 0 };
+    bool told = false;
+    if (put_line(&handed, line, is_series)) {
+        const uint32_t answer = call(&handed.line, handed.parts_len > 0 ? handed.parts : no_parts, handed.parts_len, &told);
+        if (answer != LP_WRITTEN) set_answer_error(answer);
+    }
+    free_handed(&handed);
+    return PyErr_Occurred() ? NULL : PyBool_FromLong(told);
+}
+PyObject *fast_is_base_safe(PyObject *module, PyObject *line) { (void)module; return tell_of(lp_line_is_base_safe, line, true); }
+PyObject *fast_is_admitted(PyObject *module, PyObject *line) { (void)module; return tell_of(lp_line_is_admitted, line, false); }
+
+/* Rebuilds a text into two rooms, which are bytearrays, as long as they are long enough. */
+static uint32_t rebuild_into(lp_text text, bool strict, PyObject *const *rooms, lp_counts *counts) {
+    uint8_t *batch = (uint8_t *)PyByteArray_AsString(rooms[0]), *faults = (uint8_t *)PyByteArray_AsString(rooms[1]);
+    const size_t batch_len = (size_t)PyByteArray_Size(rooms[0]), faults_len = (size_t)PyByteArray_Size(rooms[1]);
+    PyThreadState *state = let_go(text.len);
+    const uint32_t answer = lp_rebuild(strict, text.at, text.len, batch, batch_len, faults, faults_len, counts);
+    take_back(state);
+    return answer;
+}
+
+/* Makes a room at least so long. */
+static bool lengthen(PyObject *room, size_t len) {
+    if (len > PY_SSIZE_T_MAX) {
+        PyErr_NoMemory();
+        return false;
+    }
+    return PyByteArray_Size(room) >= (Py_ssize_t)len || PyByteArray_Resize(room, (Py_ssize_t)len) == 0;
+}
+
+/* What was rebuilt, as str or as bytes. */
+static PyObject *rebuilt_of(PyObject *const *rooms, const lp_counts *counts, bool is_str) {
+    const lp_text batch = { (const uint8_t *)PyByteArray_AsString(rooms[0]), counts->batch_len };
+    const lp_text faults = { (const uint8_t *)PyByteArray_AsString(rooms[1]), counts->faults_len };
+    PyObject *(*make)(lp_text) = is_str ? str_of : bytes_of;
+    return Py_BuildValue("NNnn", make(batch), make(faults), (Py_ssize_t)counts->carried, (Py_ssize_t)counts->refused);
+}
+
+/* rebuild(text, strict, room, room): the batch and the faults, as bytes, or as str if the text is a str, and how many lines are carried
+ * and refused. The rooms, which are bytearrays that no one else has, are written to, and made longer where that is needed. */
+PyObject *fast_rebuild(PyObject *module, PyObject *args) {
+    PyObject *text, *rooms[2], *rebuilt = NULL;
+    int strict;
+    (void)module;
+    if (!PyArg_ParseTuple(args, "OpYY", &text, &strict, &rooms[0], &rooms[1])) return NULL;
+    PyObject *bytes = encoded(text);
+    if (!bytes) return NULL;
+    const lp_text read = text_of(bytes);
+    lp_counts counts = { read.len + read.len / 2 + 64, read.len + read.len / 2 + 64, 0, 0 };
+    uint32_t answer = LP_MORE_ROOM;
+    while (answer == LP_MORE_ROOM && lengthen(rooms[0], counts.batch_len) && lengthen(rooms[1], counts.faults_len))
+        answer = rebuild_into(read, strict, rooms, &counts);
+    if (answer == LP_WRITTEN) rebuilt = rebuilt_of(rooms, &counts, PyUnicode_Check(text));
+    else if (answer == LP_NOT_UTF8) set_decode_error(read);
+    else if (answer != LP_MORE_ROOM) set_answer_error(answer);
+    Py_DECREF(bytes);
+    return rebuilt;
+}

@@ -1,0 +1,37 @@
+"""InfluxDB line protocol: lines are read and written by a proved library.
+
+>>> for item in parse("cpu,host=a usage=64i 5"):
+...     if isinstance(item, Line):
+...         print(item.measurement, item.tags, item.fields, item.timestamp)
+...     else:
+...         print(item.message)
+cpu [('host', 'a')] [('usage', 64)] 5
+
+docs/python.md tells all of it. The library is part of the extension module `_fast`, which is made where the package is installed.
+"""
+
+try:
+    from . import _fast
+except ImportError as missing:
+    raise ImportError(f"{missing}: `pip install bindings/python` compiles the extension") from missing
+from .checking import plain_timestamp as _plain_timestamp
+from .checking import plain_value as _plain_value
+from .checking import refuse as _refuse
+from .items import Fault, FaultKind, FloatText, Line, Side, Unsigned, Value
+from .reading import Source, parse, split
+from .rebuilding import Rebuilt, rebuild
+from .tables import Column, Columns, Table, columns
+from .writing import Builder, DuplicateTag, base, is_admitted, is_base_safe, show, write, write_many
+
+__all__ = [
+    "Builder", "Column", "Columns", "DuplicateTag", "Fault", "FaultKind", "FloatText", "Line", "Rebuilt", "Side", "Source", "Table",
+    "Unsigned", "Value", "__version__", "base", "columns", "is_admitted", "is_base_safe", "parse", "rebuild", "show", "split", "write",
+    "write_many",
+]
+
+__version__ = "{}.{}.{}".format(_fast.version() // 10_000, _fast.version() // 100 % 100, _fast.version() % 100)
+"""The version of the library, the newest that CHANGELOG.md names."""
+
+_fast.setup(
+    Line, Fault, Unsigned, FloatText, int.__new__, tuple(FaultKind(number) if number else None for number in range(11)), tuple(Side),
+    DuplicateTag, _plain_value, _plain_timestamp, _refuse)

@@ -1,0 +1,200 @@
+"""What is read and written."""
+
+from __future__ import annotations
+
+import re
+import reprlib
+from dataclasses import dataclass, field
+from enum import IntEnum
+from operator import index
+from typing import Any, List, Optional, Tuple, Type, Union
+
+from . import _fast
+
+_LITERAL = re.compile(r"-?[0-9]+(\.[0-9]+)?([eE][+-]?[0-9]+)?")
+
+
+def short(value: object) -> str:
+    """What a value is, in few words, whatever its `repr` does."""
+    try:
+        return reprlib.repr(value)
+    except Exception:  # as that of an integer of more digits than Python shows
+        return f"<{type(value).__name__}>"
+
+
+def as_integer(number: int) -> int:
+    """A number that must be an integer, as an `int`. `bool` is none here, though Python counts it among its integers."""
+    if isinstance(number, bool):
+        raise TypeError("'bool' object cannot be interpreted as an integer")
+    return index(number)
+
+
+class Unsigned(int):
+    """The value of a field that is an unsigned integer: `7u`. A plain `int` is signed: `7i`.
+
+    >>> write(Line("m", [], [("sent", Unsigned(7)), ("lost", 7)]))
+    'm sent=7u,lost=7i\\n'
+    """
+
+    __slots__ = ()
+
+    def __new__(cls, number: int = 0) -> Unsigned:
+        return super().__new__(cls, as_integer(number))
+
+
+class FloatText(float):
+    """A float that is written as `text` spells it. ValueError where that is no literal of a float.
+
+    Reading gives it where the float nearest to the literal is infinite, since a plain float would have lost what was read.
+
+    >>> FloatText("1.50"), FloatText("1.50").text
+    (FloatText('1.50'), '1.50')
+    >>> write(Line("m", [], [("f", FloatText("1e400"))]))
+    'm f=1e400\\n'
+    """
+
+    __slots__ = ("text",)
+    text: str
+
+    def __new__(cls, text: str) -> FloatText:
+        if not isinstance(text, str):
+            raise TypeError(f"the literal of a float is a str, not {type(text).__name__}")
+        if not _LITERAL.fullmatch(text):
+            raise ValueError(f"{short(text)} is no literal of a float")
+        number = super().__new__(cls, text)
+        number.text = text
+        return number
+
+    def __reduce__(self) -> Tuple[Type[FloatText], Tuple[str]]:
+        return type(self), (self.text,)
+
+    def __repr__(self) -> str:
+        return f"FloatText({self.text!r})"
+
+
+Value = Union[int, Unsigned, float, str, bool]
+"""The value of a field. A `bool` is a boolean, and no integer; a `float` is finite, or a FloatText."""
+
+
+class FaultKind(IntEnum):
+    """What is wrong with a line. The last two are of lines that were not read at all.
+
+    >>> FaultKind.FIELD_SET_MISSING.name
+    'FIELD_SET_MISSING'
+    """
+
+    DUPLICATE_TAG = 1
+    MEASUREMENT_VALUE_INVALID = 2
+    FIELD_SET_MISSING = 3
+    INTEGER_VALUE_INVALID = 4
+    UINTEGER_VALUE_INVALID = 5
+    TIMESTAMP_VALUE_INVALID = 6
+    ENDS_WITH_BACKSLASH = 7
+    CANNOT_PARSE_ENTIRE_LINE = 8
+    TAG_SET_MALFORMED = 9
+    GENERIC_PARSING_ERROR = 10
+    NOT_UTF8 = 101
+    TOO_LONG = 102
+
+
+class Side(IntEnum):
+    """On which side of its range a number lies.
+
+    >>> [fault] = parse("m f=9223372036854775808i")
+    >>> fault.side.name
+    'ABOVE'
+    """
+
+    NEITHER = 0
+    ABOVE = 1
+    BELOW = 2
+
+
+_MESSAGES = {
+    FaultKind.DUPLICATE_TAG: 'Must not contain duplicate tags, but "{}" was repeated',
+    FaultKind.MEASUREMENT_VALUE_INVALID: "Invalid measurement was provided",
+    FaultKind.FIELD_SET_MISSING: "No fields were provided",
+    FaultKind.INTEGER_VALUE_INVALID: "Unable to parse integer value '{}'",
+    FaultKind.UINTEGER_VALUE_INVALID: "Unable to parse unsigned integer value '{}'",
+    FaultKind.TIMESTAMP_VALUE_INVALID: "Unable to parse timestamp value '{}'",
+    FaultKind.ENDS_WITH_BACKSLASH: "Measurements, tag keys and values, and field keys may not end with a backslash",
+    FaultKind.CANNOT_PARSE_ENTIRE_LINE: "Could not parse entire line. Found trailing content: '{}'",
+    FaultKind.TAG_SET_MALFORMED: "Tag Set Malformed",
+    FaultKind.GENERIC_PARSING_ERROR: "A generic parsing error occurred: TakeWhile1",
+    FaultKind.NOT_UTF8: "the line is not UTF-8",
+    FaultKind.TOO_LONG: "the line is too long",
+}
+"""The texts of the faults, which docs/FORMAT.md lists."""
+
+
+@dataclass
+class Line(_fast.LineMembers):
+    """A line: its tags and fields are pairs, in the order of the text, and a key may come twice.
+
+    A line that was read keeps the literals of its floats: `write` spells a float so as long as it stands where it was read.
+
+    >>> Line("cpu", [("host", "a")], [("usage", 64)], 5)
+    Line(measurement='cpu', tags=[('host', 'a')], fields=[('usage', 64)], timestamp=5)
+    """
+
+    __slots__ = ("__weakref__",)
+
+    measurement: str
+    tags: List[Tuple[str, str]] = field(default_factory=list)
+    fields: List[Tuple[str, Value]] = field(default_factory=list)
+    timestamp: Optional[int] = None
+
+    def __reduce__(self) -> Tuple[Any, ...]:
+        members = (self.measurement, self.tags, self.fields, self.timestamp)
+        return _restored, (type(self), members, self._spelled), vars(self) if hasattr(self, "__dict__") else None
+
+
+def _restored(kind: Any, members: Tuple[str, Any, Any, Optional[int]], spelled: Optional[bytes]) -> Line:
+    """A line that was pickled or copied."""
+    line: Line = kind.__new__(kind)
+    line.measurement, line.tags, line.fields, line.timestamp = members
+    line._spelled = spelled
+    return line
+
+
+@dataclass
+class Fault(_fast.FaultMembers):
+    """An item that is no line.
+
+    `text` is the number that is out of its range, or what is left of the line, and `message` says all of it in words. `item` is its
+    number among the items, from 1 on; `line` is 1 more than there are newlines before it in the source, and `offset` how many bytes
+    there are, as UTF-8. `refused` are the bytes that are no line, of a line that is too long the first ones.
+
+    Two faults are equal if kind, text and side are.
+
+    >>> [line, fault] = parse("m f=1i\\nm f=9223372036854775808i")
+    >>> fault.kind.name, fault.message
+    ('INTEGER_VALUE_INVALID', "Unable to parse integer value '9223372036854775808'")
+    >>> fault.item, fault.line, fault.offset, fault.refused
+    (2, 2, 7, b'm f=9223372036854775808i')
+    """
+
+    __slots__ = ("__weakref__",)
+
+    kind: FaultKind
+    text: str = ""
+    side: Side = Side.NEITHER
+    item: int = field(default=0, compare=False)
+    line: int = field(default=0, compare=False)
+    offset: int = field(default=0, compare=False)
+    refused: bytes = field(default=b"", compare=False, repr=False)
+
+    @property
+    def message(self) -> str:
+        """What is wrong, as the library's programs say it."""
+        return _MESSAGES[self.kind].format(self.text)
+
+    def __reduce__(self) -> Tuple[Any, ...]:
+        members = (self.kind, self.text, self.side, self.item, self.line, self.offset, self.refused)
+        return type(self), members, vars(self) if hasattr(self, "__dict__") else None
+
+
+# The defaults of a dataclass are members of its class, which would hide those of the objects.
+for _kind, _names in ((Line, ("timestamp",)), (Fault, ("text", "side", "item", "line", "offset", "refused"))):
+    for _name in _names:
+        delattr(_kind, _name)

@@ -1,0 +1,143 @@
+"""Sources are cut into segments of whole lines."""
+
+from __future__ import annotations
+
+import os
+import re
+import sys
+from typing import IO, Any, Callable, Iterator, Optional, Tuple, Union
+
+from . import _fast
+from .items import FaultKind, short
+
+BLOCK = 1 << 17
+"""A file is read in blocks of at most so many bytes, which a processor keeps at hand."""
+
+_PATIENCE = 1 << 16
+"""Where more bytes than this end no line, they are not looked through again before they are twice as many."""
+
+_REFUSED = (type(iter("")), type(iter("é")))
+"""Iterators of single characters: a `str` was meant."""
+
+_BEGUN = (0, 1, 0, 0)
+"""The state of a line of which nothing was skipped yet."""
+
+Refused = Tuple[FaultKind, bytes, int, int]
+"""A line that is refused before it is read: why, its bytes, and how many newlines and bytes it takes."""
+
+
+def lends_bytes(source: Any) -> bool:
+    """Whether a source lends its bytes, as `bytes` and `bytearray` do."""
+    try:
+        memoryview(source).release()
+    except TypeError:
+        return False
+    return True
+
+
+def _as_bytes(part: Any) -> bytes:
+    """A part of a source."""
+    if isinstance(part, bytes):
+        return part
+    if isinstance(part, str):
+        return part.encode()
+    if part is None:
+        raise BlockingIOError("the file does not block, and has no bytes yet")
+    if not lends_bytes(part):
+        raise TypeError(f"a part of a source is a str or bytes, not {type(part).__name__}: {short(part)}")
+    return bytes(memoryview(part))
+
+
+def _read(read: Callable[[int], Any], file: Optional[IO[bytes]] = None) -> Iterator[bytes]:
+    """First an empty part, and then what a file gives; a file that is handed in is closed at the end."""
+    try:
+        yield b""
+        while True:
+            part = _as_bytes(read(BLOCK))
+            if not part:
+                return
+            yield part
+    finally:
+        if file is not None:
+            file.close()
+
+
+def parts_of(source: Any) -> Iterator[bytes]:
+    """The parts of a source that is no text: a path, a file object, or an iterator of parts."""
+    if isinstance(source, os.PathLike):
+        file = open(source, "rb", buffering=0)
+        parts = _read(file.read, file)
+        next(parts)  # from now on it closes the file, also if no part of it is wanted
+        return parts
+    if hasattr(source, "read"):
+        return _read(getattr(source, "read1", source.read))
+    if hasattr(source, "__next__") and not isinstance(source, _REFUSED):
+        return map(_as_bytes, source)
+    raise TypeError(
+        "a source is a str, bytes, a path of pathlib, a file object or an iterator of parts, "
+        f"not {type(source).__name__}: {short(source)}")
+
+
+def _scrubbed(block: bytes) -> bytes:
+    """Bytes with a letter in the place of each that makes them no UTF-8. Its lines end where theirs do."""
+    return re.sub("[\udc80-\udcff]", "x", block.decode("utf-8", "surrogateescape")).encode()
+
+
+def _told(segment: bytes, text: bytes, strict: bool, limit: Optional[int]) -> Iterator[Union[bytes, Refused]]:
+    """A segment, whose lines end where those of `text` do, in runs of lines that can be read, and each other line."""
+    if text is segment and (limit is None or len(segment) <= limit):
+        yield segment
+        return
+    at = 0
+    for start, end, is_long in _fast.outliers(segment, text, strict, sys.maxsize if limit is None else limit):
+        if start > at:
+            yield segment[at:start]
+        at = min(end + 1, len(segment))
+        shown = segment[start : min(end, start + (limit or 0)) if is_long else end]
+        yield FaultKind.TOO_LONG if is_long else FaultKind.NOT_UTF8, shown, segment.count(b"\n", start, at), at - start
+    if at < len(segment):
+        yield segment[at:]
+
+
+def _skipped(data: bytes, parts: Iterator[bytes], strict: bool, limit: int) -> Tuple[Refused, bytes]:
+    """A line that is too long, of which the first bytes are given, and what comes after it."""
+    shown, newlines, size, state = data[:limit], 0, 0, _BEGUN
+    while True:
+        end, state = _fast.skip(data, state, strict)
+        taken = end + 1 if end >= 0 else len(data)
+        newlines += data.count(b"\n", 0, taken)
+        size += taken
+        more = next(parts, None) if end < 0 else None
+        if more is None:
+            return (FaultKind.TOO_LONG, shown, newlines, size), data[taken:]
+        data = more
+
+
+def segments(parts: Iterator[bytes], strict: bool, limit: Optional[int]) -> Iterator[Union[bytes, Refused]]:
+    """Segments of whole lines, which are UTF-8, and each line that is not or is longer than the limit."""
+    held, looked_at = bytearray(), 0
+    for part in parts:
+        held += part
+        is_over = limit is not None and len(held) > limit
+        if not is_over and (b"\n" not in part or looked_at > _PATIENCE and len(held) < 2 * looked_at):
+            continue
+        while True:
+            with memoryview(held) as view:
+                block = bytes(view[: held.rfind(b"\n") + 1])
+            whole = _fast.whole(block, strict)
+            text = block if whole is not None else _scrubbed(block)
+            if whole is None:
+                whole = _fast.whole(text, strict) or 0
+            if whole > 0:
+                segment = block[:whole]
+                yield from _told(segment, segment if text is block else text[:whole], strict, limit)
+            del held[:whole]
+            if limit is None or len(held) <= limit:
+                break
+            refused, rest = _skipped(bytes(held), parts, strict, limit)
+            yield refused
+            held = bytearray(rest)
+        looked_at = len(held)
+    if held:
+        block = bytes(held)
+        yield from _told(block, block if _fast.whole(block, strict) is not None else _scrubbed(block), strict, limit)

@@ -1,0 +1,143 @@
+"""Sources as columns: for each measurement its times, its tags and its fields."""
+
+from __future__ import annotations
+
+from array import array
+from dataclasses import dataclass, field
+from importlib import import_module
+from typing import Any, Dict, Iterator, List, Optional, Tuple
+
+from . import _fast
+from .items import Fault
+from .reading import Source, reader_of
+
+_TAG = 0
+_BOOLEAN = 5
+_NUMBERS = {1: ("q", "int64"), 2: ("Q", "uint64"), 3: ("d", "float64"), _BOOLEAN: ("Q", "uint64")}
+"""For each kind of numbers, of enum lp_kind, its type for `array` and for NumPy."""
+
+
+@dataclass
+class Column:
+    """A column: a value for each row, in the order of the lines.
+
+    `values` are an array of NumPy where it is there. Else integers, unsigned integers and floats are an `array`, and all other values a
+    list. `mask` says where a line had no such tag, field or timestamp: there the value is 0, False or None. It is None where each line
+    had one. A field of several kinds is a column of objects.
+
+    >>> column = columns("m f=1i\\nm f=2i", use_numpy=False).tables["m"].fields["f"]
+    >>> column
+    Column(values=array('q', [1, 2]), mask=None)
+    >>> list(column)
+    [1, 2]
+    """
+
+    values: Any
+    mask: Any = None
+
+    def __len__(self) -> int:
+        return len(self.values)
+
+    def __iter__(self) -> Iterator[Any]:
+        """Each value, or None where it is missing."""
+        if self.mask is None:
+            return iter(self.values)
+        return iter([None if missing else value for value, missing in zip(self.values, self.mask)])
+
+    def masked(self) -> Any:
+        """The column as a masked array of NumPy."""
+        numpy: Any = import_module("numpy")
+        return numpy.ma.MaskedArray(self.values, numpy.ma.nomask if self.mask is None else self.mask)
+
+
+@dataclass
+class Table:
+    """The lines of a measurement, in their order. Tags and fields are in the order in which their keys came.
+
+    >>> table = columns("m,t=a f=1i 5\\nm f=2i,g=t 6", use_numpy=False).tables["m"]
+    >>> len(table), list(table.time), list(table.tags["t"]), list(table.fields["g"])
+    (2, [5, 6], ['a', None], [None, True])
+    """
+
+    time: Column
+    tags: Dict[str, Column] = field(default_factory=dict)
+    fields: Dict[str, Column] = field(default_factory=dict)
+
+    def __len__(self) -> int:
+        return len(self.time)
+
+
+@dataclass
+class Columns:
+    """The tables of a source by their measurements, in the order in which these came, and its faults.
+
+    >>> told = columns("m f=1i\\nm f\\nn f=2i", use_numpy=False)
+    >>> list(told.tables), [fault.line for fault in told.faults]
+    (['m', 'n'], [2])
+    """
+
+    tables: Dict[str, Table]
+    faults: List[Fault]
+
+
+def _numpy_of(use_numpy: Optional[bool]) -> Any:
+    """NumPy, where it is there and wanted."""
+    if use_numpy is False:
+        return None
+    try:
+        return import_module("numpy")
+    except ImportError:
+        if use_numpy:
+            raise
+        return None
+
+
+def _plain(kind: int, cells: Any, missing: Optional[bytearray]) -> Column:
+    """A column without NumPy."""
+    mask = None if missing is None else [one == 1 for one in missing]
+    if kind not in _NUMBERS:
+        return Column(cells, mask)
+    numbers: Any = array(_NUMBERS[kind][0])
+    numbers.frombytes(cells)
+    return Column([one == 1 for one in numbers] if kind == _BOOLEAN else numbers, mask)
+
+
+def _of_numpy(numpy: Any, kind: int, cells: Any, missing: Optional[bytearray]) -> Column:
+    """A column of NumPy."""
+    mask = None if missing is None else numpy.frombuffer(missing, dtype="bool")
+    if kind in _NUMBERS:
+        values = numpy.frombuffer(cells, dtype=_NUMBERS[kind][1])
+        return Column(values.astype("bool") if kind == _BOOLEAN else values, mask)
+    values = numpy.empty(len(cells), dtype="object")
+    values[:] = cells
+    return Column(values, mask)
+
+
+def _table(told: List[Tuple[Optional[str], int, Any, Optional[bytearray]]], numpy: Any) -> Table:
+    """A table of the columns that the extension tells: the first are the times."""
+    made = [
+        (str(key), kind, _plain(kind, cells, missing) if numpy is None else _of_numpy(numpy, kind, cells, missing))
+        for key, kind, cells, missing in told]
+    table = Table(made[0][2])
+    for key, kind, column in made[1:]:
+        (table.tags if kind == _TAG else table.fields)[key] = column
+    return table
+
+
+def columns(
+        source: Source, *, strict: bool = False, max_line: Optional[int] = None, use_numpy: Optional[bool] = None) -> Columns:
+    """The lines of a source as columns. It is read as `parse` reads it, to its end, and no object is made of a number.
+
+    Integers stay integers, and unsigned ones unsigned. Of a key that comes twice in a line the last value counts. `use_numpy` says
+    whether the columns are arrays of NumPy: by default where it is there.
+
+    >>> told = columns("cpu,host=a usage=1i,load=0.5 5\\ncpu,host=b usage=2i 6\\n", use_numpy=False)
+    >>> cpu = told.tables["cpu"]
+    >>> cpu.time.values, cpu.fields["usage"].values
+    (array('q', [5, 6]), array('q', [1, 2]))
+    >>> cpu.fields["load"]
+    Column(values=array('d', [0.5, 0.0]), mask=[False, True])
+    """
+    numpy = _numpy_of(use_numpy)
+    tables, faults = _fast.columns(reader_of(source, strict, max_line))
+    return Columns({measurement: _table(told, numpy) for measurement, _, told in tables}, faults)

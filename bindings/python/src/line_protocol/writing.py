@@ -1,0 +1,189 @@
+"""Lines are written, shown and tested."""
+
+from __future__ import annotations
+
+from typing import Iterable, Iterator, List, Optional
+
+from . import _fast
+from .checking import as_text, plain_timestamp, plain_value, refuse
+from .items import Line, Value
+
+
+class DuplicateTag(ValueError):
+    """A key of the tags is repeated: the series has no base.
+
+    >>> base(Line("m", [("a", "1"), ("a", "2")]))
+    Traceback (most recent call last):
+    line_protocol.writing.DuplicateTag: a
+    """
+
+
+def write(line: Line) -> str:
+    """A line as the builder writes it, with its newline.
+
+    What cannot be written raises, here and in the other calls that take a line: ValueError where there is no field, or where a
+    float is not finite and no FloatText; OverflowError where a number is out of its range; TypeError where the type is wrong.
+
+    A float of a line that was read is spelled as it was read. Scalars of NumPy are written as what they are.
+
+    >>> write(Line("disk usage", [("host", "a")], [("free", 42.5)], 5))
+    'disk\\\\ usage,host=a free=42.5 5\\n'
+    >>> [line] = parse("m f=1.50")
+    >>> write(line)
+    'm f=1.50\\n'
+    """
+    return _fast.write(line)
+
+
+def write_many(lines: Iterable[Line]) -> str:
+    """Lines one after another, as `write` writes each. What is raised for a line says which it is, from 1 on; then none is written.
+
+    >>> write_many(Line("m", [], [("f", number)], number) for number in range(3))
+    'm f=0i 0\\nm f=1i 1\\nm f=2i 2\\n'
+    >>> write_many([Line("m", [], [("f", 1)]), Line("m")])
+    Traceback (most recent call last):
+    ValueError: line 2: the line of the measurement 'm' has no field
+    """
+    try:
+        counted = _Counted(iter(lines))
+    except TypeError:
+        raise TypeError(f"lines are an iterable of Line, not {type(lines).__name__}") from None
+    try:
+        return _fast.write_many(counted)
+    except (TypeError, ValueError, OverflowError) as refused:
+        if counted.is_out and len(refused.args) == 1:
+            refused.args = (f"line {counted.number}: {refused}",)
+        raise
+
+
+class _Counted:
+    """Lines, and how many were handed out."""
+
+    def __init__(self, lines: Iterator[Line]) -> None:
+        self.lines, self.number, self.is_out = lines, 0, False
+
+    def __iter__(self) -> Iterator[Line]:
+        return self
+
+    def __next__(self) -> Line:
+        self.is_out = False
+        line = next(self.lines)
+        self.number += 1
+        self.is_out = True
+        return line
+
+
+def show(line: Line) -> str:
+    """A line as it is shown: strings have no quotes, and there is no newline.
+
+    >>> show(Line("m", [("a", "b")], [("s", "x y")], 5))
+    'm,a=b s=x y 5'
+    """
+    return _fast.show(line)
+
+
+def base(line: Line) -> str:
+    """The base of the series of a line: its measurement and its tags, in the order of their keys. Fields and timestamp are not
+    looked at. DuplicateTag where a key of the tags is repeated.
+
+    A base tells its series from others where `is_base_safe` holds for both: `m,a=1\\,b\\=2` and `m,a=1,b=2` are two series with
+    one base. `m,\\,=v` and `m,,=v` are one series, and with one base here, but with two where the library reads the lines.
+
+    >>> base(Line("m", [("z", "1"), ("a", "2")]))
+    'm,a=2,z=1'
+    """
+    return _fast.base(line)
+
+
+def is_base_safe(line: Line) -> bool:
+    """Whether the base of a line is safe to group by: no measurement and no tag value holds a comma, no tag key an `=`, and no
+    name is a comma, a space or, in a tag, an `=` alone. Fields and timestamp are not looked at.
+
+    Where two lines are safe and have bases, their bases are the same exactly where measurement and tags are.
+
+    >>> is_base_safe(Line("m", [("a", "1,2")]))
+    False
+    """
+    return _fast.is_base_safe(line)
+
+
+def is_admitted(line: Line) -> bool:
+    """Whether a line reads back where it is written: whether each of its names is admitted.
+
+    >>> is_admitted(Line("", [], [("f", 1)]))
+    False
+    """
+    return _fast.is_admitted(line)
+
+
+class Builder:
+    """Builds lines: each begins with a measurement, and has tags, then fields, then perhaps a timestamp.
+
+    >>> Builder().measurement("cpu").tag("host", "a").field("usage", 64).timestamp(5).close_line().build()
+    'cpu,host=a usage=64i 5\\n'
+
+    A call that raises changes nothing: the line goes on as if it had not been made. The calls test what they are given as
+    `write` does. A line that cannot be finished is left out by `drop_line`.
+    """
+
+    def __init__(self) -> None:
+        self._written: List[str] = []
+        self._line: Optional[Line] = None
+
+    def _open(self) -> Line:
+        if self._line is None:
+            raise ValueError("a line begins with its measurement")
+        return self._line
+
+    def measurement(self, name: str) -> Builder:
+        """Begins a line."""
+        if self._line is not None:
+            raise ValueError("the line before is not closed")
+        self._line = Line(as_text("the measurement", name))
+        return self
+
+    def tag(self, key: str, value: str) -> Builder:
+        """Appends a tag, which comes before the fields."""
+        line = self._open()
+        if line.fields:
+            raise ValueError("a tag comes before the fields")
+        line.tags.append((as_text("the key of a tag", key), as_text("the value of the tag", value, key)))
+        return self
+
+    def field(self, key: str, value: Value) -> Builder:
+        """Appends a field."""
+        line = self._open()
+        if line.timestamp is not None:
+            raise ValueError("a field comes before the timestamp")
+        as_text("the key of a field", key)
+        plain = plain_value(key, value)
+        line.fields.append((key, as_text("the field", plain, key) if isinstance(plain, str) else plain))
+        return self
+
+    def timestamp(self, timestamp: int) -> Builder:
+        """Sets the timestamp, after the fields."""
+        line = self._open()
+        if not line.fields or line.timestamp is not None:
+            raise ValueError("one timestamp comes after the fields")
+        line.timestamp = plain_timestamp(timestamp)
+        return self
+
+    def close_line(self) -> Builder:
+        """Ends a line, which has at least one field."""
+        line = self._open()
+        if not line.fields:
+            refuse("no field", None, line.measurement)
+        self._written.append(_fast.write(line))
+        self._line = None
+        return self
+
+    def drop_line(self) -> Builder:
+        """Leaves out the line that is not closed, where there is one."""
+        self._line = None
+        return self
+
+    def build(self) -> str:
+        """The lines. ValueError where the last one is not closed."""
+        if self._line is not None:
+            raise ValueError("the last line is not closed: close_line ends it, and drop_line leaves it out")
+        return "".join(self._written)

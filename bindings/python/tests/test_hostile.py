@@ -1,0 +1,210 @@
+"""What docs/python.md says is refused: for each call and each argument, values of wrong types, and what is raised for them. The message
+names the argument and its value."""
+
+import array
+import datetime
+import io
+import math
+import re
+import unittest
+from decimal import Decimal
+from fractions import Fraction
+
+from line_protocol import (
+    Builder, DuplicateTag, FloatText, Line, Unsigned, base, columns, is_admitted, is_base_safe, parse, rebuild, show, split, write,
+    write_many)
+from line_protocol.items import short
+
+
+class Strange:
+    """An object of no kind that a call takes."""
+
+    def __repr__(self):
+        return "strange"
+
+
+class Silent:
+    """An object that cannot be shown."""
+
+    def __repr__(self):
+        raise RuntimeError("no repr")
+
+
+class Lying:
+    """An object whose every conversion fails."""
+
+    def __index__(self):
+        raise RuntimeError("no index")
+
+    def __float__(self):
+        raise RuntimeError("no float")
+
+    def __repr__(self):
+        return "lying"
+
+
+NO_STR = [
+    None, 0, 5, 10**5000, True, 1.5, 1j, b"n", bytearray(b"n"), memoryview(b"n"), ["n"], ("n",), {"n": 1}, {"n"}, Strange(), str,
+    Decimal(1)]
+NO_SOURCE = [
+    None, 0, 5, True, 1.5, 1j, ["n"], [10**5000], ("n",), {"n": 1}, {"n"}, frozenset("n"), range(3), Strange(), Decimal(1), iter("n")]
+NO_PAIRS = [None, 5, True, 1.5, "ab", b"ab", {"a": "b"}, {("a", "b")}, iter([("a", "b")]), Strange(), Silent()]
+NO_PAIR = [None, 5, "ab", b"ab", {"a": "b"}, {"a", "b"}, (), ("a",), ("a", "b", "c"), [], ["a"], Strange()]
+NO_VALUE = [
+    None, b"x", bytearray(b"x"), 1j, Decimal(1), Fraction(1, 2), [1], (1,), {1: 2}, {1}, datetime.datetime(2026, 1, 1), Strange(),
+    Silent(), int]
+NO_INT = ["5", b"5", 1.0, 1.5, math.nan, True, False, 1j, Decimal(5), Fraction(5), [5], (5,), {}, Strange(), datetime.datetime(2026, 1, 1)]
+TOO_LARGE = [2**63, -(2**63) - 1, 2**64, 10**30, 10**5000]
+NO_LINE = [None, 5, True, 1.5, "m f=1i", b"m f=1i", ["m"], ("m", [], [("f", 1)], None), {"measurement": "m"}, Strange(), Silent()]
+
+LINE_CALLS = [write, show, is_admitted, lambda line: write_many([line])]
+SERIES_CALLS = [base, is_base_safe]
+FIELDS = [("f", 1)]
+
+
+def told(value):
+    return re.escape(f"{type(value).__name__}: {short(value)}")
+
+
+def itself(value):
+    return value
+
+
+def with_field(value):
+    return Line("m", [], [("f", value)])
+
+
+def all_items(parts):
+    return list(parse(parts))
+
+
+def parse_within(limit):
+    return parse("m f=1i", max_line=limit)
+
+
+def columns_within(limit):
+    return columns("m f=1i", max_line=limit)
+
+
+BOTH = LINE_CALLS + SERIES_CALLS
+NO_LITERAL = ["", "x", "1.", ".5", "1e", "+1", "1_0", "inf", "nan", "0x1", " 1", "1\n"]
+
+# What is handed in, how, to which calls, what they raise, and what they say.
+TABLE = [
+    (NO_SOURCE, itself, [parse, columns], TypeError, "a source is a str, bytes, a path .* not {told}"),
+    (NO_SOURCE, itself, [split, rebuild], TypeError, "a text is a str or bytes, not {told}"),
+    (NO_STR, lambda value: Line(value, [], FIELDS), BOTH, TypeError, "the measurement is a str, not {told}"),
+    (NO_STR, lambda value: Line("m", [(value, "v")], FIELDS), BOTH, TypeError, "the key of a tag is a str, not {told}"),
+    (NO_STR, lambda value: Line("m", [("k", value)], FIELDS), BOTH, TypeError, "the value of the tag 'k' is a str, not {told}"),
+    (NO_STR, lambda value: Line("m", [], [(value, 1)]), LINE_CALLS, TypeError, "the key of a field is a str, not {told}"),
+    (NO_PAIRS, lambda value: Line("m", value, FIELDS), BOTH, TypeError, "the tags are a list of pairs, not {told}"),
+    (NO_PAIRS, lambda value: Line("m", [], value), LINE_CALLS, TypeError, "the fields are a list of pairs, not {told}"),
+    (NO_PAIR, lambda value: Line("m", [value], FIELDS), BOTH, TypeError, "each of the tags is a pair, not {told}"),
+    (NO_PAIR, lambda value: Line("m", [], [value]), LINE_CALLS, TypeError, "each of the fields is a pair, not {told}"),
+    (NO_VALUE, with_field, LINE_CALLS, TypeError, "the field 'f': a value is .* not {told}"),
+    (TOO_LARGE, with_field, LINE_CALLS, OverflowError, "the field 'f': .* is not at least"),
+    ([-1, 2**64, 10**5000], lambda value: with_field(Unsigned(value)), LINE_CALLS, OverflowError, "the field 'f': .* is not at least 0"),
+    ([math.inf, -math.inf, math.nan], with_field, LINE_CALLS, ValueError, "the field 'f': {value} has no literal"),
+    (NO_INT, lambda value: Line("m", [], FIELDS, value), LINE_CALLS, TypeError, "a timestamp is an int, not {told}"),
+    (TOO_LARGE, lambda value: Line("m", [], FIELDS, value), LINE_CALLS, OverflowError, "the timestamp: .* is not at least"),
+    (NO_LINE, itself, BOTH, TypeError, "a line is a Line, not {told}"),
+    (["m", "a b"], Line, LINE_CALLS, ValueError, "the line of the measurement '{value}' has no field"),
+    ([None, 5, 1.5, Strange(), Line("m")], itself, [write_many], TypeError, "lines are an iterable of Line, not"),
+    (NO_INT, itself, [parse_within, columns_within], TypeError, "max_line is an int or None, not {told}"),
+    ([-1, -(10**30)], itself, [parse_within, columns_within], ValueError, "max_line is {value}"),
+    ([None, 1.0, "7", b"7", True, 1j, Decimal(7), Strange()], itself, [Unsigned], TypeError, "integer"),
+    ([None, 1.5, 1, b"1", True, Strange()], itself, [FloatText], TypeError, "the literal of a float is a str, not"),
+    (NO_LITERAL, itself, [FloatText], ValueError, "no literal of a float"),
+    ([5, 1.5, Strange(), ["m"]], lambda value: iter([b"m f=1i\n", value]), [all_items, columns], TypeError,
+     "a part of a source is a str or bytes, not {told}"),
+    ([None], lambda value: iter([b"m f=1i\n", value]), [all_items, columns], BlockingIOError, "has no bytes yet"),
+]
+
+# For a builder: the call, what it is given before the value, and what it raises.
+BUILDER = [
+    ("measurement", [], NO_STR, TypeError, "the measurement is a str, not {told}"),
+    ("tag", [], [(value, "v") for value in NO_STR], TypeError, "the key of a tag is a str"),
+    ("tag", ["k"], NO_STR, TypeError, "the value of the tag 'k' is a str, not {told}"),
+    ("field", [], [(value, 1) for value in NO_STR], TypeError, "the key of a field is a str"),
+    ("field", ["f"], NO_VALUE, TypeError, "the field 'f': a value is .* not {told}"),
+    ("field", ["f"], TOO_LARGE, OverflowError, "the field 'f': .* is not at least"),
+    ("field", ["f"], [math.inf, math.nan], ValueError, "the field 'f': {value} has no literal"),
+    ("timestamp", [], NO_INT, TypeError, "a timestamp is an int, not {told}"),
+    ("timestamp", [], TOO_LARGE, OverflowError, "the timestamp: .* is not at least"),
+]
+
+
+class Refused(unittest.TestCase):
+    def refuse(self, call, given, raised, why, value):
+        said = why.format(told=told(value), value=re.escape(str(value)) if "{value}" in why else "")
+        with self.assertRaisesRegex(raised, said) as found:
+            call(given)
+        self.assertIs(type(found.exception), raised)
+
+    def test_each_row(self):
+        for values, make, calls, raised, why in TABLE:
+            for value in values:
+                for call in calls:
+                    with self.subTest(value=short(value), call=call, why=why):
+                        self.refuse(call, make(value), raised, why, value)
+
+    def test_the_builder(self):
+        for name, first, values, raised, why in BUILDER:
+            for value in values:
+                builder = Builder()
+                if name != "measurement":
+                    builder.measurement("m")
+                if name == "timestamp":
+                    builder.field("f", 1)
+                given = [*first, *value] if why.endswith("is a str") and not first else [*first, value]
+                with self.subTest(name=name, value=short(value)):
+                    self.refuse(lambda given: getattr(builder, name)(*given), given, raised, why, value)
+                builder.drop_line().measurement("n").field("g", 2).close_line()
+                self.assertEqual(builder.build(), "n g=2i\n")
+
+    def test_wrong_arguments(self):
+        for call, given, named in [
+            (parse, (), {}), (parse, ("m", True), {}), (parse, ("m",), {"loose": True}), (split, (), {}), (split, ("m", True), {}),
+            (rebuild, (), {}), (rebuild, ("m", True), {}), (write, (), {}), (write, (Line("m"), 5), {}), (write_many, (), {}),
+            (show, (), {}), (base, (), {}), (is_base_safe, (), {}), (is_admitted, (), {}), (columns, (), {}), (columns, ("m", True), {}),
+            (Line, (), {}), (Line, ("m", [], [], None, 5), {}), (Unsigned, (1, 2), {}), (FloatText, (), {}),
+        ]:
+            with self.subTest(call=call, given=given, named=named), self.assertRaises(TypeError):
+                call(*given, **named)
+
+    def test_what_conversions_raise_comes_through(self):
+        for call in LINE_CALLS:
+            with self.subTest(call=call), self.assertRaisesRegex(RuntimeError, "no index"):
+                call(Line("m", [], FIELDS, Lying()))
+        with self.assertRaisesRegex(RuntimeError, "no index"):
+            parse("m f=1i", max_line=Lying())
+        with self.assertRaisesRegex(TypeError, "a value is .* not Lying: lying"):
+            write(Line("m", [], [("f", Lying())]))
+
+    def test_repeated_keys(self):
+        with self.assertRaisesRegex(DuplicateTag, "^k$"):
+            base(Line("m", [("k", "1"), ("k", "2")]))
+
+    def test_surrogates(self):
+        for line in (Line("\ud800", [], FIELDS), Line("m", [("\ud800", "v")], FIELDS), Line("m", [("k", "\ud800")], FIELDS),
+                     Line("m", [], [("\ud800", 1)]), Line("m", [], [("f", "\ud800")])):
+            for call in LINE_CALLS:
+                with self.subTest(line=line, call=call), self.assertRaises(UnicodeEncodeError):
+                    call(line)
+
+    def test_buffers_of_any_kind(self):
+        """What lends bytes is read as its bytes, whatever its elements and strides are."""
+        text = b"m f=1i\n" * 8
+        for lent in (array.array("I", text), memoryview(text).cast("B", (8, 7)), memoryview(bytes(reversed(text)))[::-1]):
+            self.assertEqual(len(list(parse(lent))), 8)
+            self.assertEqual(rebuild(lent).carried, 8)
+        self.assertEqual(list(parse(memoryview(b"xm f=1i\n")[1:])), [Line("m", [], [("f", 1)])])
+        released = memoryview(b"m f=1i")
+        released.release()
+        for call in (parse, split, rebuild):
+            with self.assertRaises(ValueError):
+                call(released)
+        closed = io.BytesIO(b"m f=1i")
+        closed.close()
+        with self.assertRaises(ValueError):
+            list(parse(closed))

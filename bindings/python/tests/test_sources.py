@@ -1,0 +1,486 @@
+"""What is read from paths, files and parts, and where a fault says that it is."""
+
+import array
+import bz2
+import contextlib
+import copy
+import gc
+import gzip
+import io
+import itertools
+import mmap
+import os
+import pathlib
+import pickle
+import random
+import sys
+import tempfile
+import threading
+import tracemalloc
+import unittest
+import warnings
+import weakref
+
+import line_protocol
+from line_protocol import Fault, FaultKind, Line, parse, rebuild, split
+
+from typed import typed
+
+TEXT = 'cpu,host=a\\ b usage=64i,load=1.50 5\n# a comment\n\nm s="a\nb",u=7u\nm f\nümlaut,t=ö s="\\"" -3\nlast f=t'
+
+
+def located(items):
+    """Items with all that a fault says."""
+    return [
+        (item.kind, item.text, item.side, item.item, item.line, item.offset, item.refused) if isinstance(item, Fault) else typed(item)
+        for item in items]
+
+
+def in_parts(data, size):
+    """Data in parts of this size."""
+    return (data[at : at + size] for at in range(0, len(data), size))
+
+
+class Folder(unittest.TestCase):
+    def setUp(self):
+        folder = tempfile.TemporaryDirectory()
+        self.addCleanup(folder.cleanup)
+        self.folder = pathlib.Path(folder.name)
+
+    def file(self, data, name="lines"):
+        """A path of a file of these bytes."""
+        path = self.folder / name
+        path.write_bytes(data)
+        return path
+
+
+class Kinds(Folder):
+    def sources(self, text):
+        """Each kind of source, with what closes it."""
+        data = text.encode()
+        path = self.file(data)
+        (self.folder / "gz").write_bytes(gzip.compress(data))
+        (self.folder / "bz2").write_bytes(bz2.compress(data))
+        opened = [
+            open(path, "rb"), open(path, "rb", buffering=0), open(path, encoding="utf-8", newline=""), gzip.open(self.folder / "gz"),
+            gzip.open(self.folder / "gz", "rt", encoding="utf-8", newline=""), bz2.open(self.folder / "bz2"), io.BytesIO(data),
+            io.StringIO(text, newline="")]
+        for file in opened:
+            self.addCleanup(file.close)
+        yield from opened
+        yield from (path, data, bytearray(data), memoryview(data), array.array("B", data), text)
+        with open(path, "rb") as file, mmap.mmap(file.fileno(), 0, access=mmap.ACCESS_READ) as mapped:
+            yield mapped
+        for size in (1, 2, 3, 7, 1000):
+            yield in_parts(data, size)
+            yield in_parts(text, size)
+            yield map(bytearray, in_parts(data, size))
+        yield iter([data])
+        yield iter([text[:20], data[len(text[:20].encode()) :]])
+
+    def test_each_kind_of_source(self):
+        for text in (TEXT, TEXT + "\n", "m f=1i", "\n", "#", " "):
+            for strict in (False, True):
+                wanted = located(parse(text, strict=strict))
+                for source in self.sources(text):
+                    with self.subTest(text=text, strict=strict, source=type(source).__name__):
+                        self.assertEqual(located(parse(source, strict=strict)), wanted)
+
+    def test_a_source_of_nothing(self):
+        for source in (b"", "", io.BytesIO(), iter([]), iter([b"", ""]), self.file(b"")):
+            with self.subTest(source=source):
+                self.assertEqual(list(parse(source)), [])
+
+    def test_blocks_lose_nothing(self):
+        text = "".join(f'm,t=a\\ {i} f={i}i,g="\n{"x" * 200}" {i}\nwrong\n' for i in range(15_000))
+        self.assertGreater(len(text), 3 << 20)
+        data, wanted = text.encode(), located(parse(text))
+        for source in (io.BytesIO(data), self.file(data), in_parts(data, 100_003), iter([text])):
+            items = located(parse(source))
+            if items != wanted:
+                self.fail(f"not the same items from {source}")
+
+    def test_a_line_longer_than_many_blocks(self):
+        long = b'm s="' + b"a\n" * 4_000_000 + b'"\nn f=1i'
+        items = list(parse(io.BytesIO(long)))
+        self.assertEqual([item.measurement for item in items], ["m", "n"])
+        self.assertEqual(len(items[0].fields[0][1]), 8_000_000)
+
+    def test_what_is_no_source(self):
+        for source in (5, None, 1.5, ["m f=1i"], ("m f=1i",), {"m": 1}, {1}, range(3), object(), iter("m f=1i"), iter("é"), b"m".hex):
+            with self.subTest(source=source), self.assertRaisesRegex(TypeError, f"not {type(source).__name__}: "):
+                parse(source)
+
+    def test_what_is_no_part(self):
+        for part in (5, None, 1.5, [b"m"], Line("m")):
+            with self.subTest(part=part), self.assertRaises((TypeError, BlockingIOError)):
+                list(parse(iter([b"m f=1i\n", part])))
+
+    def test_a_character_that_utf_8_has_not(self):
+        items = parse(iter(["m f=1i\n", "\ud800"]))
+        self.assertEqual(next(items), Line("m", [], [("f", 1)]))
+        with self.assertRaises(UnicodeEncodeError):
+            next(items)
+        self.assertEqual(list(items), [])
+
+    def test_what_is_left_of_a_source_is_made_by_calls_alone(self):
+        for items in (parse("m f=1i"), split("a"), parse(iter([]))):
+            with self.assertRaises(TypeError):
+                type(items)()
+            with self.assertRaises(TypeError):
+                copy.copy(items)
+            with self.assertRaises(TypeError):
+                pickle.dumps(items)
+            self.assertIs(iter(items), items)
+        with self.assertRaises(TypeError):
+            line_protocol._fast.columns(split("a"))
+        with self.assertRaises(TypeError):
+            line_protocol._fast.read("m", 5, False, False)
+
+    def test_a_path_that_cannot_be_opened(self):
+        with self.assertRaises(FileNotFoundError):
+            parse(self.folder / "nothing")
+        with self.assertRaises(IsADirectoryError):
+            parse(self.folder)
+
+    def test_what_reading_raises_comes_through(self):
+        class Failing(io.RawIOBase):
+            def read(self, size=-1):
+                raise OSError("the device failed")
+
+        with self.assertRaisesRegex(OSError, "the device failed"):
+            list(parse(Failing()))
+
+        def parts():
+            yield b"m f=1i\n"
+            raise RuntimeError("lost")
+
+        items = parse(parts())
+        self.assertEqual(next(items).measurement, "m")
+        with self.assertRaisesRegex(RuntimeError, "lost"):
+            next(items)
+        self.assertEqual(list(items), [])
+
+    def test_files_are_closed(self):
+        path = self.file(TEXT.encode())
+        with warnings.catch_warnings():
+            warnings.simplefilter("error")
+            list(parse(path))
+            parse(path)
+            next(parse(path))
+            gc.collect()
+        before = len(os.listdir("/proc/self/fd")) if os.path.exists("/proc/self/fd") else 0
+        held = [parse(path) for _ in range(10)]
+        del held
+        after = len(os.listdir("/proc/self/fd")) if os.path.exists("/proc/self/fd") else 0
+        self.assertEqual(before, after)
+
+    def test_lines_come_as_they_arrive(self):
+        read, write = os.pipe()
+        with open(read, "rb") as source, open(write, "wb", buffering=0) as target:
+            items = parse(source)
+            for number in range(3):
+                target.write(b"m f=%di\nm f" % number)
+                self.assertEqual(next(items), Line("m", [], [("f", number)]))
+                target.write(b"=0i\n")
+                self.assertEqual(next(items), Line("m", [], [("f", 0)]))
+
+
+def pieces_of(data, strict):
+    """The pieces of bytes, which need not be UTF-8: start, end, and whether the piece gives an item."""
+    at = 0
+    for piece in split(data.decode("latin-1").translate({byte: "x" for byte in range(128, 256)}), strict=strict):
+        yield at, at + len(piece)
+        at += len(piece) + 1
+
+
+def is_utf8(data):
+    try:
+        data.decode()
+    except UnicodeDecodeError:
+        return False
+    return True
+
+
+def wanted_of(data, strict, limit):
+    """The items of bytes as docs/FORMAT.md has it for a relay: each piece alone."""
+    items, number = [], 0
+    for start, end in pieces_of(data, strict):
+        piece, line = data[start:end], 1 + data.count(b"\n", 0, start)
+        if limit is not None and len(piece) > limit:
+            found = [Fault(FaultKind.TOO_LONG, refused=piece[:limit])]
+        elif not is_utf8(piece):
+            found = [Fault(FaultKind.NOT_UTF8, refused=piece)]
+        else:
+            found = list(parse(piece, strict=strict))
+            assert len(found) < 2
+        for item in found:
+            number += 1
+            if isinstance(item, Fault):
+                item.item, item.line, item.offset = number, line, start
+                item.refused = item.refused if item.kind > 100 else piece
+            items.append(item)
+    return located(items)
+
+
+class Places(unittest.TestCase):
+    def test_where_each_fault_is(self):
+        items = list(parse(TEXT + "\nm f=99999999999999999999i\n\n\nx\n"))
+        faults = [item for item in items if isinstance(item, Fault)]
+        self.assertEqual([fault.refused for fault in faults], [b"m f", b"m f=99999999999999999999i", b"x"])
+        for fault in faults:
+            before = (TEXT + "\nm f=99999999999999999999i\n\n\nx\n").encode()[: fault.offset]
+            self.assertEqual(fault.line, 1 + before.count(b"\n"))
+            self.assertIs(items[fault.item - 1], fault)
+
+    def test_messages_are_those_of_rebuild(self):
+        text = "\n".join([
+            ",a=b f=1i", "m", "m f", "m,t= f=1i", "m f=99999999999999999999i", "m f=99999999999999999999u", "m f=1i 99999999999999999999",
+            "m\\ f=1i", "m f=1i {x}", "m,a f=1i", "m f=1i,,", "m\\"])
+        told = rebuild(text)
+        faults = list(parse(text))
+        self.assertEqual(told.refused, len(faults))
+        self.assertEqual("".join(f"item {fault.item}: {fault.message}\n" for fault in faults), told.faults)
+        self.assertEqual({fault.kind for fault in faults}, {kind for kind in FaultKind if 1 < kind < 100})
+
+    def test_faults_compare_by_what_is_wrong(self):
+        [first, second] = parse("m f\nm f")
+        self.assertEqual((first, first), (second, Fault(FaultKind.FIELD_SET_MISSING)))
+        self.assertNotEqual((first.item, first.line, first.offset), (second.item, second.line, second.offset))
+
+    def test_many_faults_over_many_blocks(self):
+        text = "".join("m f\n" if i % 3 else "# c\n\nm f=1i\n" for i in range(20_000))
+        for fault in parse(text):
+            if isinstance(fault, Fault):
+                self.assertEqual(text[fault.offset : fault.offset + 4], "m f\n")
+        self.assertEqual(located(parse(text)), wanted_of(text.encode(), False, None))
+
+
+class Bytes(unittest.TestCase):
+    """Lines that are no UTF-8, or too long."""
+
+    def test_a_line_that_is_no_utf8(self):
+        data = b"m f=1i\nm,t=\xff f=2i\n# \xfe\nm s=\"\xc3\n\"\nm f=3i\n\xe2\x82"
+        items = list(parse(io.BytesIO(data)))
+        self.assertEqual(located(items), wanted_of(data, False, None))
+        self.assertEqual([type(item) for item in items], [Line, Fault, Fault, Fault, Line, Fault])
+        self.assertEqual((items[1].kind, items[1].message), (FaultKind.NOT_UTF8, "the line is not UTF-8"))
+        self.assertEqual((items[1].item, items[1].line, items[1].offset, items[1].refused), (2, 2, 7, b"m,t=\xff f=2i"))
+        self.assertEqual((items[5].item, items[5].line, items[5].refused), (6, 7, b"\xe2\x82"))
+
+    def test_a_character_over_two_parts(self):
+        for at in range(10):
+            data = "mé f=1i\nn€ f=2i".encode()
+            self.assertEqual([item.measurement for item in parse(iter([data[:at], data[at:]]))], ["mé", "n€"])
+
+    def test_a_line_that_is_too_long(self):
+        data = b'm f=1i\nlong s="a\nb"\nm f=2i\nlonger f=1i'
+        for source in (data, data.decode(), io.BytesIO(data), in_parts(data, 1), in_parts(data, 5)):
+            items = list(parse(source, max_line=6))
+            self.assertEqual([type(item) for item in items], [Line, Fault, Line, Fault])
+            self.assertEqual((items[1].kind, items[1].message, items[1].refused), (FaultKind.TOO_LONG, "the line is too long", b"long s"))
+            self.assertEqual([(fault.item, fault.line, fault.offset) for fault in items[1::2]], [(2, 2, 7), (4, 5, 27)])
+            self.assertEqual(items[2], Line("m", [], [("f", 2)]))
+        self.assertEqual(len(list(parse(data, max_line=13))), 4)
+        self.assertEqual(len([item for item in parse(data, max_line=13) if isinstance(item, Line)]), 4)
+
+    def test_what_is_no_limit(self):
+        for limit in (-1, -(10**30)):
+            with self.assertRaisesRegex(ValueError, f"max_line is {limit}"):
+                parse("m f=1i", max_line=limit)
+        for limit in ("5", 5.0, True, b"5", [5]):
+            with self.assertRaisesRegex(TypeError, f"max_line is an int or None, not {type(limit).__name__}: "):
+                parse("m f=1i", max_line=limit)
+        self.assertEqual(len(list(parse("m f=1i", max_line=10**30))), 1)
+        self.assertEqual([item.kind for item in parse("m f=1i\n\n", max_line=0)], [FaultKind.TOO_LONG])
+
+    def test_a_text_in_memory_is_utf8_or_refused(self):
+        for limit in (None, 3, 100):
+            with self.subTest(limit=limit), self.assertRaises(UnicodeDecodeError):
+                parse(b"m f=1i\n\xff", max_line=limit)
+
+    def test_each_text_cut_anywhere(self):
+        """Texts over bytes that mean something, in parts of any sizes, with each limit."""
+        chosen = random.Random(7)
+        alphabet = [b"\n", b"\n", b" ", b" ", b"\\", b'"', b"=", b"=", b",", b"#", b"m", b"1i", b"f=1i", b"\xff", b"\xc3"]
+        alphabet += [b"\t", "é".encode()]
+        for _ in range(20_000):
+            data = b"".join(chosen.choice(alphabet) for _ in range(chosen.randrange(24)))
+            strict, limit = chosen.random() < 0.5, chosen.choice([None, None, 0, 1, 2, 3, 5, 8])
+            cuts = sorted(chosen.randrange(len(data) + 1) for _ in range(chosen.randrange(6)))
+            parts = [data[start:end] for start, end in zip([0, *cuts], [*cuts, len(data)])]
+            with self.subTest(parts=parts, strict=strict, limit=limit):
+                self.assertEqual(located(parse(iter(parts), strict=strict, max_line=limit)), wanted_of(data, strict, limit))
+            if is_utf8(data):
+                with self.subTest(data=data, strict=strict, limit=limit):
+                    self.assertEqual(located(parse(data, strict=strict, max_line=limit)), wanted_of(data, strict, limit))
+
+
+class Memory(Folder):
+    @unittest.skipUnless(os.path.exists("/proc/self/statm"), "the system does not say how much memory is taken")
+    def test_a_million_items_take_no_more_memory_than_a_few(self):
+        block = b"".join(b"m,t=a%d f=1i,g=0.10 %d\nm f\n%s" % (i % 7, i, b"" if i % 50 else b"x \xff\n") for i in range(5_000))
+        count = 0
+        for count, _ in enumerate(parse(itertools.repeat(block, 100)), 1):
+            if count == 250_000:
+                before = self.resident()
+        self.assertEqual(count, 1_010_000)
+        self.assertLess(self.resident(), before + (4 << 20))
+
+    def resident(self):
+        """How many bytes of memory the process takes."""
+        gc.collect()
+        return int(pathlib.Path("/proc/self/statm").read_text(encoding="ascii").split()[1]) * mmap.PAGESIZE
+
+    def test_a_long_line_that_is_refused_is_not_kept(self):
+        tracemalloc.start()
+        self.addCleanup(tracemalloc.stop)
+        parts = itertools.chain([b'm s="'], itertools.repeat(b"a\n" * 50_000, 300), [b'"\nm f=1i'])
+        items = list(parse(parts, max_line=1000))
+        self.assertEqual([(item.kind, item.line) for item in items[:1]], [(FaultKind.TOO_LONG, 1)])
+        self.assertEqual(items[1].measurement, "m")
+        self.assertLess(tracemalloc.get_traced_memory()[1], 1 << 20)
+
+    def test_a_line_does_not_keep_its_block(self):
+        block = b"m,t=a f=0.10 5\n" * 6_000
+        tracemalloc.start()
+        self.addCleanup(tracemalloc.stop)
+        kept = [item for number, item in enumerate(parse(itertools.repeat(block, 50))) if number % 6_000 == 0]
+        self.assertEqual(len(kept), 50)
+        self.assertLess(tracemalloc.get_traced_memory()[0], 1 << 20)
+
+
+class Collection(unittest.TestCase):
+    def test_collection_while_items_are_read(self):
+        threshold = gc.get_threshold()
+        self.addCleanup(gc.set_threshold, *threshold)
+        gc.set_threshold(1, 1, 1)
+        text = 'm,t=a\\ b f=0.10,s="x",u=1u 5\nwrong\nm f=1e400\n' * 30
+        self.assertEqual(len(list(parse(iter([text])))), 90)
+
+    def test_cycles_are_collected(self):
+        [line, fault] = parse("m,t=a f=1i\nm f")
+        line.fields.append(("self", line))
+        fault.text = fault
+        items = None
+
+        def parts():
+            yield b"m f=1i\n"
+            yield items
+
+        items = parse(parts())
+        next(items)
+        references = [weakref.ref(one) for one in (line, fault)]
+        del line, fault, items
+        gc.collect()
+        self.assertEqual([reference() for reference in references], [None, None])
+
+    def test_objects_count_their_references(self):
+        """Reads and writes much, and counts the references of what is shared, and the objects."""
+        text = 'm,t=a\\ b,k=v f=0.10,s="x",u=1u,b=t,i=5i 5\nwrong\nm f=1e400\nm f=1i\n'
+
+        def once():
+            items = list(parse(iter([text])))
+            lines = [item for item in items if isinstance(item, Line)]
+            line_protocol.write_many(lines)
+            for line in lines:
+                line_protocol.show(line), line_protocol.base(line), line_protocol.is_admitted(line), line_protocol.is_base_safe(line)
+            for wrong in (None, Line("m"), Line("m", 5), Line("m", [], [("f", None)]), Line(5), Line("m", [(1, 2)])):
+                with contextlib.suppress(ValueError, TypeError):
+                    line_protocol.write(wrong)
+
+        once()
+        shared = [None, True, FaultKind.GENERIC_PARSING_ERROR, line_protocol.Side.NEITHER, Line, Fault, line_protocol.Unsigned]
+        gc.collect()
+        before = [*map(sys.getrefcount, shared), len(gc.get_objects())]
+        for _ in range(5000):
+            once()
+        gc.collect()
+        after = [*map(sys.getrefcount, shared), len(gc.get_objects())]
+        for one, two in zip(before, after):
+            self.assertLess(abs(one - two), 3000)
+
+
+class Threads(unittest.TestCase):
+    def test_threads_read_side_by_side(self):
+        texts = [f"m,t=a{number} f={number}i\nm {number}\n" * 5000 for number in range(4)]
+        wanted, found = [list(parse(text)) for text in texts], [None] * 4
+
+        def read(number):
+            found[number] = list(parse(texts[number]))
+
+        threads = [threading.Thread(target=read, args=(number,)) for number in range(4)]
+        for thread in threads:
+            thread.start()
+        for thread in threads:
+            thread.join()
+        self.assertEqual(found, wanted)
+
+    def test_the_lock_is_let_go_while_a_block_is_read(self):
+        """Another thread counts while a call is in the library, which gives it no other chance to run."""
+        count, is_over = [0], threading.Event()
+
+        def go_on():
+            while not is_over.wait(0.0001):
+                count[0] += 1
+
+        long = 'm s="' + "x" * 16_000_000 + '"'
+        calls = [
+            (lambda: None, lambda _: parse(long)), (lambda: parse(long), next), (lambda: None, lambda _: line_protocol.rebuild(long)),
+            (lambda: long.encode(), lambda data: line_protocol._fast.whole(data, False))]
+        interval = sys.getswitchinterval()
+        self.addCleanup(sys.setswitchinterval, interval)
+        sys.setswitchinterval(100)
+        thread = threading.Thread(target=go_on)
+        thread.start()
+        told = []
+        for prepare, call in calls:
+            for _ in range(30):  # on a busy machine the other thread may not be awake in time
+                given = prepare()
+                before = count[0]
+                call(given)
+                if count[0] > before:
+                    told.append(call)
+                    break
+        is_over.set()
+        thread.join()
+        self.assertEqual(len(told), len(calls))
+
+    def test_one_source_in_many_threads(self):
+        """Each item goes to one thread, or a call is refused."""
+        items, taken, refused = parse("m f=1i\n" * 200_000), [], []
+
+        def read():
+            count = 0
+            while True:
+                try:
+                    next(items)
+                    count += 1
+                except StopIteration:
+                    break
+                except ValueError as raised:
+                    refused.append(raised)
+            taken.append(count)
+
+        interval = sys.getswitchinterval()
+        self.addCleanup(sys.setswitchinterval, interval)
+        sys.setswitchinterval(1e-6)
+        threads = [threading.Thread(target=read) for _ in range(4)]
+        for thread in threads:
+            thread.start()
+        for thread in threads:
+            thread.join()
+        self.assertEqual(sum(taken), 200_000)
+        self.assertTrue(all("another call" in str(one) for one in refused))
+
+    def test_a_source_that_reads_itself(self):
+        items = None
+
+        def parts():
+            yield b"m f=1i\n"
+            next(items)
+
+        items = parse(parts())
+        next(items)
+        with self.assertRaisesRegex(ValueError, "another call"):
+            next(items)
