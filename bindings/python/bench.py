@@ -33,6 +33,7 @@ def calls():
         yield "parse a path", lambda path: path, lambda path: count(package.parse(path))
         yield "write_many", lines_of, package.write_many
     if hasattr(package, "columns"):
+        package.columns("")  # imports NumPy
         yield "columns", Path.read_bytes, package.columns
     if hasattr(package, "write_columns"):
         yield "write_columns", lambda path: package.columns(path.read_bytes()), package.write_columns

@@ -117,11 +117,16 @@ static size_t spell_any(double value, char *out) {
 }
 
 size_t spell(double value, char *out) {
-    const double size = value < 0 ? -value : value;
-    if (!(size >= 1e-4 && size < 1e15)) return spell_any(value, out);
-    const Parts parts = parts_of(size);
-    Decimal decimal;
-    if (!short_decimal(&parts, &decimal) && !long_decimal(&parts, &decimal)) return spell_any(value, out);
+    uint64_t bits;
+    memcpy(&bits, &value, sizeof value);
+    const bool is_minus = bits >> 63;
+    const double size = is_minus ? -value : value;
+    Decimal decimal = { 0, 1 };
+    if (size != 0) {
+        if (!(size >= 1e-4 && size < 1e15)) return spell_any(value, out);
+        const Parts parts = parts_of(size);
+        if (!short_decimal(&parts, &decimal) && !long_decimal(&parts, &decimal)) return spell_any(value, out);
+    }
     while (decimal.after > 1 && decimal.digits % 10 == 0) {
         decimal.digits /= 10;
         decimal.after--;
@@ -131,5 +136,5 @@ size_t spell(double value, char *out) {
         decimal.after = 1;
     }
     *out = '-';
-    return (value < 0) + put_decimal(decimal, out + (value < 0));
+    return is_minus + put_decimal(decimal, out + is_minus);
 }

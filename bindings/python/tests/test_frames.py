@@ -68,8 +68,13 @@ class ToFrame(unittest.TestCase):
         self.assertEqual([fault.line for fault in frames.faults], [2, 3])
         self.assertEqual((list(frames), frames["m"]["f"].tolist()), (["m"], [1, 3]))
         self.assertEqual((to_frame(""), to_frame("").faults), ({}, []))
-        with self.assertRaises(UnicodeDecodeError):
-            to_frame(b"\xff")
+        for wrong, named, raised, why in [
+                (b"\xff", {}, UnicodeDecodeError, "utf-8"), (5, {}, TypeError, "a source is a str"),
+                (["m f=1i"], {}, TypeError, "a source is"),
+                ("", {"max_line": "5"}, TypeError, "max_line is an int or None"), ("", {"max_line": -1}, ValueError, "max_line is -1"),
+                (iter([b"m f=1i\n", 5]), {}, TypeError, "a part of a source is")]:
+            with self.subTest(wrong=wrong), self.assertRaisesRegex(raised, why):
+                to_frame(wrong, **named)
 
     def test_a_tag_and_a_field_of_one_name(self):
         frame = to_frame("m,a=x,time=y a=1i,time=2i 5")["m"]
@@ -117,6 +122,8 @@ class FromFrame(unittest.TestCase):
         self.assertEqual(from_frame(frame, "m", tags=("host", "rack"), fields=["g"]), "m,host=a,rack=r g=0.5\n")
         self.assertEqual(from_frame(frame, "m", tags=[], fields=["f"], time="f"), "m f=1i 1\nm f=2i 2\n")
         self.assertEqual(from_frame(frame[:0], "m"), "")
+        numbers = pandas.DataFrame({"rack": pandas.array([5, None], "Int64"), "f": [1, 2]}).astype({"rack": "string"})
+        self.assertEqual(from_frame(numbers, "m", tags=["rack"]), "m,rack=5 f=1i\nm f=2i\n")
 
     def test_times(self):
         hours = ["2023-11-14 22:13:20", "NaT"]

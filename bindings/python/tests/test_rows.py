@@ -203,6 +203,27 @@ class WithNumpy(unittest.TestCase):
         self.assertEqual(written(numpy.arange(10)[::-3]), ["f=9i", "f=6i", "f=3i", "f=0i"])
         self.assertEqual(written(numpy.array([[1, 2], [3, 4]])[:, 1]), ["f=2i", "f=4i"])
 
+    def test_types_that_are_refused(self):
+        one = numpy.ones(1)
+        for values, raised, why in [
+            (one.astype("longdouble"), TypeError, "a value is .* not (longdouble|float128)"),
+            (one.astype("complex"), TypeError, "not complex128"), (numpy.array([5], "datetime64[ns]"), TypeError, "not datetime64"),
+            (numpy.array([5], "timedelta64[ns]"), TypeError, "not timedelta64"),
+            (numpy.array([b"x"]), TypeError, "not bytes_"), (numpy.ones((1, 1)), ValueError, "one dimension, not 2"),
+            (numpy.array(5), ValueError, "one dimension, not 0"), (numpy.array([math.nan]), ValueError, "nan has no literal"),
+            (numpy.array([math.inf], "float32"), ValueError, "inf has no literal"), (numpy.zeros(1, "i4,i4"), TypeError, "not void"),
+        ]:
+            with self.subTest(values=values), self.assertRaisesRegex(raised, why):
+                write_columns({"m": Table(Column([5]), {}, {"f": Column(values)})})
+        for mask in (one, numpy.array(False), numpy.zeros((1, 1), "bool")):
+            with self.subTest(mask=mask), self.assertRaisesRegex(TypeError, "a mask is"):
+                write_columns({"m": Table(Column([5]), {}, {"f": Column([1], mask)})})
+        for times in (one, numpy.array([True]), numpy.array(["5"]), numpy.array([5], "timedelta64[ns]")):
+            with self.subTest(times=times), self.assertRaisesRegex(TypeError, "a timestamp is an int, not"):
+                write_columns({"m": Table(Column(times), {}, {"f": Column([1])})})
+        with self.assertRaisesRegex(TypeError, "the value of the tag 't' is a str, not float64: 1.0"):
+            write_columns({"m": Table(Column([5]), {"t": Column(one)}, {"f": Column([1])})})
+
     def test_scalars_in_lists(self):
         values = [numpy.int8(-5), numpy.uint64(2**64 - 1), numpy.float32(0.5), numpy.bool_(True), numpy.str_("x"), numpy.float64(0.1)]
         self.assertEqual(written(values), ["f=-5i", f"f={2**64 - 1}u", "f=0.5", "f=true", 'f="x"', "f=0.1"])

@@ -103,7 +103,7 @@ def from_frame(
     without a zone are UTC, and integers are nanoseconds.
 
     What is missing (None, NaN, NA, NaT) is left out, and so is a row without a field. Nothing becomes text: the value of a tag is a
-    `str`, as `frame.astype({"rack": str})` makes it. ImportError if pandas is not there; KeyError if the frame has no such column.
+    `str`, as `frame.astype({"rack": "string"})` makes it. ImportError if pandas is not there; KeyError if the frame has no such column.
 
     >>> frames = to_frame("cpu,host=a usage=64i 5\\ncpu,host=b load=0.5 6\\n")
     >>> from_frame(frames["cpu"], "cpu")
