@@ -9,12 +9,21 @@
 # reach.
 set -eu
 PATH=$PATH:/usr/sbin
-packages=(gcc g++ git valgrind bsdutils python3 python3-dev python3-venv mypy cargo librust-bytes-dev librust-nom-dev
-    librust-smallvec-dev)
+packages=(gcc g++ git valgrind bsdutils python3 python3-dev python3-venv python3-numpy python3-pandas mypy cargo librust-bytes-dev
+    librust-nom-dev librust-smallvec-dev)
 if [ "${1-}" = --engines ]; then
     packages+=(slurm-wlm munge parallel openssh-client openssh-server)
     shift
 fi
+
+# Tells whether a Python that bindings/python/test.sh runs can import a module.
+can_import() {
+    local python
+    for python in "${PYTHON:-python3}" /usr/bin/python3; do
+        ! "$python" -c "import $1" || return 0
+    done
+    return 1
+}
 
 # Tells whether what the checks use of a package is here, of the package or of anything else.
 is_here() {
@@ -30,6 +39,7 @@ is_here() {
     python3) python3 -c 'import sys; sys.exit(sys.version_info < (3, 10))' ;;
     python3-dev) python3 -c 'import os, sysconfig; os.stat(sysconfig.get_path("include") + "/Python.h")' ;;
     python3-venv) python3 -c 'import ensurepip, venv' ;;
+    python3-numpy | python3-pandas) can_import "${1#python3-}" ;;
     librust-*) compgen -G "/usr/share/cargo/registry/${crate%-dev}-[0-9]*" ;;
     *) command -v "$1" ;;
     esac >/dev/null 2>&1

@@ -12,6 +12,7 @@ import os
 import subprocess
 import sys
 import time
+from importlib.util import find_spec
 from pathlib import Path
 
 
@@ -32,7 +33,15 @@ def calls():
         yield "parse a path", lambda path: path, lambda path: count(package.parse(path))
         yield "write_many", lines_of, package.write_many
     if hasattr(package, "columns"):
+        package.columns("")  # imports NumPy
         yield "columns", Path.read_bytes, package.columns
+    if hasattr(package, "write_columns"):
+        yield "write_columns", lambda path: package.columns(path.read_bytes()), package.write_columns
+    if hasattr(package, "to_frame") and find_spec("pandas"):
+        package.to_frame("")  # imports pandas
+        yield "to_frame", Path.read_bytes, package.to_frame
+        yield "from_frame", lambda path: package.to_frame(path.read_bytes()), lambda frames: [
+            package.from_frame(frame, measurement) for measurement, frame in frames.items()]
 
 
 def one_round(files):

@@ -1,14 +1,15 @@
 #!/usr/bin/env bash
 # Builds the Python package, whose extension must compile without a warning, and runs its tests; two of them refuse each request for
 # memory in turn, of the library and of Python. Then mypy looks at its types, where it is there, and pip installs the package into a
-# new environment, without a network, and the example is run there. All else needs Python and its standard library alone. Where
-# something cannot be run, a line that begins with `left out: ` says why, on standard output and in the file that LEFT_OUT names, if
-# it is set.
+# new environment, without a network, and the example is run there. All else needs Python and its standard library alone; NumPy and
+# pandas are used where they are there. Where something cannot be run, a line that begins with `left out: ` says why, on standard output
+# and in the file that LEFT_OUT names, if it is set.
 #
 #     bindings/python/test.sh             makes the archive first
 #     bindings/python/test.sh ARCHIVE     takes one that was made before
 #
-# PYTHON is the Python that runs them: python3 by default.
+# PYTHON is the Python that runs them: python3 by default. If it lacks NumPy or pandas, and Debian's own Python has it, that runs the
+# same tests over the same package.
 set -eu
 here=$(cd "$(dirname "$0")" && pwd)
 bindings=$(dirname "$here")
@@ -37,13 +38,37 @@ trap 'rm -rf "$built"' EXIT
 cd "$built"
 CFLAGS="${CFLAGS:-} -Werror" "$python" "$here/build_backend.py" "$built/package"
 "$python" "$here/build_backend.py" "$built/refusing" --refuse
-if ! LP_REFUSED_LIBRARY=$built/refusing PYTHONPATH=$built/package "$python" -m unittest discover -s "$here/tests" \
-    >"$built/answers" 2>"$built/said" || ! grep -q '^Ran [1-9]' "$built/said" || ! grep -q '^answers.tsv: ' "$built/answers"; then
-    cat "$built/said" >&2
-    exit 1
+# Prints which of NumPy and pandas a Python has.
+extras_of() {
+    local extra
+    for extra in numpy pandas; do
+        ! "$1" -c "import $extra" 2>/dev/null || echo "$extra"
+    done
+}
+
+# Runs the tests by a Python that has these of NumPy and pandas.
+run_tests() {
+    local python=$1 extras=$2
+    if ! LP_REFUSED_LIBRARY=$built/refusing PYTHONPATH=$built/package "$python" -m unittest discover -s "$here/tests" \
+        >"$built/answers" 2>"$built/said" || ! grep -q '^Ran [1-9]' "$built/said" || ! grep -q '^answers.tsv: ' "$built/answers"; then
+        cat "$built/said" >&2
+        exit 1
+    fi
+    echo "python: $("$python" --version), ${extras:-no numpy, no pandas}: $(grep '^Ran ' "$built/said"): $(tail -n 1 "$built/said")"
+    echo "python: $(grep '^answers.tsv: ' "$built/answers")"
+}
+own=$(extras_of "$python" | xargs)
+run_tests "$python" "$own"
+debian=$(extras_of /usr/bin/python3 | xargs)
+if [ "${#debian}" -gt "${#own}" ] && /usr/bin/python3 -c 'import sys; sys.exit(sys.version_info < (3, 10))'; then
+    run_tests /usr/bin/python3 "$debian"
+    own=$debian
 fi
-echo "python: $(grep '^Ran ' "$built/said"): $(tail -n 1 "$built/said")"
-echo "python: $(grep '^answers.tsv: ' "$built/answers")"
+for extra in numpy pandas; do
+    if [[ " $own " != *" $extra "* ]]; then
+        echo "left out: bindings/python with $extra: neither $python nor /usr/bin/python3 has it" | tee -a "${LEFT_OUT:-/dev/null}"
+    fi
+done
 
 if command -v mypy >/dev/null; then
     if ! (cd "$here/src" && mypy --strict --cache-dir "$built/mypy" -p line_protocol >"$built/said" 2>&1); then

@@ -1,8 +1,6 @@
 /* Lines become columns: for each measurement its times, its tags and its fields. */
 #include "fast.h"
 
-enum { MIXED = 100 }; /* The kind of a column whose fields are of several kinds. */
-
 /* A column: numbers, or objects in a list. A cell is missing where its line has no such part. */
 typedef struct {
     PyObject *key;     /* a str; NULL for the times */
@@ -45,8 +43,6 @@ static bool grow(void *elements, size_t *room, size_t len, size_t size) {
     *room = wanted;
     return true;
 }
-
-static bool is_number(uint32_t kind) { return kind == LP_INTEGER || kind == LP_UNSIGNED || kind == LP_FLOAT || kind == LP_BOOLEAN; }
 
 /* The number of an object in a dict, or -1, also after an error. */
 static Py_ssize_t number_in(PyObject *places, PyObject *key) {
@@ -252,14 +248,18 @@ static bool read_all(Reader *reader, Tables *tables) {
     }
 }
 
-/* A column as a tuple: its key, its kind, its numbers or its objects, and where it has missing cells, or None. */
+/* A column as a tuple: its key, its kind, its numbers or its objects, and where it has missing cells, or None. The column keeps no cells. */
 static PyObject *told_column(Column *column, size_t rows) {
     if (!fill_up(column, rows)) return NULL;
     PyObject *cells = column->objects, *missing = Py_None;
-    if (cells) Py_INCREF(cells);
-    else cells = PyByteArray_FromStringAndSize((const char *)column->numbers, (Py_ssize_t)(8 * rows));
+    if (!cells) cells = PyByteArray_FromStringAndSize((const char *)column->numbers, (Py_ssize_t)(8 * rows));
+    column->objects = NULL;
+    PyMem_Free(column->numbers);
+    column->numbers = NULL;
     if (column->missing_count > 0) missing = PyByteArray_FromStringAndSize((const char *)column->missing, (Py_ssize_t)rows);
     else Py_INCREF(missing);
+    PyMem_Free(column->missing);
+    column->missing = NULL;
     return Py_BuildValue("OINN", column->key ? column->key : Py_None, (unsigned)column->kind, cells, missing);
 }
 

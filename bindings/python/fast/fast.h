@@ -27,6 +27,12 @@ typedef struct { PyObject_HEAD PyObject *kind, *text, *side, *item, *line, *offs
 extern PyTypeObject *line_base, *reader_type;
 extern PyObject *no_bytes; /* b"" */
 
+enum { MIXED = 100 }; /* The kind of a column whose fields are of several kinds. */
+
+/* Whether a column of this kind has numbers, and no objects. */
+static inline bool is_number(uint32_t kind) {
+    return kind == LP_INTEGER || kind == LP_UNSIGNED || kind == LP_FLOAT || kind == LP_BOOLEAN;
+}
 enum { NAMES = 1024, NAME = 46 }; /* So many names are kept, each of at most so many bytes. */
 
 /* A name that was read, or a pair `key=value`, of which the value begins at `split`: its bytes, and the object made of them. */
@@ -50,6 +56,12 @@ typedef struct {
     uint32_t answer;
     bool strict, by_pieces, is_busy;
 } Reader;
+
+/* Memory of so many elements of this size, which is all 0: PyMem_Calloc, which the headers of Python 3.8 do not show. */
+static inline void *zeroed(size_t count, size_t size) {
+    void *memory = count > PY_SSIZE_T_MAX / size ? NULL : PyMem_Malloc(count * size);
+    return memory ? memset(memory, 0, count * size) : NULL;
+}
 
 /* Lets Python's lock go while a text of so many bytes is read, if it is long enough that this pays, and takes it again. */
 static inline PyThreadState *let_go(size_t len) { return len < 1 << 14 ? NULL : PyEval_SaveThread(); }
@@ -80,6 +92,11 @@ void set_decode_error(lp_text text);
  * Python error where it fails. */
 double double_of(lp_text literal, bool *is_plain);
 
+/* Spells a finite float as `float.__repr__` does, in at most SPELLED bytes, and gives how many these are. 0 and a Python error where it
+ * fails. */
+enum { SPELLED = 32 };
+size_t spell(double value, char *out);
+
 /* reading.c */
 
 /* The object for a name that was read: that which was made of the same bytes, if it is kept. */
@@ -98,6 +115,46 @@ PyObject *fault_of(Reader *reader);
 bool begin_call(Reader *reader);
 void end_call(Reader *reader);
 
+/* writing.c */
+
+/* A line that is handed in: its parts, and the bytes objects that hold its texts. */
+typedef struct {
+    lp_line line;
+    lp_part *parts;
+    PyObject **texts;
+    size_t parts_len, parts_room, texts_len, texts_room;
+    lp_text spelled; /* what is left of the literals that were read */
+} Handed;
+
+/* Lets its texts go, for a line that comes after it; and all of it. */
+void clear_handed(Handed *handed);
+void free_handed(Handed *handed);
+
+/* Keeps a bytes object, which it takes, also where it fails, and gives its text. */
+bool hold(Handed *handed, PyObject *bytes, lp_view *view);
+
+/* Lets `refuse` of checking.py raise. */
+bool refuse(const char *what, PyObject *key, PyObject *value);
+
+/* A text, which must be a str; the value of a field, and a timestamp. What is none of the types that are read, a function of checking.py
+ * makes one of, or raises. */
+bool put_text(Handed *handed, const char *what, PyObject *key, PyObject *text, lp_view *view);
+bool put_value(Handed *handed, PyObject *key, PyObject *value, lp_part *part);
+bool put_timestamp(Handed *handed, PyObject *timestamp);
+
+/* What calls put out: one text after another. */
+typedef struct { uint8_t *at; size_t len, room; } Out;
+typedef uint32_t PutsOut(const lp_line *, const lp_part *, size_t, uint8_t *, size_t, size_t *);
+
+/* Appends what a call puts out for the line that was handed in, and gives its answer; 0 after an error. */
+uint32_t put_out(PutsOut *call, const Handed *handed, Out *out);
+
+/* Makes a str of all that was put out, where there was no error, and frees it. */
+PyObject *str_of_out(Out *out, bool is_written);
+
+/* An element of a list or a tuple, as a new reference. NULL without an error: there is none. */
+PyObject *element_of(PyObject *elements, Py_ssize_t at);
+
 /* The functions and the slots of the type that Python calls. */
 extern PyType_Spec reader_spec;
 PyObject *fast_read(PyObject *module, PyObject *args);
@@ -105,6 +162,7 @@ PyObject *fast_whole(PyObject *module, PyObject *args);
 PyObject *fast_outliers(PyObject *module, PyObject *args);
 PyObject *fast_skip(PyObject *module, PyObject *args);
 PyObject *fast_columns(PyObject *module, PyObject *args);
+PyObject *fast_write_columns(PyObject *module, PyObject *args);
 PyObject *fast_write(PyObject *module, PyObject *line);
 PyObject *fast_write_many(PyObject *module, PyObject *lines);
 PyObject *fast_show(PyObject *module, PyObject *line);

@@ -248,7 +248,7 @@ static bool lend_for(Reader *reader, size_t len) {
         reader->rows_len = rows;
         empty_rows(reader);
     }
-    if (len > 4096 && !reader->names && !(reader->names = PyMem_Calloc(NAMES, sizeof *reader->names))) return false;
+    if (len > 4096 && !reader->names && !(reader->names = zeroed(NAMES, sizeof *reader->names))) return false;
     return lend(reader, 2 * len / 8 + 2 < PARTS ? 2 * len / 8 + 2 : PARTS, len < ROOM ? len + 1 : ROOM);
 }
 

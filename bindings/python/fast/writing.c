@@ -1,20 +1,11 @@
 /* Lines are written, shown and tested; texts are rebuilt. */
 #include "fast.h"
 
-/* A line that is handed in: its parts, and the bytes objects that hold its texts. */
-typedef struct {
-    lp_line line;
-    lp_part *parts;
-    PyObject **texts;
-    size_t parts_len, parts_room, texts_len, texts_room;
-    lp_text spelled; /* what is left of the literals that were read */
-} Handed;
-
-static void clear_handed(Handed *handed) {
+void clear_handed(Handed *handed) {
     while (handed->texts_len > 0) Py_DECREF(handed->texts[--handed->texts_len]);
     handed->parts_len = 0;
 }
-static void free_handed(Handed *handed) {
+void free_handed(Handed *handed) {
     clear_handed(handed);
     PyMem_Free(handed->parts);
     PyMem_Free(handed->texts);
@@ -34,8 +25,7 @@ static bool grow(void *elements, size_t *room, size_t len, size_t size) {
     return true;
 }
 
-/* Keeps a bytes object, which it takes, also where it fails, and gives its text. */
-static bool hold(Handed *handed, PyObject *bytes, lp_view *view) {
+bool hold(Handed *handed, PyObject *bytes, lp_view *view) {
     if (!bytes || !grow(&handed->texts, &handed->texts_room, handed->texts_len, sizeof *handed->texts)) {
         Py_XDECREF(bytes);
         return false;
@@ -46,26 +36,23 @@ static bool hold(Handed *handed, PyObject *bytes, lp_view *view) {
     return true;
 }
 
-/* Lets `refuse` of checking.py raise. */
-static bool refuse(const char *what, PyObject *key, PyObject *value) {
+bool refuse(const char *what, PyObject *key, PyObject *value) {
     PyObject *nothing = PyObject_CallFunction(given.refuse, "sOO", what, key ? key : Py_None, value ? value : Py_None);
     if (nothing) PyErr_SetString(PyExc_TypeError, what);
     Py_XDECREF(nothing);
     return false;
 }
 
-/* A text, which must be a str. */
-static bool put_text(Handed *handed, const char *what, PyObject *key, PyObject *text, lp_view *view) {
+bool put_text(Handed *handed, const char *what, PyObject *key, PyObject *text, lp_view *view) {
     if (!PyUnicode_Check(text)) return refuse(what, key, text);
     return hold(handed, PyUnicode_AsUTF8String(text), view);
 }
 
 /* The literal of a finite float as Python spells it. */
 static PyObject *spelling_of(double value) {
-    char *text = PyOS_double_to_string(value, 'r', 0, Py_DTSF_ADD_DOT_0, NULL);
-    PyObject *bytes = text ? PyBytes_FromString(text) : NULL;
-    PyMem_Free(text);
-    return bytes;
+    char text[SPELLED];
+    const size_t len = spell(value, text);
+    return len > 0 ? PyBytes_FromStringAndSize(text, (Py_ssize_t)len) : NULL;
 }
 
 /* Takes the next literal of those that were read. It is empty where there is none. */
@@ -135,8 +122,7 @@ static bool put_plain_value(Handed *handed, PyObject *value, lp_part *part) {
     return false;
 }
 
-/* The value of a field. What is none of the types that are read, `plain_value` makes one of, or raises. */
-static bool put_value(Handed *handed, PyObject *key, PyObject *value, lp_part *part) {
+bool put_value(Handed *handed, PyObject *key, PyObject *value, lp_part *part) {
     if (put_plain_value(handed, value, part)) return true;
     if (PyErr_Occurred()) return false;
     PyObject *plain = PyObject_CallFunctionObjArgs(given.plain_value, key, value, NULL);
@@ -156,8 +142,7 @@ static bool put_pair(Handed *handed, bool is_tag, PyObject *key, PyObject *value
     return true;
 }
 
-/* An element of a list or a tuple, as a new reference. NULL without an error: there is none. */
-static PyObject *element_of(PyObject *elements, Py_ssize_t at) {
+PyObject *element_of(PyObject *elements, Py_ssize_t at) {
     PyObject *element = NULL;
     if (PyList_Check(elements)) element = at < PyList_Size(elements) ? PyList_GetItem(elements, at) : NULL;
     else if (PyTuple_Check(elements)) element = at < PyTuple_Size(elements) ? PyTuple_GetItem(elements, at) : NULL;
@@ -182,7 +167,7 @@ static bool put_pairs(Handed *handed, bool is_tag, PyObject *pairs) {
     return true;
 }
 
-static bool put_timestamp(Handed *handed, PyObject *timestamp) {
+bool put_timestamp(Handed *handed, PyObject *timestamp) {
     int overflow = 1;
     if (timestamp == Py_None) return true;
     handed->line.has_timestamp = true;
@@ -268,12 +253,7 @@ static bool set_answer_error(uint32_t answer) {
     return false;
 }
 
-/* What calls put out: one text after another. */
-typedef struct { uint8_t *at; size_t len, room; } Out;
-typedef uint32_t PutsOut(const lp_line *, const lp_part *, size_t, uint8_t *, size_t, size_t *);
-
-/* Appends what a call puts out for the line that was handed in, and gives its answer; 0 after an error. */
-static uint32_t put_out(PutsOut *call, const Handed *handed, Out *out) {
+uint32_t put_out(PutsOut *call, const Handed *handed, Out *out) {
     static const lp_part no_parts[1] = { { LP_NO_VIEW, LP_NO_VIEW, 0, 0, LP_TAG, false } };
     const lp_part *parts = handed->parts_len > 0 ? handed->parts : no_parts;
     for (size_t wanted = 256;;) {
@@ -295,8 +275,7 @@ static uint32_t put_out(PutsOut *call, const Handed *handed, Out *out) {
     }
 }
 
-/* Makes a str of all that was put out, where there was no error, and frees it. */
-static PyObject *str_of_out(Out *out, bool is_written) {
+PyObject *str_of_out(Out *out, bool is_written) {
     PyObject *text = is_written ? PyUnicode_FromStringAndSize((const char *)out->at, (Py_ssize_t)out->len) : NULL;
     PyMem_Free(out->at);
     return text;

@@ -2,21 +2,36 @@
 
 import doctest
 import inspect
+import re
 import unittest
 from pathlib import Path
 
 import line_protocol
-from line_protocol import checking, items, reading, rebuilding, sources, tables, writing
+from line_protocol import checking, frames, items, reading, rebuilding, rows, sources, tables, writing
+
+try:
+    import pandas
+except ImportError:
+    pandas = None
 
 PAGE = Path(__file__).parents[3] / "docs" / "python.md"
 NAMES = {name: getattr(line_protocol, name) for name in line_protocol.__all__}
+MODULES = [line_protocol, checking, items, reading, rebuilding, rows, sources, tables, writing]
+
+
+def examples_of(page):
+    """The examples of a page, without the section of frames if there is no pandas."""
+    text = page.read_text(encoding="utf-8")
+    if pandas is None:
+        text = re.sub("^## Frames$.*?^(?=## )", lambda section: "\n" * section[0].count("\n"), text, flags=re.M | re.S)
+    return doctest.DocTestCase(doctest.DocTestParser().get_doctest(text, {}, page.name, str(page), 0))
 
 
 def load_tests(_, tests, __):
     """The examples are tests."""
-    for module in (line_protocol, checking, items, reading, rebuilding, sources, tables, writing):
-        tests.addTests(doctest.DocTestSuite(module, extraglobs=NAMES))
-    tests.addTests(doctest.DocFileSuite(str(PAGE), module_relative=False))
+    for module in MODULES if pandas is None else [*MODULES, frames]:
+        tests.addTests(doctest.DocTestSuite(module, extraglobs={**NAMES}))
+    tests.addTest(examples_of(PAGE))
     return tests
 
 

@@ -11,8 +11,8 @@ from decimal import Decimal
 from fractions import Fraction
 
 from line_protocol import (
-    Builder, DuplicateTag, FloatText, Line, Unsigned, base, columns, is_admitted, is_base_safe, parse, rebuild, show, split, write,
-    write_many)
+    Builder, Column, DuplicateTag, FloatText, Line, Table, Unsigned, base, columns, is_admitted, is_base_safe, parse, rebuild, show, split,
+    write, write_columns, write_many)
 from line_protocol.items import short
 
 
@@ -86,7 +86,23 @@ def columns_within(limit):
     return columns("m f=1i", max_line=limit)
 
 
+ONE = Column([1])
+
+
+def table_of(time=ONE, tags=None, fields=None):
+    return {"m": Table(time, {} if tags is None else tags, {"f": ONE} if fields is None else fields)}
+
+
 BOTH = LINE_CALLS + SERIES_CALLS
+TABLES = [write_columns]
+NO_TABLES = [None, 5, True, 1.5, "m", b"m", [], ["m"], (("m", Table(ONE)),), {"m"}, Table(ONE), ONE, Strange(), Silent()]
+NO_TABLE = [None, 5, "m", [], {}, {"f": [1]}, (ONE, {}, {"f": ONE}), ONE, Strange(), Silent()]
+NO_COLUMNS = [5, True, "f", b"f", [], [("f", ONE)], ("f",), {"f"}, ONE, Table(ONE), Strange()]
+NO_COLUMN = [None, 5, "a", b"a", [1], (1,), array.array("q", [1]), {0: 1}, range(1), Table(ONE), Strange(), Silent()]
+NO_NAME = [None, 5, 1.5, b"m", ("m",), Strange()]
+NO_VALUES = [None, 5, True, 1.5, "a", b"a", bytearray(b"a"), memoryview(b"a"), {0: 1}, {1}, range(1), iter([1]), ONE, Strange(), Silent()]
+NO_MASK = [
+    5, True, "a", b"\0", bytearray(1), {False}, [1], [None], ["x"], (0,), iter([False]), range(1), array.array("b", [0]), ONE, Strange()]
 NO_LITERAL = ["", "x", "1.", ".5", "1e", "+1", "1_0", "inf", "nan", "0x1", " 1", "1\n"]
 
 # What is handed in, how, to which calls, what they raise, and what they say.
@@ -118,6 +134,34 @@ TABLE = [
     ([5, 1.5, Strange(), ["m"]], lambda value: iter([b"m f=1i\n", value]), [all_items, columns], TypeError,
      "a part of a source is a str or bytes, not {told}"),
     ([None], lambda value: iter([b"m f=1i\n", value]), [all_items, columns], BlockingIOError, "has no bytes yet"),
+    (NO_TABLES, itself, TABLES, TypeError, "tables are Columns, or a dict of Table, not {told}"),
+    (NO_TABLE, lambda value: {"m": value}, TABLES, TypeError, "the table 'm' is a Table, not {told}"),
+    (NO_NAME, lambda value: {value: table_of()["m"]}, TABLES, TypeError, "the measurement is a str, not {told}"),
+    (NO_COLUMNS, lambda value: table_of(tags=value), TABLES, TypeError, "the table 'm': the tags are a dict of Column, not {told}"),
+    (NO_COLUMNS, lambda value: table_of(fields=value), TABLES, TypeError, "the table 'm': the fields are a dict of Column, not {told}"),
+    (NO_COLUMN, table_of, TABLES, TypeError, "the table 'm', the times: a column is a Column, not {told}"),
+    (NO_COLUMN, lambda value: table_of(tags={"k": value}), TABLES, TypeError, "the tag 'k': a column is a Column, not {told}"),
+    (NO_COLUMN, lambda value: table_of(fields={"f": value}), TABLES, TypeError, "the field 'f': a column is a Column, not {told}"),
+    (NO_NAME, lambda value: table_of(tags={value: Column(["v"])}), TABLES, TypeError, "the key of a tag is a str, not {told}"),
+    (NO_NAME, lambda value: table_of(fields={value: ONE}), TABLES, TypeError, "the key of a field is a str, not {told}"),
+    (NO_VALUES, lambda value: table_of(Column(value)), TABLES, TypeError, "the times: values are an array, a list or a tuple, not {told}"),
+    (NO_VALUES, lambda value: table_of(fields={"f": Column(value)}), TABLES, TypeError, "the field 'f': values are .* not {told}"),
+    (NO_MASK, lambda value: table_of(fields={"f": Column([1], value)}), TABLES, TypeError, "the field 'f': a mask is .* not {told}"),
+    ([[], [1, 2]], lambda value: table_of(fields={"f": Column(value)}), TABLES, ValueError, "the field 'f': there are . values, and the"),
+    ([[], [False] * 2], lambda value: table_of(Column([1], value)), TABLES, ValueError, "the times: there are 1 values, and the mask has"),
+    ([{}], lambda value: table_of(fields=value), TABLES, ValueError, "the table 'm' has no field"),
+    (NO_STR[1:], lambda value: table_of(tags={"k": Column([value])}), TABLES, TypeError,
+     "the table 'm', row 0: the value of the tag 'k' is a str, not {told}"),
+    (NO_VALUE[1:], lambda value: table_of(Column([1] * 2), fields={"f": Column([1, value])}), TABLES, TypeError,
+     "the table 'm', row 1: the field 'f': a value is .* not {told}"),
+    (TOO_LARGE, lambda value: table_of(fields={"f": Column([value])}), TABLES, OverflowError,
+     "the table 'm', row 0: the field 'f': .* is not at least"),
+    ([math.inf, -math.inf, math.nan], lambda value: table_of(fields={"f": Column([value])}), TABLES, ValueError,
+     "the table 'm', row 0: the field 'f': {value} has no literal"),
+    ([math.inf, -math.inf, math.nan], lambda value: table_of(fields={"f": Column(array.array("d", [value]))}), TABLES, ValueError,
+     "the table 'm', row 0: the field 'f': {value} has no literal"),
+    (NO_INT, lambda value: table_of(Column([value])), TABLES, TypeError, "the table 'm', row 0: a timestamp is an int, not {told}"),
+    (TOO_LARGE, lambda value: table_of(Column([value])), TABLES, OverflowError, "the table 'm', row 0: the timestamp: .* is not at least"),
 ]
 
 # For a builder: the call, what it is given before the value, and what it raises.
@@ -167,6 +211,7 @@ class Refused(unittest.TestCase):
             (parse, (), {}), (parse, ("m", True), {}), (parse, ("m",), {"loose": True}), (split, (), {}), (split, ("m", True), {}),
             (rebuild, (), {}), (rebuild, ("m", True), {}), (write, (), {}), (write, (Line("m"), 5), {}), (write_many, (), {}),
             (show, (), {}), (base, (), {}), (is_base_safe, (), {}), (is_admitted, (), {}), (columns, (), {}), (columns, ("m", True), {}),
+            (write_columns, (), {}), (write_columns, ({}, 5), {}), (Table, (), {}), (Column, (), {}),
             (Line, (), {}), (Line, ("m", [], [], None, 5), {}), (Unsigned, (1, 2), {}), (FloatText, (), {}),
         ]:
             with self.subTest(call=call, given=given, named=named), self.assertRaises(TypeError):
@@ -191,6 +236,10 @@ class Refused(unittest.TestCase):
             for call in LINE_CALLS:
                 with self.subTest(line=line, call=call), self.assertRaises(UnicodeEncodeError):
                     call(line)
+        for tables in ({"\ud800": table_of()["m"]}, table_of(tags={"\ud800": Column(["v"])}), table_of(tags={"k": Column(["\ud800"])}),
+                       table_of(fields={"\ud800": ONE}), table_of(fields={"f": Column(["\ud800"])})):
+            with self.subTest(tables=tables), self.assertRaises(UnicodeEncodeError):
+                write_columns(tables)
 
     def test_buffers_of_any_kind(self):
         """What lends bytes is read as its bytes, whatever its elements and strides are."""

@@ -18,6 +18,7 @@ refused.value, requests.value = 0, 0
 assert len(list(line_protocol.parse('a\\ b,h\\ =x f=1i\nm f=99999999999999999999i\nlast f=1'))) == 3 and requests.value == 0
 for call in (
     lambda: line_protocol.write(line),
+    lambda: line_protocol.write_columns(line_protocol.columns("m,t=a f=1i\nm,t=b f=2i", use_numpy=False)),
     lambda: line_protocol.base(line),
     lambda: line_protocol.is_base_safe(line_protocol.Line("m", 9 * [("t", "a")])),
     lambda: line_protocol.rebuild('m f=1i\nm f'),

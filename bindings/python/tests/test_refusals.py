@@ -22,6 +22,7 @@ PARTS = [LONG[:100].encode(), LONG[100:]]
 BAD = [b"m f=1i\nm \xff\nmuch f=1i\n", b"m f=2i"]
 LINES = [item for item in parse(LONG) if isinstance(item, Line)]
 FIELDS = Line("m", [("t", "v")], [("f", 0.1), ("g", FloatText("1.50")), ("u", Unsigned(7)), ("s", "x"), ("b", True)], 5)
+TABLES = columns(LONG.replace("1e400", "1e4"), use_numpy=False)
 CALLS = {
     "parse": lambda: len(list(parse(LONG))),
     "parse parts": lambda: len(list(parse(iter(PARTS)))),
@@ -30,6 +31,7 @@ CALLS = {
     "split": lambda: len(list(split(TEXT))),
     "write": lambda: len(write(FIELDS)),
     "write_many": lambda: len(line_protocol._fast.write_many(LINES)),
+    "write_columns": lambda: len(write_columns(TABLES)),
     "show": lambda: len(show(FIELDS)),
     "base": lambda: len(base(FIELDS)),
     "is_admitted": lambda: is_admitted(FIELDS),
@@ -81,8 +83,8 @@ print("refused", refused)
 @unittest.skipIf(_testcapi is None or not hasattr(_testcapi, "set_nomemory"), "Python has no module that refuses memory")
 class Refusals(unittest.TestCase):
     def test_each_request_refused_in_turn(self):
-        calls = ["parse", "parse parts", "parse bad", "columns", "split", "write", "write_many", "show", "base", "is_admitted", "rebuild",
-                 "each item"]
+        calls = ["parse", "parse parts", "parse bad", "columns", "split", "write", "write_many", "write_columns", "show", "base",
+                 "is_admitted", "rebuild", "each item"]
         for name in calls:
             with self.subTest(call=name):
                 said = subprocess.run(

@@ -17,16 +17,18 @@ except ImportError as missing:
 from .checking import plain_timestamp as _plain_timestamp
 from .checking import plain_value as _plain_value
 from .checking import refuse as _refuse
+from .frames import Frames, from_frame, to_frame
 from .items import Fault, FaultKind, FloatText, Line, Side, Unsigned, Value
 from .reading import Source, parse, split
 from .rebuilding import Rebuilt, rebuild
+from .rows import write_columns
 from .tables import Column, Columns, Table, columns
 from .writing import Builder, DuplicateTag, base, is_admitted, is_base_safe, show, write, write_many
 
 __all__ = [
-    "Builder", "Column", "Columns", "DuplicateTag", "Fault", "FaultKind", "FloatText", "Line", "Rebuilt", "Side", "Source", "Table",
-    "Unsigned", "Value", "__version__", "base", "columns", "is_admitted", "is_base_safe", "parse", "rebuild", "show", "split", "write",
-    "write_many",
+    "Builder", "Column", "Columns", "DuplicateTag", "Fault", "FaultKind", "FloatText", "Frames", "Line", "Rebuilt", "Side", "Source",
+    "Table", "Unsigned", "Value", "__version__", "base", "columns", "from_frame", "is_admitted", "is_base_safe", "parse", "rebuild",
+    "show", "split", "to_frame", "write", "write_columns", "write_many",
 ]
 
 __version__ = "{}.{}.{}".format(_fast.version() // 10_000, _fast.version() // 100 % 100, _fast.version() % 100)

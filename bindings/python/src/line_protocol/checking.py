@@ -9,7 +9,7 @@ from typing import Any, NoReturn, Optional
 from .items import FloatText, Unsigned, Value, as_integer, short
 
 
-def _told(value: object) -> str:
+def told(value: object) -> str:
     """The type of a value, and what it is."""
     return f"{type(value).__name__}: {short(value)}"
 
@@ -27,7 +27,7 @@ def plain_timestamp(timestamp: Any) -> int:
     try:
         number = as_integer(timestamp)
     except TypeError:
-        raise TypeError(f"a timestamp is an int, not {_told(timestamp)}") from None
+        raise TypeError(f"a timestamp is an int, not {told(timestamp)}") from None
     return within(number, -(2**63), 2**63, "the timestamp")
 
 
@@ -65,7 +65,7 @@ def plain_value(key: str, value: Any) -> Value:
     if isinstance(value, str):
         return str.__str__(value)
     raise TypeError(
-        f"the field {short(key)}: a value is an int, an Unsigned, a float, a str or a bool, not {_told(value)}")
+        f"the field {short(key)}: a value is an int, an Unsigned, a float, a str or a bool, not {told(value)}")
 
 
 def refuse(what: str, key: Any, value: Any) -> NoReturn:
@@ -73,11 +73,11 @@ def refuse(what: str, key: Any, value: Any) -> NoReturn:
     if what == "no field":
         raise ValueError(f"the line of the measurement {short(value)} has no field")
     if what == "a line":
-        raise TypeError(f"a line is a Line, not {_told(value)}")
+        raise TypeError(f"a line is a Line, not {told(value)}")
     if what in ("tags", "fields"):
         raise TypeError(
-            f"each of the {what} is a pair, not {_told(value)}" if key else f"the {what} are a list of pairs, not {_told(value)}")
-    raise TypeError(f"{what if key is None else f'{what} {short(key)}'} is a str, not {_told(value)}")
+            f"each of the {what} is a pair, not {told(value)}" if key else f"the {what} are a list of pairs, not {told(value)}")
+    raise TypeError(f"{what if key is None else f'{what} {short(key)}'} is a str, not {told(value)}")
 
 
 def as_text(what: str, text: Any, key: Optional[str] = None) -> str:
@@ -95,7 +95,7 @@ def as_limit(max_line: Optional[int]) -> Optional[int]:
     try:
         number = as_integer(max_line)
     except TypeError:
-        raise TypeError(f"max_line is an int or None, not {_told(max_line)}") from None
+        raise TypeError(f"max_line is an int or None, not {told(max_line)}") from None
     if number < 0:
         raise ValueError(f"max_line is {number}, and must not be less than 0")
     return min(number, sys.maxsize)

@@ -4,6 +4,7 @@ from __future__ import annotations
 
 import re
 import reprlib
+import sys
 from dataclasses import dataclass, field
 from enum import IntEnum
 from operator import index
@@ -23,8 +24,8 @@ def short(value: object) -> str:
 
 
 def as_integer(number: int) -> int:
-    """A number that must be an integer, as an `int`. `bool` is none here, though Python counts it among its integers."""
-    if isinstance(number, bool):
+    """A number that must be an integer, as an `int`. `bool` is none here, though Python counts it among its integers, nor is NumPy's."""
+    if isinstance(number, (bool, getattr(sys.modules.get("numpy"), "bool_", bool))):
         raise TypeError("'bool' object cannot be interpreted as an integer")
     return index(number)
 

@@ -11,9 +11,9 @@ from . import _fast
 from .items import Fault
 from .reading import Source, reader_of
 
-_TAG = 0
-_BOOLEAN = 5
-_NUMBERS = {1: ("q", "int64"), 2: ("Q", "uint64"), 3: ("d", "float64"), _BOOLEAN: ("Q", "uint64")}
+TAG = 0
+BOOLEAN = 5
+_NUMBERS = {1: ("q", "int64"), 2: ("Q", "uint64"), 3: ("d", "float64"), BOOLEAN: ("Q", "uint64")}
 """For each kind of numbers, of enum lp_kind, its type for `array` and for NumPy."""
 
 
@@ -99,7 +99,7 @@ def _plain(kind: int, cells: Any, missing: Optional[bytearray]) -> Column:
         return Column(cells, mask)
     numbers: Any = array(_NUMBERS[kind][0])
     numbers.frombytes(cells)
-    return Column([one == 1 for one in numbers] if kind == _BOOLEAN else numbers, mask)
+    return Column([one == 1 for one in numbers] if kind == BOOLEAN else numbers, mask)
 
 
 def _of_numpy(numpy: Any, kind: int, cells: Any, missing: Optional[bytearray]) -> Column:
@@ -107,7 +107,7 @@ def _of_numpy(numpy: Any, kind: int, cells: Any, missing: Optional[bytearray]) -
     mask = None if missing is None else numpy.frombuffer(missing, dtype="bool")
     if kind in _NUMBERS:
         values = numpy.frombuffer(cells, dtype=_NUMBERS[kind][1])
-        return Column(values.astype("bool") if kind == _BOOLEAN else values, mask)
+        return Column(values.astype("bool") if kind == BOOLEAN else values, mask)
     values = numpy.empty(len(cells), dtype="object")
     values[:] = cells
     return Column(values, mask)
@@ -120,7 +120,7 @@ def _table(told: List[Tuple[Optional[str], int, Any, Optional[bytearray]]], nump
         for key, kind, cells, missing in told]
     table = Table(made[0][2])
     for key, kind, column in made[1:]:
-        (table.tags if kind == _TAG else table.fields)[key] = column
+        (table.tags if kind == TAG else table.fields)[key] = column
     return table
 
 
@@ -140,4 +140,9 @@ def columns(
     """
     numpy = _numpy_of(use_numpy)
     tables, faults = _fast.columns(reader_of(source, strict, max_line))
-    return Columns({measurement: _table(told, numpy) for measurement, _, told in tables}, faults)
+    tables.reverse()
+    made: Dict[str, Table] = {}
+    while tables:  # each is let go once its columns are made
+        measurement, _, told = tables.pop()
+        made[measurement] = _table(told, numpy)
+    return Columns(made, faults)
