@@ -104,6 +104,7 @@ PyObject *fast_read(PyObject *module, PyObject *args);
 PyObject *fast_whole(PyObject *module, PyObject *args);
 PyObject *fast_outliers(PyObject *module, PyObject *args);
 PyObject *fast_skip(PyObject *module, PyObject *args);
+PyObject *fast_part_ends(PyObject *module, PyObject *args);
 PyObject *fast_columns(PyObject *module, PyObject *args);
 PyObject *fast_write(PyObject *module, PyObject *line);
 PyObject *fast_write_many(PyObject *module, PyObject *lines);

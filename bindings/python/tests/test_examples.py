@@ -6,7 +6,7 @@ import unittest
 from pathlib import Path
 
 import line_protocol
-from line_protocol import checking, items, reading, rebuilding, sources, tables, writing
+from line_protocol import checking, items, parts, reading, rebuilding, sources, tables, writing
 
 PAGE = Path(__file__).parents[3] / "docs" / "python.md"
 NAMES = {name: getattr(line_protocol, name) for name in line_protocol.__all__}
@@ -14,7 +14,7 @@ NAMES = {name: getattr(line_protocol, name) for name in line_protocol.__all__}
 
 def load_tests(_, tests, __):
     """The examples are tests."""
-    for module in (line_protocol, checking, items, reading, rebuilding, sources, tables, writing):
+    for module in (line_protocol, checking, items, parts, reading, rebuilding, sources, tables, writing):
         tests.addTests(doctest.DocTestSuite(module, extraglobs=NAMES))
     tests.addTests(doctest.DocFileSuite(str(PAGE), module_relative=False))
     return tests

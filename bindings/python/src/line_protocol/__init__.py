@@ -18,6 +18,7 @@ from .checking import plain_timestamp as _plain_timestamp
 from .checking import plain_value as _plain_value
 from .checking import refuse as _refuse
 from .items import Fault, FaultKind, FloatText, Line, Side, Unsigned, Value
+from .parts import part_ends
 from .reading import Source, parse, split
 from .rebuilding import Rebuilt, rebuild
 from .tables import Column, Columns, Table, columns
@@ -25,8 +26,8 @@ from .writing import Builder, DuplicateTag, base, is_admitted, is_base_safe, sho
 
 __all__ = [
     "Builder", "Column", "Columns", "DuplicateTag", "Fault", "FaultKind", "FloatText", "Line", "Rebuilt", "Side", "Source", "Table",
-    "Unsigned", "Value", "__version__", "base", "columns", "is_admitted", "is_base_safe", "parse", "rebuild", "show", "split", "write",
-    "write_many",
+    "Unsigned", "Value", "__version__", "base", "columns", "is_admitted", "is_base_safe", "parse", "part_ends", "rebuild", "show", "split",
+    "write", "write_many",
 ]
 
 __version__ = "{}.{}.{}".format(_fast.version() // 10_000, _fast.version() // 100 % 100, _fast.version() % 100)
