@@ -56,13 +56,13 @@ def cluster(folder):
     at = folder / "scheduler.json"
     at.unlink(missing_ok=True)
     common = ["--host", "127.0.0.1", "--no-dashboard", "--scheduler-file", str(at)]
-    worker = ["distributed.cli.dask_worker", *common, "--nthreads", "1", "--no-nanny", "--memory-limit", "0", "--death-timeout", "60"]
+    worker = ["distributed.cli.dask_worker", *common, "--nthreads", "1", "--no-nanny", "--memory-limit", "0", "--death-timeout", "600"]
     with contextlib.ExitStack() as stack:
         stack.enter_context(started(["distributed.cli.dask_scheduler", *common, "--port", "0"], folder, "scheduler"))
         for number in range(WORKERS):
             stack.enter_context(started(worker, folder, f"worker{number}"))
-        client = stack.enter_context(Client(scheduler_file=str(at), timeout=60))
-        client.wait_for_workers(WORKERS, timeout=60)
+        client = stack.enter_context(Client(scheduler_file=str(at), timeout=600))
+        client.wait_for_workers(WORKERS, timeout=600)
         yield client
 
 

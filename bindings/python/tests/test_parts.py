@@ -68,6 +68,15 @@ def in_blocks(data, chosen):
     return [data[start:end] for start, end in zip([0, *cuts], [*cuts, len(data)])]
 
 
+def corpora(folder, size):
+    """Hostile corpora of the bench, each of about so many bytes."""
+    names = ["hostile", "escapes", "strings", "faulty", "quotes", "manystrings"]
+    subprocess.run(
+        [sys.executable, "-B", TOP / "bench" / "corpora.py", "--seed", "parts", "--size", str(size), "--out", folder, *names],
+        check=True, stdout=subprocess.DEVNULL)
+    return [folder / f"{name}.lp" for name in names]
+
+
 def lost():
     """Blocks of which one is lost."""
     yield b"m\n"
@@ -138,6 +147,14 @@ class Files(Folder):
             for parts in (1, 2, 3, 7, 100, 10_000):
                 self.assertEqual(part_ends(path, parts, strict=strict), wanted_ends(LONG, cuts, parts))
 
+    def test_corpora(self):
+        for path in corpora(self.folder, 150_000):
+            data = path.read_bytes()
+            for strict in (False, True):
+                cuts = cuts_of(data, strict)
+                for parts in (2, 9, 300):
+                    self.assertEqual(part_ends(path, parts, strict=strict), wanted_ends(data, cuts, parts))
+
     def test_a_file_that_is_not_there(self):
         with self.assertRaises(FileNotFoundError):
             part_ends(self.folder / "nothing", 2)
@@ -185,12 +202,8 @@ class BesideTheProgram(Folder):
                     self.fail(f"{path} is cut into {parts} parts {strict} in another way")
 
     def test_corpora(self):
-        names = ["hostile", "escapes", "strings", "faulty", "quotes", "manystrings"]
-        subprocess.run(
-            [sys.executable, "-B", TOP / "bench" / "corpora.py", "--seed", "parts", "--size", "700000", "--out", self.folder, *names],
-            check=True, stdout=subprocess.DEVNULL)
-        for name in names:
-            self.compare(self.folder / f"{name}.lp")
+        for path in corpora(self.folder, 700_000):
+            self.compare(path)
 
     def test_long_strings(self):
         self.compare(self.file(LONG))
