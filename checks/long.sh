@@ -1,13 +1,15 @@
 #!/usr/bin/env bash
 # What takes long and is run by hand, beside the test command:
 #
-#   checks/long.sh [SECONDS]    what is installed; the tables of docs/INTEROP.md; relays by Slurm and by ssh; the fuzzer for so many
-#                               seconds, 600 if none are given; and a million generated texts, compared with the Rust crate
+#   checks/long.sh [SECONDS]    what is installed; the tables of docs/INTEROP.md; relays by Slurm and by ssh; columns by Dask; the
+#                               fuzzer for so many seconds, 600 if none are given; and a million generated texts, compared with the
+#                               Rust crate
 set -eu
 here=$(cd "$(dirname "$0")" && pwd)
 "$here/dist.sh"
 "$here/../lp_relay" </dev/null
 "$here/interop.sh" "$here/../crates/lp_relay/out/lp_relay"
 "$here/engines.sh" "$here/../crates/lp_relay/out/lp_relay"
+"$here/dask.sh"
 "$here/fuzz.sh" "${1:-600}"
 "$here/differential.sh" 1000000

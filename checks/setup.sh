@@ -4,7 +4,7 @@
 #   checks/setup.sh [--engines]               installs if CI is `true`, and else says what to install; its status is 0
 #   checks/setup.sh [--engines] --install     installs; its status is 1 if something is still lacking
 #
-# --engines: also what checks/engines.sh uses, which the test command does not run.
+# --engines: also what checks/engines.sh and checks/dask.sh use, which the test command does not run.
 # It takes root and apt-get to install. The crates, of packages librust-*, are for bindings/rust/test.sh where crates.io is out of
 # reach.
 set -eu
@@ -12,7 +12,7 @@ PATH=$PATH:/usr/sbin
 packages=(gcc g++ git valgrind bsdutils python3 python3-dev python3-venv python3-numpy python3-pandas mypy cargo librust-bytes-dev
     librust-nom-dev librust-smallvec-dev)
 if [ "${1-}" = --engines ]; then
-    packages+=(slurm-wlm munge parallel openssh-client openssh-server)
+    packages+=(slurm-wlm munge parallel openssh-client openssh-server python3-distributed)
     shift
 fi
 
@@ -39,7 +39,7 @@ is_here() {
     python3) python3 -c 'import sys; sys.exit(sys.version_info < (3, 10))' ;;
     python3-dev) python3 -c 'import os, sysconfig; os.stat(sysconfig.get_path("include") + "/Python.h")' ;;
     python3-venv) python3 -c 'import ensurepip, venv' ;;
-    python3-numpy | python3-pandas) can_import "${1#python3-}" ;;
+    python3-numpy | python3-pandas | python3-distributed) can_import "${1#python3-}" ;;
     librust-*) compgen -G "/usr/share/cargo/registry/${crate%-dev}-[0-9]*" ;;
     *) command -v "$1" ;;
     esac >/dev/null 2>&1

@@ -3,7 +3,8 @@
 # memory in turn, of the library and of Python. Then mypy looks at its types, where it is there, and pip installs the package into a
 # new environment, without a network, and the example is run there. All else needs Python and its standard library alone; NumPy and
 # pandas are used where they are there. Where something cannot be run, a line that begins with `left out: ` says why, on standard output
-# and in the file that LEFT_OUT names, if it is set.
+# and in the file that LEFT_OUT names, if it is set. LP_RELAY is the program that files are cut beside: that of this repository, if it
+# is built.
 #
 #     bindings/python/test.sh             makes the archive first
 #     bindings/python/test.sh ARCHIVE     takes one that was made before
@@ -32,7 +33,9 @@ if [ ! -f "$include/Python.h" ]; then
 fi
 "$bindings/build.sh" "$@" >/dev/null
 ARCHIVE=$(realpath "${1:-$(dirname "$bindings")/crates/lp_c/out/liblp_c.a}")
-export ARCHIVE PYTHONDONTWRITEBYTECODE=1
+LP_RELAY=$(realpath -m "${LP_RELAY:-$(dirname "$bindings")/crates/lp_relay/out/lp_relay}")
+export ARCHIVE LP_RELAY PYTHONDONTWRITEBYTECODE=1
+[ -x "$LP_RELAY" ] || echo "left out: bindings/python beside lp_relay: there is no $LP_RELAY" | tee -a "${LEFT_OUT:-/dev/null}"
 built=$(mktemp -d)
 trap 'rm -rf "$built"' EXIT
 cd "$built"

@@ -1,4 +1,4 @@
-/* What sources.py asks of bytes. */
+/* What sources.py and parts.py ask of bytes. */
 #include "fast.h"
 
 /* whole(text, strict): how many bytes the pieces take that a newline ends, or None if the text is no UTF-8. */
@@ -97,3 +97,110 @@ PyObject *fast_skip(PyObject *module, PyObject *args) {
                          state.excess);
 }
 
+/* A walk over a source from cut to cut, block by block. A cut is directly after a newline that ends a piece. */
+typedef struct {
+    PieceState piece; /* what came of the piece that has not ended */
+    bool is_strict;
+    uint64_t given;   /* how many bytes came before the block */
+    uint64_t cut;     /* the last cut, or 0 */
+    uint64_t size, count, place; /* what is cut, into how many parts; and where the next part ends if all have one length */
+    uint64_t *ends;
+    size_t found;     /* so many ends are known */
+} Walk;
+
+static const PieceState new_piece = { IN_HEAD, true, false, 0 };
+
+/* Whether the end of a part is not known yet. That of the last part is where the source ends. */
+static bool goes_on(const Walk *walk) { return walk->found + 1 < walk->count; }
+
+/* Finds where the next part ends if all have one length. None ends at the start. */
+static void find_place(Walk *walk) {
+    const uint64_t even = (uint64_t)((unsigned __int128)(walk->found + 1) * walk->size / walk->count);
+    walk->place = even > 0 ? even : 1;
+}
+
+/* Takes a cut: all parts end there whose places come before it, or are there. */
+static void take_cut(Walk *walk, uint64_t cut) {
+    walk->cut = cut;
+    while (goes_on(walk) && walk->place <= cut) {
+        walk->ends[walk->found++] = cut;
+        find_place(walk);
+    }
+}
+
+/* Goes on byte by byte to the next cut in a block, or to its end. Gives where it is then. */
+static size_t walk_bytes(Walk *walk, lp_text block, size_t at) {
+    while (at < block.len && !take_byte(&walk->piece, block.at[at], walk->is_strict)) at++;
+    if (at == block.len) return at;
+    walk->piece = new_piece;
+    take_cut(walk, walk->given + ++at);
+    return at;
+}
+
+/* Goes on piece by piece, from a cut to the last one of a block, and gives where that is. What comes after the last newline, which may
+ * be a part of a character, is not looked at. Where the rest is no UTF-8, it stays where it is. */
+static size_t walk_pieces(Walk *walk, lp_text block, size_t at) {
+    lp_lines lines = LP_NO_LINES;
+    lp_view piece = LP_NO_VIEW;
+    size_t end = block.len;
+    while (end > at && block.at[end - 1] != '\n') end--;
+    if (!lp_lines_begin(block.at + at, end - at, walk->is_strict, &lines)) return at;
+    while (lp_lines_piece(&lines, &piece)) {
+        const size_t next = (size_t)(piece.text.at - block.at) + piece.text.len + 1;
+        if (next <= end) take_cut(walk, walk->given + (at = next));
+    }
+    return at;
+}
+
+/* Takes a block: byte by byte what is left of the piece before it, then its pieces, and then the piece that has not ended. */
+static void walk_block(Walk *walk, lp_text block) {
+    size_t at = walk_pieces(walk, block, walk_bytes(walk, block, 0));
+    while (at < block.len) at = walk_bytes(walk, block, at);
+    walk->given += block.len;
+}
+
+/* The ends of all parts. Where no cut comes any more, parts end at the last one; the last part ends with the source. */
+static PyObject *told_ends(const Walk *walk) {
+    PyObject *ends = PyList_New((Py_ssize_t)walk->count);
+    for (size_t i = 0; ends && i < walk->count; i++) {
+        PyObject *end = PyLong_FromUnsignedLongLong(i + 1 == walk->count ? walk->size : i < walk->found ? walk->ends[i] : walk->cut);
+        if (end) PyList_SetItem(ends, (Py_ssize_t)i, end);
+        else Py_CLEAR(ends);
+    }
+    return ends;
+}
+
+/* Takes blocks as long as ends are looked for. False: there is an error. */
+static bool walk_all(Walk *walk, PyObject *blocks) {
+    PyObject *block = NULL;
+    find_place(walk);
+    while (goes_on(walk) && (block = PyIter_Next(blocks)) != NULL && PyBytes_Check(block)) {
+        const lp_text text = text_of(block);
+        PyThreadState *thread = let_go(text.len);
+        walk_block(walk, text);
+        take_back(thread);
+        Py_CLEAR(block);
+    }
+    if (block) PyErr_SetString(PyExc_TypeError, "blocks are bytes");
+    Py_XDECREF(block);
+    return !PyErr_Occurred();
+}
+
+/* part_ends(blocks, size, count, strict): where so many parts end, of bytes of this size that come in blocks. */
+PyObject *fast_part_ends(PyObject *module, PyObject *args) {
+    PyObject *blocks, *ends = NULL;
+    Py_ssize_t size, count;
+    int strict;
+    (void)module;
+    if (!PyArg_ParseTuple(args, "Onnp", &blocks, &size, &count, &strict)) return NULL;
+    if (!PyIter_Check(blocks) || size < 0 || count < 1) {
+        PyErr_SetString(PyExc_TypeError, "blocks come from an iterator, and are cut into one part at least");
+        return NULL;
+    }
+    Walk walk = { new_piece, strict, 0, 0, (uint64_t)size, (uint64_t)count, 0, NULL, 0 };
+    walk.ends = (size_t)count > PY_SSIZE_T_MAX / sizeof *walk.ends ? NULL : PyMem_Malloc((size_t)count * sizeof *walk.ends);
+    if (!walk.ends) return PyErr_NoMemory();
+    if (walk_all(&walk, blocks)) ends = told_ends(&walk);
+    PyMem_Free(walk.ends);
+    return ends;
+}

@@ -161,6 +161,7 @@ PyObject *fast_read(PyObject *module, PyObject *args);
 PyObject *fast_whole(PyObject *module, PyObject *args);
 PyObject *fast_outliers(PyObject *module, PyObject *args);
 PyObject *fast_skip(PyObject *module, PyObject *args);
+PyObject *fast_part_ends(PyObject *module, PyObject *args);
 PyObject *fast_columns(PyObject *module, PyObject *args);
 PyObject *fast_write_columns(PyObject *module, PyObject *args);
 PyObject *fast_write(PyObject *module, PyObject *line);

@@ -125,6 +125,7 @@ static PyMethodDef functions[] = {
     { "read", fast_read, METH_VARARGS, NULL }, { "whole", fast_whole, METH_VARARGS, NULL },
     { "outliers", fast_outliers, METH_VARARGS, NULL }, { "skip", fast_skip, METH_VARARGS, NULL },
     { "columns", fast_columns, METH_VARARGS, NULL }, { "write_columns", fast_write_columns, METH_VARARGS, NULL },
+    { "part_ends", fast_part_ends, METH_VARARGS, NULL },
     { "write", fast_write, METH_O, NULL }, { "write_many", fast_write_many, METH_O, NULL }, { "show", fast_show, METH_O, NULL },
     { "base", fast_base, METH_O, NULL }, { "is_base_safe", fast_is_base_safe, METH_O, NULL },
     { "is_admitted", fast_is_admitted, METH_O, NULL }, { "rebuild", fast_rebuild, METH_VARARGS, NULL },

@@ -7,7 +7,7 @@ import unittest
 from pathlib import Path
 
 import line_protocol
-from line_protocol import checking, frames, items, reading, rebuilding, rows, sources, tables, writing
+from line_protocol import checking, frames, items, parts, reading, rebuilding, rows, sources, tables, writing
 
 try:
     import pandas
@@ -16,7 +16,7 @@ except ImportError:
 
 PAGE = Path(__file__).parents[3] / "docs" / "python.md"
 NAMES = {name: getattr(line_protocol, name) for name in line_protocol.__all__}
-MODULES = [line_protocol, checking, items, reading, rebuilding, rows, sources, tables, writing]
+MODULES = [line_protocol, checking, items, parts, reading, rebuilding, rows, sources, tables, writing]
 
 
 def examples_of(page):

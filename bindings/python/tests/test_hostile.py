@@ -9,10 +9,11 @@ import re
 import unittest
 from decimal import Decimal
 from fractions import Fraction
+from pathlib import Path
 
 from line_protocol import (
-    Builder, Column, DuplicateTag, FloatText, Line, Table, Unsigned, base, columns, is_admitted, is_base_safe, parse, rebuild, show, split,
-    write, write_columns, write_many)
+    Builder, Column, DuplicateTag, FloatText, Line, Table, Unsigned, base, columns, is_admitted, is_base_safe, parse, part_ends, rebuild,
+    show, split, write, write_columns, write_many)
 from line_protocol.items import short
 
 
@@ -48,6 +49,8 @@ NO_STR = [
     Decimal(1)]
 NO_SOURCE = [
     None, 0, 5, True, 1.5, 1j, ["n"], [10**5000], ("n",), {"n": 1}, {"n"}, frozenset("n"), range(3), Strange(), Decimal(1), iter("n")]
+NO_PATH = [
+    None, 0, 5, True, 1.5, 1j, b"n", bytearray(b"n"), ["n"], ("n",), {"n": 1}, {"n"}, io.BytesIO(b"n"), iter("n"), Strange(), Silent()]
 NO_PAIRS = [None, 5, True, 1.5, "ab", b"ab", {"a": "b"}, {("a", "b")}, iter([("a", "b")]), Strange(), Silent()]
 NO_PAIR = [None, 5, "ab", b"ab", {"a": "b"}, {"a", "b"}, (), ("a",), ("a", "b", "c"), [], ["a"], Strange()]
 NO_VALUE = [
@@ -93,6 +96,14 @@ def table_of(time=ONE, tags=None, fields=None):
     return {"m": Table(time, {} if tags is None else tags, {"f": ONE} if fields is None else fields)}
 
 
+def ends_of(path):
+    return part_ends(path, 2)
+
+
+def ends_of_parts(parts):
+    return part_ends("nothing", parts)
+
+
 BOTH = LINE_CALLS + SERIES_CALLS
 TABLES = [write_columns]
 NO_TABLES = [None, 5, True, 1.5, "m", b"m", [], ["m"], (("m", Table(ONE)),), {"m"}, Table(ONE), ONE, Strange(), Silent()]
@@ -128,6 +139,11 @@ TABLE = [
     ([None, 5, 1.5, Strange(), Line("m")], itself, [write_many], TypeError, "lines are an iterable of Line, not"),
     (NO_INT, itself, [parse_within, columns_within], TypeError, "max_line is an int or None, not {told}"),
     ([-1, -(10**30)], itself, [parse_within, columns_within], ValueError, "max_line is {value}"),
+    (NO_PATH, itself, [ends_of], TypeError, "a path is a str or a path of pathlib, not {told}"),
+    ([None, *NO_INT], itself, [ends_of_parts], TypeError, "parts is an int, not {told}"),
+    ([-1, 1_000_001, 10**30, 10**5000], itself, [ends_of_parts], ValueError, "parts is .*, and must be from 0 to 1000000"),
+    (["nothing\0", "\0"], itself, [ends_of], ValueError, "null"),
+    (["nothing", Path("nothing"), ""], itself, [ends_of], FileNotFoundError, "No such file"),
     ([None, 1.0, "7", b"7", True, 1j, Decimal(7), Strange()], itself, [Unsigned], TypeError, "integer"),
     ([None, 1.5, 1, b"1", True, Strange()], itself, [FloatText], TypeError, "the literal of a float is a str, not"),
     (NO_LITERAL, itself, [FloatText], ValueError, "no literal of a float"),
@@ -212,6 +228,7 @@ class Refused(unittest.TestCase):
             (rebuild, (), {}), (rebuild, ("m", True), {}), (write, (), {}), (write, (Line("m"), 5), {}), (write_many, (), {}),
             (show, (), {}), (base, (), {}), (is_base_safe, (), {}), (is_admitted, (), {}), (columns, (), {}), (columns, ("m", True), {}),
             (write_columns, (), {}), (write_columns, ({}, 5), {}), (Table, (), {}), (Column, (), {}),
+            (part_ends, (), {}), (part_ends, ("m",), {}), (part_ends, ("m", 2, True), {}), (part_ends, ("m", 2), {"loose": True}),
             (Line, (), {}), (Line, ("m", [], [], None, 5), {}), (Unsigned, (1, 2), {}), (FloatText, (), {}),
         ]:
             with self.subTest(call=call, given=given, named=named), self.assertRaises(TypeError):
@@ -223,6 +240,8 @@ class Refused(unittest.TestCase):
                 call(Line("m", [], FIELDS, Lying()))
         with self.assertRaisesRegex(RuntimeError, "no index"):
             parse("m f=1i", max_line=Lying())
+        with self.assertRaisesRegex(RuntimeError, "no index"):
+            part_ends("nothing", Lying())
         with self.assertRaisesRegex(TypeError, "a value is .* not Lying: lying"):
             write(Line("m", [], [("f", Lying())]))
 

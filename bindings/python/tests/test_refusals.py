@@ -28,6 +28,7 @@ CALLS = {
     "parse parts": lambda: len(list(parse(iter(PARTS)))),
     "parse bad": lambda: len(list(parse(iter(BAD), max_line=8))),
     "columns": lambda: len(columns(LONG, use_numpy=False).tables),
+    "part_ends": lambda: line_protocol._fast.part_ends(iter([LONG.encode(), LONG.encode()]), 2 * len(LONG), 5, False),
     "split": lambda: len(list(split(TEXT))),
     "write": lambda: len(write(FIELDS)),
     "write_many": lambda: len(line_protocol._fast.write_many(LINES)),
@@ -83,7 +84,7 @@ print("refused", refused)
 @unittest.skipIf(_testcapi is None or not hasattr(_testcapi, "set_nomemory"), "Python has no module that refuses memory")
 class Refusals(unittest.TestCase):
     def test_each_request_refused_in_turn(self):
-        calls = ["parse", "parse parts", "parse bad", "columns", "split", "write", "write_many", "write_columns", "show", "base",
+        calls = ["parse", "parse parts", "parse bad", "columns", "part_ends", "split", "write", "write_many", "write_columns", "show", "base",
                  "is_admitted", "rebuild", "each item"]
         for name in calls:
             with self.subTest(call=name):

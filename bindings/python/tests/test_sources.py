@@ -427,7 +427,8 @@ class Threads(unittest.TestCase):
         long = 'm s="' + "x" * 16_000_000 + '"'
         calls = [
             (lambda: None, lambda _: parse(long)), (lambda: parse(long), next), (lambda: None, lambda _: line_protocol.rebuild(long)),
-            (lambda: long.encode(), lambda data: line_protocol._fast.whole(data, False))]
+            (lambda: long.encode(), lambda data: line_protocol._fast.whole(data, False)),
+            (lambda: long.encode(), lambda data: line_protocol._fast.part_ends(iter([data]), len(data), 2, False))]
         interval = sys.getswitchinterval()
         self.addCleanup(sys.setswitchinterval, interval)
         sys.setswitchinterval(100)

@@ -19,6 +19,7 @@ from .checking import plain_value as _plain_value
 from .checking import refuse as _refuse
 from .frames import Frames, from_frame, to_frame
 from .items import Fault, FaultKind, FloatText, Line, Side, Unsigned, Value
+from .parts import part_ends
 from .reading import Source, parse, split
 from .rebuilding import Rebuilt, rebuild
 from .rows import write_columns
@@ -27,8 +28,8 @@ from .writing import Builder, DuplicateTag, base, is_admitted, is_base_safe, sho
 
 __all__ = [
     "Builder", "Column", "Columns", "DuplicateTag", "Fault", "FaultKind", "FloatText", "Frames", "Line", "Rebuilt", "Side", "Source",
-    "Table", "Unsigned", "Value", "__version__", "base", "columns", "from_frame", "is_admitted", "is_base_safe", "parse", "rebuild",
-    "show", "split", "to_frame", "write", "write_columns", "write_many",
+    "Table", "Unsigned", "Value", "__version__", "base", "columns", "from_frame", "is_admitted", "is_base_safe", "parse", "part_ends",
+    "rebuild", "show", "split", "to_frame", "write", "write_columns", "write_many",
 ]
 
 __version__ = "{}.{}.{}".format(_fast.version() // 10_000, _fast.version() // 100 % 100, _fast.version() % 100)

@@ -10,10 +10,7 @@ from typing import Any, Iterator, List, Mapping, Optional, Tuple, Union
 from . import _fast
 from .checking import refuse, told
 from .items import short
-from .tables import BOOLEAN, TAG, Column, Columns, Table
-
-_MIXED = 100
-"""The kind of a column of objects."""
+from .tables import BOOLEAN, MIXED, TAG, Column, Columns, Table
 
 TYPES = {"i": (1, "int64"), "u": (2, "uint64"), "f": (3, "float64"), "b": (BOOLEAN, "bool")}
 """For each kind of NumPy's types the kind of a column, and the type of its cells."""
@@ -135,6 +132,6 @@ def _handed(values: Any, kinds: str) -> Tuple[int, Any]:
         if values.dtype.kind in kinds and values.dtype.itemsize <= 8:
             kind, dtype = TYPES[values.dtype.kind]
             return kind, values.astype(dtype, copy=False).tobytes()
-        return _MIXED, values.tolist() if values.dtype.kind in "OU" else list(values)
+        return MIXED, values.tolist() if values.dtype.kind in "OU" else list(values)
     letter, code = _CODES.get(values.typecode, ("", "")) if isinstance(values, array) else ("", "")
-    return (TYPES[letter][0], array(code, values).tobytes()) if letter and letter in kinds else (_MIXED, list(values))
+    return (TYPES[letter][0], array(code, values).tobytes()) if letter and letter in kinds else (MIXED, list(values))

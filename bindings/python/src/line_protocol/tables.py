@@ -13,6 +13,9 @@ from .reading import Source, reader_of
 
 TAG = 0
 BOOLEAN = 5
+MIXED = 100
+"""The kind of a column of objects, as one whose fields are of several kinds."""
+
 _NUMBERS = {1: ("q", "int64"), 2: ("Q", "uint64"), 3: ("d", "float64"), BOOLEAN: ("Q", "uint64")}
 """For each kind of numbers, of enum lp_kind, its type for `array` and for NumPy."""
 
