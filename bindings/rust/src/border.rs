@@ -186,14 +186,6 @@ extern "C" {
         filled: *mut usize,
     ) -> u32;
     pub(crate) fn lp_lines_piece<'a>(lines: *mut Lines<'a>, piece: *mut View<'a>) -> bool;
-    pub(crate) fn lp_line_write(
-        line: *const Line<'_>,
-        parts: *const Part<'_>,
-        parts_len: usize,
-        out: *mut u8,
-        room: usize,
-        len: *mut usize,
-    ) -> u32;
     pub(crate) fn lp_line_show(
         line: *const Line<'_>,
         parts: *const Part<'_>,

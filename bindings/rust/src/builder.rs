@@ -1,9 +1,7 @@
 //! The builder of lines, whose types let no line be half built.
-use crate::border::{self, answer, kind, Line, Part, View};
-use bytes::buf::{BufMut, Writer};
+use bytes::BufMut;
 use std::{
-    fmt,
-    io::{self, Write},
+    fmt::{self, Write},
     marker::PhantomData,
 };
 
@@ -75,11 +73,7 @@ impl<B: BufMut> LineProtocolBuilder<B, BeforeMeasurement> {
 
     /// Begins a line.
     pub fn measurement(self, measurement: &str) -> LineProtocolBuilder<B, AfterMeasurement> {
-        if is_plain(measurement) {
-            return self.put(|out| out.write_all(measurement.as_bytes()));
-        }
-        let line = Line { measurement: View::new(measurement), ..FRAME };
-        self.put_piece(&line, &[FIELD], 0, " f=true\n".len())
+        self.put(|out| put_escaped(out, measurement, |byte| matches!(byte, b',' | b' ' | b'\\')))
     }
 
     /// The buffer.
@@ -91,12 +85,12 @@ impl<B: BufMut> LineProtocolBuilder<B, BeforeMeasurement> {
 impl<B: BufMut> LineProtocolBuilder<B, AfterMeasurement> {
     /// Adds a tag.
     pub fn tag(self, tag_key: &str, tag_value: &str) -> Self {
-        if is_plain(tag_key) && is_plain(tag_value) {
-            return self.put(|out| write_all(out, [",", tag_key, "=", tag_value]));
-        }
-        let tag = Part { key: View::new(tag_key), text: View::new(tag_value), ..Part::EMPTY };
-        let line = Line { tags: 1, has_tag_set: true, ..FRAME };
-        self.put_piece(&line, &[tag, FIELD], "m".len(), " f=true\n".len())
+        self.put(|out| {
+            out.write_str(",")?;
+            put_name(out, tag_key)?;
+            out.write_str("=")?;
+            put_name(out, tag_value)
+        })
     }
 
     /// Adds the first field. No tag can be added after it.
@@ -121,67 +115,60 @@ impl<B: BufMut> LineProtocolBuilder<B, AfterField> {
 
     /// Ends the line.
     pub fn close_line(self) -> LineProtocolBuilder<B, BeforeMeasurement> {
-        self.put(|out| out.write_all(b"\n"))
+        self.put(|out| out.write_str("\n"))
     }
 }
 
 impl<B: BufMut> LineProtocolBuilder<B, AfterTimestamp> {
     /// Ends the line.
     pub fn close_line(self) -> LineProtocolBuilder<B, BeforeMeasurement> {
-        self.put(|out| out.write_all(b"\n"))
+        self.put(|out| out.write_str("\n"))
     }
 }
 
 impl<B: BufMut, S> LineProtocolBuilder<B, S> {
-    fn put<T>(self, put: impl FnOnce(&mut Writer<B>) -> io::Result<()>) -> LineProtocolBuilder<B, T> {
-        let mut out = self.buf.writer();
-        put(&mut out).expect("the buffer has room");
-        LineProtocolBuilder { buf: out.into_inner(), _marker: PhantomData }
-    }
-
-    fn put_piece<T>(
-        self,
-        line: &Line<'_>,
-        parts: &[Part<'_>],
-        front: usize,
-        end: usize,
-    ) -> LineProtocolBuilder<B, T> {
-        self.put(|out| piece(line, parts, front, end, |piece| out.write_all(piece)))
+    fn put<T>(self, put: impl FnOnce(&mut Out<B>) -> fmt::Result) -> LineProtocolBuilder<B, T> {
+        let mut out = Out(self.buf);
+        put(&mut out).expect("each value has a text");
+        LineProtocolBuilder { buf: out.0, _marker: PhantomData }
     }
 
     fn put_field<T>(self, front: &str, key: &str, value: impl FieldValue) -> LineProtocolBuilder<B, T> {
         self.put(|out| {
-            if is_plain(key) {
-                write_all(out, [front, key, "="])?;
-            } else {
-                let field = Part { key: View::new(key), ..FIELD };
-                out.write_all(front.as_bytes())?;
-                piece(&FRAME, &[field], "m ".len(), "true\n".len(), |key| out.write_all(key))?;
-            }
+            out.write_str(front)?;
+            put_name(out, key)?;
+            out.write_str("=")?;
             write!(out, "{}", Shown(value))
         })
     }
 }
 
-// Whether a text is written as it is, whatever it names. Of any other text the library is asked.
-fn is_plain(text: &str) -> bool {
-    text.bytes().all(|byte| byte > b' ' && !matches!(byte, b',' | b'=' | b'"' | b'\\'))
+// A buffer that texts are written to.
+struct Out<B>(B);
+
+impl<B: BufMut> Write for Out<B> {
+    fn write_str(&mut self, text: &str) -> fmt::Result {
+        self.0.put_slice(text.as_bytes());
+        Ok(())
+    }
 }
 
-fn write_all<const N: usize>(out: &mut impl Write, texts: [&str; N]) -> io::Result<()> {
-    texts.iter().try_for_each(|text| out.write_all(text.as_bytes()))
+// Writes a tag key, a tag value or a field key.
+fn put_name(out: &mut impl Write, name: &str) -> fmt::Result {
+    put_escaped(out, name, |byte| matches!(byte, b',' | b'=' | b' ' | b'\\'))
 }
 
-// A line that the library writes around a piece that is asked for: `m f=true`.
-const FRAME: Line<'_> = Line { measurement: View::new("m"), fields: 1, ..Line::EMPTY };
-const FIELD: Part<'_> = Part { key: View::new("f"), kind: kind::BOOLEAN, boolean: true, ..Part::EMPTY };
-
-// Hands on what the library writes of a line, without so many bytes at its front and its end.
-fn piece<T>(line: &Line<'_>, parts: &[Part<'_>], front: usize, end: usize, take: impl FnOnce(&[u8]) -> T) -> T {
-    border::put_out(border::lp_line_write, line, parts, |answer, bytes| {
-        assert_eq!(answer, answer::WRITTEN, "a line was refused");
-        take(&bytes[front..bytes.len() - end])
-    })
+// Writes a text with a backslash before each byte that takes one.
+fn put_escaped(out: &mut impl Write, text: &str, takes_backslash: impl Fn(u8) -> bool) -> fmt::Result {
+    let mut begin = 0;
+    for (at, byte) in text.bytes().enumerate() {
+        if takes_backslash(byte) {
+            out.write_str(&text[begin..at])?;
+            out.write_str("\\")?;
+            begin = at;
+        }
+    }
+    out.write_str(&text[begin..])
 }
 
 struct Shown<F>(F);
@@ -200,11 +187,9 @@ pub trait FieldValue {
 
 impl FieldValue for &str {
     fn fmt(&self, f: &mut fmt::Formatter<'_>) -> fmt::Result {
-        if self.split(' ').all(is_plain) {
-            return write!(f, "\"{self}\"");
-        }
-        let field = Part { kind: kind::STRING, text: View::new(self), ..FIELD };
-        piece(&FRAME, &[field], "m f=".len(), "\n".len(), |text| f.write_str(border::text_of(text)))
+        f.write_str("\"")?;
+        put_escaped(f, self, |byte| matches!(byte, b'"' | b'\\'))?;
+        f.write_str("\"")
     }
 }
 
