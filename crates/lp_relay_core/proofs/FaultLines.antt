@@ -1,5 +1,5 @@
 -- The fault lines of the pieces of a relay, one after another.
-use Rattle.std.proofs.Common.{◌≡◌, ℕ, ◌+◌, cond, List, [], ◌∷◌, ◌++◌, length, Option, Some, None, Ok, Err, refl, sym, ap, ◌∙◌, arith}
+use Rattle.std.proofs.Common.{◌≡◌, ℕ, ◌+◌, ◌-◌, cond, List, [], ◌∷◌, ◌++◌, length, Option, Some, None, Ok, Err, refl, sym, ap, ◌∙◌, arith}
 use Rattle.std.proofs.Common.{append_assoc, append-nil, length-append}
 use Rattle.std.specs.List.{flat_map}
 use Rattle.influxdb_line_protocol.specs.format.Dialects.{Dialect}
@@ -10,9 +10,9 @@ use Rattle.lp_relay_core.specs.declared.taking.Numbering.{Numbering}
 use Rattle.lp_relay_core.specs.declared.taking.Numbering.TheVariants as named
 use Rattle.lp_relay_core.specs.Relays.{named_faults}
 use Rattle.lp_relay_core.specs.LineFaults.{item_text, line_fault, line_faults}
-use Rattle.lp_relay_core.specs.Relaying.{Item, answered, as_it_came, not_utf8, too_long, is_carried_item, item_fault, item_faults}
+use Rattle.lp_relay_core.specs.Relaying.{Item, answered, as_it_came, not_utf8, too_long, is_carried_item, first_of, item_fault, item_faults}
 use Rattle.lp_relay_core.specs.Relaying.{items_of_piece, items_of}
-use Rattle.lp_relay_core.specs.RelaySteps.{faults_at, faults_from, first_line, line_after, line_past}
+use Rattle.lp_relay_core.specs.RelaySteps.{faults_at, faults_from, faults_past, line_after, line_past, made_of_none}
 use Rattle.lp_relay_core.proofs.ItemLemmas.{faults_append}
 
 -- what is named after pieces and others
@@ -89,7 +89,9 @@ faults_by_line lines dialect limit line number (p ∷ ps) =
     ∙ ap (λ (l : List ℕ). flat_map (line_fault line) items ++ l) (faults_by_line lines dialect limit after next ps)
 
 -- fault lines from the first piece on, by what they name
-pub faults_named : (lines : Lines) (dialect : Dialect) (limit : Option ℕ) (numbering : Numbering) (pieces : List (List ℕ))
-    → faults_from lines dialect limit (first_line numbering) 1 pieces ≡ named_faults numbering lines dialect limit pieces
-faults_named lines dialect limit named.Items pieces = faults_by_number lines dialect limit 1 pieces
-faults_named lines dialect limit named.Lines pieces = faults_by_line lines dialect limit 1 1 pieces
+pub faults_named : (lines : Lines) (dialect : Dialect) (limit : Option ℕ) (numbering : Numbering) (first : ℕ) (pieces : List (List ℕ))
+    → faults_past lines dialect limit (made_of_none numbering first) pieces ≡ named_faults numbering first lines dialect limit pieces
+faults_named lines dialect limit named.Items first pieces =
+    let number : first - 1 + 0 + 1 ≡ first_of first = omega arith in
+    ap (λ (n : ℕ). faults_from lines dialect limit None n pieces) number ∙ faults_by_number lines dialect limit (first_of first) pieces
+faults_named lines dialect limit named.Lines first pieces = faults_by_line lines dialect limit (first_of first) (0 + 0 + 1) pieces

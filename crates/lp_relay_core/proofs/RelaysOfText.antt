@@ -102,35 +102,35 @@ if_rebuilt : PiecesAreUnique → (dialect : Dialect) (limit : Option ℕ) (text 
 if_rebuilt unique dialect limit text pieces x5 are f = grind (arith, no_limit, short_pieces)
 
 -- what was written of all items is what the rebuild gives
-pub all_rebuilt : Utf8ByPieces → PiecesAreUnique → (dialect : Dialect) (limit : Option ℕ) (numbering : Numbering) (text : List ℕ)
+pub all_rebuilt : Utf8ByPieces → PiecesAreUnique → (dialect : Dialect) (limit : Option ℕ) (numbering : Numbering) (first : ℕ) (text : List ℕ)
     (counts : Relayed) (out out_after err err_after : Option (List ℕ))
-    → RelaysAll going.Rebuilt dialect limit numbering text counts out out_after err err_after
-    → IfRebuilt dialect limit text (λ r. RelaysRebuilt numbering r counts out out_after err err_after)
-all_rebuilt law unique dialect limit numbering text counts out out_after err err_after all =
-    if_rebuilt unique dialect limit text all.pieces (λ r. RelaysRebuilt numbering r counts out out_after err err_after) all.are
+    → RelaysAll going.Rebuilt dialect limit numbering first text counts out out_after err err_after
+    → IfRebuilt dialect limit text (λ r. RelaysRebuilt numbering first r counts out out_after err err_after)
+all_rebuilt law unique dialect limit numbering first text counts out out_after err err_after all =
+    if_rebuilt unique dialect limit text all.pieces (λ r. RelaysRebuilt numbering first r counts out out_after err err_after) all.are
     (λ fit u r h.
     let same = items_of_rebuilt law unique dialect limit text all.pieces all.are fit u r h in
     record {
       batch = subst (Appends out out_after)
           (ap items_batch same ∙ lines_of_answers h.answers ∙ sym h.batch) all.batch;
-      faults = λ named. subst (Appends err err_after)
-          (ap (λ n. named_faults n going.Rebuilt dialect limit all.pieces) named ∙ ap (item_faults 1) same
+      faults = λ named one. subst (Appends err err_after)
+          (ap (λ n. named_faults n first going.Rebuilt dialect limit all.pieces) named ∙ ap (λ n. item_faults n (items_of going.Rebuilt dialect limit all.pieces)) one ∙ ap (item_faults 1) same
           ∙ faults_of_answers 1 h.answers ∙ sym h.faults) all.faults;
       carried = all.carried ∙ ap carried_items same ∙ carried_of_answers h.answers ∙ sym h.carried;
       refused = all.refused ∙ ap refused_items same ∙ refused_of_answers h.answers ∙ sym h.refused;
     })
 
 -- and a beginning is a beginning of that
-pub fronts_rebuilt : Utf8ByPieces → PiecesAreUnique → (dialect : Dialect) (limit : Option ℕ) (numbering : Numbering) (text : List ℕ)
-    (out out_after err err_after : Option (List ℕ)) → RelaysFronts going.Rebuilt dialect limit numbering text out out_after err err_after
-    → IfRebuilt dialect limit text (λ r. RelaysRebuiltFronts numbering r out out_after err err_after)
-fronts_rebuilt law unique dialect limit numbering text out out_after err err_after some =
-    if_rebuilt unique dialect limit text some.pieces (λ r. RelaysRebuiltFronts numbering r out out_after err err_after) some.are
+pub fronts_rebuilt : Utf8ByPieces → PiecesAreUnique → (dialect : Dialect) (limit : Option ℕ) (numbering : Numbering) (first : ℕ) (text : List ℕ)
+    (out out_after err err_after : Option (List ℕ)) → RelaysFronts going.Rebuilt dialect limit numbering first text out out_after err err_after
+    → IfRebuilt dialect limit text (λ r. RelaysRebuiltFronts numbering first r out out_after err err_after)
+fronts_rebuilt law unique dialect limit numbering first text out out_after err err_after some =
+    if_rebuilt unique dialect limit text some.pieces (λ r. RelaysRebuiltFronts numbering first r out out_after err err_after) some.are
     (λ fit u r h.
     let same = items_of_rebuilt law unique dialect limit text some.pieces some.are fit u r h in (
       subst (AppendsFront out out_after)
           (ap items_batch same ∙ lines_of_answers h.answers ∙ sym h.batch) some.batch,
-      λ named. subst (AppendsFront err err_after)
-          (ap (λ n. named_faults n going.Rebuilt dialect limit some.pieces) named ∙ ap (item_faults 1) same
+      λ named one. subst (AppendsFront err err_after)
+          (ap (λ n. named_faults n first going.Rebuilt dialect limit some.pieces) named ∙ ap (λ n. item_faults n (items_of going.Rebuilt dialect limit some.pieces)) one ∙ ap (item_faults 1) same
           ∙ faults_of_answers 1 h.answers ∙ sym h.faults) some.faults,
     ))

@@ -1,5 +1,5 @@
 -- What each step of a relay takes of the stream, and what it writes or holds of it.
-use Rattle.std.specs.Prelude.{◌≡◌, ◌⊎◌, ◌<◌, ℕ, ◌+◌, ◌++◌, List, [], ◌∷◌, length, drop, string_bytes, Option, Some, None}
+use Rattle.std.specs.Prelude.{◌≡◌, ◌⊎◌, ◌<◌, ℕ, ◌+◌, ◌-◌, ◌++◌, List, [], ◌∷◌, length, drop, string_bytes, Option, Some, None}
 use Rattle.std.specs.Prelude.{Result, Ok, Err, if◌then◌else◌}
 use Rattle.std.specs.Borrow.{Bor}
 use Rattle.std.specs.Io.KnownBytes.{Appends}
@@ -17,7 +17,7 @@ use Rattle.lp_rebuild.specs.declared.program.RunFault.{RunFault}
 use Rattle.lp_rebuild.specs.declared.program.RunFault.TheVariants.{Read, NotUtf8, OutOfMemory, Write}
 use Rattle.lp_rebuild.specs.RebuildSteps.{fault_line_at}
 use Rattle.lp_relay_core.specs.LineFaults.{item_text}
-use Rattle.lp_relay_core.specs.Relaying.{Item, too_long, is_carried_item, items_of_bytes, items_of_piece, items_of, items_batch, carried_items}
+use Rattle.lp_relay_core.specs.Relaying.{Item, first_of, too_long, is_carried_item, items_of_bytes, items_of_piece, items_of, items_batch, carried_items}
 use Rattle.lp_relay_core.specs.Relaying.{refused_items}
 
 -- the items of what a call gave: those of a piece, or that of one that is too long
@@ -35,8 +35,8 @@ abbrev pub TakesPieces : Dialect → (text : List ℕ) → List (List ℕ) → (
 TakesPieces dialect text pieces rest =
     (given t : List ℕ) (first : List (List ℕ)) → Run dialect given first (text ++ t) → Run dialect given (first ++ pieces) (rest ++ t)
 
--- what was made so far and is not written yet, how many items that was made of, together with what was written, and what the
--- fault line of the next item names
+-- what was made so far and is not written yet, how many items that was made of, together with what was written and with those that
+-- are counted before the first item, and what the fault line of the next item names
 pub record Made : Type 0 where
   pub batch : List ℕ
   pub faults : List ℕ
@@ -44,14 +44,25 @@ pub record Made : Type 0 where
   pub refused : ℕ
   pub line : Option ℕ
 
--- what the fault line of the first item names
-abbrev pub first_line : Numbering → Option ℕ
-first_line named.Items = None
-first_line named.Lines = Some 1
+-- the line that the fault line of the first item names, if it names a line
+abbrev pub first_line : Numbering → ℕ → Option ℕ
+first_line named.Items first = None
+first_line named.Lines first = Some (first_of first)
+
+-- how many items are counted before the first item, so that the next number is that of the first item
+abbrev pub items_before : Numbering → ℕ → ℕ
+items_before named.Items first = first - 1
+items_before named.Lines first = 0
 
 -- before the first item
-abbrev pub made_of_none : Option ℕ → Made
-made_of_none line = record { batch = []; faults = []; carried = 0; refused = 0; line = line }
+abbrev pub made_of_none : Numbering → ℕ → Made
+made_of_none numbering first = record {
+  batch = [];
+  faults = [];
+  carried = items_before numbering first;
+  refused = 0;
+  line = first_line numbering first;
+}
 
 -- what a relay has made so far
 abbrev pub made : Progress → Made

@@ -1,6 +1,6 @@
 -- What bytes give when they are relayed: the items of their pieces, of which one that is too long, or is not UTF-8, is one item
 -- without an answer, and what goes out for these items.
-use Rattle.std.specs.Prelude.{ℕ, ◌+◌, ◌-◌, ◌^◌, ◌==◌, nat_lt, Bool, true, false, not, List, [], ◌∷◌, ◌++◌, length, codes, map}
+use Rattle.std.specs.Prelude.{ℕ, ◌+◌, ◌-◌, ◌^◌, ◌==◌, nat_lt, max, Bool, true, false, not, List, [], ◌∷◌, ◌++◌, length, codes, map}
 use Rattle.std.specs.Prelude.{Option, Some, None, Result, Ok, Err, if◌then◌else◌}
 use Rattle.std.specs.List.{flat_map, count_by}
 use Rattle.std.specs.Str.{is_utf8}
@@ -30,6 +30,10 @@ item_of Verbatim piece (Err fault) = answered (Err fault)
 -- the greatest length of a piece, if it has one: `usize::MAX` is none
 abbrev pub limit_of : ℕ → Option ℕ
 limit_of limit = if limit == 2 ^ 64 - 1 then None else Some limit
+
+-- the number of the first item or line that fault lines name: 0 is taken as 1
+abbrev pub first_of : ℕ → ℕ
+first_of first = max 1 first
 
 -- whether a piece has more bytes than it may have
 abbrev pub is_too_long : Option ℕ → List ℕ → Bool

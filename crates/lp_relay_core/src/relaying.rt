@@ -11,7 +11,7 @@ ghost use Rattle.lp_relay_core.specs.RelaySteps.{RelaysItems, RelaysPart, Relays
 ghost use Rattle.lp_relay_core.specs.Relays.{Relays};
 ghost use Rattle.lp_rebuild.specs.Running.{reader_told, writer_told};
 
-use crate::taking::{Settings, nothing_made, take_piece, take_text_piece, text_of};
+use crate::taking::{Settings, items_before, nothing_made, take_piece, take_text_piece, text_of};
 use influxdb_line_protocol::{BoundedLineStream, ParsedLine, laws, split_lines_in};
 use lp_rebuild::batch::Progress;
 use lp_rebuild::program::{BLOCK, read_block, write_bytes};
@@ -340,7 +340,7 @@ pub fn relay<R: Source, W: Sink, E: Sink>(
     out: &mut W,
     err: &mut E,
 ) -> Result<Relayed, RunFault>
-    ensures { Relays settings.lines (rules_of settings.dialect) (limit_of settings.limit) settings.numbering result
+    ensures { Relays settings.lines (rules_of settings.dialect) (limit_of settings.limit) settings.numbering settings.first result
         (reader_told R.bytes R.failures reader.old) (reader_told R.bytes R.failures reader.new)
         (writer_told W.bytes W.failures W.is_flushed out.old) (writer_told W.bytes W.failures W.is_flushed out.new)
         (writer_told E.bytes E.failures E.is_flushed err.old) (writer_told E.bytes E.failures E.is_flushed err.new) }
@@ -349,14 +349,14 @@ pub fn relay<R: Source, W: Sink, E: Sink>(
     laws::runs_give_pieces();
     laws::utf8_by_pieces();
     let mut stream = BoundedLineStream::new_in(alloc, settings.dialect, settings.limit);
-    let mut so_far = nothing_made(alloc, settings.numbering);
+    let mut so_far = nothing_made(alloc, settings);
     let mut block = Vec::new(alloc);
     for _ in 0..u64::MAX {
         let n = read_block(reader, &mut block, 0)?;
         if n == 0 {
             finish(alloc, settings, &mut stream, &mut so_far, out, err)?;
             return Ok(Relayed {
-                carried: so_far.carried,
+                carried: so_far.carried.saturating_sub(items_before(settings)),
                 refused: so_far.refused,
             });
         }

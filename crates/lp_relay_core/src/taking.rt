@@ -3,7 +3,7 @@ ghost use Rattle.std.specs.Prelude.{◌≡◌, ◌+◌, ◌<◌, ◌≤◌, ◌�
 ghost use Rattle.influxdb_line_protocol.specs.code.Rules.{rules_of};
 ghost use Rattle.influxdb_line_protocol.specs.format.Bytes.{newlines_in};
 ghost use Rattle.lp_relay_core.specs.Relaying.{as_it_came, items_of_bytes};
-ghost use Rattle.lp_relay_core.specs.RelaySteps.{HoldsLess, TakesItems, first_line, items_given, made, made_of_none};
+ghost use Rattle.lp_relay_core.specs.RelaySteps.{HoldsLess, TakesItems, items_before, items_given, made, made_of_none};
 ghost use Rattle.lp_relay_core.specs.RelaySteps.{newlines_given, line_after};
 
 use crate::verdict::is_line;
@@ -30,15 +30,15 @@ pub enum Lines {
 /// What the fault lines of a relay name.
 #[derive(Clone, Copy, Debug, PartialEq, Eq)]
 pub enum Numbering {
-    /// The number of the item, as in `item 5: ..`. Items are counted from 1.
+    /// The number of the item, as in `item 5: ..`. Items are counted from `first` of the settings.
     Items,
-    /// The line of the input on which the piece of the item begins, as in `line 17: ..`. Lines are counted from 1, one after
-    /// each newline, also after those within strings and within pieces that are too long or not UTF-8.
+    /// The line of the input on which the piece of the item begins, as in `line 17: ..`. Lines are counted from `first`
+    /// of the settings, one after each newline, also after those within strings and within pieces that are too long or not UTF-8.
     Lines,
 }
 
 /// How a relay reads lines and puts them out, and what its fault lines name: by default, it reads them by the rules of the crate,
-/// however long they are, writes them again, and names items.
+/// however long they are, writes them again, and names items from 1 on.
 #[derive(Clone, Copy, Debug, PartialEq, Eq)]
 pub struct Settings {
     /// The dialect whose rules hold.
@@ -50,6 +50,9 @@ pub struct Settings {
     pub numbering: Numbering,
     /// How lines go out.
     pub lines: Lines,
+    /// The number of the first item, or of the first line, that fault lines name: 2,001 if the input comes after 2,000 others. 0 is
+    /// taken as 1.
+    pub first: usize,
 }
 
 impl Default for Settings {
@@ -59,6 +62,7 @@ impl Default for Settings {
           limit = usize.MAX;
           numbering = Numbering.Items;
           lines = Lines.Rebuilt;
+          first = 1;
         } }
     {
         Settings {
@@ -66,6 +70,7 @@ impl Default for Settings {
             limit: usize::MAX,
             numbering: Numbering::Items,
             lines: Lines::Rebuilt,
+            first: 1,
         }
     }
 }
@@ -76,18 +81,29 @@ const NOT_UTF8: &str = "the line is not UTF-8";
 // What is wrong with a piece that is too long.
 const TOO_LONG: &str = "the line is too long";
 
+// How many items are counted before the first item: if fault lines name items, as many as give it its number.
+pub(crate) fn items_before(settings: Settings) -> usize
+    ensures { result ≡ items_before settings.numbering settings.first }
+{
+    match settings.numbering {
+        Numbering::Items => settings.first.saturating_sub(1),
+        Numbering::Lines => 0,
+    }
+}
+
 // Before the first item. It takes no memory.
-pub(crate) fn nothing_made(alloc: Global, numbering: Numbering) -> Progress
-    ensures { made result ≡ made_of_none (first_line numbering) }
+pub(crate) fn nothing_made(alloc: Global, settings: Settings) -> Progress
+    ensures made { made result ≡ made_of_none settings.numbering settings.first }
+    ensures fits { result.carried + result.refused ≤ usize.MAX }
 {
     Progress {
         batch: Vec::new(alloc),
         faults: String::new(alloc),
-        carried: 0,
+        carried: items_before(settings),
         refused: 0,
-        line: match numbering {
+        line: match settings.numbering {
             Numbering::Items => None,
-            Numbering::Lines => Some(1),
+            Numbering::Lines => Some(settings.first.max(1)),
         },
     }
 }
