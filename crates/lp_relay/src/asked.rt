@@ -9,7 +9,7 @@ ghost use Rattle.lp_rebuild.specs.Running.{CountsReadFault, reader_told, writer_
 use crate::words::Settings;
 use influxdb_line_protocol::Dialect;
 use lp_rebuild::{RunFault, Sink, Source, read_all};
-use lp_relay_core::{Relayed, part_ends, relay};
+use lp_relay_core::{Lines, Relayed, part_ends, relay};
 use std::alloc::Global;
 
 /// Relays the lines that `reader` gives, as [`relay`] does, by these settings.
@@ -24,7 +24,7 @@ pub fn relay_as_asked<R: Source, W: Sink, E: Sink>(
     out: &mut W,
     err: &mut E,
 ) -> Result<Relayed, RunFault>
-    ensures { Relays (rules_of settings.dialect) (limit_of settings.max_line) settings.numbering result
+    ensures { Relays Lines.Rebuilt (rules_of settings.dialect) (limit_of settings.max_line) settings.numbering 1 result
         (reader_told R.bytes R.failures reader.old) (reader_told R.bytes R.failures reader.new)
         (writer_told W.bytes W.failures W.is_flushed out.old) (writer_told W.bytes W.failures W.is_flushed out.new)
         (writer_told E.bytes E.failures E.is_flushed err.old) (writer_told E.bytes E.failures E.is_flushed err.new) }
@@ -33,6 +33,8 @@ pub fn relay_as_asked<R: Source, W: Sink, E: Sink>(
         dialect: settings.dialect,
         limit: settings.max_line,
         numbering: settings.numbering,
+        lines: Lines::Rebuilt,
+        first: 1,
     };
     relay(alloc, settings, reader, out, err)
 }

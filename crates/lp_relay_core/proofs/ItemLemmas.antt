@@ -9,7 +9,8 @@ use Rattle.std.proofs.lemmas.Str.{IsUtf8-from_is_utf8, is_utf8-from_IsUtf8}
 use Rattle.influxdb_line_protocol.specs.format.Dialects.{Dialect}
 use Rattle.influxdb_line_protocol.specs.format.Items.{answers_of_piece}
 use Rattle.influxdb_line_protocol.specs.code.Bounded.{IsTooLong}
-use Rattle.lp_relay_core.specs.Relaying.{Item, answered, not_utf8, too_long, limit_of, is_too_long, items_of_bytes, items_of_piece, items_of}
+use Rattle.lp_relay_core.specs.declared.taking.Lines.{Lines}
+use Rattle.lp_relay_core.specs.Relaying.{Item, item_of, not_utf8, too_long, limit_of, is_too_long, items_of_bytes, items_of_piece, items_of}
 use Rattle.lp_relay_core.specs.Relaying.{is_carried_item, items_batch, item_fault, item_faults, carried_items, refused_items}
 use Rattle.lp_rebuild.proofs.RebuildLemmas.{one_of_two}
 
@@ -51,38 +52,38 @@ items_add_up (x ∷ xs) =
     omega (arith, carried_first x xs, refused_first x xs, one_of_two (is_carried_item x), items_add_up xs)
 
 -- the items of a piece that is UTF-8
-pub items_of_text : (dialect : Dialect) (piece : List ℕ) → IsUtf8 piece
-    → items_of_bytes dialect piece ≡ map answered (answers_of_piece dialect piece)
+pub items_of_text : (lines : Lines) (dialect : Dialect) (piece : List ℕ) → IsUtf8 piece
+    → items_of_bytes lines dialect piece ≡ map (item_of lines piece) (answers_of_piece dialect piece)
 unfolding items_of_bytes
-items_of_text dialect piece h = rw (is_utf8-from_IsUtf8 piece h) refl
+items_of_text lines dialect piece h = rw (is_utf8-from_IsUtf8 piece h) refl
 
 -- the item of a piece that is not
-pub item_of_no_text : (dialect : Dialect) (piece : List ℕ) → (¬ IsUtf8 piece) → items_of_bytes dialect piece ≡ not_utf8 ∷ []
+pub item_of_no_text : (lines : Lines) (dialect : Dialect) (piece : List ℕ) → (¬ IsUtf8 piece) → items_of_bytes lines dialect piece ≡ not_utf8 ∷ []
 unfolding items_of_bytes
-item_of_no_text dialect piece h =
+item_of_no_text lines dialect piece h =
     elim (cases_Bool (is_utf8 piece)) [
       | inl good ↦ absurd (h (IsUtf8-from_is_utf8 piece good))
       | inr bad ↦ rw bad refl
     ]
 
 -- the items of a piece that is not too long
-pub items_of_fitting : (dialect : Dialect) (limit : Option ℕ) (piece : List ℕ) → is_too_long limit piece ≡ false
-    → items_of_piece dialect limit piece ≡ items_of_bytes dialect piece
+pub items_of_fitting : (lines : Lines) (dialect : Dialect) (limit : Option ℕ) (piece : List ℕ) → is_too_long limit piece ≡ false
+    → items_of_piece lines dialect limit piece ≡ items_of_bytes lines dialect piece
 unfolding items_of_piece
-items_of_fitting dialect limit piece h = rw h refl
+items_of_fitting lines dialect limit piece h = rw h refl
 
 -- so if it has no more bytes than the limit
-pub items_of_short : (dialect : Dialect) (limit : ℕ) (piece : List ℕ) → length piece ≤ limit
-    → items_of_piece dialect (limit_of limit) piece ≡ items_of_bytes dialect piece
-items_of_short dialect limit piece h = grind (arith, cases_Bool, items_of_fitting)
+pub items_of_short : (lines : Lines) (dialect : Dialect) (limit : ℕ) (piece : List ℕ) → length piece ≤ limit
+    → items_of_piece lines dialect (limit_of limit) piece ≡ items_of_bytes lines dialect piece
+items_of_short lines dialect limit piece h = grind (arith, cases_Bool, items_of_fitting)
 
 -- the item of a piece that is too long
-pub item_of_long : (dialect : Dialect) (limit : ℕ) (piece : List ℕ) → IsTooLong limit piece
-    → items_of_piece dialect (limit_of limit) piece ≡ too_long ∷ []
+pub item_of_long : (lines : Lines) (dialect : Dialect) (limit : ℕ) (piece : List ℕ) → IsTooLong limit piece
+    → items_of_piece lines dialect (limit_of limit) piece ≡ too_long ∷ []
 unfolding items_of_piece
-item_of_long dialect limit piece h = grind (arith, nat_lt)
+item_of_long lines dialect limit piece h = grind (arith, nat_lt)
 
 -- the items of pieces and one more
-pub items_push : (dialect : Dialect) (limit : Option ℕ) (pieces : List (List ℕ)) (piece : List ℕ)
-    → items_of dialect limit (pieces ++ piece ∷ []) ≡ items_of dialect limit pieces ++ items_of_piece dialect limit piece
-items_push dialect limit pieces piece = grind (arith, flat_map-append, append-nil)
+pub items_push : (lines : Lines) (dialect : Dialect) (limit : Option ℕ) (pieces : List (List ℕ)) (piece : List ℕ)
+    → items_of lines dialect limit (pieces ++ piece ∷ []) ≡ items_of lines dialect limit pieces ++ items_of_piece lines dialect limit piece
+items_push lines dialect limit pieces piece = grind (arith, flat_map-append, append-nil)

@@ -11,3 +11,4 @@ pub mod WholeLines
 pub mod RelaysSoFar
 pub mod RelaysOfText
 pub mod RelayEnds
+pub mod VerdictLemmas

@@ -1,11 +1,13 @@
 -- How a relay ends.
 use Rattle.std.proofs.Common.{◌≡◌, ℕ, ◌+◌, ◌<◌, ◌⊎◌, ◌≤◌, List, [], Option, Some, None, IfSome, Result, Ok, Err, IsErrAnd}
-use Rattle.std.proofs.Common.{true, arith}
+use Rattle.std.proofs.Common.{true, subst, arith}
 use Rattle.influxdb_line_protocol.specs.format.Dialects.{Dialect}
 use Rattle.lp_rebuild.specs.declared.program.RunFault.{RunFault}
 use Rattle.lp_relay_core.specs.declared.relaying.Relayed.{Relayed}
 use Rattle.lp_rebuild.specs.Running.{CountsReadFault, ReaderTold, WriterTold}
 use Rattle.lp_relay_core.specs.RelaySteps.{CountsWriteFault}
+use Rattle.lp_relay_core.specs.declared.taking.Lines.{Lines}
+use Rattle.lp_relay_core.specs.declared.taking.Lines.TheVariants as going
 use Rattle.lp_relay_core.specs.declared.taking.Numbering.{Numbering}
 use Rattle.lp_relay_core.specs.Relays.{IfRebuilt, Relays, RelaysAll, RelaysFronts, RelaysRebuilt, RelaysRebuiltFronts}
 use Rattle.influxdb_line_protocol.specs.laws.Laws.{PiecesAreUnique}
@@ -13,22 +15,22 @@ use Rattle.influxdb_line_protocol.specs.laws.StreamLaws.{Utf8ByPieces}
 use Rattle.lp_relay_core.proofs.RelaysOfText.{all_rebuilt, fronts_rebuilt}
 
 -- a front of what is relayed of bytes that are known is a front of what a rebuild of them gives
-fronts_known : Utf8ByPieces → PiecesAreUnique → (dialect : Dialect) (limit : Option ℕ) (numbering : Numbering)
+fronts_known : Utf8ByPieces → PiecesAreUnique → (dialect : Dialect) (limit : Option ℕ) (numbering : Numbering) (first : ℕ)
     (bytes out out_after err err_after : Option (List ℕ))
-    → IfSome bytes (λ bs. RelaysFronts dialect limit numbering bs out out_after err err_after)
-    → IfSome bytes (λ bs. IfRebuilt dialect limit bs (λ r. RelaysRebuiltFronts numbering r out out_after err err_after))
-fronts_known law unique dialect limit numbering None out out_after err err_after fronts = tt
-fronts_known law unique dialect limit numbering (Some bs) out out_after err err_after fronts =
-    fronts_rebuilt law unique dialect limit numbering bs out out_after err err_after fronts
+    → IfSome bytes (λ bs. RelaysFronts going.Rebuilt dialect limit numbering first bs out out_after err err_after)
+    → IfSome bytes (λ bs. IfRebuilt dialect limit bs (λ r. RelaysRebuiltFronts numbering first r out out_after err err_after))
+fronts_known law unique dialect limit numbering first None out out_after err err_after fronts = tt
+fronts_known law unique dialect limit numbering first (Some bs) out out_after err err_after fronts =
+    fronts_rebuilt law unique dialect limit numbering first bs out out_after err err_after fronts
 
 -- what is relayed of bytes that are known is what a rebuild of them gives
-all_known : Utf8ByPieces → PiecesAreUnique → (dialect : Dialect) (limit : Option ℕ) (numbering : Numbering) (counts : Relayed)
+all_known : Utf8ByPieces → PiecesAreUnique → (dialect : Dialect) (limit : Option ℕ) (numbering : Numbering) (first : ℕ) (counts : Relayed)
     (bytes left out out_after err err_after : Option (List ℕ))
-    → IfSome bytes (λ bs. (left ≡ Some []) × RelaysAll dialect limit numbering bs counts out out_after err err_after)
-    → IfSome bytes (λ bs. IfRebuilt dialect limit bs (λ r. RelaysRebuilt numbering r counts out out_after err err_after))
-all_known law unique dialect limit numbering counts None left out out_after err err_after all = tt
-all_known law unique dialect limit numbering counts (Some bs) left out out_after err err_after all =
-    all_rebuilt law unique dialect limit numbering bs counts out out_after err err_after all.1
+    → IfSome bytes (λ bs. (left ≡ Some []) × RelaysAll going.Rebuilt dialect limit numbering first bs counts out out_after err err_after)
+    → IfSome bytes (λ bs. IfRebuilt dialect limit bs (λ r. RelaysRebuilt numbering first r counts out out_after err err_after))
+all_known law unique dialect limit numbering first counts None left out out_after err err_after all = tt
+all_known law unique dialect limit numbering first counts (Some bs) left out out_after err err_after all =
+    all_rebuilt law unique dialect limit numbering first bs counts out out_after err err_after all.1
 
 -- counts that are the same have not risen
 none_rose : (a b c d : ℕ) → b ≡ a → d ≡ c → (a < b) ⊎ (c < d) → ⊥
@@ -43,19 +45,22 @@ none_fell : (a b c d : ℕ) → ((b ≡ a + 1) × (d ≡ c)) ⊎ ((b ≡ a) × (
 none_fell a b c d h = grind (arith)
 
 -- a fault of the reader, or memory that was refused
-pub read_fault : Utf8ByPieces → PiecesAreUnique → (dialect : Dialect) (limit : Option ℕ) (numbering : Numbering)
+pub read_fault : Utf8ByPieces → PiecesAreUnique → (lines : Lines) (dialect : Dialect) (limit : Option ℕ) (numbering : Numbering) (first : ℕ)
     (fault : RunFault) (count : ℕ) (reader reader_after : ReaderTold) (out out_after err err_after : WriterTold)
-    → IfSome reader.bytes (λ bs. RelaysFronts dialect limit numbering bs out.bytes out_after.bytes err.bytes err_after.bytes)
+    → IfSome reader.bytes (λ bs. RelaysFronts lines dialect limit numbering first bs out.bytes out_after.bytes err.bytes err_after.bytes)
     → CountsReadFault {T = ℕ} (Err fault) count reader_after.failures → count ≡ reader.failures
     → out_after.failures ≡ out.failures → err_after.failures ≡ err.failures
-    → Relays dialect limit numbering (Err fault) reader reader_after out out_after err err_after
-read_fault law unique dialect limit numbering fault count reader reader_after out out_after err err_after fronts c e o f =
+    → Relays lines dialect limit numbering first (Err fault) reader reader_after out out_after err err_after
+read_fault law unique lines dialect limit numbering first fault count reader reader_after out out_after err err_after fronts c e o f =
     record {
       all = tt;
       flushed = tt;
       part = fronts;
-      rebuilt = tt;
-      rebuilt_part = fronts_known law unique dialect limit numbering reader.bytes _ _ _ _ fronts;
+      rebuilt = λ is. tt;
+      rebuilt_part = λ is.
+          fronts_known law unique dialect limit numbering first reader.bytes _ _ _ _
+          (subst (λ l. IfSome reader.bytes (λ bs.
+          RelaysFronts l dialect limit numbering first bs out.bytes out_after.bytes err.bytes err_after.bytes)) is fronts);
       read = grind (arith);
       write = grind (arith, none_rose);
       utf8 = grind (arith);
@@ -63,19 +68,22 @@ read_fault law unique dialect limit numbering fault count reader reader_after ou
     }
 
 -- a fault of a writer, or memory that was refused
-pub write_fault : Utf8ByPieces → PiecesAreUnique → (dialect : Dialect) (limit : Option ℕ) (numbering : Numbering)
+pub write_fault : Utf8ByPieces → PiecesAreUnique → (lines : Lines) (dialect : Dialect) (limit : Option ℕ) (numbering : Numbering) (first : ℕ)
     (fault : RunFault) (out_count err_count : ℕ) (reader reader_after : ReaderTold) (out out_after err err_after : WriterTold)
-    → IfSome reader.bytes (λ bs. RelaysFronts dialect limit numbering bs out.bytes out_after.bytes err.bytes err_after.bytes)
+    → IfSome reader.bytes (λ bs. RelaysFronts lines dialect limit numbering first bs out.bytes out_after.bytes err.bytes err_after.bytes)
     → CountsWriteFault {T = Unit {0}} (Err fault) out_count out_after.failures err_count err_after.failures
     → out_count ≡ out.failures → err_count ≡ err.failures → reader_after.failures ≡ reader.failures
-    → Relays dialect limit numbering (Err fault) reader reader_after out out_after err err_after
-write_fault law unique dialect limit numbering fault out_count err_count reader reader_after out out_after err err_after fronts c o f r =
+    → Relays lines dialect limit numbering first (Err fault) reader reader_after out out_after err err_after
+write_fault law unique lines dialect limit numbering first fault out_count err_count reader reader_after out out_after err err_after fronts c o f r =
     record {
       all = tt;
       flushed = tt;
       part = fronts;
-      rebuilt = tt;
-      rebuilt_part = fronts_known law unique dialect limit numbering reader.bytes _ _ _ _ fronts;
+      rebuilt = λ is. tt;
+      rebuilt_part = λ is.
+          fronts_known law unique dialect limit numbering first reader.bytes _ _ _ _
+          (subst (λ l. IfSome reader.bytes (λ bs.
+          RelaysFronts l dialect limit numbering first bs out.bytes out_after.bytes err.bytes err_after.bytes)) is fronts);
       read = grind (arith);
       write = grind (arith, one_rose, none_rose);
       utf8 = grind (arith);
@@ -83,20 +91,23 @@ write_fault law unique dialect limit numbering fault out_count err_count reader 
     }
 
 -- all was written
-pub ended : Utf8ByPieces → PiecesAreUnique → (dialect : Dialect) (limit : Option ℕ) (numbering : Numbering)
+pub ended : Utf8ByPieces → PiecesAreUnique → (lines : Lines) (dialect : Dialect) (limit : Option ℕ) (numbering : Numbering) (first : ℕ)
     (counts : Relayed) (reader reader_after : ReaderTold) (out out_after err err_after : WriterTold)
     → IfSome reader.bytes (λ bs.
-    (reader_after.bytes ≡ Some []) × RelaysAll dialect limit numbering bs counts out.bytes out_after.bytes err.bytes err_after.bytes)
+    (reader_after.bytes ≡ Some []) × RelaysAll lines dialect limit numbering first bs counts out.bytes out_after.bytes err.bytes err_after.bytes)
     → (out_after.is_flushed ≡ true) × (err_after.is_flushed ≡ true) → reader_after.failures ≡ reader.failures
     → out_after.failures ≡ out.failures → err_after.failures ≡ err.failures
-    → Relays dialect limit numbering (Ok counts) reader reader_after out out_after err err_after
-ended law unique dialect limit numbering counts reader reader_after out out_after err err_after all flushed r o f =
+    → Relays lines dialect limit numbering first (Ok counts) reader reader_after out out_after err err_after
+ended law unique lines dialect limit numbering first counts reader reader_after out out_after err err_after all flushed r o f =
     record {
       all = all;
       flushed = flushed;
       part = tt;
-      rebuilt = all_known law unique dialect limit numbering counts reader.bytes reader_after.bytes _ _ _ _ all;
-      rebuilt_part = tt;
+      rebuilt = λ is.
+          all_known law unique dialect limit numbering first counts reader.bytes reader_after.bytes _ _ _ _
+          (subst (λ l. IfSome reader.bytes (λ bs. (reader_after.bytes ≡ Some [])
+          × RelaysAll l dialect limit numbering first bs counts out.bytes out_after.bytes err.bytes err_after.bytes)) is all);
+      rebuilt_part = λ is. tt;
       read = grind (arith);
       write = grind (arith, none_rose);
       utf8 = grind (arith);
@@ -104,8 +115,8 @@ ended law unique dialect limit numbering counts reader reader_after out out_afte
     }
 
 -- a fault that was handed on
-pub handed_on : (dialect : Dialect) (limit : Option ℕ) (numbering : Numbering) (result : Result Relayed RunFault) (fault : RunFault)
+pub handed_on : (lines : Lines) (dialect : Dialect) (limit : Option ℕ) (numbering : Numbering) (first : ℕ) (result : Result Relayed RunFault) (fault : RunFault)
     (reader reader_after : ReaderTold) (out out_after err err_after : WriterTold) → IsErrAnd result (λ e. e ≡ fault)
-    → Relays dialect limit numbering (Err fault) reader reader_after out out_after err err_after
-    → Relays dialect limit numbering result reader reader_after out out_after err err_after
-handed_on dialect limit numbering e fault reader reader_after out out_after err err_after is h = grind (arith)
+    → Relays lines dialect limit numbering first (Err fault) reader reader_after out out_after err err_after
+    → Relays lines dialect limit numbering first result reader reader_after out out_after err err_after
+handed_on lines dialect limit numbering first e fault reader reader_after out out_after err err_after is h = grind (arith)

@@ -1,12 +1,14 @@
 -- The steps of a relay, one after another.
-use Rattle.std.proofs.Common.{◌≡◌, ◌<◌, ℕ, List, [], ◌∷◌, ◌++◌, length, map, string_bytes, codes}
+use Rattle.std.proofs.Common.{◌≡◌, ◌+◌, ◌<◌, ◌==◌, ℕ, Bool, false, true, List, [], ◌∷◌, ◌++◌, length, map, string_bytes, codes, is_ok, Ok, Err}
 use Rattle.std.proofs.Common.{Option, Result, refl, sym, ap, subst, ◌∙◌, arith, append-nil}
-use Rattle.std.proofs.Common.{OnErr, inl, inr}
+use Rattle.std.proofs.Common.{OnErr, inl, inr, append_assoc}
+use Rattle.std.proofs.lemmas.Bool.{eqb-false, eqb-true}
 use Rattle.std.proofs.Math.Nat.{eq-zero-or-pos}
 use Rattle.std.specs.Str.{IsUtf8}
 use Rattle.std.proofs.lemmas.Str.{IsUtf8-nil}
 use Rattle.std.specs.Io.KnownBytes.{Appends}
 use Rattle.std.proofs.KnownBytes.{Appends-nil}
+use Rattle.influxdb_line_protocol.specs.format.Bytes.{newline}
 use Rattle.influxdb_line_protocol.specs.format.Dialects.{Dialect}
 use Rattle.influxdb_line_protocol.specs.format.Readings.{Fault}
 use Rattle.influxdb_line_protocol.specs.format.Lines.{Line, answer}
@@ -15,7 +17,9 @@ use Rattle.influxdb_line_protocol.specs.format.Items.{answers_of_piece}
 use Rattle.lp_rebuild.specs.declared.batch.Progress.{Progress}
 use Rattle.lp_rebuild.specs.RebuildSteps.{Refuses, Takes}
 use Rattle.lp_rebuild.specs.Running.{AppendsFront}
-use Rattle.lp_relay_core.specs.Relaying.{Item, answered, not_utf8, too_long, items_of_bytes, items_batch}
+use Rattle.lp_relay_core.specs.declared.taking.Lines.{Lines}
+use Rattle.lp_relay_core.specs.declared.taking.Lines.TheVariants.{Rebuilt, Verbatim}
+use Rattle.lp_relay_core.specs.Relaying.{Item, answered, as_it_came, item_of, not_utf8, too_long, items_of_bytes, items_batch}
 use Rattle.lp_relay_core.specs.RelaySteps.{Made, made, Passes, RelaysItems, RelaysPart, TakesItems, faults_next}
 use Rattle.lp_rebuild.proofs.RebuildLemmas.{add_where, add_elsewhere, blank_answers, piece_answers}
 use Rattle.lp_relay_core.proofs.PassLemmas.{passes_none, passes_more, passes_front}
@@ -41,49 +45,112 @@ pub takes_too_long : (old new : Progress) → Refuses old (codes "the line is to
     → TakesItems (made old) (too_long ∷ []) (made new)
 takes_too_long old new r = grind (arith, append-nil, string_bytes)
 
--- the line of a piece is its one item
-takes_line : (dialect : Dialect) (piece : List ℕ) (old new : Progress) → 0 < length (trimmed piece)
-    → Takes old (answer dialect (trimmed piece)) new
-    → TakesItems (made old) (map answered (answers_of_piece dialect piece)) (made new)
-takes_line dialect piece old new some takes =
-    subst (λ (l : List (Result Line Fault)). TakesItems (made old) (map answered l) (made new)) (sym (piece_answers dialect piece some))
-    (takes_answer old (answer dialect (trimmed piece)) new takes)
+-- a blank text has no item
+blank_items : (lines : Lines) (dialect : Dialect) (piece : List ℕ) → IsUtf8 piece → length (trimmed piece) ≡ 0
+    → items_of_bytes lines dialect piece ≡ []
+blank_items lines dialect piece u blank =
+    items_of_text lines dialect piece u ∙ ap (λ (l : List (Result Line Fault)). map (item_of lines piece) l) (blank_answers dialect piece blank)
 
--- a blank piece has none
-takes_blank : (dialect : Dialect) (piece : List ℕ) (old : Progress) → length (trimmed piece) ≡ 0
-    → TakesItems (made old) (map answered (answers_of_piece dialect piece)) (made old)
-takes_blank dialect piece old blank =
-    subst (λ (l : List (Result Line Fault)). TakesItems (made old) (map answered l) (made old)) (sym (blank_answers dialect piece blank))
-    (takes_nothing (made old))
+-- another text has the item of its answer
+text_item : (lines : Lines) (dialect : Dialect) (piece : List ℕ) → IsUtf8 piece → 0 < length (trimmed piece)
+    → items_of_bytes lines dialect piece ≡ item_of lines piece (answer dialect (trimmed piece)) ∷ []
+text_item lines dialect piece u some =
+    items_of_text lines dialect piece u
+    ∙ ap (λ (l : List (Result Line Fault)). map (item_of lines piece) l) (piece_answers dialect piece some)
+
+-- of a blank text nothing is taken
+takes_blank : (lines : Lines) (dialect : Dialect) (piece : List ℕ) (old : Made) → IsUtf8 piece → length (trimmed piece) ≡ 0
+    → TakesItems old (items_of_bytes lines dialect piece) old
+takes_blank lines dialect piece old u blank =
+    subst (λ (l : List Item). TakesItems old l old) (sym (blank_items lines dialect piece u blank)) (takes_nothing old)
 
 -- the line of a text is its one item, and a blank text has none
 pub takes_text : (dialect : Dialect) (piece : List ℕ) (old new : Progress) → IsUtf8 piece → (length (trimmed piece) ≡ 0 → new ≡ old)
     → (0 < length (trimmed piece) → Takes old (answer dialect (trimmed piece)) new)
-    → TakesItems (made old) (items_of_bytes dialect piece) (made new)
+    → TakesItems (made old) (items_of_bytes Rebuilt dialect piece) (made new)
 takes_text dialect piece old new u blank some =
-    rw (items_of_text dialect piece u)
-    (elim (eq-zero-or-pos (length (trimmed piece))) [
+    elim (eq-zero-or-pos (length (trimmed piece))) [
       | inl none ↦
-          subst (λ (p : Progress). TakesItems (made old) (map answered (answers_of_piece dialect piece)) (made p)) (sym (blank none))
-          (takes_blank dialect piece old none)
-      | inr more ↦ takes_line dialect piece old new more (some more)
-    ])
+          subst (λ (p : Progress). TakesItems (made old) (items_of_bytes Rebuilt dialect piece) (made p)) (sym (blank none))
+          (takes_blank Rebuilt dialect piece (made old) u none)
+      | inr more ↦
+          subst (λ (l : List Item). TakesItems (made old) l (made new)) (sym (text_item Rebuilt dialect piece u more))
+          (takes_answer old (answer dialect (trimmed piece)) new (some more))
+    ]
+
+-- a piece was taken as it came
+pub takes_as_it_came : (old new : Made) (piece : List ℕ) → new.batch ≡ (old.batch ++ piece) ++ newline ∷ [] → new.faults ≡ old.faults
+    → new.carried ≡ old.carried + 1 → new.refused ≡ old.refused → TakesItems old (as_it_came piece ∷ []) new
+takes_as_it_came old new piece batch faults carried refused = grind (arith, append-nil, append_assoc)
+
+-- a text is empty if a test of its length says so
+is_blank : (text piece : List ℕ) (test : Bool) → text ≡ trimmed piece → test ≡ (length text == 0) → test ≡ true → length (trimmed piece) ≡ 0
+is_blank text piece test is tests holds = ap length (sym is) ∙ eqb-true (length text) 0 (sym tests ∙ holds)
+
+-- of a text that is blank nothing goes out as it came
+pub takes_no_line : (dialect : Dialect) (piece text : List ℕ) (test : Bool) (old : Made) → text ≡ trimmed piece → IsUtf8 piece
+    → test ≡ (length text == 0) → test ≡ true → TakesItems old (items_of_bytes Verbatim dialect piece) old
+takes_no_line dialect piece text test old is u tests holds =
+    takes_blank Verbatim dialect piece old u (is_blank text piece test is tests holds)
+
+-- the item of a text that goes out as it came, if it is a line
+piece_of_line : (piece : List ℕ) (answer : Result Line Fault) → is_ok answer ≡ true → item_of Verbatim piece answer ≡ as_it_came piece
+piece_of_line piece (Ok line) is = refl
+piece_of_line piece (Err fault) is = absurd (cc)
+
+-- the item of a text that would go out as it came, if it is at fault
+answer_of_fault : (piece : List ℕ) (answer : Result Line Fault) → is_ok answer ≡ false → item_of Verbatim piece answer ≡ answered answer
+answer_of_fault piece (Ok line) is = absurd (cc)
+answer_of_fault piece (Err fault) is = refl
+
+-- a text that is not empty
+not_blank : (text piece : List ℕ) (test : Bool) → text ≡ trimmed piece → test ≡ (length text == 0) → test ≡ false → 0 < length (trimmed piece)
+not_blank text piece test is tests fails =
+    elim (eq-zero-or-pos (length text)) [
+      | inl none ↦ absurd (eqb-false (length text) 0 (sym tests ∙ fails) none)
+      | inr more ↦ subst (λ (l : List ℕ). 0 < length l) is more
+    ]
+
+-- a line goes out as it came
+pub takes_line : (dialect : Dialect) (piece text : List ℕ) (test verdict : Bool) (old new : Made) → text ≡ trimmed piece → IsUtf8 piece
+    → test ≡ (length text == 0) → test ≡ false → verdict ≡ is_ok (answer dialect text) → verdict ≡ true
+    → TakesItems old (as_it_came piece ∷ []) new → TakesItems old (items_of_bytes Verbatim dialect piece) new
+takes_line dialect piece text test verdict old new is u tests fails says holds takes =
+    let line : is_ok (answer dialect (trimmed piece)) ≡ true =
+    ap (λ (l : List ℕ). is_ok (answer dialect l)) (sym is) ∙ sym says ∙ holds in
+    subst (λ (l : List Item). TakesItems old l new)
+    (sym (text_item Verbatim dialect piece u (not_blank text piece test is tests fails)
+    ∙ ap (λ (i : Item). i ∷ []) (piece_of_line piece (answer dialect (trimmed piece)) line)))
+    takes
+
+-- where lines go out as they came, a text at fault is refused
+pub takes_fault : (dialect : Dialect) (piece text : List ℕ) (test verdict : Bool) (old new : Progress) → text ≡ trimmed piece
+    → IsUtf8 piece → test ≡ (length text == 0) → test ≡ false → verdict ≡ is_ok (answer dialect text) → verdict ≡ false
+    → Takes old (answer dialect text) new → TakesItems (made old) (items_of_bytes Verbatim dialect piece) (made new)
+takes_fault dialect piece text test verdict old new is u tests fails says wrong takes =
+    let fault : is_ok (answer dialect (trimmed piece)) ≡ false =
+    ap (λ (l : List ℕ). is_ok (answer dialect l)) (sym is) ∙ sym says ∙ wrong in
+    subst (λ (l : List Item). TakesItems (made old) l (made new))
+    (sym (text_item Verbatim dialect piece u (not_blank text piece test is tests fails)
+    ∙ ap (λ (i : Item). i ∷ []) (answer_of_fault piece (answer dialect (trimmed piece)) fault)))
+    (takes_answer old (answer dialect (trimmed piece)) new (subst (λ (l : List ℕ). Takes old (answer dialect l) new) is takes))
 
 -- an empty piece has no item
-no_items : (dialect : Dialect) → items_of_bytes dialect [] ≡ []
+no_items : (lines : Lines) (dialect : Dialect) → items_of_bytes lines dialect [] ≡ []
 unfolding answers_of_piece trimmed
-no_items dialect = items_of_text dialect [] IsUtf8-nil
+no_items lines dialect = items_of_text lines dialect [] IsUtf8-nil
 
 -- of an empty piece nothing is taken
-pub takes_empty : (dialect : Dialect) (piece : List ℕ) (old : Made) → piece ≡ [] → TakesItems old (items_of_bytes dialect piece) old
-takes_empty dialect piece old none =
-    subst (λ l. TakesItems old l old) (sym (ap (items_of_bytes dialect) none ∙ no_items dialect)) (takes_nothing old)
+pub takes_empty : (lines : Lines) (dialect : Dialect) (piece : List ℕ) (old : Made) → piece ≡ []
+    → TakesItems old (items_of_bytes lines dialect piece) old
+takes_empty lines dialect piece old none =
+    subst (λ l. TakesItems old l old) (sym (ap (items_of_bytes lines dialect) none ∙ no_items lines dialect)) (takes_nothing old)
 
 -- a piece that is not UTF-8 was refused
-pub takes_bad_bytes : (dialect : Dialect) (piece : List ℕ) (old new : Progress) → (¬ IsUtf8 piece)
-    → Refuses old (codes "the line is not UTF-8") new → TakesItems (made old) (items_of_bytes dialect piece) (made new)
-takes_bad_bytes dialect piece old new bad r =
-    subst (λ l. TakesItems (made old) l (made new)) (sym (item_of_no_text dialect piece bad)) (takes_no_text old new r)
+pub takes_bad_bytes : (lines : Lines) (dialect : Dialect) (piece : List ℕ) (old new : Progress) → (¬ IsUtf8 piece)
+    → Refuses old (codes "the line is not UTF-8") new → TakesItems (made old) (items_of_bytes lines dialect piece) (made new)
+takes_bad_bytes lines dialect piece old new bad r =
+    subst (λ l. TakesItems (made old) l (made new)) (sym (item_of_no_text lines dialect piece bad)) (takes_no_text old new r)
 
 -- what was taken is held
 pub relays_taken : (old new : Made) (a e : Option (List ℕ)) (xs : List Item) → TakesItems old xs new

@@ -6,10 +6,11 @@ use Rattle.std.proofs.lemmas.Bool.Decides.{nat_tests}
 use Rattle.std.proofs.lemmas.List.Elements.{All-tail}
 use Rattle.std.specs.Str.{IsUtf8}
 use Rattle.std.specs.Io.KnownBytes.{Appends}
+use Rattle.std.proofs.lemmas.Grind.{flat_map-append}
 use Rattle.std.proofs.lemmas.List.{map-append}
 use Rattle.influxdb_line_protocol.specs.format.Dialects.{Dialect}
 use Rattle.influxdb_line_protocol.specs.format.Readings.{Fault}
-use Rattle.influxdb_line_protocol.specs.format.Points.{built_all}
+use Rattle.influxdb_line_protocol.specs.format.Points.{built, built_all}
 use Rattle.influxdb_line_protocol.specs.format.Lines.{Line}
 use Rattle.influxdb_line_protocol.specs.format.Pieces.{Pieces, Pieces.cut, Pieces.last}
 use Rattle.influxdb_line_protocol.specs.format.Items.{answers_of}
@@ -17,11 +18,12 @@ use Rattle.influxdb_line_protocol.specs.laws.Laws.{PiecesAreUnique}
 use Rattle.influxdb_line_protocol.specs.laws.StreamLaws.{Utf8ByPieces}
 use Rattle.lp_rebuild.specs.declared.batch.Rebuilt.{Rebuilt}
 use Rattle.lp_relay_core.specs.declared.relaying.Relayed.{Relayed}
-use Rattle.lp_rebuild.specs.Rebuilding.{RebuildsIn, carried_of, carried_point, fault_of, faults_from, refused_of}
+use Rattle.lp_rebuild.specs.Rebuilding.{RebuildsIn, batch_of, carried_of, carried_point, fault_of, faults_from, refused_of}
 use Rattle.lp_rebuild.specs.Running.{AppendsFront}
-use Rattle.lp_relay_core.specs.Relaying.{Item, answered, is_too_long, items_of, item_point, items_batch, item_faults}
+use Rattle.lp_relay_core.specs.Relaying.{Item, answered, is_too_long, items_of, items_batch, item_faults}
 use Rattle.lp_relay_core.specs.Relaying.{carried_items, refused_items}
 use Rattle.lp_relay_core.specs.Relays.{IfRebuilt, named_faults, RelaysAll, RelaysFronts, RelaysRebuilt, RelaysRebuiltFronts}
+use Rattle.lp_relay_core.specs.declared.taking.Lines.TheVariants as going
 use Rattle.lp_relay_core.specs.declared.taking.Numbering.{Numbering}
 use Rattle.lp_rebuild.proofs.RebuildLemmas.{carried_cons, refused_cons}
 use Rattle.lp_relay_core.proofs.ItemLemmas.{carried_first, refused_first, items_of_fitting, items_of_text}
@@ -30,10 +32,12 @@ use Rattle.lp_relay_core.proofs.ItemLemmas.{carried_first, refused_first, items_
 abbrev as_items : List (Result Line Fault) → List Item
 as_items answers = map answered answers
 
--- the points of answers are those of them as items
-points_of_answers : (answers : List (Result Line Fault)) → flat_map item_point (as_items answers) ≡ flat_map carried_point answers
-points_of_answers [] = refl
-points_of_answers (a ∷ answers) = ap (λ l. carried_point a ++ l) (points_of_answers answers)
+-- what goes out for answers as items are the lines of their points
+lines_of_answers : (answers : List (Result Line Fault)) → items_batch (as_items answers) ≡ batch_of answers
+lines_of_answers [] = refl
+lines_of_answers (a ∷ answers) =
+    ap (λ l. built_all (carried_point a) ++ l) (lines_of_answers answers)
+    ∙ sym (flat_map-append built (carried_point a) (flat_map carried_point answers))
 
 -- their faults
 faults_of_answers : (number : ℕ) (answers : List (Result Line Fault)) → item_faults number (as_items answers) ≡ faults_from number answers
@@ -72,14 +76,14 @@ short_pieces limit (piece ∷ pieces) h =
 
 -- the items of a piece that is UTF-8 and not too long, and of others
 items_of_texts : (dialect : Dialect) (limit : Option ℕ) (piece : List ℕ) (pieces : List (List ℕ)) → is_too_long limit piece ≡ false
-    → IsUtf8 piece → items_of dialect limit pieces ≡ as_items (answers_of dialect pieces)
-    → items_of dialect limit (piece ∷ pieces) ≡ as_items (answers_of dialect (piece ∷ pieces))
+    → IsUtf8 piece → items_of going.Rebuilt dialect limit pieces ≡ as_items (answers_of dialect pieces)
+    → items_of going.Rebuilt dialect limit (piece ∷ pieces) ≡ as_items (answers_of dialect (piece ∷ pieces))
 items_of_texts dialect limit piece pieces fits u others = grind (arith, items_of_fitting, items_of_text, map-append)
 
 -- the items of a text that is UTF-8, and has no piece that is too long, are its answers
 items_are_answers : Utf8ByPieces → (dialect : Dialect) (limit : Option ℕ) (text : List ℕ) (pieces : List (List ℕ))
     → Pieces dialect text pieces → IsUtf8 text → NoneTooLong limit pieces
-    → items_of dialect limit pieces ≡ as_items (answers_of dialect pieces)
+    → items_of going.Rebuilt dialect limit pieces ≡ as_items (answers_of dialect pieces)
 items_are_answers law dialect limit text pieces (last piece h) u fit = items_of_texts dialect limit piece [] fit.0 u refl
 items_are_answers law dialect limit text pieces (cut piece rest others c k) u fit =
     let both = (law piece rest).0 u in
@@ -88,7 +92,7 @@ items_are_answers law dialect limit text pieces (cut piece rest others c k) u fi
 -- so they are those of a rebuild
 items_of_rebuilt : Utf8ByPieces → PiecesAreUnique → (dialect : Dialect) (limit : Option ℕ) (text : List ℕ) (pieces : List (List ℕ))
     → Pieces dialect text pieces → NoneTooLong limit pieces → IsUtf8 text → (r : Rebuilt) → (h : RebuildsIn dialect text r)
-    → items_of dialect limit pieces ≡ as_items h.answers
+    → items_of going.Rebuilt dialect limit pieces ≡ as_items h.answers
 items_of_rebuilt law unique dialect limit text pieces are fit u r h = grind (arith, items_are_answers)
 
 -- what holds if no piece is too long holds of a text that is rebuilt
@@ -98,35 +102,35 @@ if_rebuilt : PiecesAreUnique → (dialect : Dialect) (limit : Option ℕ) (text 
 if_rebuilt unique dialect limit text pieces x5 are f = grind (arith, no_limit, short_pieces)
 
 -- what was written of all items is what the rebuild gives
-pub all_rebuilt : Utf8ByPieces → PiecesAreUnique → (dialect : Dialect) (limit : Option ℕ) (numbering : Numbering) (text : List ℕ)
+pub all_rebuilt : Utf8ByPieces → PiecesAreUnique → (dialect : Dialect) (limit : Option ℕ) (numbering : Numbering) (first : ℕ) (text : List ℕ)
     (counts : Relayed) (out out_after err err_after : Option (List ℕ))
-    → RelaysAll dialect limit numbering text counts out out_after err err_after
-    → IfRebuilt dialect limit text (λ r. RelaysRebuilt numbering r counts out out_after err err_after)
-all_rebuilt law unique dialect limit numbering text counts out out_after err err_after all =
-    if_rebuilt unique dialect limit text all.pieces (λ r. RelaysRebuilt numbering r counts out out_after err err_after) all.are
+    → RelaysAll going.Rebuilt dialect limit numbering first text counts out out_after err err_after
+    → IfRebuilt dialect limit text (λ r. RelaysRebuilt numbering first r counts out out_after err err_after)
+all_rebuilt law unique dialect limit numbering first text counts out out_after err err_after all =
+    if_rebuilt unique dialect limit text all.pieces (λ r. RelaysRebuilt numbering first r counts out out_after err err_after) all.are
     (λ fit u r h.
     let same = items_of_rebuilt law unique dialect limit text all.pieces all.are fit u r h in
     record {
       batch = subst (Appends out out_after)
-          (ap items_batch same ∙ ap built_all (points_of_answers h.answers) ∙ sym h.batch) all.batch;
-      faults = λ named. subst (Appends err err_after)
-          (ap (λ n. named_faults n dialect limit all.pieces) named ∙ ap (item_faults 1) same
+          (ap items_batch same ∙ lines_of_answers h.answers ∙ sym h.batch) all.batch;
+      faults = λ named one. subst (Appends err err_after)
+          (ap (λ n. named_faults n first going.Rebuilt dialect limit all.pieces) named ∙ ap (λ n. item_faults n (items_of going.Rebuilt dialect limit all.pieces)) one ∙ ap (item_faults 1) same
           ∙ faults_of_answers 1 h.answers ∙ sym h.faults) all.faults;
       carried = all.carried ∙ ap carried_items same ∙ carried_of_answers h.answers ∙ sym h.carried;
       refused = all.refused ∙ ap refused_items same ∙ refused_of_answers h.answers ∙ sym h.refused;
     })
 
 -- and a beginning is a beginning of that
-pub fronts_rebuilt : Utf8ByPieces → PiecesAreUnique → (dialect : Dialect) (limit : Option ℕ) (numbering : Numbering) (text : List ℕ)
-    (out out_after err err_after : Option (List ℕ)) → RelaysFronts dialect limit numbering text out out_after err err_after
-    → IfRebuilt dialect limit text (λ r. RelaysRebuiltFronts numbering r out out_after err err_after)
-fronts_rebuilt law unique dialect limit numbering text out out_after err err_after some =
-    if_rebuilt unique dialect limit text some.pieces (λ r. RelaysRebuiltFronts numbering r out out_after err err_after) some.are
+pub fronts_rebuilt : Utf8ByPieces → PiecesAreUnique → (dialect : Dialect) (limit : Option ℕ) (numbering : Numbering) (first : ℕ) (text : List ℕ)
+    (out out_after err err_after : Option (List ℕ)) → RelaysFronts going.Rebuilt dialect limit numbering first text out out_after err err_after
+    → IfRebuilt dialect limit text (λ r. RelaysRebuiltFronts numbering first r out out_after err err_after)
+fronts_rebuilt law unique dialect limit numbering first text out out_after err err_after some =
+    if_rebuilt unique dialect limit text some.pieces (λ r. RelaysRebuiltFronts numbering first r out out_after err err_after) some.are
     (λ fit u r h.
     let same = items_of_rebuilt law unique dialect limit text some.pieces some.are fit u r h in (
       subst (AppendsFront out out_after)
-          (ap items_batch same ∙ ap built_all (points_of_answers h.answers) ∙ sym h.batch) some.batch,
-      λ named. subst (AppendsFront err err_after)
-          (ap (λ n. named_faults n dialect limit some.pieces) named ∙ ap (item_faults 1) same
+          (ap items_batch same ∙ lines_of_answers h.answers ∙ sym h.batch) some.batch,
+      λ named one. subst (AppendsFront err err_after)
+          (ap (λ n. named_faults n first going.Rebuilt dialect limit some.pieces) named ∙ ap (λ n. item_faults n (items_of going.Rebuilt dialect limit some.pieces)) one ∙ ap (item_faults 1) same
           ∙ faults_of_answers 1 h.answers ∙ sym h.faults) some.faults,
     ))

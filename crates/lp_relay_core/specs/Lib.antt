@@ -4,3 +4,4 @@ pub mod LineFaults
 pub mod Relaying
 pub mod RelaySteps
 pub mod Relays
+pub mod Verdicts

@@ -5,11 +5,13 @@ use Rattle.influxdb_line_protocol.specs.format.Dialects.{Dialect}
 use Rattle.influxdb_line_protocol.specs.format.Bytes.{newlines_in}
 use Rattle.lp_rebuild.specs.Rebuilding.{refusal_text}
 use Rattle.lp_rebuild.specs.RebuildSteps.{fault_line_on}
-use Rattle.lp_relay_core.specs.Relaying.{Item, answered, not_utf8, too_long, is_carried_item, items_of_piece}
+use Rattle.lp_relay_core.specs.Relaying.{Item, answered, as_it_came, not_utf8, too_long, is_carried_item, items_of_piece}
+use Rattle.lp_relay_core.specs.declared.taking.Lines.{Lines}
 
 -- what is wrong with an item that is not carried
 abbrev pub item_text : Item → List ℕ
 item_text (answered answer) = refusal_text answer
+item_text (as_it_came piece) = []
 item_text not_utf8 = codes "the line is not UTF-8"
 item_text too_long = codes "the line is too long"
 
@@ -19,8 +21,8 @@ line_fault line item = if is_carried_item item then [] else fault_line_on line (
 
 -- the fault lines of the items of pieces that are not carried, where the first piece begins on this line: each newline, within
 -- a piece or at its end, begins a line
-abbrev pub line_faults : Dialect → Option ℕ → ℕ → List (List ℕ) → List ℕ
-line_faults dialect limit line [] = []
-line_faults dialect limit line (piece ∷ pieces) =
-    flat_map (line_fault line) (items_of_piece dialect limit piece)
-    ++ line_faults dialect limit (line + newlines_in piece + 1) pieces
+abbrev pub line_faults : Lines → Dialect → Option ℕ → ℕ → List (List ℕ) → List ℕ
+line_faults lines dialect limit line [] = []
+line_faults lines dialect limit line (piece ∷ pieces) =
+    flat_map (line_fault line) (items_of_piece lines dialect limit piece)
+    ++ line_faults lines dialect limit (line + newlines_in piece + 1) pieces

@@ -1,5 +1,5 @@
 -- What each step of a relay takes of the stream, and what it writes or holds of it.
-use Rattle.std.specs.Prelude.{◌≡◌, ◌⊎◌, ◌<◌, ℕ, ◌+◌, ◌++◌, List, [], ◌∷◌, length, drop, string_bytes, Option, Some, None}
+use Rattle.std.specs.Prelude.{◌≡◌, ◌⊎◌, ◌<◌, ℕ, ◌+◌, ◌-◌, ◌++◌, List, [], ◌∷◌, length, drop, string_bytes, Option, Some, None}
 use Rattle.std.specs.Prelude.{Result, Ok, Err, if◌then◌else◌}
 use Rattle.std.specs.Borrow.{Bor}
 use Rattle.std.specs.Io.KnownBytes.{Appends}
@@ -10,19 +10,20 @@ use Rattle.influxdb_line_protocol.specs.types.PieceTooLong.{PieceTooLong}
 use Rattle.influxdb_line_protocol.specs.code.Bounded.{HeldWithin, Holds}
 use Rattle.influxdb_line_protocol.specs.laws.StreamLaws.{Run}
 use Rattle.lp_rebuild.specs.declared.batch.Progress.{Progress}
+use Rattle.lp_relay_core.specs.declared.taking.Lines.{Lines}
 use Rattle.lp_relay_core.specs.declared.taking.Numbering.{Numbering}
-use Rattle.lp_relay_core.specs.declared.taking.Numbering.TheVariants.{Items, Lines}
+use Rattle.lp_relay_core.specs.declared.taking.Numbering.TheVariants as named
 use Rattle.lp_rebuild.specs.declared.program.RunFault.{RunFault}
 use Rattle.lp_rebuild.specs.declared.program.RunFault.TheVariants.{Read, NotUtf8, OutOfMemory, Write}
 use Rattle.lp_rebuild.specs.RebuildSteps.{fault_line_at}
 use Rattle.lp_relay_core.specs.LineFaults.{item_text}
-use Rattle.lp_relay_core.specs.Relaying.{Item, too_long, is_carried_item, items_of_bytes, items_of_piece, items_of, items_batch, carried_items}
+use Rattle.lp_relay_core.specs.Relaying.{Item, first_of, too_long, is_carried_item, items_of_bytes, items_of_piece, items_of, items_batch, carried_items}
 use Rattle.lp_relay_core.specs.Relaying.{refused_items}
 
 -- the items of what a call gave: those of a piece, or that of one that is too long
-abbrev pub items_given : Dialect → Result (Bor (List ℕ)) PieceTooLong → List Item
-items_given dialect (Ok piece) = items_of_bytes dialect piece.now
-items_given dialect (Err _) = too_long ∷ []
+abbrev pub items_given : Lines → Dialect → Result (Bor (List ℕ)) PieceTooLong → List Item
+items_given lines dialect (Ok piece) = items_of_bytes lines dialect piece.now
+items_given lines dialect (Err _) = too_long ∷ []
 
 -- the newlines of what a call gave
 abbrev pub newlines_given : Result (Bor (List ℕ)) PieceTooLong → ℕ
@@ -34,8 +35,8 @@ abbrev pub TakesPieces : Dialect → (text : List ℕ) → List (List ℕ) → (
 TakesPieces dialect text pieces rest =
     (given t : List ℕ) (first : List (List ℕ)) → Run dialect given first (text ++ t) → Run dialect given (first ++ pieces) (rest ++ t)
 
--- what was made so far and is not written yet, how many items that was made of, together with what was written, and what the
--- fault line of the next item names
+-- what was made so far and is not written yet, how many items that was made of, together with what was written and with those that
+-- are counted before the first item, and what the fault line of the next item names
 pub record Made : Type 0 where
   pub batch : List ℕ
   pub faults : List ℕ
@@ -43,14 +44,25 @@ pub record Made : Type 0 where
   pub refused : ℕ
   pub line : Option ℕ
 
--- what the fault line of the first item names
-abbrev pub first_line : Numbering → Option ℕ
-first_line Items = None
-first_line Lines = Some 1
+-- the line that the fault line of the first item names, if it names a line
+abbrev pub first_line : Numbering → ℕ → Option ℕ
+first_line named.Items first = None
+first_line named.Lines first = Some (first_of first)
+
+-- how many items are counted before the first item, so that the next number is that of the first item
+abbrev pub items_before : Numbering → ℕ → ℕ
+items_before named.Items first = first - 1
+items_before named.Lines first = 0
 
 -- before the first item
-abbrev pub made_of_none : Option ℕ → Made
-made_of_none line = record { batch = []; faults = []; carried = 0; refused = 0; line = line }
+abbrev pub made_of_none : Numbering → ℕ → Made
+made_of_none numbering first = record {
+  batch = [];
+  faults = [];
+  carried = items_before numbering first;
+  refused = 0;
+  line = first_line numbering first;
+}
 
 -- what a relay has made so far
 abbrev pub made : Progress → Made
@@ -88,19 +100,19 @@ faults_at line number (item ∷ items) =
 
 -- the fault lines of the items of pieces that are not carried, where the first piece is at this line, and the first item has
 -- this number
-abbrev pub faults_from : Dialect → Option ℕ → Option ℕ → ℕ → List (List ℕ) → List ℕ
-faults_from dialect limit line number [] = []
-faults_from dialect limit line number (piece ∷ pieces) =
-    faults_at line number (items_of_piece dialect limit piece)
-    ++ faults_from dialect limit (line_after line (newlines_in piece)) (number + length (items_of_piece dialect limit piece)) pieces
+abbrev pub faults_from : Lines → Dialect → Option ℕ → Option ℕ → ℕ → List (List ℕ) → List ℕ
+faults_from lines dialect limit line number [] = []
+faults_from lines dialect limit line number (piece ∷ pieces) =
+    faults_at line number (items_of_piece lines dialect limit piece)
+    ++ faults_from lines dialect limit (line_after line (newlines_in piece)) (number + length (items_of_piece lines dialect limit piece)) pieces
 
 -- the fault lines of the items of the next piece, after what was made
 abbrev pub faults_next : Made → List Item → List ℕ
 faults_next old items = faults_at old.line (old.carried + old.refused + 1) items
 
 -- the fault lines of the next pieces
-abbrev pub faults_past : Dialect → Option ℕ → Made → List (List ℕ) → List ℕ
-faults_past dialect limit old pieces = faults_from dialect limit old.line (old.carried + old.refused + 1) pieces
+abbrev pub faults_past : Lines → Dialect → Option ℕ → Made → List (List ℕ) → List ℕ
+faults_past lines dialect limit old pieces = faults_from lines dialect limit old.line (old.carried + old.refused + 1) pieces
 
 -- these items of one piece were taken
 pub record TakesItems (old : Made) (items : List Item) (new : Made) : Type 0 where
@@ -130,41 +142,41 @@ pub record RelaysPart (old : Made) (out out_after err err_after : Option (List �
   pub faults : Passes err err_after old.faults fault_lines faults_left
 
 -- pieces of a text were taken up to this rest, and their lines were written, or are held
-pub record RelaysTo (dialect : Dialect) (limit : Option ℕ) (text rest : List ℕ) (old new : Made)
+pub record RelaysTo (lines : Lines) (dialect : Dialect) (limit : Option ℕ) (text rest : List ℕ) (old new : Made)
     (out out_after err err_after : Option (List ℕ)) : Type 0 where
   pub pieces : List (List ℕ)
   pub taken : TakesPieces dialect text pieces rest
   pub line : new.line ≡ line_past old.line pieces
-  pub relays : RelaysItems old new out out_after err err_after (items_of dialect limit pieces) (faults_past dialect limit old pieces)
+  pub relays : RelaysItems old new out out_after err err_after (items_of lines dialect limit pieces) (faults_past lines dialect limit old pieces)
 
 -- so they were up to a rest that the stream holds
-pub record RelaysPieces (dialect : Dialect) (limit : Option ℕ) (text : List ℕ) (after : HeldWithin) (old new : Made)
+pub record RelaysPieces (lines : Lines) (dialect : Dialect) (limit : Option ℕ) (text : List ℕ) (after : HeldWithin) (old new : Made)
     (out out_after err err_after : Option (List ℕ)) : Type 0 where
   pub rest : List ℕ
   pub holds : Holds after rest
-  pub to : RelaysTo dialect limit text rest old new out out_after err err_after
+  pub to : RelaysTo lines dialect limit text rest old new out out_after err err_after
 
 -- so were all that a newline ends
-abbrev pub RelaysAllPieces : Dialect → Option ℕ → (text : List ℕ) → (after : HeldWithin) → (old new : Made)
+abbrev pub RelaysAllPieces : Lines → Dialect → Option ℕ → (text : List ℕ) → (after : HeldWithin) → (old new : Made)
     → (out out_after err err_after : Option (List ℕ)) → Type 0
-RelaysAllPieces dialect limit text after old new out out_after err err_after =
-    (relays : RelaysPieces dialect limit text after old new out out_after err err_after) × IsLastPiece dialect relays.rest
+RelaysAllPieces lines dialect limit text after old new out out_after err err_after =
+    (relays : RelaysPieces lines dialect limit text after old new out out_after err err_after) × IsLastPiece dialect relays.rest
 
 -- pieces of a text and of a part after it were taken up to a rest: the stream holds the start of it, and so many bytes of the
 -- part come before the end
-pub record RelaysBegun (dialect : Dialect) (limit : Option ℕ) (text part : List ℕ) (given : ℕ) (after : HeldWithin) (old new : Made)
+pub record RelaysBegun (lines : Lines) (dialect : Dialect) (limit : Option ℕ) (text part : List ℕ) (given : ℕ) (after : HeldWithin) (old new : Made)
     (out out_after err err_after : Option (List ℕ)) : Type 0 where
   pub held : List ℕ
   pub holds : Holds after held
-  pub to : RelaysTo dialect limit (text ++ part) (held ++ drop given part) old new out out_after err err_after
+  pub to : RelaysTo lines dialect limit (text ++ part) (held ++ drop given part) old new out out_after err err_after
 
 -- pieces of a text were taken, and a beginning of their lines was written
-pub record RelaysSome (dialect : Dialect) (limit : Option ℕ) (text : List ℕ) (old : Made)
+pub record RelaysSome (lines : Lines) (dialect : Dialect) (limit : Option ℕ) (text : List ℕ) (old : Made)
     (out out_after err err_after : Option (List ℕ)) : Type 0 where
   pub pieces : List (List ℕ)
   pub rest : List ℕ
   pub taken : TakesPieces dialect text pieces rest
-  pub part : RelaysPart old out out_after err err_after (items_of dialect limit pieces) (faults_past dialect limit old pieces)
+  pub part : RelaysPart old out out_after err err_after (items_of lines dialect limit pieces) (faults_past lines dialect limit old pieces)
 
 -- `Write` adds one failure to the count of one writer, and nothing else changes a count; no other fault but `OutOfMemory` comes
 abbrev pub CountsWriteFault : {T : Type 0} → Result T RunFault → (out out_after err err_after : ℕ) → Type 0

@@ -1,61 +1,79 @@
 -- What bytes give when they are relayed: the items of their pieces, of which one that is too long, or is not UTF-8, is one item
--- without an answer.
-use Rattle.std.specs.Prelude.{ℕ, ◌+◌, ◌-◌, ◌^◌, ◌==◌, nat_lt, Bool, false, not, List, [], ◌∷◌, ◌++◌, length, codes, map}
-use Rattle.std.specs.Prelude.{Option, Some, None, Result, if◌then◌else◌}
+-- without an answer, and what goes out for these items.
+use Rattle.std.specs.Prelude.{ℕ, ◌+◌, ◌-◌, ◌^◌, ◌==◌, nat_lt, max, Bool, true, false, not, List, [], ◌∷◌, ◌++◌, length, codes, map}
+use Rattle.std.specs.Prelude.{Option, Some, None, Result, Ok, Err, if◌then◌else◌}
 use Rattle.std.specs.List.{flat_map, count_by}
 use Rattle.std.specs.Str.{is_utf8}
+use Rattle.influxdb_line_protocol.specs.format.Bytes.{newline}
 use Rattle.influxdb_line_protocol.specs.format.Dialects.{Dialect}
 use Rattle.influxdb_line_protocol.specs.format.Readings.{Fault}
-use Rattle.influxdb_line_protocol.specs.format.Points.{Point, built_all}
+use Rattle.influxdb_line_protocol.specs.format.Points.{built_all}
 use Rattle.influxdb_line_protocol.specs.format.Lines.{Line}
 use Rattle.influxdb_line_protocol.specs.format.Items.{answers_of_piece}
 use Rattle.lp_rebuild.specs.Rebuilding.{carried_point, fault_line, fault_of, is_carried_answer}
+use Rattle.lp_relay_core.specs.declared.taking.Lines.{Lines}
+use Rattle.lp_relay_core.specs.declared.taking.Lines.TheVariants.{Rebuilt, Verbatim}
 
--- an item: an answer, or a piece that has none, since it is not UTF-8 or is too long
+-- an item: an answer; a piece that holds a line and goes out as it came; or a piece that has no answer, since it is not UTF-8 or
+-- is too long
 pub data Item : Type 0 where
   answered : Result Line Fault → Item
+  as_it_came : List ℕ → Item
   not_utf8 too_long : Item
+
+-- the item of an answer for a piece: where lines go out as they came, that of a line is its piece, whatever its names are
+abbrev pub item_of : Lines → List ℕ → Result Line Fault → Item
+item_of Rebuilt piece answer = answered answer
+item_of Verbatim piece (Ok line) = as_it_came piece
+item_of Verbatim piece (Err fault) = answered (Err fault)
 
 -- the greatest length of a piece, if it has one: `usize::MAX` is none
 abbrev pub limit_of : ℕ → Option ℕ
 limit_of limit = if limit == 2 ^ 64 - 1 then None else Some limit
+
+-- the number of the first item or line that fault lines name: 0 is taken as 1
+abbrev pub first_of : ℕ → ℕ
+first_of first = max 1 first
 
 -- whether a piece has more bytes than it may have
 abbrev pub is_too_long : Option ℕ → List ℕ → Bool
 is_too_long None piece = false
 is_too_long (Some limit) piece = nat_lt limit (length piece)
 
--- the items of a piece that is not too long: its answers if it is UTF-8, and else one item without an answer
-unfoldable pub items_of_bytes : Dialect → List ℕ → List Item
-items_of_bytes dialect piece = if is_utf8 piece then map answered (answers_of_piece dialect piece) else not_utf8 ∷ []
+-- the items of a piece that is not too long: those of its answers if it is UTF-8, and else one item without an answer
+unfoldable pub items_of_bytes : Lines → Dialect → List ℕ → List Item
+items_of_bytes lines dialect piece = if is_utf8 piece then map (item_of lines piece) (answers_of_piece dialect piece) else not_utf8 ∷ []
 
 -- the items of a piece: if it is too long, one item without an answer, whatever its bytes are
-unfoldable pub items_of_piece : Dialect → Option ℕ → List ℕ → List Item
-items_of_piece dialect limit piece = if is_too_long limit piece then too_long ∷ [] else items_of_bytes dialect piece
+unfoldable pub items_of_piece : Lines → Dialect → Option ℕ → List ℕ → List Item
+items_of_piece lines dialect limit piece = if is_too_long limit piece then too_long ∷ [] else items_of_bytes lines dialect piece
 
 -- the items of pieces, in order
-abbrev pub items_of : Dialect → Option ℕ → List (List ℕ) → List Item
-items_of dialect limit pieces = flat_map (items_of_piece dialect limit) pieces
+abbrev pub items_of : Lines → Dialect → Option ℕ → List (List ℕ) → List Item
+items_of lines dialect limit pieces = flat_map (items_of_piece lines dialect limit) pieces
 
 -- whether an item is carried
 abbrev pub is_carried_item : Item → Bool
 is_carried_item (answered answer) = is_carried_answer answer
+is_carried_item (as_it_came piece) = true
 is_carried_item not_utf8 = false
 is_carried_item too_long = false
 
--- the point of an item that is carried
-abbrev pub item_point : Item → List Point
-item_point (answered answer) = carried_point answer
-item_point not_utf8 = []
-item_point too_long = []
+-- what goes out for an item: the line that is written again, or the piece that goes out as it came and a newline
+abbrev pub item_line : Item → List ℕ
+item_line (answered answer) = built_all (carried_point answer)
+item_line (as_it_came piece) = piece ++ newline ∷ []
+item_line not_utf8 = []
+item_line too_long = []
 
--- the lines of the items that are carried, written again
+-- what goes out for items, in order
 abbrev pub items_batch : List Item → List ℕ
-items_batch items = built_all (flat_map item_point items)
+items_batch items = flat_map item_line items
 
 -- the fault line of an item that is not carried
 abbrev pub item_fault : ℕ → Item → List ℕ
 item_fault number (answered answer) = fault_of number answer
+item_fault number (as_it_came piece) = []
 item_fault number not_utf8 = fault_line number (codes "the line is not UTF-8")
 item_fault number too_long = fault_line number (codes "the line is too long")
 

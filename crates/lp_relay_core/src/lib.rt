@@ -1,8 +1,8 @@
 //! Relays lines from a reader to two writers as they come, and tells where a text can be cut, so that its parts can be relayed
 //! or rebuilt apart.
 //!
-//! [`relay`] holds a line of its input and a block. By its [`Settings`] it passes over lines that are too long, and its faults
-//! name lines of the input. [`part_ends`] gives the ends of the parts of a text.
+//! [`relay`] holds a line of its input and a block. By its [`Settings`] it passes over lines that are too long, lets lines out as
+//! they came, and its faults name lines of the input. [`part_ends`] gives the ends of the parts of a text.
 //!
 //! It takes each item as `lp_rebuild` does. It is a crate of its own, since the program `lp_rebuild` needs none of it.
 #![tactic(auto)]
@@ -10,7 +10,8 @@
 mod cuts;
 mod relaying;
 mod taking;
+mod verdict;
 
 pub use cuts::part_ends;
-pub use relaying::{Relayed, Settings, relay};
-pub use taking::Numbering;
+pub use relaying::{Relayed, relay};
+pub use taking::{Lines, Numbering, Settings};

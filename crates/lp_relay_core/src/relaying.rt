@@ -11,43 +11,18 @@ ghost use Rattle.lp_relay_core.specs.RelaySteps.{RelaysItems, RelaysPart, Relays
 ghost use Rattle.lp_relay_core.specs.Relays.{Relays};
 ghost use Rattle.lp_rebuild.specs.Running.{reader_told, writer_told};
 
-use crate::taking::{Numbering, nothing_made, take_piece, take_text_piece, text_of};
-use influxdb_line_protocol::{BoundedLineStream, Dialect, ParsedLine, laws, split_lines_in};
+use crate::taking::{Settings, items_before, nothing_made, take_piece, take_text_piece, text_of};
+use influxdb_line_protocol::{BoundedLineStream, ParsedLine, laws, split_lines_in};
 use lp_rebuild::batch::Progress;
 use lp_rebuild::program::{BLOCK, read_block, write_bytes};
 use lp_rebuild::{RunFault, Sink, Source};
 use memchr::{memchr, memrchr};
 use std::alloc::Global;
 
-/// How a relay reads lines, and what its fault lines name: by default, it reads them by the rules of the crate, however long
-/// they are, and names items.
-#[derive(Clone, Copy, Debug, PartialEq, Eq)]
-pub struct Settings {
-    /// The dialect whose rules hold.
-    pub dialect: Dialect,
-    /// How many bytes a line may have, those of the newlines within its strings too, but without the one that ends it.
-    /// `usize::MAX` is no limit.
-    pub limit: usize,
-    /// What the fault lines name.
-    pub numbering: Numbering,
-}
-
-impl Default for Settings {
-    fn default() -> Self
-        ensures { result ≡ record { dialect = Dialect.Crate; limit = usize.MAX; numbering = Numbering.Items } }
-    {
-        Settings {
-            dialect: Dialect::Crate,
-            limit: usize::MAX,
-            numbering: Numbering::Items,
-        }
-    }
-}
-
-/// How many items a relay wrote again, and how many it refused.
+/// How many items of a relay went out, and how many it refused.
 #[derive(Clone, Copy, Debug, PartialEq, Eq)]
 pub struct Relayed {
-    /// How many items were written again.
+    /// How many items went out.
     pub carried: usize,
     /// How many items have a fault line.
     pub refused: usize,
@@ -135,19 +110,19 @@ fn relay_pieces<W: Sink, E: Sink>(
     requires few { HoldsLess BLOCK so_far.old }
     ensures rules { OnOk result (KeepsRules stream.old stream.new) }
     ensures ok { OnOk result ((text : List ℕ) → Holds stream.old text
-        → RelaysAllPieces (rules_of settings.dialect) (limit_of settings.limit) text stream.new
+        → RelaysAllPieces settings.lines (rules_of settings.dialect) (limit_of settings.limit) text stream.new
         (made so_far.old) (made so_far.new)
         (W.bytes out.old) (W.bytes out.new) (E.bytes err.old) (E.bytes err.new)) }
     ensures held { OnOk result (HoldsLess BLOCK so_far.new) }
     ensures fits { OnOk result (so_far.new.carried + so_far.new.refused ≤ usize.MAX) }
     ensures part { OnErr result ((text : List ℕ) → Holds stream.old text
-        → RelaysSome (rules_of settings.dialect) (limit_of settings.limit) text (made so_far.old)
+        → RelaysSome settings.lines (rules_of settings.dialect) (limit_of settings.limit) text (made so_far.old)
         (W.bytes out.old) (W.bytes out.new) (E.bytes err.old) (E.bytes err.new)) }
     ensures counts { CountsWriteFault result
         (W.failures out.old) (W.failures out.new) (E.failures err.old) (E.failures err.new) }
 {
     while let Some(piece) = stream.next() {
-        if take_piece(alloc, settings.dialect, so_far, piece).is_err() {
+        if take_piece(alloc, settings, so_far, piece).is_err() {
             return Err(RunFault::OutOfMemory);
         }
         pour_full(so_far, out, err)?;
@@ -177,12 +152,12 @@ fn relay_lines<W: Sink, E: Sink>(
     requires fits { progress.old.carried + progress.old.refused ≤ usize.MAX }
     requires few { HoldsLess BLOCK progress.old }
     ensures within { IfOk result (λ taken. taken ≤ length bytes.now) }
-    ensures ok { IfOk result (λ taken. RelaysTo (rules_of settings.dialect) (limit_of settings.limit) bytes.now (drop taken bytes.now)
+    ensures ok { IfOk result (λ taken. RelaysTo settings.lines (rules_of settings.dialect) (limit_of settings.limit) bytes.now (drop taken bytes.now)
         (made progress.old) (made progress.new)
         (W.bytes out.old) (W.bytes out.new) (E.bytes err.old) (E.bytes err.new)) }
     ensures held { OnOk result (HoldsLess BLOCK progress.new) }
     ensures fits { OnOk result (progress.new.carried + progress.new.refused ≤ usize.MAX) }
-    ensures part { OnErr result (RelaysSome (rules_of settings.dialect) (limit_of settings.limit) bytes.now (made progress.old)
+    ensures part { OnErr result (RelaysSome settings.lines (rules_of settings.dialect) (limit_of settings.limit) bytes.now (made progress.old)
         (W.bytes out.old) (W.bytes out.new) (E.bytes err.old) (E.bytes err.new)) }
     ensures counts { CountsWriteFault result
         (W.failures out.old) (W.failures out.new) (E.failures err.old) (E.failures err.new) }
@@ -197,16 +172,7 @@ fn relay_lines<W: Sink, E: Sink>(
         if lines.remainder().is_none() || piece.len() > settings.limit {
             return Ok(taken);
         }
-        if take_text_piece(
-            alloc,
-            settings.dialect,
-            progress,
-            piece,
-            &mut line,
-            &mut spare,
-        )
-        .is_err()
-        {
+        if take_text_piece(alloc, settings, progress, piece, &mut line, &mut spare).is_err() {
             return Err(RunFault::OutOfMemory);
         }
         pour_full(progress, out, err)?;
@@ -241,12 +207,12 @@ fn relay_begun<W: Sink, E: Sink>(
     ensures within { IfOk result (λ given. given ≤ length part.now) }
     ensures rules { OnOk result (KeepsRules stream.old stream.new) }
     ensures ok { IfOk result (λ given. (text : List ℕ) → Holds stream.old text → IsLastPiece (rules_of settings.dialect) text
-        → RelaysBegun (rules_of settings.dialect) (limit_of settings.limit) text part.now given stream.new
+        → RelaysBegun settings.lines (rules_of settings.dialect) (limit_of settings.limit) text part.now given stream.new
         (made so_far.old) (made so_far.new) (W.bytes out.old) (W.bytes out.new) (E.bytes err.old) (E.bytes err.new)) }
     ensures held { OnOk result (HoldsLess BLOCK so_far.new) }
     ensures fits { OnOk result (so_far.new.carried + so_far.new.refused ≤ usize.MAX) }
     ensures part { OnErr result ((text : List ℕ) → Holds stream.old text → IsLastPiece (rules_of settings.dialect) text
-        → RelaysSome (rules_of settings.dialect) (limit_of settings.limit) (text ++ part.now) (made so_far.old)
+        → RelaysSome settings.lines (rules_of settings.dialect) (limit_of settings.limit) (text ++ part.now) (made so_far.old)
         (W.bytes out.old) (W.bytes out.new) (E.bytes err.old) (E.bytes err.new)) }
     ensures counts { CountsWriteFault result
         (W.failures out.old) (W.failures out.new) (E.failures err.old) (E.failures err.new) }
@@ -262,7 +228,7 @@ fn relay_begun<W: Sink, E: Sink>(
     let Some(piece) = stream.next() else {
         return Ok(end);
     };
-    if take_piece(alloc, settings.dialect, so_far, piece).is_err() {
+    if take_piece(alloc, settings, so_far, piece).is_err() {
         return Err(RunFault::OutOfMemory);
     }
     pour_full(so_far, out, err)?;
@@ -288,13 +254,13 @@ fn relay_part<W: Sink, E: Sink>(
     requires block { length part.now ≤ BLOCK }
     ensures rules { OnOk result (KeepsRules stream.old stream.new) }
     ensures ok { OnOk result ((text : List ℕ) → Holds stream.old text → IsLastPiece (rules_of settings.dialect) text
-        → RelaysAllPieces (rules_of settings.dialect) (limit_of settings.limit) (text ++ part.now) stream.new
+        → RelaysAllPieces settings.lines (rules_of settings.dialect) (limit_of settings.limit) (text ++ part.now) stream.new
         (made so_far.old) (made so_far.new)
         (W.bytes out.old) (W.bytes out.new) (E.bytes err.old) (E.bytes err.new)) }
     ensures none { OnOk result (HoldsNone so_far.new) }
     ensures fits { OnOk result (so_far.new.carried + so_far.new.refused ≤ usize.MAX) }
     ensures part { OnErr result ((text : List ℕ) → Holds stream.old text → IsLastPiece (rules_of settings.dialect) text
-        → RelaysSome (rules_of settings.dialect) (limit_of settings.limit) (text ++ part.now) (made so_far.old)
+        → RelaysSome settings.lines (rules_of settings.dialect) (limit_of settings.limit) (text ++ part.now) (made so_far.old)
         (W.bytes out.old) (W.bytes out.new) (E.bytes err.old) (E.bytes err.new)) }
     ensures counts { CountsWriteFault result
         (W.failures out.old) (W.failures out.new) (E.failures err.old) (E.failures err.new) }
@@ -325,31 +291,32 @@ fn finish<W: Sink, E: Sink>(
     ensures ok { OnOk result ((text : List ℕ) → Holds stream.old text → IsLastPiece (rules_of settings.dialect) text
         → RelaysItems (made so_far.old) (made so_far.new)
         (W.bytes out.old) (W.bytes out.new) (E.bytes err.old) (E.bytes err.new)
-        (items_of_piece (rules_of settings.dialect) (limit_of settings.limit) text)
-        (faults_next (made so_far.old) (items_of_piece (rules_of settings.dialect) (limit_of settings.limit) text))) }
+        (items_of_piece settings.lines (rules_of settings.dialect) (limit_of settings.limit) text)
+        (faults_next (made so_far.old) (items_of_piece settings.lines (rules_of settings.dialect) (limit_of settings.limit) text))) }
     ensures none { OnOk result (HoldsNone so_far.new) }
     ensures part { OnErr result ((text : List ℕ) → Holds stream.old text → IsLastPiece (rules_of settings.dialect) text
         → RelaysPart (made so_far.old)
         (W.bytes out.old) (W.bytes out.new) (E.bytes err.old) (E.bytes err.new)
-        (items_of_piece (rules_of settings.dialect) (limit_of settings.limit) text)
-        (faults_next (made so_far.old) (items_of_piece (rules_of settings.dialect) (limit_of settings.limit) text))) }
+        (items_of_piece settings.lines (rules_of settings.dialect) (limit_of settings.limit) text)
+        (faults_next (made so_far.old) (items_of_piece settings.lines (rules_of settings.dialect) (limit_of settings.limit) text))) }
     ensures counts { CountsWriteFault result
         (W.failures out.old) (W.failures out.new) (E.failures err.old) (E.failures err.new) }
     ensures flushed { OnOk result ((W.is_flushed out.new ≡ true) × (E.is_flushed err.new ≡ true)) }
 {
-    if take_piece(alloc, settings.dialect, so_far, stream.finish()).is_err() {
+    if take_piece(alloc, settings, so_far, stream.finish()).is_err() {
         return Err(RunFault::OutOfMemory);
     }
     pour_and_flush(so_far, out, err)
 }
 
 /// Relays the lines that `reader` gives, as they come: each that [`rebuild`](lp_rebuild::rebuild) would write again goes to
-/// `out`, and the fault of every other item to `err`, with what `settings.numbering` says.
+/// `out`, and the fault of every other item to `err`, with what `settings.numbering` says. By `Lines::Verbatim` each line that
+/// can be read goes to `out` as it came, also one that a rebuild would refuse for a name.
 ///
 /// What each read completes is written and flushed before the next read is asked for, and the rest at the end. What is held of
 /// the input is the line that has not ended yet and one block, and of the output less than a block and what one line makes,
-/// since it is written too if it fills a block. So `out` and `err` gain what [`run`](lp_rebuild::run) writes, but not in its
-/// order.
+/// since it is written too if it fills a block. So by `Lines::Rebuilt` `out` and `err` gain what [`run`](lp_rebuild::run)
+/// writes, but not in its order.
 ///
 /// Input that is not UTF-8 does not end it: each piece that is not is one item, whose fault line is `item N: the line is
 /// not UTF-8`, and the pieces before and after it are read as ever. So is a piece that is longer than `settings.limit`, whose
@@ -373,7 +340,7 @@ pub fn relay<R: Source, W: Sink, E: Sink>(
     out: &mut W,
     err: &mut E,
 ) -> Result<Relayed, RunFault>
-    ensures { Relays (rules_of settings.dialect) (limit_of settings.limit) settings.numbering result
+    ensures { Relays settings.lines (rules_of settings.dialect) (limit_of settings.limit) settings.numbering settings.first result
         (reader_told R.bytes R.failures reader.old) (reader_told R.bytes R.failures reader.new)
         (writer_told W.bytes W.failures W.is_flushed out.old) (writer_told W.bytes W.failures W.is_flushed out.new)
         (writer_told E.bytes E.failures E.is_flushed err.old) (writer_told E.bytes E.failures E.is_flushed err.new) }
@@ -382,14 +349,14 @@ pub fn relay<R: Source, W: Sink, E: Sink>(
     laws::runs_give_pieces();
     laws::utf8_by_pieces();
     let mut stream = BoundedLineStream::new_in(alloc, settings.dialect, settings.limit);
-    let mut so_far = nothing_made(alloc, settings.numbering);
+    let mut so_far = nothing_made(alloc, settings);
     let mut block = Vec::new(alloc);
     for _ in 0..u64::MAX {
         let n = read_block(reader, &mut block, 0)?;
         if n == 0 {
             finish(alloc, settings, &mut stream, &mut so_far, out, err)?;
             return Ok(Relayed {
-                carried: so_far.carried,
+                carried: so_far.carried.saturating_sub(items_before(settings)),
                 refused: so_far.refused,
             });
         }

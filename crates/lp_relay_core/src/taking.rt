@@ -1,29 +1,78 @@
 //! What a relay takes of a piece of its input.
-ghost use Rattle.std.specs.Prelude.{◌≡◌, ◌+◌, ◌<◌, ◌≤◌, length, IfOk, IsUtf8, MatchResult, OnOk};
+ghost use Rattle.std.specs.Prelude.{◌≡◌, ◌+◌, ◌<◌, ◌≤◌, ◌∷◌, [], length, IfOk, IsUtf8, MatchResult, OnOk};
 ghost use Rattle.influxdb_line_protocol.specs.code.Rules.{rules_of};
 ghost use Rattle.influxdb_line_protocol.specs.format.Bytes.{newlines_in};
-ghost use Rattle.lp_relay_core.specs.Relaying.{items_of_bytes};
-ghost use Rattle.lp_relay_core.specs.RelaySteps.{HoldsLess, TakesItems, first_line, items_given, made, made_of_none};
+ghost use Rattle.lp_relay_core.specs.Relaying.{as_it_came, items_of_bytes};
+ghost use Rattle.lp_relay_core.specs.RelaySteps.{HoldsLess, TakesItems, items_before, items_given, made, made_of_none};
 ghost use Rattle.lp_relay_core.specs.RelaySteps.{newlines_given, line_after};
 
+use crate::verdict::is_line;
 use influxdb_line_protocol::{
     Dialect, EscapedStr, FieldSet, ParsedLine, PieceTooLong, Series, TagSet,
 };
 use lp_lines::freeing::{forget_line, free_line};
 use lp_rebuild::batch::{self, Progress, refuse};
 use lp_rebuild::program::BLOCK;
+use lp_scan::trim::trimmed;
 use simdutf8::basic::{self, Utf8Error};
 use std::alloc::{AllocError, Global};
 use std::str;
 
+/// How the lines of a relay go out.
+#[derive(Clone, Copy, Debug, PartialEq, Eq)]
+pub enum Lines {
+    /// A line is written again, in one spelling, if its names are admitted, and else it is refused.
+    Rebuilt,
+    /// A line goes out byte for byte as it came, whatever its names are, with what its piece has before it, and a newline.
+    Verbatim,
+}
+
 /// What the fault lines of a relay name.
 #[derive(Clone, Copy, Debug, PartialEq, Eq)]
 pub enum Numbering {
-    /// The number of the item, as in `item 5: ..`. Items are counted from 1.
+    /// The number of the item, as in `item 5: ..`. Items are counted from `first` of the settings.
     Items,
-    /// The line of the input on which the piece of the item begins, as in `line 17: ..`. Lines are counted from 1, one after
-    /// each newline, also after those within strings and within pieces that are too long or not UTF-8.
+    /// The line of the input on which the piece of the item begins, as in `line 17: ..`. Lines are counted from `first`
+    /// of the settings, one after each newline, also after those within strings and within pieces that are too long or not UTF-8.
     Lines,
+}
+
+/// How a relay reads lines and puts them out, and what its fault lines name: by default, it reads them by the rules of the crate,
+/// however long they are, writes them again, and names items from 1 on.
+#[derive(Clone, Copy, Debug, PartialEq, Eq)]
+pub struct Settings {
+    /// The dialect whose rules hold.
+    pub dialect: Dialect,
+    /// How many bytes a line may have, those of the newlines within its strings too, but without the one that ends it.
+    /// `usize::MAX` is no limit.
+    pub limit: usize,
+    /// What the fault lines name.
+    pub numbering: Numbering,
+    /// How lines go out.
+    pub lines: Lines,
+    /// The number of the first item, or of the first line, that fault lines name: 2,001 if the input comes after 2,000 others. 0 is
+    /// taken as 1.
+    pub first: usize,
+}
+
+impl Default for Settings {
+    fn default() -> Self
+        ensures { result ≡ record {
+          dialect = Dialect.Crate;
+          limit = usize.MAX;
+          numbering = Numbering.Items;
+          lines = Lines.Rebuilt;
+          first = 1;
+        } }
+    {
+        Settings {
+            dialect: Dialect::Crate,
+            limit: usize::MAX,
+            numbering: Numbering::Items,
+            lines: Lines::Rebuilt,
+            first: 1,
+        }
+    }
 }
 
 // What is wrong with a piece that is no text.
@@ -32,26 +81,50 @@ const NOT_UTF8: &str = "the line is not UTF-8";
 // What is wrong with a piece that is too long.
 const TOO_LONG: &str = "the line is too long";
 
+// How many items are counted before the first item: if fault lines name items, as many as give it its number.
+pub(crate) fn items_before(settings: Settings) -> usize
+    ensures { result ≡ items_before settings.numbering settings.first }
+{
+    match settings.numbering {
+        Numbering::Items => settings.first.saturating_sub(1),
+        Numbering::Lines => 0,
+    }
+}
+
 // Before the first item. It takes no memory.
-pub(crate) fn nothing_made(alloc: Global, numbering: Numbering) -> Progress
-    ensures { made result ≡ made_of_none (first_line numbering) }
+pub(crate) fn nothing_made(alloc: Global, settings: Settings) -> Progress
+    ensures made { made result ≡ made_of_none settings.numbering settings.first }
+    ensures fits { result.carried + result.refused ≤ usize.MAX }
 {
     Progress {
         batch: Vec::new(alloc),
         faults: String::new(alloc),
-        carried: 0,
+        carried: items_before(settings),
         refused: 0,
-        line: match numbering {
+        line: match settings.numbering {
             Numbering::Items => None,
-            Numbering::Lines => Some(1),
+            Numbering::Lines => Some(settings.first.max(1)),
         },
     }
 }
 
-// Takes the text of a piece as a rebuild does. It is called for each line, so that the test whether a line is as written is
-// compiled once, in line here.
+// Takes a piece that holds a line as it came.
+fn take_as_it_came(so_far: &mut Progress, piece: &str) -> Result<(), AllocError>
+    requires { so_far.old.carried + so_far.old.refused < usize.MAX }
+    ensures taken { OnOk result (TakesItems (made so_far.old) (as_it_came piece.now ∷ []) (made so_far.new)) }
+    ensures counted { OnOk result
+        (so_far.new.carried + so_far.new.refused ≡ so_far.old.carried + so_far.old.refused + 1) }
+{
+    so_far.batch.reserve(piece.len() + 1)?;
+    so_far.batch.extend_from_slice(piece.as_bytes())?;
+    so_far.batch.push(b'\n')?;
+    so_far.carried += 1;
+    Ok(())
+}
+
+// Takes the text of a piece as it came if it holds a line. A text at fault is read into `line`, and refused as a rebuild does.
 #[inline(never)]
-fn take_text<'a>(
+fn take_verbatim<'a>(
     alloc: Global,
     dialect: Dialect,
     so_far: &mut Progress,
@@ -61,24 +134,54 @@ fn take_text<'a>(
 ) -> Result<(), AllocError>
     requires { so_far.old.carried + so_far.old.refused < usize.MAX }
     ensures taken { OnOk result
-        (TakesItems (made so_far.old) (items_of_bytes (rules_of dialect) piece.now) (made so_far.new)) }
+        (TakesItems (made so_far.old) (items_of_bytes Lines.Verbatim (rules_of dialect) piece.now) (made so_far.new)) }
     ensures counted { OnOk result
         (so_far.new.carried + so_far.new.refused ≤ so_far.old.carried + so_far.old.refused + 1) }
 {
-    batch::take_piece(alloc, dialect, so_far, piece, line, spare)
+    let text = trimmed(piece);
+    if text.is_empty() {
+        return Ok(());
+    }
+    if is_line(dialect, text) {
+        return take_as_it_came(so_far, piece);
+    }
+    batch::take_text(alloc, dialect, so_far, text, line, spare)
+}
+
+// Takes the text of a piece. It is called for each line, so that the test whether a line is as written is compiled once, in line
+// here.
+#[inline(never)]
+fn take_text<'a>(
+    alloc: Global,
+    settings: Settings,
+    so_far: &mut Progress,
+    piece: &'a str,
+    line: &mut ParsedLine<'a>,
+    spare: &mut Option<TagSet<'a>>,
+) -> Result<(), AllocError>
+    requires { so_far.old.carried + so_far.old.refused < usize.MAX }
+    ensures taken { OnOk result
+        (TakesItems (made so_far.old) (items_of_bytes settings.lines (rules_of settings.dialect) piece.now) (made so_far.new)) }
+    ensures counted { OnOk result
+        (so_far.new.carried + so_far.new.refused ≤ so_far.old.carried + so_far.old.refused + 1) }
+{
+    match settings.lines {
+        Lines::Rebuilt => batch::take_piece(alloc, settings.dialect, so_far, piece, line, spare),
+        Lines::Verbatim => take_verbatim(alloc, settings.dialect, so_far, piece, line, spare),
+    }
 }
 
 // Takes the text of a piece by way of a line of its own, which is freed by its parts.
 #[inline(never)]
 fn take_alone(
     alloc: Global,
-    dialect: Dialect,
+    settings: Settings,
     so_far: &mut Progress,
     piece: &str,
 ) -> Result<(), AllocError>
     requires { so_far.old.carried + so_far.old.refused < usize.MAX }
     ensures taken { OnOk result
-        (TakesItems (made so_far.old) (items_of_bytes (rules_of dialect) piece.now) (made so_far.new)) }
+        (TakesItems (made so_far.old) (items_of_bytes settings.lines (rules_of settings.dialect) piece.now) (made so_far.new)) }
     ensures counted { OnOk result
         (so_far.new.carried + so_far.new.refused ≤ so_far.old.carried + so_far.old.refused + 1) }
 {
@@ -91,7 +194,7 @@ fn take_alone(
         field_set: FieldSet::new(alloc),
         timestamp: None,
     };
-    let taken = take_text(alloc, dialect, so_far, piece, &mut line, &mut None);
+    let taken = take_text(alloc, settings, so_far, piece, &mut line, &mut None);
     free_line(alloc, &mut line);
     forget_line(line);
     taken
@@ -115,13 +218,13 @@ pub(crate) fn text_of(bytes: &[u8]) -> Result<&str, Utf8Error>
 // line.
 fn take_given(
     alloc: Global,
-    dialect: Dialect,
+    settings: Settings,
     so_far: &mut Progress,
     piece: Result<&[u8], PieceTooLong>,
 ) -> Result<(), AllocError>
     requires room { so_far.old.carried + so_far.old.refused < usize.MAX }
     ensures taken { OnOk result
-        (TakesItems (made so_far.old) (items_given (rules_of dialect) piece.entry) (made so_far.new)) }
+        (TakesItems (made so_far.old) (items_given settings.lines (rules_of settings.dialect) piece.entry) (made so_far.new)) }
     ensures counted { OnOk result
         (so_far.new.carried + so_far.new.refused ≤ so_far.old.carried + so_far.old.refused + 1) }
 {
@@ -132,7 +235,7 @@ fn take_given(
         return Ok(());
     }
     match text_of(bytes) {
-        Ok(text) => take_alone(alloc, dialect, so_far, text),
+        Ok(text) => take_alone(alloc, settings, so_far, text),
         Err(_) => refuse(so_far, NOT_UTF8),
     }
 }
@@ -177,19 +280,19 @@ fn line_after(
 // Takes a piece. It is refused if its number, or the line after it, would not fit.
 pub(crate) fn take_piece(
     alloc: Global,
-    dialect: Dialect,
+    settings: Settings,
     so_far: &mut Progress,
     piece: Result<&[u8], PieceTooLong>,
 ) -> Result<(), AllocError>
     requires fits { so_far.old.carried + so_far.old.refused ≤ usize.MAX }
     requires few { HoldsLess BLOCK so_far.old }
     ensures taken { OnOk result
-        (TakesItems (made so_far.old) (items_given (rules_of dialect) piece.entry) (made so_far.new)) }
+        (TakesItems (made so_far.old) (items_given settings.lines (rules_of settings.dialect) piece.entry) (made so_far.new)) }
     ensures line { OnOk result (so_far.new.line ≡ line_after so_far.old.line (newlines_given piece.entry)) }
     ensures fits { OnOk result (so_far.new.carried + so_far.new.refused ≤ usize.MAX) }
 {
     let next = line_after(so_far, piece)?;
-    take_given(alloc, dialect, so_far, piece)?;
+    take_given(alloc, settings, so_far, piece)?;
     so_far.line = next;
     Ok(())
 }
@@ -198,7 +301,7 @@ pub(crate) fn take_piece(
 #[inline(always)]
 pub(crate) fn take_text_piece<'a>(
     alloc: Global,
-    dialect: Dialect,
+    settings: Settings,
     so_far: &mut Progress,
     piece: &'a str,
     line: &mut ParsedLine<'a>,
@@ -207,12 +310,12 @@ pub(crate) fn take_text_piece<'a>(
     requires fits { so_far.old.carried + so_far.old.refused ≤ usize.MAX }
     requires few { HoldsLess BLOCK so_far.old }
     ensures taken { OnOk result
-        (TakesItems (made so_far.old) (items_of_bytes (rules_of dialect) piece.now) (made so_far.new)) }
+        (TakesItems (made so_far.old) (items_of_bytes settings.lines (rules_of settings.dialect) piece.now) (made so_far.new)) }
     ensures line { OnOk result (so_far.new.line ≡ line_after so_far.old.line (newlines_in piece.now)) }
     ensures fits { OnOk result (so_far.new.carried + so_far.new.refused ≤ usize.MAX) }
 {
     let next = line_after(so_far, Ok(piece.as_bytes()))?;
-    take_text(alloc, dialect, so_far, piece, line, spare)?;
+    take_text(alloc, settings, so_far, piece, line, spare)?;
     so_far.line = next;
     Ok(())
 }

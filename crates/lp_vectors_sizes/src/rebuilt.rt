@@ -75,6 +75,7 @@ fn is_relayed_so(rt: &impl Abort, alloc: Global, text: &str, len: usize, wanted:
             dialect,
             limit: 20_000_000,
             numbering,
+            ..Settings::default()
         };
         let answer = relay(alloc, settings, &mut reader, &mut out, &mut err);
         assert!(rt; answer.is_ok(), "of {} bytes", text.len());

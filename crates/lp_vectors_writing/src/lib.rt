@@ -28,4 +28,6 @@ mod series;
 #[cfg(test)]
 mod small_buffers;
 #[cfg(test)]
+mod verbatim_relays;
+#[cfg(test)]
 mod wrote;

@@ -1,8 +1,9 @@
 //! Relays whose fault lines name lines of the input. The answers come from the format's rules.
 
-use crate::wrote::{Wrote, assert_same, relayed_by, relayed_within};
+use crate::wrote::{Wrote, assert_same, relayed_by, relayed_so, relayed_within};
 use influxdb_line_protocol::Dialect;
-use lp_relay_core::Numbering;
+use lp_rebuild::RunFault;
+use lp_relay_core::{Numbering, Settings};
 use lp_vectors_shared::drops::Trickle;
 use std::alloc::{AllocError, Global};
 use std::process::Abort;
@@ -176,5 +177,61 @@ fn by_items_it_is_a_relay_with_a_limit(rt: HostRuntime) {
     for limit in [0, 5, 9, 23, 24, usize::MAX].as_slice() {
         is_a_relay_with_a_limit(&rt, rt.alloc(), Dialect::Crate, *limit);
         is_a_relay_with_a_limit(&rt, rt.alloc(), Dialect::Strict, *limit);
+    }
+}
+
+// Relays these bytes, with fault lines that name items or lines from this number on.
+fn from(alloc: Global, numbering: Numbering, first: usize, text: &[u8]) -> Wrote {
+    let settings = Settings {
+        numbering,
+        first,
+        ..Settings::default()
+    };
+    let mut reader = text;
+    relayed_so(alloc, settings, &mut reader)
+}
+
+// A fault, a line and a fault.
+const FAULTS: &[u8] = b"x\nm a=1i\n\nx\n";
+
+#[test]
+fn numbers_begin_at_the_first_number(rt: HostRuntime) {
+    for (numbering, first, faults) in [
+        (
+            Numbering::Items,
+            2001,
+            b"item 2001: A generic parsing error occurred: TakeWhile1\n\
+              item 2003: A generic parsing error occurred: TakeWhile1\n" as &[u8],
+        ),
+        (
+            Numbering::Lines,
+            2001,
+            b"line 2001: A generic parsing error occurred: TakeWhile1\n\
+              line 2004: A generic parsing error occurred: TakeWhile1\n",
+        ),
+        (
+            Numbering::Items,
+            0,
+            b"item 1: A generic parsing error occurred: TakeWhile1\n\
+              item 3: A generic parsing error occurred: TakeWhile1\n",
+        ),
+        (
+            Numbering::Lines,
+            0,
+            b"line 1: A generic parsing error occurred: TakeWhile1\n\
+              line 4: A generic parsing error occurred: TakeWhile1\n",
+        ),
+    ] {
+        let wrote = from(rt.alloc(), numbering, first, FAULTS);
+        wrote.assert_is(&rt, b"m a=1i\n", faults, first);
+        assert!(rt; wrote.counts_are(1, 2), "from {first}");
+    }
+}
+
+#[test]
+fn a_number_that_does_not_fit_is_out_of_memory(rt: HostRuntime) {
+    for numbering in [Numbering::Items, Numbering::Lines] {
+        let wrote = from(rt.alloc(), numbering, usize::MAX, FAULTS);
+        assert_eq!(rt; wrote.answer.err(), Some(RunFault::OutOfMemory));
     }
 }

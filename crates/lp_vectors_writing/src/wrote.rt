@@ -24,6 +24,14 @@ impl Wrote {
         assert_same(rt, self.err.as_slice(), err, place);
     }
 
+    /// Whether it succeeded, and so many items were carried, and so many were not.
+    pub fn counts_are(&self, carried: usize, refused: usize) -> bool {
+        match self.answer {
+            Ok(counts) => counts.carried == carried && counts.refused == refused,
+            Err(_) => false,
+        }
+    }
+
     /// Whether it is what a rebuild gives.
     pub fn is_as_rebuilt(&self, rebuilt: &Rebuilt) -> bool {
         match self.answer {
@@ -43,8 +51,8 @@ pub fn assert_same(rt: &impl Abort, bytes: &[u8], wanted: &[u8], place: usize) {
     assert_eq!(rt; bytes, wanted, "at {place}");
 }
 
-// Relays what a source gives, by these settings.
-fn relayed_so<R: Source>(alloc: Global, settings: Settings, reader: &mut R) -> Wrote {
+/// Relays what a source gives, by these settings.
+pub fn relayed_so<R: Source>(alloc: Global, settings: Settings, reader: &mut R) -> Wrote {
     let mut out = Kept::new(alloc);
     let mut err = Kept::new(alloc);
     let answer = relay(alloc, settings, reader, &mut out, &mut err);
@@ -83,6 +91,7 @@ pub fn relayed_by<R: Source>(
         dialect,
         limit,
         numbering,
+        ..Settings::default()
     };
     relayed_so(alloc, settings, reader)
 }

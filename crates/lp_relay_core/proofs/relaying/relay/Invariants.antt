@@ -12,7 +12,7 @@ invariant-loop g l = record {
   fits : l.so_far.carried + l.so_far.refused < 2 ^ 64;
   empty : HoldsNone l.so_far;
   block : length l.block.items ≤ 65536;
-  so_far : RelaysSoFar (rules_of l.fn.settings.dialect) (limit_of l.fn.settings.limit) l.fn.settings.numbering
+  so_far : RelaysSoFar l.fn.settings.lines (rules_of l.fn.settings.dialect) (limit_of l.fn.settings.limit) l.fn.settings.numbering l.fn.settings.first
       (g.R.Source.bytes l.initial.reader) (g.R.Source.bytes l.reader) l.stream (made l.so_far)
       (g.W.Sink.bytes l.initial.out) (g.W.Sink.bytes l.out) (g.E.Sink.bytes l.initial.err) (g.E.Sink.bytes l.err);
   reader_unfailed : g.R.Source.failures l.reader ≡ g.R.Source.failures l.initial.reader;

@@ -12,7 +12,7 @@ invariant-loop-piece g l = record {
   left : IfSome l.lines.text (λ text. (t : List ℕ) × (drop l.taken l.bytes ≡ text ++ t));
   fits : l.progress.carried + l.progress.refused < 2 ^ 64;
   held : HoldsLess 65536 l.progress;
-  relays : RelaysTo (rules_of l.fn.settings.dialect) (limit_of l.fn.settings.limit) l.bytes (drop l.taken l.bytes)
+  relays : RelaysTo l.fn.settings.lines (rules_of l.fn.settings.dialect) (limit_of l.fn.settings.limit) l.bytes (drop l.taken l.bytes)
       (made l.initial.progress) (made l.progress)
       (g.W.Sink.bytes l.initial.out) (g.W.Sink.bytes l.out) (g.E.Sink.bytes l.initial.err) (g.E.Sink.bytes l.err);
   out_unfailed : g.W.Sink.failures l.out ≡ g.W.Sink.failures l.initial.out;
