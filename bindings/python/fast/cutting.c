@@ -138,7 +138,7 @@ static size_t walk_bytes(Walk *walk, lp_text block, size_t at) {
 }
 
 /* Goes on piece by piece, from a cut to the last one of a block, and gives where that is. What comes after the last newline, which may
- * be a part of a character, is not looked at. Where the rest is no UTF-8, it stays where it is. */
+ * be a part of a character, is not looked at. If the rest is no UTF-8, it stays where it is. */
 static size_t walk_pieces(Walk *walk, lp_text block, size_t at) {
     lp_lines lines = LP_NO_LINES;
     lp_view piece = LP_NO_VIEW;
@@ -159,7 +159,7 @@ static void walk_block(Walk *walk, lp_text block) {
     walk->given += block.len;
 }
 
-/* The ends of all parts. Where no cut comes any more, parts end at the last one; the last part ends with the source. */
+/* The ends of all parts. If no cut comes any more, parts end at the last cut; the last part ends with the source. */
 static PyObject *told_ends(const Walk *walk) {
     PyObject *ends = PyList_New((Py_ssize_t)walk->count);
     for (size_t i = 0; ends && i < walk->count; i++) {

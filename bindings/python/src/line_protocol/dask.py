@@ -1,6 +1,6 @@
 """Files become columns by Dask, a task for each of their parts.
 
-`import line_protocol.dask` raises ImportError where there is no Dask; no other module of the package asks for it. The calls read the
+`import line_protocol.dask` raises ImportError if there is no Dask; no other module of the package asks for it. The calls read the
 files once, to cut them. What they give is computed by Dask, whose workers must see the files by the same names and have this package.
 """
 

@@ -133,7 +133,7 @@ def part_ends(source_path: FilePath, parts: int, *, strict: bool = False) -> Lis
 
     Each part but the last ends after a newline that ends a line, or is empty, and the last ends with the file. So each part can be read
     by itself, by any process: what the parts give is, one after another, what the file gives, but for the numbers in faults. A part is
-    empty where a line is longer than a part would be. `parts` of 0 is taken as 1.
+    empty if a line is longer than a part would be. `parts` of 0 is taken as 1.
 
     The file is read once, up to the last of these places; it need not be UTF-8. Beside the ends, that takes the memory of a block. It
     raises what `open` raises, and OSError also for what has no end to begin with, as a pipe; EOFError if the file becomes shorter.
@@ -180,7 +180,7 @@ def _faults_at(place: Place, faults: List[Fault]) -> List[Fault]:
 
 
 def _objects_of(kind: int, cells: Any, missing: Optional[bytearray]) -> List[Any]:
-    """Cells as objects, None where one is missing."""
+    """Cells as objects, None in the place of a missing one."""
     if kind not in _NUMBERS:
         return list(cells)
     numbers: Any = array(_NUMBERS[kind][0])
