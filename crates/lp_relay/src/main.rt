@@ -6,6 +6,7 @@ mod asked;
 mod inputs;
 mod meter;
 mod noted;
+mod nowhere;
 mod output;
 mod words;
 
