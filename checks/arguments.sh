@@ -74,13 +74,15 @@ wanted_of_both "usage: lp_rebuild [--strict]$newline"
 crate=lp_relay
 program=$relay
 usage="usage: lp_relay [--strict] [--lines] [--max-line BYTES] [--progress]
-                [--check | --output FILE] [FILE..]
+                [--summary] [--check | --output FILE] [FILE..]
        lp_relay [--strict] --cut PARTS [FILE..]
        lp_relay --help | --version$newline"
 wanted_of_both "$usage"
 wanted 0 "" "" --check
 wanted 1 "" "$strict_fault" --check --strict
 wanted 2 "" "$usage" --check --output x
+wanted 0 "$loose" "1 items: 1 carried, 0 refused$newline" --summary
+wanted 1 "" "${strict_fault}1 items: 0 carried, 1 refused$newline" --summary --strict
 # Where standard error is no terminal, no progress is shown.
 wanted 0 "$loose" "" --progress
 wanted 1 "" "$strict_fault" --strict --progress
@@ -115,6 +117,14 @@ if [ -n "$program" ]; then
     wanted 2 "" "$usage" --progress=1
     wanted 2 "" "${unread}progress: $none$newline" progress
     wanted 2 "" "$usage" --check --check
+    wanted 2 "" "$usage" --summary --summary
+    wanted 2 "" "$usage" --summary=1
+    wanted 2 "" "$usage" --Summary
+    wanted 2 "" "$usage" --summary --help
+    wanted 2 "" "$usage" --summary --cut 2
+    wanted 2 "" "$usage" --cut 2 --summary
+    wanted 2 "" "${unread}summary: $none$newline" --summary summary
+    wanted 1 "" "${strict_fault}1 items: 0 carried, 1 refused$newline" --check --progress --summary --strict
     wanted 2 "" "$usage" --check=1
     wanted 2 "" "$usage" --Check
     wanted 2 "" "$usage" --check --help
@@ -288,6 +298,9 @@ for program in ${rebuild:+"$rebuild"} "$relay"; do
 done
 printf 'm a=1i\nx\n' | "$relay" --check 2>/dev/full >"$work/out" && status=0 || status=$?
 stopped "" "standard error is full, and a check has a fault to write"
+# A summary that cannot be written changes no status.
+"$relay" --summary <"$work/long" 2>/dev/full >"$work/out"
+cmp "$work/long" "$work/out"
 # A check writes nothing to its output, so it may be full or closed.
 "$relay" --check <"$work/long" >/dev/full
 "$relay" --check <"$work/long" >&-
@@ -363,6 +376,10 @@ given 2 '' "${unread}a/b: Not a directory (os error 20)\n" a/b -
 given 0 '' '' --check a - c
 given 1 '' "item 3: $x\n" --check a b
 given 2 '' "item 2: $x\n${unread}none: $none\n" --check b none
+given 0 '' '0 items: 0 carried, 0 refused\n' --summary e
+given 1 'm a=1i\nm b=2i\n' "line 3: $x\n3 items: 2 carried, 1 refused\n" --summary --lines a b
+given 1 '' "line 3: $x\n3 items: 2 carried, 1 refused\n" --check --summary --lines a b
+given 2 'm b=2i\n' "item 2: $x\n${unread}none: $none\n" --summary b none
 given 0 '14\n16\n' '' --cut 2 a b
 given 0 '7\n14\n' '' --strict --cut 2 - c
 given 2 '' "${unread}none: $none\n" --cut 2 a none

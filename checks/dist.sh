@@ -326,14 +326,14 @@ complete_all() {
     completed "--strict" lp_rebuild ""
     completed "--strict" lp_rebuild --s
     completed "" lp_rebuild --strict ""
-    completed "--strict --lines --max-line --progress --check --output --cut --help --version" lp_relay ""
-    completed "--lines --max-line --progress --check --output --cut" lp_relay --strict --
-    completed "--strict --max-line --progress --check --output" lp_relay --lines ""
-    completed "--strict --lines --max-line --progress" lp_relay --check --
-    completed "--strict --lines --max-line --progress" lp_relay -o x --
+    completed "--strict --lines --max-line --progress --summary --check --output --cut --help --version" lp_relay ""
+    completed "--lines --max-line --progress --summary --check --output --cut" lp_relay --strict --
+    completed "--strict --max-line --progress --summary --check --output" lp_relay --lines ""
+    completed "--strict --lines --max-line --progress --summary" lp_relay --check --
+    completed "--strict --lines --max-line --progress --summary" lp_relay -o x --
     completed "--max-line" lp_relay --m
     completed "" lp_relay --max-line ""
-    completed "--strict --lines --progress --check --output" lp_relay --max-line 7 ""
+    completed "--strict --lines --progress --summary --check --output" lp_relay --max-line 7 ""
     completed "" lp_relay --cut ""
     completed "$top/launch.sh" lp_relay --strict --cut 4 "$top/lau"
     completed "$top/launch.sh" lp_relay "$top/lau"

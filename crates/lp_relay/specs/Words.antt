@@ -21,7 +21,7 @@ use Rattle.lp_relay.specs.declared.words.Task.TheVariants.{Relay, Cut, Help, Ver
 
 -- no option was given
 abbrev pub nothing_given : Given
-nothing_given = record { strict = false; lines = false; max_line = None; progress = false; check = false; output = None }
+nothing_given = record { strict = false; lines = false; max_line = None; progress = false; summary = false; check = false; output = None }
 
 -- how many bytes a line may have if no option says it: 16 MiB
 abbrev pub default_max_line : ℕ
@@ -36,6 +36,7 @@ given_settings given = record {
     numbering = if given.lines then Lines else Items;
   };
   progress = given.progress;
+  summary = given.summary;
   check = given.check;
 }
 
@@ -74,8 +75,9 @@ with_flag given word =
     if bytes_eq word (codes "--strict") && not given.strict then Some (record given { strict = true })
     else (if bytes_eq word (codes "--lines") && not given.lines then Some (record given { lines = true })
     else (if bytes_eq word (codes "--progress") && not given.progress then Some (record given { progress = true })
+    else (if bytes_eq word (codes "--summary") && not given.summary then Some (record given { summary = true })
     else (if bytes_eq word (codes "--check") && not given.check then Some (record given { check = true })
-    else None)))
+    else None))))
 
 -- the options with the one that a word names, if that was not given before and the word after it says what it takes
 abbrev pub with_value : Given → List ℕ → Bor (List ℕ) → Option Given

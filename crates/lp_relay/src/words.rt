@@ -9,7 +9,7 @@ use lp_relay_core::{Numbering, Relayed};
 
 /// How the program is called: the lines that it prints where its words ask for nothing, without the last newline.
 pub const USAGE: &str = "usage: lp_relay [--strict] [--lines] [--max-line BYTES] [--progress]
-                [--check | --output FILE] [FILE..]
+                [--summary] [--check | --output FILE] [FILE..]
        lp_relay [--strict] --cut PARTS [FILE..]
        lp_relay --help | --version";
 
@@ -28,6 +28,8 @@ it cannot write again. A FILE that is - is standard input; ./-x names a file -x.
   --progress         shows on standard error, where that is a terminal, how far the relay is: bytes
                      read, percent where all inputs are files, lines written, faults, and MB/s,
                      each second while input comes, and once more at the end
+  --summary          says at the end on standard error, where the status is 0 or 1, how many items
+                     there were: `N items: C carried, R refused`
   --check            writes no line, but the faults and the status are as ever
   --output FILE, -o  writes the lines to FILE, which is there, and whole, once the status is 0 or 1
   --cut PARTS        prints where the input, which is held whole, can be cut into so many parts of
@@ -57,6 +59,8 @@ pub struct Settings {
     pub relay: lp_relay_core::Settings,
     /// Whether progress is shown.
     pub progress: bool,
+    /// Whether the counts of items are told at the end.
+    pub summary: bool,
     /// Whether the lines are only checked, and none is written.
     pub check: bool,
 }
@@ -92,6 +96,7 @@ pub(crate) struct Given<'a> {
     lines: bool,
     max_line: Option<usize>,
     progress: bool,
+    summary: bool,
     check: bool,
     output: Option<&'a str>,
 }
@@ -105,6 +110,7 @@ impl<'a> Given<'a> {
             lines: false,
             max_line: None,
             progress: false,
+            summary: false,
             check: false,
             output: None,
         }
@@ -131,6 +137,7 @@ impl<'a> Given<'a> {
         Settings {
             relay,
             progress: self.progress,
+            summary: self.summary,
             check: self.check,
         }
     }
@@ -150,6 +157,10 @@ impl<'a> Given<'a> {
         if word == "--progress" && !self.progress {
             let progress = true;
             return Some(Given { progress, ..self });
+        }
+        if word == "--summary" && !self.summary {
+            let summary = true;
+            return Some(Given { summary, ..self });
         }
         if word == "--check" && !self.check {
             let check = true;
