@@ -113,6 +113,7 @@ for words in "--output again" "--strict -o again" "again" "--lines -" "--max-lin
     # shellcheck disable=SC2086
     wanted 2 "" "apart: the options ($words) name a file" "$apart" "$file" 4 $words
 done
+wanted 2 "" "apart: the options (--lines --summary) ask for a summary, and each part would have its own" "$apart" "$file" 4 --lines --summary
 wanted 2 "" "apart: * is not a regular file*" "$apart" "$work" 4
 wanted 2 "" "apart: none is not a regular file*" "$apart" none 4
 wanted 2 "" "apart: * is not a regular file*" "$apart" <(cat "$file") 4

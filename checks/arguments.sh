@@ -73,10 +73,16 @@ wanted_of_both "usage: lp_rebuild [--strict]$newline"
 
 crate=lp_relay
 program=$relay
-usage="usage: lp_relay [--strict] [--lines] [--max-line BYTES] [--progress] [--output FILE] [FILE..]
+usage="usage: lp_relay [--strict] [--lines] [--max-line BYTES] [--progress]
+                [--summary] [--check | --output FILE] [FILE..]
        lp_relay [--strict] --cut PARTS [FILE..]
        lp_relay --help | --version$newline"
 wanted_of_both "$usage"
+wanted 0 "" "" --check
+wanted 1 "" "$strict_fault" --check --strict
+wanted 2 "" "$usage" --check --output x
+wanted 0 "$loose" "1 items: 1 carried, 0 refused$newline" --summary
+wanted 1 "" "${strict_fault}1 items: 0 carried, 1 refused$newline" --summary --strict
 # Where standard error is no terminal, no progress is shown.
 wanted 0 "$loose" "" --progress
 wanted 1 "" "$strict_fault" --strict --progress
@@ -110,6 +116,22 @@ if [ -n "$program" ]; then
     wanted 2 "" "$usage" --Progress
     wanted 2 "" "$usage" --progress=1
     wanted 2 "" "${unread}progress: $none$newline" progress
+    wanted 2 "" "$usage" --check --check
+    wanted 2 "" "$usage" --summary --summary
+    wanted 2 "" "$usage" --summary=1
+    wanted 2 "" "$usage" --Summary
+    wanted 2 "" "$usage" --summary --help
+    wanted 2 "" "$usage" --summary --cut 2
+    wanted 2 "" "$usage" --cut 2 --summary
+    wanted 2 "" "${unread}summary: $none$newline" --summary summary
+    wanted 1 "" "${strict_fault}1 items: 0 carried, 1 refused$newline" --check --progress --summary --strict
+    wanted 2 "" "$usage" --check=1
+    wanted 2 "" "$usage" --Check
+    wanted 2 "" "$usage" --check --help
+    wanted 2 "" "$usage" --check --cut 2
+    wanted 2 "" "$usage" --cut 2 --check
+    wanted 2 "" "${unread}check: $none$newline" --strict --check check
+    wanted 1 "" "item 1: the line is too long$newline" --max-line 6 --check --progress
     wanted 2 "" "$usage" --strict --help
     wanted 2 "" "$usage" --progress --help
     wanted 2 "" "$usage" --help --help
@@ -177,6 +199,8 @@ if [ -n "$program" ]; then
         wanted 2 "" "$usage" "$option" ""
         wanted 2 "" "$usage" "$option" x --help
         wanted 2 "" "$usage" "$option" x --cut 2
+        wanted 2 "" "$usage" "$option" x --check
+        wanted 2 "" "$usage" --lines --check --strict "$option" x
         wanted 2 "" "$usage" --cut 2 "$option" x
     done
     wanted 2 "" "$usage" --output=x
@@ -186,12 +210,13 @@ if [ -n "$program" ]; then
     wanted 1 "$string" "line 5: $missing" --strict --lines
     wanted 1 "$string" "line 5: $missing" --lines --strict
     wanted 1 "$string" "line 5: $missing" --lines --progress --max-line 9
+    wanted 1 "" "line 5: $missing" --lines --check
     wanted 1 "" "line 3: the line is too long${newline}line 5: $missing" --max-line 8 --lines
     wanted 1 "" "line 3: the line is too long${newline}line 5: $missing" --lines --max-line 8 --strict
     text='m a=1i,\n'
 fi
 run --help
-if [ "$status" != 0 ] || [ -s "$work/err" ] || ! printf '%s' "$usage" | cmp -s - <(head -n 3 "$work/out"); then
+if [ "$status" != 0 ] || [ -s "$work/err" ] || ! printf '%s' "$usage" | cmp -s - <(head -n 4 "$work/out"); then
     echo "arguments: --help does not begin with the usage, or its status is $status"
     exit 1
 fi
@@ -271,6 +296,14 @@ for program in ${rebuild:+"$rebuild"} "$relay"; do
     printf 'm a=1i\nx\n' | "$program" 2>/dev/full >"$work/out" && status=0 || status=$?
     stopped "" "standard error is full, and $program has a fault to write"
 done
+printf 'm a=1i\nx\n' | "$relay" --check 2>/dev/full >"$work/out" && status=0 || status=$?
+stopped "" "standard error is full, and a check has a fault to write"
+# A summary that cannot be written changes no status.
+"$relay" --summary <"$work/long" 2>/dev/full >"$work/out"
+cmp "$work/long" "$work/out"
+# A check writes nothing to its output, so it may be full or closed.
+"$relay" --check <"$work/long" >/dev/full
+"$relay" --check <"$work/long" >&-
 for option in --help -h --version; do
     "$relay" "$option" </dev/null >/dev/full 2>"$work/err" && status=0 || status=$?
     stopped "" "the output of $option is full"
@@ -340,6 +373,13 @@ given 2 'm b=2i\n' "item 2: $x\n${unread}none: $none\n" b none
 given 2 'm a=1i\n' "${unread}d: Is a directory (os error 21)\n" a d a
 given 2 '' "${unread}d/none: $none\n" d/none
 given 2 '' "${unread}a/b: Not a directory (os error 20)\n" a/b -
+given 0 '' '' --check a - c
+given 1 '' "item 3: $x\n" --check a b
+given 2 '' "item 2: $x\n${unread}none: $none\n" --check b none
+given 0 '' '0 items: 0 carried, 0 refused\n' --summary e
+given 1 'm a=1i\nm b=2i\n' "line 3: $x\n3 items: 2 carried, 1 refused\n" --summary --lines a b
+given 1 '' "line 3: $x\n3 items: 2 carried, 1 refused\n" --check --summary --lines a b
+given 2 'm b=2i\n' "item 2: $x\n${unread}none: $none\n" --summary b none
 given 0 '14\n16\n' '' --cut 2 a b
 given 0 '7\n14\n' '' --strict --cut 2 - c
 given 2 '' "${unread}none: $none\n" --cut 2 a none
@@ -485,6 +525,8 @@ cp "$work/first" "$work/last"
 show_progress ""
 shown 0 "both outputs are a terminal" "m a=1i\r\n${clear}14 bytes read, 1 lines written, faults: 0, 0.0 MB/s${clear}m a=1i\r\n\
 ${clear}14 bytes read, 2 lines written, faults: 0, 0.0 MB/s\r\n"
+show_progress "" --check
+shown 0 "no line is written" "${clear}14 bytes read, 0 lines written, faults: 0, 0.0 MB/s\r\n"
 cp "$work/first" "$work/more"
 show_progress ">'$work/out'"
 shown 0 "there are two pauses" "${clear}14 bytes read, 1 lines written, faults: 0, 0.0 MB/s\

@@ -4,8 +4,8 @@
 #   examples/apart.sh FILE PARTS [OPTION..] >again.lp 2>faults
 #
 # FILE: a regular file, since it is read more than once. PARTS: 1 to 999. The options are those of a relay, as `lp_relay --help`
-# lists them, but for --output, and no other files. LP_RELAY: the program, by default ../lp_relay of this script. TMPDIR: where the
-# outputs wait for their turn.
+# lists them, but for --output and --summary, and no other files. LP_RELAY: the program, by default ../lp_relay of this script.
+# TMPDIR: where the outputs wait for their turn.
 #
 # Standard output is what one lp_relay writes. Standard error is too, but the items of each part are numbered from 1, and each line
 # starts with its part: `part 2, item 5: ..` for `item 1000005: ..`.

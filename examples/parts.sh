@@ -26,6 +26,7 @@ take_parts() {
         if [[ $word = --output || $word = -o || ($word != --* && $before != --max-line) ]]; then
             fail "the options ($*) name a file"
         fi
+        [ "$word" != --summary ] || fail "the options ($*) ask for a summary, and each part would have its own"
         before=$word
     done
     said=$("$program" "$@" </dev/null) || fail "with the options ($*) the status of $program is $?"

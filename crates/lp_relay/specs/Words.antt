@@ -4,12 +4,14 @@ use Rattle.std.specs.Prelude.{Option, Some, None, is_none, is_some, option_map, 
 use Rattle.std.specs.Prelude.{◌==◌, if◌then◌else◌}
 use Rattle.std.specs.Borrow.{Bor}
 use Rattle.std.specs.List.{list_all}
+use Rattle.std.specs.Option.{option_map_or}
 use Rattle.std.specs.Str.{all_ascii_digits}
 use Rattle.std.specs.Str.Parse.{digits_value}
 use Rattle.influxdb_line_protocol.specs.types.Dialect.{Dialect}
 use Rattle.influxdb_line_protocol.specs.types.Dialect.TheVariants.{Crate, Strict}
 use Rattle.lp_rebuild.specs.declared.program.RunFault.{RunFault}
 use Rattle.lp_rebuild.specs.declared.program.RunFault.TheVariants.{Read, NotUtf8, OutOfMemory, Write}
+use Rattle.lp_relay_core.specs.declared.taking.Lines.TheVariants.{Rebuilt, Verbatim}
 use Rattle.lp_relay_core.specs.declared.taking.Numbering.TheVariants.{Items, Lines}
 use Rattle.lp_relay_core.specs.declared.relaying.Relayed.{Relayed}
 use Rattle.lp_relay.specs.declared.words.Given.{Given}
@@ -20,19 +22,40 @@ use Rattle.lp_relay.specs.declared.words.Task.TheVariants.{Relay, Cut, Help, Ver
 
 -- no option was given
 abbrev pub nothing_given : Given
-nothing_given = record { strict = false; lines = false; max_line = None; progress = false; output = None }
+nothing_given = record {
+  strict = false;
+  verbatim = false;
+  lines = false;
+  first_item = None;
+  first_line = None;
+  max_line = None;
+  progress = false;
+  summary = false;
+  check = false;
+  output = None;
+}
 
 -- how many bytes a line may have if no option says it: 16 MiB
 abbrev pub default_max_line : ℕ
 default_max_line = 2 ^ 24
 
+-- whether fault lines name lines of the input
+abbrev pub names_lines : Given → Bool
+names_lines given = given.lines || is_some given.first_line
+
 -- the settings of the options that were given: those that were not have their defaults
 abbrev pub given_settings : Given → Settings
 given_settings given = record {
-  dialect = if given.strict then Strict else Crate;
-  numbering = if given.lines then Lines else Items;
-  max_line = unwrap_or given.max_line default_max_line;
+  relay = record {
+    dialect = if given.strict then Strict else Crate;
+    limit = unwrap_or given.max_line default_max_line;
+    lines = if given.verbatim then Verbatim else Rebuilt;
+    numbering = if names_lines given then Lines else Items;
+    first = unwrap_or given.first_item (unwrap_or given.first_line 1);
+  };
   progress = given.progress;
+  summary = given.summary;
+  check = given.check;
 }
 
 -- the number that a word writes: one digit or more and nothing else, if a usize holds it
@@ -58,40 +81,55 @@ are_inputs words = list_all (λ word. names_input word.now) words
 abbrev pub asks_output : List ℕ → Bool
 asks_output word = bytes_eq word (codes "--output") || bytes_eq word (codes "-o")
 
--- the relay of the options that were given and of the inputs that words name, if each names an input
+-- whether two options exclude each other: a check has no file for lines, and the number of the first item is none of a line
+abbrev pub are_at_odds : Given → Bool
+are_at_odds given = (given.check && is_some given.output) || (is_some given.first_item && names_lines given)
+
+-- the relay of the options that were given and of the inputs that words name, if each names an input and no options exclude each other
 abbrev pub request_of : Given → List (Bor (List ℕ)) → Option Request
 request_of given words =
-    if are_inputs words
+    if are_inputs words && not (are_at_odds given)
     then Some (record { settings = given_settings given; output = given.output; inputs = length words }) else None
+
+-- the options with the one that a word names, if that was not given before and takes no word after it
+abbrev pub with_flag : Given → List ℕ → Option Given
+with_flag given word =
+    if bytes_eq word (codes "--strict") && not given.strict then Some (record given { strict = true })
+    else (if bytes_eq word (codes "--verbatim") && not given.verbatim then Some (record given { verbatim = true })
+    else (if bytes_eq word (codes "--lines") && not given.lines then Some (record given { lines = true })
+    else (if bytes_eq word (codes "--progress") && not given.progress then Some (record given { progress = true })
+    else (if bytes_eq word (codes "--summary") && not given.summary then Some (record given { summary = true })
+    else (if bytes_eq word (codes "--check") && not given.check then Some (record given { check = true })
+    else None)))))
+
+-- the number that a word writes, if it is at least 1
+abbrev pub first_number : List ℕ → Option ℕ
+first_number word = option_and_then (λ first. if first == 0 then None else Some first) (decimal word)
+
+-- the options with the one that a word names, if that was not given before and the word after it says what it takes
+abbrev pub with_value : Given → List ℕ → Bor (List ℕ) → Option Given
+with_value given word value =
+    if bytes_eq word (codes "--max-line") && is_none given.max_line
+    then option_map (λ bytes. record given { max_line = Some bytes }) (decimal value.now)
+    else (if bytes_eq word (codes "--first-item") && is_none given.first_item
+    then option_map (λ first. record given { first_item = Some first }) (first_number value.now)
+    else (if bytes_eq word (codes "--first-line") && is_none given.first_line
+    then option_map (λ first. record given { first_line = Some first }) (first_number value.now)
+    else (if asks_output word && is_none given.output && names_file value.now
+    then Some (record given { output = Some value }) else None)))
 
 -- the relay that words ask for after the options given: each option is one that was not given before it, and inputs come last
 abbrev mutual
   pub asked_request : Given → List (Bor (List ℕ)) → Option Request
   asked_request given [] = request_of given []
   asked_request given (word ∷ words) =
-      if bytes_eq word.now (codes "--strict") && not given.strict
-      then asked_request (record given { strict = true }) words
-      else (if bytes_eq word.now (codes "--lines") && not given.lines
-      then asked_request (record given { lines = true }) words
-      else (if bytes_eq word.now (codes "--progress") && not given.progress
-      then asked_request (record given { progress = true }) words
-      else (if bytes_eq word.now (codes "--max-line") && is_none given.max_line
-      then asked_after_max_line given words
-      else (if asks_output word.now && is_none given.output
-      then asked_after_output given words
-      else request_of given (word ∷ words)))))
+      option_map_or (λ more. asked_request more words) (with_flag given word.now) (asked_after given word words)
 
-  -- the same if `--max-line` was the word before these, of which the first is its number
-  pub asked_after_max_line : Given → List (Bor (List ℕ)) → Option Request
-  asked_after_max_line given [] = None
-  asked_after_max_line given (word ∷ words) =
-      option_and_then (λ bytes. asked_request (record given { max_line = Some bytes }) words) (decimal word.now)
-
-  -- the same if `--output` was the word before these, of which the first is its file
-  pub asked_after_output : Given → List (Bor (List ℕ)) → Option Request
-  asked_after_output given [] = None
-  asked_after_output given (word ∷ words) =
-      if names_file word.now then asked_request (record given { output = Some word }) words else None
+  -- the same if this word comes before the others, and is no option that takes no word after it
+  pub asked_after : Given → Bor (List ℕ) → List (Bor (List ℕ)) → Option Request
+  asked_after given word [] = request_of given (word ∷ [])
+  asked_after given word (value ∷ words) =
+      option_map_or (λ more. asked_request more words) (with_value given word.now value) (request_of given (word ∷ value ∷ words))
 
 -- what one word alone asks for: `--help` or `-h` the usage, `--version` the version
 abbrev pub asked_alone : List (Bor (List ℕ)) → Option Task

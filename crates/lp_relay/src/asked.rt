@@ -1,18 +1,20 @@
 //! What the words ask for, done.
-ghost use Rattle.std.specs.Prelude.{IfOk, IfSome};
+ghost use Rattle.std.specs.Prelude.{◌≡◌, IfOk, IfSome};
+ghost use Rattle.std.specs.Bool.{OnFalse, OnTrue};
 ghost use Rattle.influxdb_line_protocol.specs.code.Rules.{rules_of};
 ghost use Rattle.lp_relay_core.specs.Cuts.{ArePartEnds};
-ghost use Rattle.lp_relay_core.specs.Relaying.{limit_of};
-ghost use Rattle.lp_relay_core.specs.Relays.{Relays};
 ghost use Rattle.lp_rebuild.specs.Running.{CountsReadFault, reader_told, writer_told};
+ghost use Rattle.lp_relay.specs.Asked.{ChecksBy, RelaysBy};
 
+use crate::nowhere::Nowhere;
 use crate::words::Settings;
 use influxdb_line_protocol::Dialect;
 use lp_rebuild::{RunFault, Sink, Source, read_all};
-use lp_relay_core::{Lines, Relayed, part_ends, relay};
+use lp_relay_core::{Relayed, part_ends, relay};
 use std::alloc::Global;
 
-/// Relays the lines that `reader` gives, as [`relay`] does, by these settings.
+/// Relays the lines that `reader` gives, as [`relay`] does, by these settings. If they ask for a check, the lines go nowhere:
+/// `out` stays as it is, and a fault `Write` is one of `err`.
 ///
 /// # Errors
 ///
@@ -24,19 +26,19 @@ pub fn relay_as_asked<R: Source, W: Sink, E: Sink>(
     out: &mut W,
     err: &mut E,
 ) -> Result<Relayed, RunFault>
-    ensures { Relays Lines.Rebuilt (rules_of settings.dialect) (limit_of settings.max_line) settings.numbering 1 result
+    ensures relays { OnFalse settings.check (RelaysBy settings.relay result
         (reader_told R.bytes R.failures reader.old) (reader_told R.bytes R.failures reader.new)
         (writer_told W.bytes W.failures W.is_flushed out.old) (writer_told W.bytes W.failures W.is_flushed out.new)
-        (writer_told E.bytes E.failures E.is_flushed err.old) (writer_told E.bytes E.failures E.is_flushed err.new) }
+        (writer_told E.bytes E.failures E.is_flushed err.old) (writer_told E.bytes E.failures E.is_flushed err.new)) }
+    ensures checks { OnTrue settings.check (ChecksBy settings.relay result
+        (reader_told R.bytes R.failures reader.old) (reader_told R.bytes R.failures reader.new)
+        (writer_told E.bytes E.failures E.is_flushed err.old) (writer_told E.bytes E.failures E.is_flushed err.new)) }
+    ensures unwritten { OnTrue settings.check (out.new ≡ out.old) }
 {
-    let settings = lp_relay_core::Settings {
-        dialect: settings.dialect,
-        limit: settings.max_line,
-        numbering: settings.numbering,
-        lines: Lines::Rebuilt,
-        first: 1,
-    };
-    relay(alloc, settings, reader, out, err)
+    if settings.check {
+        return relay(alloc, settings.relay, reader, &mut Nowhere::new(), err);
+    }
+    relay(alloc, settings.relay, reader, out, err)
 }
 
 /// If all that `reader` has left can be cut into so many parts, as [`part_ends`] says. All of it is held.

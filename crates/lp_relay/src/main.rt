@@ -6,7 +6,9 @@ mod asked;
 mod inputs;
 mod meter;
 mod noted;
+mod nowhere;
 mod output;
+mod summary;
 mod words;
 
 use asked::{part_ends_of, relay_as_asked};
@@ -20,6 +22,7 @@ use output::{Lines, Output};
 use std::env;
 use std::io::{self, ErrorKind, IsTerminal};
 use std::process::ExitCode;
+use summary::summary_of;
 use words::{
     HELP, Request, Settings, Task, USAGE, VERSION, status_of_fault, status_of_relay, task_of,
 };
@@ -115,7 +118,7 @@ fn say_fault(rt: &HostRuntime, fault: RunFault, notes: &Notes<'_>) {
     };
 }
 
-// Relays what a request names, and answers with the exit status.
+// Relays what a request names, tells the counts if it asks for them, and answers with the exit status.
 fn relay<'n>(rt: &HostRuntime, request: Request<'n>, names: &'n [&'n str]) -> u8 {
     let notes = Notes::new(request.output);
     let answer = match request.output {
@@ -130,6 +133,9 @@ fn relay<'n>(rt: &HostRuntime, request: Request<'n>, names: &'n [&'n str]) -> u8
     };
     if let Err(fault) = answer {
         say_fault(rt, fault, &notes);
+    }
+    if let Some(summary) = summary_of(request.settings, &answer) {
+        let _ = eprintln!(rt; "{summary}");
     }
     status_of_relay(&answer, notes.is_pipe_closed())
 }

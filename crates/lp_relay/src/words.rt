@@ -1,15 +1,17 @@
 //! What the words after the program's name ask for, and its exit status.
 ghost use Rattle.std.specs.Prelude.{◌≡◌};
-ghost use Rattle.lp_relay.specs.Words.{are_inputs, asked_cut, asked_request, asked_task, asks_output, cut_task, decimal, fault_status};
-ghost use Rattle.lp_relay.specs.Words.{given_settings, names_file, names_input, nothing_given, relay_status, request_of};
+ghost use Rattle.lp_relay.specs.Words.{are_at_odds, are_inputs, asked_cut, asked_request, asked_task, asks_output, cut_task, decimal, fault_status};
+ghost use Rattle.lp_relay.specs.Words.{first_number, given_settings, names_file, names_input, names_lines, nothing_given, relay_status, request_of};
+ghost use Rattle.lp_relay.specs.Words.{with_flag, with_value};
 
 use influxdb_line_protocol::Dialect;
 use lp_rebuild::RunFault;
-use lp_relay_core::{Numbering, Relayed};
+use lp_relay_core::{Lines, Numbering, Relayed};
 
 /// How the program is called: the lines that it prints where its words ask for nothing, without the last newline.
 pub const USAGE: &str =
-    "usage: lp_relay [--strict] [--lines] [--max-line BYTES] [--progress] [--output FILE] [FILE..]
+    "usage: lp_relay [--strict] [--verbatim] [--lines] [--first-item N | --first-line N]
+                [--max-line BYTES] [--progress] [--summary] [--check | --output FILE] [FILE..]
        lp_relay [--strict] --cut PARTS [FILE..]
        lp_relay --help | --version";
 
@@ -20,14 +22,22 @@ pub const VERSION: &str = "2.0.0";
 pub const HELP: &str =
     "Relays lines of InfluxDB line protocol from each FILE, one after another, or from standard input,
 to standard output as they come, and writes `item N: FAULT` to standard error for each item that
-it cannot write again. A FILE that is - is standard input; ./-x names a file -x.
+it refuses. A FILE that is - is standard input; ./-x names a file -x.
 
   --strict           reads the strict dialect
+  --verbatim         writes each line that can be read as it came, byte for byte; where it is not
+                     given, lines are written again in one spelling, which some servers read as
+                     other points where a name has a backslash
   --lines            names the line of the input in each fault, instead of the number of the item
+  --first-item N     the number of the first item, in faults: 1 where it is not given
+  --first-line N     the number of the first line, in faults, which name lines then
   --max-line BYTES   a longer line is passed over, and is a fault: 16777216 where it is not given
   --progress         shows on standard error, where that is a terminal, how far the relay is: bytes
                      read, percent where all inputs are files, lines written, faults, and MB/s,
                      each second while input comes, and once more at the end
+  --summary          says at the end on standard error, where the status is 0 or 1, how many items
+                     there were: `N items: C carried, R refused`
+  --check            writes no line, but the faults and the status are as ever
   --output FILE, -o  writes the lines to FILE, which is there, and whole, once the status is 0 or 1
   --cut PARTS        prints where the input, which is held whole, can be cut into so many parts of
                      about one length, 1000000 at most, to be relayed apart: the end of each, in
@@ -35,8 +45,9 @@ it cannot write again. A FILE that is - is standard input; ./-x names a file -x.
   --help, -h         prints this
   --version          prints the version
 
-The options of a relay come in any order, each at most once, before the files; --cut PARTS comes
-first, or after --strict.
+The options of a relay come in any order, each at most once, before the files; not both --check
+and --output, nor --first-item with --lines or --first-line. --cut PARTS comes first, or after
+--strict.
 
 Status 0: every item was carried; 1: some item was not; 2: the input could not be read, memory
 ran out, the output could not be written, it is an input too, or the arguments are wrong; 141:
@@ -52,14 +63,14 @@ pub const MOST_PARTS: usize = 1_000_000;
 /// How the relay is to run.
 #[derive(Clone, Copy, Debug, PartialEq, Eq)]
 pub struct Settings {
-    /// The dialect whose rules hold.
-    pub dialect: Dialect,
-    /// What the fault lines name.
-    pub numbering: Numbering,
-    /// How many bytes a line may have.
-    pub max_line: usize,
+    /// How lines are read and written, and what the fault lines name.
+    pub relay: lp_relay_core::Settings,
     /// Whether progress is shown.
     pub progress: bool,
+    /// Whether the counts of items are told at the end.
+    pub summary: bool,
+    /// Whether the lines are only checked, and none is written.
+    pub check: bool,
 }
 
 /// A relay that words ask for.
@@ -67,7 +78,7 @@ pub struct Settings {
 pub struct Request<'a> {
     /// How it is to run.
     pub settings: Settings,
-    /// The file that the lines go to, or none: standard output.
+    /// The file that the lines go to, or none: standard output. A check has none.
     pub output: Option<&'a str>,
     /// How many words name inputs: so many of the last. 0: standard input.
     pub inputs: usize,
@@ -90,9 +101,14 @@ pub enum Task<'a> {
 #[derive(Clone, Copy)]
 pub(crate) struct Given<'a> {
     strict: bool,
+    verbatim: bool,
     lines: bool,
+    first_item: Option<usize>,
+    first_line: Option<usize>,
     max_line: Option<usize>,
     progress: bool,
+    summary: bool,
+    check: bool,
     output: Option<&'a str>,
 }
 
@@ -102,37 +118,124 @@ impl<'a> Given<'a> {
     {
         Given {
             strict: false,
+            verbatim: false,
             lines: false,
+            first_item: None,
+            first_line: None,
             max_line: None,
             progress: false,
+            summary: false,
+            check: false,
             output: None,
         }
+    }
+
+    // Whether fault lines name lines of the input.
+    fn names_lines(self) -> bool
+        ensures { result ≡ names_lines self.entry }
+    {
+        self.lines || self.first_line.is_some()
     }
 
     fn settings(self) -> Settings
         ensures { result ≡ given_settings self.entry }
     {
+        let dialect = if self.strict {
+            Dialect::Strict
+        } else {
+            Dialect::Crate
+        };
+        let lines = if self.verbatim {
+            Lines::Verbatim
+        } else {
+            Lines::Rebuilt
+        };
+        let numbering = if self.names_lines() {
+            Numbering::Lines
+        } else {
+            Numbering::Items
+        };
+        let relay = lp_relay_core::Settings {
+            dialect,
+            limit: self.max_line.unwrap_or(DEFAULT_MAX_LINE),
+            lines,
+            numbering,
+            first: self.first_item.unwrap_or(self.first_line.unwrap_or(1)),
+        };
         Settings {
-            dialect: if self.strict {
-                Dialect::Strict
-            } else {
-                Dialect::Crate
-            },
-            numbering: if self.lines {
-                Numbering::Lines
-            } else {
-                Numbering::Items
-            },
-            max_line: self.max_line.unwrap_or(DEFAULT_MAX_LINE),
+            relay,
             progress: self.progress,
+            summary: self.summary,
+            check: self.check,
         }
     }
 
-    // The request of these options and inputs, if each word names an input.
+    // These options and the one that a word names, if that was not given before and takes no word after it.
+    fn with_flag(self, word: &str) -> Option<Self>
+        ensures { result ≡ with_flag self.entry word.now }
+    {
+        if word == "--strict" && !self.strict {
+            let strict = true;
+            return Some(Given { strict, ..self });
+        }
+        if word == "--verbatim" && !self.verbatim {
+            let verbatim = true;
+            return Some(Given { verbatim, ..self });
+        }
+        if word == "--lines" && !self.lines {
+            let lines = true;
+            return Some(Given { lines, ..self });
+        }
+        if word == "--progress" && !self.progress {
+            let progress = true;
+            return Some(Given { progress, ..self });
+        }
+        if word == "--summary" && !self.summary {
+            let summary = true;
+            return Some(Given { summary, ..self });
+        }
+        if word == "--check" && !self.check {
+            let check = true;
+            return Some(Given { check, ..self });
+        }
+        None
+    }
+
+    // These options and the one that a word names, if that was not given before and the word after it says what it takes.
+    fn with_value(self, word: &str, value: &'a str) -> Option<Self>
+        ensures { result ≡ with_value self.entry word.now value.entry }
+    {
+        if word == "--max-line" && self.max_line.is_none() {
+            let max_line = Some(decimal_of(value)?);
+            return Some(Given { max_line, ..self });
+        }
+        if word == "--first-item" && self.first_item.is_none() {
+            let first_item = Some(first_number_of(value)?);
+            return Some(Given { first_item, ..self });
+        }
+        if word == "--first-line" && self.first_line.is_none() {
+            let first_line = Some(first_number_of(value)?);
+            return Some(Given { first_line, ..self });
+        }
+        if is_output(word) && self.output.is_none() && is_file(value) {
+            let output = Some(value);
+            return Some(Given { output, ..self });
+        }
+        None
+    }
+
+    // Whether two options exclude each other: a check has no file for lines, and the number of the first item is none of a line.
+    fn are_at_odds(self) -> bool
+        ensures { result ≡ are_at_odds self.entry }
+    {
+        self.check && self.output.is_some() || self.first_item.is_some() && self.names_lines()
+    }
+
+    // The request of these options and inputs, if each word names an input and no options exclude each other.
     fn request(self, words: &[&str]) -> Option<Request<'a>>
         ensures { result ≡ request_of self.entry words.now }
     {
-        if !are_inputs(words) {
+        if !are_inputs(words) || self.are_at_odds() {
             return None;
         }
         Some(Request {
@@ -151,6 +254,16 @@ fn decimal_of(word: &str) -> Option<usize>
         return None;
     }
     word.parse::<usize>().ok()
+}
+
+// The number that a word writes, if it is at least 1.
+fn first_number_of(word: &str) -> Option<usize>
+    ensures { result ≡ first_number word.now }
+{
+    match decimal_of(word) {
+        Some(0) => None,
+        first => first,
+    }
 }
 
 // Whether a word can be the name of a file: it has a byte, and the first is no `-`.
@@ -193,36 +306,18 @@ fn are_inputs(words: &[&str]) -> bool
 fn request_after<'a>(given: Given<'a>, words: &[&'a str]) -> Option<Request<'a>>
     ensures { result ≡ asked_request given.entry words.now }
 {
-    match words {
-        [word, rest @ ..] if *word == "--strict" && !given.strict => {
-            let strict = true;
-            request_after(Given { strict, ..given }, rest)
-        }
-        [word, rest @ ..] if *word == "--lines" && !given.lines => {
-            let lines = true;
-            request_after(Given { lines, ..given }, rest)
-        }
-        [word, rest @ ..] if *word == "--progress" && !given.progress => {
-            let progress = true;
-            request_after(Given { progress, ..given }, rest)
-        }
-        [word, rest @ ..] if *word == "--max-line" && given.max_line.is_none() => {
-            let [number, rest @ ..] = rest else {
-                return None;
-            };
-            let max_line = Some(decimal_of(number)?);
-            request_after(Given { max_line, ..given }, rest)
-        }
-        [word, rest @ ..] if is_output(word) && given.output.is_none() => {
-            match rest {
-                [file, rest @ ..] if is_file(file) => {
-                    let output = Some(*file);
-                    request_after(Given { output, ..given }, rest)
-                }
-                _ => None,
-            }
-        }
-        _ => given.request(words),
+    let [word, rest @ ..] = words else {
+        return given.request(words);
+    };
+    if let Some(more) = given.with_flag(word) {
+        return request_after(more, rest);
+    }
+    let [value, rest @ ..] = rest else {
+        return given.request(words);
+    };
+    match given.with_value(word, value) {
+        Some(more) => request_after(more, rest),
+        None => given.request(words),
     }
 }
 
@@ -254,8 +349,9 @@ fn cut_of<'a>(words: &[&str]) -> Option<Task<'a>>
 
 /// What the words after the program's name ask for, or `None` if they are not as [`USAGE`] says.
 ///
-/// The options of a relay come in any order, each at most once; `--cut` and a number, [`MOST_PARTS`] at most, come first or
-/// after `--strict`. The words after these name inputs. `--help`, `-h` or `--version` comes alone. A number, as after
+/// The options of a relay come in any order, each at most once, but not both `--check` and `--output`, nor `--first-item`
+/// with `--lines` or `--first-line`, whose numbers are at least 1; `--cut` and a number, [`MOST_PARTS`] at most, come first or after
+/// `--strict`. The words after these name inputs. `--help`, `-h` or `--version` comes alone. A number, as after
 /// `--max-line`, is a decimal one that a `usize` holds: digits alone, of which the first may be zeros. A word with no byte, or
 /// that begins with `-`, names no file, and `-` alone names standard input. It takes no memory.
 ///
@@ -266,8 +362,12 @@ fn cut_of<'a>(words: &[&str]) -> Option<Task<'a>>
 /// task_of(&["--lines", "a", "-"])       gives  the same of the file `a`, and of standard input after it
 /// task_of(&["-o", "b", "a"])            gives  a relay of the file `a` to the file `b`
 /// task_of(&["a", "-o", "b"])            gives  None
+/// task_of(&["--check", "a"])            gives  a relay of the file `a` that writes no line
+/// task_of(&["--check", "-o", "b"])      gives  None
 /// task_of(&["--strict", "--strict"])    gives  None
 /// task_of(&["--max-line", "+80"])       gives  None
+/// task_of(&["--first-line", "5"])       gives  a relay whose fault lines name lines, of which the first is 5
+/// task_of(&["--first-item", "0"])       gives  None
 /// task_of(&["--cut", "4"])              gives  the ends of 4 parts of the input
 /// task_of(&["--cut", "1000001"])        gives  None
 /// task_of(&["--cut", "4", "--strict"])  gives  None
