@@ -73,8 +73,8 @@ wanted_of_both "usage: lp_rebuild [--strict]$newline"
 
 crate=lp_relay
 program=$relay
-usage="usage: lp_relay [--strict] [--lines] [--max-line BYTES] [--progress]
-                [--summary] [--check | --output FILE] [FILE..]
+usage="usage: lp_relay [--strict] [--verbatim] [--lines] [--first-item N | --first-line N]
+                [--max-line BYTES] [--progress] [--summary] [--check | --output FILE] [FILE..]
        lp_relay [--strict] --cut PARTS [FILE..]
        lp_relay --help | --version$newline"
 wanted_of_both "$usage"
@@ -116,6 +116,26 @@ if [ -n "$program" ]; then
     wanted 2 "" "$usage" --Progress
     wanted 2 "" "$usage" --progress=1
     wanted 2 "" "${unread}progress: $none$newline" progress
+    wanted 1 "" "item 7: ${strict_fault#item 1: }" --strict --first-item 7
+    wanted 1 "" "line 18446744073709551614: ${strict_fault#item 1: }" --first-line 18446744073709551614 --strict --check
+    wanted 0 "$loose" "" --first-item 1
+    for option in --first-item --first-line; do
+        wanted 2 "" "$usage" "$option"
+        wanted 2 "" "$usage" "$option" 0
+        wanted 2 "" "$usage" "$option" -1
+        wanted 2 "" "$usage" "$option" +1
+        wanted 2 "" "$usage" "$option" 18446744073709551616
+        wanted 2 "" "$usage" "$option" 1 "$option" 1
+        wanted 2 "" "$usage" "$option=1"
+        wanted 2 "" "$usage" "$option" 1 --cut 2
+    done
+    wanted 2 "" "$usage" --first-item 1 --lines
+    wanted 2 "" "$usage" --lines --first-item 1
+    wanted 2 "" "$usage" --first-line 1 --strict --first-item 1
+    wanted 2 "" "$usage" --verbatim --verbatim
+    wanted 2 "" "$usage" --verbatim=1
+    wanted 2 "" "$usage" --verbatim --cut 2
+    wanted 2 "" "$usage" --verbatim --help
     wanted 2 "" "$usage" --check --check
     wanted 2 "" "$usage" --summary --summary
     wanted 2 "" "$usage" --summary=1
@@ -213,6 +233,15 @@ if [ -n "$program" ]; then
     wanted 1 "" "line 5: $missing" --lines --check
     wanted 1 "" "line 3: the line is too long${newline}line 5: $missing" --max-line 8 --lines
     wanted 1 "" "line 3: the line is too long${newline}line 5: $missing" --lines --max-line 8 --strict
+    wanted 1 "$string" "line 14: $missing" --first-line 10
+    wanted 1 "$string" "line 14: $missing" --lines --first-line 10 --verbatim
+    wanted 1 "$string" "item 11: $missing" --first-item 10
+    # A lone backslash, two spaces, a number that begins with 0, a name that cannot be written again, and no newline at the end.
+    tab=$(printf '\t')
+    text='m,p=C:\\W  a=064i\nw\\\t a=1i'
+    wanted 1 'm,p=C:\\W a=64i'"$newline" "item 2: a name cannot be written again$newline"
+    wanted 0 'm,p=C:\W  a=064i'"${newline}w\\$tab a=1i$newline" "" --verbatim
+    wanted 0 "" "" --verbatim --check
     text='m a=1i,\n'
 fi
 run --help

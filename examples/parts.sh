@@ -27,6 +27,7 @@ take_parts() {
             fail "the options ($*) name a file"
         fi
         [ "$word" != --summary ] || fail "the options ($*) ask for a summary, and each part would have its own"
+        [[ $word != --first-* ]] || fail "the options ($*) say where the numbers begin, and each part has its own"
         before=$word
     done
     said=$("$program" "$@" </dev/null) || fail "with the options ($*) the status of $program is $?"
