@@ -117,7 +117,7 @@ if [ -n "$program" ]; then
     wanted 2 "" "$usage" --progress=1
     wanted 2 "" "${unread}progress: $none$newline" progress
     wanted 1 "" "item 7: ${strict_fault#item 1: }" --strict --first-item 7
-    wanted 1 "" "line 18446744073709551614: ${strict_fault#item 1: }" --first-line 18446744073709551614 --strict --check
+    wanted 1 "" "line 18446744073709551613: ${strict_fault#item 1: }" --first-line 18446744073709551613 --strict --check
     wanted 0 "$loose" "" --first-item 1
     for option in --first-item --first-line; do
         wanted 2 "" "$usage" "$option"
@@ -555,7 +555,8 @@ show_progress ""
 shown 0 "both outputs are a terminal" "m a=1i\r\n${clear}14 bytes read, 1 lines written, faults: 0, 0.0 MB/s${clear}m a=1i\r\n\
 ${clear}14 bytes read, 2 lines written, faults: 0, 0.0 MB/s\r\n"
 show_progress "" --check
-shown 0 "no line is written" "${clear}14 bytes read, 0 lines written, faults: 0, 0.0 MB/s\r\n"
+shown 0 "no line is written" "${clear}14 bytes read, 0 lines written, faults: 0, 0.0 MB/s\
+${clear}14 bytes read, 0 lines written, faults: 0, 0.0 MB/s\r\n"
 cp "$work/first" "$work/more"
 show_progress ">'$work/out'"
 shown 0 "there are two pauses" "${clear}14 bytes read, 1 lines written, faults: 0, 0.0 MB/s\
