@@ -326,16 +326,17 @@ complete_all() {
     completed "--strict" lp_rebuild ""
     completed "--strict" lp_rebuild --s
     completed "" lp_rebuild --strict ""
-    completed "--strict --verbatim --lines --max-line --progress --summary --first-item --first-line --check --output --cut --help --version" lp_relay ""
-    completed "--verbatim --lines --max-line --progress --summary --first-item --first-line --check --output --cut" lp_relay --strict --
-    completed "--strict --verbatim --max-line --progress --summary --first-item --first-line --check --output" lp_relay --lines ""
-    completed "--strict --verbatim --lines --max-line --progress --summary --first-item --first-line" lp_relay --check --
-    completed "--strict --verbatim --lines --max-line --progress --summary --check --output" lp_relay --first-line 7 --
-    completed "--strict --verbatim --lines --max-line --progress --summary --first-item --first-line" lp_relay -o x --
+    completed "--strict --verbatim --max-line --progress --summary --lines --first-line --first-item --check --output --cut --help --version" lp_relay ""
+    completed "--verbatim --max-line --progress --summary --lines --first-line --first-item --check --output --cut" lp_relay --strict --
+    completed "--strict --verbatim --max-line --progress --summary --first-line --check --output" lp_relay --lines ""
+    completed "--strict --verbatim --max-line --progress --summary --lines --first-line --first-item" lp_relay --check --
+    completed "--strict --verbatim --max-line --progress --summary --lines --check --output" lp_relay --first-line 7 --
+    completed "--strict --verbatim --max-line --progress --summary --check --output" lp_relay --first-item 7 --
+    completed "--strict --verbatim --max-line --progress --summary --lines --first-line --first-item" lp_relay -o x --
     completed "" lp_relay --first-item ""
     completed "--max-line" lp_relay --m
     completed "" lp_relay --max-line ""
-    completed "--strict --verbatim --lines --progress --summary --first-item --first-line --check --output" lp_relay --max-line 7 ""
+    completed "--strict --verbatim --progress --summary --lines --first-line --first-item --check --output" lp_relay --max-line 7 ""
     completed "" lp_relay --cut ""
     completed "$top/launch.sh" lp_relay --strict --cut 4 "$top/lau"
     completed "$top/launch.sh" lp_relay "$top/lau"
@@ -345,7 +346,7 @@ complete_all() {
     completed "" lp_relay --output --
     completed "" lp_relay --help ""
     completed "" lp_relay -h ""
-    completed "--version" lp_relay --v
+    completed "--verbatim --version" lp_relay --v
     completed "" lp_relay --version ""
     told+=("$completions completions")
 }
