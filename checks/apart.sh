@@ -14,19 +14,29 @@ work=$(mktemp -d)
 trap 'rm -rf "$work"' EXIT
 cd "$work"
 
-# For --cut the stub does what CUTS says. It knows one wrong option. Of /dev/null it writes nothing, and else what RELAYS says.
+# For --cut the stub does what CUTS says. It knows one wrong option. Of /dev/null it counts nothing, and of else it writes what RELAYS says,
+# and then what COUNTS says. `first` is the number that its items begin with, and `again` is set if it relays a part once more.
 cat >stub <<'STUB'
 #!/bin/sh
+first=1
+again=
 case " $* " in
-*" --cut "*) eval "$CUTS" ;;
-*" --wrong "*) echo 'usage: stub' >&2; exit 2 ;;
-*" --help "*) echo 'usage: stub' ;;
-*) [ /dev/stdin -ef /dev/null ] || eval "$RELAYS" ;;
+*" --cut "*) eval "$CUTS"; exit ;;
+*" --wrong "* | *" --summary --summary "*) echo 'usage: stub' >&2; exit 2 ;;
+*" --help "*) echo 'usage: stub'; exit ;;
+*" --check --first-"*) again=yes; for first; do :; done ;;
 esac
+[ /dev/stdin -ef /dev/null ] && { echo "0 items: 0 carried, 0 refused" >&2; exit; }
+(eval "$RELAYS")
+status=$?
+[ $status -gt 1 ] || eval "$COUNTS" >&2
+exit $status
 STUB
 chmod +x stub
 mkdir waiting
-export LP_RELAY=$work/stub TMPDIR=$work/waiting CUTS RELAYS
+export LP_RELAY=$work/stub TMPDIR=$work/waiting CUTS RELAYS COUNTS counts
+counts='echo "1 items: $((1 - status)) carried, $status refused"'
+COUNTS=$counts
 
 # Runs a command, and leaves `out`, `err` and `status`. Both outputs are pipes, also where no file can be written.
 run() {
@@ -80,16 +90,35 @@ wanted 0 "$text" "" "$apart" --in 4
 from_a_file() { "$apart" /dev/stdin 4 <"$file"; }
 wanted 0 "$text" "" from_a_file
 CUTS="echo \"\$*\" >&2; $cuts"
-RELAYS='cat >&2; echo "$*"'
-wanted 0 $'--lines --strict\n--lines --strict\n--lines --strict\n--lines --strict' "*part 4, e,the rest" "$apart" "$file" 4 --lines --strict
+RELAYS='cat >&2; echo >&2; echo "$*"'
+words="--summary --lines --strict"
+wanted 0 "$words"$'\n'"$words"$'\n'"$words"$'\n'"$words" "e,the rest" "$apart" "$file" 4 --lines --strict
 grep -qx -- '--strict --cut 4' err
 CUTS=$cuts
-RELAYS='cat; [ "$1" != --strict ] || { echo "item 1: no line" >&2; exit 1; }'
-wanted 1 "$text" "part 4, item 1: no line" "$apart" "$file" 4 --strict
-[ "$(wc -l <err)" = 4 ]
-RELAYS='text=$(cat); printf %s "$text"; case $text in ,*) printf "item %s: no line\n" 1 2 >&2; exit 1 ;; esac'
-wanted 1 "$text" "part 3, item 2: no line" "$apart" "$file" 4
-grep -qx 'part 3, item 1: no line' err
+# Parts that refuse something: none, all, and the third one, of which the first relay writes two lines. All but the first one are
+# relayed once more.
+faults_wanted() {
+    if [ "$(cat err)" != "$1" ]; then
+        echo "apart: the faults are not $1, but"
+        cat err
+        exit 1
+    fi
+}
+RELAYS='cat; case " $* " in *" --strict "*) echo "item $first: no line" >&2; exit 1 ;; esac'
+wanted 0 "$text" "" "$apart" "$file" 4
+wanted 1 "$text" "item 4: *" "$apart" "$file" 4 --strict
+faults_wanted $'item 1: no line\nitem 2: no line\nitem 3: no line\nitem 4: no line'
+wanted 1 "$text" "4 items: 0 carried, 4 refused" "$apart" "$file" 4 --summary --strict
+wanted 0 "$text" "4 items: 4 carried, 0 refused" "$apart" "$file" 4 --summary
+RELAYS='text=$(cat); printf %s "$text"; case $text in ,*) echo "item $first: no line" >&2; exit 1 ;; esac'
+wanted 1 "$text" "item 3: *" "$apart" "$file" 4
+faults_wanted "item 3: no line"
+RELAYS='cat; echo "$*" >&2; exit 1'
+wanted 1 "$text" "--summary *" "$apart" "$file" 4 --check --max-line 7
+faults_wanted "--summary --check --max-line 7
+--summary --max-line 7 --check --first-item 2
+--summary --max-line 7 --check --first-item 3
+--summary --max-line 7 --check --first-item 4"
 # Each of twelve relays waits until all run.
 CUTS="seq 19 30"
 RELAYS='echo >>running; tries=0; while [ "$(wc -l <running)" -lt 12 ] && [ $tries -lt 100 ]; do sleep 0.1; tries=$((tries + 1)); done
@@ -113,7 +142,11 @@ for words in "--output again" "--strict -o again" "again" "--lines -" "--max-lin
     # shellcheck disable=SC2086
     wanted 2 "" "apart: the options ($words) name a file" "$apart" "$file" 4 $words
 done
-wanted 2 "" "apart: the options (--lines --summary) ask for a summary, and each part would have its own" "$apart" "$file" 4 --lines --summary
+for words in "--strict --first-item 7" "--first-line 7"; do
+    # shellcheck disable=SC2086
+    wanted 2 "" "apart: the options ($words) say where the numbers begin*" "$apart" "$file" 4 $words
+done
+wanted 2 "" "apart: with the options (--summary --summary) the status of * is 2" "$apart" "$file" 4 --summary --summary
 wanted 2 "" "apart: * is not a regular file*" "$apart" "$work" 4
 wanted 2 "" "apart: none is not a regular file*" "$apart" none 4
 wanted 2 "" "apart: * is not a regular file*" "$apart" <(cat "$file") 4
@@ -148,6 +181,22 @@ grep -qx 'part 3, item 1: no line' err
 grep -qx 'part 3, lp_relay: why' err
 relays_wanted 'text=$(cat); case $text in ,*) kill -9 $$ ;; *) printf %s "$text" ;; esac' \
     "apart: part 3: the status of the relay is 137"
+# So does a relay that tells no counts, and one that fails, or counts otherwise, when the part is relayed once more.
+COUNTS=:
+relays_wanted 'text=$(cat); printf %s "$text"; case $text in ,*) ;; *) status=0; eval "$counts" >&2 ;; esac' \
+    "apart: part 3: its counts are not known"
+relays_wanted 'text=$(cat); printf %s "$text"; echo "item $first: no line" >&2; status=1
+case $text$again in ,*yes) echo "2 items: 1 carried, 1 refused" >&2 ;; *) eval "$counts" >&2 ;; esac; exit 1' \
+    "apart: part 3: a second relay counts otherwise"
+COUNTS=$counts
+relays_wanted 'text=$(cat); printf %s "$text"; echo "item $first: no line" >&2
+case $text$again in ,*yes) echo "lp_relay: why" >&2; exit 2 ;; esac; exit 1' \
+    "apart: part 3: the status of the relay is 2"
+faults_wanted "item 1: no line
+item 2: no line
+part 3, item 3: no line
+part 3, lp_relay: why
+apart: part 3: the status of the relay is 2"
 RELAYS="cat"
 
 # A dd that fails at the third part, gives less and says so, says nothing, or finds that the file has become shorter.
@@ -163,6 +212,14 @@ dd_wanted 'set -- "$@" count=7' "dd gave 7 bytes of 10"
 dd_wanted 'exit 0' "dd gave no bytes of 10"
 dd_wanted 'truncate -s 13 "a small file"' "dd gave 3 bytes of 10"
 printf '%s' "$text" >"$file"
+# A dd that fails when the part is relayed once more, and one that fails when lines are counted.
+RELAYS='cat; echo "item $first: no line" >&2; exit 1'
+dd_wanted 'mkdir once 2>/dev/null || { echo "dd: why" >&2; exit 1; }' "the status of dd is 1"
+grep -qx 'part 3, dd: why' err
+rmdir once
+wanted 2 "" "apart: the lines before part 4 cannot be counted" env READS='mkdir once 2>/dev/null || exit 1' \
+    "PATH=$work/broken:$PATH" "$apart" "$file" 4 --lines
+rmdir once
 
 # A TMPDIR that is missing, that holds nothing, and that holds too little. A limit of the shell is in the place of a full disk.
 limited() { (trap '' XFSZ; ulimit -f "$1"; shift; exec "$@"); }
@@ -190,20 +247,38 @@ fi
 echo "apart: $tried runs with a stub ended as they should"
 [ -n "$relay" ] || exit 0
 
+# Compares both outputs of a relay in parts, and its status, with those of one relay: INPUT OPTION..
+compared=0
+compare() {
+    local input=$1 parts status_wanted=0
+    shift
+    "$relay" "$@" <"$input" >wanted 2>wanted_err || status_wanted=$?
+    for parts in 1 8 64; do
+        run env LP_RELAY="$relay" "$apart" "$input" "$parts" "$@"
+        if [ "$status" != "$status_wanted" ] || ! cmp out wanted || ! cmp err wanted_err; then
+            echo "apart: of $input in $parts parts ($*) lp_relay writes something else, or has status $status, not $status_wanted"
+            exit 1
+        fi
+        compared=$((compared + 1))
+    done
+}
 # Lines that a relay carries, one of which has a newline within a string, and two that it refuses.
 item='m s="a
 b"'
 yes "$item"$'\nx\n# c\ncpu f=1i,g=2 5\ny' | head -n 6000 >lines
-yes "$item"$'\ncpu f=1i,g=2 5' | head -n 3000 >wanted
-for parts in 1 2 7 64 999; do
-    run env LP_RELAY="$relay" "$apart" lines "$parts"
-    # Each second item is refused, so the first one that a part refuses is its first or its second.
-    faults=$(grep -cE '^part [0-9]+, item [0-9]+: A generic parsing error occurred: TakeWhile1$' err)
-    refusing=$(cut -d , -f 1 err | uniq | wc -l)
-    if [ "$status" != 1 ] || ! cmp out wanted || [ "$faults" != 2000 ] || [ "$(wc -l <err)" != 2000 ] ||
-        [ "$(grep -cE ', item [12]: ' err)" != "$refusing" ]; then
-        echo "apart: in $parts parts the status of lp_relay is $status, where 1 is wanted, with $faults faults of 2000"
-        exit 1
-    fi
+# Three of eight parts have faults, and the text does not end in a newline.
+{
+    yes 'cpu f=1i 5' | head -n 8000 | sed '2500s/.*/x/; 2600s/.*/m s="a/; 2601s/.*/b"/; 4500s/.*/\xff/; 7999s/.*/a name w\\\t f=1/'
+    printf 'y'
+} >three
+# A string over many lines is where most of the cuts would be, and after it one that is not closed.
+{ echo x; printf 'm s="'; yes 'a line of the string' | head -n 5000; printf '"\ny\nm s="'; yes $'\nz' | head -n 2000; } >string
+: >empty
+echo >newline
+for input in lines three string empty newline; do
+    compare "$input"
+    compare "$input" --lines --summary
+    compare "$input" --strict --verbatim --check --lines
+    compare "$input" --max-line 11 --summary
 done
-echo "apart: a relay's parts give what the whole gives"
+echo "apart: a relay's parts give what the whole gives, also its faults, in $compared runs"

@@ -73,8 +73,9 @@ wanted_of_both "usage: lp_rebuild [--strict]$newline"
 
 crate=lp_relay
 program=$relay
-usage="usage: lp_relay [--strict] [--verbatim] [--lines] [--first-item N | --first-line N]
-                [--max-line BYTES] [--progress] [--summary] [--check | --output FILE] [FILE..]
+usage="usage: lp_relay [--strict] [--verbatim] [--first-item N | [--lines] [--first-line N]]
+                [--faults line|raw] [--max-line BYTES] [--progress] [--summary]
+                [--check | --output FILE] [FILE..]
        lp_relay [--strict] --cut PARTS [FILE..]
        lp_relay --help | --version$newline"
 wanted_of_both "$usage"
@@ -132,6 +133,31 @@ if [ -n "$program" ]; then
     wanted 2 "" "$usage" --first-item 1 --lines
     wanted 2 "" "$usage" --lines --first-item 1
     wanted 2 "" "$usage" --first-line 1 --strict --first-item 1
+    for form in "" lines Line raw=1; do
+        wanted 2 "" "$usage" --faults "$form"
+    done
+    wanted 2 "" "$usage" --faults
+    wanted 2 "" "$usage" --faults=raw
+    wanted 2 "" "$usage" --faults raw --faults line
+    wanted 2 "" "$usage" --faults raw --cut 2
+    # A fault line whose text has a newline, a tab and a backslash, a byte that is not ASCII, and more than 200 bytes.
+    found="Could not parse entire line. Found trailing content: '"
+    text='m a=1 "x\n\titem 9: \\ \0303\0274"\n'
+    told='item 1: '"$found"' "x\n\titem 9: \\ \xc3\xbc"'"'"
+    raw="item 1: $found \"x$newline"$'\t'"item 9: \\ ü\"'"
+    wanted 1 "" "$told$newline"
+    wanted 1 "" "$told$newline" --faults line --strict
+    wanted 1 "" "line 7: ${told#item 1: }$newline" --first-line 7
+    wanted 1 "" "$raw$newline" --faults raw
+    wanted 1 "" "line 7: ${raw#item 1: }$newline" --faults raw --first-line 7
+    told="item 1: $found "
+    long=$(printf '%*s' "$((200 - ${#told} - 1))" "" | tr ' ' y)
+    text="m a=1 $long\n"
+    wanted 1 "" "$told$long'$newline"
+    text="m a=1 x$long\n"
+    wanted 1 "" "${told}x$long'$newline" --faults raw
+    wanted 1 "" "${told}x$long.. [201 bytes]$newline"
+    text='m a=1i,\n'
     wanted 2 "" "$usage" --verbatim --verbatim
     wanted 2 "" "$usage" --verbatim=1
     wanted 2 "" "$usage" --verbatim --cut 2
@@ -245,7 +271,7 @@ if [ -n "$program" ]; then
     text='m a=1i,\n'
 fi
 run --help
-if [ "$status" != 0 ] || [ -s "$work/err" ] || ! printf '%s' "$usage" | cmp -s - <(head -n 4 "$work/out"); then
+if [ "$status" != 0 ] || [ -s "$work/err" ] || ! printf '%s' "$usage" | cmp -s - <(head -n 5 "$work/out"); then
     echo "arguments: --help does not begin with the usage, or its status is $status"
     exit 1
 fi
@@ -284,6 +310,14 @@ quiet() {
         exit 1
     fi
     devices=$((devices + 1))
+}
+# Opens and closes the pipe `unread` for reading, and then lets the program go on that waits for `fifo`. Each command ends before the
+# next begins: bash keeps a copy of what a redirection closes until all redirections of the same command are done.
+leave_unread() {
+    exec 4<"$work/unread"
+    exec 4<&-
+    exec 3>"$work/fifo"
+    exec 3>&-
 }
 # Runs a program of this name where its input fails, and where its output or standard error is full or closed. The pattern is what
 # comes after the message.
@@ -338,7 +372,7 @@ for option in --help -h --version; do
     stopped "" "the output of $option is full"
     "$relay" "$option" >"$work/unread" <"$work/fifo" 2>"$work/err" &
     process=$!
-    exec 4<"$work/unread" 4<&- 3>"$work/fifo" 3>&-
+    leave_unread
     wait "$process" && status=0 || status=$?
     quiet "nothing reads the output of $option"
 done
@@ -508,7 +542,7 @@ fails 2 "${unread}Bad file descriptor (os error 9)" "the input is closed"
 fails 2 "" "the input and standard error are closed"
 "$relay" -o out b 2>"$work/unread" <"$work/fifo" >"$work/out" &
 process=$!
-exec 4<"$work/unread" 4<&- 3>"$work/fifo" 3>&-
+leave_unread
 wait "$process" && status=0 || status=$?
 fails 141 "" "nothing reads standard error"
 "$relay" -o out a c >&- 2>"$work/err"

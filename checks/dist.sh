@@ -296,7 +296,7 @@ read_pages() {
     else
         left_out "pages by mandoc" "there is no mandoc"
     fi
-    for option in $("$prefix/bin/lp_relay" --help | sed -n '1,4p' | grep -o -e '--[a-z-]*'); do
+    for option in $("$prefix/bin/lp_relay" --help | sed -n '1,5p' | grep -o -e '--[a-z-]*'); do
         grep -qF -e ".It Fl -${option#--}" "$prefix/share/man/man1/lp_relay.1" || fail "the page of lp_relay does not tell of $option"
         complete_words lp_relay "${option%?}" | grep -qxF -e "$option" || fail "lp_relay's completion does not know $option"
     done
@@ -324,19 +324,21 @@ completed() {
 }
 complete_all() {
     completed "--strict" lp_rebuild ""
+    completed "line raw" lp_relay --strict --faults ""
+    completed "raw" lp_relay --faults r
     completed "--strict" lp_rebuild --s
     completed "" lp_rebuild --strict ""
-    completed "--strict --verbatim --max-line --progress --summary --lines --first-line --first-item --check --output --cut --help --version" lp_relay ""
-    completed "--verbatim --max-line --progress --summary --lines --first-line --first-item --check --output --cut" lp_relay --strict --
-    completed "--strict --verbatim --max-line --progress --summary --first-line --check --output" lp_relay --lines ""
-    completed "--strict --verbatim --max-line --progress --summary --lines --first-line --first-item" lp_relay --check --
-    completed "--strict --verbatim --max-line --progress --summary --lines --check --output" lp_relay --first-line 7 --
-    completed "--strict --verbatim --max-line --progress --summary --check --output" lp_relay --first-item 7 --
-    completed "--strict --verbatim --max-line --progress --summary --lines --first-line --first-item" lp_relay -o x --
+    completed "--strict --verbatim --faults --max-line --progress --summary --lines --first-line --first-item --check --output --cut --help --version" lp_relay ""
+    completed "--verbatim --faults --max-line --progress --summary --lines --first-line --first-item --check --output --cut" lp_relay --strict --
+    completed "--strict --verbatim --faults --max-line --progress --summary --first-line --check --output" lp_relay --lines ""
+    completed "--strict --verbatim --faults --max-line --progress --summary --lines --first-line --first-item" lp_relay --check --
+    completed "--strict --verbatim --faults --max-line --progress --summary --lines --check --output" lp_relay --first-line 7 --
+    completed "--strict --verbatim --faults --max-line --progress --summary --check --output" lp_relay --first-item 7 --
+    completed "--strict --verbatim --faults --max-line --progress --summary --lines --first-line --first-item" lp_relay -o x --
     completed "" lp_relay --first-item ""
     completed "--max-line" lp_relay --m
     completed "" lp_relay --max-line ""
-    completed "--strict --verbatim --progress --summary --lines --first-line --first-item --check --output" lp_relay --max-line 7 ""
+    completed "--strict --verbatim --faults --progress --summary --lines --first-line --first-item --check --output" lp_relay --max-line 7 ""
     completed "" lp_relay --cut ""
     completed "$top/launch.sh" lp_relay --strict --cut 4 "$top/lau"
     completed "$top/launch.sh" lp_relay "$top/lau"

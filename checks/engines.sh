@@ -1,7 +1,7 @@
 #!/usr/bin/env bash
-# Runs examples/slurm and examples/ssh.sh for real, over 50 MB with a line at fault in some parts, and compares what they write with
-# what one relay and examples/apart.sh write; also if a worker fails midway, whose part another then relays. Slurm and sshd are started
-# here, and end here, and nothing may be left running.
+# Runs examples/slurm and examples/ssh.sh for real, over 56 MB with a line at fault in some parts, and compares the lines and the fault
+# lines that they write with those of one relay; also if a worker fails midway, whose part another then relays. Slurm and sshd are
+# started here, and end here, and nothing may be left running.
 #
 #   checks/engines.sh RELAY
 #
@@ -39,23 +39,35 @@ fail() {
     exit 1
 }
 
-# The input, and what is wanted of it.
+# The input: three of its eight parts have a line at fault, of which the last one has no newline, and a string of many lines is where
+# the second part would end.
 names=(telegraf iot strings escapes short)
 python3 "$top/bench/corpora.py" --seed engines --size 10000000 --out corpora "${names[@]}" >corpora.out
 for name in "${names[@]}"; do
     cat "corpora/$name.lp"
-    case $name in telegraf | iot | escapes) echo "at fault" ;; esac
+    case $name in
+    telegraf)
+        echo "at fault"
+        printf 'm s="'
+        yes "a line of a string" | head -c 6000000
+        echo '"'
+        ;;
+    iot) echo "at fault" ;;
+    short) printf "at fault" ;;
+    esac
 done >input
 rm -r corpora
-# wanted_of NAME OPTION..: writes NAME.lp and NAME.faults.
+"$relay" --cut 8 <input >ends
+parts=$(grep -bx "at fault" input | cut -d : -f 1 |
+    awk 'NR == FNR { end[NR] = $1; next } { for (part = 1; end[part] <= $1; part++); print part }' ends - | uniq | wc -l)
+[ "$parts" = 3 ] || fail "the faults are in $parts parts"
+
+# What is wanted of it: wanted_of NAME OPTION.. writes NAME.lp and NAME.faults.
 wanted_of() {
     local name=$1 status=0
     shift
-    "$relay" "$@" <input >"$name.lp" 2>one_err || status=$?
-    [ "$status $(wc -l <one_err)" = "1 3" ] || fail "one relay ($*) has status $status"
-    LP_RELAY=$relay "$top/examples/apart.sh" input 8 "$@" >apart.lp 2>"$name.faults" || true
-    cmp "$name.lp" apart.lp
-    [ "$(cut -d , -f 1 "$name.faults" | uniq | wc -l)" = 3 ] || fail "the faults are not in three parts"
+    "$relay" "$@" <input >"$name.lp" 2>"$name.faults" || status=$?
+    [ "$status $(wc -l <"$name.faults")" = "1 3" ] || fail "one relay ($*) has status $status"
 }
 wanted_of items
 wanted_of lines --strict --lines
@@ -80,7 +92,7 @@ chmod +x stops
 compare() {
     [ "$status" = 1 ] || fail "$1 has status $status"
     cmp "$2.lp" out || fail "$1 does not write what one relay writes"
-    cmp "$2.faults" err || fail "$1 does not tell the faults that apart.sh tells"
+    cmp "$2.faults" err || fail "$1 does not tell the faults that one relay tells"
     nothing_runs "$1"
 }
 
@@ -100,8 +112,7 @@ await_stop() {
     for _ in $(seq 600); do
         if [ -e first/pid ]; then
             pid=$(cat first/pid)
-            rm -r first
-            mkdir first
+            rm first/pid
             return
         fi
         sleep 0.1

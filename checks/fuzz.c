@@ -153,12 +153,20 @@ static void check_shown(const uint8_t *text, size_t len) {
     }
 }
 
-/* A run writes what `rebuild` gives. */
-static void check_run(bool is_strict, const uint8_t *text, size_t len) {
-    uint64_t lens[2];
-    MUST(lp_checks_run(is_strict, text, len, one.out, ROOM, again.out, ROOM, lens) == 0);
+/* It ended without a fault, and wrote into `one` and `again`, so many bytes into each, what `rebuild` gives. */
+static void must_be_rebuilt(uint8_t answer, const uint64_t lens[2]) {
+    MUST(answer == 0);
     MUST(lens[0] == len_of(&rebuilt, 0) && !memcmp(one.out, entry(&rebuilt, 0), lens[0]));
     MUST(lens[1] == len_of(&rebuilt, 1) && !memcmp(again.out, entry(&rebuilt, 1), lens[1]));
+}
+
+/* A run writes what `rebuild` gives, and so does a relay of the text in parts. */
+static void check_run(bool is_strict, const uint8_t *text, size_t len) {
+    static const size_t parts[] = {1, 7, TEXT};
+    uint64_t lens[2];
+    must_be_rebuilt(lp_checks_run(is_strict, text, len, one.out, ROOM, again.out, ROOM, lens), lens);
+    for (int i = 0; i < 3; i++)
+        must_be_rebuilt(lp_checks_relay(is_strict, text, len, parts[i], one.out, ROOM, again.out, ROOM, lens), lens);
 }
 
 /* Bytes that spell calls of the builder are written, and read without harm. */

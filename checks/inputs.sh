@@ -179,6 +179,12 @@ echo 'm a=1i' >lines
 yes 7 | head -n 1000000 >ends_wanted
 "$relay" --cut 1000000 <lines >out 2>err && status=0 || status=$?
 wanted 0 ends_wanted none "$relay --cut 1000000"
+# Of a fault line of ten million bytes the first 200 are told, and how many it has; what comes after it is relayed.
+told="item 1: Could not parse entire line. Found trailing content: ' "
+{ printf 'm f=1 '; head -c 10000000 /dev/zero | tr '\0' x; printf '\nm a=1i\n'; } >large
+{ printf %s "$told"; head -c "$((200 - ${#told}))" /dev/zero | tr '\0' x; echo ".. [$((${#told} + 10000001)) bytes]"; } >lines_wanted
+"$relay" <large >out 2>err && status=0 || status=$?
+wanted 1 lines lines_wanted "$relay, of a long fault line,"
 echo "inputs: $runs runs over $((${#block} * blocks)) bytes and more gave what the table says"
 
 # at_once INPUT OUTPUT PLACE: what is put into a pipe in one write, and no more, gives all of an output before the pipe is closed.

@@ -1,6 +1,6 @@
 #!/usr/bin/env python3
-"""What readers in use make of the texts below, and what lp_relay makes of them: the tables of docs/INTEROP.md. It is called by
-checks/interop.sh, which starts the servers.
+"""What readers in use make of the texts below, and of what lp_relay writes of them, rebuilt and verbatim: the tables of
+docs/INTEROP.md. It is called by checks/interop.sh, which starts the servers.
 
     checks/interop.py [--write | --print] RELAY [READER=VERSION=PLACE..]
 
@@ -126,7 +126,12 @@ OTHER = [
     r"m␀n f=1",
     r"m,t=[FF] f=1",
     r"m\⏎x f=1",
+    r"m,t=a\⏎b f=1",
+    r"w\⇥ f=1",
+    r'# it a="⏎m b=1i',
     r'# it a="⏎m b=1i⏎n c=2i',
+    r"# c\⏎m f=1",
+    r"m,path=C:\Windows f=1 5⏎m f⏎n,t=v f=2 6",
     r'm a="x⏎n b=1i⏎o c=1i',
     r"m f=1\⏎n g=2",
 ]
@@ -250,18 +255,41 @@ def relayed(program, text, *options):
     ran = subprocess.run([program, *options], input=text, capture_output=True, check=False)
     if ran.returncode not in (0, 1):
         raise Fault(f"lp_relay of {text[:99]} ends with status {ran.returncode}: {ran.stderr.decode()}")
-    return ran.stdout.decode(), ran.stderr.decode()
+    return ran.stdout, ran.stderr.decode()
 
 
 def shown_relay(text, written, faults):
     """What the table says of what lp_relay made of a text."""
     parts = []
     if written:
-        parts.append("as it is" if written.encode() in (text, text + b"\n") else spelled(written.removesuffix("\n")))
+        parts.append("as it is" if written in (text, text + b"\n") else spelled(written.removesuffix(b"\n").decode()))
     found = re.findall(r"^item (\d+): (.*?)\n(?=item \d+: |\Z)", faults, re.M | re.S)
     parts += [f"refused: {spelled(told)}" if len(found) == 1 and not written else f"item {at} refused: {spelled(told)}"
               for at, told in found]
     return "; ".join(parts)
+
+
+# The ways in which lp_relay writes lines, and their options.
+REBUILT, VERBATIM, STRICT, BOTH = "rebuilt", "`--verbatim`", "`--strict`", "`--strict --verbatim`"
+WAYS = {REBUILT: [], VERBATIM: ["--verbatim"], STRICT: ["--strict"], BOTH: ["--strict", "--verbatim"]}
+
+
+def relayed_by_all(program, text):
+    """What lp_relay writes of a text in each way."""
+    return {way: relayed(program, text, *options) for way, options in WAYS.items()}
+
+
+def told_ways(made):
+    """The ways of which something is told, of what was made in each: another way is as these are."""
+    both_as = VERBATIM if made[STRICT] == made[REBUILT] else STRICT
+    told = [way for way, other in [(VERBATIM, REBUILT), (STRICT, REBUILT), (BOTH, both_as)] if made[way] != made[other]]
+    return [REBUILT, *told]
+
+
+def shown_ways(text, ways):
+    """What the table says of what lp_relay made of a text."""
+    first, *others = told_ways(ways)
+    return "; ".join([shown_relay(text, *ways[first]), *(f"{way}: {shown_relay(text, *ways[way])}" for way in others)])
 
 
 # What the readers make of a text.
@@ -304,8 +332,9 @@ class Influx:
             name, (_, *keys) = series["name"], series["columns"]
             for at, *values in series["values"]:
                 fields = [(key, kinds[name, key], self.value(value)) for key, value in zip(keys, values) if value is not None]
+                tags = [(key, value) for key, value in series.get("tags", {}).items() if value]
                 stamp = None if abs(at - time.time_ns()) < 600e9 else at
-                made.append(point(name, series.get("tags", {}).items(), fields, stamp))
+                made.append(point(name, tags, fields, stamp))
         return made
 
     def value(self, value):
@@ -375,28 +404,43 @@ def shown_number(made):
 
 
 @dataclass
+class Stored:
+    """What a reader stores of a text, and of the lines of each way that writes some, as the table says it."""
+
+    text: str
+    lines: dict
+    told: list
+
+    def shown(self):
+        """A cell: what is stored of the text, and what is stored of lines of which something is told, if it is something else."""
+        others = [f"{way}: {what}" for way, what in self.lines.items() if way in self.told and what != self.text]
+        return "; ".join([self.text, *others])
+
+
 class Column:
     """A reader, what it stores of points that it reads as lp_relay does, and how the table shows what it stores."""
 
-    reader: object
-    stored: object
-    shown: object
+    def __init__(self, reader, wanted, shown):
+        self.reader = reader
+        self.wanted = wanted
+        self.shown = shown
+        self.known = {}
 
-    def part(self, text, written, faults=""):
-        """What the reader makes of a text, of which lp_relay made this."""
-        read, wanted = self.reader.read(text), self.stored(written_points(written))
-        if wanted and sorted(read.points) == sorted(wanted) and (faults or not read.faults):
-            return "the same"
+    def part(self, text, points, is_all=True):
+        """What the reader makes of a text that says these points, and nothing else if `is_all`."""
+        if text not in self.known:
+            self.known[text] = self.reader.read(text)
+        read, wanted = self.known[text], self.wanted(points)
+        if wanted and sorted(read.points) == sorted(wanted) and not (is_all and read.faults):
+            return SAME_POINT
         return "; ".join([self.shown(made) for made in sorted(read.points)] + read.faults) or "nothing"
 
-    def cell(self, text, plain, strict):
-        """What the reader makes of a text and, if that is something else, of what lp_relay writes of it in each dialect."""
-        first = self.part(text, *plain)
-        second = self.part(plain[0].encode(), plain[0]) if plain[0] else first
-        told = first if first == second else f"{first} → {second}"
-        if strict[0] in ("", plain[0]):
-            return told
-        return f"{told}; of `--strict`: {self.part(strict[0].encode(), strict[0])}"
+    def stored(self, text, ways):
+        """What the reader makes of a text, and of the lines that lp_relay writes of it in each way."""
+        plain, strict = (written_points(ways[way][0].decode()) for way in (REBUILT, STRICT))
+        lines = {way: self.part(ways[way][0], strict if way in (STRICT, BOTH) else plain) for way in WAYS if ways[way][0]}
+        told = told_ways({way: written for way, (written, _) in ways.items()})
+        return Stored(self.part(text, plain, not ways[REBUILT][1]), lines, told)
 
 
 COLUMNS = {
@@ -404,7 +448,9 @@ COLUMNS = {
     "parser": lambda place: Column(Parser(place), list, shown_point),
     "victoria": lambda place: Column(Victoria(place), stored_by_victoria, shown_number),
 }
+SAME_POINT = "the same"
 READERS = {"influx": "InfluxDB 1.x", "parser": "its parser alone", "victoria": "VictoriaMetrics"}
+COUNTS = ["reader", "lines", "texts that give lines", "stored as without `lp_relay`", "stored as `lp_relay` reads them"]
 HEADS = ["text", "`lp_relay` writes", "InfluxDB 1.x stores", "VictoriaMetrics stores"]
 ALONE = "; its parser alone: "
 PARTS = {
@@ -414,29 +460,53 @@ PARTS = {
 }
 
 
+@dataclass
+class Row:
+    """A text as the table spells it, what the table says of the lines of lp_relay, and what each reader stores."""
+
+    text: str
+    relay: str
+    stored: dict
+
+    def shown(self, name):
+        return self.stored[name].shown()
+
+    def cells(self):
+        influx, parser = self.shown("influx"), self.shown("parser")
+        if parser != influx:
+            influx += ALONE + parser
+        return [self.text, self.relay, influx, self.shown("victoria")]
+
+
 def row(program, columns, text):
-    """The row of a text. A cell of which something is not known is None."""
+    """The row of a text."""
     data = raw(text)
-    plain, strict = relayed(program, data), relayed(program, data, "--strict")
-    relay = shown_relay(data, *plain)
-    if strict != plain:
-        relay += f"; `--strict`: {shown_relay(data, *strict)}"
-    cells = {name: column.cell(data, plain, strict) for name, column in columns.items()}
-    influx = cells.get("influx")
-    if influx and cells.get("parser", influx) != influx:
-        influx += ALONE + cells["parser"]
-    return [f"`{text}`", relay, influx, cells.get("victoria")]
+    ways = relayed_by_all(program, data)
+    return Row(f"`{text}`", shown_ways(data, ways), {name: column.stored(data, ways) for name, column in columns.items()})
 
 
-def must_be_in(part, cells):
+def must_be_in(part, made):
     """Refuses a row that is in another part of the page than it should be."""
-    text, relay, influx, _ = cells
-    if part is SAME and influx not in (None, "the same"):
-        raise Fault(f"InfluxDB does not read {text} as lp_relay does, but stores: {influx}")
-    if part is REFUSED and not (relay.startswith("refused: ") and (influx or "refused: ").startswith("refused: ")):
-        raise Fault(f"{text} is not refused by both, but: {relay}; {influx}")
-    if part is OTHER and influx == "the same":
-        raise Fault(f"InfluxDB reads {text} as lp_relay does")
+    if "influx" not in made.stored:
+        return
+    stored = made.stored["influx"]
+    if part is SAME and stored.shown() != SAME_POINT:
+        raise Fault(f"InfluxDB does not read {made.text} as lp_relay does, but stores: {stored.shown()}")
+    if part is REFUSED and not (made.relay.startswith("refused: ") and stored.text.startswith("refused: ")):
+        raise Fault(f"{made.text} is not refused by both, but: {made.relay}; {stored.shown()}")
+    if part is OTHER and stored.shown() == SAME_POINT:
+        raise Fault(f"InfluxDB reads {made.text} as lp_relay does")
+
+
+def counted(parts, name):
+    """The rows of the counts of one reader."""
+    stored = [made.stored[name] for rows in parts.values() for made in rows]
+    made = []
+    for way in WAYS:
+        here = [(each.lines[way], each.text) for each in stored if way in each.lines]
+        counts = [len(here), sum(what == text for what, text in here), sum(what == SAME_POINT for what, _ in here)]
+        made.append([READERS[name], way, *map(str, counts)])
+    return made
 
 
 def table(heads, rows):
@@ -450,16 +520,18 @@ def measured(program, columns):
     made = {}
     for title, part in PARTS.items():
         made[title] = [row(program, columns, text) for text in part]
-        for cells in made[title]:
-            must_be_in(part, cells)
+        for each in made[title]:
+            must_be_in(part, each)
     return made
 
 
 def page_text(parts, versions):
     """What is between the marks."""
     lines = table(["reader", "version"], [[READERS[name], version] for name, version in versions.items()])
+    lines += ["", f"Of {sum(map(len, parts.values()))} texts:", ""]
+    lines += table(COUNTS, [cells for name in versions for cells in counted(parts, name)])
     for title, rows in parts.items():
-        lines += ["", f"### {title}", "", *table(HEADS, rows)]
+        lines += ["", f"### {title}", "", *table(HEADS, [made.cells() for made in rows])]
     return "\n".join(lines)
 
 
@@ -474,39 +546,54 @@ def parts_of_page():
 
 
 def rows_of_page():
-    """The rows of all tables of the page, by their first cells."""
+    """The rows of all tables of the page."""
     lines = parts_of_page()[1].splitlines()
-    rows = [line.removeprefix("| ").removesuffix(" |").split(" | ") for line in lines if line.startswith("| ")]
-    return {cells[0]: cells for cells in rows}
+    return [line.removeprefix("| ").removesuffix(" |").split(" | ") for line in lines if line.startswith("| ")]
+
+
+def texts_of_page():
+    """What the page says of each text: of the lines of lp_relay, and of what each reader stores."""
+    made = {}
+    for text, relay, influx, victoria in (cells for cells in rows_of_page() if cells[0].startswith("`") and len(cells) == 4):
+        influx, _, parser = influx.partition(ALONE)
+        made[text] = {"relay": relay, "influx": influx, "parser": parser or influx, "victoria": victoria}
+    return made
 
 
 def differences(parts, columns):
-    """The cells that differ from those of the page, in words."""
-    page, found = rows_of_page(), []
-    rows = [cells for rows in parts.values() for cells in rows]
-    for text in sorted({key for key in page if key.startswith("`")} - {cells[0] for cells in rows}):
+    """What differs from the page, in words."""
+    page, found = texts_of_page(), []
+    rows = [made for rows in parts.values() for made in rows]
+    for text in sorted(set(page) - {made.text for made in rows}):
         found.append(f"{text} is on the page alone")
-    for cells in rows:
-        old = page.get(cells[0], [cells[0], "nothing, as the text is not there", "", ""])
-        if "parser" not in columns:
-            old[2] = old[2].split(ALONE)[0]
-        found += [f"{cells[0]}, {head}: the page has\n    {was}\nand here it is\n    {now}"
-                  for head, was, now in zip(HEADS, old, cells) if now is not None and was != now]
-    return found
+    for made in rows:
+        if made.text not in page:
+            found.append(f"{made.text} is not on the page")
+            continue
+        old = page[made.text]
+        seen = [("`lp_relay`", old["relay"], made.relay)]
+        seen += [(READERS[name], old[name], made.shown(name)) for name in columns]
+        found += [f"{made.text}, {head}: the page has\n    {was}\nand here it is\n    {now}"
+                  for head, was, now in seen if was != now]
+    if found:
+        return found
+    page = rows_of_page()
+    return [f"the page has not the row of counts\n    {' | '.join(cells)}"
+            for name in columns for cells in counted(parts, name) if cells not in page]
 
 
 def compare(parts, columns, versions):
     """Refuses what differs from the page, and tells of other versions."""
-    page = rows_of_page()
+    page = {cells[0]: cells[1] for cells in rows_of_page() if len(cells) == 2}
     for name, version in versions.items():
-        was = page.get(READERS[name], [None, "no version"])[1]
+        was = page.get(READERS[name], "no version")
         if was != version:
             print(f"interop: {READERS[name]}: the page was made with {was}, and here is {version}")
     found = differences(parts, columns)
     if found:
         raise Fault(f"docs/INTEROP.md differs in {len(found)} places:\n" + "\n".join(found)
                     + "\nrun checks/interop.sh --write RELAY")
-    count = sum(len(rows) for rows in parts.values())
+    count = sum(map(len, parts.values()))
     names = ", ".join(["lp_relay", *(READERS[name] for name in versions)])
     print(f"interop: {count} texts are read as docs/INTEROP.md says: by {names}")
 

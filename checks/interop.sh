@@ -1,6 +1,6 @@
 #!/usr/bin/env bash
-# Writes texts to servers of its own, and compares what they store, and what lp_relay makes of the same texts, with the tables of
-# docs/INTEROP.md. The texts are in interop.py.
+# Writes texts to servers of its own, and the lines that lp_relay makes of them, rebuilt and verbatim, and compares what is stored with
+# the tables of docs/INTEROP.md. The texts are in interop.py.
 #
 #   checks/interop.sh RELAY            compares with the page
 #   checks/interop.sh --write RELAY    writes the tables into the page
@@ -8,7 +8,8 @@
 #
 # RELAY: a built lp_relay. The servers are influxd, of InfluxDB 1.x, and victoria-metrics. Both listen on free ports of the loopback
 # device, have their data in a temporary folder, and end with this script. The parser of InfluxDB 1.x is built by `go`, without a
-# network, from Debian's golang-github-influxdb-influxdb-dev, and is compared with the server. What is missing is left out.
+# network, from Debian's golang-github-influxdb-influxdb-dev, and reads the same. What is missing is left out, and is named; the
+# tables are written or printed only if nothing is missing.
 set -euo pipefail
 here=$(cd "$(dirname "$0")" && pwd)
 . "$here/left_out.sh"
@@ -97,17 +98,17 @@ bind-address = "127.0.0.1:$backup"
 [monitor]
   store-enabled = false
 TEXT
-if ! command -v influxd >/dev/null; then
-    left_out "InfluxDB of docs/INTEROP.md" "there is no influxd"
-else
+if command -v influxd >/dev/null; then
     start influx influxdb "$http" influxd -config "$work/influxdb.conf"
-    if ! command -v go >/dev/null; then
-        left_out "the parser of docs/INTEROP.md" "there is no go"
-    elif [ ! -d /usr/share/gocode/src/github.com/influxdata/influxdb/models ]; then
-        left_out "the parser of docs/INTEROP.md" "there is no golang-github-influxdb-influxdb-dev"
-    else
-        build_parser
-    fi
+else
+    left_out "InfluxDB of docs/INTEROP.md" "there is no influxd"
+fi
+if ! command -v go >/dev/null; then
+    left_out "the parser of docs/INTEROP.md" "there is no go"
+elif [ ! -d /usr/share/gocode/src/github.com/influxdata/influxdb/models ]; then
+    left_out "the parser of docs/INTEROP.md" "there is no golang-github-influxdb-influxdb-dev"
+else
+    build_parser
 fi
 # It drops what is older than it keeps.
 if command -v victoria-metrics >/dev/null; then

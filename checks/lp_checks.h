@@ -26,4 +26,6 @@ uint64_t lp_checks_rebuild(bool is_strict, const uint8_t *text, size_t len, uint
                            size_t entries);
 uint8_t lp_checks_run(bool is_strict, const uint8_t *input, size_t len, uint8_t *out, size_t room, uint8_t *err,
                       size_t err_room, uint64_t lens[2]);
+uint8_t lp_checks_relay(bool is_strict, const uint8_t *input, size_t len, size_t part, uint8_t *out, size_t room, uint8_t *err,
+                        size_t err_room, uint64_t lens[2]);
 #endif

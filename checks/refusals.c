@@ -1,5 +1,5 @@
 /* Refuses each request for memory in turn: for N = 1, 2, .. the Nth alone, until a run makes fewer than N requests.
-   What must come is written out here, from the format's rules. The events of the same texts must make no request.
+   What must come is written out here, from the format's rules. The events and the blocks of the same texts must make no request.
    `checks/refusals.sh` builds this and runs it.
 
    malloc, realloc and free of the library come here by the linker's --wrap. */
@@ -22,7 +22,7 @@ static unsigned long refuse; /* the request to refuse; 0: none */
 static size_t most;          /* the bytes of the largest of them */
 static long held;            /* blocks that it has not given back */
 static unsigned long runs;   /* all runs so far */
-static unsigned long told;   /* texts whose events were told */
+static unsigned long told;   /* texts whose events were told, and which were read in blocks */
 
 void *__real_malloc(size_t size);
 void *__real_realloc(void *block, size_t size);
@@ -132,25 +132,33 @@ static void call(enum call what, const char *text, unsigned long n) {
     end();
 }
 
-/* What the events of a text tell is what its items are, in both dialects, and is told without a request: to a sink, or one
-   event after another. */
+/* A block of rows is a call of the library, though what it fills is memory of this program. */
+static uint32_t answer_of_block;
+#define ROWS_CALL(call) (counting = true, answer_of_block = (call), counting = false, answer_of_block)
+#include "rows.h"
+
+/* What the events of a text tell, to a sink or one after another, and what its blocks hold, is what its items are, in both
+   dialects, and makes no request. */
 static void events_ask_nothing(const char *text) {
     static uint8_t items[ROOM];
     static uint64_t items_ends[ENTRIES];
     const uint8_t *bytes = (const uint8_t *)text;
     size_t len = strlen(text);
-    for (int way = 0; way < 4; way++) {
-        bool is_strict = way & 1, is_pulled = way & 2;
+    for (int way = 0; way < 6; way++) {
+        bool is_strict = way & 1;
         uint64_t wanted = lp_checks_items(is_strict, bytes, len, items, ROOM, items_ends, ENTRIES);
         if (wanted > ENTRIES || (wanted && items_ends[wanted - 1] > ROOM)) fail("the items have no room");
         begin(0);
-        count = is_pulled ? lp_checks_pulled(is_strict, bytes, len, out, ROOM, ends, ENTRIES)
-                          : lp_checks_events(is_strict, bytes, len, out, ROOM, ends, ENTRIES);
+        counting = way < 4;
+        count = way < 2   ? lp_checks_events(is_strict, bytes, len, out, ROOM, ends, ENTRIES)
+                : way < 4 ? lp_checks_pulled(is_strict, bytes, len, out, ROOM, ends, ENTRIES)
+                          : rows_items(is_strict, bytes, len, out, ROOM, ends, ENTRIES);
         end();
-        if (asked) fail("the events made %lu requests", asked);
-        if (count != wanted) fail("the events tell %lu items and not %lu", (unsigned long)count, (unsigned long)wanted);
+        const char *what = way < 4 ? "events" : "blocks";
+        if (asked) fail("the %s made %lu requests", what, asked);
+        if (count != wanted) fail("the %s have %lu items and not %lu", what, (unsigned long)count, (unsigned long)wanted);
         if (memcmp(ends, items_ends, wanted * sizeof ends[0]) || memcmp(out, items, from(wanted)))
-            fail("the events tell other items");
+            fail("the %s have other items", what);
     }
     told++;
 }
@@ -445,7 +453,7 @@ static void written(void) {
     if (!was_refused[0]) fail("the first line was never refused");
 }
 
-/* ---- rebuild and run ---- */
+/* ---- rebuild, run and relay ---- */
 
 static const char *const INPUT = "m a=T 5\n# c\nx\nw\\\t a=1i\n";
 static const char *const BATCH = "m a=true 5\n";
@@ -470,14 +478,19 @@ static void rebuild(bool is_strict) {
     must_be(2, "1 carried, 2 refused");
 }
 
-static void run(bool is_strict) {
-    subject = is_strict ? "run in the strict dialect" : "run";
+/* A relay is given all of the input at one read. */
+static void run(bool is_relay, bool is_strict) {
+    static const char *const subjects[2][2] = {{"run", "run in the strict dialect"}, {"relay", "relay in the strict dialect"}};
+    subject = subjects[is_relay][is_strict];
+    const uint8_t *input = (const uint8_t *)INPUT;
+    size_t len = strlen(INPUT);
     uint64_t lens[2];
     uint8_t answer;
     for (unsigned long n = 1;; n++) {
         lens[0] = lens[1] = NOWHERE;
         begin(n);
-        answer = lp_checks_run(is_strict, (const uint8_t *)INPUT, strlen(INPUT), out, ROOM, err, ROOM, lens);
+        answer = is_relay ? lp_checks_relay(is_strict, input, len, len, out, ROOM, err, ROOM, lens)
+                          : lp_checks_run(is_strict, input, len, out, ROOM, err, ROOM, lens);
         end();
         if (asked < n) break;
         if (answer != 3) fail("the answer is %d and not out of memory", answer);
@@ -553,8 +566,9 @@ int main(void) {
     written();
     for (int is_strict = 0; is_strict < 2; is_strict++) {
         rebuild(is_strict);
-        run(is_strict);
+        run(false, is_strict);
+        run(true, is_strict);
     }
-    printf("%lu runs, and %lu texts whose events ask for nothing", runs, told);
+    printf("%lu runs, and %lu texts whose events and blocks ask for nothing", runs, told);
     return 0;
 }

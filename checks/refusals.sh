@@ -11,6 +11,7 @@ if ! command -v cc >/dev/null; then
 fi
 . "$here/library.sh"
 build_library
+build_all refusals lp_c lib
 built=$(mktemp -d)
 trap 'rm -rf "$built"' EXIT
 
@@ -22,8 +23,8 @@ if ! { cc $sanitizer "$built/probe.c" -o "$built/probe" && "$built/probe"; } >/d
     watched=
     left_out "address sanitizer" "cc has none, so leaks are not seen by checks/refusals.sh"
 fi
-cc -O2 -Wall -Wextra $sanitizer -Wl,--wrap=malloc,--wrap=realloc,--wrap=free "$here/refusals.c" "$library" "$heap" \
-    -o "$built/refusals"
+cc -O2 -Wall -Wextra -I"$top/include" $sanitizer -Wl,--wrap=malloc,--wrap=realloc,--wrap=free "$here/refusals.c" "$library" \
+    "$top/crates/lp_c/out/liblp_c.a" "$heap" -o "$built/refusals"
 if ! said=$("$built/refusals"); then
     echo "refusals: what should come with a request refused did not come" >&2
     exit 1

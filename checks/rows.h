@@ -9,6 +9,11 @@
 #include <stdlib.h>
 #include <string.h>
 
+/* How the library is called, for a program that looks at each call. */
+#ifndef ROWS_CALL
+#define ROWS_CALL(call) (call)
+#endif
+
 /* So few rows that most texts of some lines take several blocks. */
 enum { BLOCK_ROWS = 2 };
 
@@ -87,7 +92,7 @@ static uint64_t rows_items(bool is_strict, const uint8_t *text, size_t len, uint
     while (answer != LP_END) {
         lp_room left = { bytes, bytes_len };
         lp_empty_parts(parts, parts_len);
-        answer = lp_lines_block(&lines, &left, rows, BLOCK_ROWS, parts, parts_len, &filled);
+        answer = ROWS_CALL(lp_lines_block(&lines, &left, rows, BLOCK_ROWS, parts, parts_len, &filled));
         for (size_t at = 0; at < filled; at++, report.count++) {
             if (rows[at].answer == LP_LINE) rows_line(&report, &rows[at].line, parts + rows[at].parts_at);
             else rows_fault(&report, &rows[at].line);

@@ -1,5 +1,6 @@
 # shellcheck shell=bash
-# For the examples: takes the file and its parts from the arguments, relays a part, and puts out what the parts gave, in order.
+# For the examples: takes the file and its parts from the arguments, relays a part, and puts out what the parts gave, in order, with
+# the fault numbers of the whole file.
 #
 # Each part is cut out by GNU's dd, which seeks to its start, ends at its end and says how many bytes it gave, so a read that fails
 # or a file that became shorter is seen. With `tail -c +N | head -c N` it is not: no command counts, and a signal ends tail also
@@ -11,10 +12,13 @@ fail() {
     exit 2
 }
 
-# Sets, from `FILE PARTS [OPTION..]`: file, parts, the program, the ends of the parts, and waiting, a folder that goes at the end.
+# Sets, from `FILE PARTS [OPTION..]`: file, parts, the program, the options of the relay of a part, the ends of the parts, waiting,
+# a folder that goes at the end, and whether the counts of the whole are asked for.
 take_parts() {
     local name=$1 said cut last=0 end length word before='' dialect=()
     parts=$2
+    options=(--summary)
+    counts_asked=
     [ -f "$name" ] || fail "$name is not a regular file, so it cannot be read in parts"
     # A name such as /dev/stdin is another file for each process.
     file=$(readlink -f -- "$name") || fail "$name has no name that all processes share"
@@ -26,12 +30,16 @@ take_parts() {
         if [[ $word = --output || $word = -o || ($word != --* && $before != --max-line) ]]; then
             fail "the options ($*) name a file"
         fi
-        [ "$word" != --summary ] || fail "the options ($*) ask for a summary, and each part would have its own"
         [[ $word != --first-* ]] || fail "the options ($*) say where the numbers begin, and each part has its own"
+        if [ "$word$counts_asked" = --summary ]; then counts_asked=yes; else options+=("$word"); fi
         before=$word
     done
-    said=$("$program" "$@" </dev/null) || fail "with the options ($*) the status of $program is $?"
-    [ -z "$said" ] || fail "the options ($*) are not those of a relay"
+    said=$("$program" "${options[@]}" </dev/null 2>&1) || {
+        status=$?
+        echo "$said" >&2 || true
+        fail "with the options ($*) the status of $program is $status"
+    }
+    [ "$said" = "0 items: 0 carried, 0 refused" ] || fail "the options ($*) are not those of a relay"
     case " $* " in *" --strict "*) dialect=(--strict) ;; esac
 
     # Where the parts end, in bytes: no item is in two of them.
@@ -48,6 +56,7 @@ take_parts() {
     [ "$last" = "$length" ] || fail "$name has $length bytes, but the last part ends at $last"
     waiting=$(mktemp -d) || fail "there is no TMPDIR to write to"
     trap 'rm -rf "$waiting"' EXIT
+    export file program waiting
 }
 
 # Prints `NUMBER START COUNT` for each part.
@@ -69,9 +78,10 @@ relay_part() {
         "$@" >"$waiting/$number.out" 2>"$waiting/$number.err"
     echo "${PIPESTATUS[*]}" >"$waiting/$number.status" || true
 }
+export -f relay_part
 
-# Prints why a part was not relayed, after what shows more of it, dd or err; and nothing if it was. Its status, or what dd says,
-# is missing if TMPDIR is full.
+# Prints why a part was not relayed, after what shows more of it, dd or err; and nothing if it was. Its status, its counts, or what
+# dd says, are missing if TMPDIR is full.
 why_not() {
     local number=$1 count=$2 of_dd of_relay said
     if ! read -r of_dd of_relay <"$waiting/$number.status"; then
@@ -80,6 +90,8 @@ why_not() {
         echo "err the status of the relay is $of_relay"
     elif [ "$of_dd" != 0 ]; then
         echo "dd the status of dd is $of_dd"
+    elif ! [[ $(tail -n 1 "$waiting/$number.err") =~ ^[0-9]+\ items:\ [0-9]+\ carried,\ [0-9]+\ refused$ ]]; then
+        echo "err its counts are not known"
     else
         said=$(tail -n 1 "$waiting/$number.dd") || said=""
         said=${said%% *}
@@ -87,27 +99,68 @@ why_not() {
     fi
 }
 
-# Puts out what a part gave. A part that was not relayed ends the run.
-put_part() {
-    local number=$1 count=$2 shows why of_relay
-    read -r shows why <<<"$(why_not "$number" "$count")"
-    if [ -n "$why" ]; then
-        sed "s/^/part $number, /" "$waiting/$number.$shows" >&2 || true
-        { echo >"$waiting/more"; } 2>/dev/null || echo "$(basename "$0" .sh): nothing more can be written to TMPDIR" >&2 || true
-        fail "part $number: $why"
-    fi
-    cat "$waiting/$number.out" || fail "the output cannot be written"
-    sed "s/^/part $number, /" "$waiting/$number.err" >&2 || fail "the faults cannot be written"
-    read -r _ of_relay <"$waiting/$number.status"
-    [ "$of_relay" -le "$status" ] || status=$of_relay
+# Relays once more each part that refused something, to check alone, from the number on that its first item, or line, has in the
+# whole file. The counts of the parts before it tell that number; lines are counted here. Sets again: which parts these are.
+number_faults() {
+    local number start count word items refused lines counted=0 first=1 by=--first-item checks=("$program")
+    for word in "${options[@]}"; do
+        if [ "$word" = --lines ]; then by=--first-line; elif [ "$word" != --check ]; then checks+=("$word"); fi
+    done
+    while read -r number start count; do
+        # A part that was not relayed ends the run.
+        [ -z "$(why_not "$number" "$count")" ] || break
+        read -r items _ _ _ refused _ <<<"$(tail -n 1 "$waiting/$number.err")"
+        if [ "$refused" != 0 ] && [ "$start" != 0 ]; then
+            if [ $by = --first-line ]; then
+                lines=$(dd if="$file" iflag=skip_bytes,count_bytes skip="$counted" count=$((start - counted)) bs=64K status=none |
+                    wc -l) || fail "the lines before part $number cannot be counted"
+                first=$((first + lines))
+                counted=$start
+            fi
+            again[number]="$number.again $start $count $first"
+        fi
+        [ $by = --first-line ] || first=$((first + items))
+    done < <(list_parts)
+    [ ${#again[@]} != 0 ] || return 0
+    # shellcheck disable=SC2016
+    printf '%s\n' "${again[@]}" | xargs -P "$(nproc)" -I PART bash -c 'relay_part "${1% *}" "${@:2}" "${1##* }"' relay_part PART \
+        "${checks[@]}" --check "$by" || fail "the status of xargs is $?"
 }
 
-# Puts out what all parts gave, and ends with the status of the whole.
+# Ends the run if a part was not relayed, or not the second time: NUMBER or NUMBER.again, and COUNT.
+want_relayed() {
+    local number=${1%.again} shows why
+    read -r shows why <<<"$(why_not "$1" "$2")"
+    [ -n "$why" ] || return 0
+    sed "s/^/part $number, /" "$waiting/$1.$shows" >&2 || true
+    { echo >"$waiting/more"; } 2>/dev/null || echo "$(basename "$0" .sh): nothing more can be written to TMPDIR" >&2 || true
+    fail "part $number: $why"
+}
+
+# Puts out what a part gave, and adds its counts to those of the whole.
+put_part() {
+    local number=$1 count=$2 told=$1 counts carried_here refused_here
+    want_relayed "$number" "$count"
+    counts=$(tail -n 1 "$waiting/$number.err")
+    if [ -n "${again[number]-}" ]; then
+        told=$number.again
+        want_relayed "$told" "$count"
+        [ "$(tail -n 1 "$waiting/$told.err")" = "$counts" ] || fail "part $number: a second relay counts otherwise"
+    fi
+    cat "$waiting/$number.out" || fail "the output cannot be written"
+    head -n -1 "$waiting/$told.err" >&2 || fail "the faults cannot be written"
+    read -r _ _ carried_here _ refused_here _ <<<"$counts"
+    carried=$((carried + carried_here))
+    refused=$((refused + refused_here))
+}
+
+# Puts out what all parts gave, with the fault numbers of the whole, and ends with the status of the whole.
 put_parts() {
-    local number count
-    status=0
+    local number count carried=0 refused=0 again=()
+    number_faults
     while read -r number _ count; do
         put_part "$number" "$count"
     done < <(list_parts)
-    exit "$status"
+    [ -z "$counts_asked" ] || echo "$((carried + refused)) items: $carried carried, $refused refused" >&2 || true
+    exit "$((refused > 0))"
 }

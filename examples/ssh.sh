@@ -18,7 +18,7 @@ set -eu -o pipefail
 hosts=$3
 [[ $hosts =~ ^[^,-][^,]*(,[^,-][^,]*)*$ ]] || fail "$hosts is not a list of hosts"
 take_parts "$1" "$2" "${@:4}"
-there=$(printf '%q ' "${LP_RELAY_THERE:-lp_relay}" "${@:4}")
+there=$(printf '%q ' "${LP_RELAY_THERE:-lp_relay}" "${options[@]}")
 IFS=, read -ra names <<<"$hosts"
 
 # Sends a part, from a slot of parallel, to the host of the slot that had it first, and at each further try to the next host.
@@ -34,8 +34,8 @@ send_part() {
         "${names[(tries[0] + ${#tries[@]} - 2) % ${#names[@]}]}" "$there"
     [ -z "$(why_not "$number" "$count")" ]
 }
-export -f relay_part send_part why_not
-export file hosts there waiting
+export -f send_part why_not
+export hosts there
 # The status of parallel is the number of parts that were not relayed; put_parts says why.
 list_parts | PARALLEL_HOME=$waiting PARALLEL_SHELL=$BASH parallel --will-cite --jobs "${#names[@]}" --retries 3 \
     send_part '{%}' '{}' >&2 || true

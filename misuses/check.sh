@@ -16,7 +16,7 @@ refused=0
 for text in "$here"/*.txt; do
     call=$(sed -n 's,^// wanted: ,,p' "$text")
     cp "$text" "$crate/src/misuse.rt"
-    (cd "$crate" && timeout 300 rt check --only misuse::misuse) >"$copy/log" 2>&1 && {
+    (cd "$crate" && timeout 1800 rt check --only misuse::misuse) >"$copy/log" 2>&1 && {
         echo "misuse: $(basename "$text") compiles"
         exit 1
     }

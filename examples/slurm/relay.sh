@@ -13,7 +13,6 @@ here=$(dirname "$(readlink -f "$0")")
 [ $# -ge 2 ] || fail "usage: examples/slurm/relay.sh FILE PARTS [OPTION..]"
 take_parts "$@"
 program=$(readlink -f -- "$(command -v "$program")")
-shift 2
 list_parts >"$waiting/parts"
 # Ends the job, if the run ends before it, and what waits for it.
 # shellcheck disable=SC2317  # the trap calls it
@@ -26,7 +25,7 @@ submitted=
 trap end EXIT
 # Its status is the highest of the tasks; put_parts says why.
 sbatch --wait --parsable --job-name=lp_relay --array="1-$parts" --requeue --output="$waiting/%a.log" --open-mode=append \
-    "$here/part.sh" "$here/../parts.sh" "$file" "$waiting" "$program" "$@" >"$waiting/job" &
+    "$here/part.sh" "$here/../parts.sh" "$file" "$waiting" "$program" "${options[@]}" >"$waiting/job" &
 submitted=$!
 wait "$submitted" || true
 submitted=

@@ -16,6 +16,9 @@ impl FieldValue for Literal<'_> {
     }
 }
 
+/// What makes a name.
+pub type Name = fn(&mut Seeded) -> String;
+
 type Building<S> = LineProtocolBuilder<Vec<u8>, S>;
 
 enum Lines {
@@ -43,8 +46,8 @@ fn spell_field(program: &mut Vec<u8>, letter: u8, key: &str) {
 
 // A field of either state: both have a call of that name.
 macro_rules! field {
-    ($builder:expr, $seeded:expr, $program:expr) => {{
-        let key = texts::name($seeded);
+    ($builder:expr, $seeded:expr, $name:expr, $program:expr) => {{
+        let key = $name($seeded);
         match $seeded.below(5) {
             0 => {
                 let value = $seeded.next() as i64 >> $seeded.below(64);
@@ -71,7 +74,7 @@ macro_rules! field {
                 $builder.field(&key, Literal(&value))
             }
             _ => {
-                let value = texts::text($seeded);
+                let value = texts::loose_text($seeded);
                 spell_field($program, b's', &key);
                 spell_text($program, &value);
                 $builder.field(&key, value.as_str())
@@ -80,22 +83,22 @@ macro_rules! field {
     }};
 }
 
-fn call(lines: Lines, seeded: &mut Seeded, program: &mut Vec<u8>) -> Lines {
+fn call(lines: Lines, seeded: &mut Seeded, name: Name, program: &mut Vec<u8>) -> Lines {
     match lines {
         Lines::Closed(builder) => {
-            let name = texts::name(seeded);
+            let name = name(seeded);
             program.push(b'm');
             spell_text(program, &name);
             Lines::Measured(builder.measurement(&name))
         }
         Lines::Measured(builder) if seeded.once_in(2) => {
-            let (key, value) = (texts::name(seeded), texts::name(seeded));
+            let (key, value) = (name(seeded), name(seeded));
             program.push(b't');
             spell_text(program, &key);
             spell_text(program, &value);
             Lines::Measured(builder.tag(&key, &value))
         }
-        Lines::Measured(builder) => Lines::Fielded(field!(builder, seeded, program)),
+        Lines::Measured(builder) => Lines::Fielded(field!(builder, seeded, name, program)),
         Lines::Fielded(builder) => match seeded.below(4) {
             0 => {
                 program.push(b'.');
@@ -107,7 +110,7 @@ fn call(lines: Lines, seeded: &mut Seeded, program: &mut Vec<u8>) -> Lines {
                 program.extend_from_slice(&timestamp.to_le_bytes());
                 Lines::Stamped(builder.timestamp(timestamp))
             }
-            _ => Lines::Fielded(field!(builder, seeded, program)),
+            _ => Lines::Fielded(field!(builder, seeded, name, program)),
         },
         Lines::Stamped(builder) => {
             program.push(b'.');
@@ -116,8 +119,8 @@ fn call(lines: Lines, seeded: &mut Seeded, program: &mut Vec<u8>) -> Lines {
     }
 }
 
-/// A few calls, and those that close the last line.
-pub fn calls(seeded: &mut Seeded) -> Calls {
+/// A few calls, of names that `name` makes, and those that close the last line.
+pub fn calls(seeded: &mut Seeded, name: Name) -> Calls {
     let mut program = Vec::new();
     let mut lines = Lines::Closed(LineProtocolBuilder::new());
     let few = seeded.below(16);
@@ -129,7 +132,7 @@ pub fn calls(seeded: &mut Seeded) -> Calls {
                     built: builder.build(),
                 };
             }
-            lines => call(lines, seeded, &mut program),
+            lines => call(lines, seeded, name, &mut program),
         };
     }
     unreachable!("a line is closed after a while")

@@ -1,10 +1,13 @@
 //! What the crate gives for a text, and what this library reports.
 //!
+//! What the crate has no call for is compared too: a rebuild, a run and a relay, in parts of several sizes, must write the same in
+//! both dialects; in the crate's, the lines that the crate's builder writes and the crate reads back, and the faults of all others.
+//!
 //! There is one known difference: a float is the text of its literal here, and a number there. So the literal is read as a
 //! number where the crate has one, and put in the number's place where the crate shows or writes it.
 
 use crate::calls::Literal;
-use crate::ours::Report;
+use crate::ours::{Report, Written};
 use influxdb_line_protocol::{
     parse_lines, split_lines, Error, EscapedStr, FieldValue, LineProtocolBuilder, ParsedLine,
 };
@@ -20,7 +23,17 @@ fn must_equal(what: &str, ours: &str, theirs: &str) -> Outcome<()> {
     if ours == theirs {
         return Ok(());
     }
+    let bytes = ours.bytes().zip(theirs.bytes());
+    let same = bytes.take_while(|(here, there)| here == there).count();
+    let (ours, theirs) = (around(ours, same), around(theirs, same));
     Err(format!("{what}:\n  here {ours:?}\n  there {theirs:?}"))
+}
+
+/// What a text has around a place: all of a short one.
+pub fn around(text: &str, place: usize) -> Cow<'_, str> {
+    const NEAR: usize = 1000;
+    let end = text.len().min(place + NEAR);
+    String::from_utf8_lossy(&text.as_bytes()[place.saturating_sub(NEAR)..end])
 }
 
 fn must_count(what: &str, ours: usize, theirs: usize) -> Outcome<()> {
@@ -28,6 +41,20 @@ fn must_count(what: &str, ours: usize, theirs: usize) -> Outcome<()> {
         return Ok(());
     }
     Err(format!("{ours} {what} here and {theirs} there"))
+}
+
+// How many bytes come at a time to a relay: also a block, which is all that a read is given room for.
+const PARTS: [usize; 3] = [1, 7, 1 << 16];
+
+// A run writes what was rebuilt.
+fn must_write(rebuilt: &Report, written: &Written, what: &str, strict: bool) -> Outcome<()> {
+    let rules = if strict { "strict" } else { "crate's" };
+    let outputs = [("lines", written.out()), ("fault lines", written.err())];
+    for (place, (name, ours)) in outputs.into_iter().enumerate() {
+        let what = format!("the {name} of {what}, there of a rebuild, in the {rules} dialect");
+        must_equal(&what, &String::from_utf8_lossy(ours), rebuilt.entry(place))?;
+    }
+    Ok(())
 }
 
 // What is left of an entry.
@@ -227,12 +254,10 @@ macro_rules! write_field {
     };
 }
 
-type Building = LineProtocolBuilder<Vec<u8>>;
-
 // The line, by the calls of the crate's builder.
-fn write_line(builder: Building, line: &ParsedLine<'_>, literals: &[&str]) -> Building {
+fn write_line(line: &ParsedLine<'_>, literals: &[&str]) -> Outcome<String> {
     let mut literals = literals.iter();
-    let mut begun = builder.measurement(line.series.measurement.as_str());
+    let mut begun = LineProtocolBuilder::new().measurement(line.series.measurement.as_str());
     for (key, value) in line.series.tag_set.iter().flatten() {
         begun = begun.tag(key.as_str(), value.as_str());
     }
@@ -241,9 +266,90 @@ fn write_line(builder: Building, line: &ParsedLine<'_>, literals: &[&str]) -> Bu
     for (key, value) in &line.field_set[1..] {
         fielded = write_field!(fielded, key.as_str(), value, literals);
     }
-    match line.timestamp {
+    let built = match line.timestamp {
         Some(timestamp) => fielded.timestamp(timestamp).close_line(),
         None => fielded.close_line(),
+    };
+    String::from_utf8(built.build()).map_err(|_| "the crate's line is not UTF-8".into())
+}
+
+// Whether the crate reads back what its builder writes for a line.
+fn reads_back(line: &ParsedLine<'_>, built: &str) -> bool {
+    let mut read = parse_lines(built);
+    let (Some(Ok(back)), None) = (read.next(), read.next()) else {
+        return false;
+    };
+    back.series.measurement == line.series.measurement
+        && back.series.tag_set.as_deref() == line.series.tag_set.as_deref()
+        && back.field_set[..] == line.field_set[..]
+        && back.timestamp == line.timestamp
+}
+
+// What a rebuild must write for a text, by the crate's calls.
+#[derive(Default)]
+struct Wanted {
+    // All lines, written again.
+    lines: String,
+    // Those that read back, and a fault line for each other item.
+    batch: String,
+    faults: String,
+    carried: usize,
+    refused: usize,
+    // How many lines the text has as they are written again.
+    written: usize,
+}
+
+impl Wanted {
+    fn add_line(&mut self, piece: &str, line: &ParsedLine<'_>, built: &str) {
+        self.lines += built;
+        self.written += usize::from(built.strip_suffix('\n') == Some(piece));
+        if reads_back(line, built) {
+            self.batch += built;
+            self.carried += 1;
+        } else {
+            self.add_fault("a name cannot be written again");
+        }
+    }
+
+    fn add_fault(&mut self, fault: &str) {
+        self.refused += 1;
+        let number = self.carried + self.refused;
+        self.faults += &format!("item {number}: {fault}\n");
+    }
+}
+
+// An item against what is told of it. It comes back with each float as the text of its literal.
+fn compare_item<'t>(
+    piece: &str,
+    item: Item<'t>,
+    told: &'t str,
+    wanted: &mut Wanted,
+) -> Outcome<Item<'t>> {
+    match item {
+        Ok(line) => {
+            let literals = compare_line(piece, &line, told)?;
+            wanted.add_line(piece, &line, &write_line(&line, &literals)?);
+            Ok(Ok(with_literals(line, &literals)))
+        }
+        Err(fault) => {
+            must_equal("a fault", told, &told_fault(&fault))?;
+            wanted.add_fault(&fault.to_string());
+            Ok(Err(fault))
+        }
+    }
+}
+
+/// How many items a text has, and how many of them are lines as the builder writes them.
+#[derive(Default)]
+pub struct Counts {
+    pub items: usize,
+    pub written: usize,
+}
+
+impl Counts {
+    pub fn add(&mut self, more: Counts) {
+        self.items += more.items;
+        self.written += more.written;
     }
 }
 
@@ -252,9 +358,12 @@ pub struct Reports {
     pieces: Report,
     items: Report,
     events: Report,
+    blocks: Report,
     bases: Report,
     shown: Report,
     written: Report,
+    rebuilt: Report,
+    run: Written,
 }
 
 impl Reports {
@@ -263,59 +372,88 @@ impl Reports {
             pieces: Report::new(),
             items: Report::new(),
             events: Report::new(),
+            blocks: Report::new(),
             bases: Report::new(),
             shown: Report::new(),
             written: Report::new(),
+            rebuilt: Report::new(),
+            run: Written::new(),
         }
     }
 
-    fn compare_pieces(&mut self, text: &str) -> Outcome<()> {
+    // The pieces that are not blank come back, one for each item.
+    fn compare_pieces<'t>(&mut self, text: &'t str) -> Outcome<Vec<&'t str>> {
         let pieces = self.pieces.pieces(text);
         let theirs: Vec<&str> = split_lines(text).collect();
         must_count("pieces", pieces.count(), theirs.len())?;
         for (place, piece) in theirs.iter().enumerate() {
             must_equal("a piece", pieces.entry(place), piece)?;
         }
+        let has_item = |piece: &&str| parse_lines(piece).next().is_some();
+        Ok(theirs.into_iter().filter(has_item).collect())
+    }
+
+    // A run, and relays of the text in parts, write what is rebuilt.
+    fn compare_runs(&mut self, strict: bool, text: &str) -> Outcome<()> {
+        let rebuilt = self.rebuilt.rebuild(strict, text);
+        must_write(rebuilt, self.run.run(strict, text), "a run", strict)?;
+        for part in PARTS {
+            let what = format!("a relay in parts of {part} bytes");
+            must_write(rebuilt, self.run.relay(strict, text, part), &what, strict)?;
+        }
         Ok(())
     }
 
+    // What is rebuilt is what must be written, in the crate's dialect, and runs and relays write what is rebuilt, in both.
+    fn compare_rebuilt(&mut self, text: &str, wanted: &Wanted) -> Outcome<()> {
+        let rebuilt = self.rebuilt.rebuild(false, text);
+        must_count("parts of what is rebuilt", rebuilt.count(), 3)?;
+        must_equal("the batch", rebuilt.entry(0), &wanted.batch)?;
+        must_equal("the fault lines", rebuilt.entry(1), &wanted.faults)?;
+        let counts = format!("{} carried, {} refused", wanted.carried, wanted.refused);
+        must_equal("the counts", rebuilt.entry(2), &counts)?;
+        self.compare_runs(false, text)?;
+        self.compare_runs(true, text)
+    }
+
     /// Compares all that both give for a text: its pieces, and of each item what was read, what is told of it, its base, what
-    /// is shown of it and what is written. The number of items comes back.
-    pub fn compare(&mut self, text: &str) -> Outcome<usize> {
-        self.compare_pieces(text)?;
+    /// is shown of it and what is written; and what is rebuilt of the text.
+    pub fn compare(&mut self, text: &str) -> Outcome<Counts> {
+        let pieces = self.compare_pieces(text)?;
         let theirs: Vec<Item<'_>> = parse_lines(text).collect();
         let items = self.items.items(text);
         let events = self.events.events(text);
+        let blocks = self.blocks.blocks(text);
         let bases = self.bases.bases(text);
         let shown = self.shown.shown(text);
         let written = self.written.written(text);
         must_count("items", items.count(), theirs.len())?;
         must_count("items by events", events.count(), theirs.len())?;
+        must_count("items in blocks", blocks.count(), theirs.len())?;
+        assert_eq!(
+            pieces.len(),
+            theirs.len(),
+            "the crate finds an item in each piece that is not blank"
+        );
         must_count("bases", bases.count(), theirs.len())?;
         let mut shown_place = 0;
-        let mut builder = LineProtocolBuilder::new();
-        for (place, item) in theirs.into_iter().enumerate() {
+        let mut wanted = Wanted::default();
+        for (place, (item, piece)) in theirs.into_iter().zip(pieces).enumerate() {
             let told = items.entry(place);
             must_equal("an item by its events", events.entry(place), told)?;
-            let item = match item {
-                Ok(line) => {
-                    let literals = compare_line(text, &line, told)?;
-                    builder = write_line(builder, &line, &literals);
-                    Ok(with_literals(line, &literals))
-                }
-                Err(fault) => {
-                    must_equal("a fault", told, &told_fault(&fault))?;
-                    Err(fault)
-                }
-            };
+            must_equal("an item of a block", blocks.entry(place), told)?;
+            let item = compare_item(piece, item, told, &mut wanted)?;
             compare_shown(shown, &mut shown_place, &item)?;
             compare_base(bases.entry(place), item)?;
         }
         must_count("texts shown", shown.count(), shown_place)?;
         must_count("batches", written.count(), 1)?;
-        let theirs =
-            String::from_utf8(builder.build()).map_err(|_| "the crate's batch is not UTF-8")?;
-        must_equal("the lines written again", written.entry(0), &theirs)?;
-        Ok(items.count())
+        must_equal("the lines written again", written.entry(0), &wanted.lines)?;
+        let counts = Counts {
+            items: items.count(),
+            written: wanted.written,
+        };
+        self.compare_rebuilt(text, &wanted)?;
+        Ok(counts)
     }
 }

@@ -28,6 +28,15 @@ extern "C" {
         ends: *mut u64,
         entries: usize,
     ) -> u64;
+    fn lp_checks_blocks(
+        strict: bool,
+        text: *const u8,
+        len: usize,
+        out: *mut u8,
+        room: usize,
+        ends: *mut u64,
+        entries: usize,
+    ) -> u64;
     fn lp_checks_bases(
         text: *const u8,
         len: usize,
@@ -67,7 +76,41 @@ extern "C" {
         ends: *mut u64,
         entries: usize,
     ) -> u64;
+    fn lp_checks_rebuild(
+        strict: bool,
+        text: *const u8,
+        len: usize,
+        out: *mut u8,
+        room: usize,
+        ends: *mut u64,
+        entries: usize,
+    ) -> u64;
+    fn lp_checks_run(
+        strict: bool,
+        input: *const u8,
+        len: usize,
+        out: *mut u8,
+        room: usize,
+        err: *mut u8,
+        err_room: usize,
+        lens: *mut u64,
+    ) -> u8;
+    fn lp_checks_relay(
+        strict: bool,
+        input: *const u8,
+        len: usize,
+        part: usize,
+        out: *mut u8,
+        room: usize,
+        err: *mut u8,
+        err_room: usize,
+        lens: *mut u64,
+    ) -> u8;
 }
+
+/// The room of a report, and of what a run writes: bytes, and the ends of entries.
+const ROOM: usize = 1 << 21;
+const ENTRIES: usize = 1 << 16;
 
 /// Entries of text, as the library reports them.
 pub struct Report {
@@ -79,8 +122,8 @@ pub struct Report {
 impl Report {
     pub fn new() -> Self {
         Report {
-            out: vec![0; 1 << 18],
-            ends: vec![0; 1 << 12],
+            out: vec![0; ROOM],
+            ends: vec![0; ENTRIES],
             count: 0,
         }
     }
@@ -125,6 +168,12 @@ impl Report {
     pub fn events(&mut self, text: &str) -> &Self {
         self.fill(|out, room, ends, entries| unsafe {
             lp_checks_events(false, text.as_ptr(), text.len(), out, room, ends, entries)
+        })
+    }
+
+    pub fn blocks(&mut self, text: &str) -> &Self {
+        self.fill(|out, room, ends, entries| unsafe {
+            lp_checks_blocks(false, text.as_ptr(), text.len(), out, room, ends, entries)
         })
     }
 
@@ -174,6 +223,61 @@ impl Report {
                 ends,
                 entries,
             )
+        })
+    }
+    /// Three entries: the batch, the fault lines, and how many items were carried and refused.
+    pub fn rebuild(&mut self, strict: bool, text: &str) -> &Self {
+        self.fill(|out, room, ends, entries| unsafe {
+            lp_checks_rebuild(strict, text.as_ptr(), text.len(), out, room, ends, entries)
+        })
+    }
+}
+
+/// What a run or a relay writes.
+pub struct Written {
+    out: Vec<u8>,
+    err: Vec<u8>,
+    lens: [u64; 2],
+}
+
+impl Written {
+    pub fn new() -> Self {
+        Written {
+            out: vec![0; ROOM],
+            err: vec![0; ROOM],
+            lens: [0; 2],
+        }
+    }
+
+    /// The lines.
+    pub fn out(&self) -> &[u8] {
+        &self.out[..self.lens[0] as usize]
+    }
+
+    /// The fault lines.
+    pub fn err(&self) -> &[u8] {
+        &self.err[..self.lens[1] as usize]
+    }
+
+    fn fill(&mut self, call: impl FnOnce(*mut u8, *mut u8, *mut u64) -> u8) -> &Self {
+        let (out, err) = (self.out.as_mut_ptr(), self.err.as_mut_ptr());
+        let answer = call(out, err, self.lens.as_mut_ptr());
+        assert_eq!(answer, 0, "a run ends without a fault");
+        self
+    }
+
+    pub fn run(&mut self, strict: bool, text: &str) -> &Self {
+        let (input, len) = (text.as_ptr(), text.len());
+        self.fill(|out, err, lens| unsafe {
+            lp_checks_run(strict, input, len, out, ROOM, err, ROOM, lens)
+        })
+    }
+
+    /// Relays a text that comes in parts of so many bytes.
+    pub fn relay(&mut self, strict: bool, text: &str, part: usize) -> &Self {
+        let (input, len) = (text.as_ptr(), text.len());
+        self.fill(|out, err, lens| unsafe {
+            lp_checks_relay(strict, input, len, part, out, ROOM, err, ROOM, lens)
         })
     }
 }

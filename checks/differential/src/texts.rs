@@ -1,4 +1,6 @@
-//! Texts and calls, made from a seed.
+//! Texts, made from a seed.
+
+use crate::calls;
 
 /// A generator of numbers: the same ones for the same seed.
 pub struct Seeded(u64);
@@ -88,6 +90,11 @@ pub fn name(seeded: &mut Seeded) -> String {
     if seeded.once_in(12) {
         return tokens(seeded, 4);
     }
+    admitted_name(seeded)
+}
+
+// A name that reads back once it is written.
+fn admitted_name(seeded: &mut Seeded) -> String {
     let plain = [
         "cpu",
         "host",
@@ -222,37 +229,6 @@ fn line(seeded: &mut Seeded) -> String {
     line
 }
 
-// A value as the builder writes it.
-fn written_value(seeded: &mut Seeded) -> String {
-    let number = seeded.next() >> seeded.below(64);
-    match seeded.below(6) {
-        0 => format!("{}i", number.cast_signed()),
-        1 => format!("{number}u"),
-        2 => format!("{number}.{}", seeded.below(1000)),
-        3 => String::from(seeded.one_of(&["true", "false"])),
-        4 => String::from(seeded.one_of(&["\"\"", "\"plain\"", "\"a b,c=d\"", "\"two\nlines\""])),
-        _ => String::from(seeded.one_of(&["\"\\\"\"", "\"\\\\\"", "\"é\\\\n\""])),
-    }
-}
-
-// A line as the builder writes it.
-fn written_line(seeded: &mut Seeded) -> String {
-    let names = ["cpu", "k1", "é", "x\\ y", "a\\,b", "back\\slash"];
-    let keys = ["host", "k1", "é", "x\\ y", "a\\,b", "region\\=eu"];
-    let mut line = String::from(seeded.one_of(&names));
-    for _ in 0..seeded.below(4) {
-        line += &format!(",{}={}", seeded.one_of(&keys), seeded.one_of(&keys));
-    }
-    for place in 0..1 + seeded.below(3) {
-        line += if place == 0 { " " } else { "," };
-        line += &format!("{}={}", seeded.one_of(&keys), written_value(seeded));
-    }
-    if seeded.once_in(2) {
-        line += &format!(" {}", (seeded.next() >> seeded.below(64)).cast_signed());
-    }
-    line
-}
-
 // Takes out, puts in or doubles a few places.
 fn mutated(seeded: &mut Seeded, text: &str) -> String {
     let mut letters: Vec<char> = text.chars().collect();
@@ -269,22 +245,52 @@ fn mutated(seeded: &mut Seeded, text: &str) -> String {
     letters.into_iter().collect()
 }
 
-/// A text: of lines, half of which are as the builder writes them, and some mutated, or of tokens.
-pub fn text(seeded: &mut Seeded) -> String {
-    if seeded.once_in(4) {
+/// A text of tokens, or of lines as a writer of its own may spell them.
+pub fn loose_text(seeded: &mut Seeded) -> String {
+    if seeded.once_in(2) {
         return tokens(seeded, 24);
     }
     let mut text = String::new();
     for _ in 0..1 + seeded.below(4) {
-        text += &if seeded.once_in(2) {
-            written_line(seeded)
-        } else {
-            line(seeded)
-        };
+        text += &line(seeded);
         text += seeded.one_of(&["\n", "\n", "\n", "\n", "\n\n", ""]);
     }
+    text
+}
+
+// Lines as the crate's builder writes them, the last one with its newline or without.
+fn written_text(seeded: &mut Seeded) -> String {
+    let mut text = String::new();
+    for _ in 0..1 + seeded.below(3) {
+        let built = calls::calls(seeded, admitted_name).built;
+        text += std::str::from_utf8(&built).expect("the crate writes text");
+    }
     if seeded.once_in(2) {
-        text = mutated(seeded, &text);
+        text.pop();
     }
     text
+}
+
+// A text of a few lines. Half of the texts are as the crate's builder writes them.
+fn short_text(seeded: &mut Seeded) -> String {
+    match seeded.below(8) {
+        0 => {
+            let text = loose_text(seeded);
+            mutated(seeded, &text)
+        }
+        1 | 2 => {
+            let text = written_text(seeded);
+            mutated(seeded, &text)
+        }
+        3 => loose_text(seeded),
+        _ => written_text(seeded),
+    }
+}
+
+/// A text of a few lines, or rarely of so many that they fill more than a block of a relay.
+pub fn text(seeded: &mut Seeded) -> String {
+    if seeded.once_in(1000) {
+        return (0..300).map(|_| short_text(seeded) + "\n").collect();
+    }
+    short_text(seeded)
 }

@@ -1,4 +1,4 @@
-pub mod format
+pub use Rattle.lp_format.specs.format
 pub mod code
 pub mod laws
 pub mod types

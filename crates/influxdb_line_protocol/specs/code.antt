@@ -19,7 +19,6 @@ pub use Rattle.lp_build.specs.code.Built
 pub use Rattle.lp_build.specs.code.WrittenAgain
 pub use Rattle.lp_format.specs.code.Shown
 pub use Rattle.lp_lines.specs.code.Bases
-pub use Rattle.lp_build.specs.code.Marks
 pub use Rattle.lp_split.specs.code.Stops
 pub use Rattle.lp_split.specs.code.Ahead
 pub use Rattle.lp_split.specs.code.Searches

@@ -6,14 +6,15 @@
 #![tactic(auto)]
 
 mod calls;
+mod devices;
 mod events;
 mod render;
 mod report;
-mod sinks;
 
 ghost use Rattle.std.specs.Prelude.{IsUtf8};
 
 use calls::{Answer, Lines};
+use devices::{InParts, Room};
 use events::Items;
 use influxdb_line_protocol::builder::BeforeMeasurement;
 use influxdb_line_protocol::{
@@ -21,8 +22,8 @@ use influxdb_line_protocol::{
     parse_lines_in, read_events_in, split_lines_in, write_line,
 };
 use lp_rebuild::{RunFault, rebuild_in, run_in};
+use lp_relay_core::{Settings, relay};
 use report::Report;
-use sinks::Room;
 use std::alloc::Global;
 use std::fmt::Write;
 
@@ -401,6 +402,17 @@ pub extern "C" fn lp_checks_rebuild(
     report.count()
 }
 
+// How the end of a run is told, as `lp_checks_run` says.
+fn told_end(fault: Option<RunFault>) -> u8 {
+    match fault {
+        None => 0,
+        Some(RunFault::Read) => 1,
+        Some(RunFault::NotUtf8) => 2,
+        Some(RunFault::OutOfMemory) => 3,
+        Some(RunFault::Write) => 4,
+    }
+}
+
 /// Runs over bytes, into `out` and `err`; `lens` gets how many bytes each of the two holds then. The answer is 0 if the
 /// run came to its end, 1 if the reader failed, 2 if the bytes are not UTF-8, 3 if memory was refused, and 4 if a
 /// buffer was full.
@@ -416,13 +428,31 @@ pub extern "C" fn lp_checks_run(
     let mut reader = input;
     let mut out = Room::new(out);
     let mut err = Room::new(err);
-    let answer = run_in(alloc, dialect(is_strict), &mut reader, &mut out, &mut err);
+    let run = run_in(alloc, dialect(is_strict), &mut reader, &mut out, &mut err);
     *lens = [out.len() as u64, err.len() as u64];
-    match answer {
-        Ok(_) => 0,
-        Err(RunFault::Read) => 1,
-        Err(RunFault::NotUtf8) => 2,
-        Err(RunFault::OutOfMemory) => 3,
-        Err(RunFault::Write) => 4,
-    }
+    told_end(run.err())
+}
+
+/// Relays bytes that come in parts of `part` bytes, which must not be 0; what it writes and answers is told as that of
+/// `lp_checks_run`.
+#[unsafe(no_mangle)]
+pub extern "C" fn lp_checks_relay(
+    alloc: Global,
+    is_strict: bool,
+    input: &[u8],
+    part: usize,
+    out: &mut [u8],
+    err: &mut [u8],
+    lens: &mut [u64; 2],
+) -> u8 {
+    let settings = Settings {
+        dialect: dialect(is_strict),
+        ..Settings::default()
+    };
+    let mut reader = InParts::new(input, part);
+    let mut out = Room::new(out);
+    let mut err = Room::new(err);
+    let relayed = relay(alloc, settings, &mut reader, &mut out, &mut err);
+    *lens = [out.len() as u64, err.len() as u64];
+    told_end(relayed.err())
 }

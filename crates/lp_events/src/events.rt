@@ -1,14 +1,14 @@
 //! Lines, told to a sink part by part, with no memory.
 
 ghost use Rattle.std.specs.Prelude.{◌≡◌, ◌<◌, ◌++◌, ℕ, List, length, slice_index, IfOk, IfSome};
-ghost use Rattle.lp_format.specs.format.{space, answers_of_piece, answer, field, field_set, front_before, separated_list, tag, tag_set};
+ghost use Rattle.lp_format.specs.format.{space, answer, field, field_set, front_before, separated_list, tag, tag_set};
 ghost use Rattle.lp_split.specs.code.{rules_of};
 ghost use Rattle.lp_values.specs.code.SpelledParts.{GivesSpelled, spelled_fault, spelled_text};
-ghost use Rattle.lp_events.specs.code.Events.{AreCounted, AreEventsOf, AreEventsOfAll, AreEventsOfText, AreFields, AreTags, AreToldBefore};
-ghost use Rattle.lp_events.specs.code.Events.{Event, WasTold, WasToldParts, ended, failed, named, spelled_field, spelled_tag, tagged};
-ghost use Rattle.lp_events.specs.code.Events.{valued};
+ghost use Rattle.lp_events.specs.code.Events.{AreCounted, AreEventsOf, AreEventsOfText, AreFields, AreTags, AreToldBefore, Event};
+ghost use Rattle.lp_events.specs.code.Events.{WasTold, WasToldParts, ended, failed, named, spelled_field, spelled_tag, tagged, valued};
 
-use lp_scan::trim::{strip_byte, trim_start_spaces, trimmed};
+use crate::lines::next_line;
+use lp_scan::trim::{strip_byte, trim_start_spaces};
 use lp_split::Dialect;
 use lp_split::split::split_lines_in;
 use lp_values::names::NameKind;
@@ -228,17 +228,6 @@ pub fn read_line_events<'a, S: EventSink<'a>>(dialect: Dialect, line: &'a str, s
     }
 }
 
-// Tells what a piece says: nothing, if nothing is left of it when it is trimmed.
-#[inline(always)]
-fn piece_events<'a, S: EventSink<'a>>(dialect: Dialect, piece: &'a str, sink: &mut S)
-    ensures { WasTold S.takes sink.old sink.new (λ events. AreEventsOfAll events (answers_of_piece (rules_of dialect) piece.now)) }
-{
-    let line = trimmed(piece);
-    if !line.is_empty() {
-        read_line_events(dialect, line, sink);
-    }
-}
-
 /// Tells what all lines of a text say, by the rules of a dialect, one line after another, also after a fault.
 ///
 /// The lines are those of [`parse_lines_in`](crate::parse_lines_in). It takes no memory, so no line is `OutOfMemory`.
@@ -249,7 +238,8 @@ fn piece_events<'a, S: EventSink<'a>>(dialect: Dialect, piece: &'a str, sink: &m
 pub fn read_events_in<'a, S: EventSink<'a>>(dialect: Dialect, input: &'a str, sink: &mut S)
     ensures { WasTold S.takes sink.old sink.new (AreEventsOfText (rules_of dialect) input.now) }
 {
-    for piece in split_lines_in(dialect, input) {
-        piece_events(dialect, piece, sink);
+    let mut lines = split_lines_in(dialect, input);
+    while let Some(line) = next_line(&mut lines) {
+        read_line_events(dialect, line, sink);
     }
 }

@@ -2,7 +2,7 @@
 
 ghost use Rattle.std.specs.Prelude.{◌≡◌, ◌&&◌, ◌-◌, ◌^◌, ◌++◌, IfOk, OnOk, length, map, min, not, true, string_bytes, option_map};
 ghost use Rattle.std.specs.List.{list_all, list_any};
-ghost use Rattle.lp_lines.specs.code.Bases.{GivesBase, GivesMap, GivesOwned, base_by_key, base_of, base_text, based_tag, entry_bytes};
+ghost use Rattle.lp_lines.specs.code.Bases.{GivesBase, GivesMap, base_by_key, base_of, base_text, based_tag, entry_bytes};
 ghost use Rattle.lp_lines.specs.code.Bases.{in_order, is_ambiguous_name, is_ambiguous_tag, is_base_safe, is_borrowed, is_byte_alone};
 ghost use Rattle.lp_lines.specs.code.Bases.{is_strictly_sorted, keys_of};
 ghost use Rattle.lp_format.specs.code.Light.{is_single_tag};
@@ -127,8 +127,7 @@ fn base<'a>(
     ensures memory { is_borrowed (base_of raw_input.now (read_of measurement.now) (map tag_of tags.now)) ≡ true → IsNotOutOfMemory result }
 {
     if !keys_rise(tags) {
-        let base = base_by_key(alloc, measurement.as_str(), tags)?;
-        return Ok(CowStr::Owned(base));
+        return base_by_key(alloc, measurement.as_str(), tags);
     }
     if is_all_single(measurement, tags) {
         return Ok(CowStr::Borrowed(raw_input));
@@ -256,10 +255,11 @@ fn base_by_key<'a>(
     alloc: Global,
     measurement: &str,
     tags: &[(EscapedStr<'a>, EscapedStr<'a>)],
-) -> Result<String>
-    ensures { GivesOwned result (base_by_key measurement.now (map tag_of tags.now)) }
+) -> Result<CowStr<'a>>
+    ensures { GivesBase result (base_by_key measurement.now (map tag_of tags.now)) }
 {
     let map = tag_map(alloc, tags)?;
     let len = base_len(measurement, tags);
-    Ok(base_of_map(alloc, len, measurement, &map)?)
+    let base = base_of_map(alloc, len, measurement, &map)?;
+    Ok(CowStr::Owned(base))
 }

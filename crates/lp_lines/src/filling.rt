@@ -12,7 +12,7 @@ ghost use Rattle.lp_values.specs.code.Texts.{read_of};
 ghost use Rattle.lp_events.specs.code.Events.{spelled_field, spelled_tag};
 ghost use Rattle.lp_format.specs.format.Lines.{answer};
 ghost use Rattle.lp_split.specs.code.Rules.{rules_of};
-ghost use Rattle.lp_lines.specs.code.Filling.{FillsAnswer, KeepsRooms, fields_so_far, first_fields, first_tags, tags_so_far};
+ghost use Rattle.lp_lines.specs.code.Filling.{FillsAnswer, KeepsRooms, fields_so_far, first_read, tags_so_far};
 ghost use Rattle.lp_lines.specs.code.Parsed.{field_of, tag_of};
 
 use crate::{FieldSet, ParsedLine, TagSet};
@@ -99,10 +99,10 @@ fn put_tag<'a>(
     key: Spelled<'a>,
     value: Spelled<'a>,
 ) -> bool
-    ensures puts { result ≡ true → first_tags count.new tags.new
-        ≡ first_tags count.old tags.old ++ spelled_tag (key.entry, value.entry) ∷ [] }
+    ensures puts { result ≡ true → first_read tag_of count.new tags.new.items
+        ≡ first_read tag_of count.old tags.old.items ++ spelled_tag (key.entry, value.entry) ∷ [] }
     ensures needs { result ≡ false → (is_single_tag (spelled_tag (key.entry, value.entry)) ≡ false)
-        ⊎ (tags.old.capacity ≤ length (first_tags count.old tags.old)) }
+        ⊎ (tags.old.capacity ≤ length (first_read tag_of count.old tags.old.items)) }
     ensures room { tags.old.capacity ≤ tags.new.capacity }
 {
     let at = *count;
@@ -172,10 +172,10 @@ fn put_field<'a>(
     key: Spelled<'a>,
     value: SpelledValue<'a>,
 ) -> bool
-    ensures puts { result ≡ true → first_fields count.new fields.new
-        ≡ first_fields count.old fields.old ++ spelled_field (key.entry, value.entry) ∷ [] }
+    ensures puts { result ≡ true → first_read field_of count.new fields.new.items
+        ≡ first_read field_of count.old fields.old.items ++ spelled_field (key.entry, value.entry) ∷ [] }
     ensures needs { result ≡ false → (is_single_field (spelled_field (key.entry, value.entry)) ≡ false)
-        ⊎ (fields.old.capacity ≤ length (first_fields count.old fields.old)) }
+        ⊎ (fields.old.capacity ≤ length (first_read field_of count.old fields.old.items)) }
     ensures room { fields.old.capacity ≤ fields.new.capacity }
 {
     let at = *count;

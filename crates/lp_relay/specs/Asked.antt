@@ -1,17 +1,10 @@
 -- A relay as its settings ask for it.
 use Rattle.std.specs.Prelude.{Bool, true, None, Result}
-use Rattle.influxdb_line_protocol.specs.code.Rules.{rules_of}
 use Rattle.lp_rebuild.specs.declared.program.RunFault.{RunFault}
 use Rattle.lp_rebuild.specs.Running.{ReaderTold, WriterTold}
 use Rattle.lp_relay_core.specs.declared.relaying.Relayed.{Relayed}
 use Rattle.lp_relay_core.specs.declared.taking.Settings.{Settings}
-use Rattle.lp_relay_core.specs.Relaying.{limit_of}
 use Rattle.lp_relay_core.specs.Relays.{Relays}
-
--- a relay by settings: what it answers, and what it leaves in its reader and in its two writers
-abbrev pub RelaysBy : Settings → Result Relayed RunFault → (reader reader_after : ReaderTold)
-    → (out out_after err err_after : WriterTold) → Type 0
-RelaysBy settings = Relays settings.lines (rules_of settings.dialect) (limit_of settings.limit) settings.numbering settings.first
 
 -- what a writer tells that keeps nothing and never fails
 abbrev pub nowhere_told : Bool → WriterTold
@@ -20,4 +13,4 @@ nowhere_told is_flushed = record { bytes = None; failures = 0; is_flushed = is_f
 -- a relay by settings whose lines go nowhere: what it answers, and what it leaves in its reader and in the writer of its fault lines
 abbrev pub ChecksBy : Settings → Result Relayed RunFault → (reader reader_after : ReaderTold) → (err err_after : WriterTold) → Type 0
 ChecksBy settings result reader reader_after err err_after =
-    (is_flushed : Bool) × RelaysBy settings result reader reader_after (nowhere_told true) (nowhere_told is_flushed) err err_after
+    (is_flushed : Bool) × Relays settings result reader reader_after (nowhere_told true) (nowhere_told is_flushed) err err_after

@@ -11,6 +11,8 @@ use Rattle.influxdb_line_protocol.specs.types.Dialect.{Dialect}
 use Rattle.influxdb_line_protocol.specs.types.Dialect.TheVariants.{Crate, Strict}
 use Rattle.lp_rebuild.specs.declared.program.RunFault.{RunFault}
 use Rattle.lp_rebuild.specs.declared.program.RunFault.TheVariants.{Read, NotUtf8, OutOfMemory, Write}
+use Rattle.lp_relay_core.specs.declared.telling.Faults.{Faults}
+use Rattle.lp_relay_core.specs.declared.telling.Faults.TheVariants.{Raw, OneLine}
 use Rattle.lp_relay_core.specs.declared.taking.Lines.TheVariants.{Rebuilt, Verbatim}
 use Rattle.lp_relay_core.specs.declared.taking.Numbering.TheVariants.{Items, Lines}
 use Rattle.lp_relay_core.specs.declared.relaying.Relayed.{Relayed}
@@ -32,6 +34,7 @@ nothing_given = record {
   progress = false;
   summary = false;
   check = false;
+  faults = None;
   output = None;
 }
 
@@ -52,6 +55,7 @@ given_settings given = record {
     lines = if given.verbatim then Verbatim else Rebuilt;
     numbering = if names_lines given then Lines else Items;
     first = unwrap_or given.first_item (unwrap_or given.first_line 1);
+    faults = unwrap_or given.faults OneLine;
   };
   progress = given.progress;
   summary = given.summary;
@@ -106,6 +110,10 @@ with_flag given word =
 abbrev pub first_number : List ℕ → Option ℕ
 first_number word = option_and_then (λ first. if first == 0 then None else Some first) (decimal word)
 
+-- how fault lines are told, as a word says: each on one line, or as they are
+abbrev pub faults_form : List ℕ → Option Faults
+faults_form word = if bytes_eq word (codes "line") then Some OneLine else (if bytes_eq word (codes "raw") then Some Raw else None)
+
 -- the options with the one that a word names, if that was not given before and the word after it says what it takes
 abbrev pub with_value : Given → List ℕ → Bor (List ℕ) → Option Given
 with_value given word value =
@@ -115,8 +123,10 @@ with_value given word value =
     then option_map (λ first. record given { first_item = Some first }) (first_number value.now)
     else (if bytes_eq word (codes "--first-line") && is_none given.first_line
     then option_map (λ first. record given { first_line = Some first }) (first_number value.now)
+    else (if bytes_eq word (codes "--faults") && is_none given.faults
+    then option_map (λ form. record given { faults = Some form }) (faults_form value.now)
     else (if asks_output word && is_none given.output && names_file value.now
-    then Some (record given { output = Some value }) else None)))
+    then Some (record given { output = Some value }) else None))))
 
 -- the relay that words ask for after the options given: each option is one that was not given before it, and inputs come last
 abbrev mutual

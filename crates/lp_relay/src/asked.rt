@@ -3,8 +3,9 @@ ghost use Rattle.std.specs.Prelude.{◌≡◌, IfOk, IfSome};
 ghost use Rattle.std.specs.Bool.{OnFalse, OnTrue};
 ghost use Rattle.influxdb_line_protocol.specs.code.Rules.{rules_of};
 ghost use Rattle.lp_relay_core.specs.Cuts.{ArePartEnds};
+ghost use Rattle.lp_relay_core.specs.Relays.{Relays};
 ghost use Rattle.lp_rebuild.specs.Running.{CountsReadFault, reader_told, writer_told};
-ghost use Rattle.lp_relay.specs.Asked.{ChecksBy, RelaysBy};
+ghost use Rattle.lp_relay.specs.Asked.{ChecksBy};
 
 use crate::nowhere::Nowhere;
 use crate::words::Settings;
@@ -26,7 +27,7 @@ pub fn relay_as_asked<R: Source, W: Sink, E: Sink>(
     out: &mut W,
     err: &mut E,
 ) -> Result<Relayed, RunFault>
-    ensures relays { OnFalse settings.check (RelaysBy settings.relay result
+    ensures relays { OnFalse settings.check (Relays settings.relay result
         (reader_told R.bytes R.failures reader.old) (reader_told R.bytes R.failures reader.new)
         (writer_told W.bytes W.failures W.is_flushed out.old) (writer_told W.bytes W.failures W.is_flushed out.new)
         (writer_told E.bytes E.failures E.is_flushed err.old) (writer_told E.bytes E.failures E.is_flushed err.new)) }

@@ -6,7 +6,7 @@ use std::fs::{self, File, OpenOptions};
 use std::io::{self, ErrorKind, Read, Stdin};
 use std::os::unix::fs::MetadataExt;
 
-/// The names of inputs where no word names one.
+/// The names of inputs if no word names an input.
 pub(crate) const STANDARD_INPUT: &[&str] = &["-"];
 
 // Where the system has standard input.

@@ -1,17 +1,18 @@
 //! What the words after the program's name ask for, and its exit status.
 ghost use Rattle.std.specs.Prelude.{◌≡◌};
-ghost use Rattle.lp_relay.specs.Words.{are_at_odds, are_inputs, asked_cut, asked_request, asked_task, asks_output, cut_task, decimal, fault_status};
+ghost use Rattle.lp_relay.specs.Words.{are_at_odds, are_inputs, asked_cut, asked_request, asked_task, asks_output, cut_task, decimal, fault_status, faults_form};
 ghost use Rattle.lp_relay.specs.Words.{first_number, given_settings, names_file, names_input, names_lines, nothing_given, relay_status, request_of};
 ghost use Rattle.lp_relay.specs.Words.{with_flag, with_value};
 
 use influxdb_line_protocol::Dialect;
 use lp_rebuild::RunFault;
-use lp_relay_core::{Lines, Numbering, Relayed};
+use lp_relay_core::{Faults, Lines, Numbering, Relayed};
 
-/// How the program is called: the lines that it prints where its words ask for nothing, without the last newline.
+/// How the program is called: the lines that it prints if its words ask for nothing, without the last newline.
 pub const USAGE: &str =
-    "usage: lp_relay [--strict] [--verbatim] [--lines] [--first-item N | --first-line N]
-                [--max-line BYTES] [--progress] [--summary] [--check | --output FILE] [FILE..]
+    "usage: lp_relay [--strict] [--verbatim] [--first-item N | [--lines] [--first-line N]]
+                [--faults line|raw] [--max-line BYTES] [--progress] [--summary]
+                [--check | --output FILE] [FILE..]
        lp_relay [--strict] --cut PARTS [FILE..]
        lp_relay --help | --version";
 
@@ -25,17 +26,20 @@ to standard output as they come, and writes `item N: FAULT` to standard error fo
 it refuses. A FILE that is - is standard input; ./-x names a file -x.
 
   --strict           reads the strict dialect
-  --verbatim         writes each line that can be read as it came, byte for byte; where it is not
+  --verbatim         writes each line that can be read as it came, byte for byte; if it is not
                      given, lines are written again in one spelling, which some servers read as
-                     other points where a name has a backslash
+                     other points if a name has a backslash
   --lines            names the line of the input in each fault, instead of the number of the item
-  --first-item N     the number of the first item, in faults: 1 where it is not given
+  --first-item N     the number of the first item, in faults: 1 if it is not given
   --first-line N     the number of the first line, in faults, which name lines then
-  --max-line BYTES   a longer line is passed over, and is a fault: 16777216 where it is not given
-  --progress         shows on standard error, where that is a terminal, how far the relay is: bytes
-                     read, percent where all inputs are files, lines written, faults, and MB/s,
+  --faults FORM      line, as if it is not given: each fault on one line, with \\n, \\t, \\r, \\\\ and
+                     \\x.. for what ASCII does not print, cut after 200 bytes; raw: as lp_rebuild
+                     writes it, with newlines within
+  --max-line BYTES   a longer line is passed over, and is a fault: 16777216 if it is not given
+  --progress         shows on standard error, if that is a terminal, how far the relay is: bytes
+                     read, percent if all inputs are files, lines written, faults, and MB/s,
                      each second while input comes, and once more at the end
-  --summary          says at the end on standard error, where the status is 0 or 1, how many items
+  --summary          says at the end on standard error, if the status is 0 or 1, how many items
                      there were: `N items: C carried, R refused`
   --check            writes no line, but the faults and the status are as ever
   --output FILE, -o  writes the lines to FILE, which is there, and whole, once the status is 0 or 1
@@ -109,6 +113,7 @@ pub(crate) struct Given<'a> {
     progress: bool,
     summary: bool,
     check: bool,
+    faults: Option<Faults>,
     output: Option<&'a str>,
 }
 
@@ -126,6 +131,7 @@ impl<'a> Given<'a> {
             progress: false,
             summary: false,
             check: false,
+            faults: None,
             output: None,
         }
     }
@@ -161,6 +167,7 @@ impl<'a> Given<'a> {
             lines,
             numbering,
             first: self.first_item.unwrap_or(self.first_line.unwrap_or(1)),
+            faults: self.faults.unwrap_or(Faults::OneLine),
         };
         Settings {
             relay,
@@ -217,6 +224,10 @@ impl<'a> Given<'a> {
             let first_line = Some(first_number_of(value)?);
             return Some(Given { first_line, ..self });
         }
+        if word == "--faults" && self.faults.is_none() {
+            let faults = Some(faults_form_of(value)?);
+            return Some(Given { faults, ..self });
+        }
         if is_output(word) && self.output.is_none() && is_file(value) {
             let output = Some(value);
             return Some(Given { output, ..self });
@@ -263,6 +274,17 @@ fn first_number_of(word: &str) -> Option<usize>
     match decimal_of(word) {
         Some(0) => None,
         first => first,
+    }
+}
+
+// How fault lines are told, as a word says.
+fn faults_form_of(word: &str) -> Option<Faults>
+    ensures { result ≡ faults_form word.now }
+{
+    match word {
+        "line" => Some(Faults::OneLine),
+        "raw" => Some(Faults::Raw),
+        _ => None,
     }
 }
 
@@ -368,6 +390,8 @@ fn cut_of<'a>(words: &[&str]) -> Option<Task<'a>>
 /// task_of(&["--max-line", "+80"])       gives  None
 /// task_of(&["--first-line", "5"])       gives  a relay whose fault lines name lines, of which the first is 5
 /// task_of(&["--first-item", "0"])       gives  None
+/// task_of(&["--faults", "raw"])         gives  a relay whose fault lines are as lp_rebuild writes them
+/// task_of(&["--faults", "none"])        gives  None
 /// task_of(&["--cut", "4"])              gives  the ends of 4 parts of the input
 /// task_of(&["--cut", "1000001"])        gives  None
 /// task_of(&["--cut", "4", "--strict"])  gives  None

@@ -2,17 +2,18 @@
 use Rattle.std.proofs.Common.{◌≡◌, ℕ, ◌+◌, ◌-◌, cond, List, [], ◌∷◌, ◌++◌, length, Option, Some, None, Ok, Err, refl, sym, ap, ◌∙◌, arith}
 use Rattle.std.proofs.Common.{append_assoc, append-nil, length-append}
 use Rattle.std.specs.List.{flat_map}
-use Rattle.influxdb_line_protocol.specs.format.Dialects.{Dialect}
 use Rattle.influxdb_line_protocol.specs.format.Bytes.{newlines_in}
 use Rattle.lp_rebuild.specs.RebuildSteps.{fault_line_at}
-use Rattle.lp_relay_core.specs.declared.taking.Lines.{Lines}
+use Rattle.lp_relay_core.specs.declared.taking.Settings.{Settings}
 use Rattle.lp_relay_core.specs.declared.taking.Numbering.{Numbering}
 use Rattle.lp_relay_core.specs.declared.taking.Numbering.TheVariants as named
 use Rattle.lp_relay_core.specs.Relays.{named_faults}
+use Rattle.lp_relay_core.specs.declared.telling.Faults.{Faults}
+use Rattle.lp_relay_core.specs.Told.{told}
 use Rattle.lp_relay_core.specs.LineFaults.{item_text, line_fault, line_faults}
 use Rattle.lp_relay_core.specs.Relaying.{Item, answered, as_it_came, not_utf8, too_long, is_carried_item, first_of, item_fault, item_faults}
 use Rattle.lp_relay_core.specs.Relaying.{items_of_piece, items_of}
-use Rattle.lp_relay_core.specs.RelaySteps.{faults_at, faults_from, faults_past, line_after, line_past, made_of_none}
+use Rattle.lp_relay_core.specs.RelaySteps.{faults_at, faults_from, faults_past, first_line, items_before, line_after, line_past, made_of_none}
 use Rattle.lp_relay_core.proofs.ItemLemmas.{faults_append}
 
 -- what is named after pieces and others
@@ -21,29 +22,29 @@ line_append line [] qs = refl
 line_append line (p ∷ ps) qs = line_append (line_after line (newlines_in p)) ps qs
 
 -- the fault lines of pieces and others
-pub faults_from_append : (lines : Lines) (dialect : Dialect) (limit : Option ℕ) (line : Option ℕ) (number : ℕ) (ps qs : List (List ℕ))
-    → faults_from lines dialect limit line number (ps ++ qs)
-    ≡ faults_from lines dialect limit line number ps
-    ++ faults_from lines dialect limit (line_past line ps) (number + length (items_of lines dialect limit ps)) qs
-faults_from_append lines dialect limit line number [] qs = grind (arith)
-faults_from_append lines dialect limit line number (p ∷ ps) qs =
-    let items = items_of_piece lines dialect limit p in
-    let others = items_of lines dialect limit ps in
+pub faults_from_append : (s : Settings) (line : Option ℕ) (number : ℕ) (ps qs : List (List ℕ))
+    → faults_from s line number (ps ++ qs)
+    ≡ faults_from s line number ps
+    ++ faults_from s (line_past line ps) (number + length (items_of s ps)) qs
+faults_from_append s line number [] qs = grind (arith)
+faults_from_append s line number (p ∷ ps) qs =
+    let items = items_of_piece s p in
+    let others = items_of s ps in
     let after = line_after line (newlines_in p) in
     let next = number + length items in
-    let first = faults_at line number items in
-    let more = faults_from lines dialect limit after next ps in
-    ap (λ (l : List ℕ). first ++ l) (faults_from_append lines dialect limit after next ps qs)
-    ∙ sym (append_assoc first more (faults_from lines dialect limit (line_past after ps) (next + length others) qs))
-    ∙ ap (λ (n : ℕ). (first ++ more) ++ faults_from lines dialect limit (line_past after ps) n qs)
+    let first = faults_at s.faults line number items in
+    let more = faults_from s after next ps in
+    ap (λ (l : List ℕ). first ++ l) (faults_from_append s after next ps qs)
+    ∙ sym (append_assoc first more (faults_from s (line_past after ps) (next + length others) qs))
+    ∙ ap (λ (n : ℕ). (first ++ more) ++ faults_from s (line_past after ps) n qs)
     {y = number + length (items ++ others)} (omega (arith, length-append items others))
 
 -- the fault lines of pieces and one more
-pub faults_from_push : (lines : Lines) (dialect : Dialect) (limit : Option ℕ) (line : Option ℕ) (number : ℕ) (ps : List (List ℕ)) (p : List ℕ)
-    → faults_from lines dialect limit line number (ps ++ p ∷ [])
-    ≡ faults_from lines dialect limit line number ps
-    ++ faults_at (line_past line ps) (number + length (items_of lines dialect limit ps)) (items_of_piece lines dialect limit p)
-faults_from_push lines dialect limit line number ps p = grind (arith, faults_from_append, append-nil)
+pub faults_from_push : (s : Settings) (line : Option ℕ) (number : ℕ) (ps : List (List ℕ)) (p : List ℕ)
+    → faults_from s line number (ps ++ p ∷ [])
+    ≡ faults_from s line number ps
+    ++ faults_at s.faults (line_past line ps) (number + length (items_of s ps)) (items_of_piece s p)
+faults_from_push s line number ps p = grind (arith, faults_from_append, append-nil)
 
 -- the fault line of an item that names its number
 fault_by_number : (number : ℕ) (item : Item)
@@ -55,43 +56,49 @@ fault_by_number number not_utf8 = refl
 fault_by_number number too_long = refl
 
 -- those of the items of one piece
-faults_at_numbers : (number : ℕ) (items : List Item) → faults_at None number items ≡ item_faults number items
-faults_at_numbers number [] = refl
-faults_at_numbers number (item ∷ items) =
-    ap (λ (l : List ℕ). l ++ faults_at None (number + 1) items) (fault_by_number number item)
-    ∙ ap (λ (l : List ℕ). item_fault number item ++ l) (faults_at_numbers (number + 1) items)
+faults_at_numbers : (form : Faults) (number : ℕ) (items : List Item) → faults_at form None number items ≡ item_faults form number items
+faults_at_numbers form number [] = refl
+faults_at_numbers form number (item ∷ items) =
+    ap (λ (l : List ℕ). told form l ++ faults_at form None (number + 1) items) (fault_by_number number item)
+    ∙ ap (λ (l : List ℕ). told form (item_fault number item) ++ l) (faults_at_numbers form (number + 1) items)
 
 -- fault lines that name numbers are numbered through all pieces
-faults_by_number : (lines : Lines) (dialect : Dialect) (limit : Option ℕ) (number : ℕ) (pieces : List (List ℕ))
-    → faults_from lines dialect limit None number pieces ≡ item_faults number (items_of lines dialect limit pieces)
-faults_by_number lines dialect limit number [] = refl
-faults_by_number lines dialect limit number (p ∷ ps) =
-    let items = items_of_piece lines dialect limit p in
+faults_by_number : (s : Settings) (number : ℕ) (pieces : List (List ℕ))
+    → faults_from s None number pieces ≡ item_faults s.faults number (items_of s pieces)
+faults_by_number s number [] = refl
+faults_by_number s number (p ∷ ps) =
+    let items = items_of_piece s p in
     let next = number + length items in
-    ap (λ (l : List ℕ). l ++ faults_from lines dialect limit None next ps) (faults_at_numbers number items)
-    ∙ ap (λ (l : List ℕ). item_faults number items ++ l) (faults_by_number lines dialect limit next ps)
-    ∙ sym (faults_append number items (items_of lines dialect limit ps))
+    ap (λ (l : List ℕ). l ++ faults_from s None next ps) (faults_at_numbers s.faults number items)
+    ∙ ap (λ (l : List ℕ). item_faults s.faults number items ++ l) (faults_by_number s next ps)
+    ∙ sym (faults_append s.faults number items (items_of s ps))
 
 -- the fault lines of the items of one piece that name its line
-faults_at_line : (line number : ℕ) (items : List Item) → faults_at (Some line) number items ≡ flat_map (line_fault line) items
-faults_at_line line number [] = refl
-faults_at_line line number (item ∷ items) = ap (λ (l : List ℕ). line_fault line item ++ l) (faults_at_line line (number + 1) items)
+faults_at_line : (form : Faults) (line number : ℕ) (items : List Item)
+    → faults_at form (Some line) number items ≡ flat_map (λ item. told form (line_fault line item)) items
+faults_at_line form line number [] = refl
+faults_at_line form line number (item ∷ items) =
+    ap (λ (l : List ℕ). told form (line_fault line item) ++ l) (faults_at_line form line (number + 1) items)
 
 -- fault lines that name lines
-faults_by_line : (lines : Lines) (dialect : Dialect) (limit : Option ℕ) (line number : ℕ) (pieces : List (List ℕ))
-    → faults_from lines dialect limit (Some line) number pieces ≡ line_faults lines dialect limit line pieces
-faults_by_line lines dialect limit line number [] = refl
-faults_by_line lines dialect limit line number (p ∷ ps) =
-    let items = items_of_piece lines dialect limit p in
+faults_by_line : (s : Settings) (line number : ℕ) (pieces : List (List ℕ))
+    → faults_from s (Some line) number pieces ≡ line_faults s line pieces
+faults_by_line s line number [] = refl
+faults_by_line s line number (p ∷ ps) =
+    let items = items_of_piece s p in
     let next = number + length items in
     let after = line + newlines_in p + 1 in
-    ap (λ (l : List ℕ). l ++ faults_from lines dialect limit (Some after) next ps) (faults_at_line line number items)
-    ∙ ap (λ (l : List ℕ). flat_map (line_fault line) items ++ l) (faults_by_line lines dialect limit after next ps)
+    ap (λ (l : List ℕ). l ++ faults_from s (Some after) next ps) (faults_at_line s.faults line number items)
+    ∙ ap (λ (l : List ℕ). flat_map (λ item. told s.faults (line_fault line item)) items ++ l) (faults_by_line s after next ps)
 
 -- fault lines from the first piece on, by what they name
-pub faults_named : (lines : Lines) (dialect : Dialect) (limit : Option ℕ) (numbering : Numbering) (first : ℕ) (pieces : List (List ℕ))
-    → faults_past lines dialect limit (made_of_none numbering first) pieces ≡ named_faults numbering first lines dialect limit pieces
-faults_named lines dialect limit named.Items first pieces =
-    let number : first - 1 + 0 + 1 ≡ first_of first = omega arith in
-    ap (λ (n : ℕ). faults_from lines dialect limit None n pieces) number ∙ faults_by_number lines dialect limit (first_of first) pieces
-faults_named lines dialect limit named.Lines first pieces = faults_by_line lines dialect limit (first_of first) (0 + 0 + 1) pieces
+faults_named_by : (numbering : Numbering) (s : Settings) (pieces : List (List ℕ))
+    → faults_from s (first_line numbering s.first) (items_before numbering s.first + 0 + 1) pieces ≡ named_faults numbering s pieces
+faults_named_by named.Items s pieces =
+    let number : s.first - 1 + 0 + 1 ≡ first_of s.first = omega arith in
+    ap (λ (n : ℕ). faults_from s None n pieces) number ∙ faults_by_number s (first_of s.first) pieces
+faults_named_by named.Lines s pieces = faults_by_line s (first_of s.first) (0 + 0 + 1) pieces
+
+-- so they are by the settings
+pub faults_named : (s : Settings) (pieces : List (List ℕ)) → faults_past s (made_of_none s) pieces ≡ named_faults s.numbering s pieces
+faults_named s pieces = faults_named_by s.numbering s pieces

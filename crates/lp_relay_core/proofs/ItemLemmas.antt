@@ -1,6 +1,6 @@
 -- The items of a relay, one after another.
 use Rattle.std.proofs.Common.{◌≡◌, ℕ, ◌+◌, ◌≤◌, nat_lt, false, not, cond, List, [], ◌∷◌, ◌++◌, length, map}
-use Rattle.std.proofs.Common.{Option, refl, sym, ap, ◌∙◌, arith, append_assoc, append-nil, inl, inr}
+use Rattle.std.proofs.Common.{refl, sym, ap, ◌∙◌, arith, append_assoc, append-nil, inl, inr}
 use Rattle.std.specs.Str.{IsUtf8, is_utf8}
 use Rattle.std.proofs.lemmas.Bool.{cases_Bool}
 use Rattle.std.proofs.lemmas.Grind.{flat_map-append}
@@ -9,7 +9,11 @@ use Rattle.std.proofs.lemmas.Str.{IsUtf8-from_is_utf8, is_utf8-from_IsUtf8}
 use Rattle.influxdb_line_protocol.specs.format.Dialects.{Dialect}
 use Rattle.influxdb_line_protocol.specs.format.Items.{answers_of_piece}
 use Rattle.influxdb_line_protocol.specs.code.Bounded.{IsTooLong}
+use Rattle.lp_relay_core.specs.declared.taking.Settings.{Settings}
+use Rattle.influxdb_line_protocol.specs.code.Rules.{rules_of}
 use Rattle.lp_relay_core.specs.declared.taking.Lines.{Lines}
+use Rattle.lp_relay_core.specs.declared.telling.Faults.{Faults}
+use Rattle.lp_relay_core.specs.Told.{told}
 use Rattle.lp_relay_core.specs.Relaying.{Item, item_of, not_utf8, too_long, limit_of, is_too_long, items_of_bytes, items_of_piece, items_of}
 use Rattle.lp_relay_core.specs.Relaying.{is_carried_item, items_batch, item_fault, item_faults, carried_items, refused_items}
 use Rattle.lp_rebuild.proofs.RebuildLemmas.{one_of_two}
@@ -19,15 +23,15 @@ pub batch_append : (xs ys : List Item) → items_batch (xs ++ ys) ≡ items_batc
 batch_append xs ys = grind (arith, flat_map-append)
 
 -- their faults
-pub faults_append : (number : ℕ) (xs ys : List Item)
-    → item_faults number (xs ++ ys) ≡ item_faults number xs ++ item_faults (number + length xs) ys
-faults_append number [] ys = ap (λ (n : ℕ). item_faults n ys) {y = number + 0} (omega arith)
-faults_append number (x ∷ xs) ys =
-    let first = item_fault number x in
-    let others = item_faults (number + 1) xs in
-    ap (λ (l : List ℕ). first ++ l) (faults_append (number + 1) xs ys)
-    ∙ sym (append_assoc first others (item_faults (number + 1 + length xs) ys))
-    ∙ ap (λ (n : ℕ). (first ++ others) ++ item_faults n ys) {y = number + length (x ∷ xs)} (omega arith)
+pub faults_append : (form : Faults) (number : ℕ) (xs ys : List Item)
+    → item_faults form number (xs ++ ys) ≡ item_faults form number xs ++ item_faults form (number + length xs) ys
+faults_append form number [] ys = ap (λ (n : ℕ). item_faults form n ys) {y = number + 0} (omega arith)
+faults_append form number (x ∷ xs) ys =
+    let first = told form (item_fault number x) in
+    let others = item_faults form (number + 1) xs in
+    ap (λ (l : List ℕ). first ++ l) (faults_append form (number + 1) xs ys)
+    ∙ sym (append_assoc first others (item_faults form (number + 1 + length xs) ys))
+    ∙ ap (λ (n : ℕ). (first ++ others) ++ item_faults form n ys) {y = number + length (x ∷ xs)} (omega arith)
 
 -- how many of them are carried
 pub carried_append : (xs ys : List Item) → carried_items (xs ++ ys) ≡ carried_items xs + carried_items ys
@@ -67,23 +71,22 @@ item_of_no_text lines dialect piece h =
     ]
 
 -- the items of a piece that is not too long
-pub items_of_fitting : (lines : Lines) (dialect : Dialect) (limit : Option ℕ) (piece : List ℕ) → is_too_long limit piece ≡ false
-    → items_of_piece lines dialect limit piece ≡ items_of_bytes lines dialect piece
+pub items_of_fitting : (s : Settings) (piece : List ℕ) → is_too_long (limit_of s.limit) piece ≡ false
+    → items_of_piece s piece ≡ items_of_bytes s.lines (rules_of s.dialect) piece
 unfolding items_of_piece
-items_of_fitting lines dialect limit piece h = rw h refl
+items_of_fitting s piece h = rw h refl
 
 -- so if it has no more bytes than the limit
-pub items_of_short : (lines : Lines) (dialect : Dialect) (limit : ℕ) (piece : List ℕ) → length piece ≤ limit
-    → items_of_piece lines dialect (limit_of limit) piece ≡ items_of_bytes lines dialect piece
-items_of_short lines dialect limit piece h = grind (arith, cases_Bool, items_of_fitting)
+pub items_of_short : (s : Settings) (piece : List ℕ) → length piece ≤ s.limit
+    → items_of_piece s piece ≡ items_of_bytes s.lines (rules_of s.dialect) piece
+items_of_short s piece h = grind (arith, cases_Bool, items_of_fitting)
 
 -- the item of a piece that is too long
-pub item_of_long : (lines : Lines) (dialect : Dialect) (limit : ℕ) (piece : List ℕ) → IsTooLong limit piece
-    → items_of_piece lines dialect (limit_of limit) piece ≡ too_long ∷ []
+pub item_of_long : (s : Settings) (piece : List ℕ) → IsTooLong s.limit piece → items_of_piece s piece ≡ too_long ∷ []
 unfolding items_of_piece
-item_of_long lines dialect limit piece h = grind (arith, nat_lt)
+item_of_long s piece h = grind (arith, nat_lt)
 
 -- the items of pieces and one more
-pub items_push : (lines : Lines) (dialect : Dialect) (limit : Option ℕ) (pieces : List (List ℕ)) (piece : List ℕ)
-    → items_of lines dialect limit (pieces ++ piece ∷ []) ≡ items_of lines dialect limit pieces ++ items_of_piece lines dialect limit piece
-items_push lines dialect limit pieces piece = grind (arith, flat_map-append, append-nil)
+pub items_push : (s : Settings) (pieces : List (List ℕ)) (piece : List ℕ)
+    → items_of s (pieces ++ piece ∷ []) ≡ items_of s pieces ++ items_of_piece s piece
+items_push s pieces piece = grind (arith, flat_map-append, append-nil)

@@ -20,6 +20,8 @@ use Rattle.lp_rebuild.specs.Running.{AppendsFront}
 use Rattle.lp_relay_core.specs.declared.taking.Lines.{Lines}
 use Rattle.lp_relay_core.specs.declared.taking.Lines.TheVariants.{Rebuilt, Verbatim}
 use Rattle.lp_relay_core.specs.Relaying.{Item, answered, as_it_came, item_of, not_utf8, too_long, items_of_bytes, items_batch}
+use Rattle.lp_relay_core.specs.declared.telling.Faults.{Faults}
+use Rattle.lp_relay_core.specs.declared.telling.Faults.TheVariants.{Raw}
 use Rattle.lp_relay_core.specs.RelaySteps.{Made, made, Passes, RelaysItems, RelaysPart, TakesItems, faults_next}
 use Rattle.lp_rebuild.proofs.RebuildLemmas.{add_where, add_elsewhere, blank_answers, piece_answers}
 use Rattle.lp_relay_core.proofs.PassLemmas.{passes_none, passes_more, passes_front}
@@ -27,32 +29,32 @@ use Rattle.lp_relay_core.proofs.ItemLemmas.{batch_append, carried_append, refuse
 use Rattle.lp_relay_core.proofs.ItemLemmas.{items_of_text, item_of_no_text}
 
 -- nothing was taken
-takes_nothing : (old : Made) → TakesItems old [] old
+takes_nothing : (old : Made) → TakesItems Raw old [] old
 takes_nothing old = grind (arith, append-nil)
 
 -- an answer is one item
 takes_answer : (old : Progress) (answer : Result Line Fault) (new : Progress) → Takes old answer new
-    → TakesItems (made old) (answered answer ∷ []) (made new)
+    → TakesItems Raw (made old) (answered answer ∷ []) (made new)
 takes_answer old answer new t = grind (arith, append-nil, string_bytes, add_where, add_elsewhere)
 
 -- a piece that is not UTF-8 is one item
 takes_no_text : (old new : Progress) → Refuses old (codes "the line is not UTF-8") new
-    → TakesItems (made old) (not_utf8 ∷ []) (made new)
+    → TakesItems Raw (made old) (not_utf8 ∷ []) (made new)
 takes_no_text old new r = grind (arith, append-nil, string_bytes)
 
 -- so is one that is too long
 pub takes_too_long : (old new : Progress) → Refuses old (codes "the line is too long") new
-    → TakesItems (made old) (too_long ∷ []) (made new)
+    → TakesItems Raw (made old) (too_long ∷ []) (made new)
 takes_too_long old new r = grind (arith, append-nil, string_bytes)
 
 -- a blank text has no item
-blank_items : (lines : Lines) (dialect : Dialect) (piece : List ℕ) → IsUtf8 piece → length (trimmed piece) ≡ 0
+pub blank_items : (lines : Lines) (dialect : Dialect) (piece : List ℕ) → IsUtf8 piece → length (trimmed piece) ≡ 0
     → items_of_bytes lines dialect piece ≡ []
 blank_items lines dialect piece u blank =
     items_of_text lines dialect piece u ∙ ap (λ (l : List (Result Line Fault)). map (item_of lines piece) l) (blank_answers dialect piece blank)
 
 -- another text has the item of its answer
-text_item : (lines : Lines) (dialect : Dialect) (piece : List ℕ) → IsUtf8 piece → 0 < length (trimmed piece)
+pub text_item : (lines : Lines) (dialect : Dialect) (piece : List ℕ) → IsUtf8 piece → 0 < length (trimmed piece)
     → items_of_bytes lines dialect piece ≡ item_of lines piece (answer dialect (trimmed piece)) ∷ []
 text_item lines dialect piece u some =
     items_of_text lines dialect piece u
@@ -60,27 +62,27 @@ text_item lines dialect piece u some =
 
 -- of a blank text nothing is taken
 takes_blank : (lines : Lines) (dialect : Dialect) (piece : List ℕ) (old : Made) → IsUtf8 piece → length (trimmed piece) ≡ 0
-    → TakesItems old (items_of_bytes lines dialect piece) old
+    → TakesItems Raw old (items_of_bytes lines dialect piece) old
 takes_blank lines dialect piece old u blank =
-    subst (λ (l : List Item). TakesItems old l old) (sym (blank_items lines dialect piece u blank)) (takes_nothing old)
+    subst (λ (l : List Item). TakesItems Raw old l old) (sym (blank_items lines dialect piece u blank)) (takes_nothing old)
 
 -- the line of a text is its one item, and a blank text has none
 pub takes_text : (dialect : Dialect) (piece : List ℕ) (old new : Progress) → IsUtf8 piece → (length (trimmed piece) ≡ 0 → new ≡ old)
     → (0 < length (trimmed piece) → Takes old (answer dialect (trimmed piece)) new)
-    → TakesItems (made old) (items_of_bytes Rebuilt dialect piece) (made new)
+    → TakesItems Raw (made old) (items_of_bytes Rebuilt dialect piece) (made new)
 takes_text dialect piece old new u blank some =
     elim (eq-zero-or-pos (length (trimmed piece))) [
       | inl none ↦
-          subst (λ (p : Progress). TakesItems (made old) (items_of_bytes Rebuilt dialect piece) (made p)) (sym (blank none))
+          subst (λ (p : Progress). TakesItems Raw (made old) (items_of_bytes Rebuilt dialect piece) (made p)) (sym (blank none))
           (takes_blank Rebuilt dialect piece (made old) u none)
       | inr more ↦
-          subst (λ (l : List Item). TakesItems (made old) l (made new)) (sym (text_item Rebuilt dialect piece u more))
+          subst (λ (l : List Item). TakesItems Raw (made old) l (made new)) (sym (text_item Rebuilt dialect piece u more))
           (takes_answer old (answer dialect (trimmed piece)) new (some more))
     ]
 
 -- a piece was taken as it came
 pub takes_as_it_came : (old new : Made) (piece : List ℕ) → new.batch ≡ (old.batch ++ piece) ++ newline ∷ [] → new.faults ≡ old.faults
-    → new.carried ≡ old.carried + 1 → new.refused ≡ old.refused → TakesItems old (as_it_came piece ∷ []) new
+    → new.carried ≡ old.carried + 1 → new.refused ≡ old.refused → TakesItems Raw old (as_it_came piece ∷ []) new
 takes_as_it_came old new piece batch faults carried refused = grind (arith, append-nil, append_assoc)
 
 -- a text is empty if a test of its length says so
@@ -89,7 +91,7 @@ is_blank text piece test is tests holds = ap length (sym is) ∙ eqb-true (lengt
 
 -- of a text that is blank nothing goes out as it came
 pub takes_no_line : (dialect : Dialect) (piece text : List ℕ) (test : Bool) (old : Made) → text ≡ trimmed piece → IsUtf8 piece
-    → test ≡ (length text == 0) → test ≡ true → TakesItems old (items_of_bytes Verbatim dialect piece) old
+    → test ≡ (length text == 0) → test ≡ true → TakesItems Raw old (items_of_bytes Verbatim dialect piece) old
 takes_no_line dialect piece text test old is u tests holds =
     takes_blank Verbatim dialect piece old u (is_blank text piece test is tests holds)
 
@@ -114,11 +116,11 @@ not_blank text piece test is tests fails =
 -- a line goes out as it came
 pub takes_line : (dialect : Dialect) (piece text : List ℕ) (test verdict : Bool) (old new : Made) → text ≡ trimmed piece → IsUtf8 piece
     → test ≡ (length text == 0) → test ≡ false → verdict ≡ is_ok (answer dialect text) → verdict ≡ true
-    → TakesItems old (as_it_came piece ∷ []) new → TakesItems old (items_of_bytes Verbatim dialect piece) new
+    → TakesItems Raw old (as_it_came piece ∷ []) new → TakesItems Raw old (items_of_bytes Verbatim dialect piece) new
 takes_line dialect piece text test verdict old new is u tests fails says holds takes =
     let line : is_ok (answer dialect (trimmed piece)) ≡ true =
     ap (λ (l : List ℕ). is_ok (answer dialect l)) (sym is) ∙ sym says ∙ holds in
-    subst (λ (l : List Item). TakesItems old l new)
+    subst (λ (l : List Item). TakesItems Raw old l new)
     (sym (text_item Verbatim dialect piece u (not_blank text piece test is tests fails)
     ∙ ap (λ (i : Item). i ∷ []) (piece_of_line piece (answer dialect (trimmed piece)) line)))
     takes
@@ -126,11 +128,11 @@ takes_line dialect piece text test verdict old new is u tests fails says holds t
 -- where lines go out as they came, a text at fault is refused
 pub takes_fault : (dialect : Dialect) (piece text : List ℕ) (test verdict : Bool) (old new : Progress) → text ≡ trimmed piece
     → IsUtf8 piece → test ≡ (length text == 0) → test ≡ false → verdict ≡ is_ok (answer dialect text) → verdict ≡ false
-    → Takes old (answer dialect text) new → TakesItems (made old) (items_of_bytes Verbatim dialect piece) (made new)
+    → Takes old (answer dialect text) new → TakesItems Raw (made old) (items_of_bytes Verbatim dialect piece) (made new)
 takes_fault dialect piece text test verdict old new is u tests fails says wrong takes =
     let fault : is_ok (answer dialect (trimmed piece)) ≡ false =
     ap (λ (l : List ℕ). is_ok (answer dialect l)) (sym is) ∙ sym says ∙ wrong in
-    subst (λ (l : List Item). TakesItems (made old) l (made new))
+    subst (λ (l : List Item). TakesItems Raw (made old) l (made new))
     (sym (text_item Verbatim dialect piece u (not_blank text piece test is tests fails)
     ∙ ap (λ (i : Item). i ∷ []) (answer_of_fault piece (answer dialect (trimmed piece)) fault)))
     (takes_answer old (answer dialect (trimmed piece)) new (subst (λ (l : List ℕ). Takes old (answer dialect l) new) is takes))
@@ -142,20 +144,20 @@ no_items lines dialect = items_of_text lines dialect [] IsUtf8-nil
 
 -- of an empty piece nothing is taken
 pub takes_empty : (lines : Lines) (dialect : Dialect) (piece : List ℕ) (old : Made) → piece ≡ []
-    → TakesItems old (items_of_bytes lines dialect piece) old
+    → TakesItems Raw old (items_of_bytes lines dialect piece) old
 takes_empty lines dialect piece old none =
-    subst (λ l. TakesItems old l old) (sym (ap (items_of_bytes lines dialect) none ∙ no_items lines dialect)) (takes_nothing old)
+    subst (λ l. TakesItems Raw old l old) (sym (ap (items_of_bytes lines dialect) none ∙ no_items lines dialect)) (takes_nothing old)
 
 -- a piece that is not UTF-8 was refused
 pub takes_bad_bytes : (lines : Lines) (dialect : Dialect) (piece : List ℕ) (old new : Progress) → (¬ IsUtf8 piece)
-    → Refuses old (codes "the line is not UTF-8") new → TakesItems (made old) (items_of_bytes lines dialect piece) (made new)
+    → Refuses old (codes "the line is not UTF-8") new → TakesItems Raw (made old) (items_of_bytes lines dialect piece) (made new)
 takes_bad_bytes lines dialect piece old new bad r =
-    subst (λ l. TakesItems (made old) l (made new)) (sym (item_of_no_text lines dialect piece bad)) (takes_no_text old new r)
+    subst (λ l. TakesItems Raw (made old) l (made new)) (sym (item_of_no_text lines dialect piece bad)) (takes_no_text old new r)
 
 -- what was taken is held
-pub relays_taken : (old new : Made) (a e : Option (List ℕ)) (xs : List Item) → TakesItems old xs new
-    → RelaysItems old new a a e e xs (faults_next old xs)
-relays_taken old new a e xs t =
+pub relays_taken : (form : Faults) (old new : Made) (a e : Option (List ℕ)) (xs : List Item) → TakesItems form old xs new
+    → RelaysItems old new a a e e xs (faults_next form old xs)
+relays_taken form old new a e xs t =
     record {
       batch = ([], Appends-nil a, t.batch);
       faults = ([], Appends-nil e, t.faults);
@@ -250,22 +252,22 @@ part_of_none old a e xs fs =
     }
 
 -- items were taken, and then what is held was written
-pub relays_poured : (old now next poured : Made) (a b c e f g : Option (List ℕ)) (xs ys : List Item) (fs : List ℕ)
-    → RelaysItems old now a b e f xs fs → TakesItems now ys next → RelaysItems next poured b c f g [] []
-    → RelaysItems old poured a c e g (xs ++ ys) (fs ++ faults_next now ys)
-relays_poured old now next poured a b c e f g xs ys fs p t q =
-    relays_then old next poured a b c e f g _ _ (relays_more old now next a b b e f f xs ys fs _ p (relays_taken now next b f ys t)) q
+pub relays_poured : (form : Faults) (old now next poured : Made) (a b c e f g : Option (List ℕ)) (xs ys : List Item) (fs : List ℕ)
+    → RelaysItems old now a b e f xs fs → TakesItems form now ys next → RelaysItems next poured b c f g [] []
+    → RelaysItems old poured a c e g (xs ++ ys) (fs ++ faults_next form now ys)
+relays_poured form old now next poured a b c e f g xs ys fs p t q =
+    relays_then old next poured a b c e f g _ _ (relays_more old now next a b b e f f xs ys fs _ p (relays_taken form now next b f ys t)) q
 
 -- the same, if a beginning of it was written
-pub part_poured : (old now next : Made) (a b c e f g : Option (List ℕ)) (xs ys : List Item) (fs : List ℕ)
-    → RelaysItems old now a b e f xs fs → TakesItems now ys next → RelaysPart next b c f g [] []
-    → RelaysPart old a c e g (xs ++ ys) (fs ++ faults_next now ys)
-part_poured old now next a b c e f g xs ys fs p t q =
-    part_then old next a b c e f g _ _ (relays_more old now next a b b e f f xs ys fs _ p (relays_taken now next b f ys t)) q
+pub part_poured : (form : Faults) (old now next : Made) (a b c e f g : Option (List ℕ)) (xs ys : List Item) (fs : List ℕ)
+    → RelaysItems old now a b e f xs fs → TakesItems form now ys next → RelaysPart next b c f g [] []
+    → RelaysPart old a c e g (xs ++ ys) (fs ++ faults_next form now ys)
+part_poured form old now next a b c e f g xs ys fs p t q =
+    part_then old next a b c e f g _ _ (relays_more old now next a b b e f f xs ys fs _ p (relays_taken form now next b f ys t)) q
 
 -- nothing was made so far
 pub relays_none : (old : Made) (a e : Option (List ℕ)) → RelaysItems old old a a e e [] []
-relays_none old a e = relays_taken old old a e [] (takes_nothing old)
+relays_none old a e = relays_taken Raw old old a e [] (takes_nothing old)
 
 -- a fact at a fault
 pub on_err : {T E P : Type 0} (r : Result T E) → P → OnErr r P

@@ -20,11 +20,14 @@ use Rattle.lp_rebuild.specs.declared.batch.Rebuilt.{Rebuilt}
 use Rattle.lp_relay_core.specs.declared.relaying.Relayed.{Relayed}
 use Rattle.lp_rebuild.specs.Rebuilding.{RebuildsIn, batch_of, carried_of, carried_point, fault_of, faults_from, refused_of}
 use Rattle.lp_rebuild.specs.Running.{AppendsFront}
-use Rattle.lp_relay_core.specs.Relaying.{Item, answered, is_too_long, items_of, items_batch, item_faults}
+use Rattle.lp_relay_core.specs.Relaying.{Item, answered, first_of, is_too_long, limit_of, items_of, items_batch, item_faults}
 use Rattle.lp_relay_core.specs.Relaying.{carried_items, refused_items}
 use Rattle.lp_relay_core.specs.Relays.{IfRebuilt, named_faults, RelaysAll, RelaysFronts, RelaysRebuilt, RelaysRebuiltFronts}
 use Rattle.lp_relay_core.specs.declared.taking.Lines.TheVariants as going
-use Rattle.lp_relay_core.specs.declared.taking.Numbering.{Numbering}
+use Rattle.lp_relay_core.specs.declared.taking.Numbering.TheVariants as named
+use Rattle.lp_relay_core.specs.declared.taking.Settings.{Settings}
+use Rattle.lp_relay_core.specs.declared.telling.Faults.TheVariants.{Raw}
+use Rattle.influxdb_line_protocol.specs.code.Rules.{rules_of}
 use Rattle.lp_rebuild.proofs.RebuildLemmas.{carried_cons, refused_cons}
 use Rattle.lp_relay_core.proofs.ItemLemmas.{carried_first, refused_first, items_of_fitting, items_of_text}
 
@@ -40,7 +43,7 @@ lines_of_answers (a ∷ answers) =
     ∙ sym (flat_map-append built (carried_point a) (flat_map carried_point answers))
 
 -- their faults
-faults_of_answers : (number : ℕ) (answers : List (Result Line Fault)) → item_faults number (as_items answers) ≡ faults_from number answers
+faults_of_answers : (number : ℕ) (answers : List (Result Line Fault)) → item_faults Raw number (as_items answers) ≡ faults_from number answers
 faults_of_answers number [] = refl
 faults_of_answers number (a ∷ answers) = ap (λ l. fault_of number a ++ l) (faults_of_answers (number + 1) answers)
 
@@ -74,26 +77,26 @@ short_pieces limit (piece ∷ pieces) h =
     let fits : nat_lt limit (length piece) ≡ false = grind (arith, nat_tests) in
     (fits, short_pieces limit pieces (All-tail (λ piece. length piece ≤ limit) piece pieces h))
 
--- the items of a piece that is UTF-8 and not too long, and of others
-items_of_texts : (dialect : Dialect) (limit : Option ℕ) (piece : List ℕ) (pieces : List (List ℕ)) → is_too_long limit piece ≡ false
-    → IsUtf8 piece → items_of going.Rebuilt dialect limit pieces ≡ as_items (answers_of dialect pieces)
-    → items_of going.Rebuilt dialect limit (piece ∷ pieces) ≡ as_items (answers_of dialect (piece ∷ pieces))
-items_of_texts dialect limit piece pieces fits u others = grind (arith, items_of_fitting, items_of_text, map-append)
+-- the items of a piece that is UTF-8 and not too long, and of others, if lines are written again
+items_of_texts : (s : Settings) (piece : List ℕ) (pieces : List (List ℕ)) → s.lines ≡ going.Rebuilt
+    → is_too_long (limit_of s.limit) piece ≡ false → IsUtf8 piece → items_of s pieces ≡ as_items (answers_of (rules_of s.dialect) pieces)
+    → items_of s (piece ∷ pieces) ≡ as_items (answers_of (rules_of s.dialect) (piece ∷ pieces))
+items_of_texts s piece pieces again fits u others = grind (arith, items_of_fitting, items_of_text, map-append)
 
 -- the items of a text that is UTF-8, and has no piece that is too long, are its answers
-items_are_answers : Utf8ByPieces → (dialect : Dialect) (limit : Option ℕ) (text : List ℕ) (pieces : List (List ℕ))
-    → Pieces dialect text pieces → IsUtf8 text → NoneTooLong limit pieces
-    → items_of going.Rebuilt dialect limit pieces ≡ as_items (answers_of dialect pieces)
-items_are_answers law dialect limit text pieces (last piece h) u fit = items_of_texts dialect limit piece [] fit.0 u refl
-items_are_answers law dialect limit text pieces (cut piece rest others c k) u fit =
+items_are_answers : Utf8ByPieces → (s : Settings) (text : List ℕ) (pieces : List (List ℕ)) → s.lines ≡ going.Rebuilt
+    → Pieces (rules_of s.dialect) text pieces → IsUtf8 text → NoneTooLong (limit_of s.limit) pieces
+    → items_of s pieces ≡ as_items (answers_of (rules_of s.dialect) pieces)
+items_are_answers law s text pieces again (last piece h) u fit = items_of_texts s piece [] again fit.0 u refl
+items_are_answers law s text pieces again (cut piece rest others c k) u fit =
     let both = (law piece rest).0 u in
-    items_of_texts dialect limit piece others fit.0 both.0 (items_are_answers law dialect limit rest others k both.1 fit.1)
+    items_of_texts s piece others again fit.0 both.0 (items_are_answers law s rest others again k both.1 fit.1)
 
 -- so they are those of a rebuild
-items_of_rebuilt : Utf8ByPieces → PiecesAreUnique → (dialect : Dialect) (limit : Option ℕ) (text : List ℕ) (pieces : List (List ℕ))
-    → Pieces dialect text pieces → NoneTooLong limit pieces → IsUtf8 text → (r : Rebuilt) → (h : RebuildsIn dialect text r)
-    → items_of going.Rebuilt dialect limit pieces ≡ as_items h.answers
-items_of_rebuilt law unique dialect limit text pieces are fit u r h = grind (arith, items_are_answers)
+items_of_rebuilt : Utf8ByPieces → PiecesAreUnique → (s : Settings) (text : List ℕ) (pieces : List (List ℕ)) → s.lines ≡ going.Rebuilt
+    → Pieces (rules_of s.dialect) text pieces → NoneTooLong (limit_of s.limit) pieces → IsUtf8 text → (r : Rebuilt)
+    → (h : RebuildsIn (rules_of s.dialect) text r) → items_of s pieces ≡ as_items h.answers
+items_of_rebuilt law unique s text pieces again are fit u r h = grind (arith, items_are_answers)
 
 -- what holds if no piece is too long holds of a text that is rebuilt
 if_rebuilt : PiecesAreUnique → (dialect : Dialect) (limit : Option ℕ) (text : List ℕ) (pieces : List (List ℕ)) (P : Rebuilt → Type 0)
@@ -101,36 +104,40 @@ if_rebuilt : PiecesAreUnique → (dialect : Dialect) (limit : Option ℕ) (text 
     → (NoneTooLong limit pieces → IsUtf8 text → (r : Rebuilt) → RebuildsIn dialect text r → P r) → IfRebuilt dialect limit text P
 if_rebuilt unique dialect limit text pieces x5 are f = grind (arith, no_limit, short_pieces)
 
+-- the fault lines of a rebuild, if they name items from 1 on, and are told as they are
+faults_of_rebuilt : (s : Settings) (pieces : List (List ℕ)) (answers : List (Result Line Fault)) → items_of s pieces ≡ as_items answers
+    → s.numbering ≡ named.Items → first_of s.first ≡ 1 → s.faults ≡ Raw → named_faults s.numbering s pieces ≡ faults_from 1 answers
+faults_of_rebuilt s pieces answers same named one raw =
+    ap (λ n. named_faults n s pieces) named ∙ ap (λ n. item_faults s.faults n (items_of s pieces)) one
+    ∙ ap (λ f. item_faults f 1 (items_of s pieces)) raw ∙ ap (item_faults Raw 1) same ∙ faults_of_answers 1 answers
+
 -- what was written of all items is what the rebuild gives
-pub all_rebuilt : Utf8ByPieces → PiecesAreUnique → (dialect : Dialect) (limit : Option ℕ) (numbering : Numbering) (first : ℕ) (text : List ℕ)
-    (counts : Relayed) (out out_after err err_after : Option (List ℕ))
-    → RelaysAll going.Rebuilt dialect limit numbering first text counts out out_after err err_after
-    → IfRebuilt dialect limit text (λ r. RelaysRebuilt numbering first r counts out out_after err err_after)
-all_rebuilt law unique dialect limit numbering first text counts out out_after err err_after all =
-    if_rebuilt unique dialect limit text all.pieces (λ r. RelaysRebuilt numbering first r counts out out_after err err_after) all.are
+pub all_rebuilt : Utf8ByPieces → PiecesAreUnique → (s : Settings) (text : List ℕ) (counts : Relayed)
+    (out out_after err err_after : Option (List ℕ)) → s.lines ≡ going.Rebuilt → RelaysAll s text counts out out_after err err_after
+    → IfRebuilt (rules_of s.dialect) (limit_of s.limit) text (λ r. RelaysRebuilt s r counts out out_after err err_after)
+all_rebuilt law unique s text counts out out_after err err_after again all =
+    if_rebuilt unique (rules_of s.dialect) (limit_of s.limit) text all.pieces (λ r. RelaysRebuilt s r counts out out_after err err_after) all.are
     (λ fit u r h.
-    let same = items_of_rebuilt law unique dialect limit text all.pieces all.are fit u r h in
+    let same = items_of_rebuilt law unique s text all.pieces again all.are fit u r h in
     record {
       batch = subst (Appends out out_after)
           (ap items_batch same ∙ lines_of_answers h.answers ∙ sym h.batch) all.batch;
-      faults = λ named one. subst (Appends err err_after)
-          (ap (λ n. named_faults n first going.Rebuilt dialect limit all.pieces) named ∙ ap (λ n. item_faults n (items_of going.Rebuilt dialect limit all.pieces)) one ∙ ap (item_faults 1) same
-          ∙ faults_of_answers 1 h.answers ∙ sym h.faults) all.faults;
+      faults = λ named one raw. subst (Appends err err_after)
+          (faults_of_rebuilt s all.pieces h.answers same named one raw ∙ sym h.faults) all.faults;
       carried = all.carried ∙ ap carried_items same ∙ carried_of_answers h.answers ∙ sym h.carried;
       refused = all.refused ∙ ap refused_items same ∙ refused_of_answers h.answers ∙ sym h.refused;
     })
 
 -- and a beginning is a beginning of that
-pub fronts_rebuilt : Utf8ByPieces → PiecesAreUnique → (dialect : Dialect) (limit : Option ℕ) (numbering : Numbering) (first : ℕ) (text : List ℕ)
-    (out out_after err err_after : Option (List ℕ)) → RelaysFronts going.Rebuilt dialect limit numbering first text out out_after err err_after
-    → IfRebuilt dialect limit text (λ r. RelaysRebuiltFronts numbering first r out out_after err err_after)
-fronts_rebuilt law unique dialect limit numbering first text out out_after err err_after some =
-    if_rebuilt unique dialect limit text some.pieces (λ r. RelaysRebuiltFronts numbering first r out out_after err err_after) some.are
+pub fronts_rebuilt : Utf8ByPieces → PiecesAreUnique → (s : Settings) (text : List ℕ) (out out_after err err_after : Option (List ℕ))
+    → s.lines ≡ going.Rebuilt → RelaysFronts s text out out_after err err_after
+    → IfRebuilt (rules_of s.dialect) (limit_of s.limit) text (λ r. RelaysRebuiltFronts s r out out_after err err_after)
+fronts_rebuilt law unique s text out out_after err err_after again some =
+    if_rebuilt unique (rules_of s.dialect) (limit_of s.limit) text some.pieces (λ r. RelaysRebuiltFronts s r out out_after err err_after) some.are
     (λ fit u r h.
-    let same = items_of_rebuilt law unique dialect limit text some.pieces some.are fit u r h in (
+    let same = items_of_rebuilt law unique s text some.pieces again some.are fit u r h in (
       subst (AppendsFront out out_after)
           (ap items_batch same ∙ lines_of_answers h.answers ∙ sym h.batch) some.batch,
-      λ named one. subst (AppendsFront err err_after)
-          (ap (λ n. named_faults n first going.Rebuilt dialect limit some.pieces) named ∙ ap (λ n. item_faults n (items_of going.Rebuilt dialect limit some.pieces)) one ∙ ap (item_faults 1) same
-          ∙ faults_of_answers 1 h.answers ∙ sym h.faults) some.faults,
+      λ named one raw. subst (AppendsFront err err_after)
+          (faults_of_rebuilt s some.pieces h.answers same named one raw ∙ sym h.faults) some.faults,
     ))

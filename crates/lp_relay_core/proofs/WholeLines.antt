@@ -12,7 +12,8 @@ use Rattle.influxdb_line_protocol.specs.format.Pieces.{GivesPiece, IsCutPiece, I
 use Rattle.influxdb_line_protocol.specs.format.Pieces.{PiecesLeft}
 use Rattle.influxdb_line_protocol.specs.code.Bounded.{CutsTo, GivesOf, HeldWithin, Holds}
 use Rattle.influxdb_line_protocol.specs.types.PieceTooLong.{PieceTooLong}
-use Rattle.lp_relay_core.specs.declared.taking.Lines.{Lines}
+use Rattle.lp_relay_core.specs.declared.taking.Settings.{Settings}
+use Rattle.influxdb_line_protocol.specs.code.Rules.{rules_of}
 use Rattle.lp_relay_core.specs.RelaySteps.{Made, RelaysBegun, RelaysTo}
 use Rattle.lp_relay_core.proofs.RelayPieces.{Given, given_on, given_piece, given_short, to_none, to_then}
 use Rattle.influxdb_line_protocol.specs.laws.Laws.{PiecesAreTheText, PiecesAreUnique, PiecesExist}
@@ -66,45 +67,42 @@ first_cut texts dialect text piece rest all others h e q = grind (arith, some_pi
 
 -- if the stream holds a text that is one piece and was given a part up to its first newline, a piece that it gives leaves
 -- nothing of these, and is the first of all
-pub first_given : PiecesExist → PiecesAreUnique → (lines : Lines) (dialect : Dialect) (limit : ℕ) (text part : List ℕ) (at : ℕ) (stream after : HeldWithin)
-    (result : Result (Bor (List ℕ)) PieceTooLong) (rest : List ℕ) → stream.held.dialect ≡ dialect → stream.limit ≡ limit
-    → IsLastPiece dialect text → rest ≡ drop (at + 1) part → take (at + 1) part ≡ take at part ++ newline ∷ [] → All (λ b. b ≢ newline) (take at part)
-    → GivesOf stream (text ++ take (at + 1) part) (Some result) after
-    → Holds after [] × Given lines dialect limit (text ++ part) result rest
-first_given exist unique lines dialect limit text part at stream after result rest same bound is_last others ends none gives =
+pub first_given : PiecesExist → PiecesAreUnique → (s : Settings) (text part : List ℕ) (at : ℕ) (stream after : HeldWithin)
+    (result : Result (Bor (List ℕ)) PieceTooLong) (rest : List ℕ) → stream.held.dialect ≡ (rules_of s.dialect) → stream.limit ≡ s.limit
+    → IsLastPiece (rules_of s.dialect) text → rest ≡ drop (at + 1) part → take (at + 1) part ≡ take at part ++ newline ∷ [] → All (λ b. b ≢ newline) (take at part)
+    → GivesOf stream (text ++ take (at + 1) part) (Some result) after → Holds after [] × Given s (text ++ part) result rest
+first_given exist unique s text part at stream after result rest same bound is_last others ends none gives =
     let front = take (at + 1) part in
-    let one = given_piece lines dialect limit stream after (text ++ front) result same bound gives in
-    let left : one.0 ≡ [] = nothing_left exist unique dialect text (take at part) one.2.piece one.0 is_last
+    let one = given_piece s stream after (text ++ front) result same bound gives in
+    let left : one.0 ≡ [] = nothing_left exist unique (rules_of s.dialect) text (take at part) one.2.piece one.0 is_last
     (recursion_from_All (λ b. b ≢ newline) (take at part) none)
     (ap (λ (l : List ℕ). text ++ l) (sym ends) ∙ one.2.text_is, one.2.is_cut) in
     let whole : (text ++ front) ++ rest ≡ text ++ part =
     append_assoc text front rest ∙ ap (λ (l : List ℕ). text ++ (front ++ l)) others
     ∙ ap (λ (l : List ℕ). text ++ l) (take-append-drop (at + 1) part) in (
       subst (Holds after) left one.1,
-      subst (λ (l : List ℕ). Given lines dialect limit l result rest) whole
-          (subst (λ (l : List ℕ). Given lines dialect limit ((text ++ front) ++ rest) result (l ++ rest)) left
-          (given_on lines dialect limit (text ++ front) result one.0 rest one.2)),
+      subst (λ (l : List ℕ). Given s l result rest) whole
+          (subst (λ (l : List ℕ). Given s ((text ++ front) ++ rest) result (l ++ rest)) left
+          (given_on s (text ++ front) result one.0 rest one.2)),
     )
 
 -- no piece was taken of a text and of a part, of which the stream was given a front
-pub begun_none : (lines : Lines) (dialect : Dialect) (limit : Option ℕ) (text part : List ℕ) (given : ℕ) (after : HeldWithin) (old : Made)
-    (a e : Option (List ℕ)) → Holds after (text ++ take given part) → RelaysBegun lines dialect limit text part given after old old a a e e
-begun_none lines dialect limit text part given after old a e holds = grind (arith, take-append-drop, append_assoc, to_none)
+pub begun_none : (s : Settings) (text part : List ℕ) (given : ℕ) (after : HeldWithin) (old : Made)
+    (a e : Option (List ℕ)) → Holds after (text ++ take given part) → RelaysBegun s text part given after old old a a e e
+begun_none s text part given after old a e holds = grind (arith, take-append-drop, append_assoc, to_none)
 
 -- the line that the stream began was taken, and then lines of the rest of the part
-pub begun_then : (lines : Lines) (dialect : Dialect) (limit : Option ℕ) (text part rest : List ℕ) (end taken : ℕ) (after : HeldWithin)
+pub begun_then : (s : Settings) (text part rest : List ℕ) (end taken : ℕ) (after : HeldWithin)
     (old now new : Made) (a b c e f g : Option (List ℕ)) → rest ≡ drop end part → Holds after []
-    → RelaysTo lines dialect limit (text ++ part) rest old now a b e f → RelaysTo lines dialect limit rest (drop taken rest) now new b c f g
-    → RelaysBegun lines dialect limit text part (end + taken) after old new a c e g
-begun_then lines dialect limit text part rest end taken after old now new a b c e f g others holds first next = grind (arith, drop-drop, to_then)
+    → RelaysTo s (text ++ part) rest old now a b e f → RelaysTo s rest (drop taken rest) now new b c f g
+    → RelaysBegun s text part (end + taken) after old new a c e g
+begun_then s text part rest end taken after old now new a b c e f g others holds first next = grind (arith, drop-drop, to_then)
 
 -- the first of the pieces of a text that is not all of it is cut off bytes that begin with the text
 cuts_in : PiecesExist → PiecesAreTheText → (dialect : Dialect) (before after : Option (List ℕ)) (piece rest bytes : List ℕ)
-    → after ≡ Some rest
-    → ((others : List (List ℕ)) → PiecesLeft (record { dialect = dialect; text = after }) others
+    → after ≡ Some rest → ((others : List (List ℕ)) → PiecesLeft (record { dialect = dialect; text = after }) others
     → PiecesLeft (record { dialect = dialect; text = before }) (piece ∷ others))
-    → IfSome before (λ text. (t : List ℕ) × (bytes ≡ text ++ t))
-    → (t : List ℕ) × CutsTo dialect bytes piece (rest ++ t)
+    → IfSome before (λ text. (t : List ℕ) × (bytes ≡ text ++ t)) → (t : List ℕ) × CutsTo dialect bytes piece (rest ++ t)
 cuts_in exist texts dialect None None piece rest bytes is gives begins = absurd (cc)
 cuts_in exist texts dialect (Some text) None piece rest bytes is gives begins = absurd (cc)
 cuts_in exist texts dialect None (Some r) piece rest bytes is gives begins =
@@ -121,8 +119,7 @@ cuts_in exist texts dialect (Some text) (Some r) piece rest bytes is gives begin
 -- what a splitter gave that has a rest is cut off bytes that begin with its text
 splitter_cuts : PiecesExist → PiecesAreTheText → (dialect : Dialect) (before after : Left) (piece : Bor (List ℕ)) (rest bytes : List ℕ)
     → before.dialect ≡ dialect → after.text ≡ Some rest → GivesPiece before (Some piece) after
-    → IfSome before.text (λ text. (t : List ℕ) × (bytes ≡ text ++ t))
-    → (t : List ℕ) × CutsTo dialect bytes piece.now (rest ++ t)
+    → IfSome before.text (λ text. (t : List ℕ) × (bytes ≡ text ++ t)) → (t : List ℕ) × CutsTo dialect bytes piece.now (rest ++ t)
 splitter_cuts exist texts dialect before after piece rest bytes same is gives begins =
     cuts_in exist texts dialect before.text after.text piece.now rest bytes is
     (λ others left.
@@ -156,25 +153,25 @@ begins_with (Some l) bytes lines is front =
     )
 
 -- a line that a splitter gave of the bytes from a place on, and what is left after it
-pub record LineGiven (lines : Lines) (dialect : Dialect) (limit : ℕ) (after : Option (List ℕ)) (piece : Bor (List ℕ)) (bytes : List ℕ) (taken : ℕ)
+pub record LineGiven (s : Settings) (after : Option (List ℕ)) (piece : Bor (List ℕ)) (bytes : List ℕ) (taken : ℕ)
     : Type 0 where
-  pub given : Given lines dialect limit (drop taken bytes) (Ok piece) (drop (taken + (length piece.now + 1)) bytes)
+  pub given : Given s (drop taken bytes) (Ok piece) (drop (taken + (length piece.now + 1)) bytes)
   pub within : taken + (length piece.now + 1) ≤ length bytes
   pub left : IfSome after (λ text. (t : List ℕ) × (drop (taken + (length piece.now + 1)) bytes ≡ text ++ t))
 
 -- so is each one that is not the last and not too long
-pub line_given : PiecesExist → PiecesAreTheText → (lines : Lines) (dialect : Dialect) (limit : ℕ) (before after : Left) (piece : Bor (List ℕ))
-    (rest : Option (Bor (List ℕ))) (bytes : List ℕ) (taken : ℕ) → before.dialect ≡ dialect → taken ≤ length bytes
+pub line_given : PiecesExist → PiecesAreTheText → (s : Settings) (before after : Left) (piece : Bor (List ℕ))
+    (rest : Option (Bor (List ℕ))) (bytes : List ℕ) (taken : ℕ) → before.dialect ≡ (rules_of s.dialect) → taken ≤ length bytes
     → IfSome before.text (λ text. (t : List ℕ) × (drop taken bytes ≡ text ++ t)) → GivesPiece before (Some piece) after
-    → is_some rest ≡ true → option_map (λ r. r.now) rest ≡ after.text → length piece.now ≤ limit
-    → LineGiven lines dialect limit after.text piece bytes taken
-line_given exist texts lines dialect limit before after piece rest bytes taken same within begins gives there is short =
+    → is_some rest ≡ true → option_map (λ r. r.now) rest ≡ after.text → length piece.now ≤ s.limit
+    → LineGiven s after.text piece bytes taken
+line_given exist texts s before after piece rest bytes taken same within begins gives there is short =
     let r = some_rest rest after.text there is in
-    let cuts = splitter_cuts exist texts dialect before after piece r.0 (drop taken bytes) same r.1 gives begins in
+    let cuts = splitter_cuts exist texts (rules_of s.dialect) before after piece r.0 (drop taken bytes) same r.1 gives begins in
     let next = left_after bytes piece.now (r.0 ++ cuts.0) taken within cuts.1.0 in
     record {
-      given = subst (λ (l : List ℕ). Given lines dialect limit (drop taken bytes) (Ok piece) l) (sym next.0)
-          (given_short lines dialect limit (drop taken bytes) piece (r.0 ++ cuts.0) short cuts.1);
+      given = subst (λ (l : List ℕ). Given s (drop taken bytes) (Ok piece) l) (sym next.0)
+          (given_short s (drop taken bytes) piece (r.0 ++ cuts.0) short cuts.1);
       within = next.1;
       left = subst
           (λ (o : Option (List ℕ)). IfSome o (λ text. (t : List ℕ) × (drop (taken + (length piece.now + 1)) bytes ≡ text ++ t)))

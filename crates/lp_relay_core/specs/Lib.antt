@@ -4,4 +4,5 @@ pub mod LineFaults
 pub mod Relaying
 pub mod RelaySteps
 pub mod Relays
+pub mod Told
 pub mod Verdicts

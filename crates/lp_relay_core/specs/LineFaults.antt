@@ -1,12 +1,12 @@
 -- The fault lines of a relay that name lines of its input.
-use Rattle.std.specs.Prelude.{ℕ, ◌+◌, List, [], ◌∷◌, ◌++◌, codes, Option, if◌then◌else◌}
+use Rattle.std.specs.Prelude.{ℕ, ◌+◌, List, [], ◌∷◌, ◌++◌, codes, if◌then◌else◌}
 use Rattle.std.specs.List.{flat_map}
-use Rattle.influxdb_line_protocol.specs.format.Dialects.{Dialect}
 use Rattle.influxdb_line_protocol.specs.format.Bytes.{newlines_in}
 use Rattle.lp_rebuild.specs.Rebuilding.{refusal_text}
 use Rattle.lp_rebuild.specs.RebuildSteps.{fault_line_on}
 use Rattle.lp_relay_core.specs.Relaying.{Item, answered, as_it_came, not_utf8, too_long, is_carried_item, items_of_piece}
-use Rattle.lp_relay_core.specs.declared.taking.Lines.{Lines}
+use Rattle.lp_relay_core.specs.declared.taking.Settings.{Settings}
+use Rattle.lp_relay_core.specs.Told.{told}
 
 -- what is wrong with an item that is not carried
 abbrev pub item_text : Item → List ℕ
@@ -20,9 +20,8 @@ abbrev pub line_fault : ℕ → Item → List ℕ
 line_fault line item = if is_carried_item item then [] else fault_line_on line (item_text item)
 
 -- the fault lines of the items of pieces that are not carried, where the first piece begins on this line: each newline, within
--- a piece or at its end, begins a line
-abbrev pub line_faults : Lines → Dialect → Option ℕ → ℕ → List (List ℕ) → List ℕ
-line_faults lines dialect limit line [] = []
-line_faults lines dialect limit line (piece ∷ pieces) =
-    flat_map (line_fault line) (items_of_piece lines dialect limit piece)
-    ++ line_faults lines dialect limit (line + newlines_in piece + 1) pieces
+-- a piece or at its end, begins a line. They are told as the settings say
+abbrev pub line_faults : Settings → ℕ → List (List ℕ) → List ℕ
+line_faults s line [] = []
+line_faults s line (piece ∷ pieces) =
+    flat_map (λ item. told s.faults (line_fault line item)) (items_of_piece s piece) ++ line_faults s (line + newlines_in piece + 1) pieces

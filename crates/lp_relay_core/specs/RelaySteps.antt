@@ -9,10 +9,14 @@ use Rattle.influxdb_line_protocol.specs.format.Pieces.{IsLastPiece}
 use Rattle.influxdb_line_protocol.specs.types.PieceTooLong.{PieceTooLong}
 use Rattle.influxdb_line_protocol.specs.code.Bounded.{HeldWithin, Holds}
 use Rattle.influxdb_line_protocol.specs.laws.StreamLaws.{Run}
+use Rattle.influxdb_line_protocol.specs.code.Rules.{rules_of}
 use Rattle.lp_rebuild.specs.declared.batch.Progress.{Progress}
 use Rattle.lp_relay_core.specs.declared.taking.Lines.{Lines}
 use Rattle.lp_relay_core.specs.declared.taking.Numbering.{Numbering}
 use Rattle.lp_relay_core.specs.declared.taking.Numbering.TheVariants as named
+use Rattle.lp_relay_core.specs.declared.taking.Settings.{Settings}
+use Rattle.lp_relay_core.specs.declared.telling.Faults.{Faults}
+use Rattle.lp_relay_core.specs.Told.{told}
 use Rattle.lp_rebuild.specs.declared.program.RunFault.{RunFault}
 use Rattle.lp_rebuild.specs.declared.program.RunFault.TheVariants.{Read, NotUtf8, OutOfMemory, Write}
 use Rattle.lp_rebuild.specs.RebuildSteps.{fault_line_at}
@@ -55,13 +59,13 @@ items_before named.Items first = first - 1
 items_before named.Lines first = 0
 
 -- before the first item
-abbrev pub made_of_none : Numbering → ℕ → Made
-made_of_none numbering first = record {
+abbrev pub made_of_none : Settings → Made
+made_of_none s = record {
   batch = [];
   faults = [];
-  carried = items_before numbering first;
+  carried = items_before s.numbering s.first;
   refused = 0;
-  line = first_line numbering first;
+  line = first_line s.numbering s.first;
 }
 
 -- what a relay has made so far
@@ -93,31 +97,31 @@ line_past line [] = line
 line_past line (piece ∷ pieces) = line_past (line_after line (newlines_in piece)) pieces
 
 -- the fault lines of items of one piece that are not carried, at this line, where the first item has this number
-abbrev pub faults_at : Option ℕ → ℕ → List Item → List ℕ
-faults_at line number [] = []
-faults_at line number (item ∷ items) =
-    (if is_carried_item item then [] else fault_line_at line number (item_text item)) ++ faults_at line (number + 1) items
+abbrev pub faults_at : Faults → Option ℕ → ℕ → List Item → List ℕ
+faults_at form line number [] = []
+faults_at form line number (item ∷ items) =
+    told form (if is_carried_item item then [] else fault_line_at line number (item_text item)) ++ faults_at form line (number + 1) items
 
 -- the fault lines of the items of pieces that are not carried, where the first piece is at this line, and the first item has
 -- this number
-abbrev pub faults_from : Lines → Dialect → Option ℕ → Option ℕ → ℕ → List (List ℕ) → List ℕ
-faults_from lines dialect limit line number [] = []
-faults_from lines dialect limit line number (piece ∷ pieces) =
-    faults_at line number (items_of_piece lines dialect limit piece)
-    ++ faults_from lines dialect limit (line_after line (newlines_in piece)) (number + length (items_of_piece lines dialect limit piece)) pieces
+abbrev pub faults_from : Settings → Option ℕ → ℕ → List (List ℕ) → List ℕ
+faults_from s line number [] = []
+faults_from s line number (piece ∷ pieces) =
+    faults_at s.faults line number (items_of_piece s piece)
+    ++ faults_from s (line_after line (newlines_in piece)) (number + length (items_of_piece s piece)) pieces
 
 -- the fault lines of the items of the next piece, after what was made
-abbrev pub faults_next : Made → List Item → List ℕ
-faults_next old items = faults_at old.line (old.carried + old.refused + 1) items
+abbrev pub faults_next : Faults → Made → List Item → List ℕ
+faults_next form old items = faults_at form old.line (old.carried + old.refused + 1) items
 
 -- the fault lines of the next pieces
-abbrev pub faults_past : Lines → Dialect → Option ℕ → Made → List (List ℕ) → List ℕ
-faults_past lines dialect limit old pieces = faults_from lines dialect limit old.line (old.carried + old.refused + 1) pieces
+abbrev pub faults_past : Settings → Made → List (List ℕ) → List ℕ
+faults_past s old pieces = faults_from s old.line (old.carried + old.refused + 1) pieces
 
--- these items of one piece were taken
-pub record TakesItems (old : Made) (items : List Item) (new : Made) : Type 0 where
+-- these items of one piece were taken, and their fault lines are told so
+pub record TakesItems (form : Faults) (old : Made) (items : List Item) (new : Made) : Type 0 where
   pub batch : new.batch ≡ old.batch ++ items_batch items
-  pub faults : new.faults ≡ old.faults ++ faults_next old items
+  pub faults : new.faults ≡ old.faults ++ faults_next form old items
   pub carried : new.carried ≡ old.carried + carried_items items
   pub refused : new.refused ≡ old.refused + refused_items items
 
@@ -142,41 +146,41 @@ pub record RelaysPart (old : Made) (out out_after err err_after : Option (List �
   pub faults : Passes err err_after old.faults fault_lines faults_left
 
 -- pieces of a text were taken up to this rest, and their lines were written, or are held
-pub record RelaysTo (lines : Lines) (dialect : Dialect) (limit : Option ℕ) (text rest : List ℕ) (old new : Made)
+pub record RelaysTo (s : Settings) (text rest : List ℕ) (old new : Made)
     (out out_after err err_after : Option (List ℕ)) : Type 0 where
   pub pieces : List (List ℕ)
-  pub taken : TakesPieces dialect text pieces rest
+  pub taken : TakesPieces (rules_of s.dialect) text pieces rest
   pub line : new.line ≡ line_past old.line pieces
-  pub relays : RelaysItems old new out out_after err err_after (items_of lines dialect limit pieces) (faults_past lines dialect limit old pieces)
+  pub relays : RelaysItems old new out out_after err err_after (items_of s pieces) (faults_past s old pieces)
 
 -- so they were up to a rest that the stream holds
-pub record RelaysPieces (lines : Lines) (dialect : Dialect) (limit : Option ℕ) (text : List ℕ) (after : HeldWithin) (old new : Made)
+pub record RelaysPieces (s : Settings) (text : List ℕ) (after : HeldWithin) (old new : Made)
     (out out_after err err_after : Option (List ℕ)) : Type 0 where
   pub rest : List ℕ
   pub holds : Holds after rest
-  pub to : RelaysTo lines dialect limit text rest old new out out_after err err_after
+  pub to : RelaysTo s text rest old new out out_after err err_after
 
 -- so were all that a newline ends
-abbrev pub RelaysAllPieces : Lines → Dialect → Option ℕ → (text : List ℕ) → (after : HeldWithin) → (old new : Made)
+abbrev pub RelaysAllPieces : Settings → (text : List ℕ) → (after : HeldWithin) → (old new : Made)
     → (out out_after err err_after : Option (List ℕ)) → Type 0
-RelaysAllPieces lines dialect limit text after old new out out_after err err_after =
-    (relays : RelaysPieces lines dialect limit text after old new out out_after err err_after) × IsLastPiece dialect relays.rest
+RelaysAllPieces s text after old new out out_after err err_after =
+    (relays : RelaysPieces s text after old new out out_after err err_after) × IsLastPiece (rules_of s.dialect) relays.rest
 
 -- pieces of a text and of a part after it were taken up to a rest: the stream holds the start of it, and so many bytes of the
 -- part come before the end
-pub record RelaysBegun (lines : Lines) (dialect : Dialect) (limit : Option ℕ) (text part : List ℕ) (given : ℕ) (after : HeldWithin) (old new : Made)
+pub record RelaysBegun (s : Settings) (text part : List ℕ) (given : ℕ) (after : HeldWithin) (old new : Made)
     (out out_after err err_after : Option (List ℕ)) : Type 0 where
   pub held : List ℕ
   pub holds : Holds after held
-  pub to : RelaysTo lines dialect limit (text ++ part) (held ++ drop given part) old new out out_after err err_after
+  pub to : RelaysTo s (text ++ part) (held ++ drop given part) old new out out_after err err_after
 
 -- pieces of a text were taken, and a beginning of their lines was written
-pub record RelaysSome (lines : Lines) (dialect : Dialect) (limit : Option ℕ) (text : List ℕ) (old : Made)
+pub record RelaysSome (s : Settings) (text : List ℕ) (old : Made)
     (out out_after err err_after : Option (List ℕ)) : Type 0 where
   pub pieces : List (List ℕ)
   pub rest : List ℕ
-  pub taken : TakesPieces dialect text pieces rest
-  pub part : RelaysPart old out out_after err err_after (items_of lines dialect limit pieces) (faults_past lines dialect limit old pieces)
+  pub taken : TakesPieces (rules_of s.dialect) text pieces rest
+  pub part : RelaysPart old out out_after err err_after (items_of s pieces) (faults_past s old pieces)
 
 -- `Write` adds one failure to the count of one writer, and nothing else changes a count; no other fault but `OutOfMemory` comes
 abbrev pub CountsWriteFault : {T : Type 0} → Result T RunFault → (out out_after err err_after : ℕ) → Type 0

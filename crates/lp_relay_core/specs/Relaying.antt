@@ -11,8 +11,12 @@ use Rattle.influxdb_line_protocol.specs.format.Points.{built_all}
 use Rattle.influxdb_line_protocol.specs.format.Lines.{Line}
 use Rattle.influxdb_line_protocol.specs.format.Items.{answers_of_piece}
 use Rattle.lp_rebuild.specs.Rebuilding.{carried_point, fault_line, fault_of, is_carried_answer}
+use Rattle.influxdb_line_protocol.specs.code.Rules.{rules_of}
 use Rattle.lp_relay_core.specs.declared.taking.Lines.{Lines}
 use Rattle.lp_relay_core.specs.declared.taking.Lines.TheVariants.{Rebuilt, Verbatim}
+use Rattle.lp_relay_core.specs.declared.taking.Settings.{Settings}
+use Rattle.lp_relay_core.specs.declared.telling.Faults.{Faults}
+use Rattle.lp_relay_core.specs.Told.{told}
 
 -- an item: an answer; a piece that holds a line and goes out as it came; or a piece that has no answer, since it is not UTF-8 or
 -- is too long
@@ -45,12 +49,13 @@ unfoldable pub items_of_bytes : Lines → Dialect → List ℕ → List Item
 items_of_bytes lines dialect piece = if is_utf8 piece then map (item_of lines piece) (answers_of_piece dialect piece) else not_utf8 ∷ []
 
 -- the items of a piece: if it is too long, one item without an answer, whatever its bytes are
-unfoldable pub items_of_piece : Lines → Dialect → Option ℕ → List ℕ → List Item
-items_of_piece lines dialect limit piece = if is_too_long limit piece then too_long ∷ [] else items_of_bytes lines dialect piece
+unfoldable pub items_of_piece : Settings → List ℕ → List Item
+items_of_piece s piece =
+    if is_too_long (limit_of s.limit) piece then too_long ∷ [] else items_of_bytes s.lines (rules_of s.dialect) piece
 
 -- the items of pieces, in order
-abbrev pub items_of : Lines → Dialect → Option ℕ → List (List ℕ) → List Item
-items_of lines dialect limit pieces = flat_map (items_of_piece lines dialect limit) pieces
+abbrev pub items_of : Settings → List (List ℕ) → List Item
+items_of s pieces = flat_map (items_of_piece s) pieces
 
 -- whether an item is carried
 abbrev pub is_carried_item : Item → Bool
@@ -77,10 +82,10 @@ item_fault number (as_it_came piece) = []
 item_fault number not_utf8 = fault_line number (codes "the line is not UTF-8")
 item_fault number too_long = fault_line number (codes "the line is too long")
 
--- the fault lines of the items that are not carried, where the first item has this number
-abbrev pub item_faults : ℕ → List Item → List ℕ
-item_faults number [] = []
-item_faults number (item ∷ items) = item_fault number item ++ item_faults (number + 1) items
+-- the fault lines of the items that are not carried, as they are told, where the first item has this number
+abbrev pub item_faults : Faults → ℕ → List Item → List ℕ
+item_faults form number [] = []
+item_faults form number (item ∷ items) = told form (item_fault number item) ++ item_faults form (number + 1) items
 
 -- how many items are carried
 abbrev pub carried_items : List Item → ℕ

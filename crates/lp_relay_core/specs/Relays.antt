@@ -6,56 +6,58 @@ use Rattle.std.specs.Str.{IsUtf8}
 use Rattle.std.specs.Io.KnownBytes.{Appends}
 use Rattle.influxdb_line_protocol.specs.format.Dialects.{Dialect}
 use Rattle.influxdb_line_protocol.specs.format.Pieces.{Pieces}
+use Rattle.influxdb_line_protocol.specs.code.Rules.{rules_of}
 use Rattle.lp_rebuild.specs.declared.program.RunFault.{RunFault}
 use Rattle.lp_rebuild.specs.declared.program.RunFault.TheVariants.{Read, NotUtf8, Write}
 use Rattle.lp_relay_core.specs.declared.relaying.Relayed.{Relayed}
 use Rattle.lp_rebuild.specs.declared.batch.Rebuilt.{Rebuilt}
 use Rattle.lp_rebuild.specs.Rebuilding.{RebuildsIn}
 use Rattle.lp_rebuild.specs.Running.{AppendsFront, ReaderTold, WriterTold}
-use Rattle.lp_relay_core.specs.Relaying.{first_of, items_of, items_batch, item_faults, carried_items, refused_items}
+use Rattle.lp_relay_core.specs.Relaying.{first_of, limit_of, items_of, items_batch, item_faults, carried_items, refused_items}
 use Rattle.lp_relay_core.specs.LineFaults.{line_faults}
-use Rattle.lp_relay_core.specs.declared.taking.Lines.{Lines}
 use Rattle.lp_relay_core.specs.declared.taking.Lines.TheVariants as going
 use Rattle.lp_relay_core.specs.declared.taking.Numbering.{Numbering}
 use Rattle.lp_relay_core.specs.declared.taking.Numbering.TheVariants as named
+use Rattle.lp_relay_core.specs.declared.taking.Settings.{Settings}
+use Rattle.lp_relay_core.specs.declared.telling.Faults.TheVariants.{Raw}
 
 -- the fault lines of the items of pieces that are not carried, by what they name, from this number on
-abbrev pub named_faults : Numbering → ℕ → Lines → Dialect → Option ℕ → List (List ℕ) → List ℕ
-named_faults named.Items first lines dialect limit pieces = item_faults (first_of first) (items_of lines dialect limit pieces)
-named_faults named.Lines first lines dialect limit pieces = line_faults lines dialect limit (first_of first) pieces
+abbrev pub named_faults : Numbering → Settings → List (List ℕ) → List ℕ
+named_faults named.Items s pieces = item_faults s.faults (first_of s.first) (items_of s pieces)
+named_faults named.Lines s pieces = line_faults s (first_of s.first) pieces
 
 -- the first writer gained the batch of the items of these bytes and the second one their faults, and these are their counts
-pub record RelaysAll (lines : Lines) (dialect : Dialect) (limit : Option ℕ) (numbering : Numbering) (first : ℕ) (bytes : List ℕ) (counts : Relayed)
+pub record RelaysAll (s : Settings) (bytes : List ℕ) (counts : Relayed)
     (out out_after err err_after : Option (List ℕ)) : Type 0 where
   pub pieces : List (List ℕ)
-  pub are : Pieces dialect bytes pieces
-  pub batch : Appends out out_after (items_batch (items_of lines dialect limit pieces))
-  pub faults : Appends err err_after (named_faults numbering first lines dialect limit pieces)
-  pub carried : counts.carried ≡ carried_items (items_of lines dialect limit pieces)
-  pub refused : counts.refused ≡ refused_items (items_of lines dialect limit pieces)
+  pub are : Pieces (rules_of s.dialect) bytes pieces
+  pub batch : Appends out out_after (items_batch (items_of s pieces))
+  pub faults : Appends err err_after (named_faults s.numbering s pieces)
+  pub carried : counts.carried ≡ carried_items (items_of s pieces)
+  pub refused : counts.refused ≡ refused_items (items_of s pieces)
 
 -- the first writer gained a front of the batch of the items of these bytes, and the second one a front of their faults
-pub record RelaysFronts (lines : Lines) (dialect : Dialect) (limit : Option ℕ) (numbering : Numbering) (first : ℕ) (bytes : List ℕ)
+pub record RelaysFronts (s : Settings) (bytes : List ℕ)
     (out out_after err err_after : Option (List ℕ)) : Type 0 where
   pub pieces : List (List ℕ)
-  pub are : Pieces dialect bytes pieces
-  pub batch : AppendsFront out out_after (items_batch (items_of lines dialect limit pieces))
-  pub faults : AppendsFront err err_after (named_faults numbering first lines dialect limit pieces)
+  pub are : Pieces (rules_of s.dialect) bytes pieces
+  pub batch : AppendsFront out out_after (items_batch (items_of s pieces))
+  pub faults : AppendsFront err err_after (named_faults s.numbering s pieces)
 
--- the first writer gained the batch of a rebuild, and these are its counts; if fault lines name items from 1 on, the second writer
--- gained its faults
-pub record RelaysRebuilt (numbering : Numbering) (first : ℕ) (r : Rebuilt) (counts : Relayed) (out out_after err err_after : Option (List ℕ))
+-- the first writer gained the batch of a rebuild, and these are its counts; if fault lines name items from 1 on, and are told as
+-- they are, the second writer gained its faults
+pub record RelaysRebuilt (s : Settings) (r : Rebuilt) (counts : Relayed) (out out_after err err_after : Option (List ℕ))
     : Type 0 where
   pub batch : Appends out out_after r.batch.items
-  pub faults : numbering ≡ named.Items → first_of first ≡ 1 → Appends err err_after r.faults.items
+  pub faults : s.numbering ≡ named.Items → first_of s.first ≡ 1 → s.faults ≡ Raw → Appends err err_after r.faults.items
   pub carried : counts.carried ≡ r.carried
   pub refused : counts.refused ≡ r.refused
 
--- the first writer gained a front of the batch of a rebuild, and if fault lines name items from 1 on, the second one a front of its
--- faults
-abbrev pub RelaysRebuiltFronts : Numbering → ℕ → Rebuilt → (out out_after err err_after : Option (List ℕ)) → Type 0
-RelaysRebuiltFronts numbering first r out out_after err err_after =
-    AppendsFront out out_after r.batch.items × (numbering ≡ named.Items → first_of first ≡ 1 → AppendsFront err err_after r.faults.items)
+-- the first writer gained a front of the batch of a rebuild, and if fault lines name items from 1 on, and are told as they are, the
+-- second one a front of its faults
+abbrev pub RelaysRebuiltFronts : Settings → Rebuilt → (out out_after err err_after : Option (List ℕ)) → Type 0
+RelaysRebuiltFronts s r out out_after err err_after =
+    AppendsFront out out_after r.batch.items × (s.numbering ≡ named.Items → first_of s.first ≡ 1 → s.faults ≡ Raw → AppendsFront err err_after r.faults.items)
 
 -- no piece of a text has more bytes than this
 abbrev pub HasShortPieces : Dialect → ℕ → List ℕ → Type 0
@@ -67,26 +69,24 @@ IfRebuilt dialect None text P = IsUtf8 text → (r : Rebuilt) → RebuildsIn dia
 IfRebuilt dialect (Some limit) text P =
     IsUtf8 text → HasShortPieces dialect limit text → (r : Rebuilt) → RebuildsIn dialect text r → P r
 
--- a relay whose lines are written again or go out as they came, by the rules of a dialect, whose pieces have a greatest length or
--- none, and whose fault lines name items, or lines of its input, from this number on: what it answers, and what it leaves in its reader and in its two
--- writers
-pub record Relays (lines : Lines) (dialect : Dialect) (limit : Option ℕ) (numbering : Numbering) (first : ℕ) (result : Result Relayed RunFault)
+-- a relay by its settings: what it answers, and what it leaves in its reader and in its two writers
+pub record Relays (s : Settings) (result : Result Relayed RunFault)
     (reader reader_after : ReaderTold) (out out_after err err_after : WriterTold) : Type 0 where
   -- all was read, and the items of it were written
   pub all : IfOk result (λ counts. IfSome reader.bytes (λ bs.
-      (reader_after.bytes ≡ Some []) × RelaysAll lines dialect limit numbering first bs counts out.bytes out_after.bytes err.bytes err_after.bytes))
+      (reader_after.bytes ≡ Some []) × RelaysAll s bs counts out.bytes out_after.bytes err.bytes err_after.bytes))
   -- all that was written to each writer was flushed
   pub flushed : OnOk result ((out_after.is_flushed ≡ true) × (err_after.is_flushed ≡ true))
   -- after a fault, each writer has a front of what was meant for it
   pub part : OnErr result (IfSome reader.bytes (λ bs.
-      RelaysFronts lines dialect limit numbering first bs out.bytes out_after.bytes err.bytes err_after.bytes))
+      RelaysFronts s bs out.bytes out_after.bytes err.bytes err_after.bytes))
   -- if lines are written again, all that was read is UTF-8, and none of it too long, that is what a rebuild of it gives, but for
-  -- fault lines that name lines, or items from another number than 1 on
-  pub rebuilt : lines ≡ going.Rebuilt → IfOk result (λ counts. IfSome reader.bytes (λ bs.
-      IfRebuilt dialect limit bs (λ r. RelaysRebuilt numbering first r counts out.bytes out_after.bytes err.bytes err_after.bytes)))
+  -- fault lines that name lines, or items from another number than 1 on, or are told on one line
+  pub rebuilt : s.lines ≡ going.Rebuilt → IfOk result (λ counts. IfSome reader.bytes (λ bs.
+      IfRebuilt (rules_of s.dialect) (limit_of s.limit) bs (λ r. RelaysRebuilt s r counts out.bytes out_after.bytes err.bytes err_after.bytes)))
   -- after a fault, a front of that
-  pub rebuilt_part : lines ≡ going.Rebuilt → OnErr result (IfSome reader.bytes (λ bs.
-      IfRebuilt dialect limit bs (λ r. RelaysRebuiltFronts numbering first r out.bytes out_after.bytes err.bytes err_after.bytes)))
+  pub rebuilt_part : s.lines ≡ going.Rebuilt → OnErr result (IfSome reader.bytes (λ bs.
+      IfRebuilt (rules_of s.dialect) (limit_of s.limit) bs (λ r. RelaysRebuiltFronts s r out.bytes out_after.bytes err.bytes err_after.bytes)))
   -- `Read` is answered exactly if the reader failed
   pub read : (result ≡ Err Read) ↔ (reader.failures < reader_after.failures)
   -- `Write` is answered exactly if a writer failed

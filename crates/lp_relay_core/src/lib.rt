@@ -2,7 +2,7 @@
 //! or rebuilt apart.
 //!
 //! [`relay`] holds a line of its input and a block. By its [`Settings`] it passes over lines that are too long, lets lines out as
-//! they came, and its faults name lines of the input. [`part_ends`] gives the ends of the parts of a text.
+//! they came, and its faults name lines of the input, or are told on one line each. [`part_ends`] gives the ends of the parts of a text.
 //!
 //! It takes each item as `lp_rebuild` does. It is a crate of its own, since the program `lp_rebuild` needs none of it.
 #![tactic(auto)]
@@ -10,8 +10,10 @@
 mod cuts;
 mod relaying;
 mod taking;
+mod telling;
 mod verdict;
 
 pub use cuts::part_ends;
 pub use relaying::{Relayed, relay};
 pub use taking::{Lines, Numbering, Settings};
+pub use telling::Faults;

@@ -110,13 +110,13 @@ fn relay_pieces<W: Sink, E: Sink>(
     requires few { HoldsLess BLOCK so_far.old }
     ensures rules { OnOk result (KeepsRules stream.old stream.new) }
     ensures ok { OnOk result ((text : List ℕ) → Holds stream.old text
-        → RelaysAllPieces settings.lines (rules_of settings.dialect) (limit_of settings.limit) text stream.new
+        → RelaysAllPieces settings text stream.new
         (made so_far.old) (made so_far.new)
         (W.bytes out.old) (W.bytes out.new) (E.bytes err.old) (E.bytes err.new)) }
     ensures held { OnOk result (HoldsLess BLOCK so_far.new) }
     ensures fits { OnOk result (so_far.new.carried + so_far.new.refused ≤ usize.MAX) }
     ensures part { OnErr result ((text : List ℕ) → Holds stream.old text
-        → RelaysSome settings.lines (rules_of settings.dialect) (limit_of settings.limit) text (made so_far.old)
+        → RelaysSome settings text (made so_far.old)
         (W.bytes out.old) (W.bytes out.new) (E.bytes err.old) (E.bytes err.new)) }
     ensures counts { CountsWriteFault result
         (W.failures out.old) (W.failures out.new) (E.failures err.old) (E.failures err.new) }
@@ -152,12 +152,12 @@ fn relay_lines<W: Sink, E: Sink>(
     requires fits { progress.old.carried + progress.old.refused ≤ usize.MAX }
     requires few { HoldsLess BLOCK progress.old }
     ensures within { IfOk result (λ taken. taken ≤ length bytes.now) }
-    ensures ok { IfOk result (λ taken. RelaysTo settings.lines (rules_of settings.dialect) (limit_of settings.limit) bytes.now (drop taken bytes.now)
+    ensures ok { IfOk result (λ taken. RelaysTo settings bytes.now (drop taken bytes.now)
         (made progress.old) (made progress.new)
         (W.bytes out.old) (W.bytes out.new) (E.bytes err.old) (E.bytes err.new)) }
     ensures held { OnOk result (HoldsLess BLOCK progress.new) }
     ensures fits { OnOk result (progress.new.carried + progress.new.refused ≤ usize.MAX) }
-    ensures part { OnErr result (RelaysSome settings.lines (rules_of settings.dialect) (limit_of settings.limit) bytes.now (made progress.old)
+    ensures part { OnErr result (RelaysSome settings bytes.now (made progress.old)
         (W.bytes out.old) (W.bytes out.new) (E.bytes err.old) (E.bytes err.new)) }
     ensures counts { CountsWriteFault result
         (W.failures out.old) (W.failures out.new) (E.failures err.old) (E.failures err.new) }
@@ -207,12 +207,12 @@ fn relay_begun<W: Sink, E: Sink>(
     ensures within { IfOk result (λ given. given ≤ length part.now) }
     ensures rules { OnOk result (KeepsRules stream.old stream.new) }
     ensures ok { IfOk result (λ given. (text : List ℕ) → Holds stream.old text → IsLastPiece (rules_of settings.dialect) text
-        → RelaysBegun settings.lines (rules_of settings.dialect) (limit_of settings.limit) text part.now given stream.new
+        → RelaysBegun settings text part.now given stream.new
         (made so_far.old) (made so_far.new) (W.bytes out.old) (W.bytes out.new) (E.bytes err.old) (E.bytes err.new)) }
     ensures held { OnOk result (HoldsLess BLOCK so_far.new) }
     ensures fits { OnOk result (so_far.new.carried + so_far.new.refused ≤ usize.MAX) }
     ensures part { OnErr result ((text : List ℕ) → Holds stream.old text → IsLastPiece (rules_of settings.dialect) text
-        → RelaysSome settings.lines (rules_of settings.dialect) (limit_of settings.limit) (text ++ part.now) (made so_far.old)
+        → RelaysSome settings (text ++ part.now) (made so_far.old)
         (W.bytes out.old) (W.bytes out.new) (E.bytes err.old) (E.bytes err.new)) }
     ensures counts { CountsWriteFault result
         (W.failures out.old) (W.failures out.new) (E.failures err.old) (E.failures err.new) }
@@ -254,13 +254,13 @@ fn relay_part<W: Sink, E: Sink>(
     requires block { length part.now ≤ BLOCK }
     ensures rules { OnOk result (KeepsRules stream.old stream.new) }
     ensures ok { OnOk result ((text : List ℕ) → Holds stream.old text → IsLastPiece (rules_of settings.dialect) text
-        → RelaysAllPieces settings.lines (rules_of settings.dialect) (limit_of settings.limit) (text ++ part.now) stream.new
+        → RelaysAllPieces settings (text ++ part.now) stream.new
         (made so_far.old) (made so_far.new)
         (W.bytes out.old) (W.bytes out.new) (E.bytes err.old) (E.bytes err.new)) }
     ensures none { OnOk result (HoldsNone so_far.new) }
     ensures fits { OnOk result (so_far.new.carried + so_far.new.refused ≤ usize.MAX) }
     ensures part { OnErr result ((text : List ℕ) → Holds stream.old text → IsLastPiece (rules_of settings.dialect) text
-        → RelaysSome settings.lines (rules_of settings.dialect) (limit_of settings.limit) (text ++ part.now) (made so_far.old)
+        → RelaysSome settings (text ++ part.now) (made so_far.old)
         (W.bytes out.old) (W.bytes out.new) (E.bytes err.old) (E.bytes err.new)) }
     ensures counts { CountsWriteFault result
         (W.failures out.old) (W.failures out.new) (E.failures err.old) (E.failures err.new) }
@@ -291,14 +291,14 @@ fn finish<W: Sink, E: Sink>(
     ensures ok { OnOk result ((text : List ℕ) → Holds stream.old text → IsLastPiece (rules_of settings.dialect) text
         → RelaysItems (made so_far.old) (made so_far.new)
         (W.bytes out.old) (W.bytes out.new) (E.bytes err.old) (E.bytes err.new)
-        (items_of_piece settings.lines (rules_of settings.dialect) (limit_of settings.limit) text)
-        (faults_next (made so_far.old) (items_of_piece settings.lines (rules_of settings.dialect) (limit_of settings.limit) text))) }
+        (items_of_piece settings text)
+        (faults_next settings.faults (made so_far.old) (items_of_piece settings text))) }
     ensures none { OnOk result (HoldsNone so_far.new) }
     ensures part { OnErr result ((text : List ℕ) → Holds stream.old text → IsLastPiece (rules_of settings.dialect) text
         → RelaysPart (made so_far.old)
         (W.bytes out.old) (W.bytes out.new) (E.bytes err.old) (E.bytes err.new)
-        (items_of_piece settings.lines (rules_of settings.dialect) (limit_of settings.limit) text)
-        (faults_next (made so_far.old) (items_of_piece settings.lines (rules_of settings.dialect) (limit_of settings.limit) text))) }
+        (items_of_piece settings text)
+        (faults_next settings.faults (made so_far.old) (items_of_piece settings text))) }
     ensures counts { CountsWriteFault result
         (W.failures out.old) (W.failures out.new) (E.failures err.old) (E.failures err.new) }
     ensures flushed { OnOk result ((W.is_flushed out.new ≡ true) × (E.is_flushed err.new ≡ true)) }
@@ -340,7 +340,7 @@ pub fn relay<R: Source, W: Sink, E: Sink>(
     out: &mut W,
     err: &mut E,
 ) -> Result<Relayed, RunFault>
-    ensures { Relays settings.lines (rules_of settings.dialect) (limit_of settings.limit) settings.numbering settings.first result
+    ensures { Relays settings result
         (reader_told R.bytes R.failures reader.old) (reader_told R.bytes R.failures reader.new)
         (writer_told W.bytes W.failures W.is_flushed out.old) (writer_told W.bytes W.failures W.is_flushed out.new)
         (writer_told E.bytes E.failures E.is_flushed err.old) (writer_told E.bytes E.failures E.is_flushed err.new) }

@@ -6,6 +6,7 @@ ghost use Rattle.lp_relay_core.specs.Relaying.{as_it_came, items_of_bytes};
 ghost use Rattle.lp_relay_core.specs.RelaySteps.{HoldsLess, TakesItems, items_before, items_given, made, made_of_none};
 ghost use Rattle.lp_relay_core.specs.RelaySteps.{newlines_given, line_after};
 
+use crate::telling::{Faults, tell};
 use crate::verdict::is_line;
 use influxdb_line_protocol::{
     Dialect, EscapedStr, FieldSet, ParsedLine, PieceTooLong, Series, TagSet,
@@ -38,7 +39,7 @@ pub enum Numbering {
 }
 
 /// How a relay reads lines and puts them out, and what its fault lines name: by default, it reads them by the rules of the crate,
-/// however long they are, writes them again, and names items from 1 on.
+/// however long they are, writes them again, and names items from 1 on, in fault lines as they are.
 #[derive(Clone, Copy, Debug, PartialEq, Eq)]
 pub struct Settings {
     /// The dialect whose rules hold.
@@ -53,6 +54,8 @@ pub struct Settings {
     /// The number of the first item, or of the first line, that fault lines name: 2,001 if the input comes after 2,000 others. 0 is
     /// taken as 1.
     pub first: usize,
+    /// How fault lines are told.
+    pub faults: Faults,
 }
 
 impl Default for Settings {
@@ -63,6 +66,7 @@ impl Default for Settings {
           numbering = Numbering.Items;
           lines = Lines.Rebuilt;
           first = 1;
+          faults = Faults.Raw;
         } }
     {
         Settings {
@@ -71,6 +75,7 @@ impl Default for Settings {
             numbering: Numbering::Items,
             lines: Lines::Rebuilt,
             first: 1,
+            faults: Faults::Raw,
         }
     }
 }
@@ -93,7 +98,7 @@ pub(crate) fn items_before(settings: Settings) -> usize
 
 // Before the first item. It takes no memory.
 pub(crate) fn nothing_made(alloc: Global, settings: Settings) -> Progress
-    ensures made { made result ≡ made_of_none settings.numbering settings.first }
+    ensures made { made result ≡ made_of_none settings }
     ensures fits { result.carried + result.refused ≤ usize.MAX }
 {
     Progress {
@@ -111,7 +116,7 @@ pub(crate) fn nothing_made(alloc: Global, settings: Settings) -> Progress
 // Takes a piece that holds a line as it came.
 fn take_as_it_came(so_far: &mut Progress, piece: &str) -> Result<(), AllocError>
     requires { so_far.old.carried + so_far.old.refused < usize.MAX }
-    ensures taken { OnOk result (TakesItems (made so_far.old) (as_it_came piece.now ∷ []) (made so_far.new)) }
+    ensures taken { OnOk result (TakesItems Faults.Raw (made so_far.old) (as_it_came piece.now ∷ []) (made so_far.new)) }
     ensures counted { OnOk result
         (so_far.new.carried + so_far.new.refused ≡ so_far.old.carried + so_far.old.refused + 1) }
 {
@@ -134,7 +139,7 @@ fn take_verbatim<'a>(
 ) -> Result<(), AllocError>
     requires { so_far.old.carried + so_far.old.refused < usize.MAX }
     ensures taken { OnOk result
-        (TakesItems (made so_far.old) (items_of_bytes Lines.Verbatim (rules_of dialect) piece.now) (made so_far.new)) }
+        (TakesItems Faults.Raw (made so_far.old) (items_of_bytes Lines.Verbatim (rules_of dialect) piece.now) (made so_far.new)) }
     ensures counted { OnOk result
         (so_far.new.carried + so_far.new.refused ≤ so_far.old.carried + so_far.old.refused + 1) }
 {
@@ -161,7 +166,7 @@ fn take_text<'a>(
 ) -> Result<(), AllocError>
     requires { so_far.old.carried + so_far.old.refused < usize.MAX }
     ensures taken { OnOk result
-        (TakesItems (made so_far.old) (items_of_bytes settings.lines (rules_of settings.dialect) piece.now) (made so_far.new)) }
+        (TakesItems Faults.Raw (made so_far.old) (items_of_bytes settings.lines (rules_of settings.dialect) piece.now) (made so_far.new)) }
     ensures counted { OnOk result
         (so_far.new.carried + so_far.new.refused ≤ so_far.old.carried + so_far.old.refused + 1) }
 {
@@ -181,7 +186,7 @@ fn take_alone(
 ) -> Result<(), AllocError>
     requires { so_far.old.carried + so_far.old.refused < usize.MAX }
     ensures taken { OnOk result
-        (TakesItems (made so_far.old) (items_of_bytes settings.lines (rules_of settings.dialect) piece.now) (made so_far.new)) }
+        (TakesItems Faults.Raw (made so_far.old) (items_of_bytes settings.lines (rules_of settings.dialect) piece.now) (made so_far.new)) }
     ensures counted { OnOk result
         (so_far.new.carried + so_far.new.refused ≤ so_far.old.carried + so_far.old.refused + 1) }
 {
@@ -224,7 +229,7 @@ fn take_given(
 ) -> Result<(), AllocError>
     requires room { so_far.old.carried + so_far.old.refused < usize.MAX }
     ensures taken { OnOk result
-        (TakesItems (made so_far.old) (items_given settings.lines (rules_of settings.dialect) piece.entry) (made so_far.new)) }
+        (TakesItems Faults.Raw (made so_far.old) (items_given settings.lines (rules_of settings.dialect) piece.entry) (made so_far.new)) }
     ensures counted { OnOk result
         (so_far.new.carried + so_far.new.refused ≤ so_far.old.carried + so_far.old.refused + 1) }
 {
@@ -287,12 +292,14 @@ pub(crate) fn take_piece(
     requires fits { so_far.old.carried + so_far.old.refused ≤ usize.MAX }
     requires few { HoldsLess BLOCK so_far.old }
     ensures taken { OnOk result
-        (TakesItems (made so_far.old) (items_given settings.lines (rules_of settings.dialect) piece.entry) (made so_far.new)) }
+        (TakesItems settings.faults (made so_far.old) (items_given settings.lines (rules_of settings.dialect) piece.entry) (made so_far.new)) }
     ensures line { OnOk result (so_far.new.line ≡ line_after so_far.old.line (newlines_given piece.entry)) }
     ensures fits { OnOk result (so_far.new.carried + so_far.new.refused ≤ usize.MAX) }
 {
     let next = line_after(so_far, piece)?;
+    let told = so_far.faults.len();
     take_given(alloc, settings, so_far, piece)?;
+    tell(settings.faults, so_far, told)?;
     so_far.line = next;
     Ok(())
 }
@@ -310,12 +317,14 @@ pub(crate) fn take_text_piece<'a>(
     requires fits { so_far.old.carried + so_far.old.refused ≤ usize.MAX }
     requires few { HoldsLess BLOCK so_far.old }
     ensures taken { OnOk result
-        (TakesItems (made so_far.old) (items_of_bytes settings.lines (rules_of settings.dialect) piece.now) (made so_far.new)) }
+        (TakesItems settings.faults (made so_far.old) (items_of_bytes settings.lines (rules_of settings.dialect) piece.now) (made so_far.new)) }
     ensures line { OnOk result (so_far.new.line ≡ line_after so_far.old.line (newlines_in piece.now)) }
     ensures fits { OnOk result (so_far.new.carried + so_far.new.refused ≤ usize.MAX) }
 {
     let next = line_after(so_far, Ok(piece.as_bytes()))?;
+    let told = so_far.faults.len();
     take_text(alloc, settings, so_far, piece, line, spare)?;
+    tell(settings.faults, so_far, told)?;
     so_far.line = next;
     Ok(())
 }

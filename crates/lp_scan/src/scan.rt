@@ -52,25 +52,17 @@ pub fn escapes_next(backslashes: u64) -> usize
     (bare(backslashes, backslashes) >> (WIDE - 1)) as usize
 }
 
-/// The lowest `n` bits.
-#[inline(always)]
-#[tactic(auto, using(crate::proofs::lemmas::scan::MaskBits::below_is))]
-pub fn lowest(mask: u64, n: usize) -> u64
-    requires { n ≤ WIDE }
-    ensures { result ≡ mask % 2 ^ n }
-{
-    if n < WIDE {
-        mask & ((1 << n) - 1)
-    } else {
-        mask
-    }
-}
-
 /// How many of the lowest `n` bits are set.
 #[inline(always)]
+#[tactic(auto, using(crate::proofs::lemmas::scan::MaskBits::below_is))]
 pub fn ones_below(mask: u64, n: usize) -> usize
     requires { n ≤ WIDE }
     ensures { result ≡ count_ones (mask % 2 ^ n) }
 {
-    lowest(mask, n).count_ones() as usize
+    let below = if n < WIDE {
+        mask & ((1 << n) - 1)
+    } else {
+        mask
+    };
+    below.count_ones() as usize
 }

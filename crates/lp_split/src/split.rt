@@ -1,13 +1,13 @@
 //! The pieces of a text.
 
-ghost use Rattle.std.specs.Prelude.{◌≡◌, ◌≢◌, ◌+◌, ◌/◌, ◌^◌, ◌<◌, ◌≤◌, ◌==◌, ◌||◌, length, take, drop, option_map, slice_index, IfSome};
-ghost use Rattle.std.specs.Prelude.{MatchOption, true, false, All, count_by};
+ghost use Rattle.std.specs.Prelude.{◌≡◌, ◌≢◌, ◌+◌, ◌/◌, ◌^◌, ◌<◌, ◌≤◌, ◌==◌, ◌||◌, ℕ, length, take, drop, option_map, slice_index, IfSome};
+ghost use Rattle.std.specs.Prelude.{MatchOption, true, false, All};
 ghost use Rattle.std.specs.Iterator.{at_most};
-ghost use Rattle.lp_format.specs.format.{backslash, newline, quote, IsBareAfter, begins_comment, IsFirstCut, GivesPiece, most_pieces};
+ghost use Rattle.lp_format.specs.format.{backslash, newline, quote, IsBareAfter, begins_comment, IsFirstCut, GivesPiece, most_pieces, newlines_in};
 ghost use Rattle.lp_format.specs.format.{Crate};
 ghost use Rattle.memchr.specs.Find.{IsFirstByte, is_byte3};
 ghost use Rattle.lp_scan.specs.code.{mask_of};
-ghost use Rattle.lp_split.specs.code.{IsAhead, AreSeen, is_stop, is_mark, EndsAt, IsBarePassed, IsStretch, rules_of};
+ghost use Rattle.lp_split.specs.code.{IsAhead, AreSeen, is_stop, IsBarePassed, EndsIn, Quoted, FindsCut, rules_of};
 
 use lp_scan::lanes::first_set;
 use lp_scan::scan::{WIDE, bare, escapes_next, ones_below, places_of};
@@ -18,7 +18,7 @@ use std::simd::prelude::*;
 mod resumed;
 mod tracked;
 
-use resumed::cut_from;
+use resumed::{Part, cut_after};
 pub(crate) use resumed::{Search, search_on};
 pub(crate) use tracked::{Track, track_on};
 
@@ -39,28 +39,16 @@ pub enum Dialect {
 
 // The bytes that end a stretch, of which both may be the same.
 #[derive(Clone, Copy)]
-struct Stops {
-    first: u8,
-    second: u8,
-}
+struct Stops(u8, u8);
 
 // What ends a head.
-const HEAD: Stops = Stops {
-    first: b' ',
-    second: b'\n',
-};
+const HEAD: Stops = Stops(b' ', b'\n');
 
 // What ends a plain stretch.
-const PLAIN: Stops = Stops {
-    first: b'\n',
-    second: b'"',
-};
+const PLAIN: Stops = Stops(b'\n', b'"');
 
 // What ends a quoted stretch.
-const QUOTED: Stops = Stops {
-    first: b'"',
-    second: b'"',
-};
+const QUOTED: Stops = Stops(b'"', b'"');
 
 // The mask of those of the 64 bytes from `at` on that end a stretch.
 #[inline(always)]
@@ -69,7 +57,7 @@ fn stops_in(stops: Stops, text: &[u8], at: usize) -> u64
     ensures { result ≡ mask_of (is_stop stops) text.now at WIDE }
 {
     let v = u8x64::from_slice(&text[at..]);
-    (v.simd_eq(u8x64::splat(stops.first)) | v.simd_eq(u8x64::splat(stops.second))).to_bitmask()
+    (v.simd_eq(u8x64::splat(stops.0)) | v.simd_eq(u8x64::splat(stops.1))).to_bitmask()
 }
 
 // How many of the 64 bytes from `at` on come before the first bare one that ends a stretch; if
@@ -94,12 +82,12 @@ fn stop_in(stops: Stops, text: &[u8], at: usize, backslashes: u64) -> usize
 // in a head, `memchr2` for the backslash and the quote in a quoted stretch.
 #[inline(always)]
 fn next_mark(stops: Stops, text: &[u8]) -> Option<usize>
-    ensures { IsFirstByte (is_mark stops) text.now result }
+    ensures { IsFirstByte (is_byte3 backslash stops.0 stops.1) text.now result }
 {
-    if stops.first == stops.second {
-        return memchr2(b'\\', stops.first, text);
+    if stops.0 == stops.1 {
+        return memchr2(b'\\', stops.0, text);
     }
-    memchr3(b'\\', stops.first, stops.second, text)
+    memchr3(b'\\', stops.0, stops.1, text)
 }
 
 // How many bytes come before the first bare one that ends a stretch; if there is none all of them, but for a bare backslash
@@ -107,8 +95,7 @@ fn next_mark(stops: Stops, text: &[u8]) -> Option<usize>
 #[inline(always)]
 fn bare_len(stops: Stops, text: &[u8]) -> usize
     requires { is_stop stops backslash ≡ false }
-    ensures passed { IsBarePassed (is_stop stops) text.now result }
-    ensures ends { result < length text.now → EndsAt (is_stop stops) text.now result }
+    ensures { IsBarePassed (is_stop stops) text.now result }
 {
     let (mut at, mut quiet) = (0, 0);
     loop {
@@ -133,19 +120,6 @@ fn bare_len(stops: Stops, text: &[u8]) -> usize
         at += 2;
         quiet = 0;
     }
-}
-
-// How many bytes come before the first bare one that ends a stretch, or all of them.
-#[inline(always)]
-fn stretch_len(stops: Stops, text: &[u8]) -> usize
-    requires { is_stop stops backslash ≡ false }
-    ensures { IsStretch (is_stop stops) text.now 0 result }
-{
-    let len = bare_len(stops, text);
-    if len + 1 == text.len() && text[len] == b'\\' {
-        return text.len();
-    }
-    len
 }
 
 // What a load showed of the bytes from a place on: the masks of the bare newlines and quotes, of the bare `=` and of the bare
@@ -207,14 +181,17 @@ fn seen_past(ahead: Ahead, run: usize) -> Ahead
     }
 }
 
-// Where a quoted stretch ends that begins at a place: at the first bare quote, or with the text; and what was seen after it.
+// A bare place up to which a quoted stretch goes that begins at another: that of its first bare quote, if it has any; and what
+// was seen after it.
 #[inline(always)]
 fn quoted_end(text: &[u8], at: usize, ahead: Ahead) -> (usize, Ahead)
     requires within { at ≤ length text.now }
     requires is_bare { IsBareAfter (take at text.now) }
     requires seen { IsAhead text.now at ahead }
-    ensures end { IsStretch (λ b. b == quote) text.now at result.0 }
-    ensures later { result.0 < length text.now → IsAhead text.now (result.0 + 1) result.1 }
+    ensures ordered { (at ≤ result.0) × (result.0 ≤ length text.now) }
+    ensures bare { IsBareAfter (take result.0 text.now) }
+    ensures stays { (e c : ℕ) → EndsIn Quoted e c (take at text.now) → EndsIn Quoted e c (take result.0 text.now) }
+    ensures later { result.0 < length text.now → slice_index text.now result.0 ≡ quote → IsAhead text.now (result.0 + 1) result.1 }
 {
     if ahead.stops != 0 {
         let run = ahead.stops.trailing_zeros() as usize;
@@ -222,45 +199,35 @@ fn quoted_end(text: &[u8], at: usize, ahead: Ahead) -> (usize, Ahead)
             return (at + run, seen_past(ahead, run));
         }
     }
-    let end = at + stretch_len(QUOTED, &text[at..]);
+    let end = at + bare_len(QUOTED, &text[at..]);
     (end, nothing_from(end + 1))
 }
 
-// How many bytes are this one, byte by byte.
-#[inline(always)]
-fn count_few(byte: u8, text: &[u8]) -> usize
+/// How many newlines there are.
+pub(crate) fn newlines_in(text: &[u8]) -> usize
     ensures few { result ≤ length text.now }
-    ensures value { result ≡ count_by (λ b. b == byte) text.now }
-{
-    let mut count = 0;
-    for at in 0..text.len() {
-        count += usize::from(text[at] == byte);
-    }
-    count
-}
-
-/// How many bytes are this one.
-pub(crate) fn count_of(byte: u8, text: &[u8]) -> usize
-    ensures few { result ≤ length text.now }
-    ensures value { result ≡ count_by (λ b. b == byte) text.now }
+    ensures value { result ≡ newlines_in text.now }
 {
     let (mut count, mut at) = (0, 0);
     while text.len() - at >= WIDE {
-        count += ones_below(places_of(byte, text, at), WIDE);
+        count += ones_below(places_of(b'\n', text, at), WIDE);
         at += WIDE;
     }
-    count + count_few(byte, &text[at..])
+    count + text[at..].iter().filter(|byte| **byte == b'\n').count()
 }
 
 /// The place of the newline that ends the first piece, or `None` if the text is one piece, with no regard to
-/// comments. Loads show where plain stretches end, and the last bytes of the text are tracked one by one.
+/// comments. Loads show where plain stretches end, and what comes after the last load or stretch is tracked.
+#[tactic(auto, using(crate::proofs::lemmas::split::SplitStretches::stretches))]
 #[inline(never)]
 fn cut_by_stretches(text: &[u8]) -> Option<usize>
     ensures { IsFirstCut Crate text.now result }
 {
-    let head = stretch_len(HEAD, text);
-    if *text.get(head)? == b'\n' {
-        return Some(head);
+    let head = bare_len(HEAD, text);
+    match text.get(head) {
+        Some(b' ') => {}
+        Some(b'\n') => return Some(head),
+        _ => return cut_after(text, head, Part::Head, 0, 0),
     }
     let mut at = head + 1;
     let (mut equals, mut commas, mut ahead) = (0, 0, nothing_from(at));
@@ -271,10 +238,7 @@ fn cut_by_stretches(text: &[u8]) -> Option<usize>
             equals += ones_below(ahead.equals, WIDE);
             commas += ones_below(ahead.commas, WIDE);
             if text.len() - at <= WIDE {
-                return match cut_from(text, at, Track::in_plain(equals, commas)) {
-                    Ok(cut) => Some(cut.at),
-                    Err(_) => None,
-                };
+                return cut_after(text, at, Part::Plain, equals, commas);
             }
             ahead = load_ahead(text, at);
             continue;
@@ -290,7 +254,9 @@ fn cut_by_stretches(text: &[u8]) -> Option<usize>
         ahead = seen_past(ahead, run);
         if commas < equals {
             (at, ahead) = quoted_end(text, at, ahead);
-            text.get(at)?;
+            let Some(b'"') = text.get(at) else {
+                return cut_after(text, at, Part::Quoted, equals, commas);
+            };
             at += 1;
         }
     }
@@ -388,8 +354,7 @@ fn late_cut(dialect: Dialect, text: &[u8]) -> Option<usize>
 #[inline(always)]
 pub(crate) fn first_cut(dialect: Dialect, text: &[u8], seen: u64) -> Option<Mark>
     requires { AreSeen text.now seen }
-    ensures cut { IsFirstCut (rules_of dialect) text.now (option_map (λ m. m.at) result) }
-    ensures later { IfSome result (λ m. AreSeen (drop (m.at + 1) text.now) m.later) }
+    ensures { FindsCut (rules_of dialect) text.now result }
 {
     let found = first_mark(text, seen)?;
     // Nothing before it is escaped or quoted, and it is the first newline: it ends a comment too.

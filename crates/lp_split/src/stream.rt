@@ -76,7 +76,7 @@ impl Model for LineStream {
 }
 
 impl LineStream {
-    ghost use Rattle.lp_split.specs.code.Lending.{EndsAsCut, EndsAsCutText, EndsAsTaken, EndsAsLast, EndsAsLastText};
+    ghost use Rattle.lp_split.specs.code.Lending.{EndsAsCut, EndsAsCutText, EndsAsLast, EndsAsLastText};
 
     /// A stream that holds nothing, by the rules of the crate. No memory is taken.
     pub fn new(alloc: Global) -> LineStream
@@ -118,7 +118,7 @@ impl LineStream {
     #[inline(always)]
     fn cut(&mut self) -> Option<Mark>
         ensures stays { self.new ≡ self.old }
-        ensures found { FindsCut self.old result }
+        ensures found { FindsCut self.old.dialect self.old.bytes result }
     {
         if let Search::Begins(seen) = self.known {
             if let Some(cut) = first_cut(self.dialect, &self.buffer[self.start..], seen) {
@@ -133,7 +133,7 @@ impl LineStream {
     #[inline(never)]
     fn cut_on(&mut self) -> Option<Mark>
         ensures stays { self.new ≡ self.old }
-        ensures found { FindsCut self.old result }
+        ensures found { FindsCut self.old.dialect self.old.bytes result }
     {
         match search_on(self.dialect, &self.buffer[self.start..], self.known) {
             Ok(cut) => Some(cut),
@@ -146,9 +146,9 @@ impl LineStream {
 
     // Takes the piece before the first cut.
     fn take(&mut self, cut: Mark) -> &[u8]
-        requires { FindsCut self.old (Some cut) }
+        requires { FindsCut self.old.dialect self.old.bytes (Some cut) }
         ensures len { length result.now ≡ cut.at }
-        ensures* after { sem 𝓛 (EndsAsTaken self.entry result) }
+        ensures* after { sem 𝓛 (EndsAsCut self.entry (Some result)) }
     {
         let from = self.start;
         self.start = from + cut.at + 1;

@@ -84,19 +84,6 @@ fn unsigned<'a>(text: &'a str, whole: usize) -> Front<'a, SpelledValue<'a>>
     }
 }
 
-// The longest float at the start of `text`, and the rest, where an integer takes `whole` bytes.
-#[inline(always)]
-fn float<'a>(text: &'a str, whole: usize) -> Front<'a, SpelledValue<'a>>
-    requires { whole ≡ integer_len text.now }
-    ensures value { GivesSpelled spelled_value result (float_at text.now) }
-    ensures less { IfOk result (λ o. IfSome o (λ p. length p.1.now < length text.now)) }
-{
-    let Some((value, rest)) = FloatText::front(text, whole) else {
-        return Ok(None);
-    };
-    Ok(Some((SpelledValue::F64(value), rest)))
-}
-
 // A number at the start of `text`, by the byte after its integer, and the rest.
 #[inline(always)]
 fn number<'a>(text: &'a str) -> Front<'a, SpelledValue<'a>>
@@ -114,7 +101,10 @@ fn number<'a>(text: &'a str) -> Front<'a, SpelledValue<'a>>
     if has_byte_at(bytes, whole, b'u') && !has_byte_at(bytes, 0, b'-') {
         return unsigned(text, whole);
     }
-    float(text, whole)
+    let Some((value, rest)) = FloatText::front(text, whole) else {
+        return Ok(None);
+    };
+    Ok(Some((SpelledValue::F64(value), rest)))
 }
 
 // A text between quotes at the start of `text`, and the rest.

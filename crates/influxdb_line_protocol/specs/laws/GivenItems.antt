@@ -1,12 +1,10 @@
 -- The items that calls of `next` on a `ParseLines` give, one after another.
 use Rattle.std.specs.Prelude.{ℕ, ◌==◌, if◌then◌else◌, List, [], ◌∷◌, ◌++◌, length, Some, Result, Ok, flat_map}
 use Rattle.std.specs.Iterator.{Drains, Yields}
-use Rattle.lp_format.specs.format.{Dialect, Fault, trimmed, Left, PiecesLeft, Line, HasAnswers}
-use Rattle.lp_format.specs.format.Pieces.{Pieces}
+use Rattle.lp_format.specs.format.{Dialect, Fault, trimmed, Left, PiecesLeft, Line, HasAnswers, Pieces.Pieces}
 use Rattle.lp_values.specs.declared.error.Error.{Error}
 use Rattle.lp_lines.specs.declared.parsed.ParsedLine.{ParsedLine}
-use Rattle.lp_lines.specs.code.Parsed.{Answers, IsReadLine}
-use Rattle.lp_lines.specs.code.ParseSteps.{GivesItem, IsItemOf}
+use Rattle.lp_lines.specs.code.{Parsed.Answers, Parsed.IsReadLine, ParseSteps.GivesItem, ParseSteps.IsItemOf}
 
 -- what is left of a piece when it is trimmed, unless that is nothing
 abbrev pub trimmed_line : List ℕ → List (List ℕ)

@@ -1,7 +1,6 @@
 -- What the pieces that a stream gives are of all that was pushed.
 use Rattle.std.specs.Prelude.{◌≡◌, ℕ, List, [], ◌∷◌, ◌++◌, Some, ◌↔◌, Result, IsUtf8}
-use Rattle.lp_format.specs.format.{Dialect, newline, IsCutPiece, IsLastPiece, IsFirstCut, Fault, Line, HasAnswers}
-use Rattle.lp_format.specs.format.Pieces.{Pieces}
+use Rattle.lp_format.specs.format.{Dialect, newline, IsCutPiece, IsLastPiece, IsFirstCut, Fault, Line, HasAnswers, Pieces.Pieces}
 use Rattle.lp_split.specs.code.{Held, TakesPiece}
 
 -- The first cut of a text is the first cut of each text that begins with it.

@@ -1,9 +1,7 @@
 -- What the calls of the builder write.
 use Rattle.std.specs.Prelude.{◌≡◌, ◌≢◌, ℕ, ◌+◌, ◌^◌, ◌<◌, ◌≤◌, ◌↔◌, List, ◌++◌, length, Result, IfOk, IfErr, IsOk, MatchResult}
-use Rattle.lp_build.specs.declared.builder.buffer.NoRoom.{NoRoom}
-use Rattle.lp_build.specs.declared.builder.buffer.NoRoom.TheVariants.{TooLong}
 use Rattle.lp_build.specs.declared.builder.LineProtocolBuilder.{LineProtocolBuilder}
-use Rattle.lp_build.specs.declared.builder.Refused.{Refused}
+use Rattle.lp_build.specs.declared.{builder.buffer.NoRoom.NoRoom, builder.buffer.NoRoom.TheVariants.TooLong, builder.Refused.Refused}
 use Rattle.lp_format.specs.format.Escapes.{escaped}
 
 -- the buffer that a builder writes to

@@ -1,17 +1,14 @@
 -- The texts that the builder writes for the parts of a parsed line.
 use Rattle.std.specs.Prelude.{ℕ, List, [], ◌∷◌, ◌++◌, map, flat_map}
 use Rattle.std.specs.List.{AllByRecursion}
-use Rattle.lp_values.specs.declared.escaped.EscapedStr.{EscapedStr}
-use Rattle.lp_values.specs.declared.values.FieldValue.{FieldValue}
+use Rattle.lp_values.specs.declared.{escaped.EscapedStr.EscapedStr, values.FieldValue.FieldValue, values.FieldValue.TheVariants.String}
 use Rattle.lp_build.specs.declared.builder.lines.Parts.{Parts}
 use Rattle.lp_format.specs.format.{newline, space, a_measurement, a_tag_key, a_tag_value, a_field_key, escapable, quotable, Tag, Field}
 use Rattle.lp_format.specs.format.{spelling, built_tag, built_value, built_fields, built_timestamp, logical_tag, logical_field}
 use Rattle.lp_format.specs.format.{logical_value}
-use Rattle.lp_values.specs.declared.values.FieldValue.TheVariants.{String}
-use Rattle.lp_values.specs.code.Texts.{text_of}
+use Rattle.lp_values.specs.code.{Texts.text_of, ReadValues.value_of}
 use Rattle.lp_build.specs.code.Built.{IsPlainText}
 use Rattle.lp_lines.specs.code.Parsed.{tag_of, field_of}
-use Rattle.lp_values.specs.code.ReadValues.{value_of}
 
 -- the text of a value
 abbrev pub value_text : FieldValue → List ℕ

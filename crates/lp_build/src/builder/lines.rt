@@ -10,10 +10,9 @@ ghost use Rattle.lp_lines.specs.code.Parsed.{parsed_point};
 ghost use Rattle.lp_values.specs.code.Texts.{literal_of, text_of};
 ghost use Rattle.lp_build.specs.code.WrittenAgain.{ArePlainParts, IsPlainField, IsPlainTag, IsPlainValue, fields_text, parts_text};
 ghost use Rattle.lp_build.specs.code.WrittenAgain.{point_field, point_tag, tag_text, value_text};
-ghost use Rattle.lp_build.specs.code.Marks.{listed};
 ghost use Rattle.lp_build.specs.code.Built.{Writes, buffer_of};
 
-use super::marks::{Marks, is_free_of};
+use super::marks::is_free_of;
 use super::texts::{Extent, measure, put_escaped};
 use super::values::put_string;
 use super::{
@@ -41,18 +40,12 @@ impl FieldValue for FloatText<'_> {
 
 // The bytes that a name of this kind may not hold.
 #[inline(always)]
-fn never_in(kind: NameKind) -> Marks
-    ensures { (b : ℕ) → is_one_of (listed result) b ≡ is_one_of (never_in (kind_of kind)) b }
+fn never_in(kind: NameKind) -> [u8; 4]
+    ensures { (b : ℕ) → is_one_of result b ≡ is_one_of (never_in (kind_of kind)) b }
 {
-    let [first, second, third, fourth] = match kind {
+    match kind {
         NameKind::Measurement => *b"\t\n\0\0",
         _ => *b"\t\n\n\n",
-    };
-    Marks {
-        first,
-        second,
-        third,
-        fourth,
     }
 }
 

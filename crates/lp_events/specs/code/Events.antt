@@ -2,9 +2,7 @@
 use Rattle.std.specs.Prelude.{◌≡◌, ◌⊎◌, ◌++◌, ℕ, ℤ, List, [], ◌∷◌, map, length, Option, Some, None, Result, Ok, Err}
 use Rattle.std.specs.Borrow.{Bor}
 use Rattle.lp_format.specs.format.{Dialect, HasAnswers, Line, some_tags, Pair, Fault, Read, Reading, Text, miss, fatal, reads, Value}
-use Rattle.lp_values.specs.declared.spelled.Spelled.{Spelled}
-use Rattle.lp_values.specs.declared.spelled.SpelledFault.{SpelledFault}
-use Rattle.lp_values.specs.declared.spelled.SpelledValue.{SpelledValue}
+use Rattle.lp_values.specs.declared.{spelled.Spelled.Spelled, spelled.SpelledFault.SpelledFault, spelled.SpelledValue.SpelledValue}
 use Rattle.lp_values.specs.code.SpelledParts.{spelled_fault, spelled_text, spelled_value}
 
 -- what is told of a line: its measurement, a tag, a field, that it ends, with the text of its series and its timestamp, or its fault

@@ -8,11 +8,10 @@ use Rattle.lp_values.specs.code.SpelledParts.{spelled_fault, spelled_text}
 use Rattle.lp_values.specs.declared.spelled.SpelledFault.{SpelledFault}
 use Rattle.lp_events.specs.code.Events.{AreEventsOf, AreEventsOfAll, Event, ended, failed, front_events, named, spelled_field, spelled_tag}
 use Rattle.lp_events.specs.code.Events.{tagged, valued}
-use Rattle.lp_events.specs.declared.place.Place.{Place}
-use Rattle.lp_events.specs.declared.place.Place.TheVariants.{Between, Names, Fields}
-use Rattle.lp_events.specs.declared.pull.Event as given
 use Rattle.lp_events.specs.declared.pull.Event.TheVariants.{Measurement, Tag, Field, End, Fault}
-use Rattle.lp_events.specs.declared.pull.ParseEvents.{ParseEvents}
+use Rattle.lp_events.specs.declared.{place.Place.Place, place.Place.TheVariants.Between, place.Place.TheVariants.Names}
+use Rattle.lp_events.specs.declared.{place.Place.TheVariants.Fields, pull.ParseEvents.ParseEvents}
+use Rattle.lp_events.specs.declared.pull.Event as given
 
 -- an event that was given, as a sink is told of it
 abbrev pub told : given.Event → Event

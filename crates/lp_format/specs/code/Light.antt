@@ -1,18 +1,17 @@
 -- Which lines are answered without memory.
 use Rattle.std.specs.Prelude.{ℕ, zero, suc, ◌&&◌, Bool, true, false, not, List, length, drop, Result, Ok, Err, nat_le}
 use Rattle.std.specs.List.{list_all}
-use Rattle.lp_format.specs.format.{Dialect, backslash, comma, space, is_one_of, Text, Fault, measurement_value_invalid, field_set_missing}
-use Rattle.lp_format.specs.format.{ends_with_backslash, tag_set_malformed, take_while1, Read, Reading, reads, a_measurement, name, Value}
+use Rattle.lp_format.specs.format.{Dialect, backslash, comma, space, is_one_of, Text, Fault, integer_value_invalid, uinteger_value_invalid}
+use Rattle.lp_format.specs.format.{timestamp_value_invalid, cannot_parse_entire_line, Read, Reading, reads, a_measurement, name, Value}
 use Rattle.lp_format.specs.format.{string, Pair, Line, some_tags, byte, tag, field, after_comma, tag_set, spaces, answer}
 
 -- whether a fault carries no text
 abbrev pub carries_no_text : Fault → Bool
-carries_no_text measurement_value_invalid = true
-carries_no_text field_set_missing = true
-carries_no_text ends_with_backslash = true
-carries_no_text tag_set_malformed = true
-carries_no_text take_while1 = true
-carries_no_text other = false
+carries_no_text (integer_value_invalid side text) = false
+carries_no_text (uinteger_value_invalid side text) = false
+carries_no_text (timestamp_value_invalid side text) = false
+carries_no_text (cannot_parse_entire_line text) = false
+carries_no_text other = true
 
 -- whether a value holds no copy
 abbrev pub is_single_value : Value Text → Bool
@@ -42,19 +41,14 @@ abbrev pub count_after : {A : Type 0} → Reading A → (List ℕ → ℕ) → �
 count_after (reads x rest) count = count rest
 count_after other count = 0
 
--- one, and as many as are counted after it, or none if it does not read
-abbrev pub one_and_after : {A : Type 0} → Reading A → (List ℕ → ℕ) → ℕ
-one_and_after (reads x rest) count = suc (count rest)
-one_and_after other count = 0
-
 -- how many are at the start one after another, at most n, whatever follows them
 abbrev pub many_count : {A : Type 0} → (List ℕ → Reading A) → ℕ → List ℕ → ℕ
 many_count one zero line = 0
-many_count one (suc n) line = one_and_after (one line) (λ rest. many_count one n rest)
+many_count one (suc n) line = count_after (one line) (λ rest. suc (many_count one n rest))
 
 -- how many are at the start, joined by commas, whatever follows them, also a fatal one
 abbrev pub read_count : {A : Type 0} → (List ℕ → Reading A) → List ℕ → ℕ
-read_count one line = one_and_after (one line) (λ rest. many_count (after_comma one) (length rest) rest)
+read_count one line = count_after (one line) (λ rest. suc (many_count (after_comma one) (length rest) rest))
 
 -- how many tags are read: those after the measurement and a comma
 unfoldable pub tags_in : List ℕ → ℕ

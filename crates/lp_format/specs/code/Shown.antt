@@ -1,10 +1,8 @@
 -- What `{}` writes of values, series and lines. No backslash is doubled.
-use Rattle.std.specs.Prelude.{ℕ, zero, suc, ◌==◌, ℤ, List, [], ◌∷◌, ◌++◌, not, true, false, codes, decimal, Option, Some, None, filter}
-use Rattle.std.specs.Fmt.{signed_decimal}
+use Rattle.std.specs.Prelude.{ℕ, zero, suc, ◌==◌, ℤ, List, [], ◌∷◌, ◌++◌, not, Option, Some, None, filter}
 use Rattle.std.specs.List.{join_by}
-use Rattle.lp_format.specs.format.{space, comma, equals, backslash, letter_i, letter_u, escaped, NameKind, a_measurement, a_tag_key}
-use Rattle.lp_format.specs.format.{a_tag_value, a_field_key, escapable, Text, quotable, Value, integer, unsigned, float, string, boolean}
-use Rattle.lp_format.specs.format.{Pair, Line}
+use Rattle.lp_format.specs.format.{space, comma, equals, backslash, escaped, NameKind, a_measurement, a_tag_key, a_tag_value, a_field_key}
+use Rattle.lp_format.specs.format.{escapable, Text, quotable, Value, Pair, Line, written_value, built_timestamp}
 
 -- the bytes that a backslash is shown before: those that one escapes, but for the backslash
 abbrev pub shown_escapes : List ℕ → List ℕ
@@ -16,12 +14,7 @@ shown_name kind name = escaped (shown_escapes (escapable kind)) name.bytes
 
 -- a value: a string has no quotes around it
 abbrev pub shown_value : Value Text → List ℕ
-shown_value (integer z) = signed_decimal z ++ letter_i ∷ []
-shown_value (unsigned n) = decimal n ++ letter_u ∷ []
-shown_value (float text) = text
-shown_value (string text) = escaped (shown_escapes quotable) text.bytes
-shown_value (boolean true) = codes "true"
-shown_value (boolean false) = codes "false"
+shown_value v = written_value (λ text. escaped (shown_escapes quotable) text.bytes) v
 
 -- what is shown of a tag
 abbrev pub shown_tag : Pair Text Text → List ℕ
@@ -52,8 +45,7 @@ shown_fields (f ∷ fields) = space ∷ join_by shown_field (comma ∷ []) (f �
 
 -- a space and the timestamp, if there is one
 abbrev pub shown_timestamp : Option ℤ → List ℕ
-shown_timestamp None = []
-shown_timestamp (Some t) = space ∷ signed_decimal t
+shown_timestamp timestamp = built_timestamp timestamp
 
 -- a line
 abbrev pub shown_line : Line → List ℕ

@@ -97,17 +97,20 @@ many one (suc n) line = one_and_more (one line) line (λ rest. many one n rest)
 abbrev pub separated_list : {A : Type 0} → (List ℕ → Reading A) → List ℕ → Reading (List A)
 separated_list one line = one line >>= λ x. prepend (x.value ∷ []) (many (after_comma one) (length x.rest) x.rest)
 
+-- then: the next part, unless this one was at fault
+infixl 10 ◌then◌
+abbrev pub ◌then◌ : {A B : Type 0} → Result (Read A) Fault → (Read A → Result B Fault) → Result B Fault
+Ok x then f = f x
+Err e then f = Err e
+
 -- the tags after a comma: if a comma is there, a tag must follow
 abbrev pub tag_set : List ℕ → Result (Read (Option (List (Pair Text Text)))) Fault
-tag_set line = tags_after (byte comma line) line
+tag_set line = tags_after (byte comma line)
   where
-    some : Result (Read (List (Pair Text Text))) Fault → Result (Read (Option (List (Pair Text Text)))) Fault
-    some (Ok r) = Ok (record { value = Some r.value; rest = r.rest })
-    some (Err e) = Err e
-
-    tags_after : Reading ℕ → List ℕ → Result (Read (Option (List (Pair Text Text)))) Fault
-    tags_after (reads c after) whole = some (or_fault tag_set_malformed (separated_list tag after))
-    tags_after other whole = Ok (record { value = None; rest = whole })
+    tags_after : Reading ℕ → Result (Read (Option (List (Pair Text Text)))) Fault
+    tags_after (reads c after) =
+        or_fault tag_set_malformed (separated_list tag after) then λ tags. Ok (record { value = Some tags.value; rest = tags.rest })
+    tags_after other = Ok (record { value = None; rest = line })
 
 -- the comma after a first field that is the only one is taken in the dialect of the crate
 abbrev pub without_comma : Dialect → List (Pair Text (Value Text)) → List ℕ → List ℕ
@@ -132,12 +135,6 @@ timestamp line =
     else if fits_i64 (signed_digits_value 10 number)
     then Ok (record { value = Some (signed_digits_value 10 number); rest = drop (spaces rest) rest })
     else Err (timestamp_value_invalid (side_of number) number)
-
--- then: the next part, unless this one was at fault
-infixl 10 ◌then◌
-abbrev pub ◌then◌ : {A B : Type 0} → Result (Read A) Fault → (Read A → Result B Fault) → Result B Fault
-Ok x then f = f x
-Err e then f = Err e
 
 -- nothing may be left
 abbrev pub complete : Line → List ℕ → Result Line Fault

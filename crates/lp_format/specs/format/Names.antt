@@ -8,12 +8,6 @@ use Rattle.lp_format.specs.format.Readings.{Text, Reading, miss, fatal, reads, e
 pub data NameKind : Type 0 where
   a_measurement a_tag_key a_tag_value a_field_key : NameKind
 
--- the bytes that end a name if they are bare
-abbrev pub stops : NameKind → List ℕ
-stops a_measurement = space ∷ tab ∷ newline ∷ nul ∷ comma ∷ []
-stops a_tag_value = space ∷ tab ∷ newline ∷ comma ∷ []
-stops other = space ∷ tab ∷ newline ∷ equals ∷ []
-
 -- the bytes that a backslash may escape: the known escapes
 abbrev pub escapable : NameKind → List ℕ
 escapable a_measurement = comma ∷ space ∷ backslash ∷ []
@@ -21,7 +15,9 @@ escapable other = comma ∷ equals ∷ space ∷ backslash ∷ []
 
 -- whether a bare byte ends a name of this kind
 abbrev pub is_stop : NameKind → ℕ → Bool
-is_stop kind b = is_one_of (stops kind) b
+is_stop a_measurement b = is_one_of (space ∷ tab ∷ newline ∷ nul ∷ comma ∷ []) b
+is_stop a_tag_value b = is_one_of (space ∷ tab ∷ newline ∷ comma ∷ []) b
+is_stop other b = is_one_of (space ∷ tab ∷ newline ∷ equals ∷ []) b
 
 -- whether a backslash escapes the byte in a name of this kind
 abbrev pub is_escapable : NameKind → ℕ → Bool

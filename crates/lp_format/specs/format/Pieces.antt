@@ -1,6 +1,6 @@
 -- The pieces of a text.
 use Rattle.std.specs.Prelude.{◌≡◌, ◌≢◌, ℕ, ◌+◌, ◌<◌, ◌⊎◌, ◌||◌, ◌&&◌, Bool, false, IsTrue, List, [], ◌∷◌, ◌++◌, ◌==◌, length, take}
-use Rattle.std.specs.Prelude.{slice_index, Option, Some, None, All}
+use Rattle.std.specs.Prelude.{slice_index, Option, Some, None, MatchOption, All}
 use Rattle.std.specs.Borrow.{Bor}
 use Rattle.lp_format.specs.format.Dialects.{Dialect, Crate, Strict}
 use Rattle.lp_format.specs.format.Bytes.{tab, newline, space, hash}
@@ -42,13 +42,9 @@ pub record Left : Type 0 where
   pub dialect : Dialect
   pub text : Option (List ℕ)
 
-abbrev PiecesOf : Dialect → Option (List ℕ) → List (List ℕ) → Type 0
-PiecesOf dialect None pieces = pieces ≡ []
-PiecesOf dialect (Some text) pieces = Pieces dialect text pieces
-
 -- the pieces that are left
 abbrev pub PiecesLeft : Left → List (List ℕ) → Type 0
-PiecesLeft left = PiecesOf left.dialect left.text
+PiecesLeft left pieces = MatchOption left.text (pieces ≡ []) (λ text. Pieces left.dialect text pieces)
 
 -- a call gives the first of the pieces that are left and leaves the others, or `None` if none is left
 abbrev pub GivesPiece : Left → Option (Bor (List ℕ)) → Left → Type 0

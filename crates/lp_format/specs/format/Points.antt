@@ -1,6 +1,6 @@
 -- Points, which of them are admitted, and the lines that the builder writes for them.
 use Rattle.std.specs.Prelude.{ℕ, ◌<◌, ℤ, ◌≡◌, ◌==◌, ◌&&◌, ◌^◌, Bool, true, false, not, List, [], ◌∷◌, ◌++◌, length, slice_index, codes}
-use Rattle.std.specs.Prelude.{Option, Some, None, decimal, IfSome, if◌then◌else◌, flat_map}
+use Rattle.std.specs.Prelude.{Option, Some, None, decimal, IfSome, flat_map}
 use Rattle.std.specs.List.{list_all, AllByRecursion}
 use Rattle.std.specs.Fmt.{signed_decimal}
 use Rattle.lp_format.specs.format.Bytes.{nul, tab, newline, space, quote, hash, comma, equals, letter_i, letter_u, is_one_of}
@@ -73,14 +73,18 @@ is_admitted_point p = is_admitted_name a_measurement p.measurement && list_all i
 abbrev pub spelling : NameKind → List ℕ → List ℕ
 spelling kind name = escaped (escapable kind) name
 
+-- a value as it is written, if its string is written so
+abbrev pub written_value : {T : Type 0} → (T → List ℕ) → Value T → List ℕ
+written_value written (integer z) = signed_decimal z ++ letter_i ∷ []
+written_value written (unsigned n) = decimal n ++ letter_u ∷ []
+written_value written (float t) = t
+written_value written (string t) = written t
+written_value written (boolean true) = codes "true"
+written_value written (boolean false) = codes "false"
+
 -- a value as the builder spells it
 abbrev pub built_value : Value (List ℕ) → List ℕ
-built_value (integer z) = signed_decimal z ++ letter_i ∷ []
-built_value (unsigned n) = decimal n ++ letter_u ∷ []
-built_value (float t) = t
-built_value (string t) = quote ∷ escaped quotable t ++ quote ∷ []
-built_value (boolean true) = codes "true"
-built_value (boolean false) = codes "false"
+built_value v = written_value (λ t. quote ∷ escaped quotable t ++ quote ∷ []) v
 
 -- a tag with the comma before it
 abbrev pub built_tag : Tag → List ℕ
@@ -111,10 +115,6 @@ line_of p = spelling a_measurement p.measurement ++ flat_map built_tag p.tags ++
 -- what the builder writes for a point: its line and a newline
 abbrev pub built : Point → List ℕ
 built p = line_of p ++ newline ∷ []
-
--- what is written for a point whose names are all admitted, and nothing for another
-abbrev pub built_if_admitted : Point → List ℕ
-built_if_admitted p = if is_admitted_point p then built p else []
 
 -- what the builder writes for points
 abbrev pub built_all : List Point → List ℕ

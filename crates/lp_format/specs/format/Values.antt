@@ -22,14 +22,10 @@ pub data Value (T : Type 0) : Type 0 where
 abbrev pub digits_len : List ℕ → ℕ
 digits_len text = prefix_len is_ascii_digit text
 
--- how many bytes one of these signs takes at the start
-abbrev pub sign_len : List ℕ → List ℕ → ℕ
-sign_len signs text = if is_one_of signs (slice_index text 0) then 1 else 0
-
 -- how many bytes a number takes at the start, with one of these signs or none, and 0 if none is there
 abbrev pub number_len : List ℕ → List ℕ → ℕ
 number_len signs text =
-    let sign = sign_len signs text in
+    let sign = if is_one_of signs (slice_index text 0) then 1 else 0 in
     if digits_len (drop sign text) == 0 then 0 else sign + digits_len (drop sign text)
 
 -- how many bytes of the text -?D takes

@@ -12,18 +12,14 @@ pub record IsAdmittedPoint (p : Point) : Type 0 where
   pub is_point : IsPoint p
   pub names_are : is_admitted_point p ≡ true
 
--- The lines that are built for points, with any text after them, are answered first, each with its point; the
--- answers after them are those of that text alone. So it is in both dialects.
-abbrev pub BatchesReadBack : (Point → Type 0) → Type 0
-BatchesReadBack IsKind =
+-- Batches of points with admitted names read back: the lines that are built for them, with any text after them, are answered
+-- first, each with its point; the answers after them are those of that text alone. So it is in both dialects.
+abbrev pub AdmittedBatchesReadBack : Type 0
+AdmittedBatchesReadBack =
     (dialect : Dialect) (points : List Point) (t : List ℕ) (answers : List (Result Line Fault))
-    → AllByRecursion IsKind points → HasAnswers dialect t answers
+    → AllByRecursion IsAdmittedPoint points → HasAnswers dialect t answers
     → (lines : List Line) × (map point_of lines ≡ points)
     × HasAnswers dialect (built_all points ++ t) (map Ok lines ++ answers)
-
--- Batches of points with admitted names read back.
-abbrev pub AdmittedBatchesReadBack : Type 0
-AdmittedBatchesReadBack = BatchesReadBack IsAdmittedPoint
 
 -- Batches with another name do not: what is answered is not their points and then the items of the text after them.
 abbrev pub OtherBatchesDoNotReadBack : Type 0

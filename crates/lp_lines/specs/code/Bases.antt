@@ -1,15 +1,10 @@
 -- The base of a series, a text by which series can be grouped, and whether it is safe to do so.
 use Rattle.std.specs.Prelude.{◌≡◌, ℕ, ◌<◌, ◌==◌, ◌&&◌, ◌||◌, Bool, true, false, not, List, [], ◌∷◌, ◌++◌, length, take, map, slice_index_or}
-use Rattle.std.specs.Prelude.{if◌then◌else◌, Result, Ok, Err, String, string_bytes, flat_map, fold, bytes_eq}
-use Rattle.std.specs.BTreeMap.{BTreeMap, insert_entry}
-use Rattle.std.specs.Borrow.{Bor}
-use Rattle.std.specs.Cmp.Lexicographic.{slice_cmp}
-use Rattle.std.specs.List.{list_all, list_any, position_or_len, range_with_len}
-use Rattle.std.specs.Ordering.{is_lt, nat_cmp}
-use Rattle.std.specs.declared.borrow.CowStr.{CowStr}
-use Rattle.std.specs.declared.borrow.CowStr.TheVariants.{Borrowed, Owned}
-use Rattle.lp_values.specs.declared.error.Error.{Error}
-use Rattle.lp_values.specs.declared.error.Error.TheVariants.{DuplicateTag, OutOfMemory}
+use Rattle.std.specs.Prelude.{if◌then◌else◌, Result, Ok, Err, string_bytes, flat_map, fold, bytes_eq}
+use Rattle.std.specs.{BTreeMap.BTreeMap, BTreeMap.insert_entry, Borrow.Bor, Cmp.Lexicographic.slice_cmp, List.list_all, List.list_any}
+use Rattle.std.specs.{List.position_or_len, List.range_with_len, Ordering.is_lt, Ordering.nat_cmp, declared.borrow.CowStr.CowStr}
+use Rattle.std.specs.{declared.borrow.CowStr.TheVariants.Borrowed, declared.borrow.CowStr.TheVariants.Owned}
+use Rattle.lp_values.specs.declared.{error.Error.Error, error.Error.TheVariants.DuplicateTag, error.Error.TheVariants.OutOfMemory}
 use Rattle.lp_format.specs.format.{comma, equals, is_one_of, a_measurement, a_tag_key, a_tag_value, escapable, Text, Pair}
 use Rattle.lp_format.specs.code.Light.{is_single_tag}
 
@@ -82,27 +77,18 @@ is_ambiguous_tag t =
 abbrev pub is_base_safe : Text → List (Pair Text Text) → Bool
 is_base_safe measurement tags = not (is_ambiguous_name (escapable a_measurement) comma measurement.bytes || list_any is_ambiguous_tag tags)
 
--- the code fails so for this base: it is a repeated key; `OutOfMemory` may be in the place of each
-abbrev pub FailsForBase : Error → Base → Type 0
-FailsForBase (DuplicateTag key) base = base ≡ duplicate_key (string_bytes key)
-FailsForBase OutOfMemory base = Unit {0}
-FailsForBase e base = ⊥
-
--- what the code answered is this base, and borrowed exactly if that is a part of the input
+-- what the code answered is this base, and borrowed exactly if that is a part of the input; `OutOfMemory` may be in its place
 abbrev pub GivesBase : {A : Type 0} → Result (CowStr A) Error → Base → Type 0
 GivesBase (Ok (Borrowed text)) base = base ≡ borrowed text.now
 GivesBase (Ok (Owned text)) base = base ≡ owned (string_bytes text)
-GivesBase (Err e) base = FailsForBase e base
+GivesBase (Err (DuplicateTag key)) base = base ≡ duplicate_key (string_bytes key)
+GivesBase (Err OutOfMemory) base = Unit {0}
+GivesBase (Err e) base = ⊥
 
 -- whether a base is a part of the input
 abbrev pub is_borrowed : Base → Bool
 is_borrowed (borrowed text) = true
 is_borrowed base = false
-
--- the code made a text of its own
-abbrev pub GivesOwned : {A : Type 0} → Result (String A) Error → Base → Type 0
-GivesOwned (Ok text) base = base ≡ owned (string_bytes text)
-GivesOwned (Err e) base = FailsForBase e base
 
 -- the bytes of an entry
 abbrev pub entry_bytes : Bor (List ℕ) × Bor (List ℕ) → List ℕ × List ℕ

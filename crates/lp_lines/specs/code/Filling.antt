@@ -1,43 +1,25 @@
 -- What a line is filled with as its parts are told.
 use Rattle.std.specs.Prelude.{◌≡◌, ◌≤◌, ◌⊎◌, ◌++◌, ◌∷◌, ℕ, List, [], length, map, take, true, false, Option, Some, Result, Ok, Err}
 use Rattle.std.specs.Prelude.{option_map}
-use Rattle.smallvec.specs.SmallVec.{SmallVec}
 use Rattle.lp_format.specs.format.{Line, some_tags, Pair, Fault, Text, Value}
 use Rattle.lp_format.specs.code.Light.{is_single_field, is_single_line, is_single_tag}
 use Rattle.lp_values.specs.declared.spelled.SpelledFault.{SpelledFault}
-use Rattle.lp_values.specs.code.SpelledParts.{spelled_fault}
-use Rattle.lp_values.specs.declared.escaped.EscapedStr.{EscapedStr}
-use Rattle.lp_values.specs.declared.values.FieldValue.{FieldValue}
-use Rattle.lp_values.specs.code.Texts.{read_of}
-use Rattle.lp_lines.specs.declared.filling.Filling.{Filling}
-use Rattle.lp_lines.specs.declared.parsed.ParsedLine.{ParsedLine}
+use Rattle.lp_values.specs.code.{SpelledParts.spelled_fault, Texts.read_of}
+use Rattle.lp_lines.specs.declared.{filling.Filling.Filling, parsed.ParsedLine.ParsedLine}
 use Rattle.lp_events.specs.code.Events.{Event, ended, failed, named, tagged, valued}
-use Rattle.lp_lines.specs.code.Lookups.{room_of, some_items}
-use Rattle.lp_lines.specs.code.Parsed.{field_of, tag_of}
+use Rattle.lp_lines.specs.code.{Lookups.room_of, Lookups.some_items, Parsed.field_of, Parsed.tag_of}
 
--- the first tags of a set
-abbrev pub first_tags : ℕ → SmallVec (EscapedStr × EscapedStr) → List (Pair Text Text)
-first_tags count tags = map tag_of (take count tags.items)
-
--- the first fields of a set
-abbrev pub first_fields : ℕ → SmallVec (EscapedStr × FieldValue) → List (Pair Text (Value Text))
-first_fields count fields = map field_of (take count fields.items)
+-- the first elements of a set, as they are read
+abbrev pub first_read : {X Y : Type 0} → (X → Y) → ℕ → List X → List Y
+first_read read count items = map read (take count items)
 
 -- the tags of a line so far
 abbrev pub tags_so_far : Filling → List (Pair Text Text)
-tags_so_far filling = map tag_of (take filling.tag_count (some_items filling.line.now.series.tag_set))
+tags_so_far filling = first_read tag_of filling.tag_count (some_items filling.line.now.series.tag_set)
 
 -- the fields of a line so far
 abbrev pub fields_so_far : Filling → List (Pair Text (Value Text))
-fields_so_far filling = first_fields filling.field_count filling.line.now.field_set
-
--- the room of a line for tags
-abbrev pub tag_room : ParsedLine → ℕ
-tag_room line = room_of line.series.tag_set
-
--- the room of a line for fields
-abbrev pub field_room : ParsedLine → ℕ
-field_room line = line.field_set.capacity
+fields_so_far filling = first_read field_of filling.field_count filling.line.now.field_set.items
 
 -- what is in a line beside its tags
 abbrev pub beside_tags : Filling → Text × List (Pair Text (Value Text))
@@ -60,8 +42,8 @@ Puts old (failed fault) new = Unit {0}
 -- an event needs memory for a line: the part is a copy, or there is no room left
 abbrev pub NeedsRoom : Filling → Event → Type 0
 NeedsRoom old (named m) = m.is_single ≡ false
-NeedsRoom old (tagged t) = (is_single_tag t ≡ false) ⊎ (tag_room old.line.now ≤ length (tags_so_far old))
-NeedsRoom old (valued f) = (is_single_field f ≡ false) ⊎ (field_room old.line.now ≤ length (fields_so_far old))
+NeedsRoom old (tagged t) = (is_single_tag t ≡ false) ⊎ (room_of old.line.now.series.tag_set ≤ length (tags_so_far old))
+NeedsRoom old (valued f) = (is_single_field f ≡ false) ⊎ (old.line.now.field_set.capacity ≤ length (fields_so_far old))
 NeedsRoom old (ended series timestamp) = ⊥
 NeedsRoom old (failed fault) = ⊥
 
@@ -72,8 +54,8 @@ KeepsFault old event new = new ≡ old
 
 -- the rooms of a line do not shrink
 pub record KeepsRooms (old new : ParsedLine) : Type 0 where
-  pub tags : tag_room old ≤ tag_room new
-  pub fields : field_room old ≤ field_room new
+  pub tags : room_of old.series.tag_set ≤ room_of new.series.tag_set
+  pub fields : old.field_set.capacity ≤ new.field_set.capacity
 
 -- a line is filled by an event, unless memory was refused, now or before; it is refused only if the event needs some
 pub record FillsBy (old : Filling) (event : Event) (new : Filling) : Type 0 where
@@ -95,8 +77,8 @@ pub record HasRead (filling : Filling) (l : Line) : Type 0 where
 pub record FilledLine (old : Filling) (l : Line) (new : Filling) : Type 0 where
   pub fault : new.fault ≡ old.fault
   pub read : new.refused ≡ false → HasRead new l
-  pub fits : is_single_line l ≡ true → length (some_tags l.tags) ≤ tag_room old.line.now → length l.fields ≤ field_room old.line.now
-      → new.refused ≡ false
+  pub fits : is_single_line l ≡ true → length (some_tags l.tags) ≤ room_of old.line.now.series.tag_set
+      → length l.fields ≤ old.line.now.field_set.capacity → new.refused ≡ false
 
 -- the events of an answer were told: its line is filled, or its fault is kept
 abbrev pub FillsAnswer : Filling → Result Line Fault → Filling → Type 0

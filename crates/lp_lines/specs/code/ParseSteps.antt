@@ -4,10 +4,9 @@ use Rattle.lp_format.specs.format.{Dialect, Left, PiecesLeft, trimmed, answer}
 use Rattle.lp_values.specs.declared.error.Error.{Error}
 use Rattle.lp_lines.specs.declared.parsed.ParsedLine.{ParsedLine}
 use Rattle.lp_format.specs.code.Light.{is_light}
-pub use Rattle.lp_events.specs.code.LineSteps.{IsBlankPiece, GaveLine, HadBlankPieces, GivesLine, most_items}
-use Rattle.lp_lines.specs.code.Lookups.{columns}
+use Rattle.lp_lines.specs.code.{Lookups.columns, Parsed.Answers}
 use Rattle.lp_values.specs.code.Outcomes.{IsNotOutOfMemory}
-use Rattle.lp_lines.specs.code.Parsed.{Answers}
+pub use Rattle.lp_events.specs.code.LineSteps.{IsBlankPiece, GaveLine, HadBlankPieces, GivesLine, most_items}
 
 -- a line that was read has at least one tag, if it has a tag set
 abbrev pub HasNoEmptyTagSet : Result ParsedLine Error → Type 0

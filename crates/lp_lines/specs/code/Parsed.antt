@@ -2,13 +2,9 @@
 use Rattle.std.specs.Prelude.{◌≡◌, ℕ, List, map, Result, Ok, Err, option_map}
 use Rattle.smallvec.specs.SmallVec.{SmallVec}
 use Rattle.lp_format.specs.format.{Dialect, Fault, Text, Value, Pair, Point, Line, point_of, answer, trimmed}
-use Rattle.lp_values.specs.declared.error.Error.{Error}
-use Rattle.lp_values.specs.declared.escaped.EscapedStr.{EscapedStr}
-use Rattle.lp_values.specs.declared.values.FieldValue.{FieldValue}
+use Rattle.lp_values.specs.declared.{error.Error.Error, escaped.EscapedStr.EscapedStr, values.FieldValue.FieldValue}
 use Rattle.lp_lines.specs.declared.parsed.ParsedLine.{ParsedLine}
-use Rattle.lp_values.specs.code.Outcomes.{IsFault}
-use Rattle.lp_values.specs.code.Texts.{read_of}
-use Rattle.lp_values.specs.code.ReadValues.{value_of}
+use Rattle.lp_values.specs.code.{Outcomes.IsFault, Texts.read_of, ReadValues.value_of}
 
 -- a field of the code, as the definitions have it
 abbrev pub field_of : EscapedStr × FieldValue → Pair Text (Value Text)
@@ -21,10 +17,6 @@ tag_of t = record { key = read_of t.0; value = read_of t.1 }
 -- the tags of a set
 abbrev pub tags_of : SmallVec (EscapedStr × EscapedStr) → List (Pair Text Text)
 tags_of tags = map tag_of tags.items
-
--- the fields of a set
-abbrev pub fields_of : SmallVec (EscapedStr × FieldValue) → List (Pair Text (Value Text))
-fields_of fields = map field_of fields.items
 
 -- a parsed line as it was read
 abbrev pub line_read : ParsedLine → Line

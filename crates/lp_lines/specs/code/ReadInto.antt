@@ -4,8 +4,7 @@ use Rattle.lp_values.specs.declared.error.Error.{Error}
 use Rattle.lp_lines.specs.declared.parsed.ParsedLine.{ParsedLine}
 use Rattle.lp_format.specs.code.Light.{is_light_in}
 use Rattle.lp_lines.specs.code.Lookups.{room_of, some_items}
-use Rattle.lp_values.specs.code.Outcomes.{IsNotOutOfMemory}
-use Rattle.lp_values.specs.code.Texts.{text_of}
+use Rattle.lp_values.specs.code.{Outcomes.IsNotOutOfMemory, Texts.text_of}
 use Rattle.lp_events.specs.code.LineSteps.{GaveLine}
 use Rattle.lp_format.specs.format.Pieces.{Left, PiecesLeft}
 

@@ -1,7 +1,6 @@
 -- Runs of bytes that pass a test.
 use Rattle.std.specs.Prelude.{◌≡◌, ℕ, ◌+◌, ◌<◌, ◌≤◌, ◌==◌, if◌then◌else◌, Bool, true, false, List, length, map, slice_index}
-use Rattle.std.specs.Int.{w64, trailing_zeros}
-use Rattle.std.specs.Simd.Lanes.{chunk, mask_l}
+use Rattle.std.specs.{Int.w64, Int.trailing_zeros, Simd.Lanes.chunk, Simd.Lanes.mask_l}
 
 -- the bytes from one place up to another pass the test
 abbrev pub AllPassBetween : (ℕ → Bool) → List ℕ → ℕ → ℕ → Type 0

@@ -1,7 +1,6 @@
 -- Masks of the places of a text, and which of them are escaped.
 use Rattle.std.specs.Prelude.{◌≡◌, ℕ, ◌+◌, ◌≤◌, ◌==◌, if◌then◌else◌, Bool, List, length, map, take}
-use Rattle.std.specs.List.{range_with_len}
-use Rattle.std.specs.Simd.Lanes.{mask_l}
+use Rattle.std.specs.{List.range_with_len, Simd.Lanes.mask_l}
 use Rattle.lp_format.specs.format.{backslash, IsBareAfter, is_bare_at, is_escaped_after}
 use Rattle.lp_scan.specs.code.Lanes.{mask_of}
 

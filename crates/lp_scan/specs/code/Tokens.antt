@@ -1,9 +1,9 @@
 -- The kinds of token, in the words of the definitions.
 use Rattle.std.specs.Prelude.{ℕ, ◌==◌, ◌||◌, Bool, not, List}
-pub use Rattle.lp_scan.specs.declared.sets.TokenKind.{TokenKind}
-pub use Rattle.lp_scan.specs.declared.sets.TokenKind.TheVariants.{Measurement, TagKey, TagValue, FieldKey, String}
 use Rattle.lp_format.specs.format.{quote, backslash, is_one_of, a_measurement, a_tag_key, a_tag_value, a_field_key, is_stop, escapable}
 use Rattle.lp_format.specs.format.{quotable}
+pub use Rattle.lp_scan.specs.declared.sets.TokenKind.{TokenKind}
+pub use Rattle.lp_scan.specs.declared.sets.TokenKind.TheVariants.{Measurement, TagKey, TagValue, FieldKey, String}
 
 -- whether a byte ends a token of this kind if it is bare
 abbrev pub stops_of : TokenKind → ℕ → Bool

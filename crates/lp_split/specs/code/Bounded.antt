@@ -6,7 +6,8 @@ use Rattle.lp_split.specs.declared.split.Mark.{Mark}
 use Rattle.lp_split.specs.declared.stream.bounded.Skipped.{Skipped}
 use Rattle.lp_split.specs.declared.stream.bounded.Skipped.TheVariants.{Nothing, Within, Ended}
 use Rattle.lp_split.specs.declared.stream.bounded.PieceTooLong.{PieceTooLong}
-use Rattle.lp_split.specs.code.Streams.{FindsCut, Held}
+use Rattle.lp_split.specs.code.Searches.{FindsCut}
+use Rattle.lp_split.specs.code.Streams.{Held}
 use Rattle.lp_split.specs.code.Tracks.{IsTrackOf}
 
 -- the bytes that are kept, and what is known of those that were skipped
@@ -62,18 +63,18 @@ GivesOf before text (Some (Err fault)) after =
     (piece rest : List ℕ) × IsTooLong before.limit piece × CutsTo before.held.dialect text piece rest × Holds after rest
     × (fault.newlines ≡ newlines_in piece)
 
--- a call finds the first cut, or takes the first piece if it is too long
-abbrev pub FindsWithin : HeldWithin → Option (Result Mark PieceTooLong) → HeldWithin → Type 0
-FindsWithin before None after = (text : List ℕ) → Holds before text → GivesOf before text None after
-FindsWithin before (Some (Ok cut)) after =
-    (after ≡ before) × (before.skipped ≡ Nothing) × FindsCut before.held (Some cut) × (cut.at ≤ before.limit)
-FindsWithin before (Some (Err fault)) after = (text : List ℕ) → Holds before text → GivesOf before text (Some (Err fault)) after
-
 -- so it is of each text that it may hold; no more bytes are kept than before, and after a piece or a fault fewer can be given
 abbrev pub GivesWithin : HeldWithin → Option (Result (Bor (List ℕ)) PieceTooLong) → HeldWithin → Type 0
 GivesWithin before result after =
     KeepsRules before after × (kept after ≤ kept before) × IfSome result (λ _. most_given after < most_given before)
     × ((text : List ℕ) → Holds before text → GivesOf before text result after)
+
+-- a call finds the first cut, or takes the first piece if it is too long
+abbrev pub FindsWithin : HeldWithin → Option (Result Mark PieceTooLong) → HeldWithin → Type 0
+FindsWithin before None after = GivesWithin before None after
+FindsWithin before (Some (Ok cut)) after =
+    (after ≡ before) × (before.skipped ≡ Nothing) × FindsCut before.held.dialect before.held.bytes (Some cut) × (cut.at ≤ before.limit)
+FindsWithin before (Some (Err fault)) after = GivesWithin before (Some (Err fault)) after
 
 -- a call gives a text that is one piece, or a fault in its place, which has the number of its newlines
 abbrev pub IsLastOf : ℕ → List ℕ → Result (Bor (List ℕ)) PieceTooLong → Type 0

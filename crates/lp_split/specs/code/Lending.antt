@@ -2,7 +2,7 @@
 use Rattle.std.specs.Prelude.{ℕ, List, Option, Result}
 use Rattle.std.specs.Borrow.{Fml, Bor, MutBor}
 use Rattle.std.specs.Io.BufRead.{Rests}
-use Rattle.lp_split.specs.code.Streams.{GivesCut, GivesCutText, GivesLast, GivesLastText, TakesPiece}
+use Rattle.lp_split.specs.code.Streams.{GivesCut, GivesCutText, GivesLast, GivesLastText}
 use Rattle.lp_split.specs.declared.stream.LineStream.{LineStream}
 use Rattle.lp_split.specs.contracts.stream.LineStream.{the_row}
 use Rattle.lp_split.specs.code.Bounded.{GivesWithin, GivesLastWithin}
@@ -17,10 +17,6 @@ EndsAsCut stream result = Rests the_row stream (GivesCut stream.now result)
 -- it gave a piece as text
 abbrev pub EndsAsCutText : {E : Type 0} → MutBor LineStream → Option (Result (Bor (List ℕ)) E) → Fml
 EndsAsCutText stream result = Rests the_row stream (GivesCutText stream.now result)
-
--- it gave the piece before a cut
-abbrev pub EndsAsTaken : MutBor LineStream → Bor (List ℕ) → Fml
-EndsAsTaken stream piece = Rests the_row stream (TakesPiece stream.now piece.now)
 
 -- it gave the last piece
 abbrev pub EndsAsLast : MutBor LineStream → Bor (List ℕ) → Fml

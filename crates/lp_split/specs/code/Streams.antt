@@ -1,11 +1,7 @@
 -- What a stream of pieces holds, and what a call takes of it.
-use Rattle.std.specs.Prelude.{◌≡◌, ℕ, ◌+◌, ◌≤◌, List, [], ◌∷◌, ◌++◌, length, drop, Option, Some, None, Result, Ok, Err, IsUtf8}
+use Rattle.std.specs.Prelude.{◌≡◌, ℕ, List, [], ◌∷◌, ◌++◌, Option, Some, None, Result, Ok, Err, IsUtf8}
 use Rattle.std.specs.Borrow.{Bor}
-use Rattle.lp_format.specs.format.{Dialect, newline, IsCutPiece, IsFirstCut, IsLastPiece}
-use Rattle.lp_split.specs.declared.split.Mark.{Mark}
-use Rattle.lp_split.specs.declared.split.resumed.Search.{Search}
-use Rattle.lp_split.specs.code.Ahead.{AreSeen}
-use Rattle.lp_split.specs.code.Searches.{IsKnown}
+use Rattle.lp_format.specs.format.{Dialect, newline, IsCutPiece, IsLastPiece}
 
 -- what a stream holds: the bytes that came after the newline of the last cut
 pub record Held : Type 0 where
@@ -33,25 +29,11 @@ GivesCutText before None after = TakesNothing before after
 GivesCutText before (Some (Ok text)) after = TakesPiece before text.now after × IsUtf8 text.now
 GivesCutText before (Some (Err _)) after = (piece : List ℕ) × TakesPiece before piece after × (¬ IsUtf8 piece)
 
--- a search found the first cut of what is held, and what it saw after it, or there is none yet
-abbrev pub FindsCut : Held → Option Mark → Type 0
-FindsCut held None = IsLastPiece held.dialect held.bytes
-FindsCut held (Some cut) = IsFirstCut held.dialect held.bytes (Some cut.at) × AreSeen (drop (cut.at + 1) held.bytes) cut.later
-
--- all that was held is taken
-abbrev pub TakesLast : Held → Held → Type 0
-TakesLast before after = after ≡ record { dialect = before.dialect; bytes = [] }
-
--- a call gives all that was held
+-- a call gives all that was held, and takes it
 abbrev pub GivesLast : Held → List ℕ → Held → Type 0
-GivesLast before piece after = (piece ≡ before.bytes) × TakesLast before after
+GivesLast before piece after = (piece ≡ before.bytes) × (after ≡ record { dialect = before.dialect; bytes = [] })
 
 -- the same as text; what is not UTF-8 is taken too
 abbrev pub GivesLastText : {E : Type 0} → Held → Result (Bor (List ℕ)) E → Held → Type 0
 GivesLastText before (Ok text) after = GivesLast before text.now after × IsUtf8 text.now
-GivesLastText before (Err _) after = TakesLast before after × (¬ IsUtf8 before.bytes)
-
--- what is known of the buffer: where the held bytes begin, and what a search for a cut knows of them
-pub record IsHeldAt (dialect : Dialect) (items : List ℕ) (start : ℕ) (known : Search) : Type 0 where
-  pub within : start ≤ length items
-  pub is_known : IsKnown dialect (drop start items) known
+GivesLastText before (Err _) after = GivesLast before before.bytes after × (¬ IsUtf8 before.bytes)

@@ -4,13 +4,13 @@
 //! has come, that search looks again, and if it finds no cut, the bytes are tracked, and the track is kept. So however the
 //! bytes come, each is searched a few times at most.
 
-ghost use Rattle.std.specs.Prelude.{◌≡◌, ◌≢◌, ◌≤◌, true, false, length, take, All};
-ghost use Rattle.lp_format.specs.format.{newline};
+ghost use Rattle.std.specs.Prelude.{◌≤◌, Some, length, take};
+ghost use Rattle.lp_format.specs.format.{IsBareAfter, IsFirstCut};
 ghost use Rattle.lp_format.specs.format.Dialects as dialects;
-ghost use Rattle.lp_split.specs.code.{rules_of, IsKnown, SearchesOn, IsTrackOf, most_counted};
+ghost use Rattle.lp_split.specs.code.{rules_of, EndsIn, IsKnown, SearchesOn, IsTrackOf, most_counted};
 
-use super::{Dialect, Mark, Track, first_cut, late_cut, track_on};
-use memchr::memchr;
+use super::tracked::Place;
+use super::{Dialect, Mark, Track, first_cut, first_newline, late_cut, track_on};
 
 /// A part of a piece, by what ends its stretches.
 #[derive(Clone, Copy)]
@@ -31,17 +31,9 @@ pub(crate) enum Search {
     Within { at: usize, track: Track },
 }
 
-// Whether a newline is among the bytes.
-fn has_newline(bytes: &[u8]) -> bool
-    ensures none { result ≡ false → All (λ b. b ≢ newline) bytes.now }
-    ensures some { result ≡ true → ¬ All (λ b. b ≢ newline) bytes.now }
-{
-    memchr(b'\n', bytes).is_some()
-}
-
 // The place of the newline that ends the first piece, from where the search stopped; or what is known now, if the text is
 // one piece.
-pub(super) fn cut_from(text: &[u8], at: usize, track: Track) -> Result<Mark, Search>
+fn cut_from(text: &[u8], at: usize, track: Track) -> Result<Mark, Search>
     requires within { at ≤ length text.now }
     requires few { most_counted track ≤ at }
     ensures { (dialect : dialects.Dialect) → IsTrackOf dialect (take at text.now) track → SearchesOn dialect text.now result }
@@ -58,6 +50,26 @@ pub(super) fn cut_from(text: &[u8], at: usize, track: Track) -> Result<Mark, Sea
     }
 }
 
+// The same of a text that begins no comment, from a bare place on that is in this part of a piece, with these counts.
+pub(super) fn cut_after(
+    text: &[u8],
+    at: usize,
+    part: Part,
+    equals: usize,
+    commas: usize,
+) -> Option<usize>
+    requires within { at ≤ length text.now }
+    requires few { (equals ≤ at) × (commas ≤ at) }
+    requires is_bare { IsBareAfter (take at text.now) }
+    requires ends_in { EndsIn part equals commas (take at text.now) }
+    ensures { IsFirstCut dialects.Crate text.now result }
+{
+    match cut_from(text, at, Track::Line(Place::bare(part, equals, commas))) {
+        Ok(cut) => Some(cut.at),
+        Err(_) => None,
+    }
+}
+
 /// The place of the newline that ends the first piece, by what is known of the text; or what is known now, if the text
 /// is one piece.
 pub(crate) fn search_on(dialect: Dialect, text: &[u8], known: Search) -> Result<Mark, Search>
@@ -70,7 +82,7 @@ pub(crate) fn search_on(dialect: Dialect, text: &[u8], known: Search) -> Result<
             Some(cut) => Ok(cut),
             None => Err(Search::Quiet(text.len())),
         },
-        Search::Quiet(n) if !has_newline(&text[n..]) => Err(Search::Quiet(text.len())),
+        Search::Quiet(n) if first_newline(&text[n..]).is_none() => Err(Search::Quiet(text.len())),
         Search::Quiet(_) => match late_cut(dialect, text) {
             Some(at) => Ok(Mark { at, later: 0 }),
             None => cut_from(text, 0, Track::new(dialect)),

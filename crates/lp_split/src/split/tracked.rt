@@ -17,6 +17,21 @@ pub(crate) struct Place {
     commas: usize,
 }
 
+impl Place {
+    /// A bare place of this part of a piece, with these counts.
+    #[inline(always)]
+    pub(crate) fn bare(part: Part, equals: usize, commas: usize) -> Place
+        ensures { result ≡ record { part = part; is_escaped = false; equals = equals; commas = commas } }
+    {
+        Place {
+            part,
+            is_escaped: false,
+            equals,
+            commas,
+        }
+    }
+}
+
 /// What the bytes of a piece so far tell.
 #[derive(Clone, Copy)]
 pub(crate) enum Track {
@@ -28,91 +43,29 @@ pub(crate) enum Track {
     Line(Place),
 }
 
-// The place after one byte more of a head, or `None` if the piece ends before it.
-fn after_head(place: Place, byte: u8) -> Option<Place>
-    requires head { place.part ≡ Part.Head }
-    requires is_bare { place.is_escaped ≡ false }
-    ensures steps { Steps place byte result }
-    ensures few { IfSome result (λ next. (next.equals ≤ place.equals + 1) × (next.commas ≤ place.commas + 1)) }
-{
-    match byte {
-        b'\n' => None,
-        b' ' => Some(Place {
-            part: Part::Plain,
-            ..place
-        }),
-        _ => Some(Place {
-            is_escaped: byte == b'\\',
-            ..place
-        }),
-    }
-}
-
-// The same of a plain stretch.
-fn after_plain(place: Place, byte: u8) -> Option<Place>
-    requires plain { place.part ≡ Part.Plain }
-    requires is_bare { place.is_escaped ≡ false }
-    requires room { (place.equals + 1 < 2 ^ 64) × (place.commas + 1 < 2 ^ 64) }
-    ensures steps { Steps place byte result }
-    ensures few { IfSome result (λ next. (next.equals ≤ place.equals + 1) × (next.commas ≤ place.commas + 1)) }
-{
-    match byte {
-        b'\n' => None,
-        b'=' => Some(Place {
-            equals: place.equals + 1,
-            ..place
-        }),
-        b',' => Some(Place {
-            commas: place.commas + 1,
-            ..place
-        }),
-        b'"' if place.commas < place.equals => Some(Place {
-            part: Part::Quoted,
-            ..place
-        }),
-        _ => Some(Place {
-            is_escaped: byte == b'\\',
-            ..place
-        }),
-    }
-}
-
-// The same of a quoted stretch, if no byte ends the piece.
-fn after_quoted(place: Place, byte: u8) -> Place
-    requires quoted { place.part ≡ Part.Quoted }
-    requires is_bare { place.is_escaped ≡ false }
-    ensures steps { Steps place byte (Some result) }
-    ensures few { (result.equals ≤ place.equals + 1) × (result.commas ≤ place.commas + 1) }
-{
-    if byte == b'"' {
-        return Place {
-            part: Part::Plain,
-            ..place
-        };
-    }
-    Place {
-        is_escaped: byte == b'\\',
-        ..place
-    }
-}
-
 // The place after one byte more, or `None` if the piece ends before it.
+#[tactic(auto, using(crate::proofs::lemmas::split::SplitWalk::byte_steps))]
 fn after_byte(place: Place, byte: u8) -> Option<Place>
     requires room { (place.equals + 1 < 2 ^ 64) × (place.commas + 1 < 2 ^ 64) }
     ensures steps { Steps place byte result }
     ensures few { IfSome result (λ next. (next.equals ≤ place.equals + 1) × (next.commas ≤ place.commas + 1)) }
 {
+    let mut next = place;
+    next.is_escaped = false;
     if place.is_escaped {
-        return Some(Place {
-            is_escaped: false,
-            ..place
-        });
+        return Some(next);
     }
-    match place.part {
-        Part::Head => after_head(place, byte),
-        Part::Plain => after_plain(place, byte),
-        Part::Quoted => Some(after_quoted(place, byte)),
+    match (place.part, byte) {
+        (Part::Head | Part::Plain, b'\n') => return None,
+        (_, b'\\') => next.is_escaped = true,
+        (Part::Head, b' ') => next.part = Part::Plain,
+        (Part::Plain, b'=') => next.equals += 1,
+        (Part::Plain, b',') => next.commas += 1,
+        (Part::Plain, b'"') if place.commas < place.equals => next.part = Part::Quoted,
+        (Part::Quoted, b'"') => next.part = Part::Plain,
+        _ => {}
     }
+    Some(next)
 }
 
 // The track after one byte more, or `None` if the piece ends before it.
@@ -139,29 +92,11 @@ impl Track {
         ensures track { IsTrackOf (rules_of dialect) [] result }
         ensures few { most_counted result ≡ 0 }
     {
-        let place = Place {
-            part: Part::Head,
-            is_escaped: false,
-            equals: 0,
-            commas: 0,
-        };
+        let place = Place::bare(Part::Head, 0, 0);
         match dialect {
             Dialect::Crate => Track::Line(place),
             Dialect::Strict => Track::Blanks(place),
         }
-    }
-
-    /// The track of the bytes of a line up to a bare place of a plain stretch, with these counts.
-    #[inline(always)]
-    pub(crate) fn in_plain(equals: usize, commas: usize) -> Track
-        ensures { result ≡ Line (record { part = Plain; is_escaped = false; equals = equals; commas = commas }) }
-    {
-        Track::Line(Place {
-            part: Part::Plain,
-            is_escaped: false,
-            equals,
-            commas,
-        })
     }
 
     /// Whether so many bytes more can be counted.

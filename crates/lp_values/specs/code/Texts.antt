@@ -1,9 +1,8 @@
 -- The texts of `EscapedStr` and `FloatText`.
 use Rattle.std.specs.Prelude.{ℕ, List, Bool, true, false, string_bytes}
-use Rattle.lp_values.specs.declared.escaped.EscapedStr.{EscapedStr}
 use Rattle.lp_values.specs.declared.escaped.EscapedStr.TheVariants.{SingleSlice, CopiedValue}
+use Rattle.lp_values.specs.declared.{escaped.EscapedStr.EscapedStr, literals.FloatText.FloatText}
 use Rattle.lp_format.specs.format.Readings.{Text}
-use Rattle.lp_values.specs.declared.literals.FloatText.{FloatText}
 
 -- its logical text
 abbrev pub text_of : EscapedStr → List ℕ

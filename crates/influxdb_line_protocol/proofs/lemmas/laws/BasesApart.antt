@@ -1,6 +1,6 @@
 -- If names hold none of the bytes that part a base, the base fixes the series; bases that are safe to group by tell their series.
-use Rattle.std.proofs.Common.{◌≡◌, ℕ, ◌+◌, Bool, true, false, List, [], ◌∷◌, ◌++◌, ◌||◌, length, take, drop, refl, sym, ap, ◌∙◌, subst, inl}
-use Rattle.std.proofs.Common.{inr, append_assoc, arith, ◌==◌, flat_map, IsPermutation, take-append-drop, eq-eqb, ne_eqb}
+use Rattle.std.proofs.Common.{◌≡◌, ℕ, ◌+◌, Bool, true, false, List, [], ◌∷◌, ◌++◌, ◌||◌, length, take, drop, refl, sym, ap, ◌∙◌, subst}
+use Rattle.std.proofs.Common.{append_assoc, arith, ◌==◌, flat_map, IsPermutation, take-append-drop, eq-eqb, ne_eqb}
 use Rattle.std.specs.List.{list_any}
 use Rattle.std.proofs.lemmas.List.Folds.{list_any-append}
 use Rattle.std.proofs.lemmas.Bool.{cases_Bool, false≢true, or_from, or_parts, not-true}
@@ -68,10 +68,7 @@ same_tags ((a, b) ∷ es) ((c, d) ∷ fs) h k same =
     let after : b ++ flat_map based_tag es ≡ d ++ flat_map based_tag fs = let k = keys.1 in cc in
     let values = first_part comma b d (flat_map based_tag es) (flat_map based_tag fs) left.1 right.1
     (tags_begin es) (tags_begin fs) after in
-    let key = keys.0 in
-    let value = values.0 in
-    let more : es ≡ fs = same_tags es fs one.1 other.1 values.1 in
-    cc
+    cc (keys.0, values.0, same_tags es fs one.1 other.1 values.1)
 
 -- the same test, of tags and of entries
 same_test : (p : List ℕ × List ℕ → Bool) (tags : List (Pair Text Text))
@@ -112,13 +109,7 @@ none_before : (passes : ℕ → Bool) (c : ℕ) (text : List ℕ) → passes c �
 none_before passes c [] hit none = refl
 none_before passes c (b ∷ text) hit none =
     let parts = or_parts (b == backslash) (is_one_of text backslash) none in
-    elim (cases_Bool (passes b)) [
-      | inl stop ↦ rw stop refl
-      | inr on ↦
-          let other : b ≡ c → ⊥ = λ e. false≢true (sym on ∙ ap passes e ∙ hit) in
-          rw (on, parts.0) (or_from (b == c) (is_one_of (take (bare_len passes false text) text) c)
-          (ne_eqb b c other) (none_before passes c text hit parts.1))
-    ]
+    grind (arith, cases_Bool, false≢true, ne_eqb, none_before passes c text hit parts.1)
 
 -- a name without a backslash holds none of the bytes that end it
 no_stop : (kind : NameKind) (c : ℕ) (text : List ℕ) → is_stop kind c ≡ true → is_one_of text backslash ≡ false

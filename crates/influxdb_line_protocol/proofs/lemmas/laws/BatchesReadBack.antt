@@ -3,34 +3,32 @@ use Rattle.std.proofs.Common.{◌≡◌, [], ◌∷◌, ◌++◌, refl, ap, subs
 use Rattle.std.proofs.Common.{inl, inr, Err, Result, ◌<◌, length, Contains, flat_map, length-append}
 use Rattle.lp_format.specs.format.{Dialect, Point, line_of, built_all, IsPoint, Tag, Field, IsValue, is_admitted_name, is_admitted_tag}
 use Rattle.lp_format.specs.format.{is_admitted_field, is_admitted_point, spelling, built, built_tag, built_field, built_fields, built_value}
-use Rattle.lp_format.specs.format.{built_timestamp, answers_of_piece, HasAnswers, item_of, answers_of, newline, equals}
-use Rattle.lp_format.specs.format.Pieces.{Pieces, Pieces.cut}
-use Rattle.lp_format.specs.format.{space, comma, Fault, ends_with_backslash, a_measurement, a_field_key, NameKind, a_tag_key, a_tag_value}
-use Rattle.lp_format.specs.format.{ends_in_backslash, EndsPlain, Line, point_of, field, spaces, answer}
-use Rattle.lp_format.specs.laws.Laws.{IsAdmittedPoint, BatchesReadBack, OtherBatchesDoNotReadBack, ItemsHaveReadableNames}
+use Rattle.lp_format.specs.format.{built_timestamp, answers_of_piece, HasAnswers, item_of, answers_of, newline, equals, space, comma, Fault}
+use Rattle.lp_format.specs.format.{ends_with_backslash, a_measurement, a_field_key, NameKind, a_tag_key, a_tag_value, ends_in_backslash}
+use Rattle.lp_format.specs.format.{EndsPlain, Line, point_of, field, spaces, answer, Pieces.Pieces, Pieces.Pieces.cut}
+use Rattle.lp_format.specs.laws.Laws.{IsAdmittedPoint, AdmittedBatchesReadBack, OtherBatchesDoNotReadBack, ItemsHaveReadableNames}
 use Rattle.lp_format.specs.laws.Laws.{OtherPointsEndWithBackslash}
+use Rattle.lp_format.specs.laws.NamesOfLines.{IsParsedName, names_of, BeginsNoComment}
+use Rattle.lp_format.specs.laws.UnreadableNames.{IsUnreadable, HasReadableNames, IsUnreadable.empty, IsUnreadable.ends, IsUnreadable.begins}
+use Rattle.lp_format.specs.laws.UnreadableNames.{IsUnreadable.alone}
 use Rattle.lp_lines.proofs.lemmas.read_back.LinePieces.{IsAdmitted, admitted_point, line_begins, line_is_cut_piece, reaches_tags}
 use Rattle.lp_lines.proofs.lemmas.read_back.LinePieces.{reaches_field, AdmittedTag, AdmittedField, admitted_tags, line_parts}
-use Rattle.lp_format.proofs.lemmas.read_back.NameReadsBack.{read_line, read_line_is, admitted_parts, read_field}
 use Rattle.lp_lines.proofs.lemmas.read_back.LineReadsBack.{line_reads_back, measurement_reads_back, tag_set_reads_back, field_reads_back}
+use Rattle.lp_format.proofs.lemmas.read_back.NameReadsBack.{read_line, read_line_is, admitted_parts, read_field}
 use Rattle.lp_lines.proofs.lemmas.names.Spellings.{line_trimmed, line_some, admitted_spelled, name_reads_back, measurement_begins}
 use Rattle.lp_lines.proofs.lemmas.names.Spellings.{spelled_spaces, reaches_name, reaches_other, reaches_gap, reaches_field_key, Reaches}
 use Rattle.lp_lines.proofs.lemmas.names.Spellings.{reaches_start}
+use Rattle.lp_lines.proofs.lemmas.names.ParsedNames.{ParsedPoint, names_are_parsed, nothing_in_nil}
 use Rattle.std.specs.List.{AllByRecursion, list_all}
 use Rattle.std.proofs.lemmas.Bool.{and_parts, cases_Bool, false≢true, and_from, both_ways}
 use Rattle.std.proofs.lemmas.List.{length-map, get_or-map}
 use Rattle.lp_split.specs.code.{Head, Plain}
 use Rattle.lp_split.proofs.lemmas.split.SplitWalk.{Plain-comma}
-use Rattle.lp_format.specs.laws.NamesOfLines.{IsParsedName, names_of, BeginsNoComment}
-use Rattle.lp_format.proofs.lemmas.split.SplitPieces.{pieces_exist, same_pieces}
-use Rattle.lp_format.proofs.lemmas.split.SplitBare.{is_escaped-push_other}
-use Rattle.lp_lines.proofs.lemmas.names.ParsedNames.{ParsedPoint, names_are_parsed, nothing_in_nil}
+use Rattle.lp_format.proofs.lemmas.split.{SplitPieces.pieces_exist, SplitPieces.same_pieces, SplitBare.is_escaped-push_other}
 use Rattle.influxdb_line_protocol.proofs.lemmas.laws.FatalLines.{Fails, first_fails, NameStops, name_stops, measurement_fails, StopsEarly}
 use Rattle.influxdb_line_protocol.proofs.lemmas.laws.FatalLines.{and_more, and_before, stops_as, ManyFail, first_of_many, later_of_many}
 use Rattle.influxdb_line_protocol.proofs.lemmas.laws.FatalLines.{first_failing, second_fails, TagsFail, tags_fail}
 use Rattle.std.proofs.lemmas.Grind.{flat_map-append}
-use Rattle.lp_format.specs.laws.UnreadableNames.{IsUnreadable, HasReadableNames, IsUnreadable.empty, IsUnreadable.ends, IsUnreadable.begins}
-use Rattle.lp_format.specs.laws.UnreadableNames.{IsUnreadable.alone}
 use Rattle.lp_format.proofs.lemmas.lists.Elements.{first_element, first_or_later, later_element}
 
 -- the line of an admitted point has one answer
@@ -39,7 +37,7 @@ unfolding answers_of_piece
 line_answers dialect p ok = grind (arith, line_begins, line_trimmed, line_some, line_reads_back)
 
 -- batches of points with admitted names read back
-pub admitted_batches_read_back : BatchesReadBack IsAdmittedPoint
+pub admitted_batches_read_back : AdmittedBatchesReadBack
 admitted_batches_read_back dialect [] t answers all h = ([], refl, h)
 admitted_batches_read_back dialect (p ∷ points) t answers all h =
     let more = admitted_batches_read_back dialect points t answers all.1 h in
@@ -265,9 +263,7 @@ point_answered : (dialect : Dialect) (p : Point) (u : List ℕ) (answers : List 
     → HasAnswers dialect (built p ++ u) answers → (others : List (Result Line Fault)) × (answers ≡ Err ends_with_backslash ∷ others)
 point_answered dialect p u answers is_point bad names h =
     let f = point_fails p is_point (readable_point p names) bad in
-    let is : built p ++ u ≡ f.front ++ f.stop ∷ (f.after ++ newline ∷ u) =
-    append_assoc (line_of p) (newline ∷ []) u ∙ ap (λ (xs : List ℕ). xs ++ newline ∷ u) f.is
-    ∙ append_assoc f.front (f.stop ∷ f.after) (newline ∷ u) in
+    let is : built p ++ u ≡ f.front ++ f.stop ∷ (f.after ++ newline ∷ u) = grind (arith, append_assoc, f.is) in
     let fails = first_fails dialect (line_of p) f (f.after ++ newline ∷ u) is h.are in
     (fails.0, h.answered ∙ fails.1)
 

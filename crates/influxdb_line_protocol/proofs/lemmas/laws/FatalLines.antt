@@ -7,19 +7,16 @@ use Rattle.std.proofs.lemmas.Grind.{flat_map-append}
 use Rattle.lp_format.specs.format.{Dialect, Crate, Strict, is_one_of, newline, comma, equals, space, backslash, escaped, Fault}
 use Rattle.lp_format.specs.format.{ends_with_backslash, fatal, Reading, reads, NameKind, a_measurement, a_tag_key, a_tag_value}
 use Rattle.lp_format.specs.format.{ends_in_backslash, name, IsClosed, never_in, is_admitted_name, spelling, Tag, is_admitted_tag, built_tag}
-use Rattle.lp_format.specs.format.{IsLastPiece, Line, answer, tag, after_comma, many, separated_list}
+use Rattle.lp_format.specs.format.{IsLastPiece, Line, answer, tag, after_comma, many, separated_list, answers_of_piece, answers_of}
 use Rattle.lp_format.specs.format.Pieces.{Pieces, Pieces.last, Pieces.cut}
-use Rattle.lp_format.specs.format.{answers_of_piece, answers_of}
 use Rattle.lp_format.specs.laws.NamesOfLines.{IsParsedName}
-use Rattle.lp_format.proofs.lemmas.split.SplitPieces.{no_cut_within}
-use Rattle.lp_format.proofs.lemmas.split.SplitBare.{place_in_append}
+use Rattle.lp_format.proofs.lemmas.split.{SplitPieces.no_cut_within, SplitBare.place_in_append}
 use Rattle.lp_format.proofs.lemmas.read_back.NameReadsBack.{may_hold, escaped_plain, read_tag}
 use Rattle.lp_lines.proofs.lemmas.names.Spellings.{reaches_start, Reaches, SpelledAs, never_unescapable, never_stops, spelling_as, Stops}
 use Rattle.lp_lines.proofs.lemmas.names.Spellings.{spelled_fatal, spelled_begins, reaches_head, BeginsLine, line_no_comment, line_trimmed}
 use Rattle.lp_lines.proofs.lemmas.names.Spellings.{line_some, name_reads_back, reaches_name, reaches_other}
 use Rattle.lp_split.specs.code.{Head}
-use Rattle.lp_lines.proofs.lemmas.read_back.LineReadsBack.{tag_text, tag_reads_back}
-use Rattle.lp_lines.proofs.lemmas.read_back.LinePieces.{AdmittedTag}
+use Rattle.lp_lines.proofs.lemmas.read_back.{LineReadsBack.tag_text, LineReadsBack.tag_reads_back, LinePieces.AdmittedTag}
 
 -- nothing, or this byte at the start
 abbrev pub StopsWith : ℕ → List ℕ → Type 0
@@ -156,10 +153,7 @@ stops_with kind stop rest never h = grind (arith, never_stops)
 -- a parsed name that is not admitted stops too early
 pub name_stops : (kind : NameKind) (n : List ℕ) → IsParsedName kind n → is_admitted_name kind n ≡ false → NameStops kind n
 name_stops kind n h bad =
-    let none : list_all (may_hold kind) n ≡ false = elim (cases_Bool (list_all (may_hold kind) n)) [
-      | inl all ↦ absurd (both_ways (is_admitted_name kind n) bad (admitted_from kind n h all))
-      | inr some ↦ some
-    ] in
+    let none : list_all (may_hold kind) n ≡ false = grind (arith, cases_Bool, both_ways, admitted_from) in
     let place = first_failing (may_hold kind) n none in
     let never : is_one_of (never_in kind) place.stop ≡ true = grind (arith, place.fails) in
     let ends = h.after_backslash place.front place.after place.stop place.is never in

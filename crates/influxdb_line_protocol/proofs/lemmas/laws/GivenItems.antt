@@ -1,6 +1,6 @@
 -- The items and the events that calls of `next` give are those of the text, one after another.
-use Rattle.std.proofs.Common.{◌≡◌, ℕ, ◌<◌, ◌==◌, List, [], ◌∷◌, ◌++◌, length, map, refl, sym, ap, subst, arith, append_assoc, append-nil}
-use Rattle.std.proofs.Common.{inl, inr, Some, Result, All, eq-eqb, ne_eqb}
+use Rattle.std.proofs.Common.{◌≡◌, ℕ, ◌<◌, List, [], ◌∷◌, ◌++◌, length, map, refl, sym, subst, arith, append_assoc, append-nil}
+use Rattle.std.proofs.Common.{Some, Result, All, eq-eqb, ne_eqb}
 use Rattle.std.specs.Iterator.{Yields}
 use Rattle.std.proofs.lemmas.Bool.{cases_Bool}
 use Rattle.std.proofs.lemmas.Grind.{flat_map-append}
@@ -9,13 +9,12 @@ use Rattle.lp_format.specs.format.{Dialect, trimmed, Left, PiecesLeft, answers_o
 use Rattle.lp_values.specs.declared.error.Error.{Error}
 use Rattle.lp_lines.specs.declared.parsed.ParsedLine.{ParsedLine}
 use Rattle.lp_lines.specs.code.ParseSteps.{GivesItem}
-use Rattle.lp_events.specs.code.LineSteps.{IsBlankPiece}
+use Rattle.lp_events.specs.code.{LineSteps.IsBlankPiece, EventsLeft.HasEventsLeft, EventsLeft.told}
 use Rattle.influxdb_line_protocol.specs.laws.GivenItems.{trimmed_lines, AreItemsOf, AreAnswers, ItemsAreOfPieces, ItemsAreAnswers}
 use Rattle.influxdb_line_protocol.specs.laws.GivenItems.{GivenLinesWereRead, ItemsSoFar}
+use Rattle.influxdb_line_protocol.specs.laws.GivenEvents.{AllEventsCome, EventsSoFar}
 use Rattle.lp_format.proofs.lemmas.split.SplitPieces.{same_pieces}
 use Rattle.lp_events.proofs.lemmas.lines.LineSteps.{left_pieces}
-use Rattle.lp_events.specs.code.EventsLeft.{HasEventsLeft, told}
-use Rattle.influxdb_line_protocol.specs.laws.GivenEvents.{AllEventsCome, EventsSoFar}
 
 -- nothing is left of blank pieces
 blank_lines : (pieces : List (List ℕ)) → All IsBlankPiece pieces → trimmed_lines pieces ≡ []
@@ -56,16 +55,12 @@ items_are_of_pieces dialect text pieces items h drained = grind (arith, items_so
 answers_of_lines : (dialect : Dialect) (pieces : List (List ℕ)) → answers_of dialect pieces ≡ map (answer dialect) (trimmed_lines pieces)
 unfolding answers_of_piece
 answers_of_lines dialect [] = refl
-answers_of_lines dialect (p ∷ pieces) = elim (cases_Bool (length (trimmed p) == 0)) [
-  | inl none ↦ rw none (answers_of_lines dialect pieces)
-  | inr some ↦ rw some (ap (λ answers. answer dialect (trimmed p) ∷ answers) (answers_of_lines dialect pieces))
-]
+answers_of_lines dialect (p ∷ pieces) = grind (arith, cases_Bool, answers_of_lines dialect pieces)
 
 -- items of trimmed texts are the answers for them
 items_answer : (dialect : Dialect) (lines : List (List ℕ)) (items : List (Result ParsedLine Error)) → AreItemsOf dialect lines items
     → AreAnswers items (map (answer dialect) lines)
-items_answer dialect [] [] h = tt
-items_answer dialect [] (item ∷ items) h = absurd h
+items_answer dialect [] items h = grind arith
 items_answer dialect (line ∷ lines) [] h = absurd h
 items_answer dialect (line ∷ lines) (item ∷ items) h = (h.0.answers, items_answer dialect lines items h.1)
 

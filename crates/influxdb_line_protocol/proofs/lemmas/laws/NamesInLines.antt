@@ -8,22 +8,19 @@ use Rattle.std.proofs.lemmas.Str.{IsUtf8-append, IsUtf8-take, IsUtf8-drop, IsUtf
 use Rattle.std.proofs.lemmas.Str.{IsCharBoundary-after_ascii, IsUtf8-nil}
 use Rattle.lp_format.specs.format.{backslash, is_one_of, comma, hash, space, NameKind, a_measurement, a_tag_key, a_tag_value, a_field_key}
 use Rattle.lp_format.specs.format.{is_escapable, ends_in_backslash, escapable, read_text, never_in, Pair, Dialect, Crate, Strict, Text}
-use Rattle.lp_format.specs.format.{reads, Value, integer, value, integer_at, IsLastPiece, begins_comment, Line, point_of, tag}
-use Rattle.lp_format.specs.format.Pieces.{Pieces.last}
-use Rattle.lp_format.specs.format.{field, field_set, front_before, answer, HasAnswers, answers_of_piece}
+use Rattle.lp_format.specs.format.{reads, Value, integer, value, integer_at, IsLastPiece, begins_comment, Line, point_of, tag, field}
+use Rattle.lp_format.specs.format.{field_set, front_before, answer, HasAnswers, answers_of_piece}
+use Rattle.lp_format.specs.format.{Pieces.Pieces.last, Bytes.equals, Bytes.letter_i}
 use Rattle.lp_lines.proofs.lemmas.names.Spellings.{SpelledAs, spelled_as, spelled_logical, spelled_reads, spelled_begins, spelled_spaces}
 use Rattle.lp_lines.proofs.lemmas.names.Spellings.{BeginsLine, line_no_comment, line_trimmed, line_some, reaches_head, reaches_other}
 use Rattle.lp_lines.proofs.lemmas.names.Spellings.{reaches_gap, reaches_field_key, Reaches, reaches_start, SpelledAs.done, SpelledAs.escape}
 use Rattle.lp_lines.proofs.lemmas.names.Spellings.{SpelledAs.plain, SpelledAs.pair}
+use Rattle.lp_lines.proofs.lemmas.names.KeptNames.{name_kept}
 use Rattle.lp_split.specs.code.{Plain}
 use Rattle.lp_split.proofs.lemmas.split.SplitWalk.{Plain-equals}
-use Rattle.lp_format.specs.laws.NamesOfLines.{IsParsedName, names_of}
-use Rattle.lp_format.specs.laws.Laws.{ParsedNamesAreInLines}
+use Rattle.lp_format.specs.laws.{NamesOfLines.IsParsedName, NamesOfLines.names_of, Laws.ParsedNamesAreInLines}
 use Rattle.lp_format.proofs.lemmas.split.SplitBare.{is_escaped-push_other}
-use Rattle.lp_lines.proofs.lemmas.read_back.LinePieces.{reaches_simple}
-use Rattle.lp_lines.proofs.lemmas.read_back.LineReadsBack.{answer_from_parts}
-use Rattle.lp_lines.proofs.lemmas.names.KeptNames.{name_kept}
-use Rattle.lp_format.specs.format.Bytes.{equals, letter_i}
+use Rattle.lp_lines.proofs.lemmas.read_back.{LinePieces.reaches_simple, LineReadsBack.answer_from_parts}
 
 -- what comes before an ASCII byte of a text that is UTF-8 is UTF-8, and so is what follows it
 pub utf8_around : (front rest : List ℕ) (b : ℕ) → IsUtf8 (front ++ b ∷ rest) → b < 128 → IsUtf8 front × IsUtf8 rest

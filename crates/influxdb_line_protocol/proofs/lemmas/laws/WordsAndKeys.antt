@@ -1,6 +1,6 @@
 -- The word at the start of a text is the longest that is there; tags by their keys are the one list of them whose keys rise.
 use Rattle.std.proofs.Common.{◌≡◌, ◌⊎◌, ℕ, ◌≤◌, List, [], ◌∷◌, ◌++◌, length, take, drop, true, false, eqb, refl, sym, ap, ◌∙◌, subst, inl}
-use Rattle.std.proofs.Common.{inr, arith, nat_lt, Contains, fold, ltb-true, ltb-false, length-take-le, take-append-drop, take_at}
+use Rattle.std.proofs.Common.{inr, arith, Contains, fold, ltb-true, ltb-false, length-take-le, take-append-drop, take_at}
 use Rattle.std.proofs.Common.{IsPermutation, is_lt, nat_cmp}
 use Rattle.std.specs.List.{starts_with}
 use Rattle.std.proofs.lemmas.Bool.{cases_Bool, both_ways, and_from}
@@ -37,22 +37,7 @@ starts_not text word k fits h e =
 
 -- each step is such
 step_is : (text : List ℕ) (n : ℕ) (word : List ℕ) → Step text n word (longer_front text n word)
-step_is text n word = elim (cases_Bool (starts_with eqb text word)) [
-  | inl here ↦ elim (cases_Bool (nat_lt n (length word))) [
-    | inl longer ↦ rw (here, longer) (record {
-      more = let less = ltb-true n (length word) longer in omega arith;
-      front = λ k fits e. omega (arith, ap length e, length-take-le k text fits);
-      one = inr (starts text word here);
-    })
-    | inr short ↦ rw (here, short) (record {
-      more = omega arith;
-      front = λ k fits e. omega (arith, ap length e, length-take-le k text fits, ltb-false n (length word) short);
-      one = inl refl;
-    })
-  ]
-  | inr other ↦
-      rw other (record { more = omega arith; front = λ k fits e. absurd (starts_not text word k fits other e); one = inl refl })
-]
+step_is text n word = grind (arith, cases_Bool, ltb-true, ltb-false, length-take-le, starts, starts_not)
 
 -- what is known of the longest of a front and words
 record Longest (text : List ℕ) (n : ℕ) (words : List (List ℕ)) (len : ℕ) : Type 0 where
@@ -74,15 +59,7 @@ longest_is text n (word ∷ words) =
         | inl same ↦ let a = s.front k fits same in let b = more.more in omega arith
         | inr later ↦ more.front k fits later
       ];
-      one = elim more.one [
-        | inl same ↦ elim s.one [
-          | inl none ↦ inl (same ∙ none)
-          | inr here ↦
-              let is : word ≡ take len text = here ∙ ap (λ (k : ℕ). take k text) (sym same) in
-              inr (subst (λ (w : List ℕ). Contains (w ∷ words) (take len text)) (sym is) (first_element (take len text) words))
-        ]
-        | inr later ↦ inr (later_element word (take len text) words later)
-      ];
+      one = grind (arith, first_element, later_element);
     }
 
 -- a front that is taken is one of the words

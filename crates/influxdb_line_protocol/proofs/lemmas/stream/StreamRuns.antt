@@ -3,9 +3,8 @@ use Rattle.std.proofs.Common.{◌≡◌, ℕ, List, [], ◌∷◌, ◌++◌, sub
 use Rattle.std.proofs.Common.{Result, All}
 use Rattle.std.proofs.lemmas.List.{get_or_append_left, take-append-le}
 use Rattle.std.proofs.lemmas.Str.{IsUtf8-append}
-use Rattle.lp_format.specs.format.{IsLastPiece, newline, Dialect, Fault, Line, HasAnswers, answers_of}
+use Rattle.lp_format.specs.format.{IsLastPiece, newline, Dialect, Fault, Line, HasAnswers, answers_of, answers_of_piece}
 use Rattle.lp_format.specs.format.Pieces.{Pieces, Pieces.cut, Pieces.last}
-use Rattle.lp_format.specs.format.{answers_of_piece}
 use Rattle.influxdb_line_protocol.specs.laws.StreamLaws.{FrontsKeepTheirCuts, TakenIsFirst, RunsGivePieces, RunsEnd, Utf8ByPieces}
 use Rattle.influxdb_line_protocol.specs.laws.StreamLaws.{Run.begun, Run.pushed, Run.taken, HaveAnswers, StreamsGiveAnswers}
 use Rattle.influxdb_line_protocol.specs.laws.StreamLaws.{StreamsAnswerAll, Run}

@@ -1,52 +1,18 @@
 -- Escaped texts: how long they are, and what comes before and after the first byte with a backslash.
 -- And how many digits a number has.
-use Rattle.std.proofs.Common.{◌≡◌, ℕ, suc, zero, ◌+◌, ◌<◌, Bool, true, false, cond, List, [], ◌∷◌, ◌++◌, length, take, drop, get_or, arith}
-use Rattle.std.proofs.Common.{ap, refl, ◌-◌, zero-add, add-one, length-drop, length-append, ◌∙◌, ◌≤◌, ◌^◌, ◌*◌, ◌/◌, take_all, decimal}
-use Rattle.std.proofs.Common.{pow-suc, count_by}
+use Rattle.std.proofs.Common.{◌≡◌, ℕ, suc, zero, ◌+◌, ◌<◌, Bool, true, false, List, [], ◌∷◌, ◌++◌, length, take, drop, get_or, arith}
+use Rattle.std.proofs.Common.{ap, refl, ◌-◌, add-one, length-drop, length-append, ◌∙◌, ◌≤◌, ◌^◌, ◌*◌, ◌/◌, take_all, decimal}
+use Rattle.std.proofs.Common.{not, pow-suc}
 use Rattle.std.proofs.Math.Nat.{pow-zero}
 use Rattle.std.proofs.lemmas.Fmt.{decimal_step, decimal_digit}
-use Rattle.std.proofs.lemmas.Grind.{common_steps}
+use Rattle.std.proofs.lemmas.Bool.{not-false, not-true}
 use Rattle.lp_format.specs.format.{backslash, is_one_of, escaped}
-use Rattle.lp_build.specs.code.Marks.{ComeBefore}
-
--- the length with one byte more
-length_step : (p : ℕ → Bool) (b : ℕ) (v : Bool) (t text : List ℕ) → p b ≡ v
-    → length t ≡ length text + count_by p text
-    → length (cond v (backslash ∷ b ∷ []) (b ∷ []) ++ t) ≡ length (b ∷ text) + count_by p (b ∷ text)
-length_step p b true t text h e = grind (arith, common_steps)
-length_step p b false t text h e = grind (arith, common_steps)
-
--- an escaped text is longer by the bytes that get a backslash
-pub length_escaped : (bytes text : List ℕ)
-    → length (escaped bytes text) ≡ length text + count_by (is_one_of bytes) text
-unfolding escaped
-length_escaped bytes [] = refl
-length_escaped bytes (b ∷ text) =
-    length_step (is_one_of bytes) b (is_one_of bytes b) (escaped bytes text) text refl (length_escaped bytes text)
+use Rattle.lp_scan.specs.code.{IsRunAt}
 
 -- nothing gets a backslash in an empty text
 pub escaped_nothing : (bytes : List ℕ) → escaped bytes [] ≡ []
 unfolding escaped
 escaped_nothing bytes = refl
-
--- a byte that gets a backslash counts
-pub uncounted : (p : ℕ → Bool) (b : ℕ) (v : Bool) (text : List ℕ) → p b ≡ v → count_by p (b ∷ text) ≡ 0
-    → (v ≡ false) × (count_by p text ≡ 0)
-uncounted p b true text h none = absurd (grind (arith, common_steps))
-uncounted p b false text h none = (refl, grind (arith, common_steps))
-
--- a text is spelled as it is if no byte of it gets a backslash
-escaped_uncounted : (bytes text : List ℕ) → count_by (is_one_of bytes) text ≡ 0 → escaped bytes text ≡ text
-unfolding escaped
-escaped_uncounted bytes [] none = refl
-escaped_uncounted bytes (b ∷ text) none =
-    let step = uncounted (is_one_of bytes) b (is_one_of bytes b) text refl none in
-    let rest : escaped bytes text ≡ text = escaped_uncounted bytes text step.1 in
-    rw step.0 (ap (λ (xs : List ℕ). b ∷ xs) rest)
-
--- a text that is as long as its escaped one stays
-pub escaped_as_long : (bytes text : List ℕ) → length (escaped bytes text) ≡ length text → escaped bytes text ≡ text
-escaped_as_long bytes text same = escaped_uncounted bytes text (omega (arith, length_escaped bytes text))
 
 -- a text without a byte that gets a backslash stays
 pub escaped_same : (bytes text : List ℕ)
@@ -75,16 +41,16 @@ rest_of text n = take_all (length text - n) (drop n text) (omega (arith, length-
 
 -- the same, as the code finds the byte and slices after it
 pub escaped_first : (bytes text : List ℕ) (mark : ℕ → Bool) (at : ℕ)
-    → ((b : ℕ) → mark b ≡ is_one_of bytes b) → ComeBefore mark text 0 (length text) at → at < length text
+    → ((b : ℕ) → mark b ≡ is_one_of bytes b) → IsRunAt (λ b. not (mark b)) text 0 at → at < length text
     → escaped bytes text
     ≡ take at text ++ backslash ∷ get_or text at 0 ∷ escaped bytes (take (length text - (at + 1)) (drop (at + 1) text))
-escaped_first bytes text mark at same run within = grind (arith, zero-add, rest_of, add-one, escaped_at)
+escaped_first bytes text mark at same run within = grind (arith, not-true, not-false, rest_of, add-one, escaped_at)
 
 -- if no byte is found, the text stays
 pub escaped_none : (bytes text : List ℕ) (mark : ℕ → Bool) (at : ℕ)
-    → ((b : ℕ) → mark b ≡ is_one_of bytes b) → ComeBefore mark text 0 (length text) at → at ≡ length text
+    → ((b : ℕ) → mark b ≡ is_one_of bytes b) → IsRunAt (λ b. not (mark b)) text 0 at → at ≡ length text
     → escaped bytes text ≡ text
-escaped_none bytes text mark at same run all = grind (arith, escaped_same)
+escaped_none bytes text mark at same run all = grind (arith, not-true, escaped_same)
 
 -- a power of ten is positive
 power_positive : (k : ℕ) → 0 < 10 ^ k

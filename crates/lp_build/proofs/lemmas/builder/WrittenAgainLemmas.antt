@@ -1,8 +1,7 @@
 -- Parsed lines that are written again: their points, and the texts of their parts.
 use Rattle.std.proofs.Common.{◌≡◌, ℕ, Bool, ◌&&◌, List, [], ◌∷◌, ◌++◌, map, length, refl, ap, arith, flat_map, option_map}
-use Rattle.std.specs.List.{list_all}
-use Rattle.lp_values.specs.declared.escaped.EscapedStr.{EscapedStr}
-use Rattle.lp_values.specs.declared.values.FieldValue.{FieldValue}
+use Rattle.std.proofs.lemmas.List.Folds.{flat_map-map, list_all-map}
+use Rattle.lp_values.specs.declared.{escaped.EscapedStr.EscapedStr, values.FieldValue.FieldValue}
 use Rattle.lp_lines.specs.declared.parsed.ParsedLine.{ParsedLine}
 use Rattle.lp_build.specs.declared.builder.lines.Parts.{Parts}
 use Rattle.lp_format.specs.format.{comma, space, built, built_tag, line_of, is_admitted_tag, is_admitted_field, logical_tag, logical_field}
@@ -17,27 +16,8 @@ pub length_fields_after : (fields : List (EscapedStr × FieldValue))
 length_fields_after [] = refl
 length_fields_after (f ∷ fields) = refl
 
--- the tags of the point, by the parsed ones
-pub tags_text_is : (tags : List (EscapedStr × EscapedStr))
-    → flat_map built_tag (map logical_tag (map tag_of tags)) ≡ flat_map tag_text tags
-tags_text_is [] = refl
-tags_text_is (t ∷ tags) = ap (λ (text : List ℕ). tag_text t ++ text) (tags_text_is tags)
-
--- whether they are admitted, by the parsed ones
-pub tags_admitted : (tags : List (EscapedStr × EscapedStr))
-    → list_all is_admitted_tag (map logical_tag (map tag_of tags)) ≡ list_all (λ t. is_admitted_tag (point_tag t)) tags
-tags_admitted [] = refl
-tags_admitted (t ∷ tags) = ap (λ (b : Bool). is_admitted_tag (point_tag t) && b) (tags_admitted tags)
-
--- the same of the fields
-pub fields_admitted : (fields : List (EscapedStr × FieldValue))
-    → list_all is_admitted_field (map logical_field (map field_of fields))
-    ≡ list_all (λ f. is_admitted_field (point_field f)) fields
-fields_admitted [] = refl
-fields_admitted (f ∷ fields) = ap (λ (b : Bool). is_admitted_field (point_field f) && b) (fields_admitted fields)
-
--- both sets
-pub ruleset sets = (tags_admitted, fields_admitted)
+-- whether all are admitted, by the parsed ones
+pub ruleset sets = (list_all-map)
 
 -- the text of a line, from that of its parts
 pub parts_text_is : (parts : Parts) (line : ParsedLine)
@@ -46,4 +26,4 @@ pub parts_text_is : (parts : Parts) (line : ParsedLine)
     → parts.fields.now ≡ line.field_set.items → parts.timestamp ≡ line.timestamp
     → parts_text parts ≡ built (parsed_point line)
 unfolding parts_text line_of
-parts_text_is parts line measurement tags fields timestamp = grind (arith, tags_text_is)
+parts_text_is parts line measurement tags fields timestamp = grind (arith, flat_map-map)

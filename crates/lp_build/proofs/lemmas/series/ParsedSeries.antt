@@ -101,21 +101,15 @@ separated_cut (t ∷ tags) text rest h =
       separated = (first.front ++ more.front, more.front, refl, first.again more.front rest more.is, more.separated);
     }
 
--- no fewer bytes are there than tags
-separated_room : (tags : List (Pair Text Text)) (text rest : List ℕ) → SeparatedAfterComma tag tags text rest → length tags ≤ length text
-separated_room [] text rest h = omega arith
-separated_room (t ∷ tags) text rest h =
-    let less = (tag_no_longer h.0).holds t h.1 h.3 in
-    let more = separated_room tags h.1 rest h.4 in
-    omega (arith, ap length h.2)
-
 -- tags up to the end of the text are read
-many_read : (n : ℕ) (tags : List (Pair Text Text)) (text : List ℕ) → SeparatedAfterComma tag tags text [] → length tags ≤ n
+many_read : (n : ℕ) (tags : List (Pair Text Text)) (text : List ℕ) → SeparatedAfterComma tag tags text [] → length text ≤ n
     → many (after_comma tag) n text ≡ reads tags []
 many_read zero [] text h room = ap (λ (r : List ℕ). reads [] r) h
-many_read zero (t ∷ tags) text h room = absurd (omega arith)
+many_read zero (t ∷ tags) text h room = absurd (omega (arith, ap length h.2))
 many_read (suc n) [] text h room = rw h refl
-many_read (suc n) (t ∷ tags) text h room = rw (h.2, h.3, many_read n tags h.1 h.4 (omega arith)) refl
+many_read (suc n) (t ∷ tags) text h room =
+    let room : length h.1 ≤ n = omega (arith, ap length h.2, (tag_no_longer h.0).holds t h.1 h.3) in
+    rw (h.2, h.3, many_read n tags h.1 h.4 room) refl
 
 -- these tags, and no set if there are none
 abbrev set_of : List (Pair Text Text) → Option (List (Pair Text Text))
@@ -129,7 +123,7 @@ set_tags tags = grind (arith)
 -- they are read as a set
 set_read : (tags : List (Pair Text Text)) (text : List ℕ) → SeparatedAfterComma tag tags text []
     → tag_set text ≡ Ok (record { value = set_of tags; rest = [] })
-set_read tags text h = grind (arith, many_read, separated_room)
+set_read tags text h = grind (arith, many_read)
 
 -- a series that was read reads back
 pub read_series_are_parsed : ReadSeriesAreParsed

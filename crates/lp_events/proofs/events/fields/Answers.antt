@@ -1,6 +1,5 @@
 use Rattle.std.proofs.Common.{◌<◌, length, rules, arith}
-use Rattle.std.proofs.lemmas.Grind.{common_steps}
-use Rattle.std.proofs.lemmas.Result.{err_from_is_err_and}
+use Rattle.std.proofs.lemmas.{Grind.common_steps, Result.err_from_is_err_and}
 use Rattle.lp_format.specs.format.Lines.{field}
 use Rattle.lp_events.specs.code.Events.{spelled_field, valued}
 use Rattle.lp_events.proofs.lemmas.events.LineEvents.{told_all, told_fatal, told_last, told_next}

@@ -1,17 +1,15 @@
--- What a sink was told of a line, one event after another, and of the pieces of a text.
-use Rattle.std.proofs.Common.{◌≡◌, ℕ, ◌+◌, ◌<◌, List, [], ◌∷◌, ◌++◌, length, length-append, map, refl, arith, inl, inr, true, false, ◌∙◌}
-use Rattle.std.proofs.Common.{ap, append_assoc, Some, Ok, ℤ, ◌==◌, Option, Result, Err, Bor, append-nil}
-use Rattle.std.proofs.lemmas.List.{map_push}
-use Rattle.std.proofs.lemmas.List.Concat.{flat_map-append}
+-- What a sink was told of a line, one event after another, and of the lines of a text.
+use Rattle.std.proofs.Common.{◌≡◌, ℕ, ◌+◌, ◌<◌, List, [], ◌∷◌, ◌++◌, length, length-append, map, refl, arith, inl, inr, true}
+use Rattle.std.proofs.Common.{append_assoc, Some, Ok, ℤ, ◌==◌, Option, Err, Bor, append-nil, All, eq-eqb, ne_eqb}
+use Rattle.std.proofs.lemmas.{List.map_push, List.Elements.All-head, List.Elements.All-tail}
 use Rattle.lp_format.specs.format.{comma, Fault, Reading, fatal, miss, reads, Text, cannot_parse_entire_line, byte, separated_list, Line}
-use Rattle.lp_format.specs.format.{answer, some_tags, complete, Dialect, answers_of, answers_of_piece, GivesPiece, Left, PiecesLeft}
-use Rattle.lp_format.specs.format.Pieces.{Pieces}
-use Rattle.lp_format.specs.format.{Pair, trimmed, Value}
+use Rattle.lp_format.specs.format.{answer, some_tags, complete, Dialect, answers_of, answers_of_piece, Left, Pair, trimmed, Value}
 use Rattle.lp_values.specs.declared.spelled.SpelledFault.{SpelledFault}
 use Rattle.lp_values.specs.code.SpelledParts.{spelled_fault}
 use Rattle.lp_events.specs.code.Events.{AreCounted, Event, TakesAll, WasToldParts, AreEventsOf, AreEventsOfAll, AreToldBefore, WasTold}
 use Rattle.lp_events.specs.code.Events.{ended, front_events, named, tagged, valued}
-use Rattle.lp_events.specs.code.EventsLeft.{SoFar}
+use Rattle.lp_events.specs.code.EventsLeft.{AreEventsLeft, Completes, SoFar}
+use Rattle.lp_events.specs.code.LineSteps.{GivesLine, IsBlankPiece}
 use Rattle.lp_events.proofs.lemmas.fields.ManyLemmas.{Reached, last_read, reached_all, reached_fatal, reached_more}
 
 -- some events and then others
@@ -125,55 +123,64 @@ module _ {S : Type 0} (takes : S → Event → S → Type 0) (before begun mid a
         are = (record { series = series; measurement = m; tags = set; fields = fields; timestamp = time }, is, rw tags_are refl);
       }
 
--- the events of a piece that is not blank are those of its line
-pub told_piece : {S : Type 0} (takes : S → Event → S → Type 0) (before after : S) (dialect : Dialect) (piece : List ℕ)
-    → (length (trimmed piece) == 0) ≡ false
-    → WasTold takes before after (λ events. AreEventsOf events (answer dialect (trimmed piece)))
-    → WasTold takes before after (λ events. AreEventsOfAll events (answers_of_piece dialect piece))
+-- blank pieces have no events
+pub blank_events : (dialect : Dialect) (skipped : List (List ℕ)) → All IsBlankPiece skipped → AreEventsOfAll [] (answers_of dialect skipped)
 unfolding answers_of_piece
-told_piece takes before after dialect piece some was = grind (arith, append-nil)
+blank_events dialect [] blank = refl
+blank_events dialect (p ∷ skipped) blank =
+    let e : (length (trimmed p) == 0) ≡ true = eq-eqb (length (trimmed p)) 0 (All-head IsBlankPiece p skipped blank) in
+    rw e (blank_events dialect skipped (All-tail IsBlankPiece p skipped blank))
 
--- nothing is told of a blank piece
-pub told_blank : {S : Type 0} (takes : S → Event → S → Type 0) (before : S) (dialect : Dialect) (piece : List ℕ)
-    → (length (trimmed piece) == 0) ≡ true
-    → WasTold takes before before (λ events. AreEventsOfAll events (answers_of_piece dialect piece))
+-- the events of a line after blank pieces, and of the pieces after it
+line_first : (dialect : Dialect) (skipped : List (List ℕ)) (piece : List ℕ) (pieces : List (List ℕ)) (first others events : List Event)
+    → All IsBlankPiece skipped → 0 < length (trimmed piece) → events ≡ first ++ others → AreEventsOf first (answer dialect (trimmed piece))
+    → AreEventsOfAll others (answers_of dialect pieces) → AreEventsOfAll events (answers_of dialect (skipped ++ piece ∷ pieces))
 unfolding answers_of_piece
-told_blank takes before dialect piece blank = record { events = []; told = refl; are = rw blank refl }
+line_first dialect [] piece pieces first others events blank some is one all = grind (arith, ne_eqb)
+line_first dialect (p ∷ skipped) piece pieces first others events blank some is one all =
+    let e : (length (trimmed p) == 0) ≡ true = eq-eqb (length (trimmed p)) 0 (All-head IsBlankPiece p skipped blank) in
+    rw e (line_first dialect skipped piece pieces first others events (All-tail IsBlankPiece p skipped blank) some is one all)
 
--- the events of some answers and then of others
-all_append : (events more : List Event) (answers others : List (Result Line Fault)) → AreEventsOfAll events answers
-    → AreEventsOfAll more others → AreEventsOfAll (events ++ more) (answers ++ others)
-all_append events more [] others none after = rw none after
-all_append events more (answer ∷ answers) others (first, later, is, one, all) after =
-    (first, later ++ more, ap (λ (x : List Event). x ++ more) is ∙ append_assoc first later more, one, all_append later more answers others all after)
+-- what completes the line that was found was left before it
+pub line_left : (before after : Left) (line : Bor (List ℕ)) (events : List Event) → GivesLine before (Some line) after
+    → Completes line.now [] after events → AreEventsLeft before events
+line_left before after line events found h = grind (arith, line_first)
 
--- some pieces were told, and these are left
-pub record ToldPieces {S : Type 0} (takes : S → Event → S → Type 0) (before after : S) (dialect : Dialect) (text : List ℕ)
-    (others : List (List ℕ)) : Type 0 where
-  pub pieces : List (List ℕ)
-  pub left : Pieces dialect text (pieces ++ others)
-  pub was : WasTold takes before after (λ events. AreEventsOfAll events (answers_of dialect pieces))
+-- a sink was told of events, and with those that are left now they were left before
+abbrev pub ToldTo : {S : Type 0} → (S → Event → S → Type 0) → S → S → (List Event → Type 0) → (List Event → Type 0) → Type 0
+ToldTo takes before after WereLeft AreLeft =
+    WasTold takes before after (λ events. (others : List Event) → AreLeft others → WereLeft (events ++ others))
 
--- some pieces were told, and the others are still to be given
-abbrev pub ToldUpTo : {S : Type 0} → (S → Event → S → Type 0) → S → S → Dialect → List ℕ → Left → Type 0
-ToldUpTo takes before after dialect text left =
-    (others : List (List ℕ)) → PiecesLeft left others → ToldPieces takes before after dialect text others
+module _ {S : Type 0} (takes : S → Event → S → Type 0) (before mid after : S) where
+  -- it was told of more
+  pub told_then : (First Then Last : List Event → Type 0) → ToldTo takes before mid First Then → ToldTo takes mid after Then Last
+      → ToldTo takes before after First Last
+  told_then First Then Last so_far more =
+      record {
+        events = so_far.events ++ more.events;
+        told = takes_append takes before mid after so_far.events more.events so_far.told more.told;
+        are = λ others left. rw append_assoc (so_far.are (more.events ++ others) (more.are others left));
+      }
 
--- one piece more was told
-pub told_next_piece : {S : Type 0} (takes : S → Event → S → Type 0) (before mid after : S) (dialect : Dialect) (text : List ℕ)
-    (left next : Left) (piece : Bor (List ℕ)) → ToldUpTo takes before mid dialect text left → GivesPiece left (Some piece) next
-    → WasTold takes mid after (λ events. AreEventsOfAll events (answers_of_piece dialect piece.now))
-    → ToldUpTo takes before after dialect text next
-told_next_piece takes before mid after dialect text left next piece so_far given was others are =
-    let told = so_far (piece.now ∷ others) (given.1 others are) in
-    let one : AreEventsOfAll was.events (answers_of dialect (piece.now ∷ [])) = rw (append-nil (answers_of_piece dialect piece.now)) was.are in
-    record {
-      pieces = told.pieces ++ piece.now ∷ [];
-      left = rw append_assoc told.left;
-      was = record {
-        events = told.was.events ++ was.events;
-        told = takes_append takes before mid after told.was.events was.events told.was.told was.told;
-        are = rw (flat_map-append (answers_of_piece dialect) told.pieces (piece.now ∷ []))
-            (all_append told.was.events was.events (answers_of dialect told.pieces) (answers_of dialect (piece.now ∷ [])) told.was.are one);
-      };
-    }
+  -- it was told of one event
+  pub told_one : (event : Event) (WereLeft AreLeft : List Event → Type 0) → takes mid event after
+      → ((others : List Event) → AreLeft others → WereLeft (event ∷ others)) → ToldTo takes mid after WereLeft AreLeft
+  told_one event WereLeft AreLeft one given = record { events = event ∷ []; told = (after, one, refl); are = given }
+
+  -- it was told of a line that was found
+  pub told_line : (dialect : Dialect) (found left : Left) (line : Bor (List ℕ)) → found.dialect ≡ dialect → GivesLine found (Some line) left
+      → WasTold takes mid after (λ events. AreEventsOf events (answer dialect line.now))
+      → ToldTo takes mid after (AreEventsLeft found) (AreEventsLeft left)
+  told_line dialect found left line same given was =
+      record {
+        events = was.events;
+        told = was.told;
+        are = λ others later. line_left found left line (was.events ++ others) given
+            (record { first = was.events; others = others; events_are = refl; line_is = rw (given.0, same) was.are; others_are = later });
+      }
+
+-- if nothing is left, it was told of all
+pub told_to_end : {S : Type 0} (takes : S → Event → S → Type 0) (before after : S) (WereLeft AreLeft : List Event → Type 0)
+    → ToldTo takes before after WereLeft AreLeft → AreLeft [] → WasTold takes before after WereLeft
+told_to_end takes before after WereLeft AreLeft so_far none =
+    record { events = so_far.events; told = so_far.told; are = rw append-nil at (so_far.are [] none) }

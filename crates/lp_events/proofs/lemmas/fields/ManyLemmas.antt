@@ -5,8 +5,7 @@ use Rattle.std.proofs.lemmas.Bool.{cases_Bool}
 use Rattle.lp_format.specs.format.{comma, Dialect, Fault, Text, Read, Reading, miss, fatal, reads, name, a_measurement, Pair, Value}
 use Rattle.lp_format.specs.format.{after_comma, byte, field, field_set, many, prepend, separated_list, some_tags, tag, tag_set}
 use Rattle.lp_format.specs.laws.Meanings.{SeparatedBy, SeparatedAfterComma}
-use Rattle.lp_format.proofs.lemmas.meanings.JoinedMeaning.{the_most_is_read}
-use Rattle.lp_format.proofs.lemmas.meanings.ShorterRests.{tag_no_longer}
+use Rattle.lp_format.proofs.lemmas.meanings.{JoinedMeaning.the_most_is_read, ShorterRests.tag_no_longer}
 use Rattle.lp_values.proofs.lemmas.fields.ReadingLemmas.{EndsIn, EndsIn-end, EndsIn-self, bind_reads, byte_ends, byte_parts, name_ends}
 use Rattle.lp_values.proofs.lemmas.fields.ReadingLemmas.{tag_ends}
 use Rattle.lp_events.specs.code.EventsLeft.{SoFar}

@@ -1,10 +1,10 @@
 -- The pieces that a call of `next_line` skips, and how many bytes, pieces and items are left after it.
 use Rattle.std.proofs.Common.{◌≡◌, ℕ, ◌+◌, ◌<◌, ◌≤◌, List, [], ◌∷◌, ◌++◌, length, Bool, true, false, ap, refl, sym, arith, append_assoc}
-use Rattle.std.proofs.Common.{cond, length-append, ◌==◌, ◌||◌, Option, Some, None, Bor, All}
+use Rattle.std.proofs.Common.{cond, length-append, Option, Some, None, Bor, All}
 use Rattle.std.proofs.lemmas.List.Elements.{All-push}
-use Rattle.lp_format.specs.format.{hash, newline, Dialect, Left, PiecesLeft, most_pieces, trimmed}
+use Rattle.lp_format.specs.format.{newline, Dialect, Left, PiecesLeft, most_pieces, trimmed}
 use Rattle.lp_format.specs.format.Pieces.{Pieces, Pieces.last, Pieces.cut}
-use Rattle.lp_format.proofs.lemmas.line.TrimLemmas.{is_blank, left_of, trimmed_is}
+use Rattle.lp_format.proofs.lemmas.line.TrimLemmas.{left_of, trimmed_is}
 use Rattle.lp_format.proofs.lemmas.split.SplitPieces.{pieces_exist}
 use Rattle.lp_events.specs.code.LineSteps.{GivesLine, IsBlankPiece, most_items}
 
@@ -69,12 +69,7 @@ either_fits x0 xs ys n h k = grind (arith)
 -- what is left of a text when it is trimmed is no longer than the text
 left_fits : (in_comment : Bool) (text : List ℕ) → length (left_of in_comment text) ≤ length text
 left_fits in_comment [] = omega arith
-left_fits in_comment (b ∷ rest) =
-    let n = length (b ∷ rest) in
-    let outside : length (left_of false rest) ≤ n = omega (arith, left_fits false rest) in
-    let inside : length (left_of true rest) ≤ n = omega (arith, left_fits true rest) in
-    either_fits (b == newline) _ _ n outside
-    (either_fits (in_comment || b == hash) _ _ n inside (either_fits (is_blank b) _ (b ∷ rest) n outside (omega arith)))
+left_fits in_comment (b ∷ rest) = grind (arith, left_fits false rest, left_fits true rest, either_fits)
 
 -- a piece is no shorter than what is left of it when it is trimmed
 trimmed_fits : (piece : List ℕ) → length (trimmed piece) ≤ length piece

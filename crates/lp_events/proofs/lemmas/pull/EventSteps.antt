@@ -1,27 +1,21 @@
--- What one step of a reader means for the events that are left, and what a sink was told of those that came.
+-- What one step of a reader means for the events that are left.
 use Rattle.std.proofs.Common.{◌≡◌, ℕ, ◌-◌, ◌<◌, List, [], ◌∷◌, ◌++◌, length, drop, Bool, true, false, refl, sym, ◌∙◌, ap, subst, arith}
-use Rattle.std.proofs.Common.{append_assoc, length-append, length-drop, length-take, ◌+◌, ◌≤◌, eq-eqb, ℤ, ◌==◌, MatchOption, Option, Some}
-use Rattle.std.proofs.Common.{Result, Ok, Err, is_some, IfOk, MatchResult, Bor, ne_eqb, append-nil, All}
-use Rattle.std.proofs.lemmas.Bool.{cases_Bool}
-use Rattle.std.proofs.lemmas.Bool.Decides.{nat_tests}
-use Rattle.std.proofs.lemmas.List.{map_push}
+use Rattle.std.proofs.Common.{append_assoc, length-append, length-drop, length-take, ◌+◌, ◌≤◌, ℤ, ◌==◌, MatchOption, Option, Some}
+use Rattle.std.proofs.Common.{Result, Ok, Err, is_some, IfOk, MatchResult, Bor, ne_eqb, append-nil}
 use Rattle.std.proofs.Math.Seq.{take-append_seam}
-use Rattle.std.proofs.lemmas.List.Elements.{All-head, All-tail}
+use Rattle.std.proofs.lemmas.{Bool.cases_Bool, Bool.Decides.nat_tests, List.map_push}
 use Rattle.lp_events.specs.declared.pull.Event as given
 use Rattle.lp_format.specs.format.{comma, space, Dialect, after_comma, answer, byte, field, field_set, front_before, spaces, tag, timestamp}
 use Rattle.lp_format.specs.format.{without_comma, complete, NameKind, name, Left, Pair, Fault, Text, cannot_parse_entire_line, fatal, miss}
-use Rattle.lp_format.specs.format.{reads, tag_set_malformed, Value, answers_of, answers_of_piece, trimmed}
+use Rattle.lp_format.specs.format.{reads, tag_set_malformed, Value}
 use Rattle.lp_values.proofs.lemmas.fields.ReadingLemmas.{EndsIn, bind_reads, byte_parts, name_parts}
 use Rattle.lp_values.specs.declared.spelled.SpelledFault.{SpelledFault}
-use Rattle.lp_events.specs.code.Events.{AreEventsOf, AreFrontEvents, Event, ended, failed, front_events, tagged, valued, AreEventsOfAll}
-use Rattle.lp_events.specs.code.Events.{TakesAll}
-use Rattle.lp_events.specs.code.EventsLeft.{AreEventsLeft, Completes, FieldsRead, NamesRead, SeriesRead, Steps, told, GivesEvent}
-use Rattle.lp_events.specs.code.EventsLeft.{HasEventsLeft, most_of_line}
-use Rattle.lp_events.specs.declared.place.Place.{Place}
+use Rattle.lp_events.specs.code.Events.{AreEventsOf, AreFrontEvents, Event, ended, failed, front_events, tagged, valued}
+use Rattle.lp_events.specs.code.EventsLeft.{AreEventsLeft, Completes, FieldsRead, NamesRead, SeriesRead, Steps}
+use Rattle.lp_events.specs.code.EventsLeft.{most_of_line}
+use Rattle.lp_events.specs.declared.{place.Place.Place}
 use Rattle.lp_events.proofs.lemmas.fields.ManyLemmas.{so_far_end, so_far_fatal, so_far_more, so_far_start, comma_cases}
-use Rattle.lp_events.specs.code.LineSteps.{GivesLine, IsBlankPiece}
-use Rattle.lp_events.specs.declared.pull.ParseEvents.{ParseEvents}
-use Rattle.lp_events.proofs.lemmas.events.LineEvents.{takes_more, complete_none, complete_some}
+use Rattle.lp_events.proofs.lemmas.events.LineEvents.{complete_none, complete_some}
 
 -- a line that is completed after one event more is completed with that event
 pub completes_more : {line : List ℕ} {front : List Event} {event : Event} {left : Left} {others : List Event}
@@ -181,44 +175,7 @@ pub field_after : (m : Text) (tags : List (Pair Text Text)) (fields : List (Pair
     → front_events m tags (fields ++ x ∷ []) ≡ front_events m tags fields ++ valued x ∷ []
 field_after m tags fields x = simp (append_assoc, map_push)
 
--- blank pieces have no events
-pub blank_events : (dialect : Dialect) (skipped : List (List ℕ)) → All IsBlankPiece skipped → AreEventsOfAll [] (answers_of dialect skipped)
-unfolding answers_of_piece
-blank_events dialect [] blank = refl
-blank_events dialect (p ∷ skipped) blank =
-    let e : (length (trimmed p) == 0) ≡ true = eq-eqb (length (trimmed p)) 0 (All-head IsBlankPiece p skipped blank) in
-    rw e (blank_events dialect skipped (All-tail IsBlankPiece p skipped blank))
-
--- the events of a line after blank pieces, and of the pieces after it
-line_first : (dialect : Dialect) (skipped : List (List ℕ)) (piece : List ℕ) (pieces : List (List ℕ)) (first others events : List Event)
-    → All IsBlankPiece skipped → 0 < length (trimmed piece) → events ≡ first ++ others → AreEventsOf first (answer dialect (trimmed piece))
-    → AreEventsOfAll others (answers_of dialect pieces) → AreEventsOfAll events (answers_of dialect (skipped ++ piece ∷ pieces))
-unfolding answers_of_piece
-line_first dialect [] piece pieces first others events blank some is one all = grind (arith, ne_eqb)
-line_first dialect (p ∷ skipped) piece pieces first others events blank some is one all =
-    let e : (length (trimmed p) == 0) ≡ true = eq-eqb (length (trimmed p)) 0 (All-head IsBlankPiece p skipped blank) in
-    rw e (line_first dialect skipped piece pieces first others events (All-tail IsBlankPiece p skipped blank) some is one all)
-
--- what completes the line that was found was left before it
-pub line_left : (before after : Left) (line : Bor (List ℕ)) (events : List Event) → GivesLine before (Some line) after
-    → Completes line.now [] after events → AreEventsLeft before events
-line_left before after line events found h = grind (arith, line_first)
-
 -- after a step that leaves fewer events of a line, fewer are left
 pub step_less : (result : Result (given.Event × Place) SpelledFault) (line after before : ℕ) → IfOk result (λ p. most_of_line p.1 < line + 1)
     → line + 1 + after ≤ before → MatchResult result (λ p. most_of_line p.1 + after < before) (λ fault. after < before)
 step_less fault line after before less fits = grind (arith)
-
--- a sink was told of events, and with those that are left now they were left at the start
-abbrev pub ToldFrom : {S : Type 0} → (S → Event → S → Type 0) → S → S → ParseEvents → ParseEvents → Type 0
-ToldFrom takes before after start reader =
-    (others : List Event) → HasEventsLeft reader others
-    → (events : List Event) × TakesAll takes before events after × HasEventsLeft start (events ++ others)
-
--- it was told of one event more
-pub told_from_more : {S : Type 0} (takes : S → Event → S → Type 0) (before mid after : S) (start reader next : ParseEvents)
-    (event : given.Event) → ToldFrom takes before mid start reader → GivesEvent reader (Some event) next → takes mid (told event) after
-    → ToldFrom takes before after start next
-told_from_more takes before mid after start reader next event so_far given one = λ others later.
-    let was = so_far (told event ∷ others) (given others later) in
-    (was.0 ++ told event ∷ [], takes_more takes before mid after was.0 (told event) was.1 one, rw append_assoc was.2)

@@ -1,6 +1,5 @@
 use Rattle.std.proofs.Common.{◌≡◌, ◌<◌, ◌∙◌, [], ◌∷◌, ◌++◌, length, arith, refl, sym, inr, eqb-true}
-use Rattle.std.proofs.lemmas.Grind.{common_steps}
-use Rattle.std.proofs.lemmas.Result.{err_from_is_err_and}
+use Rattle.std.proofs.lemmas.{Grind.common_steps, Result.err_from_is_err_and}
 use Rattle.lp_split.specs.code.{rules_of}
 use Rattle.lp_events.specs.code.Events.{spelled_field}
 use Rattle.lp_events.proofs.lemmas.pull.EventSteps.{completes_end, completes_fault, completes_more, field_after, fields_fatal, fields_more}

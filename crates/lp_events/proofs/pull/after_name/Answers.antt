@@ -1,10 +1,8 @@
 use Rattle.std.proofs.Common.{◌≡◌, [], ◌∷◌, ◌++◌, true, refl, sym, ◌∙◌, inr, arith}
-use Rattle.std.proofs.lemmas.Grind.{common_steps}
-use Rattle.std.proofs.lemmas.Result.{err_from_is_err_and}
+use Rattle.std.proofs.lemmas.{Grind.common_steps, Result.err_from_is_err_and}
 use Rattle.lp_format.specs.format.{comma, byte, tag, miss}
 use Rattle.lp_values.proofs.lemmas.fields.ReadingLemmas.{EndsIn, EndsIn-end, after_comma_ends, tag_ends}
-use Rattle.lp_events.specs.code.Events.{spelled_tag}
-use Rattle.lp_events.specs.code.EventsLeft.{AreLeftAfterSeries, AreLeftFrom}
+use Rattle.lp_events.specs.code.{Events.spelled_tag, EventsLeft.AreLeftAfterSeries, EventsLeft.AreLeftFrom}
 use Rattle.lp_events.specs.declared.place.Place.TheVariants.{Names}
 use Rattle.lp_events.proofs.lemmas.pull.EventSteps.{completes_fault, completes_more, front_is, names_end, names_fatal, names_malformed}
 use Rattle.lp_events.proofs.lemmas.pull.EventSteps.{names_more, not_stripped, steps_from, stripped, tag_after}

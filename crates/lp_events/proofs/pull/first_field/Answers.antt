@@ -1,6 +1,5 @@
 use Rattle.std.proofs.Common.{[], ◌∷◌, arith}
-use Rattle.std.proofs.lemmas.Grind.{common_steps}
-use Rattle.std.proofs.lemmas.Result.{err_from_is_err_and}
+use Rattle.std.proofs.lemmas.{Grind.common_steps, Result.err_from_is_err_and}
 use Rattle.lp_format.specs.format.Lines.{answer}
 use Rattle.lp_events.specs.code.Events.{spelled_field}
 use Rattle.lp_events.proofs.lemmas.pull.EventSteps.{completes_fault, completes_more, field_after, first_read}

@@ -5,7 +5,7 @@ use Rattle.std.proofs.Common.{eqb-true, ne_eqb}
 use Rattle.std.specs.List.{join_with_byte, slice_split}
 use Rattle.std.proofs.lemmas.Bool.{cases_Bool, or_right, eqb-false}
 use Rattle.std.proofs.lemmas.Grind.{common_steps}
-use Rattle.std.proofs.lemmas.List.Splits.{join_with_byte-slice_split}
+use Rattle.std.proofs.lemmas.List.Splits.{join_with_byte-slice_split, length-slice_split}
 use Rattle.std.proofs.lemmas.List.{drop_all, drop_more}
 use Rattle.lp_format.specs.format.{hash, is_one_of, newline, space, tab, is_comment_or_empty, trimmed, without_blanks, without_front}
 use Rattle.std.proofs.lemmas.List.Elements.{All-cons, All-nil}
@@ -50,35 +50,16 @@ module _ (b : ℕ) (l : List ℕ) (ls : List (List ℕ)) where
   comment_first : b ≡ hash → from_lines ((b ∷ l) ∷ ls) ≡ from_lines ls
   comment_first e = rw (e, one-add) refl
 
--- a text has a first line
-record Lines (text : List ℕ) : Type 0 where
-  first : List ℕ
-  others : List (List ℕ)
-  are : lines_of text ≡ first ∷ others
-
--- each text is some lines, joined by newlines
-has_lines : (text : List ℕ) → Lines text
-has_lines [] = record { first = []; others = []; are = refl }
-has_lines (b ∷ text) =
-    let more = has_lines text in
-    elim (cases_Bool (b == newline)) [
-      | inl cut ↦ record { first = []; others = lines_of text; are = rw cut refl }
-      | inr on ↦ record { first = b ∷ more.first; others = more.others; are = rw (on, more.are) refl }
-    ]
-
 -- a text is trimmed from left to right, and in a comment from the next line on
 record Left (text : List ℕ) : Type 0 where
   outside : from_lines (lines_of text) ≡ left_of false text
   inside : from_lines (drop 1 (lines_of text)) ≡ left_of true text
 
--- what is left of a text that begins with another byte, from what is left after it
-other_left : (b : ℕ) (text : List ℕ) → (b == newline) ≡ false → Left text → Left (b ∷ text)
-other_left b text on more =
-    let l = (has_lines text).first in
-    let ls = (has_lines text).others in
-    let are = (has_lines text).are in
-    let separated_list : join_with_byte newline
-    (l ∷ ls) ≡ text = ap (λ (ls : List (List ℕ)). join_with_byte newline ls) (sym are) ∙ join_with_byte-slice_split 10 text in
+-- what is left of a text that begins with another byte, from what is left after it and the lines after it
+other_left : (b : ℕ) (text : List ℕ) (lines : List (List ℕ)) → lines_of text ≡ lines → (b == newline) ≡ false → Left text → Left (b ∷ text)
+other_left b text [] are on more = absurd (omega (arith, ap length are, length-slice_split (λ b. b == newline) text))
+other_left b text (l ∷ ls) are on more =
+    let joined : join_with_byte newline (l ∷ ls) ≡ text = ap (join_with_byte newline) (sym are) ∙ join_with_byte-slice_split 10 text in
     grind (arith, cases_Bool, comment_first, eqb-true, blank_first, join_first)
 
 -- skipping byte by byte leaves what skipping line by line does
@@ -87,7 +68,7 @@ left_is [] = record { outside = refl; inside = refl }
 left_is (b ∷ text) =
     elim (cases_Bool (b == newline)) [
       | inl cut ↦ record { outside = rw (cut, one-add) (left_is text).outside; inside = rw cut (left_is text).outside }
-      | inr on ↦ other_left b text on (left_is text)
+      | inr on ↦ other_left b text (lines_of text) refl on (left_is text)
     ]
 
 -- a trimmed text is what skipping byte by byte leaves
@@ -105,15 +86,10 @@ pub left_hash : (in_comment : Bool) (text : List ℕ) (i : ℕ) → i < length t
     → left_of in_comment (drop i text) ≡ left_of true (drop (i + 1) text)
 left_hash in_comment text i lt e = rw (drop_more text i 0 lt, e, or_right in_comment true refl) refl
 
--- inside a comment each byte but a newline is skipped
-pub left_inside : (text : List ℕ) (i : ℕ) → i < length text → slice_index text i ≢ newline
-    → left_of true (drop i text) ≡ left_of true (drop (i + 1) text)
-left_inside text i lt other = rw (drop_more text i 0 lt, ne_eqb (slice_index text i) newline other) refl
-
 -- a blank is skipped
 pub left_blank : (in_comment : Bool) (text : List ℕ) (i : ℕ) → i < length text
     → is_blank (slice_index text i) ≡ true → left_of in_comment (drop i text) ≡ left_of in_comment (drop (i + 1) text)
-left_blank in_comment text i lt e = grind (arith, left_inside, drop_more)
+left_blank in_comment text i lt e = grind (arith, drop_more, ne_eqb)
 
 -- what begins with another byte is kept
 pub left_kept : (text : List ℕ) (i : ℕ) → i < length text → slice_index text i ≢ newline → slice_index text i ≢ hash
@@ -145,11 +121,7 @@ module _ (b : ℕ) (text after : List ℕ) where
 
   -- a comment before such a front
   front_comment : b ≡ hash → Inside text after → Outside (b ∷ text) after
-  front_comment h f = (
-    hash ∷ f.0 ++ f.1,
-    ap (λ c. c ∷ text) h ∙ ap (λ t. hash ∷ t) (f.2 ∙ sym (append_assoc f.0 f.1 after)),
-    comment f.0 f.1 after f.3 f.4 f.5,
-  )
+  front_comment h f = (hash ∷ f.0 ++ f.1, grind (arith, append_assoc), comment f.0 f.1 after f.3 f.4 f.5)
 
   -- a comment ends before a newline
   comment_ends : b ≡ newline → Outside (b ∷ text) after → Inside (b ∷ text) after
@@ -166,8 +138,7 @@ fronts_are (b ∷ text) =
     let f = fronts_are text in
     elim (cases_Bool (b == newline)) [
       | inl h ↦
-          let known : is_white b = rw (eqb-true b newline h) refl in
-          let outside = front_blank b text (left_of false text) known f.0 in
+          let outside = front_blank b text (left_of false text) (rw (eqb-true b newline h) refl) f.0 in
           rw h (outside, comment_ends b text (left_of false text) (eqb-true b newline h) outside)
       | inr h ↦
           let inside = comment_more b text (left_of true text) (eqb-false b newline h) f.1 in
@@ -190,22 +161,11 @@ skip_comment [] rest plain = refl
 skip_comment (b ∷ end) rest plain =
     rw (ne_eqb b newline (plain 0 0 (omega arith))) (skip_comment end rest (λ k d l. plain (suc k) d (omega arith)))
 
--- a blank is no `#`, and one that is no newline is a space or a tab
-white_forms : (b : ℕ) → is_white b → ((b == hash) ≡ false) × ((b == newline) ≡ false → is_blank b ≡ true)
-white_forms b h = (grind (arith, common_steps), (λ on. grind (arith, common_steps)))
-
 -- a front of blanks and comments is skipped
 front_skipped : (front after : List ℕ) → IsBlankFront front after → left_of false (front ++ after) ≡ left_of false after
 front_skipped _ _ (empty after) = refl
-front_skipped _ _ (blank b front after h more) =
-    let forms = white_forms b h in
-    elim (cases_Bool (b == newline)) [
-      | inl cut ↦ rw cut (front_skipped front after more)
-      | inr on ↦ rw (on, forms.0, forms.1 on) (front_skipped front after more)
-    ]
-front_skipped _ _ (comment text front after plain stops more) =
-    ap (left_of true) (append_assoc text front after) ∙ skip_comment text (front ++ after) plain ∙ (grind arith)
-    ∙ front_skipped front after more
+front_skipped _ _ (blank b front after h more) = grind (arith, common_steps, cases_Bool, front_skipped front after more)
+front_skipped _ _ (comment text front after plain stops more) = grind (arith, append_assoc, skip_comment, front_skipped front after more)
 
 -- no such front is longer
 pub trimmed_is_longest : (piece front other after : List ℕ) → piece ≡ front ++ trimmed piece → piece ≡ other ++ after
@@ -213,13 +173,4 @@ pub trimmed_is_longest : (piece front other after : List ℕ) → piece ≡ fron
 trimmed_is_longest piece front other after e d h =
     let same : trimmed piece ≡ left_of false after = trimmed_is piece ∙ ap (left_of false) d ∙ front_skipped other after h in
     let left = (fronts_are after).0 in
-    omega (
-      arith,
-      ap length e,
-      ap length d,
-      ap length same,
-      ap length left.1,
-      length-append front (trimmed piece),
-      length-append other after,
-      length-append left.0 (left_of false after),
-    )
+    omega (arith, ap length e, ap length d, ap length same, ap length left.1, length-append {A = ℕ})

@@ -1,5 +1,5 @@
 -- Floats at the start of a text.
-use Rattle.std.proofs.Common.{◌≡◌, ◌≢◌, subst, if◌then◌else◌, ℕ, suc, ◌+◌, ◌-◌, Bool, ◌<◌, ◌≤◌, List, [], ◌∷◌, ◌++◌, length, take, drop}
+use Rattle.std.proofs.Common.{◌≡◌, ◌≢◌, subst, if◌then◌else◌, ℕ, suc, ◌+◌, Bool, ◌<◌, ◌≤◌, List, [], ◌∷◌, ◌++◌, length, take, drop}
 use Rattle.std.proofs.Common.{slice_index, true, false, refl, sym, ap, ◌∙◌, arith, inl, inr, one-add, zero-add, add-zero, ◌==◌}
 use Rattle.std.proofs.Common.{◌||◌, codes, IsUtf8, IsCharBoundary, IsAscii, take-add, eqb-true, eq-eqb, ne_eqb, le-leb, lt-ltb, ltb-true}
 use Rattle.std.proofs.Common.{append_assoc, take_all, take-append-drop, drop_at, drop-drop, length-append, length-drop, length-take-le}
@@ -49,10 +49,6 @@ marked_before marks part b x tail mark len some = rw (mark, len, lt-ltb 0 (lengt
 pub minus_no_digit : (d : ℕ) → is_ascii_digit d ≡ true → is_one_of (codes "-") d ≡ false
 minus_no_digit d h = grind (arith, common_steps)
 
--- a digit is no sign
-pub sign_no_digit : (d : ℕ) → is_ascii_digit d ≡ true → is_one_of (codes "+-") d ≡ false
-sign_no_digit d h = grind (arith, common_steps)
-
 -- a point is no digit
 point_no_digit : (d : ℕ) → is_one_of (codes ".") d ≡ true → is_ascii_digit d ≡ false
 point_no_digit d h = grind (arith, common_steps)
@@ -84,11 +80,8 @@ float_len_after whole suffix w ends =
 exponent_at_least : (m : ℕ) (x rest : List ℕ) → IsMarked (codes "eE") (IsSigned (codes "+-")) (m ∷ x)
     → suc (length x) ≤ exponent_len (m ∷ (x ++ rest))
 exponent_at_least m x rest (mark, part) =
-    omega (
-      arith,
-      marked_before (codes "eE") (number_len (codes "+-")) m x rest mark
-          (signed_before (codes "+-") x rest sign_no_digit part) (signed_some (codes "+-") x part),
-    )
+    let digits = signed_before (codes "+-") x rest (λ d h. grind (arith, common_steps)) part in
+    omega (arith, marked_before (codes "eE") (number_len (codes "+-")) m x rest mark digits (signed_some (codes "+-") x part))
 
 -- a fraction and an exponent take their bytes at least
 tail_at_least : (fraction exponent rest : List ℕ) → IsMarked (codes ".") (IsNumeral 10) fraction
@@ -99,8 +92,7 @@ tail_at_least (p ∷ y) [] rest (point, digits) e = grind (arith, marked_before,
 tail_at_least (p ∷ y) (m ∷ x) rest (point, digits) e =
     let after = m ∷ (x ++ rest) in
     let fraction : fraction_len (p ∷ (y ++ after)) ≡ suc (length y) =
-    marked_before (codes ".") digits_len p y after point (digits_before y after digits.1) digits.0
-    ∙ rw (mark_no_digit m e.0).0 (add-zero (suc (length y))) in
+    grind (arith, marked_before, digits_before, mark_no_digit, add-zero) in
     let past : drop (suc (length y)) (p ∷ (y ++ after)) ≡ after = drop_at (p ∷ y) after (suc (length y)) refl in
     rw (fraction, past) (omega (arith, exponent_at_least m x rest e))
 
@@ -119,16 +111,11 @@ float_at_least whole (p ∷ y) exponent rest w f e =
 
 -- no front that is a float is longer than the longest one
 pub float_len_longest : (t : List ℕ) (n : ℕ) → n ≤ length t → IsFloat (take n t) → n ≤ float_len t
-float_len_longest t n fits parts =
-    let whole = parts.0 in
-    let fraction = parts.1 in
-    let exponent = parts.2 in
-    let text : whole ++ (fraction ++ (exponent ++ drop n t)) ≡ t =
-    sym (simp append_assoc) ∙ ap (λ (xs : List ℕ). xs ++ drop n t) (sym parts.3) ∙ take-append-drop n t in
+float_len_longest t n fits (whole, fraction, exponent, is, w, f, e) =
+    let text : whole ++ (fraction ++ (exponent ++ drop n t)) ≡ t = grind (arith, append_assoc, take-append-drop) in
     let size : n ≡ length whole + length fraction + length exponent =
-    sym (length-take-le n t fits) ∙ ap length parts.3
-    ∙ omega (arith, length-append whole (fraction ++ exponent), length-append fraction exponent) in
-    omega (arith, size, float_at_least whole fraction exponent (drop n t) parts.4 parts.5 parts.6, ap float_len text)
+    omega (arith, length-take-le n t fits, ap length is, length-append {A = ℕ}) in
+    omega (arith, size, float_at_least whole fraction exponent (drop n t) w f e, ap float_len text)
 
 -- a number takes no more than there is
 number_len_fits : (signs t : List ℕ) → number_len signs t ≤ length t
@@ -173,17 +160,11 @@ float_len_float t some =
           let positive : 0 < w = omega (arith, eqb-false w 0 whole) in
           let len : float_len t ≡ w + f + exponent_len after = rw whole refl in
           let spelled : take (float_len t) t ≡ take w t ++ (take f suffix ++ take (exponent_len after) after) =
-          ap (λ n. take n t) len ∙ take-add (w + f) (exponent_len after) t
-          ∙ ap (λ (xs : List ℕ). xs ++ take (exponent_len after) after) (take-add w f t)
-          ∙ append_assoc (take w t) (take f suffix) (take (exponent_len after) after) in (
-            take w t,
-            take f suffix,
-            take (exponent_len after) after,
-            spelled,
-            signed_front (codes "-") t positive,
-            marked_front (codes ".") digits_len (IsNumeral 10) suffix (λ x h. front_numeral x (λ e. absurd (omega arith))),
-            marked_front (codes "eE") (number_len (codes "+-")) (IsSigned (codes "+-")) after (λ x h. signed_front (codes "+-") x h),
-          )
+          rw (len, take-add (w + f) (exponent_len after) t, take-add w f t)
+          (append_assoc (take w t) (take f suffix) (take (exponent_len after) after)) in
+          let fraction = marked_front (codes ".") digits_len (IsNumeral 10) suffix (λ x h. front_numeral x (λ e. absurd (omega arith))) in
+          let exponent = marked_front (codes "eE") (number_len (codes "+-")) (IsSigned (codes "+-")) after (signed_front (codes "+-")) in
+          (take w t, take f suffix, take (exponent_len after) after, spelled, signed_front (codes "-") t positive, fraction, exponent)
     ]
 
 -- a byte that a float can hold
@@ -238,12 +219,7 @@ float_len_fits t =
     let f = fraction_len (drop w t) in
     let fraction = marked_len_fits (codes ".") digits_len (drop w t) (prefix_len-le-length is_ascii_digit) in
     let exponent = marked_len_fits (codes "eE") (number_len (codes "+-")) (drop (w + f) t) (number_len_fits (codes "+-")) in
-    go w f (exponent_len (drop (w + f) t)) (integer_len_fits t)
-    (omega (arith, fraction, length-drop w t)) (omega (arith, exponent, length-drop (w + f) t))
-  where
-    -- parts that fit after one another fit together
-    go : (w f e : ℕ) → w ≤ length t → f ≤ length t - w → e ≤ length t - (w + f) → (if w == 0 then 0 else w + f + e) ≤ length t
-    go w f e a b c = grind (arith, nat_tests)
+    grind (arith, nat_tests, integer_len_fits, length-drop)
 
 -- after the longest float a text may be cut
 pub float_boundary : (t : List ℕ) → IsUtf8 t → float_len t ≤ length t → IsCharBoundary t (float_len t)
@@ -258,17 +234,11 @@ float_boundary t utf8 fits =
 
 -- a text that its longest float fills is a float
 pub float_whole : (t : List ℕ) → 0 < float_len t → length t ≤ float_len t → IsFloat t
-float_whole t some fills =
-    let P : List ℕ → Type 0 = IsFloat in
-    subst P (take_all (float_len t) t fills) (float_len_float t some)
+float_whole t some fills = grind (arith, take_all, float_len_float)
 
 -- and a float fills it
 pub float_fills : (t : List ℕ) → IsFloat t → (0 < float_len t) × (length t ≤ float_len t)
-float_fills t parts =
-    let P : List ℕ → Type 0 = IsFloat in
-    let fills : length t ≤ float_len t = grind (arith, float_len_longest, take_all) in
-    let size : length t ≡ length parts.0 + length parts.1 + length parts.2 = grind (arith, length-append) in
-    (omega (arith, fills, size, signed_some (codes "-") parts.0 parts.4), fills)
+float_fills t parts = grind (arith, float_len_longest, take_all, length-append, signed_some)
 
 -- what is at the start of a text as a float
 pub float_misses : (t : List ℕ) → float_len t ≡ 0 → float_at t ≡ miss
@@ -317,10 +287,7 @@ unmarked t rest n parts ends fits = elim (cases_lt n (length t)) [
       let byte = float_bytes t parts n 0 within in
       let same = get_or_append_left t rest 0 n within in
       rw same ((λ i. grind (arith, common_steps)), (λ i. grind (arith, common_steps)))
-  | inr past ↦
-      let at : n ≡ length t = omega arith in
-      let other = no_float_byte (slice_index rest 0) ends in
-      rw (at, byte_after t rest) (other.1, other.2)
+  | inr past ↦ grind (arith, no_float_byte, byte_after)
 ]
 
 -- a float at the start of a text: its whole part, after which no mark of an integer is, and what it is read as
@@ -337,10 +304,7 @@ float_front t rest parts ends =
     let text = t ++ rest in
     let len = float_ends t rest parts ends in
     let filled : 0 < float_len text = omega (arith, len, (float_fills t parts).0, float_len_fits t) in
-    let whole = integer_or_more text in
-    let digits = digits_no_more text in
-    let marks = unmarked t rest (integer_len text) parts ends (omega arith) in
-    grind (arith, cases_Bool, eqb-false, unsigned_unmarked, unmarked, float_reads, take_at, drop_at)
+    grind (arith, integer_or_more, digits_no_more, cases_Bool, eqb-false, unsigned_unmarked, unmarked, float_reads, take_at, drop_at)
 
 -- a float reads back before the end, a comma or a space
 pub float_reads_back : (t rest : List ℕ) → IsFloat t → Ends rest → value (t ++ rest) ≡ reads (float t) rest

@@ -2,11 +2,9 @@
 use Rattle.std.proofs.Common.{◌≡◌, ◌≢◌, ℕ, zero, suc, ◌<◌, ◌≤◌, List, [], ◌∷◌, ◌++◌, length, refl, sym, ap, ◌∙◌, subst, arith}
 use Rattle.std.proofs.Common.{length-append, eqb-true}
 use Rattle.std.proofs.lemmas.Bool.{cases_Bool}
-use Rattle.lp_format.specs.format.{Fault, Reading, miss, fatal, reads, after_comma, separated_list, many, prepend}
+use Rattle.lp_format.specs.format.{Fault, Reading, miss, fatal, reads, after_comma, separated_list, many, prepend, comma}
 use Rattle.lp_format.specs.laws.Meanings.{SeparatedBy, SeparatedAfterComma, LongestList, WholeList, NextHasFault, TheMostIsRead}
 use Rattle.lp_format.specs.laws.Meanings.{TheNextHasTheFault, TheFirstMisses}
-use Rattle.lp_format.proofs.lemmas.meanings.ShorterRests.{byte_reads}
-use Rattle.lp_format.specs.format.Bytes.{comma}
 
 module _ {A : Type 0} where
   -- one value that the first gives, and each other that the second gives
@@ -113,12 +111,7 @@ module _ {A : Type 0} where
 
   -- after a comma, it is what the text after the comma gives
   after_whole : (one : List ℕ → Reading A) (text suffix : List ℕ) → text ≡ comma ∷ suffix → after_comma one text ≡ one suffix
-  after_whole one text suffix e = rw (byte_reads comma text suffix e) refl
-
-  -- a comma, and one after it
-  after_parts : (one : List ℕ → Reading A) (text : List ℕ) (r : Reading A) → after_comma one text ≡ r → r ≢ miss
-      → (suffix : List ℕ) × (text ≡ comma ∷ suffix) × (one suffix ≡ r)
-  after_parts one text r e some = grind (arith, cases_Bool, eqb-true, after_whole)
+  after_whole one text suffix e = rw e refl
 
   -- the two ways to say what is there
   from_after : (one : List ℕ → Reading A) (xs : List A) (text rest : List ℕ) → SeparatedAfterComma one xs text rest
@@ -130,9 +123,7 @@ module _ {A : Type 0} where
   to_after : (one : List ℕ → Reading A) (xs : List A) (text rest : List ℕ) → Chain (after_comma one) (after_comma one) xs text rest
       → SeparatedAfterComma one xs text rest
   to_after one [] text rest h = h
-  to_after one (x ∷ xs) text rest h =
-      let p = after_parts one text (reads x h.0) h.1 (λ e. cc) in
-      (p.0, h.0, p.1, p.2, to_after one xs h.0 rest h.2)
+  to_after one (x ∷ xs) text rest h = grind (arith, cases_Bool, eqb-true, after_whole, to_after one xs h.0 rest h.2)
 
   -- with the first
   from_separated : (one : List ℕ → Reading A) (xs : List A) (text rest : List ℕ) → SeparatedBy one xs text rest
@@ -144,15 +135,10 @@ module _ {A : Type 0} where
       → Chain one (after_comma one) xs text rest → SeparatedBy one xs text rest
   to_separated one xs text rest h = grind (arith, to_after)
 
-  -- the two ways to say that the next has a fault
-  from_fault : (one : List ℕ → Reading A) (xs : List A) (rest : List ℕ) (e : Fault) → NextHasFault one xs rest e
-      → next one (after_comma one) xs rest ≡ fatal e
-  from_fault one xs rest e h = grind (arith, next_same, after_whole)
-
   -- and back
   to_fault : (one : List ℕ → Reading A) (xs : List A) (rest : List ℕ) (e : Fault) → next one (after_comma one) xs rest ≡ fatal e
       → NextHasFault one xs rest e
-  to_fault one xs rest e h = grind (arith, after_parts, next_same)
+  to_fault one xs rest e h = grind (arith, cases_Bool, eqb-true, after_whole, next_same)
 
   -- after the most that are there none is read
   none_after_most : (one : List ℕ → Reading A) (text : List ℕ) (xs : List A) (rest : List ℕ) → LongestList one text xs rest
@@ -170,19 +156,18 @@ module _ {A : Type 0} where
       (no_longer : (text : List ℕ) (x : A) (rest : List ℕ) → one text ≡ reads x rest → length rest ≤ length text) where
     -- what is left after a comma and an element is shorter
     pub after_shorter : (text : List ℕ) (x : A) (rest : List ℕ) → after_comma one text ≡ reads x rest → length rest < length text
-    after_shorter text x rest e = grind (arith, after_parts)
+    after_shorter text x rest e = grind (arith, cases_Bool, eqb-true, after_whole)
 
     -- the outcome of a list, by what its first element is read as
     whole_by : (text : List ℕ) (r : Reading A) → one text ≡ r → Whole one text
     whole_by text (reads x after) e =
         let t = tail_is (after_comma one) refl after_shorter (length after) after (omega arith) in
-        let last = next_same (after_comma one) t.xs t.rest in
         record {
           xs = x ∷ t.xs;
           rest = t.rest;
           chain = (after, e, t.chain);
-          none = λ y suffix is. t.none y suffix (sym last ∙ is);
-          ends = grind (arith, ended_more);
+          none = λ y suffix is. t.none y suffix (sym (next_same (after_comma one) t.xs t.rest) ∙ is);
+          ends = grind (arith, ended_more, next_same);
         }
     whole_by text other e = record { xs = []; rest = text; chain = refl; none = λ y after is. cc; ends = rw e refl }
 
@@ -195,8 +180,7 @@ module _ {A : Type 0} where
         → GivesNone (next one (after_comma one) xs rest) → separated_list one text ≡ outcome xs rest (next one (after_comma one) xs rest)
     read_is text xs rest h none =
         let w = whole_is text in
-        let same = chain_same one (after_comma one) w.xs xs text w.rest rest w.chain h w.none none in
-        grind arith
+        grind (arith, chain_same)
 
     -- they are there, and no more are
     pub longest : (text : List ℕ) (xs : List A) (rest : List ℕ) → Chain one (after_comma one) xs text rest
@@ -207,7 +191,7 @@ module _ {A : Type 0} where
     in_full : (text : List ℕ) (xs : List A) (rest : List ℕ) → separated_list one text ≡ reads xs rest → WholeList one text xs rest
     in_full text xs rest e =
         let w = whole_is text in
-        grind (arith, longest, from_fault)
+        grind (arith, longest, next_same, after_whole)
 
     -- a list that ends where no comma and element follow is read
     full_is_read : (text : List ℕ) (xs : List A) (rest : List ℕ) → WholeList one text xs rest → separated_list one text ≡ reads xs rest
@@ -223,18 +207,10 @@ module _ {A : Type 0} where
     -- a list has a fault only by the element after those that are read
     pub the_next_has_the_fault : TheNextHasTheFault one
     the_next_has_the_fault text e = (
-      (λ h.
-          let w = whole_is text in
-          let last : (next one (after_comma one) w.xs w.rest) ≡ fatal e = grind arith in
-          (w.xs, w.rest, longest text w.xs w.rest w.chain w.none, to_fault one w.xs w.rest e last)),
-      (λ h. grind (arith, read_is, from_separated, none_after_most, from_fault)),
+      (λ h. let w = whole_is text in (w.xs, w.rest, longest text w.xs w.rest w.chain w.none, to_fault one w.xs w.rest e (grind arith))),
+      (λ h. grind (arith, read_is, from_separated, none_after_most, next_same, after_whole)),
     )
 
     -- a list is not there if its first element is not there
     pub the_first_misses : TheFirstMisses one
-    the_first_misses text = (
-      (λ h.
-          let w = whole_is text in
-          (grind arith)),
-      (λ e. rw e refl),
-    )
+    the_first_misses text = ((λ h. let w = whole_is text in (grind arith)), (λ e. rw e refl))

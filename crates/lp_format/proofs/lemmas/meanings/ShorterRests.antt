@@ -1,22 +1,17 @@
 -- What is left after what was read is no longer than the text.
-use Rattle.std.proofs.Common.{◌≡◌, ℕ, zero, suc, add-one, List, ◌∷◌, get_or, true, refl, arith, ◌≤◌, length, drop, Bool, false, cond, ap}
-use Rattle.std.proofs.Common.{length-drop, ◌==◌, IsUtf8, IsCharBoundary, eq-eqb, eqb-true}
+use Rattle.std.proofs.Common.{◌≡◌, ℕ, zero, suc, add-one, List, get_or, arith, ◌≤◌, length, drop, Bool, cond, ap}
+use Rattle.std.proofs.Common.{length-drop, ◌==◌, IsUtf8, IsCharBoundary, eqb-true}
 use Rattle.std.proofs.lemmas.List.Sums.{prefix_len_passes, prefix_len-le-length}
 use Rattle.std.proofs.lemmas.Str.{IsCharBoundary-after_ascii, IsCharBoundary-start}
 use Rattle.lp_format.specs.format.{byte, spaces, key_value, tag, field, reads, Fault, Read, Reading, miss, fatal, ◌>>=◌, ◌otherwise◌, space}
 use Rattle.lp_format.specs.format.{equals, NameKind, a_tag_key, a_tag_value, a_field_key, name, value, integer_at, unsigned_at, float_at}
-use Rattle.lp_format.specs.format.{string_at, boolean_at, true_words, false_words}
-
--- a byte at the start, by what the text is
-pub byte_reads : (b : ℕ) (text rest : List ℕ) → text ≡ b ∷ rest → byte b text ≡ reads b rest
-byte_reads b text rest e = rw (e, eq-eqb b b refl) refl
+use Rattle.lp_format.specs.format.{string_at, boolean_at}
 
 -- after spaces a text may be cut
 pub spaces_boundary : (text : List ℕ) (n : ℕ) → IsUtf8 text → n ≡ spaces text → IsCharBoundary text n
 spaces_boundary text zero utf8 e = IsCharBoundary-start text utf8
 spaces_boundary text (suc n) utf8 e =
-    let last : (get_or text n 0 == space) ≡ true = prefix_len_passes (λ b. b == space) text n 0 (omega arith) in
-    let byte : get_or text n 0 ≡ space = eqb-true (get_or text n 0) space last in
+    let byte : get_or text n 0 ≡ space = eqb-true _ space (prefix_len_passes (λ b. b == space) text n 0 (omega arith)) in
     let within = prefix_len-le-length (λ b. b == space) text in
     rw (← add-one n) (IsCharBoundary-after_ascii text n utf8 (omega arith) (omega arith))
 
@@ -66,15 +61,7 @@ string_no_longer text = grind (arith, none_left, either, some_left, length-drop)
 -- a value
 value_no_longer : (text : List ℕ) → IsNoLonger text (value text)
 unfolding value integer_at unsigned_at float_at boolean_at
-value_no_longer text =
-    let word : (b : Bool) (words : List (List ℕ)) → IsNoLonger text (boolean_at b words text) =
-    λ b words. either text _ _ _ (none_left text) (dropped text _ _) in
-    let integer : IsNoLonger text (integer_at text) = grind (arith, either, dropped, fault_left, none_left) in
-    let unsigned : IsNoLonger text (unsigned_at text) = grind (arith, either, dropped, fault_left, none_left) in
-    let float : IsNoLonger text (float_at text) = either text _ _ _ (none_left text) (dropped text _ _) in
-    let numbers = one_of_two text _ _ (one_of_two text _ _ integer unsigned) float in
-    let texts = one_of_two text _ _ numbers (string_no_longer text) in
-    one_of_two text _ _ (one_of_two text _ _ texts (word true true_words)) (word false false_words)
+value_no_longer text = grind (arith, either, none_left, dropped, fault_left, one_of_two, string_no_longer)
 
 -- the rest after a key and such a value
 key_value_no_longer : {V : Type 0} (kind : NameKind) (part : List ℕ → Reading V) → ((text : List ℕ) → IsNoLonger text (part text))

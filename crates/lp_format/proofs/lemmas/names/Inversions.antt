@@ -5,7 +5,7 @@ use Rattle.lp_format.specs.format.{Reading, reads, prepend, separated_list, afte
 use Rattle.lp_format.specs.laws.Meanings.{SeparatedBy, SeparatedAfterComma, CountIsOfTheMost}
 use Rattle.lp_format.proofs.lemmas.meanings.JoinedMeaning.{the_most_is_read, Chain, GivesNone, next, next_same, after_shorter, whole_is}
 use Rattle.lp_format.proofs.lemmas.meanings.JoinedMeaning.{longest}
-use Rattle.lp_format.specs.code.Light.{one_and_after, many_count, read_count}
+use Rattle.lp_format.specs.code.Light.{many_count, read_count}
 
 -- what was added to
 pub record Onto {A : Type 0} (xs : List A) (r : Reading (List A)) (zs : List A) (rest : List ℕ) : Type 0 where
@@ -34,27 +34,23 @@ module _ {A : Type 0} (P : A → Type 0) (one : List ℕ → Reading A)
       → (line rest : List ℕ) (xs : List A) → separated_list one line ≡ reads xs rest → AllByRecursion P xs
   joined_of no_longer line rest xs h = joined_all xs line rest ((the_most_is_read one no_longer line xs rest).0 h).longest.separated
 
--- none is counted if none is read
-none_counted : {A : Type 0} (r : Reading A) (count : List ℕ → ℕ) → GivesNone r → one_and_after r count ≡ 0
-none_counted r count none = grind arith
-
 -- as many are counted as come one after another, if none is read after them
 chain_counted : {A : Type 0} (g : List ℕ → Reading A)
     → ((text : List ℕ) (x : A) (rest : List ℕ) → g text ≡ reads x rest → length rest < length text)
     → (n : ℕ) (xs : List A) (text rest : List ℕ) → Chain g g xs text rest → GivesNone (g rest) → length text ≤ n
     → many_count g n text ≡ length xs
 chain_counted g shorter zero [] text rest h none room = refl
-chain_counted g shorter (suc n) [] text rest h none room = grind (arith, none_counted)
+chain_counted g shorter (suc n) [] text rest h none room = grind arith
 chain_counted g shorter zero (x ∷ xs) text rest h none room = absurd (omega (arith, shorter text x h.0 h.1))
 chain_counted g shorter (suc n) (x ∷ xs) text rest h none room =
-    rw h.1 (ap suc (chain_counted g shorter n xs h.0 rest h.2 none (omega (arith, shorter text x h.0 h.1))))
+    grind (arith, chain_counted g shorter n xs h.0 rest h.2 none (omega (arith, shorter text x h.0 h.1)))
 
 module _ {A : Type 0} (one : List ℕ → Reading A)
     (no_longer : (text : List ℕ) (x : A) (rest : List ℕ) → one text ≡ reads x rest → length rest ≤ length text) where
   -- and the first before them
   whole_counted : (text : List ℕ) (xs : List A) (rest : List ℕ) → Chain one (after_comma one) xs text rest
       → GivesNone (next one (after_comma one) xs rest) → read_count one text ≡ length xs
-  whole_counted text [] rest h none = grind (arith, none_counted)
+  whole_counted text [] rest h none = grind arith
   whole_counted text (x ∷ xs) rest h none =
       rw h.1 (ap suc (chain_counted (after_comma one) (after_shorter one no_longer) (length h.0) xs h.0 rest h.2
       (λ y after e. none y after (next_same (after_comma one) xs rest ∙ e)) (omega arith)))

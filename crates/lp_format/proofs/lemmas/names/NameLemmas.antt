@@ -88,8 +88,7 @@ pub logical_is_unique : (known : List ℕ) (spelled logical : List ℕ) → IsLo
     → logical ≡ without_escapes known spelled
 unfolding without_escapes
 logical_is_unique known _ _ empty = refl
-logical_is_unique known _ _ (plain b s l differs more) =
-    ap (λ (xs : List ℕ). b ∷ xs) (logical_is_unique known s l more) ∙ sym (without_escapes_plain_byte known b s differs)
+logical_is_unique known _ _ (plain b s l differs more) = grind (arith, without_escapes_plain_byte, logical_is_unique known s l more)
 logical_is_unique known _ _ (escape c s l is more) = rw is (ap (λ (xs : List ℕ). c ∷ xs) (logical_is_unique known s l more))
 logical_is_unique known _ _ (other c s l is more) = rw is (ap (λ (xs : List ℕ). backslash ∷ c ∷ xs) (logical_is_unique known s l more))
 logical_is_unique known _ _ end = refl

@@ -17,21 +17,13 @@ use Rattle.lp_format.proofs.lemmas.line.TrimLemmas.{is_blank, left_of, trimmed_i
 pub pieces_are_text : (dialect : Dialect) {text : List ℕ} {pieces : List (List ℕ)} → Pieces dialect text pieces
     → join_with_byte newline pieces ≡ text
 pieces_are_text dialect (last piece h) = refl
-pieces_are_text dialect (cut piece text pieces c h) = separated_list pieces h (pieces_are_text dialect h)
-  where
-    -- a piece before others is joined to them by a newline
-    separated_list : {text : List ℕ} (pieces : List (List ℕ)) → Pieces dialect text pieces
-        → join_with_byte newline pieces ≡ text → join_with_byte newline (piece ∷ pieces) ≡ piece ++ newline ∷ text
-    separated_list pieces h k = grind (arith, Pieces-nil)
+pieces_are_text dialect (cut piece text pieces c h) = grind (arith, Pieces-nil, pieces_are_text dialect h)
 
 -- the answers for two texts with a newline between them
 pub answers_join : (dialect : Dialect) (u t : List ℕ) (before : List (List ℕ)) (piece : List ℕ) (first others : List (Result Line Fault))
     → Pieces dialect u (before ++ piece ∷ []) → IsCutPiece dialect piece
     → HasAnswers dialect u first → HasAnswers dialect t others → HasAnswers dialect (u ++ newline ∷ t) (first ++ others)
-answers_join dialect u t before piece first others h c f o =
-    let same : f.pieces ≡ before ++ piece ∷ [] = same_pieces dialect refl f.are h in
-    let regrouped : (before ++ piece ∷ []) ++ o.pieces ≡ before ++ piece ∷ o.pieces = append_assoc before (piece ∷ []) o.pieces in
-    grind (arith, join_from_cut, flat_map-append)
+answers_join dialect u t before piece first others h c f o = grind (arith, same_pieces, append_assoc, join_from_cut, flat_map-append)
 
 -- a space and a tab are blanks
 blank_is : (b : ℕ) → (b == space || b == tab) ≡ true → is_blank b ≡ true

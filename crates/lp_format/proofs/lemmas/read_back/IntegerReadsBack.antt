@@ -5,10 +5,9 @@ use Rattle.std.specs.Fmt.{signed_decimal}
 use Rattle.std.specs.Str.Parse.{IsNumeral, digits_value, signed_digits_value}
 use Rattle.std.proofs.lemmas.Fmt.{decimal_is_IsNumeral}
 use Rattle.std.proofs.lemmas.Str.Parse.{digit_from_value}
-use Rattle.lp_format.specs.format.{spaces, reads, digits_len, fits_i64, integer, integer_at, integer_len}
+use Rattle.lp_format.specs.format.{spaces, reads, digits_len, fits_i64, integer, integer_at, integer_len, letter_i, minus}
 use Rattle.lp_format.proofs.lemmas.values.ValueLemmas.{fits_from_test, integer_parsed}
 use Rattle.lp_format.proofs.lemmas.literals.FloatLemmas.{minus_no_digit, signed_before}
-use Rattle.lp_format.specs.format.Bytes.{letter_i, minus}
 
 -- digits have no sign at the start
 pub unsigned_len : (ds tail : List ℕ) → IsNumeral 10 ds → digits_len tail ≡ 0 → integer_len (ds ++ tail) ≡ length ds
@@ -50,8 +49,7 @@ pub integer_reads_back : (z : ℤ) (rest : List ℕ) → fits_i64 z ≡ true →
 integer_reads_back z rest fits =
     let written = integer_written z fits in
     let number = signed_decimal z in
-    let text = number ++ letter_i ∷ rest in
-    let len : integer_len text ≡ length number = written.len (letter_i ∷ rest) refl in
-    integer_parsed text number rest z (rw len (sym (take_at number (letter_i ∷ rest) (length number) refl)))
+    let len = written.len (letter_i ∷ rest) refl in
+    integer_parsed (number ++ letter_i ∷ rest) number rest z (rw len (sym (take_at number (letter_i ∷ rest) (length number) refl)))
     (rw len (drop_at number (letter_i ∷ rest) (length number) refl))
     written.some (rw written.value (fits_from_test z fits)) (sym written.value)

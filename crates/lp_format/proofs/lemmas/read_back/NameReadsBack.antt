@@ -1,5 +1,5 @@
 -- A name that is admitted reads back as it was spelled, and the line of a point as that point.
-use Rattle.std.proofs.Common.{◌≡◌, ◌≢◌, ℕ, ◌<◌, List, [], ◌∷◌, length, slice_index, Bool, true, false, not, refl, ap, arith, inl, inr, ◌++◌}
+use Rattle.std.proofs.Common.{◌≡◌, ◌≢◌, ℕ, ◌<◌, List, [], ◌∷◌, length, slice_index, Bool, true, false, not, refl, arith, ◌++◌}
 use Rattle.std.proofs.Common.{map, Option, Some, None, flat_map}
 use Rattle.std.specs.List.{list_all}
 use Rattle.std.proofs.lemmas.Bool.{cases_Bool, and_parts, eqb-false, not-true}
@@ -42,12 +42,7 @@ pub without_escapes_escaped : (known n : List ℕ) → is_one_of known backslash
 unfolding escaped
 without_escapes_escaped known [] closed = without_escapes_same known [] (λ i l. absurd (omega arith))
 without_escapes_escaped known (b ∷ n) closed =
-    elim (cases_Bool (is_one_of known b)) [
-      | inl found ↦ rw (found, without_escapes_known known b (escaped known n) found, without_escapes_escaped known n closed) refl
-      | inr plain ↦
-          let other : b ≢ backslash = λ e. cc (closed, plain, ap (is_one_of known) e) in
-          rw (plain, without_escapes_plain_byte known b (escaped known n) other, without_escapes_escaped known n closed) refl
-    ]
+    grind (arith, cases_Bool, without_escapes_known, without_escapes_plain_byte, without_escapes_escaped known n closed)
 
 -- the logical text of a spelling is its name
 pub logical_spelling : (kind : NameKind) (n : List ℕ) → logical kind (spelling kind n) ≡ n

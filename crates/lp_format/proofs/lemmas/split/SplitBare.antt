@@ -1,13 +1,11 @@
 -- Bare bytes: what a backslash does to the byte after it, and the shape of a piece by its bare bytes, which determine the cut.
-use Rattle.std.proofs.Common.{◌≡◌, ◌≢◌, ℕ, Bool, true, false, cond, not, eqb, List, [], ◌∷◌, ◌++◌, sym, ◌∙◌, ap, refl, arith}
-use Rattle.std.proofs.Common.{append_assoc, append-nil, ◌⊎◌, inl, inr, subst, ◌&&◌, All, count_by, ne_eqb, lt-ltb, le-ltb, ◌==◌}
-use Rattle.std.proofs.Common.{if◌then◌else◌, nat_lt}
+use Rattle.std.proofs.Common.{◌≡◌, ◌≢◌, ℕ, Bool, true, false, cond, not, eqb, List, [], ◌∷◌, ◌++◌, sym, ◌∙◌, ap, refl, arith, append_assoc}
+use Rattle.std.proofs.Common.{append-nil, ◌⊎◌, inl, inr, subst, ◌&&◌, All, count_by, ne_eqb, lt-ltb, le-ltb, ◌==◌, if◌then◌else◌, nat_lt}
 use Rattle.std.proofs.lemmas.List.{reverse-append}
 use Rattle.std.proofs.lemmas.Bool.{cases_eq, and_left, and_right}
 use Rattle.lp_format.specs.format.{is_escaped_after, bare_after, bare, IsBareAfter, backslash, newline, quote, space, comma, equals, IsHead}
-use Rattle.lp_format.specs.format.{HasMoreEquals, IsPlain, EndsPlain, EndsQuoted}
+use Rattle.lp_format.specs.format.{HasMoreEquals, IsPlain, EndsPlain, EndsQuoted, Opens, IsQuoted, IsClosed, IsOpen}
 use Rattle.lp_format.specs.format.Piece.{EndsPlain.first, EndsPlain.later, EndsQuoted.opened}
-use Rattle.lp_format.specs.format.{Opens, IsQuoted, IsClosed, IsOpen}
 use Rattle.std.proofs.lemmas.List.Elements.{All-append, All-cons, All-nil, All-push, All-head, All-tail}
 
 -- a byte more: only a backslash escapes, and only a bare one
@@ -29,9 +27,7 @@ flag_after f (b ∷ bs) = flag_after (cond (eqb b backslash) (not f) false) bs
 -- whether something is escaped after two texts, from whether it is after the first
 pub is_escaped-append : (front text : List ℕ) → is_escaped_after (front ++ text) ≡ flag_after (is_escaped_after front) text
 is_escaped-append front [] = ap is_escaped_after (append-nil front)
-is_escaped-append front (b ∷ bs) =
-    ap is_escaped_after (sym (append_assoc front (b ∷ []) bs)) ∙ is_escaped-append (front ++ b ∷ []) bs
-    ∙ ap (λ f. flag_after f bs) (is_escaped-push front b)
+is_escaped-append front (b ∷ bs) = grind (arith, append_assoc, is_escaped-push, is_escaped-append (front ++ b ∷ []) bs)
 
 -- no run of backslashes reaches past another byte
 pub is_escaped-after_other : (front text : List ℕ) (b : ℕ) → eqb b backslash ≡ false
@@ -71,15 +67,12 @@ same_bare : (front other text : List ℕ) → is_escaped_after front ≡ is_esca
 same_bare front other [] e = refl
 same_bare front other (b ∷ text) e =
     let f = is_escaped-push front b ∙ ap (λ t. cond (eqb b backslash) (not t) false) e ∙ sym (is_escaped-push other b) in
-    ap (λ t. cond t [] (b ∷ []) ++ bare_after (front ++ b ∷ []) text) e
-    ∙ ap (λ xs. cond (is_escaped_after other) [] (b ∷ []) ++ xs) (same_bare (front ++ b ∷ []) (other ++ b ∷ []) text f)
+    grind (arith, same_bare (front ++ b ∷ []) (other ++ b ∷ []) text f)
 
 -- the bare bytes of two texts are those of the first and those of the second after it
 bare_after-append : (front xs ys : List ℕ) → bare_after front (xs ++ ys) ≡ bare_after front xs ++ bare_after (front ++ xs) ys
 bare_after-append front [] ys = ap (λ t. bare_after t ys) (sym (append-nil front))
-bare_after-append front (x ∷ xs) ys =
-    rw (bare_after-append (front ++ x ∷ []) xs ys, append_assoc front (x ∷ []) xs)
-    (sym (append_assoc (cond (is_escaped_after front) [] (x ∷ [])) (bare_after (front ++ x ∷ []) xs) (bare_after (front ++ x ∷ xs) ys)))
+bare_after-append front (x ∷ xs) ys = grind (arith, append_assoc, bare_after-append (front ++ x ∷ []) xs ys)
 
 -- the bare bytes of two texts, if nothing is escaped after the first
 pub bare-append : (xs ys : List ℕ) → IsBareAfter xs → bare (xs ++ ys) ≡ bare xs ++ bare ys
@@ -92,10 +85,7 @@ place_in_append [] ys c before after e = inr (before, refl, e)
 place_in_append (x ∷ xs) ys c [] after e = grind arith
 place_in_append (x ∷ xs) ys c (y ∷ before) after e =
     let t : xs ++ ys ≡ before ++ c ∷ after = cc in
-    elim (place_in_append xs ys c before after t) [
-      | inl w ↦ let k = w.1 in inl (w.0, cc)
-      | inr w ↦ let k = w.1 in inr (w.0, cc, w.2)
-    ]
+    grind (arith, place_in_append xs ys c before after t)
 
 -- an empty list has no place
 pub nil_has_no_place : {X : Type 0} (before : List X) (c : X) (after : List X) → [] ≡ before ++ c ∷ after → ⊥
@@ -125,9 +115,7 @@ no_newline b n = All-cons (λ c. c ≢ newline) b [] n (All-nil (λ c. c ≢ new
 
 -- a byte that is no newline and opens no string is a plain stretch
 IsPlain-one : (counted : List ℕ) (b : ℕ) → b ≢ newline → (b ≡ quote → ¬ HasMoreEquals counted) → IsPlain counted (b ∷ [])
-IsPlain-one counted b n q =
-    let one : bare (b ∷ []) ≡ b ∷ [] = bare-push_bare [] b is_escaped-nil in
-    record { no_newline = rw one (no_newline b n); no_opening = λ before after p. NoOpening-one counted b q before after (sym one ∙ p) }
+IsPlain-one counted b n q = grind (arith, bare-push_bare, is_escaped-nil, no_newline, NoOpening-one)
 
 -- a plain stretch stays plain if no byte after it ends the piece or opens a string
 IsPlain-extend : (counted xs ys added : List ℕ) → IsPlain counted xs → bare_after xs ys ≡ added → All (λ c. c ≢ newline) added
@@ -292,9 +280,8 @@ opening piece counted quoted r o q = grind (arith, run-around, lt-ltb, run_quote
 -- what ends in a plain stretch leaves the machine in one
 ends_plain : {text counted : List ℕ} → EndsPlain text counted → run in_head (bare text) ≡ in_plain counted
 ends_plain (first head plain h i p) =
-    let same = bare-cons space plain (omega arith) in
     let counted = run_plain [] (bare (space ∷ plain)) p.no_newline p.no_opening in
-    grind (arith, run-around, run_head)
+    grind (arith, bare-cons, run-around, run_head)
 ends_plain (later piece counted quoted plain h o q i p) =
     run-around in_head (piece ++ quote ∷ quoted) quote plain i (omega arith)
     ∙ rw (opening piece counted quoted (ends_plain h) o q) (run_plain counted (bare plain) p.no_newline p.no_opening)

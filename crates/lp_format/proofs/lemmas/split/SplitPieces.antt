@@ -6,9 +6,8 @@ use Rattle.std.proofs.lemmas.List.{drop_more}
 use Rattle.std.proofs.lemmas.List.Elements.{All-head, All-tail, All-cons, All-push, All-take, All-append}
 use Rattle.std.proofs.lemmas.Bool.{cases_lt, cases_eq, cases_Bool, false≢true, both_ways}
 use Rattle.lp_format.specs.format.{Dialect, Crate, Strict, is_escaped_after, IsHead, EndsPlain, EndsQuoted, begins_comment, IsComment}
-use Rattle.lp_format.specs.format.{IsCutPiece, IsLastPiece, IsFirstCut, comma, equals, hash, newline}
+use Rattle.lp_format.specs.format.{IsCutPiece, IsLastPiece, IsFirstCut, comma, equals, hash, newline, quote, space, tab}
 use Rattle.lp_format.specs.format.Pieces.{Pieces, Pieces.last, Pieces.cut}
-use Rattle.lp_format.specs.format.{quote, space, tab}
 use Rattle.lp_format.proofs.lemmas.split.SplitBare.{IsHead-escaped, IsHead-bare, EndsPlain-escaped, EndsPlain-bare, EndsPlain-start}
 use Rattle.lp_format.proofs.lemmas.split.SplitBare.{EndsQuoted-escaped, EndsQuoted-bare, EndsQuoted-start, EndsQuoted-close}
 use Rattle.lp_format.proofs.lemmas.split.SplitBare.{place_in_append, nil_has_no_place, cut_not_within}
@@ -65,12 +64,7 @@ crate_goes_on front b (inr h) = quoted_goes_on front h.0 b h.1
 -- a comment is told by its bytes up to the `#`
 pub begins_comment-append : (front more : List ℕ) → begins_comment front ≡ true → begins_comment (front ++ more) ≡ true
 begins_comment-append [] more e = absurd (false≢true e)
-begins_comment-append (b ∷ front) more e =
-    go (eqb b hash) (eqb b space || eqb b tab) (begins_comment front) _ e (begins_comment-append front more)
-  where
-    -- what begins a comment still does with more after it
-    go : (h s p q : Bool) → (h || s && p) ≡ true → (p ≡ true → q ≡ true) → (h || s && q) ≡ true
-    go h s p q e k = grind arith
+begins_comment-append (b ∷ front) more e = grind (arith, begins_comment-append front more)
 
 -- the byte after blanks and no `#` that makes a comment is no newline, nor are the blanks
 becomes_comment : (front : List ℕ) (b : ℕ) → begins_comment front ≡ false → begins_comment (front ++ b ∷ []) ≡ true
@@ -78,8 +72,7 @@ becomes_comment : (front : List ℕ) (b : ℕ) → begins_comment front ≡ fals
 becomes_comment [] b e f = grind (arith, false≢true)
 becomes_comment (x ∷ front) b e f =
     let w = go (eqb x hash) (eqb x space || eqb x tab) (begins_comment front) (begins_comment (front ++ b ∷ [])) e f in
-    All-cons (λ c. c ≢ newline) x (front ++ b ∷ [])
-    (λ i. false≢true (subst (λ c. begins_comment (c ∷ front ++ b ∷ []) ≡ true) i f)) (becomes_comment front b w.0 w.1)
+    grind (arith, All-cons, false≢true, becomes_comment front b w.0 w.1)
   where
     -- what becomes a comment by more bytes was none before
     go : (h s p q : Bool) → (h || s && p) ≡ false → (h || s && q) ≡ true → (p ≡ false) × (q ≡ true)
@@ -88,12 +81,7 @@ becomes_comment (x ∷ front) b e f =
 -- a newline makes no comment
 begins_comment-newline : (front more : List ℕ) → begins_comment front ≡ false → begins_comment (front ++ newline ∷ more) ≡ false
 begins_comment-newline [] more e = refl
-begins_comment-newline (x ∷ front) more e =
-    go (eqb x hash) (eqb x space || eqb x tab) (begins_comment front) _ e (begins_comment-newline front more)
-  where
-    -- what is no comment with more after it was none before
-    go : (h s p q : Bool) → (h || s && p) ≡ false → (p ≡ false → q ≡ false) → (h || s && q) ≡ false
-    go h s p q e k = grind arith
+begins_comment-newline (x ∷ front) more e = grind (arith, begins_comment-newline front more)
 
 -- a piece that is open, and a byte, are cut or go on, in the strict dialect
 strict_goes_on : (front : List ℕ) (b : ℕ) → IsLastPiece Strict front → GoesOn Strict front b
@@ -238,11 +226,7 @@ join_from_cut dialect u t before piece after h k c =
 -- the last piece of a text is cut if the text goes on after a newline with pieces of their own
 pub cut_from_join : (dialect : Dialect) (u t : List ℕ) (before : List (List ℕ)) (piece : List ℕ) (after : List (List ℕ))
     → Pieces dialect t after → Pieces dialect (u ++ newline ∷ t) (before ++ piece ∷ after) → IsCutPiece dialect piece
-cut_from_join dialect u t before piece after k j =
-    elim (uncons dialect (from_piece dialect (u ++ newline ∷ t) before piece after j).are) [
-      | inl w ↦ absurd (Pieces-nil dialect t (subst (Pieces dialect t) w.0 k))
-      | inr w ↦ w.2
-    ]
+cut_from_join dialect u t before piece after k j = grind (arith, uncons, from_piece, Pieces-nil)
 
 -- what is in a comment
 another_comment : (front old new : List ℕ) → begins_comment front ≡ true → All (λ b. b ≢ newline) new
@@ -258,27 +242,18 @@ pub comment_replaced : (before : List (List ℕ)) (front old new : List ℕ) (af
     → (other : List ℕ) × Pieces Strict other (before ++ (front ++ new) ∷ after)
 comment_replaced before front old new after text c n h =
     let f = from_piece Strict text before (front ++ old) after h in
+    let is_new = another_comment front old new c n in
     elim (uncons Strict f.are) [
-      | inl w ↦ (f.front ++ (front ++ new), f.others _ _ (rw w.0 (last (front ++ new) (inl (another_comment front old new c n w.2)))))
-      | inr w ↦ (
-        f.front ++ ((front ++ new) ++ newline ∷ w.0),
-        f.others _ _ (cut (front ++ new) w.0 after
-            (inl (another_comment front old new c n (IsLastPiece-cut Strict (front ++ old) w.2))) w.3),
-      )
+      | inl w ↦ (f.front ++ (front ++ new), f.others _ _ (rw w.0 (last (front ++ new) (inl (is_new w.2)))))
+      | inr w ↦
+          let made = cut (front ++ new) w.0 after (inl (is_new (IsLastPiece-cut Strict (front ++ old) w.2))) w.3 in
+          (f.front ++ ((front ++ new) ++ newline ∷ w.0), f.others _ _ made)
     ]
 
 -- a piece of a text that begins as a comment is one
 pub piece_is_comment : (before : List (List ℕ)) (piece : List ℕ) (after : List (List ℕ)) (text : List ℕ)
     → begins_comment piece ≡ true → Pieces Strict text (before ++ piece ∷ after) → IsComment piece
-piece_is_comment before piece after text c h =
-    elim (uncons Strict (from_piece Strict text before piece after h).are) [
-      | inl w ↦ is_comment w.2
-      | inr w ↦ is_comment (IsLastPiece-cut Strict piece w.2)
-    ]
-  where
-    -- what begins as a comment is no other piece
-    is_comment : IsLastPiece Strict piece → IsComment piece
-    is_comment h = grind (arith, both_ways)
+piece_is_comment before piece after text c h = grind (arith, uncons, from_piece, IsLastPiece-cut, both_ways)
 
 -- a text up to a place, and after it
 pub split_at : (text : List ℕ) (i : ℕ) → i < length text → get_or text i 0 ≡ newline → text ≡ take i text ++ newline ∷ drop (i + 1) text
@@ -289,26 +264,13 @@ pub cut_of_comment : (text : List ℕ) (place : Option ℕ) → begins_comment t
     → MatchOption place (All (λ b. b ≢ newline) text)
     (λ i. (i < length text) × (get_or text i 0 ≡ newline) × All (λ b. b ≢ newline) (take i text)) → IsFirstCut Strict text place
 cut_of_comment text None e h = inl (e, h)
-cut_of_comment text (Some i) e h = (
-  h.0,
-  h.1,
-  inl (
-    elim (cases_Bool (begins_comment (take i text))) [
-      | inl f ↦ f
-      | inr f ↦ absurd (both_ways (begins_comment text)
-          (ap begins_comment (split_at text i h.0 h.1) ∙ begins_comment-newline (take i text) (drop (i + 1) text) f) e)
-    ],
-    h.2,
-  ),
-)
+cut_of_comment text (Some i) e h =
+    let front : begins_comment (take i text) ≡ true = grind (arith, split_at, begins_comment-newline (take i text) (drop (i + 1) text)) in
+    (h.0, h.1, inl (front, h.2))
 
 -- no front of a text that begins no comment begins one
 pub front_begins_none : (text : List ℕ) (n : ℕ) → begins_comment text ≡ false → begins_comment (take n text) ≡ false
-front_begins_none text n e = elim (cases_Bool (begins_comment (take n text))) [
-  | inl f ↦ absurd (both_ways (begins_comment text) e
-      (ap begins_comment (sym (take-append-drop n text)) ∙ begins_comment-append (take n text) (drop n text) f))
-  | inr f ↦ f
-]
+front_begins_none text n e = grind (arith, take-append-drop n text, begins_comment-append (take n text) (drop n text))
 
 -- the rest is as in the other dialect
 pub cut_of_other : (text : List ℕ) (place : Option ℕ) → begins_comment text ≡ false → IsFirstCut Crate text place
@@ -323,12 +285,6 @@ pub Pieces-cut_at : (dialect : Dialect) (bytes text piece rest : List ℕ) (i : 
     → bytes ≡ text → (i < length bytes) × (get_or bytes i 0 ≡ newline) × IsCutPiece dialect (take i bytes)
     → piece ≡ slice_range text 0 i → rest ≡ drop (i + 1) text → Pieces dialect rest others → Pieces dialect text (piece ∷ others)
 Pieces-cut_at dialect bytes text piece rest i others same h p r left =
-    let first : take i bytes ≡ piece = ap (take i) same ∙ sym (p ∙ from_start text i) in
     let after : rest ≡ drop (i + 1) bytes = r ∙ ap (drop (i + 1)) (sym same) in
     let made = cut (take i bytes) (drop (i + 1) bytes) others h.2 (subst (λ t. Pieces dialect t others) after left) in
-    subst (λ t. Pieces dialect t (piece ∷ others)) (sym (split_at bytes i h.0 h.1) ∙ same)
-    (subst (λ q. Pieces dialect (take i bytes ++ newline ∷ drop (i + 1) bytes) (q ∷ others)) first made)
-  where
-    -- a range from the start is a front
-    from_start : (xs : List ℕ) (n : ℕ) → slice_range xs 0 n ≡ take n xs
-    from_start xs n = grind arith
+    grind (arith, split_at)

@@ -1,21 +1,20 @@
 -- The first bytes of a value decide its form; strings at the start of a text.
-use Rattle.std.proofs.Common.{◌≡◌, ◌≢◌, ℕ, ◌<◌, List, [], ◌∷◌, length, take, drop, get_or, slice_index, true, false, refl, ap, ◌∙◌, arith}
+use Rattle.std.proofs.Common.{◌≡◌, ◌≢◌, ℕ, ◌<◌, List, [], ◌∷◌, length, take, drop, get_or, slice_index, true, false, refl, ap, arith}
 use Rattle.std.proofs.Common.{zero-add, ◌⊎◌, ◌==◌, nat_lt, ◌||◌, eq-eqb, eqb-true, ne_eqb, lt-ltb, ltb-true, length-drop}
-use Rattle.std.proofs.lemmas.Bool.{and_parts, false_from_ne_true, cases_eq, eqb-false, or_parts}
+use Rattle.std.proofs.lemmas.Bool.{and_parts, cases_lt, false_from_ne_true, cases_eq, eqb-false, or_parts}
 use Rattle.std.specs.List.{range_with_len}
 use Rattle.std.proofs.lemmas.List.FromFn.{length-range_with_len, get_or-range_with_len}
 use Rattle.std.proofs.lemmas.List.Sums.{passes_at_first}
-use Rattle.lp_format.specs.format.{quote, first_bare, is_bare_at, byte, read_text, miss, reads, Reading, Text, ◌otherwise◌, quotable}
-use Rattle.lp_format.specs.format.{body_len, string, string_at, Value, value, integer_at, unsigned_at, float_at, boolean_at, integer_len}
-use Rattle.lp_format.specs.format.{true_words, false_words}
+use Rattle.lp_format.specs.format.{quote, first_bare, is_bare_at, byte, read_text, miss, reads, ◌otherwise◌, quotable}
+use Rattle.lp_format.specs.format.{body_len, string, string_at, value, integer_at, unsigned_at, float_at, boolean_at, integer_len}
+use Rattle.lp_format.specs.format.{true_words, false_words, letter_i, letter_u, minus}
 use Rattle.lp_format.proofs.lemmas.values.ValueLemmas.{byte_at_drop, after_byte, boolean_misses, digits_no_more, digits_of_minus}
-use Rattle.lp_format.proofs.lemmas.values.ValueLemmas.{digits_of_plain, integer_misses, integer_unmarked, unsigned_decides, unsigned_misses}
-use Rattle.lp_format.proofs.lemmas.values.ValueLemmas.{unsigned_unmarked}
+use Rattle.lp_format.proofs.lemmas.values.ValueLemmas.{digits_of_plain, integer_misses, integer_unmarked, unsigned_reads}
+use Rattle.lp_format.proofs.lemmas.values.ValueLemmas.{unsigned_overflows, unsigned_misses, unsigned_unmarked}
 use Rattle.std.specs.Char.{is_ascii_digit}
 use Rattle.std.proofs.lemmas.Grind.{common_steps}
 use Rattle.lp_format.proofs.lemmas.literals.FloatLemmas.{float_misses}
 use Rattle.std.proofs.lemmas.Bool.Decides.{nat_tests}
-use Rattle.lp_format.specs.format.Bytes.{letter_i, letter_u, minus}
 
 -- if a byte misses, the text does not begin with it
 pub byte_missing : (b : ℕ) (text : List ℕ) → byte b text ≡ miss → (rest : List ℕ) → text ≢ b ∷ rest
@@ -32,20 +31,18 @@ unfolding first_bare
 closing_quote after closes =
     let len : length (range_with_len 0 (length after)) ≡ length after = length-range_with_len 0 (length after) in
     let bare : is_bare_at (λ b. b == quote) after (get_or (range_with_len 0 (length after)) (body_len after) 0) ≡ true =
-    passes_at_first (is_bare_at (λ b. b == quote) after) (range_with_len 0 (length after)) 0 (omega arith) in
-    let here : get_or (range_with_len 0 (length after)) (body_len after) 0 ≡ body_len after = get_or-range_with_len
-    0 (length after) (body_len after) 0 closes ∙ zero-add (body_len after) in
-    let found = rw here at bare in
-    eqb-true (slice_index after (body_len after)) quote (and_parts _ _ found).0
+    grind (arith, passes_at_first) in
+    let here : get_or (range_with_len 0 (length after)) (body_len after) 0 ≡ body_len after =
+    grind (arith, get_or-range_with_len, zero-add) in
+    eqb-true (slice_index after (body_len after)) quote (and_parts _ _ (rw here at bare)).0
 
 -- a string that no quote closes is not there
 pub string_open : (text after : List ℕ) → text ≡ quote ∷ after
     → ((rest : List ℕ) → drop (body_len after) after ≢ quote ∷ rest) → string_at text ≡ miss
 unfolding string_at
 string_open text after e unclosed =
-    let never : body_len after < length after
-    → ⊥ = λ closes. unclosed _ (after_byte after (body_len after) 33 (closing_quote after closes)) in
-    let test : nat_lt (body_len after) (length after) ≡ false = false_from_ne_true _ (λ t. never (ltb-true _ _ t)) in
+    let test : nat_lt (body_len after) (length after) ≡ false =
+    false_from_ne_true _ (λ t. unclosed _ (after_byte after (body_len after) 33 (closing_quote after (ltb-true _ _ t)))) in
     rw (e, test) refl
 
 -- a string between quotes is read
@@ -62,7 +59,7 @@ no_number text none = grind (arith, eq-eqb, integer_misses, unsigned_misses, dig
 pub unsigned_is : (text : List ℕ) → 0 < integer_len text → slice_index text (integer_len text) ≢ letter_i
     → slice_index text (integer_len text) ≡ letter_u → slice_index text 0 ≢ minus
     → (integer_at text otherwise unsigned_at text otherwise float_at text) ≡ unsigned_at text
-unsigned_is text some no_i mark plain = grind (arith, digits_of_plain, unsigned_decides, integer_unmarked)
+unsigned_is text some no_i mark plain = grind (arith, digits_of_plain, cases_lt, unsigned_reads, unsigned_overflows, integer_unmarked)
 
 -- without either mark, or with `-` at the start of `u`, it is a float or nothing
 pub float_is : (text : List ℕ) → slice_index text (integer_len text) ≢ letter_i
@@ -70,19 +67,10 @@ pub float_is : (text : List ℕ) → slice_index text (integer_len text) ≢ let
     → (integer_at text otherwise unsigned_at text otherwise float_at text) ≡ float_at text
 float_is text no_i minus = grind (arith, integer_unmarked, cases_eq, unsigned_misses, digits_of_minus, unsigned_unmarked, digits_of_plain)
 
--- a miss after a reading changes nothing
-otherwise_miss : (r : Reading (Value Text)) → (r otherwise miss) ≡ r
-otherwise_miss r = grind arith
-
 -- no integer is read if the first byte is neither a digit nor `-`
 no_integer : (text : List ℕ) → (is_ascii_digit (slice_index text 0) || slice_index text 0 == minus) ≡ false → integer_len text ≡ 0
 no_integer [] other = refl
 no_integer (b ∷ rest) other = grind (arith, or_parts, ne_eqb, eqb-false)
-
--- no Boolean is at the start of a text that begins with a byte below the letters
-no_boolean : (text : List ℕ) → slice_index text 0 < 70
-    → (boolean_at true true_words text ≡ miss) × (boolean_at false false_words text ≡ miss)
-no_boolean text below = grind (arith, boolean_misses, ne_eqb)
 
 -- no string is read if the first byte is no quote
 no_string : (text : List ℕ) → slice_index text 0 ≢ quote → string_at text ≡ miss
@@ -92,12 +80,12 @@ no_string text other = string_misses text (λ after e. other (ap (λ t. slice_in
 pub number_form : (text : List ℕ) → (is_ascii_digit (slice_index text 0) || slice_index text 0 == minus) ≡ true
     → value text ≡ (integer_at text otherwise unsigned_at text otherwise float_at text)
 unfolding value
-number_form text first = grind (arith, no_boolean, no_string, otherwise_miss)
+number_form text first = grind (arith, boolean_misses, ne_eqb, no_string)
 
 -- a quote at the start: a text
 pub string_form : (text : List ℕ) → slice_index text 0 ≡ quote → value text ≡ string_at text
 unfolding value
-string_form text first = grind (arith, no_number, no_integer, no_boolean, otherwise_miss)
+string_form text first = grind (arith, no_number, no_integer, boolean_misses, ne_eqb)
 
 -- else a Boolean
 pub boolean_form : (text : List ℕ) → (is_ascii_digit (slice_index text 0) || slice_index text 0 == minus) ≡ false → slice_index text 0 ≢ quote

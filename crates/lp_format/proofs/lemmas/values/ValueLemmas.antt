@@ -3,7 +3,7 @@ use Rattle.std.proofs.Common.{◌≡◌, ◌≢◌, ℕ, zero, suc, ◌+◌, ◌
 use Rattle.std.proofs.Common.{true, false, refl, ap, subst, arith, inl, inr, add-zero, zero-add, one-add, ◌==◌, ◌&&◌, not, if◌then◌else◌}
 use Rattle.std.proofs.Common.{IsUtf8, IsCharBoundary, ℤ, FitsSigned, w64, eqb-true, eq-eqb, ne_eqb, leb-true, ltb-true, lt-ltb, le-ltb}
 use Rattle.std.proofs.Common.{le-leb, drop-drop, get_or-drop, length-drop, length-take, length-take-le}
-use Rattle.std.specs.Char.{is_ascii_digit, digit_value}
+use Rattle.std.specs.Char.{is_ascii_digit}
 use Rattle.std.specs.Str.Parse.{AllDigits, IsNumeral, digits_value, signed_digits_value}
 use Rattle.std.proofs.lemmas.Bool.{cases_Bool, cases_eq, cases_lt, and_parts, eqb-false, and_from}
 use Rattle.std.proofs.lemmas.List.{drop_more, get_or_past}
@@ -13,8 +13,7 @@ use Rattle.std.proofs.lemmas.Bool.Decides.{nat_tests}
 use Rattle.std.proofs.lemmas.Str.{IsCharBoundary-after_ascii, IsCharBoundary-start, digit_value_digit}
 use Rattle.lp_format.specs.format.{Value, digits_len, integer, integer_at, integer_len, side_of, fits_i64, boolean, boolean_at, unsigned}
 use Rattle.lp_format.specs.format.{unsigned_at, word_len, Reading, Text, ◌otherwise◌, above, miss, fatal, reads, integer_value_invalid}
-use Rattle.lp_format.specs.format.{uinteger_value_invalid}
-use Rattle.lp_format.specs.format.Bytes.{letter_i, letter_u, minus}
+use Rattle.lp_format.specs.format.{uinteger_value_invalid, letter_i, letter_u, minus}
 
 -- a digit, by its test
 pub digit_range : (b : ℕ) → is_ascii_digit b ≡ true → (48 ≤ b) × (b ≤ 57)
@@ -25,10 +24,7 @@ pub all_digits : (text : List ℕ) → AllDigits 10 (take (digits_len text) text
 all_digits [] = tt
 all_digits (b ∷ text) =
     elim (cases_Bool (is_ascii_digit b)) [
-      | inl yes_digit ↦
-          let range = digit_range b yes_digit in
-          let value : digit_value b + 48 ≡ b = digit_value_digit b range in
-          rw (yes_digit, one-add) (omega arith, all_digits text)
+      | inl yes_digit ↦ rw (yes_digit, one-add) (omega (arith, digit_range, digit_value_digit), all_digits text)
       | inr other ↦ rw other tt
     ]
 
@@ -44,8 +40,7 @@ test_from_fits z h = grind (arith, lt-ltb, and_from, le-leb)
 pub digits_boundary : (text : List ℕ) (sign d : ℕ) → IsUtf8 text → d ≡ digits_len (drop sign text) → 0 < d → IsCharBoundary text (sign + d)
 digits_boundary text sign d utf8 e some =
     let last : is_ascii_digit (get_or (drop sign text) (d - 1) 0) ≡ true = grind (arith, prefix_len_passes) in
-    let byte : is_ascii_digit (get_or text (sign + (d - 1)) 0) ≡ true = rw (← get_or-drop sign text (d - 1) 0) last in
-    let range = digit_range (get_or text (sign + (d - 1)) 0) byte in
+    let range = digit_range (get_or text (sign + (d - 1)) 0) (rw (← get_or-drop sign text (d - 1) 0) last) in
     let within : d ≤ length text - sign = omega (arith, prefix_len-le-length is_ascii_digit (drop sign text), length-drop sign text) in
     let next : sign + d ≡ sign + (d - 1) + 1 = omega arith in
     rw next (IsCharBoundary-after_ascii text (sign + (d - 1)) utf8 (omega arith) (omega arith))
@@ -169,11 +164,6 @@ pub unsigned_overflows : (text : List ℕ) → 0 < digits_len text → slice_ind
     → unsigned_at text ≡ fatal (uinteger_value_invalid above (take (digits_len text) text))
 unfolding unsigned_at
 unsigned_overflows text some mark large = rw (marked (digits_len text) _ letter_u some mark, le-ltb _ (2 ^ 64) large) refl
-
--- digits and their mark decide
-pub unsigned_decides : (text : List ℕ) (other : Reading (Value Text)) → integer_at text ≡ miss → 0 < digits_len text
-    → slice_index text (digits_len text) ≡ letter_u → (integer_at text otherwise unsigned_at text otherwise other) ≡ unsigned_at text
-unsigned_decides text other no_integer some mark = grind (arith, cases_lt, unsigned_reads, unsigned_overflows)
 
 -- the outcomes of a Boolean
 pub boolean_misses : (b : Bool) (words : List (List ℕ)) (text : List ℕ) → word_len words text ≡ 0 → boolean_at b words text ≡ miss

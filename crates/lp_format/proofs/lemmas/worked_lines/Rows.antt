@@ -50,17 +50,13 @@ abbrev of_m : List (Pair Text (Value Text)) → Option ℤ → Line
 of_m fields timestamp = line "m" (part "m") [] fields timestamp
 
 -- a row of a table: what is asked, and what is wanted
-record Row (A B : Type 0) : Type 0 where
-  asked : A
-  wanted : B
-
 infix 70 ◌gives◌
-abbrev ◌gives◌ : {A B : Type 0} → A → B → Row A B
-asked gives wanted = record { asked = asked; wanted = wanted }
+abbrev ◌gives◌ : {A B : Type 0} → A → B → A × B
+asked gives wanted = (asked, wanted)
 
 -- each row of the table computes
-abbrev Computes : {A B : Type 0} → (A → B) → List (Row A B) → Type 0
-Computes f rows = map (λ r. f r.asked) rows ≡ map (λ r. r.wanted) rows
+abbrev Computes : {A B : Type 0} → (A → B) → List (A × B) → Type 0
+Computes f rows = map (λ r. f r.0) rows ≡ map (λ r. r.1) rows
 
 -- what lines are read as: whole lines, with tags and fields of each kind
 pub lines : Computes (λ text. answer Crate (codes text)) (

@@ -1,6 +1,5 @@
 use Rattle.std.proofs.Common.{◌≡◌, ◌^◌, ◌-◌, length, min, take, map}
-use Rattle.lp_lines.specs.code.Bases.{base_text, in_order}
-use Rattle.lp_lines.specs.code.Parsed.{tag_of}
+use Rattle.lp_lines.specs.code.{Bases.base_text, Bases.in_order, Parsed.tag_of}
 use Rattle.lp_lines.proofs.base.base_len.Given as goal
 
 abbrev pub invariant-loop-key : goal.invariant-loop-key

@@ -1,4 +1,4 @@
-use Rattle.std.proofs.Common.{◌≡◌, ◌+◌, ◌-◌, suc, arith, sym, ◌∙◌}
+use Rattle.std.proofs.Common.{◌≡◌, ◌+◌, ◌-◌, arith, sym, ◌∙◌}
 use Rattle.lp_lines.proofs.lemmas.series.BaseLemmas.{rise_at, rise_end}
 use Rattle.lp_lines.proofs.base.keys_rise.Goals as goal
 

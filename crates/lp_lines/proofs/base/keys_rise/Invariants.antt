@@ -1,6 +1,5 @@
 use Rattle.std.proofs.Common.{◌≡◌, ◌-◌, drop, map}
-use Rattle.lp_lines.specs.code.Bases.{keys_of, is_strictly_sorted}
-use Rattle.lp_lines.specs.code.Parsed.{tag_of}
+use Rattle.lp_lines.specs.code.{Bases.keys_of, Bases.is_strictly_sorted, Parsed.tag_of}
 use Rattle.lp_lines.proofs.base.keys_rise.Given as goal
 
 -- the keys rise if those from the last one on that was looked at do

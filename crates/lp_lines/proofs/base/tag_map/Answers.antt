@@ -1,8 +1,7 @@
 use Rattle.std.proofs.Common.{◌≡◌, ◌<◌, true, false, length, map, get_or, [], refl, sym, ◌∙◌, arith}
 use borrow.Author.Count.{below_more}
 use Rattle.std.proofs.lemmas.List.{take_all, length-map}
-use Rattle.lp_lines.specs.code.Bases.{first_repeated, is_repeated_at, keys_of}
-use Rattle.lp_lines.specs.code.Parsed.{tag_of}
+use Rattle.lp_lines.specs.code.{Bases.first_repeated, Bases.is_repeated_at, Bases.keys_of, Parsed.tag_of}
 use Rattle.lp_lines.proofs.lemmas.series.BaseLemmas.{by_key_nil, entries_more, first_repeated_is, has_more, key_is, length_keys}
 use Rattle.lp_lines.proofs.base.tag_map.Goals as goal
 

@@ -1,9 +1,6 @@
 use Rattle.std.proofs.Common.{◌≡◌, ℕ, ◌<◌, List, take, map, false, is_some, nat_cmp, bytes_eq}
-use Rattle.std.specs.BTreeMap.{get_by}
-use Rattle.std.specs.Cmp.Lexicographic.{slice_cmp}
-use Rattle.std.specs.List.{list_any}
-use Rattle.lp_lines.specs.code.Bases.{by_key, entry_bytes, is_repeated_at, keys_of}
-use Rattle.lp_lines.specs.code.Parsed.{tag_of}
+use Rattle.std.specs.{BTreeMap.get_by, Cmp.Lexicographic.slice_cmp, List.list_any}
+use Rattle.lp_lines.specs.code.{Bases.by_key, Bases.entry_bytes, Bases.is_repeated_at, Bases.keys_of, Parsed.tag_of}
 use Rattle.lp_lines.proofs.base.tag_map.Given as goal
 
 abbrev pub invariant-loop-key : goal.invariant-loop-key

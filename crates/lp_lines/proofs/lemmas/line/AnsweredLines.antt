@@ -2,19 +2,16 @@
 -- item of a line that was given.
 use Rattle.std.proofs.Common.{◌≡◌, ℕ, ◌<◌, List, [], ◌∷◌, length, refl, ap, arith, Option, Ok, Err, Result, ◌+◌, ◌≤◌, ◌^◌, drop}
 use Rattle.std.proofs.Common.{length-append, length-drop, true, IfSome, option_map, le-leb, leb-true}
-use Rattle.std.proofs.lemmas.Bool.{and_parts}
-use Rattle.std.proofs.lemmas.List.{length-map}
+use Rattle.std.proofs.lemmas.{Bool.and_parts, List.length-map}
 use Rattle.smallvec.specs.SmallVec.{SmallVec}
 use Rattle.lp_format.specs.format.{Dialect, Fault, Text, Reading, miss, fatal, reads, Pair, Line, tag, separated_list, tag_set, answer}
 use Rattle.lp_format.specs.format.{field, field_set, some_tags, spaces, byte, comma, space, a_measurement, Value, Left}
 use Rattle.lp_format.proofs.lemmas.names.Inversions.{prepend_parts, count_is_of_the_most}
 use Rattle.lp_format.specs.laws.Meanings.{SeparatedBy, SeparatedAfterComma}
-use Rattle.lp_format.proofs.lemmas.meanings.JoinedMeaning.{the_most_is_read}
-use Rattle.lp_format.proofs.lemmas.meanings.ShorterRests.{tag_no_longer, field_no_longer}
+use Rattle.lp_format.proofs.lemmas.meanings.{JoinedMeaning.the_most_is_read, ShorterRests.tag_no_longer, ShorterRests.field_no_longer}
 use Rattle.lp_format.specs.code.Light.{carries_no_text, count_after, fields_in, is_light_answer, is_light_in, is_single_line, read_count}
 use Rattle.lp_format.specs.code.Light.{tags_in, is_light}
-use Rattle.lp_values.specs.declared.error.Error.{Error}
-use Rattle.lp_values.specs.declared.escaped.EscapedStr.{EscapedStr}
+use Rattle.lp_values.specs.declared.{error.Error.Error, escaped.EscapedStr.EscapedStr}
 use Rattle.lp_values.proofs.lemmas.fields.ReadingLemmas.{bind_reads, name_ends}
 use Rattle.lp_values.specs.code.Outcomes.{IsNotOutOfMemory}
 use Rattle.lp_events.specs.code.LineSteps.{GaveLine}
@@ -22,10 +19,9 @@ use Rattle.lp_events.proofs.lemmas.fields.ManyLemmas.{TagSetRead, fields_joined,
 use Rattle.lp_events.proofs.lemmas.fields.ManyLemmas.{TagSetRead.some_set}
 use Rattle.lp_lines.specs.declared.parsed.ParsedLine.{ParsedLine}
 use Rattle.lp_lines.specs.code.Parsed.{Answers, FillsLine, line_read, tags_of, field_of}
-use Rattle.lp_lines.specs.code.ParseSteps.{HasNoEmptyTagSet, CanCountColumns, GaveItem}
+use Rattle.lp_lines.specs.code.{ParseSteps.HasNoEmptyTagSet, ParseSteps.CanCountColumns, ParseSteps.GaveItem, Lookups.some_items}
+use Rattle.lp_lines.specs.code.{ReadInto.item_in}
 use Rattle.lp_lines.proofs.lemmas.names.ParsedNames.{answer_parts, Parts}
-use Rattle.lp_lines.specs.code.Lookups.{some_items}
-use Rattle.lp_lines.specs.code.ReadInto.{item_in}
 
 -- what commas join is at least one
 pub joined_some : {A : Type 0} (one : List ℕ → Reading A) (line rest : List ℕ) (xs : List A)

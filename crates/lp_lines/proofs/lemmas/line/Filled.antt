@@ -2,24 +2,18 @@
 use Rattle.std.proofs.Common.{◌≡◌, ℕ, ◌+◌, ◌<◌, ◌≤◌, List, [], ◌∷◌, ◌++◌, length, length-append, map, take, Bool, true, false, refl, sym}
 use Rattle.std.proofs.Common.{ap, ◌∙◌, arith, append_assoc, ◌⊎◌, Result, Ok, Err, ◌≢◌, Option, Some, None, IfSome, append-nil, option_map}
 use Rattle.std.specs.List.{list_all}
-use Rattle.std.proofs.lemmas.Bool.{cases_Bool, and_parts}
-use Rattle.std.proofs.lemmas.List.{length-map}
+use Rattle.std.proofs.lemmas.{Bool.cases_Bool, Bool.and_parts, List.length-map}
 use Rattle.smallvec.specs.SmallVec.{SmallVec}
 use Rattle.lp_format.specs.code.Light.{is_single_field, is_single_line, is_single_tag, carries_no_text, is_light_in}
-use Rattle.lp_format.specs.format.{Line, some_tags, answer, Pair, Fault, Text, Value, Dialect}
-use Rattle.lp_values.specs.declared.error.Error.{Error}
-use Rattle.lp_values.specs.declared.error.Error.TheVariants.{OutOfMemory}
-use Rattle.lp_values.specs.declared.escaped.EscapedStr.{EscapedStr}
-use Rattle.lp_values.specs.declared.spelled.SpelledFault.{SpelledFault}
-use Rattle.lp_values.specs.declared.values.FieldValue.{FieldValue}
+use Rattle.lp_format.specs.format.{Line, some_tags, answer, Pair, Fault, Text, Dialect}
+use Rattle.lp_values.specs.declared.{error.Error.Error, error.Error.TheVariants.OutOfMemory, escaped.EscapedStr.EscapedStr}
+use Rattle.lp_values.specs.declared.{spelled.SpelledFault.SpelledFault, values.FieldValue.FieldValue}
 use Rattle.lp_values.specs.code.SpelledParts.{spelled_fault}
 use Rattle.lp_events.specs.code.Events.{AreEventsOf, Event, TakesAll, ended, events_of_line, named, tagged, valued}
-use Rattle.lp_lines.specs.declared.filling.Filling.{Filling}
-use Rattle.lp_lines.specs.declared.parsed.ParsedLine.{ParsedLine}
-use Rattle.lp_lines.specs.code.Filling.{FilledLine, FillsAnswer, FillsBy, HasRead, KeepsRooms, beside_fields, beside_tags, field_room}
-use Rattle.lp_lines.specs.code.Filling.{fields_so_far, tag_room, tags_so_far}
-use Rattle.lp_lines.specs.code.Lookups.{some_items}
-use Rattle.lp_lines.specs.code.Parsed.{field_of, line_read, tag_of, tags_of}
+use Rattle.lp_lines.specs.declared.{filling.Filling.Filling, parsed.ParsedLine.ParsedLine}
+use Rattle.lp_lines.specs.code.Filling.{FilledLine, FillsAnswer, FillsBy, HasRead, KeepsRooms, beside_fields, beside_tags, fields_so_far}
+use Rattle.lp_lines.specs.code.Filling.{tags_so_far}
+use Rattle.lp_lines.specs.code.{Lookups.room_of, Lookups.some_items, Parsed.field_of, Parsed.line_read, Parsed.tag_of, Parsed.tags_of}
 use Rattle.lp_lines.proofs.lemmas.line.AnsweredLines.{light_fault, light_line, HasSome, line_some_tags}
 
 -- what takes some events and then others takes the first ones before the others
@@ -34,9 +28,7 @@ takes_parted takes before after (event ∷ events) others (next, first, more) =
 -- the rooms of a line do not shrink, whatever is told
 pub rooms_kept : (old new : Filling) (events : List Event) → TakesAll FillsBy old events new → KeepsRooms old.line.now new.line.now
 rooms_kept old new [] same = rw same (record { tags = omega arith; fields = omega arith })
-rooms_kept old new (event ∷ events) (mid, first, more) =
-    let later = rooms_kept mid new events more in
-    record { tags = omega (arith, first.rooms.tags, later.tags); fields = omega (arith, first.rooms.fields, later.fields) }
+rooms_kept old new (event ∷ events) (mid, first, more) = grind (arith, rooms_kept mid new events more)
 
 -- it is the same line
 pub same_line : (old new : Filling) (events : List Event) → TakesAll FillsBy old events new → new.line.ghost_name ≡ old.line.ghost_name
@@ -65,23 +57,7 @@ module _ {A X : Type 0} (event : A → Event) (set : Filling → List A) (room :
   -- parts of one kind that were told were put
   filled_by : (old new : Filling) (xs : List A) → TakesAll FillsBy old (map event xs) new → FilledBy set room is_single others old xs new
   filled_by old new [] same = grind (arith, append-nil)
-  filled_by old new (x ∷ xs) (mid, first, more) =
-      let later = filled_by mid new xs more in
-      record {
-        fault = later.fault ∙ keeps old mid x first;
-        puts = λ taken.
-            let rest = later.puts taken in
-            let one = puts old mid x first rest.0 in (
-              one.0,
-              rest.1 ∙ ap (λ (ys : List A). ys ++ xs) one.1 ∙ append_assoc (set old) (x ∷ []) xs,
-              rest.2 ∙ one.2,
-            );
-        fits = λ taken single enough.
-            let parts = and_parts (is_single x) (list_all is_single xs) single in
-            let free = one_fits old mid x first taken parts.0 (omega arith) in
-            let one = ap length (puts old mid x first free).1 in
-            later.fits free parts.1 (omega (arith, enough, grows old mid x first, one, length-append (set old) (x ∷ [])));
-      }
+  filled_by old new (x ∷ xs) (mid, first, more) = grind (arith, filled_by mid new xs more, keeps, puts, grows, one_fits, append_assoc, length-append, and_parts)
 
 module _ (old : Filling) (l : Line) (begun told_tags told_fields new : Filling) (first : FillsBy old (named l.measurement) begun)
     (tags_told : TakesAll FillsBy begun (map tagged (some_tags l.tags)) told_tags)
@@ -89,14 +65,14 @@ module _ (old : Filling) (l : Line) (begun told_tags told_fields new : Filling) 
     (last : FillsBy told_fields (ended l.series l.timestamp) new) (not_refused : old.refused ≡ false)
     (no_tags : tags_so_far old ≡ []) (no_fields : fields_so_far old ≡ []) where
   -- what the tags filled
-  tags : FilledBy tags_so_far tag_room is_single_tag beside_tags begun (some_tags l.tags) told_tags
-  tags = filled_by tagged tags_so_far tag_room is_single_tag beside_tags
+  tags : FilledBy tags_so_far (λ line. room_of line.series.tag_set) is_single_tag beside_tags begun (some_tags l.tags) told_tags
+  tags = filled_by tagged tags_so_far (λ line. room_of line.series.tag_set) is_single_tag beside_tags
       (λ old new x by. by.rooms.tags) (λ old new x by. by.fault) (λ old new x by taken. let put = by.puts taken in (put.0, put.1.0, put.1.1)) (λ old new x by refused. by.needs refused)
       begun told_tags (some_tags l.tags) tags_told
 
   -- what the fields filled
-  fields : FilledBy fields_so_far field_room is_single_field beside_fields told_tags l.fields told_fields
-  fields = filled_by valued fields_so_far field_room is_single_field beside_fields
+  fields : FilledBy fields_so_far (λ line. line.field_set.capacity) is_single_field beside_fields told_tags l.fields told_fields
+  fields = filled_by valued fields_so_far (λ line. line.field_set.capacity) is_single_field beside_fields
       (λ old new x by. by.rooms.fields) (λ old new x by. by.fault) (λ old new x by taken. let put = by.puts taken in (put.0, put.1.0, put.1.1)) (λ old new x by refused. by.needs refused)
       told_tags told_fields l.fields fields_told
 
@@ -105,7 +81,7 @@ module _ (old : Filling) (l : Line) (begun told_tags told_fields new : Filling) 
   end_fits taken = grind (arith, cases_Bool)
 
   -- so it is not refused for a line without a copy, if there is room
-  line_fits : is_single_line l ≡ true → length (some_tags l.tags) ≤ tag_room old.line.now → length l.fields ≤ field_room old.line.now
+  line_fits : is_single_line l ≡ true → length (some_tags l.tags) ≤ room_of old.line.now.series.tag_set → length l.fields ≤ old.line.now.field_set.capacity
       → new.refused ≡ false
   line_fits single few_tags few_fields = grind (arith, and_parts, tags, fields, rooms_kept, end_fits, cases_Bool)
 
@@ -174,7 +150,7 @@ module _ (old new : Filling) (none : old.fault ≡ None) where
 
     -- memory is not refused for a light line
     pub light_is_not_refused : ((fault : SpelledFault) → new.fault ≡ Some fault → ⊥) → new.refused ≡ true
-        → is_light_in (tag_room old.line.now) (field_room old.line.now) dialect text ≡ true → ⊥
+        → is_light_in (room_of old.line.now.series.tag_set) old.line.now.field_set.capacity dialect text ≡ true → ⊥
     light_is_not_refused without refused light = grind (arith, line_is, light_line)
 
     -- the line that is filled is the answer

@@ -4,7 +4,7 @@ use Rattle.std.proofs.Common.{Result, arith, ℤ, eqb-true, eq-eqb}
 use Rattle.std.proofs.lemmas.Bool.{cases_Bool, both_ways}
 use Rattle.lp_format.specs.format.{Dialect, comma, space, Side, Fault, measurement_value_invalid, field_set_missing, ends_with_backslash}
 use Rattle.lp_format.specs.format.{tag_set_malformed, take_while1, timestamp_value_invalid, cannot_parse_entire_line, Text, Read, Reading}
-use Rattle.lp_format.specs.format.{miss, fatal, reads, ◌>>=◌, NameKind, a_measurement, name, Value, Pair, Line, byte, tag, field}
+use Rattle.lp_format.specs.format.{miss, fatal, reads, NameKind, a_measurement, name, Value, Pair, Line, byte, tag, field}
 use Rattle.lp_format.specs.format.{separated_list, tag_set, without_comma, timestamp, answer}
 use Rattle.lp_format.specs.laws.Meanings.{WholeList, NextHasFault}
 use Rattle.lp_format.specs.laws.MeaningsOfAnswers.{BeginsWith, after_spaces, ReadsSeries, ReadsSeries.alone, ReadsSeries.tagged}
@@ -13,10 +13,10 @@ use Rattle.lp_format.specs.laws.MeaningsOfAnswers.{IsAnswer.fatal_tag, IsAnswer.
 use Rattle.lp_format.specs.laws.MeaningsOfAnswers.{IsAnswer.no_field, IsAnswer.fatal_timestamp, IsAnswer.left, IsAnswer.all_read}
 use Rattle.lp_format.specs.laws.MeaningsOfAnswers.{AnswerIsByRows}
 use Rattle.lp_format.proofs.lemmas.meanings.JoinedMeaning.{the_most_is_read, the_next_has_the_fault, the_first_misses}
+use Rattle.lp_format.proofs.lemmas.meanings.ShorterRests.{tag_no_longer, field_no_longer}
 use Rattle.lp_events.proofs.lemmas.fields.ManyLemmas.{tag_set_ends}
 use Rattle.lp_lines.proofs.lemmas.read_back.LineReadsBack.{front_is}
 use Rattle.lp_values.proofs.lemmas.fields.ReadingLemmas.{EndsIn, EndsIn-end, name_ends}
-use Rattle.lp_format.proofs.lemmas.meanings.ShorterRests.{tag_no_longer, field_no_longer}
 
 -- the one fault that a name can have is that it ends in a backslash
 abbrev FailsByBackslash : {A : Type 0} → Reading A → Type 0

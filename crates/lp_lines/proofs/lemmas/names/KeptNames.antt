@@ -3,9 +3,9 @@ use Rattle.std.proofs.Common.{◌≡◌, ◌≢◌, ℕ, suc, ◌-◌, ◌<◌, 
 use Rattle.std.proofs.Common.{◌||◌, refl, sym, ap, ◌∙◌, subst, arith, inl, inr, ◌==◌, eq-eqb, eqb-true}
 use Rattle.std.proofs.lemmas.Bool.{cases_Bool, false≢true, and_parts, and_from, or_left, or_right, or_cases, not_from_true, not_from_false}
 use Rattle.std.proofs.lemmas.Grind.{common_steps}
-use Rattle.lp_format.specs.format.{backslash, hash, is_one_of, without_escapes, Text, reads, NameKind, a_measurement, a_tag_key}
-use Rattle.lp_format.specs.format.{a_tag_value, a_field_key, ends_in_backslash, escapable, is_escapable, is_stop, logical, name, read_text}
-use Rattle.lp_format.specs.format.{spelled, spelled_len, never_in}
+use Rattle.lp_format.specs.format.{backslash, hash, is_one_of, without_escapes, Text, reads, NameKind, a_measurement}
+use Rattle.lp_format.specs.format.{ends_in_backslash, is_escapable, is_stop, logical, name}
+use Rattle.lp_format.specs.format.{spelled, never_in}
 use Rattle.lp_format.specs.laws.NamesOfLines.{IsParsedName, BeginsNoComment}
 use Rattle.lp_format.proofs.lemmas.names.NameLemmas.{name_misses, name_fatal, name_reads, logical_ends}
 use Rattle.lp_format.proofs.lemmas.read_back.NameReadsBack.{may_hold}
@@ -41,11 +41,7 @@ no_stop x0 h = grind (arith, false≢true)
 before_stop_closed : (kind : NameKind) (escaped : Bool) (text : List ℕ)
     → is_closed kind escaped (take (bare_len (is_stop kind) escaped text) text) ≡ true
 before_stop_closed kind escaped [] = refl
-before_stop_closed kind escaped (b ∷ text) = elim (cases_Bool (is_stop kind b && not escaped)) [
-  | inl stop ↦ rw stop refl
-  | inr on ↦ rw on (and_from (not (is_stop kind b) || escaped) _ (no_bare_stop (is_stop kind b) escaped on)
-      (before_stop_closed kind (not escaped && b == backslash) text))
-]
+before_stop_closed kind escaped (b ∷ text) = grind (arith, cases_Bool, no_bare_stop, and_from, before_stop_closed kind (not escaped && b == backslash) text)
 
 -- the bytes of the logical text of a spelling are kept
 logical_kept : (kind : NameKind) (after : Bool) (text : List ℕ) → is_closed kind false text ≡ true
@@ -151,15 +147,4 @@ spelled_is_parsed kind text some ends begins =
 -- each name that is read is a parsed name
 pub name_parsed : (kind : NameKind) (text rest : List ℕ) (x : Text) → name kind text ≡ reads x rest
     → BeginsNoComment kind text → IsParsedName kind x.bytes
-name_parsed kind text rest x h begins = elim (cases_Bool (length (spelled kind text) == 0)) [
-  | inl none ↦ let e = name_misses kind text (eqb-true _ 0 none) in absurd (cc)
-  | inr some ↦
-      let ne : length (spelled kind text) ≢ 0 = λ e. false≢true (sym some ∙ eq-eqb _ 0 e) in
-      elim (cases_Bool (ends_in_backslash (spelled kind text))) [
-        | inl ends ↦ let e = name_fatal kind text (omega arith) ends in absurd (cc)
-        | inr ends ↦
-            let e = name_reads kind text (omega arith) ends in
-            let same : read_text (escapable kind) (spelled kind text) ≡ x = cc in
-            subst (λ (y : Text). IsParsedName kind y.bytes) same (spelled_is_parsed kind text ne ends begins)
-      ]
-]
+name_parsed kind text rest x h begins = grind (arith, cases_Bool, name_misses, name_fatal, name_reads, spelled_is_parsed, eqb-true, eq-eqb, false≢true)

@@ -1,19 +1,18 @@
 -- Which names lines can have, and that they can have each of them.
-use Rattle.std.proofs.Common.{◌≡◌, ◌≢◌, ℕ, List, [], ◌∷◌, drop, map, slice_index, Bool, true, false, ◌||◌, refl, sym, ap, subst, arith, inl}
-use Rattle.std.proofs.Common.{inr, Option, Ok, Result, ◌==◌, ℤ, Contains, eqb-true}
+use Rattle.std.proofs.Common.{◌≡◌, ◌≢◌, ℕ, List, [], ◌∷◌, drop, map, slice_index, Bool, true, false, refl, sym, ap, subst, arith, inl}
+use Rattle.std.proofs.Common.{inr, Option, Ok, Result, ℤ, Contains, eqb-true}
 use Rattle.std.specs.List.{AllByRecursion}
-use Rattle.std.proofs.lemmas.Bool.{cases_Bool, or_parts, eqb-false}
-use Rattle.std.proofs.lemmas.List.Elements.{Contains-append_cases}
+use Rattle.std.proofs.lemmas.{Bool.cases_Bool, Bool.or_parts, Bool.eqb-false, List.Elements.Contains-append_cases}
 use Rattle.lp_format.specs.format.{Dialect, Strict, Fault, Text, reads, NameKind, a_measurement, a_tag_key, a_tag_value, a_field_key, name}
-use Rattle.lp_format.specs.format.{Value, Pair, Point, Tag, trimmed, Line, point_of, logical_tag, logical_field, some_tags, tag, field}
+use Rattle.lp_format.specs.format.{Value, Pair, Point, Tag, Line, point_of, logical_tag, logical_field, some_tags, tag, field}
 use Rattle.lp_format.specs.format.{tag_set, field_set, spaces, timestamp, front_before, answer, HasAnswers, answers_of_piece, answers_of}
-use Rattle.lp_format.specs.format.{hash, newline}
+use Rattle.lp_format.specs.format.{hash}
 use Rattle.lp_format.specs.laws.NamesOfLines.{names_of, IsParsedName, IsNothingOrSpaced}
 use Rattle.lp_format.specs.laws.Laws.{NamesAreParsed, StrictFieldsEnd}
-use Rattle.lp_format.proofs.lemmas.line.TrimLemmas.{is_blank, left_of, trimmed_is}
+use Rattle.lp_format.specs.laws.MeaningsOfAnswers.{after_spaces, IsAnswer, IsAnswer.all_read}
+use Rattle.lp_format.proofs.lemmas.line.TrimLemmas.{left_of, trimmed_is}
 use Rattle.lp_lines.proofs.lemmas.names.KeptNames.{name_parsed}
 use Rattle.lp_format.proofs.lemmas.names.Inversions.{after_all, joined_of}
-use Rattle.lp_format.specs.laws.MeaningsOfAnswers.{after_spaces, IsAnswer, IsAnswer.all_read}
 use Rattle.lp_lines.proofs.lemmas.meanings.AnswerMeaning.{answer_is_by_rows, fields_read, series_parts}
 use Rattle.lp_format.proofs.lemmas.meanings.ShorterRests.{field_no_longer}
 use Rattle.lp_events.proofs.lemmas.fields.ManyLemmas.{fields_joined, set_separated}
@@ -108,18 +107,7 @@ strict_fields_end text line h =
 -- what is left of a text does not begin with `#`
 left_begins : (in_comment : Bool) (text : List ℕ) → slice_index (left_of in_comment text) 0 ≢ hash
 left_begins in_comment [] = omega arith
-left_begins in_comment (b ∷ rest) = elim (cases_Bool (b == newline)) [
-  | inl cut ↦ rw cut (left_begins false rest)
-  | inr on ↦
-      elim (cases_Bool (in_comment || b == hash)) [
-        | inl skipped ↦ rw (on, skipped) (left_begins true rest)
-        | inr seen ↦
-            elim (cases_Bool (is_blank b)) [
-              | inl blank ↦ rw (on, seen, blank) (left_begins false rest)
-              | inr kept ↦ rw (on, seen, kept) (eqb-false b hash (or_parts in_comment (b == hash) seen).1)
-            ]
-      ]
-]
+left_begins in_comment (b ∷ rest) = grind (arith, cases_Bool, or_parts, eqb-false, left_begins false rest, left_begins true rest)
 
 -- an element of a list that is made from others is made from one of them
 pub nothing_in_nil : {X : Type 0} (x : X) → Contains [] x → ⊥

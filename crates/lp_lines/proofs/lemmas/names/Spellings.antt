@@ -1,11 +1,9 @@
 -- Names by any of their spellings: a reader reads each back, and a splitter that is within a stretch stays within it.
 use Rattle.std.proofs.Common.{◌≡◌, ◌≢◌, ℕ, List, [], ◌∷◌, ◌++◌, true, false, refl, ap, subst, append_assoc, ◌<◌, length, drop, slice_index}
 use Rattle.std.proofs.Common.{Bool, ◌||◌, sym, ◌∙◌, arith, inl, inr, append-nil, ◌==◌, eqb-true, ne_eqb, take_at, drop_at}
-use Rattle.std.proofs.lemmas.List.Elements.{All-nil}
+use Rattle.std.proofs.lemmas.{List.Elements.All-nil, Bool.cases_Bool, Bool.false≢true, Bool.and_parts, Bool.and_right, Grind.common_steps}
 use Rattle.std.specs.List.{list_all}
-use Rattle.std.proofs.lemmas.Bool.{cases_Bool, false≢true, and_parts, and_right}
-use Rattle.std.proofs.lemmas.Grind.{common_steps}
-use Rattle.lp_format.specs.format.{IsBareAfter, escaped, without_escapes, NameKind, a_measurement, a_tag_key, a_tag_value, a_field_key}
+use Rattle.lp_format.specs.format.{IsBareAfter, escaped, without_escapes, NameKind, a_measurement, a_field_key}
 use Rattle.lp_format.specs.format.{is_escapable, ends_in_backslash, escapable, is_stop, logical, name, read_text, spelled, spelled_len}
 use Rattle.lp_format.specs.format.{newline, space, backslash, comma, equals, hash, is_one_of, tab, fatal, reads, ends_with_backslash}
 use Rattle.lp_format.specs.format.{is_admitted_name, never_in, spelling, begins_comment, trimmed, spaces}
@@ -139,12 +137,7 @@ spelled_as kind (b ∷ c ∷ n) h =
 pub spelling_as : (kind : NameKind) (n : List ℕ) → list_all (may_hold kind) n ≡ true → SpelledAs kind n (spelling kind n)
 unfolding escaped
 spelling_as kind [] all = done
-spelling_as kind (b ∷ n) all =
-    let parts = and_parts (may_hold kind b) (list_all (may_hold kind) n) all in
-    elim (cases_Bool (is_escapable kind b)) [
-      | inl known ↦ rw (escaped_found (escapable kind) n b known) (escape b n (spelling kind n) known (spelling_as kind n parts.1))
-      | inr other ↦ rw (escaped_plain (escapable kind) n b other) (plain b n (spelling kind n) other parts.0 (spelling_as kind n parts.1))
-    ]
+spelling_as kind (b ∷ n) all = grind (arith, cases_Bool, and_parts, escaped_found, escaped_plain, SpelledAs.escape, SpelledAs.plain, spelling_as kind n)
 
 -- so is that of an admitted name
 pub admitted_spelled : (kind : NameKind) (n : List ℕ) → is_admitted_name kind n ≡ true → SpelledAs kind n (spelling kind n)
@@ -163,10 +156,8 @@ stops_here kind rest ends = grind (arith)
 spelled_to : {kind : NameKind} {n s : List ℕ} → SpelledAs kind n s → (rest : List ℕ) → Stops kind rest
     → bare_len (is_stop kind) false (s ++ rest) ≡ length s
 spelled_to {kind = kind} done rest ends = stops_here kind rest ends
-spelled_to {kind = kind} (escape b n s known more) rest
-    ends = rw (backslash_no_stop kind, and_right (is_stop kind b) false refl, spelled_to more rest ends) refl
-spelled_to {kind = kind} (plain b n s other may more) rest
-    ends = rw (stop_escapable kind b may other, ne_eqb b backslash (no_backslash kind b other), spelled_to more rest ends) refl
+spelled_to {kind = kind} (escape b n s known more) rest ends = grind (arith, backslash_no_stop, spelled_to more rest ends)
+spelled_to {kind = kind} (plain b n s other may more) rest ends = grind (arith, stop_escapable, ne_eqb, no_backslash, spelled_to more rest ends)
 spelled_to {kind = kind} (pair c n s never more) rest
     ends = rw (backslash_no_stop kind, and_right (is_stop kind c) false refl, spelled_to more rest ends) refl
 

@@ -1,26 +1,20 @@
 -- The line of an admitted point is a piece that a newline ends.
 use Rattle.std.proofs.Common.{◌≡◌, ◌≢◌, ℕ, ◌+◌, ◌^◌, ◌<◌, ◌≤◌, List, [], ◌∷◌, ◌++◌, length, Bool, true, false, refl, sym, ap, ◌∙◌, subst}
-use Rattle.std.proofs.Common.{arith, inl, inr, append_assoc, Option, Some, None, ◌==◌, ℤ, not, codes, decimal, IfSome, flat_map, eqb-true}
-use Rattle.std.specs.List.{AllByRecursion, list_all}
-use Rattle.std.specs.Fmt.{signed_decimal}
-use Rattle.std.specs.Str.Parse.{AllDigits, IsNumeral}
+use Rattle.std.proofs.Common.{arith, inl, inr, append_assoc, Option, Some, None, ℤ, not, codes, decimal, IfSome, flat_map, eqb-true}
+use Rattle.std.specs.{List.AllByRecursion, List.list_all, Fmt.signed_decimal, Str.Parse.AllDigits, Str.Parse.IsNumeral}
 use Rattle.std.proofs.lemmas.Bool.{cases_Bool, and_parts, and_from, or_cases, false≢true}
-use Rattle.std.proofs.lemmas.Grind.{common_steps}
-use Rattle.std.proofs.lemmas.Fmt.{decimal_is_IsNumeral}
-use Rattle.std.proofs.lemmas.Str.Parse.{digit_from_value}
-use Rattle.std.proofs.lemmas.List.Folds.{list_all-append}
+use Rattle.std.proofs.lemmas.{Grind.common_steps, Fmt.decimal_is_IsNumeral, Str.Parse.digit_from_value, List.Folds.list_all-append}
 use Rattle.lp_split.specs.code.{Head, Plain, Quoted}
 use Rattle.lp_split.proofs.lemmas.split.SplitWalk.{Plain-equals, Plain-comma, Plain-opens, Plain-other, Quoted-closes, Quoted-other}
 use Rattle.lp_format.specs.format.{Dialect, backslash, is_one_of, newline, quote, escaped, a_measurement, a_tag_key, a_tag_value}
 use Rattle.lp_format.specs.format.{a_field_key, Value, integer, unsigned, float, string, boolean, quotable, fits_i64, IsSigned, IsMarked}
 use Rattle.lp_format.specs.format.{IsFloat, Point, IsPoint, Tag, Field, IsValue, is_admitted_tag, is_admitted_field, is_admitted_point}
 use Rattle.lp_format.specs.format.{line_of, built_tag, built_field, built_fields, built_timestamp, built_value, spelling, is_admitted_name}
-use Rattle.lp_format.specs.format.{IsCutPiece, begins_comment}
+use Rattle.lp_format.specs.format.{IsCutPiece, begins_comment, Bytes.comma, Bytes.equals, Bytes.letter_i, Bytes.letter_u, Bytes.space}
 use Rattle.lp_format.proofs.lemmas.values.ValueLemmas.{fits_from_test}
 use Rattle.lp_lines.proofs.lemmas.names.Spellings.{Leads, leads_by_none, leads_then, turns, reaches_gap, reaches_other, Reaches}
 use Rattle.lp_lines.proofs.lemmas.names.Spellings.{reaches_start, ChangesNothing, reaches_byte, reaches_pair, admitted_spelled}
 use Rattle.lp_lines.proofs.lemmas.names.Spellings.{measurement_begins, reaches_name, reaches_field_key, BeginsLine, line_no_comment}
-use Rattle.lp_format.specs.format.Bytes.{comma, equals, letter_i, letter_u, space}
 
 -- a byte that means nothing in a plain stretch
 abbrev is_simple : ℕ → Bool
@@ -56,9 +50,7 @@ simple_digit b least most = grind (arith, common_steps)
 -- so are digits
 simple_digits : (ds : List ℕ) → AllDigits 10 ds → IsSimple ds
 simple_digits [] all = refl
-simple_digits (d ∷ ds) all =
-    let range = digit_from_value d all.0 in
-    and_from (is_simple d) (list_all is_simple ds) (simple_digit d range.0 range.1) (simple_digits ds all.1)
+simple_digits (d ∷ ds) all = grind (arith, digit_from_value, and_from, simple_digit, simple_digits ds)
 
 -- the decimal text of a number
 simple_decimal : (n : ℕ) → n < 2 ^ 64 → IsSimple (decimal n)
@@ -71,12 +63,7 @@ simple_signed n fits = grind (arith, fits_from_test, simple_decimal, and_from)
 -- a byte of a simple text
 simple_one : (text : List ℕ) (b : ℕ) → IsSimple text → is_one_of text b ≡ true → is_simple b ≡ true
 simple_one [] b all h = absurd (false≢true h)
-simple_one (c ∷ text) b all h =
-    let parts = and_parts (is_simple c) (list_all is_simple text) all in
-    elim (or_cases (c == b) (is_one_of text b) h) [
-      | inl same ↦ ap is_simple (sym (eqb-true c b same)) ∙ parts.0
-      | inr more ↦ simple_one text b parts.1 more
-    ]
+simple_one (c ∷ text) b all h = grind (arith, and_parts, or_cases, eqb-true, simple_one text b)
 
 -- a sign or none, and digits
 simple_sign : (signs : List ℕ) (ds : List ℕ) → IsSimple signs → IsSigned signs ds → IsSimple ds
@@ -209,17 +196,13 @@ pub record IsAdmitted (p : Point) : Type 0 where
 -- the same of all tags, and of all fields
 pub admitted_tags : (ts : List Tag) → list_all is_admitted_tag ts ≡ true → AllByRecursion AdmittedTag ts
 admitted_tags [] all = tt
-admitted_tags (t ∷ ts) all =
-    let parts = and_parts (is_admitted_tag t) (list_all is_admitted_tag ts) all in
-    (and_parts _ _ parts.0, admitted_tags ts parts.1)
+admitted_tags (t ∷ ts) all = grind (arith, and_parts, admitted_tags ts)
 
 -- with values in range
 admitted_fields : (fs : List Field) → list_all is_admitted_field fs ≡ true
     → AllByRecursion (λ f. IsValue f.value) fs → AllByRecursion AdmittedField fs
 admitted_fields [] all values = tt
-admitted_fields (f ∷ fs) all values =
-    let parts = and_parts (is_admitted_field f) (list_all is_admitted_field fs) all in
-    ((parts.0, values.0), admitted_fields fs parts.1 values.1)
+admitted_fields (f ∷ fs) all values = grind (arith, and_parts, admitted_fields fs)
 
 -- the two tests of a point
 pub admitted_point : (p : Point) → IsPoint p → is_admitted_point p ≡ true → IsAdmitted p

@@ -1,42 +1,32 @@
 -- Values, tags, fields, timestamps and lines read back as they were written.
 use Rattle.std.proofs.Common.{◌≡◌, ℕ, ◌+◌, ◌^◌, ◌<◌, List, [], ◌∷◌, ◌++◌, length, take, drop, slice_index, Bool, true, false, refl, sym, ap}
-use Rattle.std.proofs.Common.{◌∙◌, arith, inl, inr, zero, suc, ◌≤◌, map, Ok, Option, Some, None, ◌-◌, ◌==◌, ℤ, decimal, nat_lt, codes}
+use Rattle.std.proofs.Common.{◌∙◌, arith, zero, suc, ◌≤◌, map, Ok, Option, Some, None, ◌-◌, ◌==◌, ℤ, decimal, nat_lt, codes}
 use Rattle.std.proofs.Common.{IfSome, ne_eqb, lt-ltb, append_assoc, take_at, drop_at, length-append, drop-drop, append-nil, take_all}
 use Rattle.std.proofs.Common.{flat_map}
-use Rattle.std.specs.Fmt.{signed_decimal}
-use Rattle.std.proofs.lemmas.Bool.{cases_Bool, and_right}
-use Rattle.std.proofs.lemmas.Fmt.{decimal_is_IsNumeral}
-use Rattle.std.proofs.lemmas.Grind.{common_steps}
-use Rattle.std.proofs.lemmas.List.{get_or_at, drop_all}
-use Rattle.std.specs.List.{AllByRecursion}
 use Rattle.std.proofs.Math.Seq.{take-append_seam}
-use Rattle.lp_format.specs.format.{backslash, is_one_of, quote, comma, equals, space, Reading, reads, Text, miss, IsValue, built_value}
+use Rattle.std.specs.{Fmt.signed_decimal, List.AllByRecursion}
+use Rattle.std.proofs.lemmas.{Bool.cases_Bool, Fmt.decimal_is_IsNumeral, Grind.common_steps, List.get_or_at, List.drop_all}
+use Rattle.lp_format.specs.format.{quote, comma, equals, space, Reading, reads, Text, miss, IsValue, built_value}
 use Rattle.lp_format.specs.format.{Pair, Tag, Field, built_tag, built_field, built_fields, built_timestamp, spelling, Point, line_of}
 use Rattle.lp_format.specs.format.{is_admitted_name, escaped, Value, value, integer, unsigned, string, boolean, integer_at, unsigned_at}
 use Rattle.lp_format.specs.format.{float_at, string_at, boolean_at, body_len, digits_len, integer_len, fits_i64, quotable, Dialect}
 use Rattle.lp_format.specs.format.{a_tag_key, a_tag_value, a_field_key, is_stop, a_measurement, name, byte, tag, field, after_comma, many}
 use Rattle.lp_format.specs.format.{tag_set, field_set, timestamp, without_comma, answer, front_before, separated_list, spaces}
+use Rattle.lp_format.specs.format.Bytes.{letter_u}
 use Rattle.lp_format.proofs.lemmas.read_back.NameReadsBack.{read_value, read_tag, read_tags, read_field, read_line, admitted_parts}
 use Rattle.lp_format.proofs.lemmas.read_back.NameReadsBack.{read_name}
+use Rattle.lp_format.proofs.lemmas.read_back.IntegerReadsBack.{unsigned_len, integer_reads_back, integer_written}
 use Rattle.lp_format.proofs.lemmas.values.ValueLemmas.{integer_unmarked}
 use Rattle.lp_format.proofs.lemmas.literals.FloatLemmas.{Ends, float_reads_back, digits_before}
-use Rattle.lp_format.proofs.lemmas.read_back.IntegerReadsBack.{unsigned_len, integer_reads_back, integer_written}
 use Rattle.lp_split.proofs.lemmas.split.ScanLemmas.{bare_len, first_bare_len}
 use Rattle.lp_lines.proofs.lemmas.names.Spellings.{name_reads_back, admitted_spelled, spelled_spaces}
 use Rattle.lp_lines.proofs.lemmas.read_back.LinePieces.{AdmittedTag, AdmittedField, IsAdmitted, line_parts}
-use Rattle.lp_format.specs.format.Bytes.{letter_u}
 
 -- the body of a string ends at the quote after it
 body_ends : (s rest : List ℕ) → bare_len (λ b. b == quote) false (escaped quotable s ++ quote ∷ rest) ≡ length (escaped quotable s)
 unfolding escaped
 body_ends [] rest = refl
-body_ends (b ∷ s) rest = elim (cases_Bool (is_one_of quotable b)) [
-  | inl found ↦ rw (found, and_right (b == quote) false refl, body_ends s rest) refl
-  | inr plain ↦
-      let no_quote : (b == quote) ≡ false = grind (arith, common_steps) in
-      let no_backslash : (b == backslash) ≡ false = grind (arith, common_steps) in
-      rw (plain, no_quote, no_backslash, body_ends s rest) refl
-]
+body_ends (b ∷ s) rest = grind (arith, common_steps, cases_Bool, body_ends s rest)
 
 -- a string reads back
 pub string_reads_back : (s rest : List ℕ) → string_at (quote ∷ (escaped quotable s ++ quote ∷ rest)) ≡ reads (read_value (string s)) rest

@@ -2,19 +2,15 @@
 use Rattle.std.proofs.Common.{◌≡◌, ℕ, suc, zero, ◌+◌, ◌<◌, ◌≤◌, Bool, true, false, not, cond, ◌&&◌, ◌||◌, List, [], ◌∷◌, length, take, drop}
 use Rattle.std.proofs.Common.{get_or, map, Some, Option, refl, ap, sym, ◌∙◌, arith, zero-add, length-drop, Bor, Ordering, BTreeMap, is_some}
 use Rattle.std.proofs.Common.{is_lt, is_ge, nat_cmp, bytes_eq}
-use Rattle.std.specs.BTreeMap.{UpdatesBy, get_by, insert_entry}
-use Rattle.std.specs.Cmp.Lexicographic.{slice_cmp, nat_list_eq_equiv}
-use Rattle.std.specs.List.{list_all, list_any, range_with_len}
-use Rattle.std.specs.Ordering.{match_ordering}
-use Rattle.std.proofs.lemmas.List.{map_more, length-map}
-use Rattle.std.proofs.lemmas.List.Folds.{list_all-map, list_any_more}
+use Rattle.std.specs.{BTreeMap.UpdatesBy, BTreeMap.get_by, BTreeMap.insert_entry, Cmp.Lexicographic.slice_cmp}
+use Rattle.std.specs.{Cmp.Lexicographic.nat_list_eq_equiv, List.list_all, List.list_any, List.range_with_len, Ordering.match_ordering}
 use Rattle.std.proofs.lemmas.List.FromFn.{length-range_with_len, get_or-range_with_len}
-use Rattle.std.proofs.lemmas.List.Sums.{fold_push, position_or_len_is}
-use Rattle.std.proofs.lemmas.Map.Text.{btree_map_updates_str}
+use Rattle.std.proofs.lemmas.{List.map_more, List.length-map, List.Folds.list_all-map, List.Folds.list_any_more, List.Sums.fold_push}
+use Rattle.std.proofs.lemmas.{List.Sums.position_or_len_is, Map.Text.btree_map_updates_str}
 use Rattle.lp_values.specs.declared.escaped.EscapedStr.{EscapedStr}
 use Rattle.lp_lines.specs.code.Bases.{by_key, entry_bytes, first_repeated, is_repeated_at, is_ambiguous_tag, keys_of, is_strictly_sorted}
-use Rattle.lp_format.specs.code.Light.{is_single_tag}
 use Rattle.lp_lines.specs.code.Parsed.{tag_of}
+use Rattle.lp_format.specs.code.Light.{is_single_tag}
 use Rattle.lp_format.specs.format.{Pair, Text}
 use Rattle.lp_values.specs.code.Texts.{text_of}
 

@@ -1,6 +1,6 @@
 -- Bases tell parsed series from one another.
-use Rattle.std.proofs.Common.{◌≡◌, ℕ, zero, suc, ◌+◌, true, false, List, [], ◌∷◌, ◌++◌, ◌&&◌, length, drop, refl, sym, ap, ◌∙◌, inl, inr}
-use Rattle.std.proofs.Common.{append_assoc, add-one, Some, arith, flat_map, is_some, eq-eqb, drop-drop, take-append-drop}
+use Rattle.std.proofs.Common.{◌≡◌, ℕ, ◌+◌, true, false, List, [], ◌∷◌, ◌++◌, ◌&&◌, length, drop, refl, sym, ap, ◌∙◌, inl, inr}
+use Rattle.std.proofs.Common.{append_assoc, Some, arith, flat_map, is_some, eq-eqb, drop-drop, take-append-drop}
 use Rattle.std.specs.List.{list_all, list_any}
 use Rattle.std.proofs.lemmas.Bool.{and_parts, cases_Bool, false≢true, not-true, or_cases, or_parts}
 use Rattle.lp_lines.specs.laws.BaseLaws.{IsClearSeries, IsParsedSeries, ClearSeriesHaveBases, SameSeriesHaveOneBase, base_bytes}
@@ -8,8 +8,8 @@ use Rattle.lp_lines.specs.laws.BaseLaws.{is_tag_one_escape, spelled_tags}
 use Rattle.lp_lines.specs.code.Bases.{base_by_key, base_of, base_text, based_tag, by_key, first_repeated, in_order, keys_of}
 use Rattle.lp_lines.specs.code.Bases.{is_strictly_sorted}
 use Rattle.lp_format.specs.code.Light.{is_single_tag}
-use Rattle.lp_format.specs.format.{comma, equals, without_escapes, tag, NameKind, a_measurement, a_tag_key, a_tag_value, escapable}
-use Rattle.lp_format.specs.format.{is_one_escape, is_shared, name, read_text, spelled, spelled_len, Pair, Text, reads}
+use Rattle.lp_format.specs.format.{comma, equals, tag, NameKind, a_measurement, a_tag_key, a_tag_value, escapable}
+use Rattle.lp_format.specs.format.{is_one_escape, name, read_text, spelled, spelled_len, Pair, Text, reads}
 use Rattle.lp_format.specs.laws.Meanings.{SeparatedAfterComma}
 use Rattle.lp_format.proofs.lemmas.names.NameLemmas.{without_escapes_same, no_backslash}
 use Rattle.lp_values.proofs.lemmas.fields.ReadingLemmas.{name_parts, pair_parts}

@@ -2,18 +2,12 @@
 use Rattle.std.proofs.Common.{◌≡◌, ℕ, false, List, [], ◌∷◌, ◌++◌, append_assoc, append-nil, sym, ◌∙◌, ◌<◌, true, length, get_or, take, refl}
 use Rattle.std.proofs.Common.{ap, subst, inl, inr, arith, length-append, zero-add, Ordering, Less, Equal, Greater, fold, Contains}
 use Rattle.std.proofs.Common.{IsPermutation, is_eq, nat_cmp, is_lt, bytes_eq}
-use Rattle.std.specs.BTreeMap.{insert_entry}
-use Rattle.std.specs.Cmp.Lexicographic.{slice_cmp}
-use Rattle.std.specs.List.{list_any, range_with_len}
-use Rattle.std.specs.Ordering.{match_ordering, ordering_reverse}
+use Rattle.std.specs.Ordering.{match_ordering}
+use Rattle.std.specs.{BTreeMap.insert_entry, Cmp.Lexicographic.slice_cmp, List.list_any, List.range_with_len}
 use Rattle.std.proofs.lemmas.List.Sorted.{IsPermutation-refl, IsPermutation-cons, IsPermutation-trans, IsPermutation-middle}
 use Rattle.std.proofs.lemmas.List.Sorted.{IsPermutation-sym, IsPermutation-to_front, list_any-IsPermutation, Contains-permutation}
-use Rattle.std.proofs.lemmas.Map.Text.{is_eq-slice_cmp}
-use Rattle.std.proofs.lemmas.Bool.{false≢true, or_parts, and_parts}
-use Rattle.std.proofs.lemmas.List.{length-map, map-append}
-use Rattle.std.proofs.lemmas.Cmp.{nat_list_cmp_total, tied_itself}
-use Rattle.std.proofs.lemmas.List.FromFn.{get_or-range_with_len}
-use Rattle.std.proofs.lemmas.List.Sums.{fails_before_first}
+use Rattle.std.proofs.lemmas.{Map.Text.is_eq-slice_cmp, Bool.false≢true, Bool.or_parts, Bool.and_parts, List.length-map, List.map-append}
+use Rattle.std.proofs.lemmas.{Cmp.nat_list_cmp_total, Cmp.tied_itself, List.FromFn.get_or-range_with_len, List.Sums.fails_before_first}
 use Rattle.lp_format.specs.format.{Pair, Text}
 use Rattle.lp_format.proofs.lemmas.lists.Elements.{first_element, first_or_later, later_element}
 use Rattle.lp_lines.specs.code.Bases.{by_key, in_order, first_repeated, is_repeated_at, keys_of, is_strictly_sorted}
@@ -32,10 +26,7 @@ at_place Greater k v e es rest apart there = IsPermutation-trans ((k, v) ∷ e �
 pub insert_moves : (es : List (List ℕ × List ℕ)) (k v : List ℕ) → list_any (λ e. bytes_eq k e.0) es ≡ false
     → IsPermutation ((k, v) ∷ es) (insert_entry (slice_cmp nat_cmp) es k v)
 insert_moves [] k v absent = IsPermutation-refl ((k, v) ∷ [])
-insert_moves (e ∷ es) k v absent =
-    let apart = or_parts (bytes_eq k e.0) (list_any (λ e. bytes_eq k e.0) es) absent in
-    at_place (slice_cmp nat_cmp k e.0) k v e es (insert_entry (slice_cmp nat_cmp) es k v)
-    (is_eq-slice_cmp k e.0 ∙ apart.0) (insert_moves es k v apart.1)
+insert_moves (e ∷ es) k v absent = grind (arith, or_parts, at_place, is_eq-slice_cmp, insert_moves es k v)
 
 -- a key is less than all of these
 abbrev pub IsBelow : List ℕ → List (List ℕ × List ℕ) → Type 0
@@ -91,10 +82,7 @@ by_key_rises tags = rise_fold [] tags tt
 below_each : (k : List ℕ) (es : List (List ℕ × List ℕ)) (e : List ℕ × List ℕ) → IsBelow k es → Contains es e
     → slice_cmp nat_cmp k e.0 ≡ Less
 below_each k [] e below h = let l = h.1 in absurd (omega arith)
-below_each k (x ∷ es) e below h = elim (first_or_later x e es h) [
-  | inl same ↦ ap (λ (y : List ℕ × List ℕ). slice_cmp nat_cmp k y.0) (sym same) ∙ below.0
-  | inr after ↦ below_each k es e below.1 after
-]
+below_each k (x ∷ es) e below h = grind (arith, first_or_later, below_each k es e)
 
 -- no key is less than itself
 not_below_itself : (k : List ℕ) → slice_cmp nat_cmp k k ≡ Less → ⊥
@@ -148,10 +136,7 @@ less_from_test o h = grind (arith)
 pub passes_rise : (es : List (List ℕ × List ℕ)) → is_strictly_sorted (entry_keys es) ≡ true → Rise es
 passes_rise [] h = tt
 passes_rise (e ∷ []) h = (tt, tt)
-passes_rise (e ∷ f ∷ es) h =
-    let parts = and_parts (is_lt (slice_cmp nat_cmp e.0 f.0)) (is_strictly_sorted (entry_keys (f ∷ es))) h in
-    let more = passes_rise (f ∷ es) parts.1 in
-    ((less_from_test _ parts.0, below_all e.0 f.0 es (less_from_test _ parts.0) more.0), more)
+passes_rise (e ∷ f ∷ es) h = grind (arith, and_parts, less_from_test, below_all, passes_rise (f ∷ es))
 
 -- the keys of the tags as entries
 keys_in_order : (tags : List (Pair Text Text)) → entry_keys (in_order tags) ≡ keys_of tags

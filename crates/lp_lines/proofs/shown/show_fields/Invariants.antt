@@ -1,6 +1,5 @@
 use Rattle.std.proofs.Common.{◌∷◌, [], take, map}
-use Rattle.std.specs.Fmt.{HasWritten, IsPlainFormatter}
-use Rattle.std.specs.List.{join_by}
+use Rattle.std.specs.{Fmt.HasWritten, Fmt.IsPlainFormatter, List.join_by}
 use Rattle.lp_format.specs.format.Bytes.{comma}
 use Rattle.lp_lines.specs.code.Parsed.{field_of}
 use Rattle.lp_format.specs.code.Shown.{shown_field}

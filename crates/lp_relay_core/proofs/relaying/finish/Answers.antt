@@ -21,10 +21,10 @@ returns-clause-ok g c =
     (λ poured text holds is_last.
     let last = subst (λ l. IsLastOf l text c.finish.result) c.requires.limit
     (gives.2 text holds (subst (λ e. IsLastPiece e text) (sym c.requires.dialect) is_last)) in
-    let takes = subst (λ l. TakesItems old l (made c.take_piece.new.so_far))
-    (last_items c.args.settings.lines d c.args.settings.limit text c.finish.result last)
+    let takes = subst (λ l. TakesItems c.args.settings.faults old l (made c.take_piece.new.so_far))
+    (last_items c.args.settings text c.finish.result last)
     (at_no_fault c.take_piece.result c.if-is_err.ensures.value c.take_piece.ensures.taken) in
-    relays_poured old old (made c.take_piece.new.so_far) _ _ _ _ _ _ _ [] _ [] (relays_none old _ _) takes poured)
+    relays_poured c.args.settings.faults old old (made c.take_piece.new.so_far) _ _ _ _ _ _ _ [] _ [] (relays_none old _ _) takes poured)
     c.pour_and_flush.ensures.ok
 
 pub returns-clause-part : goal.returns-clause-part
@@ -36,8 +36,8 @@ returns-clause-part g c =
     (λ part text holds is_last.
     let last = subst (λ l. IsLastOf l text c.finish.result) c.requires.limit
     (gives.2 text holds (subst (λ e. IsLastPiece e text) (sym c.requires.dialect) is_last)) in
-    let takes = subst (λ l. TakesItems old l (made c.take_piece.new.so_far))
-    (last_items c.args.settings.lines d c.args.settings.limit text c.finish.result last)
+    let takes = subst (λ l. TakesItems c.args.settings.faults old l (made c.take_piece.new.so_far))
+    (last_items c.args.settings text c.finish.result last)
     (at_no_fault c.take_piece.result c.if-is_err.ensures.value c.take_piece.ensures.taken) in
-    part_poured old old (made c.take_piece.new.so_far) _ _ _ _ _ _ [] _ [] (relays_none old _ _) takes part)
+    part_poured c.args.settings.faults old old (made c.take_piece.new.so_far) _ _ _ _ _ _ [] _ [] (relays_none old _ _) takes part)
     c.pour_and_flush.ensures.part

@@ -15,8 +15,7 @@ loop-init g c =
       fits = omega (arith, c.nothing_made-so_far.ensures.fits);
       empty = (ap (λ m. m.batch) made, ap (λ m. m.faults) made);
       block = omega (arith);
-      so_far = so_far_none c.pieces_join.ensures.some _ _ _ c.args.settings.numbering c.args.settings.first
-          _ _ _ _ _ c.new_in-stream.ensures.holds made;
+      so_far = so_far_none c.pieces_join.ensures.some c.args.settings _ _ _ _ _ c.new_in-stream.ensures.holds made;
       reader_unfailed = refl;
       out_unfailed = refl;
       err_unfailed = refl;
@@ -25,19 +24,19 @@ loop-init g c =
 pub returns-in_err-n : goal.returns-in_err-n
 returns-in_err-n g c =
     let h = c.loop.invariant in
-    (handed_on _ _ _ _ _ c.from_residual.result c.in_err-n.field-0.0 _ _ _ _ _ _ c.from_residual.ensures.1
-    (read_fault c.utf8_by_pieces.ensures c.pieces_join.ensures.one _ _ _ _ _ c.in_err-n.field-0.0 _ _ _ _ _ _ _
-    (so_far_fronts c.pieces_join.ensures.some c.runs_give_pieces.ensures.runs _ _ _ _ _ _ _ _ _ _ _ _ _ h.so_far)
+    (handed_on _ c.from_residual.result c.in_err-n.field-0.0 _ _ _ _ _ _ c.from_residual.ensures.1
+    (read_fault c.utf8_by_pieces.ensures c.pieces_join.ensures.one _ c.in_err-n.field-0.0 _ _ _ _ _ _ _
+    (so_far_fronts c.pieces_join.ensures.some c.runs_give_pieces.ensures.runs _ _ _ _ _ _ _ _ _ h.so_far)
     c.in_err-n.ensures.counts h.reader_unfailed h.out_unfailed h.err_unfailed))
 
 pub returns-in_err-finish : goal.returns-in_err-finish
 returns-in_err-finish g c =
     let h = c.loop.invariant in
     let read = c.in_ok-n.ensures in
-    (handed_on _ _ _ _ _ c.from_residual-in_err-finish.result c.in_err-finish.field-0.0 _ _ _ _ _ _
+    (handed_on _ c.from_residual-in_err-finish.result c.in_err-finish.field-0.0 _ _ _ _ _ _
     c.from_residual-in_err-finish.ensures.1
-    (write_fault c.utf8_by_pieces.ensures c.pieces_join.ensures.one _ _ _ _ _ c.in_err-finish.field-0.0 _ _ _ _ _ _ _ _
-    (end_fronts c.runs_give_pieces.ensures.end _ _ _ _ _ _ _ _ _ _ _ _ _ _ _ _ h.so_far
+    (write_fault c.utf8_by_pieces.ensures c.pieces_join.ensures.one _ c.in_err-finish.field-0.0 _ _ _ _ _ _ _ _
+    (end_fronts c.runs_give_pieces.ensures.end _ _ _ _ _ _ _ _ _ _ _ _ h.so_far
     (reads_none _ _ _ c.in_ok-n.n c.if-n-eq0.true read.ok) (read.end c.if-n-eq0.true) c.in_err-finish.ensures.part)
     c.in_err-finish.ensures.counts h.out_unfailed h.err_unfailed (read.counts ∙ h.reader_unfailed)))
 
@@ -49,8 +48,8 @@ returns-then-n-eq0 g c =
     let last = done.ok h.so_far.held h.so_far.holds h.so_far.last in
     let carried : c.saturating_sub.result + items_before c.args.settings.numbering c.args.settings.first ≡ c.finish.new.so_far.carried =
     omega (arith, c.saturating_sub.ensures, c.items_before.ensures, h.so_far.relays.carried, last.carried) in
-    (ended c.utf8_by_pieces.ensures c.pieces_join.ensures.one _ _ _ _ _ _ _ _ _ _ _ _
-    (so_far_all c.runs_give_pieces.ensures.end _ _ _ _ _ _ _ _ _ _ _ _ _ _ _ _ _ _ h.so_far
+    (ended c.utf8_by_pieces.ensures c.pieces_join.ensures.one _ _ _ _ _ _ _ _
+    (so_far_all c.runs_give_pieces.ensures.end _ _ _ _ _ _ _ _ _ _ _ _ _ _ h.so_far
     (reads_none _ _ _ c.in_ok-n.n c.if-n-eq0.true read.ok) (read.end c.if-n-eq0.true) done.ok done.none.0 done.none.1 carried refl)
     done.flushed (read.counts ∙ h.reader_unfailed) (done.counts.0 ∙ h.out_unfailed) (done.counts.1 ∙ h.err_unfailed))
 
@@ -58,10 +57,10 @@ pub returns-in_err-relay_part : goal.returns-in_err-relay_part
 returns-in_err-relay_part g c =
     let h = c.loop.invariant in
     let read = c.in_ok-n.ensures in
-    (handed_on _ _ _ _ _ c.from_residual-in_err-relay_part.result c.in_err-relay_part.field-0.0 _ _ _ _ _ _
+    (handed_on _ c.from_residual-in_err-relay_part.result c.in_err-relay_part.field-0.0 _ _ _ _ _ _
     c.from_residual-in_err-relay_part.ensures.1
-    (write_fault c.utf8_by_pieces.ensures c.pieces_join.ensures.one _ _ _ _ _ c.in_err-relay_part.field-0.0 _ _ _ _ _ _ _ _
-    (some_fronts c.pieces_join.ensures.some c.runs_give_pieces.ensures.runs _ _ _ _ _ _ _ _ _ _ _ _ _ _ _ _ _ h.so_far
+    (write_fault c.utf8_by_pieces.ensures c.pieces_join.ensures.one _ c.in_err-relay_part.field-0.0 _ _ _ _ _ _ _ _
+    (some_fronts c.pieces_join.ensures.some c.runs_give_pieces.ensures.runs _ _ _ _ _ _ _ _ _ _ _ _ _ h.so_far
     (subst (λ bs. Consumes (g.R.Source.bytes c.loop.reader) (g.R.Source.bytes c.read_block.new.reader) (take c.in_ok-n.n bs))
     (sym c.deref.ensures.value) read.ok)
     c.in_err-relay_part.ensures.part)
@@ -78,7 +77,7 @@ loop-preserved g c =
       fits = omega (arith, relayed.fits);
       empty = relayed.none;
       block = omega (arith, h.block, read.few);
-      so_far = so_far_more _ _ _ c.args.settings.numbering c.args.settings.first _ _ _ _ _ _ _ _ _ _ _ _ _ _
+      so_far = so_far_more c.args.settings _ _ _ _ _ _ _ _ _ _ _ _ _ _
           h.so_far
           (subst (λ bs. Consumes (g.R.Source.bytes c.loop.reader) (g.R.Source.bytes c.read_block.new.reader) (take c.in_ok-n.n bs))
           (sym c.deref.ensures.value) read.ok)
@@ -91,6 +90,6 @@ loop-preserved g c =
 pub returns : goal.returns
 returns g c =
     let h = c.loop.invariant in
-    (read_fault c.utf8_by_pieces.ensures c.pieces_join.ensures.one _ _ _ _ _ _ _ _ _ _ _ _ _
-    (so_far_fronts c.pieces_join.ensures.some c.runs_give_pieces.ensures.runs _ _ _ _ _ _ _ _ _ _ _ _ _ h.so_far)
+    (read_fault c.utf8_by_pieces.ensures c.pieces_join.ensures.one _ _ _ _ _ _ _ _ _
+    (so_far_fronts c.pieces_join.ensures.some c.runs_give_pieces.ensures.runs _ _ _ _ _ _ _ _ _ h.so_far)
     refl h.reader_unfailed h.out_unfailed h.err_unfailed)

@@ -1,7 +1,6 @@
 use Rattle.influxdb_line_protocol.specs.code.Rules.{rules_of}
 use Rattle.std.proofs.Common.{◌∙◌, Ok, ap, drop, refl, arith}
 use Rattle.influxdb_line_protocol.specs.format.Pieces.{Left}
-use Rattle.lp_relay_core.specs.Relaying.{limit_of}
 use Rattle.lp_relay_core.specs.RelaySteps.{made}
 use Rattle.lp_rebuild.proofs.Parts.{at_no_fault}
 use Rattle.lp_relay_core.proofs.RelayLemmas.{on_err}
@@ -19,7 +18,7 @@ loop-piece-init g c =
           c.whole_lines.ensures;
       fits = omega (arith, c.requires.fits);
       held = c.requires.few;
-      relays = to_none c.args.settings.lines (rules_of c.args.settings.dialect) (limit_of c.args.settings.limit) c.args.bytes.now _ _ _;
+      relays = to_none c.args.settings c.args.bytes.now _ _ _;
       out_unfailed = refl;
       err_unfailed = refl;
     }
@@ -28,7 +27,7 @@ pub loop-piece-preserved : goal.loop-piece-preserved
 loop-piece-preserved g c =
     let h = c.loop-piece.invariant in
     let d = rules_of c.args.settings.dialect in
-    let line = line_given c.pieces_join.ensures.some c.pieces_join.ensures.text c.args.settings.lines d c.args.settings.limit c.loop-piece.lines c.next.new.self
+    let line = line_given c.pieces_join.ensures.some c.pieces_join.ensures.text c.args.settings c.loop-piece.lines c.next.new.self
     c.in-Some.piece c.remainder.result c.args.bytes.now c.loop-piece.taken h.dialect h.within h.left c.in-Some.ensures.steps
     c.if-is_none.ensures c.remainder.ensures c.if-piece-settings.false in
     let poured = c.in_ok-pour_full.ensures in
@@ -40,7 +39,7 @@ loop-piece-preserved g c =
       left = line.left;
       fits = omega (arith, fits, poured.ok.carried, poured.ok.refused);
       held = poured.held;
-      relays = to_more c.args.settings.lines d c.args.settings.limit c.args.bytes.now (drop c.loop-piece.taken c.args.bytes.now) _
+      relays = to_more c.args.settings c.args.bytes.now (drop c.loop-piece.taken c.args.bytes.now) _
           (made c.args.progress.now) (made c.loop-piece.progress) (made c.take_text_piece.new.so_far) (made c.pour_full.new.so_far)
           _ _ _ _ _ _ (Ok c.in-Some.piece) h.relays line.given
           (at_no_fault c.take_text_piece.result c.if-is_err.ensures.value taken.taken)
@@ -53,11 +52,11 @@ pub returns-in_err-pour_full-clause-part : goal.returns-in_err-pour_full-clause-
 returns-in_err-pour_full-clause-part g c =
     let h = c.loop-piece.invariant in
     let d = rules_of c.args.settings.dialect in
-    let line = line_given c.pieces_join.ensures.some c.pieces_join.ensures.text c.args.settings.lines d c.args.settings.limit c.loop-piece.lines c.next.new.self
+    let line = line_given c.pieces_join.ensures.some c.pieces_join.ensures.text c.args.settings c.loop-piece.lines c.next.new.self
     c.in-Some.piece c.remainder.result c.args.bytes.now c.loop-piece.taken h.dialect h.within h.left c.in-Some.ensures.steps
     c.if-is_none.ensures c.remainder.ensures c.if-piece-settings.false in
     on_err c.from_residual.result
-    (to_part c.args.settings.lines d c.args.settings.limit c.args.bytes.now (drop c.loop-piece.taken c.args.bytes.now) _
+    (to_part c.args.settings c.args.bytes.now (drop c.loop-piece.taken c.args.bytes.now) _
     (made c.args.progress.now) (made c.loop-piece.progress) (made c.take_text_piece.new.so_far)
     _ _ _ _ _ _ (Ok c.in-Some.piece) h.relays line.given
     (at_no_fault c.take_text_piece.result c.if-is_err.ensures.value c.take_text_piece.ensures.taken) c.in_err-pour_full.ensures.part)

@@ -1,8 +1,6 @@
-use Rattle.influxdb_line_protocol.specs.code.Rules.{rules_of}
 use Rattle.std.proofs.Common.{◌∙◌, refl, subst, arith}
 use Rattle.influxdb_line_protocol.specs.code.Bounded.{GivesWithin}
 use Rattle.influxdb_line_protocol.specs.format.Pieces.{IsLastPiece}
-use Rattle.lp_relay_core.specs.Relaying.{limit_of}
 use Rattle.lp_relay_core.specs.RelaySteps.{made}
 use Rattle.lp_rebuild.proofs.Parts.{at_no_fault}
 use Rattle.lp_relay_core.proofs.RelayLemmas.{on_err}
@@ -19,7 +17,7 @@ loop-piece-init g c =
           record {
             rest = text;
             holds = holds;
-            to = to_none c.args.settings.lines (rules_of c.args.settings.dialect) (limit_of c.args.settings.limit) text _ _ _;
+            to = to_none c.args.settings text _ _ _;
           };
       out_unfailed = refl;
       err_unfailed = refl;
@@ -28,7 +26,7 @@ loop-piece-init g c =
 pub returns-then-is_err-clause-part : goal.returns-then-is_err-clause-part
 returns-then-is_err-clause-part g c text holds =
     let p = c.loop-piece.invariant.relays text holds in
-    to_so_far c.args.settings.lines (rules_of c.args.settings.dialect) (limit_of c.args.settings.limit) text p.rest _ _ _ _ _ _ p.to
+    to_so_far c.args.settings text p.rest _ _ _ _ _ _ p.to
 
 pub loop-piece-preserved : goal.loop-piece-preserved
 loop-piece-preserved g c =
@@ -42,12 +40,12 @@ loop-piece-preserved g c =
       held = poured.held;
       relays = λ text holds.
           let p = h.relays text holds in
-          let one = given_piece c.args.settings.lines (rules_of c.args.settings.dialect) c.args.settings.limit c.loop-piece.stream
+          let one = given_piece c.args.settings c.loop-piece.stream
           c.next.follows.lender-at-none p.rest c.in-Some.piece (h.rules.0 ∙ c.requires.dialect) (h.rules.1 ∙ c.requires.limit) (gives.3 p.rest p.holds) in
           record {
             rest = one.0;
             holds = one.1;
-            to = to_more c.args.settings.lines (rules_of c.args.settings.dialect) c.args.settings.limit text p.rest one.0
+            to = to_more c.args.settings text p.rest one.0
                 (made c.args.so_far.now) (made c.loop-piece.so_far) (made c.take_piece.new.so_far) (made c.pour_full.new.so_far)
                 _ _ _ _ _ _ c.in-Some.piece p.to one.2
                 (at_no_fault c.take_piece.result c.if-is_err.ensures.value c.take_piece.ensures.taken)
@@ -64,9 +62,9 @@ returns-in_err-pour_full-clause-part g c =
     on_err c.from_residual.result
     (λ text holds.
     let p = h.relays text holds in
-    let one = given_piece c.args.settings.lines (rules_of c.args.settings.dialect) c.args.settings.limit c.loop-piece.stream c.next.follows.lender-at-none p.rest
+    let one = given_piece c.args.settings c.loop-piece.stream c.next.follows.lender-at-none p.rest
     c.in-Some.piece (h.rules.0 ∙ c.requires.dialect) (h.rules.1 ∙ c.requires.limit) (gives.3 p.rest p.holds) in
-    to_part c.args.settings.lines (rules_of c.args.settings.dialect) c.args.settings.limit text p.rest one.0
+    to_part c.args.settings text p.rest one.0
     (made c.args.so_far.now) (made c.loop-piece.so_far) (made c.take_piece.new.so_far) _ _ _ _ _ _ c.in-Some.piece p.to one.2
     (at_no_fault c.take_piece.result c.if-is_err.ensures.value c.take_piece.ensures.taken) c.in_err-pour_full.ensures.part)
 

@@ -1,11 +1,11 @@
 -- The lanes of one load that was compared with bytes.
 use Rattle.std.proofs.Common.{◌≡◌, ℕ, ◌+◌, ◌<◌, ◌≤◌, ◌%◌, ◌^◌, Bool, true, List, map, length, replicate, eqb, cond, bit_or, ◌||◌, get_or}
-use Rattle.std.proofs.Common.{refl, sym, ap, ◌∙◌, map-id, arith}
-use Rattle.std.proofs.lemmas.Bool.{agree_below}
-use Rattle.std.proofs.lemmas.Simd.{length-chunk, zip2_splat, zip2_of_maps}
+use Rattle.std.proofs.Common.{refl, sym, ap, ◌∙◌, map-id, arith, [], ◌∷◌, ◌*◌, ◌/◌, ap₂, leb, suc, w8}
+use Rattle.std.proofs.lemmas.Simd.{length-chunk, zip2_splat, zip2_of_maps, swz_l}
+use Rattle.std.proofs.lemmas.{Bool.agree_below, Bool.cases_lt, List.get_or_past}
 use lib.Lanes.{chunk, mask_l, top, zip2}
 use Rattle.lp_scan.specs.code.{mask_of}
-use Rattle.lp_scan.proofs.lemmas.scan.MaskLemmas.{mask_by_lanes, mask_is}
+use Rattle.lp_scan.proofs.lemmas.scan.MaskLemmas.{mask_by_lanes, mask_same}
 
 -- a byte as a lane: all ones if it is this one
 abbrev pub lane : ℕ → ℕ → ℕ
@@ -20,12 +20,13 @@ pub lanes_or : (f g : ℕ → ℕ) (v : List ℕ) {xs ys : List ℕ} → xs ≡ 
     → zip2 bit_or xs ys ≡ map (λ x. bit_or (f x) (g x)) v
 lanes_or f g v p q = zip2_of_maps bit_or f g v p q
 
--- the lanes whose byte is the one that is looked up for it
-pub lanes_looked : (look : ℕ → ℕ) (v : List ℕ) {z : List ℕ} → z ≡ map look v
-    → zip2 {C = ℕ} (λ x y. cond (eqb x y) 255 0) z v ≡ map (λ x. lane x (look x)) v
-lanes_looked look v found =
-    let same : ℕ → ℕ → ℕ = λ x y. cond (eqb x y) 255 0 in
-    zip2_of_maps same look (λ x. x) v found (sym (map-id v))
+-- `swizzle_dyn` gives for each place what the table has there: a place that it makes 0 is none of the table's
+pub looked_up : (table : List ℕ) → length table ≤ 128 → (js : List ℕ) (i : ℕ) → i + length js ≤ 16
+    → swz_l w8 16 table i js ≡ map (λ j. get_or table j 0) js
+looked_up table few [] i fits = refl
+looked_up table few (j ∷ js) i fits =
+    let here : cond (leb 128 j) 0 (get_or table (16 * (i / 16) + j) 0) ≡ get_or table j 0 = grind (arith, cases_lt, get_or_past) in
+    ap₂ (λ (x : ℕ) l. x ∷ l) here (looked_up table few js (suc i) (omega arith))
 
 -- what lanes are compared with: a byte, the byte that is looked up for each, or what either of two says
 pub data Compared : Type 0 where
@@ -56,7 +57,7 @@ top_set e = grind arith
 -- a lane is set if its byte is one of those
 lanes_are : (t : Compared) (n : ℕ) (v : List ℕ) → length v ≡ n → lanes_in t n v ≡ map (λ x. cond (is_in t x) 255 0) v
 lanes_are (one b) n v long = lanes_of v b long
-lanes_are (looked look) n v long = lanes_looked look v refl
+lanes_are (looked look) n v long = zip2_of_maps (λ x y. cond (eqb x y) 255 0) look (λ x. x) v refl (sym (map-id v))
 lanes_are (either s t) n v long =
     lanes_or _ _ v (lanes_are s n v long) (lanes_are t n v long) ∙ ap (λ (f : ℕ → ℕ). map f v) (λ j x. either_set (is_in s x) (is_in t x) j)
 
@@ -66,9 +67,9 @@ module _ (t : Compared) (bytes : List ℕ) (at n : ℕ) (room : at + n ≤ lengt
   mask_in = grind (arith, mask_by_lanes, top_set, lanes_are, length-chunk)
 
   -- and of those that pass a test, if the test agrees at each of the 256 bytes
-  pub mask_as : (test : ℕ → Bool) → ((k : ℕ) → get_or bytes k 0 < 256) → agree_below (λ x. top 7 (cond (is_in t x) 255 0)) test 256 ≡ true
+  pub mask_as : (test : ℕ → Bool) → ((k : ℕ) → get_or bytes k 0 < 256) → agree_below (is_in t) test 256 ≡ true
       → mask_l (map (top 7) (lanes_in t n (chunk at n bytes))) % 2 ^ 64 ≡ mask_of test bytes at n
-  mask_as test fits all = grind (arith, mask_is, lanes_are, length-chunk)
+  mask_as test fits all = mask_in ∙ mask_same (is_in t) bytes at n room few test fits all
 
 -- two tests that answer the same of each byte answer the same of a text
 pub same_tests : (p q : ℕ → Bool) → ((b : ℕ) → p b ≡ q b) → (text : List ℕ) → map p text ≡ map q text

@@ -2,22 +2,18 @@
 use Rattle.std.proofs.Common.{◌≡◌, ℕ, zero, suc, ◌+◌, ◌-◌, ◌/◌, ◌%◌, ◌^◌, ◌<◌, ◌≤◌, Bool, true, false, cond, not, map, List, ◌∷◌, length}
 use Rattle.std.proofs.Common.{take, get_or, slice_index, bit_and, count_ones, refl, sym, ap, ap₂, ◌∙◌, subst, arith, inl, inr, ◌==◌, w64}
 use Rattle.std.proofs.Common.{count_by}
-use Rattle.std.specs.Int.{bit_not}
-use Rattle.std.specs.List.{range_with_len, prefix_len}
-use Rattle.std.proofs.lemmas.Bool.{cases_Bool, cases_lt, and_parts, and_right, not-true, not-false}
 use Rattle.std.proofs.Math.Bool.{and_comm}
-use Rattle.std.proofs.lemmas.List.{length-map}
+use Rattle.std.specs.{Int.bit_not, List.range_with_len, List.prefix_len}
 use Rattle.std.proofs.lemmas.List.FromFn.{length-range_with_len, length-map-range_with_len, get_or-range_with_len}
 use Rattle.std.proofs.lemmas.List.FromFn.{get_or-map-range_with_len, take-map-range_with_len}
-use Rattle.std.proofs.lemmas.List.Sums.{prefix_len-le-length, prefix_len_passes, prefix_len_stops}
-use Rattle.std.proofs.lemmas.Simd.{first_set_mask_l, bit_mask_l, mask_l-lt, ones-mask_l}
+use Rattle.std.proofs.lemmas.{Bool.cases_Bool, Bool.cases_lt, Bool.and_parts, Bool.and_right, Bool.not-true, Bool.not-false}
+use Rattle.std.proofs.lemmas.{List.length-map, List.Sums.prefix_len-le-length, List.Sums.prefix_len_passes, List.Sums.prefix_len_stops}
+use Rattle.std.proofs.lemmas.{Simd.first_set_mask_l, Simd.bit_mask_l, Simd.mask_l-lt, Simd.ones-mask_l}
 use lib.Lanes.{mask_l}
 use Rattle.lp_format.specs.format.{is_escaped_after, is_bare_at, IsBareAfter, IsPassed, backslash}
 use Rattle.lp_scan.specs.code.{first_set, mask_at, TellsEscaped, TellsBare}
 use Rattle.lp_format.proofs.lemmas.tokens.EscapeLemmas.{is_escaped_more}
-use Rattle.lp_scan.proofs.lemmas.scan.EscapedMasks.{of_places}
-use Rattle.lp_scan.proofs.lemmas.scan.MaskBits.{and_of_maps, not_of_map}
-use Rattle.lp_scan.proofs.lemmas.scan.MaskLemmas.{mask_mod}
+use Rattle.lp_scan.proofs.lemmas.scan.{EscapedMasks.of_places, MaskBits.and_of_maps, MaskBits.not_of_map, MaskLemmas.mask_mod}
 
 -- the marks that are not escaped are the bare ones
 pub tells_bare : (marks m e r : ℕ) → TellsEscaped m e → r ≡ bit_and marks (bit_not w64 e) → TellsBare marks m r

@@ -2,18 +2,16 @@
 use Rattle.std.proofs.Common.{◌≡◌, ℕ, zero, suc, ◌+◌, ◌-◌, ◌*◌, ◌/◌, ◌^◌, ◌<◌, ◌≤◌, Bool, true, cond, not, List, [], ◌∷◌, map, length, take}
 use Rattle.std.proofs.Common.{drop, sym, ap, ◌∙◌, arith, ◌%◌, ◌++◌, get_or, refl, inl, inr, take-append-drop, subst, drop-drop, length-take}
 use Rattle.std.proofs.Common.{count_by, count_ones, w64}
+use Rattle.std.proofs.Math.Nat.{pow-le-pow_right}
 use native.Mathlib.Nat.{pow-suc, mul_comm, zero-div, div-one, div-div-eq-div-mul, add-mul-mod_self_right}
 use Rattle.std.proofs.lemmas.Simd.{ones-mask_l, length-chunk, first_set_mask_l, run_in_chunk_le, run_in_chunk_fails, run_in_chunk_stops}
 use Rattle.std.proofs.lemmas.Simd.{map-map, mask_l-mod, get_or-chunk, mask_l-lt}
-use Rattle.std.proofs.lemmas.List.{drop-take, drop-map, drop_all, length-map, get_or_past}
-use Rattle.std.specs.List.{prefix_len, range_with_len}
+use Rattle.std.proofs.lemmas.{List.drop-take, List.drop-map, List.drop_all, List.length-map, List.get_or_past, Bool.cases_lt}
+use Rattle.std.proofs.lemmas.{Bool.agree_below, Bool.agree_below_at, Nat.Bits.bit_at-trailing_zeros, Nat.Bits.bit_at_above}
+use Rattle.std.proofs.lemmas.{List.FromFn.length-map-range_with_len}
+use Rattle.std.specs.{List.prefix_len, List.range_with_len, Int.bit_at, Int.trailing_zeros}
 use lib.Lanes.{chunk, mask_l, top}
 use Rattle.lp_scan.specs.code.{first_set, mask_of, IsRunIn, mask_at}
-use Rattle.std.proofs.lemmas.Bool.{cases_lt, agree_below, agree_below_at}
-use Rattle.std.specs.Int.{bit_at, trailing_zeros}
-use Rattle.std.proofs.Math.Nat.{pow-le-pow_right}
-use Rattle.std.proofs.lemmas.Nat.Bits.{bit_at-trailing_zeros, bit_at_above}
-use Rattle.std.proofs.lemmas.List.FromFn.{length-map-range_with_len}
 
 -- half of a mask is the mask without its lowest bit
 pub half : (b : Bool) (n : ℕ) → (cond b 1 0 + 2 * n) / 2 ≡ n
@@ -49,28 +47,21 @@ module _ (test : ℕ → Bool) (bytes : List ℕ) (at n : ℕ) where
 -- if two tests agree on each byte of a list, they give one list of answers
 map_agree : (f g : ℕ → Bool) (v : List ℕ) → ((k : ℕ) → f (get_or v k 0) ≡ g (get_or v k 0)) → map f v ≡ map g v
 map_agree f g [] same = refl
-map_agree f g (x ∷ v) same =
-    let first : f x ≡ g x = same 0 in
-    let rest = map_agree f g v (λ k. same (suc k)) in
-    rw (first, rest) refl
+map_agree f g (x ∷ v) same = grind (arith, same 0, map_agree f g v (λ k. same (suc k)))
 
 module _ (test : ℕ → Bool) (bytes : List ℕ) (at n : ℕ) (room : at + n ≤ length bytes) (few : n ≤ 64) where
   -- a byte of a load
   in_load : ((k : ℕ) → get_or bytes k 0 < 256) → (k : ℕ) → get_or (chunk at n bytes) k 0 < 256
   in_load fits k = grind (arith, cases_lt, get_or-chunk, get_or_past, length-chunk)
 
-  -- if a lane is set exactly if its byte passes the test, at each of the 256 bytes, the bits of the lanes are the mask
-  pub mask_is : (z : List ℕ) (f : ℕ → ℕ) → z ≡ map f (chunk at n bytes) → ((k : ℕ) → get_or bytes k 0 < 256)
-      → agree_below (λ x. top 7 (f x)) test 256 ≡ true → mask_l (map (top 7) z) % 2 ^ 64 ≡ mask_of test bytes at n
-  mask_is z f lanes fits all =
+  -- a test that agrees with it on each of the 256 bytes has the same mask
+  pub mask_same : (other : ℕ → Bool) → ((k : ℕ) → get_or bytes k 0 < 256) → agree_below test other 256 ≡ true
+      → mask_of test bytes at n ≡ mask_of other bytes at n
+  mask_same other fits all =
       let v = chunk at n bytes in
-      let set : ℕ → Bool = λ x. top 7 (f x) in
-      let tops = ap (map (top 7)) lanes ∙ map-map (top 7) f v in
-      let same = map_agree set test v (λ k. agree_below_at set test 256 (get_or v k 0) all (in_load fits k)) in
-      ap (λ l. mask_l l % 2 ^ 64) (tops ∙ same)
-      ∙ mask_l-mod (map test v) 64 (omega (arith, length-map v test, length-chunk at n bytes room))
+      ap mask_l (map_agree test other v (λ k. agree_below_at test other 256 (get_or v k 0) all (in_load fits k)))
 
-  -- the same, where each byte is compared with bytes that are not known
+  -- if a lane is set exactly if its byte passes the test, the bits of the lanes are the mask
   pub mask_by_lanes : (f : ℕ → ℕ) → ((x : ℕ) → top 7 (f x) ≡ test x) → (z : List ℕ) → z ≡ map f (chunk at n bytes)
       → mask_l (map (top 7) z) % 2 ^ 64 ≡ mask_of test bytes at n
   mask_by_lanes f same z lanes =
@@ -121,9 +112,7 @@ mask_mod ms k within =
 drop_range : (k at n m : ℕ) → k + m ≡ n → drop k (range_with_len at n) ≡ range_with_len (at + k) m
 drop_range zero at n m e = grind arith
 drop_range (suc k) at zero m e = absurd (omega arith)
-drop_range (suc k) at (suc n) m e =
-    let place : at + 1 + k ≡ at + suc k = omega arith in
-    drop_range k (at + 1) n m (omega arith) ∙ ap (λ (a : ℕ). range_with_len a m) place
+drop_range (suc k) at (suc n) m e = grind (arith, drop_range k (at + 1) n m)
 
 -- a mask of so many places is below that power
 pub mask_fits : (p : ℕ → Bool) (at n : ℕ) → mask_at p at n < 2 ^ n

@@ -1,7 +1,5 @@
 use Rattle.std.proofs.Common.{rules, arith}
-use Rattle.std.proofs.lemmas.Grind.{common_steps}
-use Rattle.std.proofs.lemmas.List.{drop_all}
-use Rattle.std.proofs.lemmas.Str.{IsCharBoundary-start, IsCharBoundary-after_ascii}
+use Rattle.std.proofs.lemmas.{Grind.common_steps, List.drop_all, Str.IsCharBoundary-start, Str.IsCharBoundary-after_ascii}
 use Rattle.lp_format.proofs.lemmas.line.TrimLemmas.{left_of, left_newline, left_hash, left_blank, left_kept, left_end, trimmed_is}
 use Rattle.lp_scan.proofs.trim.trimmed.Goals as goal
 

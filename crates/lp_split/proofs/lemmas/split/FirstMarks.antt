@@ -3,17 +3,22 @@ use Rattle.std.proofs.Common.{◌≡◌, ℕ, ◌+◌, ◌-◌, ◌/◌, ◌^◌
 use Rattle.std.proofs.Common.{subst, ◌∙◌, inl, inr, refl, length-drop, arith, None, ◌≢◌, zero, suc, take, w64, ne_eqb, get_or-drop}
 use Rattle.std.proofs.Common.{take_all, All}
 use Rattle.std.specs.Int.{trailing_zeros}
-use Rattle.std.proofs.lemmas.Bool.{cases_lt, not-true, not-false, false≢true, cases_Bool}
-use Rattle.std.proofs.lemmas.List.{length-map, take_more}
+use Rattle.std.proofs.lemmas.Bool.{cases_lt, not-true, not-false, false≢true}
+use Rattle.std.proofs.lemmas.List.{length-map}
 use Rattle.std.proofs.lemmas.Simd.{length-chunk, mask_l-lt}
 use Rattle.memchr.specs.Find.{IsFirstByte, is_byte3, Nowhere, Passes}
 use Rattle.lp_scan.specs.code.{AllPassBetween, IsRunIn, first_set, mask_of}
 use Rattle.lp_split.specs.code.{AreSeen}
 use Rattle.lp_scan.proofs.lemmas.scan.MaskLemmas.{run_is, shifted, tz_below}
-use Rattle.lp_format.specs.format.{backslash, quote, Dialect, Crate, Strict, begins_comment, IsFirstCut}
-use Rattle.std.proofs.lemmas.List.Elements.{All-nil, All-push}
-use Rattle.lp_format.proofs.lemmas.split.SplitPieces.{cut_of_comment, cut_of_other}
-use Rattle.lp_split.proofs.lemmas.split.SplitStretches.{quiet_cut, quiet_last}
+use Rattle.lp_format.specs.format.{backslash, quote, Dialect, IsFirstCut}
+use Rattle.std.proofs.lemmas.List.Elements.{All-from_get_or, All-get_or, All-weaker}
+use Rattle.std.proofs.Common.{length-append, length-take, get_or-take, [], ◌∷◌, ◌++◌}
+use Rattle.lp_format.specs.format.{IsLastPiece, IsBareAfter, EndsQuoted}
+use Rattle.lp_format.specs.format.Piece.{EndsQuoted.opened}
+use Rattle.lp_format.proofs.lemmas.split.SplitBare.{is_escaped-nil}
+use Rattle.lp_format.proofs.lemmas.split.SplitPieces.{IsLastPiece-extend, IsLastPiece-nil}
+use Rattle.lp_split.proofs.lemmas.split.SplitStretches.{bare_past}
+use Rattle.std.proofs.Math.Seq.{get_or-append_seam}
 use Rattle.lp_format.specs.format.Bytes.{newline}
 
 module _ (test : ℕ → Bool) (text : List ℕ) (at n m r : ℕ) (room : at + n ≤ length text) (few : n ≤ 64)
@@ -96,27 +101,50 @@ module _ (test : ℕ → Bool) (text rest : List ℕ) (at : ℕ) (within : at �
   pub none_after : IsFirstByte test rest None → IsFirstByte test text None
   none_after none k from to found = none_before (length rest) none k from (omega (arith, left)) found
 
--- the front before the first of them holds no newline
-no_newline : (text : List ℕ) (n : ℕ) → n ≤ length text → Nowhere (Passes (is_byte3 backslash 10 quote) text) 0 n
-    → All (λ b. b ≢ newline) (take n text)
-no_newline text zero h none = All-nil (λ b. b ≢ newline)
-no_newline text (suc n) h none =
-    let before = no_newline text n (omega arith) (λ k l m. none k l (omega arith)) in
-    let next : suc n ≡ n + 1 = omega arith in
-    let other : slice_index text n ≢ newline = λ e. none n (omega arith) (omega arith) (rw e refl) in
-    rw (ap (λ (k : ℕ). take k text) next ∙ take_more text n 0 (omega arith))
-    (All-push (λ b. b ≢ newline) (take n text) (slice_index text n) before other)
+-- a byte that is none of them
+abbrev IsOther : ℕ → Type 0
+IsOther b = (b ≢ newline) × (b ≢ quote) × (b ≢ backslash)
+
+-- the front before the first of them has only other bytes
+others_before : (text : List ℕ) (n : ℕ) → n ≤ length text → Nowhere (Passes (is_byte3 backslash 10 quote) text) 0 n → All IsOther (take n text)
+others_before text n h none = All-from_get_or IsOther (take n text) 0 (λ i l.
+    let inside : i < n = omega (arith, l, length-take n text) in
+    subst IsOther (sym (get_or-take n text i 0 inside))
+    ((λ e. none i (omega arith) inside (rw e refl)), (λ e. none i (omega arith) inside (rw e refl)), (λ e. none i (omega arith) inside (rw e refl))))
+
+-- such a front is one piece
+others_last : (dialect : Dialect) (front : List ℕ) → All IsOther front → IsLastPiece dialect front
+others_last dialect front h =
+    IsLastPiece-extend dialect [] front (IsLastPiece-nil dialect) (All-weaker IsOther (λ b. b ≢ newline) (λ b o. o.0) front h)
+
+-- it is not open
+others_closed : {front counted : List ℕ} → EndsQuoted front counted → All IsOther front → ⊥
+others_closed (opened piece counted quoted e o q) h =
+    let front = piece ++ quote ∷ quoted in
+    let at = All-get_or IsOther front (length piece) 0 (omega (arith, length-append piece (quote ∷ quoted))) h in
+    at.1 (get_or-append_seam piece quote quoted 0)
+
+-- after it nothing is escaped
+others_bare : (text : List ℕ) (n : ℕ) → n ≤ length text → All IsOther (take n text) → IsBareAfter (take n text)
+others_bare text zero h others = is_escaped-nil
+others_bare text (suc n) h others =
+    let last = All-get_or IsOther (take (suc n) text) n 0 (omega (arith, length-take (suc n) text)) others in
+    let next : n + 1 ≡ suc n = omega arith in
+    subst (λ (k : ℕ). IsBareAfter (take k text)) next
+    (bare_past text n (omega arith) (λ e. last.2 (get_or-take (suc n) text n 0 (omega arith) ∙ e)))
 
 -- a newline that is the first of them is the cut
 pub cut_at_newline : (dialect : Dialect) (text : List ℕ) (n : ℕ) → IsFirstByte (is_byte3 backslash 10 quote) text (Some n)
     → slice_index text n ≡ newline → IsFirstCut dialect text (Some n)
-cut_at_newline dialect text n found newline = grind (arith, quiet_cut, cases_Bool, cut_of_comment, no_newline, cut_of_other)
+cut_at_newline dialect text n found newline =
+    let others = others_before text n (omega (arith, found.0.high)) found.0.before in
+    let last = others_last dialect (take n text) others in
+    let is_bare = others_bare text n (omega (arith, found.0.high)) others in
+    let closed : (counted : List ℕ) → EndsQuoted (take n text) counted → ⊥ = λ counted e. others_closed e others in
+    (found.0.high, newline, grind arith)
 
 -- a text without any of them is one piece
 pub no_cut : (dialect : Dialect) (text : List ℕ) → IsFirstByte (is_byte3 backslash 10 quote) text None → IsFirstCut dialect text None
-no_cut Crate text none = quiet_last text none
-no_cut Strict text none = elim (cases_Bool (begins_comment text)) [
-  | inl e ↦ cut_of_comment text None e
-      (subst (All (λ b. b ≢ newline)) (take_all (length text) text (omega arith)) (no_newline text (length text) (omega arith) none))
-  | inr e ↦ cut_of_other text None e (quiet_last text none)
-]
+no_cut dialect text none =
+    let others = others_before text (length text) (omega arith) none in
+    others_last dialect text (subst (All IsOther) (take_all (length text) text (omega arith)) others)

@@ -8,7 +8,7 @@ use Rattle.memchr.specs.Find.{Nowhere, Passes, IsFirstByte}
 use Rattle.lp_format.specs.format.{backslash, is_escaped_after, is_bare_at, IsPassed}
 use Rattle.lp_format.proofs.lemmas.tokens.EscapeLemmas.{is_escaped_more}
 use Rattle.lp_format.proofs.lemmas.split.SplitBare.{is_escaped-nil}
-use Rattle.lp_split.specs.code.{EndsAt, IsBarePassed, IsStretch}
+use Rattle.lp_split.specs.code.{IsBarePassed}
 use Rattle.lp_split.proofs.lemmas.split.SplitStretches.{bare_past}
 use Rattle.std.proofs.lemmas.List.Sums.{count_by-le-length, sum_by-append}
 use Rattle.std.proofs.lemmas.Simd.{length-chunk, mask_l-mod}
@@ -19,7 +19,6 @@ use Rattle.lp_scan.proofs.lemmas.scan.MaskLemmas.{ones}
 -- a search looks for backslashes and for the bytes that pass
 pub record LooksFor (test passes : ℕ → Bool) : Type 0 where
   pub others : (b : ℕ) → test b ≡ false → (b ≢ backslash) × (passes b ≡ false)
-  pub stops : (b : ℕ) → test b ≡ true → b ≢ backslash → passes b ≡ true
   pub escapes : passes backslash ≡ false
 
 module _ (passes : ℕ → Bool) (text : List ℕ) where
@@ -55,16 +54,6 @@ module _ (passes : ℕ → Bool) (text : List ℕ) where
       let next : (at + 1) + 1 ≡ at + 2 = omega arith in
       grind (arith, is_escaped_more, passed_more)
 
-  -- a stretch ends where a byte passes, or with the text
-  pub passed_to_stop : (n : ℕ) → IsBarePassed passes text n → (n < length text → passes (slice_index text n) ≡ true)
-      → IsStretch passes text 0 n
-  passed_to_stop n p stops = grind arith
-
-  -- a stretch ends with a text whose last byte is a bare backslash
-  pub passed_to_backslash : (n : ℕ) → IsBarePassed passes text n → slice_index text n ≡ backslash → n + 1 ≡ length text
-      → passes backslash ≡ false → IsStretch passes text 0 (length text)
-  passed_to_backslash n p here last fails = grind (arith, passed_more)
-
 -- what a search after `at` gives
 module _ (test passes : ℕ → Bool) (search : LooksFor test passes) (text rest : List ℕ) (at : ℕ)
     (same : rest ≡ drop at text) (p : IsBarePassed passes text at) where
@@ -87,11 +76,6 @@ module _ (test passes : ℕ → Bool) (search : LooksFor test passes) (text rest
   found_after n found =
       let fits : at + n < length text = omega (arith, found.0.high, ap length same, length-drop at text, p.within) in
       (searched n (omega arith) found.0.before, fits)
-
-  -- it finds a byte that passes, or a backslash that ends the text
-  pub search_stops : (n : ℕ) → IsFirstByte test rest (Some n) → (slice_index text (at + n) ≡ backslash → at + n + 1 ≡ length text)
-      → EndsAt passes text (at + n)
-  search_stops n found last = grind (arith, cases_Bool, eqb-true, there, eqb-false)
 
   -- it finds another backslash
   pub search_goes_on : (n : ℕ) → IsFirstByte test rest (Some n) → slice_index text (at + n) ≡ backslash → at + n + 1 < length text

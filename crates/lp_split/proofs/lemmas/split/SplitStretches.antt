@@ -1,10 +1,10 @@
 -- A piece, a stretch at a time, by what searches and loads show.
 use Rattle.std.proofs.Common.{◌≡◌, ◌≢◌, ℕ, zero, suc, ◌+◌, ◌-◌, ◌/◌, ◌%◌, ◌^◌, ◌<◌, ◌≤◌, Bool, true, false, cond, not, ◌&&◌, List, [], ◌∷◌}
-use Rattle.std.proofs.Common.{◌++◌, length, take, drop, map, slice_index, Some, None, count_ones, sym, ap, ap₂, ◌∙◌, subst, refl, inl, inr}
-use Rattle.std.proofs.Common.{arith, length-append, length-drop, ◌==◌, ◌||◌, w64, count_by, ne_eqb, get_or-drop, take_all, take-add}
+use Rattle.std.proofs.Common.{◌++◌, length, take, drop, map, slice_index, Some, count_ones, sym, ap, ap₂, ◌∙◌, subst, refl, inl, inr}
+use Rattle.std.proofs.Common.{arith, length-append, ◌==◌, ◌||◌, w64, count_by, ne_eqb, get_or-drop, take-add}
 use Rattle.std.specs.Int.{trailing_zeros}
 use Rattle.std.specs.List.{range_with_len}
-use Rattle.std.proofs.lemmas.Bool.{and_parts, cases_Bool, cases_eq, cases_lt, not-true}
+use Rattle.std.proofs.lemmas.Bool.{and_parts, cases_Bool, cases_lt, not-true}
 use Rattle.std.proofs.lemmas.Bool.Decides.{nat_tests}
 use Rattle.std.proofs.lemmas.List.{take_more}
 use Rattle.std.proofs.lemmas.List.Elements.{All-nil}
@@ -12,16 +12,15 @@ use Rattle.std.proofs.lemmas.List.FromFn.{length-map-range_with_len, length-rang
 use Rattle.std.proofs.lemmas.List.Sums.{count_by-le-length, sum_by-cons}
 use Rattle.std.proofs.lemmas.Simd.{mask_l-mod, ones-mask_l}
 use Rattle.std.proofs.Math.Seq.{drop-append_seam, take-append-add, take-append_seam}
-use Rattle.memchr.specs.Find.{IsFirstByte, Nowhere, Passes, is_byte3}
 use Rattle.lp_format.specs.format.{backslash, comma, newline, quote, space, Crate, is_bare_at, is_escaped_after, IsBareAfter, IsHead}
-use Rattle.lp_format.specs.format.{EndsQuoted, IsClosed, IsLastPiece, IsFirstCut}
+use Rattle.lp_format.specs.format.{EndsQuoted, IsFirstCut}
 use Rattle.lp_split.specs.declared.split.Ahead.{Ahead}
-use Rattle.lp_split.specs.code.{IsAhead, IsBarePassed, IsStretch, IsCountOf}
+use Rattle.lp_split.specs.code.{IsAhead, IsBarePassed}
 use Rattle.lp_scan.specs.code.{first_set, mask_at}
 use Rattle.lp_scan.proofs.lemmas.scan.BareMasks.{at_most_one, lowest_passes, next_bare, none_before, one_escaped, ones_low}
 use Rattle.lp_scan.proofs.lemmas.scan.MaskLemmas.{mask_after, mask_fits, tz_below}
 use Rattle.lp_format.proofs.lemmas.split.SplitBare.{is_escaped-nil, is_escaped-append, is_escaped-push_other, flag_after, IsHead-bare}
-use Rattle.lp_format.proofs.lemmas.split.SplitBare.{IsHead-escaped, EndsPlain-start, EndsPlain-bare, EndsQuoted-bare, EndsQuoted-escaped}
+use Rattle.lp_format.proofs.lemmas.split.SplitBare.{IsHead-escaped, EndsQuoted-bare, EndsQuoted-escaped}
 use Rattle.lp_split.proofs.lemmas.split.SplitWalk.{Head, IsIn, IsIn-escaped, Head-space, Plain, Plain-any, Plain-opens, Plain-other, Quoted}
 use Rattle.lp_split.proofs.lemmas.split.SplitWalk.{Quoted-closes}
 use Rattle.lp_format.specs.format.Bytes.{equals}
@@ -47,25 +46,6 @@ bare_in_rest : (passes : ℕ → Bool) (text rest : List ℕ) (at k : ℕ) → r
     → is_bare_at passes text (at + k) ≡ is_bare_at passes rest k
 bare_in_rest passes text rest at k same is_bare = grind (arith, get_or-drop, take-add, bare_joined)
 
--- a stretch of what is left after a bare place is a stretch of the text
-pub stretch_in : (passes : ℕ → Bool) (text rest : List ℕ) (at n : ℕ) → rest ≡ drop at text → at ≤ length text
-    → IsBareAfter (take at text) → IsStretch passes rest 0 n → IsStretch passes text at (at + n)
-stretch_in passes text rest at n same from is_bare s =
-    let left : length rest ≡ length text - at = ap length same ∙ length-drop at text in
-    record {
-      ordered = omega arith;
-      within = omega arith;
-      none = λ k low high.
-          let back : at + (k - at) ≡ k = omega arith in
-          subst (λ (j : ℕ). is_bare_at passes text j ≡ false) back
-          (bare_in_rest passes text rest at (k - at) same is_bare ∙ s.none (k - at) (omega arith) (omega arith));
-      stops = λ h. bare_in_rest passes text rest at n same is_bare ∙ s.stops (omega arith);
-    }
-
--- the byte that ends a quoted stretch is looked for once
-pub quotes_alone : (text : List ℕ) (n : ℕ) → IsStretch (λ b. b == quote || b == quote) text 0 n → IsStretch (λ b. b == quote) text 0 n
-quotes_alone text n s = grind arith
-
 module _ (text : List ℕ) where
   -- what each byte keeps that is no bare stop is kept along several
   along : (P : List ℕ → Type 0) (stop : ℕ → Bool)
@@ -84,22 +64,15 @@ module _ (text : List ℕ) where
       ] in
       subst (λ (k : ℕ). P (take k text)) place (rw (take_more text (at + n) 0 (omega arith)) after)
 
-  -- a head goes up to the first bare space or newline
-  pub head_to : (n : ℕ) → IsStretch (λ b. b == space || b == newline) text 0 n → IsHead (take n text)
-  head_to n s = along IsHead (λ b. b == space || b == newline) (λ piece b e h. IsHead-escaped piece b h e)
-      (λ piece b i f h. IsHead-bare piece b h i (grind (arith, nat_tests)) (grind (arith, nat_tests)))
-      n 0 n (omega arith) s.within s.none (All-nil (λ b. (b ≢ space) × (b ≢ newline)))
-
-  -- a quoted stretch goes up to the first bare quote
-  pub quoted_to : (e c at end : ℕ) → IsIn Quoted e c (take at text) → IsStretch (λ b. b == quote) text at end
-      → IsIn Quoted e c (take end text)
-  quoted_to e c at end h s =
-      let low = s.ordered in (
-        h.0,
-        along (λ piece. EndsQuoted piece h.0) (λ b. b == quote) (λ piece b f k. EndsQuoted-escaped b k f)
-            (λ piece b f g k. EndsQuoted-bare b k f (grind (arith, nat_tests))) (end - at) at end (omega arith) s.within s.none h.1,
-        h.2,
-      )
+  -- bytes of which none is a bare quote stay in a quoted stretch
+  pub quoted_to : (e c at end : ℕ) (stop : ℕ → Bool) → ((b : ℕ) → stop b ≡ false → b ≢ quote) → at ≤ end → end ≤ length text
+      → ((k : ℕ) → at ≤ k → k < end → is_bare_at stop text k ≡ false) → IsIn Quoted e c (take at text) → IsIn Quoted e c (take end text)
+  quoted_to e c at end stop other low within none h = (
+    h.0,
+    along (λ piece. EndsQuoted piece h.0) stop (λ piece b f k. EndsQuoted-escaped b k f)
+        (λ piece b f g k. EndsQuoted-bare b k f (other b g)) (end - at) at end (omega arith) within none h.1,
+    h.2,
+  )
 
   -- a byte of a plain stretch is counted if it is bare
   plain_byte : (at e c x y : ℕ) → at < length text → is_bare_at ends_plain text at ≡ false → IsIn Plain e c (take at text)
@@ -195,54 +168,35 @@ module _ (bytes text : List ℕ) (is_bare : IsBareAfter bytes) where
       (record { stops = a.stops; equals = a.equals; commas = a.commas; end = length bytes + a.end })
   shown_in_both a are = grind (arith, take-append-add, bare_joined, tests_in_both, length-append)
 
--- if a head ends
-module _ (text : List ℕ) (n : ℕ) (s : IsStretch (λ b. b == space || b == newline) text 0 n) where
-  -- the text ends there
-  pub head_last : length text ≤ n → IsLastPiece Crate text
-  head_last past = inl (inl (subst IsHead (take_all n text past) (head_to text n s)))
+-- a head up to a bare place, which may end it
+module _ (text : List ℕ) (n : ℕ) (p : IsBarePassed (λ b. b == space || b == newline) text n) where
+  -- it is the head of a piece
+  pub head_to : IsIn Head 0 0 (take n text)
+  head_to = head_bytes [] text is_escaped-nil 0 0 n p (All-nil (λ b. (b ≢ space) × (b ≢ newline)), record { equals_is = refl; commas_is = refl })
 
-  module _ (inside : n < length text) where
-    -- it is at a bare space or newline
-    at_stop : ((slice_index text n == space || slice_index text n == newline) ≡ true) × (not (is_escaped_after (take n text)) ≡ true)
-    at_stop = and_parts _ _ (s.stops inside)
+  -- a newline there cuts
+  pub head_cut : n < length text → slice_index text n ≡ newline → IsFirstCut Crate text (Some n)
+  head_cut inside here = (inside, here, (inl head_to.0, p.is_bare))
 
-    -- a newline is there, and cuts
-    pub head_cut : slice_index text n ≡ newline → IsFirstCut Crate text (Some n)
-    head_cut here = (inside, here, (inl (head_to text n s), not-true _ at_stop.1))
+  -- a space there begins a plain stretch
+  pub head_space : n < length text → slice_index text n ≡ space → IsIn Plain 0 0 (take (n + 1) text)
+  head_space inside here = rw (take_more text n 0 inside, here) (Head-space 0 0 (take n text) p.is_bare head_to)
 
-    -- a space is there, and begins a plain stretch
-    pub head_space : slice_index text n ≢ newline → IsIn Plain 0 0 (take (n + 1) text) × IsBareAfter (take (n + 1) text)
-    head_space other =
-        let stops = at_stop.0 in
-        let here : slice_index text n ≡ space = grind (arith, nat_tests) in
-        let none : IsCountOf [] 0 0 = record { equals_is = refl; commas_is = refl } in (
-          rw (take_more text n 0 inside, here) (Head-space 0 0 (take n text) (not-true _ at_stop.1) (head_to text n s, none)),
-          bare_past text n inside (omega (arith, here)),
-        )
+-- what is left after a bare place goes on in a quoted stretch up to another
+module _ (text rest : List ℕ) (at n : ℕ) (same : rest ≡ drop at text) (is_bare : IsBareAfter (take at text))
+    (p : IsBarePassed (λ b. b == quote || b == quote) rest n) where
+  -- the other place is bare in the text too
+  pub bare_on : IsBareAfter (take (at + n) text)
+  bare_on = grind (arith, take-add, bare_joined)
 
--- if a quoted stretch ends at a quote
-module _ (text : List ℕ) (at end : ℕ) (s : IsStretch (λ b. b == quote) text at end) (inside : end < length text) where
-  -- the quote is there, and bare
-  at_quote : ((slice_index text end == quote) ≡ true) × (not (is_escaped_after (take end text)) ≡ true)
-  at_quote = and_parts (slice_index text end == quote) (not (is_escaped_after (take end text))) (s.stops inside)
+  -- the text is still in that stretch there
+  pub quoted_on : (e c : ℕ) → IsIn Quoted e c (take at text) → IsIn Quoted e c (take (at + n) text)
+  quoted_on e c h = rw (take-add at n text, ← same) (quoted_bytes (take at text) rest is_bare e c n p h)
 
-  -- after it nothing is escaped
-  pub past_quote : IsBareAfter (take (end + 1) text)
-  past_quote = let closes = at_quote.0 in bare_past text end inside (grind (arith, nat_tests))
-
-  -- it closes the stretch
-  pub quoted_closes : (e c : ℕ) → IsIn Quoted e c (take at text) → IsIn Plain e c (take (end + 1) text)
-  quoted_closes e c h =
-      let closes = at_quote.0 in
-      let here : slice_index text end ≡ quote = grind (arith, nat_tests) in
-      rw (take_more text end 0 inside, here) (Quoted-closes e c (take end text) (not-true _ at_quote.1) (quoted_to text e c at end h s))
-
--- if it ends with the text, that is one piece
-pub quoted_last : (text : List ℕ) (at end e c : ℕ) → IsStretch (λ b. b == quote) text at end → IsIn Quoted e c (take at text)
-    → length text ≤ end → IsLastPiece Crate text
-quoted_last text at end e c s h past =
-    let k = quoted_to text e c at end h s in
-    inr (k.0, subst (λ (t : List ℕ). EndsQuoted t k.0) (take_all end text past) k.1)
+-- a quote at a bare place of a quoted stretch closes it
+pub quoted_closes : (text : List ℕ) (end e c : ℕ) → end < length text → IsBareAfter (take end text) → slice_index text end ≡ quote
+    → IsIn Quoted e c (take end text) → IsIn Plain e c (take (end + 1) text)
+quoted_closes text end e c inside is_bare here h = rw (take_more text end 0 inside, here) (Quoted-closes e c (take end text) is_bare h)
 
 -- from a bare place on nothing was seen
 pub nothing_ahead : (text : List ℕ) (at : ℕ) → at ≤ length text → IsBareAfter (take at text)
@@ -385,19 +339,10 @@ module _ (text : List ℕ) (at : ℕ) (a : Ahead) (are : IsAhead text at a) wher
         → IsFirstCut Crate text (Some (at + run))
     plain_cut e c h here = let plain = plain_to _ _ refl refl e c h in (stop_within, here, (inr (plain.0, plain.1), not-true _ at_end.1))
 
-    -- if a quote is there, it ends a quoted stretch
-    pub quote_ends : slice_index text (at + run) ≡ quote → IsStretch (λ b. b == quote) text at (at + run)
-    quote_ends here = record {
-      ordered = omega arith;
-      within = omega (arith, stop_within);
-      none = λ k from to. only_quote (slice_index text k == newline) (slice_index text k == quote) (not (is_escaped_after (take k text)))
-          (none_before (bare_at ends_plain) at are.count run are.few found k from to);
-      stops = λ _. rw (here, not-true _ at_end.1) refl;
-    }
-      where
-        -- what is no bare newline or quote is no bare quote
-        only_quote : (n q e : Bool) → ((n || q) && e) ≡ false → (q && e) ≡ false
-        only_quote n q e h = grind arith
+    -- a quoted stretch goes on up to it
+    pub quoted_past : (e c : ℕ) → IsIn Quoted e c (take at text) → IsIn Quoted e c (take (at + run) text)
+    quoted_past e c h = quoted_to text e c at (at + run) ends_plain (λ b f. grind (arith, nat_tests)) (omega arith) (omega (arith, stop_within))
+        (none_before (bare_at ends_plain) at are.count run are.few found) h
 
     -- what was seen after it
     pub seen_after : IsAhead text (at + run + 1)
@@ -443,42 +388,5 @@ module _ (bytes text : List ℕ) (is_bare : IsBareAfter bytes) (a : Ahead) (are 
   plain_bytes_to run some lowest x_is y_is = subst (IsIn Plain (e + x) (c + y)) (take-append-add bytes text run)
       (plain_to (bytes ++ text) (length bytes) _ (shown_in_both bytes text is_bare a are) run some lowest x y x_is y_is e c front_of_both)
 
--- a front without newlines, quotes and backslashes is closed, and what comes after it is bare
-record IsQuiet (front : List ℕ) : Type 0 where
-  is_bare : IsBareAfter front
-  is_closed : IsClosed front
-
--- the front before the first of them is quiet
-quiet_front : (text : List ℕ) (n : ℕ) → n ≤ length text → Nowhere (Passes (is_byte3 backslash newline quote) text) 0 n
-    → IsQuiet (take n text)
-quiet_front text n h none = along text IsQuiet (is_byte3 backslash newline quote) (λ piece b e q. let i = q.is_bare in absurd (cc))
-    (λ piece b i f q. record {
-      is_bare = is_escaped-push_other piece b (grind (arith, nat_tests));
-      is_closed = closed piece b (grind (arith, nat_tests)) (grind (arith, nat_tests)) i q.is_closed;
-    })
-    n 0 n (omega arith) h (λ k from to. not_there _ _ (λ m. none k from to m))
-    (record { is_bare = is_escaped-nil; is_closed = inl (All-nil (λ b. (b ≢ space) × (b ≢ newline))) })
-  where
-    -- such a byte lengthens a closed piece
-    closed : (front : List ℕ) (b : ℕ) → b ≢ newline → b ≢ quote → IsBareAfter front → IsClosed front → IsClosed (front ++ b ∷ [])
-    closed front b n q i (inl h) = elim (cases_eq b space) [
-      | inl s ↦ inr (space ∷ [], rw s (EndsPlain-start front h i))
-      | inr s ↦ inl (IsHead-bare front b h i s n)
-    ]
-    closed front b n q i (inr h) = inr (h.0 ++ b ∷ [], EndsPlain-bare b h.1 i n (λ e. absurd (q e)))
-
-    -- what is not found is not there, bare or not
-    not_there : (t e : Bool) → (t ≡ true → ⊥) → (t && e) ≡ false
-    not_there t e h = grind arith
-
--- the first newline, quote or backslash
-pub quiet_cut : (text : List ℕ) (n : ℕ) → IsFirstByte (is_byte3 backslash newline quote) text (Some n) → slice_index text n ≡ newline
-    → IsFirstCut Crate text (Some n)
-quiet_cut text n found here =
-    let front = quiet_front text n (omega (arith, found.0.high)) found.0.before in
-    (found.0.high, here, (front.is_closed, front.is_bare))
-
--- none of them
-pub quiet_last : (text : List ℕ) → IsFirstByte (is_byte3 backslash newline quote) text None → IsLastPiece Crate text
-quiet_last text none = inl
-    (subst IsClosed (take_all (length text) text (omega arith)) (quiet_front text (length text) (omega arith) none).is_closed)
+-- what a head ends in, and what was seen after a place
+pub ruleset stretches = (head_to, head_cut, head_space, bare_past, nothing_ahead, seen_after)

@@ -1,9 +1,9 @@
 -- What a walk knows of a piece, a byte further.
 use Rattle.std.proofs.Common.{◌≡◌, ◌≢◌, ℕ, ◌+◌, ◌<◌, ◌≤◌, Bool, true, false, cond, eqb, List, [], ◌∷◌, ◌++◌, ◌∙◌, ap, arith, add-zero, ◌&&◌}
-use Rattle.std.proofs.Common.{not, Some, count_by, ne_eqb, ◌==◌, ◌||◌}
+use Rattle.std.proofs.Common.{not, count_by, ne_eqb, ◌==◌, ◌||◌}
 use Rattle.std.proofs.lemmas.List.Sums.{sum_by-append}
 use Rattle.std.proofs.lemmas.Bool.Decides.{nat_tests}
-use Rattle.lp_split.specs.code.{IsCountOf, EndsIn, Steps, Part, Place}
+use Rattle.lp_split.specs.code.{IsCountOf, Part}
 use Rattle.lp_format.specs.format.{is_escaped_after, IsBareAfter, HasMoreEquals, newline, quote, backslash}
 use Rattle.lp_format.proofs.lemmas.split.SplitBare.{IsHead-escaped, IsHead-bare, EndsPlain-escaped, EndsPlain-bare, EndsPlain-start}
 use Rattle.lp_format.proofs.lemmas.split.SplitBare.{EndsQuoted-escaped, EndsQuoted-bare, EndsQuoted-start, EndsQuoted-close}
@@ -93,21 +93,12 @@ pub Quoted-other : (e c : ℕ) (piece : List ℕ) (b : ℕ) → IsBareAfter piec
 Quoted-other e c piece b f n h = (h.0, EndsQuoted-bare b h.1 f n, h.2)
 
 -- a bare byte escapes the next one if it is a backslash
-escapes_next : (bytes : List ℕ) (b : ℕ) → IsBareAfter bytes → is_escaped_after (bytes ++ b ∷ []) ≡ (b == backslash)
+pub escapes_next : (bytes : List ℕ) (b : ℕ) → IsBareAfter bytes → is_escaped_after (bytes ++ b ∷ []) ≡ (b == backslash)
 escapes_next bytes b h = is_escaped_push bytes b ∙ ap (λ (t : Bool). not t && b == backslash) h
 
 -- an escaped byte escapes nothing
-then_bare : (bytes : List ℕ) (b : ℕ) → is_escaped_after bytes ≡ true → IsBareAfter (bytes ++ b ∷ [])
+pub then_bare : (bytes : List ℕ) (b : ℕ) → is_escaped_after bytes ≡ true → IsBareAfter (bytes ++ b ∷ [])
 then_bare bytes b h = is_escaped_push bytes b ∙ ap (λ (t : Bool). not t && b == backslash) h
 
--- a bare byte leads to another place, if it leads to this part and these counts
-pub bare_step : (place : Place) (part next to : Part) (b e c : ℕ) (flag : Bool) → place.part ≡ part → place.is_escaped ≡ false
-    → to ≡ next → flag ≡ (b == backslash)
-    → ((bytes : List ℕ) → IsBareAfter bytes → EndsIn part place.equals place.commas bytes → EndsIn next e c (bytes ++ b ∷ []))
-    → Steps place b (Some (record { part = to; is_escaped = flag; equals = e; commas = c }))
-bare_step place part next to b e c flag is_part is_bare is_next flag_is step = grind (arith, escapes_next)
-
--- so does an escaped one, to the same part
-pub after_escape : (place : Place) (b : ℕ) → place.is_escaped ≡ true
-    → Steps place b (Some (record { part = place.part; is_escaped = false; equals = place.equals; commas = place.commas }))
-after_escape place b is_escaped = grind (arith, then_bare, IsIn-escaped)
+-- what leads a place a byte further
+pub ruleset byte_steps = (escapes_next, then_bare, IsIn-escaped, IsIn-backslash, Head-space, IsHead-bare, Plain-equals, Plain-comma, Plain-opens, Plain-other, Quoted-closes, Quoted-other)

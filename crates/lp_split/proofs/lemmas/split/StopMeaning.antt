@@ -1,6 +1,6 @@
 -- The front before the first bare byte that passes a test.
-use Rattle.std.proofs.Common.{◌≡◌, ◌↔◌, ℕ, suc, ◌≤◌, List, [], ◌∷◌, ◌++◌, length, take, Bool, true, false, not, ◌&&◌, cond, refl, sym, ap}
-use Rattle.std.proofs.Common.{◌∙◌, subst, inl, inr, arith, length-take, append_assoc, append-nil, All}
+use Rattle.std.proofs.Common.{◌≡◌, ◌↔◌, ℕ, suc, ◌≤◌, List, [], ◌∷◌, ◌++◌, length, take, Bool, true, false, not, ◌&&◌}
+use Rattle.std.proofs.Common.{refl, sym, ap, ◌∙◌, subst, arith, length-take, append_assoc, append-nil, All, cond}
 use Rattle.std.proofs.lemmas.Bool.{cases_Bool, and_parts, and_right, not-true}
 use Rattle.std.proofs.Math.Seq.{take-append_seam}
 use Rattle.std.proofs.lemmas.List.Sums.{prefix_len-le-length}
@@ -42,28 +42,13 @@ module _ (passes : ℕ → Bool) where
       len_more p b (front ++ after) here ∙ ap suc (stop_len (p ++ b ∷ []) front after others there)
 
   -- and the other way round
-  record Before (p front after : List ℕ) : Type 0 where
-    none : AllFail (bare_after p front)
-    at_stop : IsAtStop passes (p ++ front) after
-
-  -- if the stop comes at once
-  stop_at : (p : List ℕ) (after : List ℕ) → bare_len passes (is_escaped_after p) after ≡ 0 → IsAtStop passes p after
-  stop_at p after h = grind (arith, cases_Bool, and_parts, not-true, len_more)
-
-  -- what the length of the front says of it
-  before_by : (p front after : List ℕ) → bare_len passes (is_escaped_after p) (front ++ after) ≡ length front → Before p front after
-  before_by p [] after h = grind (arith, append-nil, stop_at)
+  before_by : (p front after : List ℕ) → bare_len passes (is_escaped_after p) (front ++ after) ≡ length front
+      → AllFail (bare_after p front) × IsAtStop passes (p ++ front) after
+  before_by p [] [] h = grind (arith, append-nil)
+  before_by p [] (b ∷ after) h = grind (arith, append-nil, cases_Bool, and_parts, not-true)
   before_by p (b ∷ front) after h =
-      elim (cases_Bool (passes b && not (is_escaped_after p))) [
-        | inl stop ↦ let none : 0 ≡ suc (length front) = rw stop at h in absurd (omega arith)
-        | inr on ↦
-            let more = sym (len_more p b (front ++ after) on) ∙ h in
-            let rest = before_by (p ++ b ∷ []) front after (omega arith) in
-            record {
-              none = grind arith;
-              at_stop = subst (λ (t : List ℕ). IsAtStop passes t after) (append_assoc p (b ∷ []) front) rest.at_stop;
-            }
-      ]
+      let rest = before_by (p ++ b ∷ []) front after in
+      grind (arith, cases_Bool, append_assoc, len_more)
 
   -- the length of the front, by what it is
   first_len : (text : List ℕ) → first_bare passes text ≡ bare_len passes (is_escaped_after []) text
@@ -82,7 +67,7 @@ module _ (passes : ℕ → Bool) where
         let fits = first_fits (front ++ after) in
         let len : first_bare passes (front ++ after) ≡ length front = grind (arith, length-take) in
         let b = before_by [] front after (sym (first_len (front ++ after)) ∙ len) in
-        record { none = b.none; at_stop = b.at_stop }),
+        record { none = b.0; at_stop = b.1 }),
     (λ h.
         ap (λ (n : ℕ). take n (front ++ after)) (first_len (front ++ after) ∙ stop_len [] front after h.none h.at_stop)
         ∙ take-append_seam front after),

@@ -5,7 +5,7 @@ use Rattle.std.proofs.Common.{All, take_all, get_or-drop, take-add, ne_eqb}
 use Rattle.lp_format.specs.format.{Dialect, Strict, Crate, begins_comment, IsLastPiece, IsCutPiece, IsFirstCut, newline, IsBareAfter}
 use Rattle.lp_format.specs.format.{IsClosed, IsOpen}
 use Rattle.lp_split.specs.declared.split.resumed.Search.TheVariants.{Quiet}
-use Rattle.lp_split.specs.code.{SearchesOn, NeverComment, EndsIn, IsPlace, IsTrackOf, Leads, LeadsTo, Steps, TracksOn, Part, Head, Plain}
+use Rattle.lp_split.specs.code.{SearchesOn, NeverComment, EndsIn, IsPlace, IsTrackOf, Leads, LeadsTo, Steps, TracksOn, Part, Head}
 use Rattle.lp_split.specs.code.{Track, Place, Comment, Blanks, Line}
 use Rattle.lp_format.proofs.lemmas.split.SplitPieces.{IsLastPiece-extend, begins_comment-append}
 use Rattle.std.proofs.lemmas.List.Elements.{All-head, All-tail, All-push, All-weaker}
@@ -102,10 +102,10 @@ pub leads_on : (text rest : List ℕ) (at n : ℕ) (from via to : Track) → res
     → LeadsTo (take n rest) via to → LeadsTo (take (at + n) text) from to
 leads_on text rest at n from via to same leads more dialect bytes h = grind (arith, append_assoc, take-add)
 
--- the track at a bare place of a plain stretch
-pub plain_track : (bytes : List ℕ) (e c : ℕ) → IsBareAfter bytes → EndsIn Plain e c bytes
-    → IsTrackOf Crate bytes (Line (record { part = Plain; is_escaped = false; equals = e; commas = c }))
-plain_track bytes e c is_bare h = (tt, record { escaped_is = is_bare; ends_in = h })
+-- the track at a bare place of a line
+pub line_track : (part : Part) (bytes : List ℕ) (e c : ℕ) → IsBareAfter bytes → EndsIn part e c bytes
+    → IsTrackOf Crate bytes (Line (record { part = part; is_escaped = false; equals = e; commas = c }))
+line_track part bytes e c is_bare h = (tt, record { escaped_is = is_bare; ends_in = h })
 
 -- the place after bytes of a piece that no newline has ended
 place_is_last : (part : Part) (e c : ℕ) (bytes : List ℕ) → EndsIn part e c bytes → IsClosed bytes ⊎ IsOpen bytes

@@ -1,11 +1,11 @@
 -- What a stream holds, with more after it, and if pieces have a greatest length.
-use Rattle.std.proofs.Common.{◌≡◌, ℕ, Bool, cond, List, ◌++◌, drop, sym, ap, ◌∙◌, subst, arith, length-append, ◌⊎◌, ◌+◌, ◌<◌, [], ◌∷◌}
-use Rattle.std.proofs.Common.{length, take, append_assoc, Ok, Err}
+use Rattle.std.proofs.Common.{◌≡◌, ℕ, Bool, cond, List, ◌++◌, drop, sym, ap, ◌∙◌, subst, arith, length-append, ◌⊎◌, ◌+◌, [], ◌∷◌}
+use Rattle.std.proofs.Common.{take, append_assoc, Ok, Err}
 use Rattle.std.proofs.lemmas.List.{take-append-le, drop-append-le}
 use Rattle.lp_format.specs.format.{Dialect, IsLastPiece, IsCutPiece, newline, newlines_in}
 use Rattle.lp_split.specs.declared.split.resumed.Search.{Search}
 use Rattle.lp_split.specs.declared.split.resumed.Search.TheVariants.{Within}
-use Rattle.lp_split.specs.code.{IsKnown, AreSeen, IsHeldAt, Held, TakesPiece, IsTrackOf, TracksOn, Track, CutsTo, HoldsBy, IsTooLong}
+use Rattle.lp_split.specs.code.{IsKnown, IsHeldAt, AreSeen, Held, IsTrackOf, TracksOn, Track, HoldsBy, IsTooLong}
 use Rattle.std.proofs.lemmas.List.Sums.{sum_by-append}
 use Rattle.lp_split.specs.declared.stream.bounded.Skipped.{Skipped}
 use Rattle.lp_split.specs.declared.stream.bounded.Skipped.TheVariants.{Nothing, Within, Ended}
@@ -72,16 +72,6 @@ pub no_end_within : (dialect : Dialect) (bytes : List ℕ) (track : Track) (i : 
 no_end_within dialect bytes track i begins tracks is_last =
     no_cut_within dialect (take i bytes) (drop (i + 1) bytes) (tracks.2 dialect [] begins)
     (subst (λ (t : List ℕ). IsLastPiece dialect t) (split_at bytes i tracks.0 tracks.1) is_last)
-
--- fewer bytes are kept once a piece is taken
-pub taking_keeps_fewer : (held after : Held) (piece : List ℕ) → TakesPiece held piece after → length after.bytes < length held.bytes
-taking_keeps_fewer held after piece takes = grind (arith, length-append)
-
--- a piece is taken if no bytes were skipped
-pub takes_within : (limit : ℕ) (held after : Held) (skipped : Skipped) (piece text : List ℕ) → skipped ≡ Nothing
-    → TakesPiece held piece after → HoldsBy limit held skipped text
-    → CutsTo held.dialect text piece after.bytes × HoldsBy limit after skipped after.bytes
-takes_within limit held after skipped piece text is takes h = grind arith
 
 -- what is held, which is more than a piece may have, is the text if no bytes were skipped
 pub held_is_too_long : (limit : ℕ) (held : Held) (skipped : Skipped) (n : ℕ) → skipped ≡ Nothing → IsTooLong limit held.bytes

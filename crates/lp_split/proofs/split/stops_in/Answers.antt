@@ -3,4 +3,4 @@ use Rattle.lp_scan.proofs.lemmas.lanes.LaneLemmas.{either, mask_in, one}
 use Rattle.lp_split.proofs.split.stops_in.Goals as goal
 
 pub returns : goal.returns
-returns c = mask_in (either (one c.args.stops.first) (one c.args.stops.second)) c.args.text.now c.args.at 64 c.requires (omega arith)
+returns c = mask_in (either (one c.args.stops.0) (one c.args.stops.1)) c.args.text.now c.args.at 64 c.requires (omega arith)

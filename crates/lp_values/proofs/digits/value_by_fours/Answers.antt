@@ -1,6 +1,5 @@
 use Rattle.std.proofs.Common.{arith}
-use Rattle.std.proofs.lemmas.Grind.{common_steps}
-use Rattle.std.proofs.lemmas.List.{take_rest}
+use Rattle.std.proofs.lemmas.{Grind.common_steps, List.take_rest}
 use Rattle.lp_values.proofs.lemmas.digits.DigitLemmas.{few_fit, four_fit, four_more}
 use Rattle.lp_values.proofs.digits.value_by_fours.Goals as goal
 

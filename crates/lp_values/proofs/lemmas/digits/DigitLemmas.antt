@@ -1,50 +1,22 @@
 -- Digits at the start of a text, by lanes and by groups, and the window of the table that moves lanes to the end.
-use Rattle.std.proofs.Common.{◌≡◌, ◌∙◌, ℕ, suc, ◌+◌, ◌-◌, ◌*◌, ◌^◌, ◌%◌, ◌<◌, ◌≤◌, Bool, true, false, not, eqb, List, [], ◌∷◌, map, length}
-use Rattle.std.proofs.Common.{take, drop, get_or, refl, sym, ap, arith, zero, ◌++◌, replicate, ap₂, subst, ◌/◌, cond, ◌||◌, inl, inr, w8}
-use Rattle.std.proofs.Common.{◌==◌, if◌then◌else◌, w64, ne_eqb, length-take-le, take-append-drop, length-drop, take-take, take_all}
-use Rattle.std.proofs.Common.{ext_get_or, get_or-take, length-append, mul_assoc}
-use Rattle.std.specs.Int.{trailing_zeros}
-use Rattle.std.specs.List.{prefix_len, range_with_len}
-use Rattle.std.specs.Char.{is_ascii_digit, digit_value}
-use Rattle.std.specs.Str.Parse.{AllDigits, digits_value, digits_value_after}
-use Rattle.std.proofs.lemmas.Bool.{agree_below, agree_below_at, cases_lt}
-use Rattle.std.proofs.lemmas.Simd.{map-map, mask_l-mod, first_set_mask_l, zip2_splat, Each1-from_get_or, SwzOk-from_Each1, get_or-chunk}
-use Rattle.std.proofs.lemmas.Simd.{get_or-replicate, get_or-swz_l, get_or-swz_l_below, length-chunk, length-replicate, length-swz_l, swz_l}
-use Rattle.std.proofs.lemmas.Simd.{SwzOk}
-use Rattle.std.proofs.lemmas.List.{length-map, take-map, get_or_append_left, get_or-append_right}
-use Rattle.std.proofs.lemmas.List.Folds.{prefix_len-append}
-use Rattle.std.proofs.lemmas.Str.Parse.{digit_from_value}
-use Rattle.std.proofs.lemmas.Str.{digit_value_digit}
-use Rattle.std.proofs.lemmas.Int.Digits.{digits_value-lt, all_below_base_from_digits, digits_value_is, number_lt}
+use Rattle.std.proofs.Common.{◌≡◌, ◌∙◌, ℕ, suc, ◌+◌, ◌-◌, ◌*◌, ◌^◌, ◌%◌, ◌<◌, ◌≤◌, Bool, true, false, eqb, List, [], ◌∷◌, map, length}
+use Rattle.std.proofs.Common.{take, drop, get_or, refl, sym, ap, arith, zero, ◌++◌, replicate, ap₂, subst, ◌||◌, w8}
+use Rattle.std.proofs.Common.{ne_eqb, length-take-le, take-append-drop, length-drop, take-take, take_all, mul_assoc, bytes_eq}
+use Rattle.std.proofs.Common.{add-zero}
 use Rattle.std.proofs.Math.Nat.{pow-le-pow_right, pow-succ'}
-use lib.Lanes.{mask_l, top, zip2, Each1, chunk}
-use Rattle.lp_format.specs.format.{digits_len, newline}
 use Rattle.std.specs.Int.Digits.{AllBelowBase, number_from_digits, number_from_digits_after}
-use Rattle.std.specs.Simd.Lanes.{dots, products}
-use Rattle.std.proofs.lemmas.List.FromFn.{get_or-range_with_len}
+use Rattle.std.specs.{List.prefix_len, List.range_with_len, Char.is_ascii_digit, Char.digit_value, Str.Parse.AllDigits}
+use Rattle.std.specs.{Str.Parse.digits_value, Str.Parse.digits_value_after, Simd.Lanes.dots, Simd.Lanes.products}
+use Rattle.std.proofs.lemmas.Simd.{zip2_splat, Each1-from_get_or, SwzOk-from_Each1, length-chunk}
+use Rattle.std.proofs.lemmas.Simd.{swz_l, SwzOk, pick_l-range_with_len, Each1-chunk}
+use Rattle.std.proofs.lemmas.Int.Digits.{digits_value-lt, all_below_base_from_digits, digits_value_is, number_lt}
+use Rattle.std.proofs.lemmas.{Bool.agree_below_at, List.take-map, List.map-append, List.get_or_past}
+use Rattle.std.proofs.lemmas.{List.Folds.prefix_len-append, Str.Parse.digit_from_value, Str.digit_value_digit, Slice.Eq.bytes_eq-Decides}
+use lib.Lanes.{zip2, Each1, chunk}
+use Rattle.lp_format.specs.format.{digits_len, newline}
 use lib.Dec.{T, ltb}
 use mir.Val.{zeroes}
-
--- two tests that agree on each item pass fronts of one length
-prefix_same : (p q : ℕ → Bool) (xs : List ℕ) → ((k : ℕ) → k < length xs → p (get_or xs k 0) ≡ q (get_or xs k 0))
-    → prefix_len p xs ≡ prefix_len q xs
-prefix_same p q [] same = refl
-prefix_same p q (x ∷ xs) same =
-    let first : p x ≡ q x = same 0 (omega arith) in
-    rw (first, (prefix_same p q xs (λ k within. same (suc k) (omega (arith, within))))) refl
-
--- lanes that stop just where no digit is count the digits at the start
-pub lanes_count : (v : List ℕ) (n r : ℕ) (z : List ℕ) (f : ℕ → ℕ) → length v ≡ n → n ≤ 64 → ((k : ℕ) → k < length v → get_or v k 0 < 256)
-    → r ≡ (if mask_l (map (top 7) z) % 2 ^ 64 == 0 then n else trailing_zeros w64 (mask_l (map (top 7) z) % 2 ^ 64)) → z ≡ map f v
-    → agree_below (λ x. not (top 7 (f x))) is_ascii_digit 256 ≡ true → r ≡ digits_len v
-lanes_count v n r z f long few small found lanes all =
-    let stops = λ (x : ℕ). top 7 (f x) in
-    let mask : mask_l (map (top 7) z) % 2 ^ 64 ≡ mask_l (map stops v) =
-    ap (λ l. mask_l l % 2 ^ 64) (ap (map (top 7)) lanes ∙ map-map (top 7) f v)
-    ∙ mask_l-mod (map stops v) 64 (omega (arith, length-map v stops, long)) in
-    found ∙ ap (λ m. if m == 0 then n else trailing_zeros w64 m) mask ∙ first_set_mask_l stops v n long few
-    ∙ prefix_same (λ x. not (stops x)) is_ascii_digit v
-    (λ k within. agree_below_at (λ x. not (stops x)) is_ascii_digit 256 (get_or v k 0) all (small k within))
+use Rattle.lp_scan.proofs.lemmas.lanes.LaneLemmas.{looked_up}
 
 -- fewer digits than n bytes hold are the digits at the start
 pub digits_within : (text : List ℕ) (n : ℕ) → n ≤ length text → digits_len (take n text) < n → digits_len (take n text) ≡ digits_len text
@@ -59,20 +31,14 @@ pub after_at_least : (n : ℕ) (ds : List ℕ) → n ≤ digits_value_after 10 n
 after_at_least n [] = omega arith
 after_at_least n (d ∷ ds) = omega (arith, after_at_least (n * 10 + digit_value d) ds)
 
--- so it is no less than those with a zero for each digit after them
-pub one_fits : (n : ℕ) (ds : List ℕ) → 1 ≤ length ds → n * 10 ≤ digits_value_after 10 n ds
-one_fits n [] some = absurd (omega arith)
-one_fits n (a ∷ ds) some = omega (arith, after_at_least (n * 10 + digit_value a) ds)
+-- a number before digits is worth as many places as those are
+pub number_before : (m k : ℕ) (ds : List ℕ) → digits_value_after 10 (m + k) ds ≡ m * 10 ^ length ds + digits_value_after 10 k ds
+number_before m k [] = omega arith
+number_before m k (d ∷ ds) = grind (arith, mul_assoc, pow-succ', number_before (m * 10) (k * 10 + digit_value d) ds)
 
--- two digits more make a number a hundred times as large, at least
-pub two_fit : (n : ℕ) (ds : List ℕ) → 2 ≤ length ds → n * 100 ≤ digits_value_after 10 n ds
-two_fit n [] some = absurd (omega arith)
-two_fit n (a ∷ ds) some = omega (arith, one_fits (n * 10 + digit_value a) ds (omega (arith, some)))
-
--- three digits more make a number a thousand times as large, at least
-pub three_fit : (n : ℕ) (ds : List ℕ) → 3 ≤ length ds → n * 1000 ≤ digits_value_after 10 n ds
-three_fit n [] some = absurd (omega arith)
-three_fit n (a ∷ ds) some = omega (arith, two_fit (n * 10 + digit_value a) ds (omega (arith, some)))
+-- so a number with digits after it is no less than it with a zero for each of them
+pub zeros_fit : (n k : ℕ) (ds : List ℕ) → length ds ≡ k → n * 10 ^ k ≤ digits_value_after 10 n ds
+zeros_fit n k ds long = let whole = rw (add-zero n) at (number_before n 0 ds) in rw (← long) (omega (arith, whole))
 
 -- the value of a digit, from its byte
 pub digit_is : (d : ℕ) → digit_value d < 10 → digit_value d ≡ d - 48
@@ -220,11 +186,6 @@ digits_parts zero ds digits = (tt, digits)
 digits_parts (suc n) [] digits = (tt, tt)
 digits_parts (suc n) (d ∷ ds) (small, digits) = let parts = digits_parts n ds digits in ((small, parts.0), parts.1)
 
--- a number before digits is worth as many places as those are
-number_before : (m k : ℕ) (ds : List ℕ) → digits_value_after 10 (m + k) ds ≡ m * 10 ^ length ds + digits_value_after 10 k ds
-number_before m k [] = omega arith
-number_before m k (d ∷ ds) = grind (arith, mul_assoc, pow-succ', number_before (m * 10) (k * 10 + digit_value d) ds)
-
 -- digits write on after others
 digits_append : (n : ℕ) (xs ys : List ℕ) → digits_value_after 10 n (xs ++ ys) ≡ digits_value_after 10 (digits_value_after 10 n xs) ys
 digits_append n [] ys = refl
@@ -253,56 +214,33 @@ window n = chunk 0 16 (chunk n (32 - n) moves)
 window_len : (n : ℕ) → n ≤ 16 → length (window n) ≡ 16
 window_len n fits = length-chunk 0 16 (chunk n (32 - n) moves) (omega (arith, length-chunk n (32 - n) moves (omega arith)))
 
--- a place of a window is a place of the table
-window_at : (n i : ℕ) → n ≤ 16 → i < 16 → get_or (window n) i 0 ≡ get_or moves (n + i) 0
-window_at n i fits within =
-    get_or-take 16 (chunk n (32 - n) moves) i 0 within ∙ get_or-chunk n (32 - n) moves i 0 (omega (arith, within, fits))
+-- it has 255 for each lane before the last n, and then the first n places
+window_is : (n : ℕ) → n ≤ 16 → window n ≡ replicate (16 - n) 255 ++ range_with_len 0 n
+window_is n fits =
+    let same = agree_below_at (λ k. bytes_eq (window k) (replicate (16 - k) 255 ++ range_with_len 0 k)) (λ k. true) 17 n refl (omega arith) in
+    grind (arith, same, bytes_eq-Decides)
 
 -- `swizzle_dyn` takes each of its entries
 pub window_fits : (n : ℕ) → n ≤ 16 → SwzOk w8 16 16 0 (window n)
 window_fits n fits =
-    let size = window_len n fits in
-    SwzOk-from_Each1 w8 16 1 16 0 (window n) refl (omega (arith, size))
-    (Each1-from_get_or (λ j. T (zeroes 16 w8 j || ltb j 16)) (window n) 0 (λ i lt.
-    let fine = agree_below_at (λ k. zeroes 16 w8 (get_or moves k 0) || ltb (get_or moves k 0) 16) (λ k. true) 32 (n + i) refl
-    (omega (arith, lt, size, fits)) in
-    subst T (sym (ap (λ j. zeroes 16 w8 j || ltb j 16) (window_at n i fits (omega (arith, lt, size))) ∙ fine)) tt))
+    let taken : ℕ → Bool = λ j. zeroes 16 w8 j || ltb j 16 in
+    let all = Each1-from_get_or (λ j. T (taken j)) moves 0
+    (λ i lt. subst T (sym (agree_below_at (λ k. taken (get_or moves k 0)) (λ k. true) 32 i refl lt)) tt) in
+    SwzOk-from_Each1 w8 16 1 16 0 (window n) refl (omega (arith, window_len n fits))
+    (Each1-chunk (λ j. T (taken j)) 0 16 (chunk n (32 - n) moves) (Each1-chunk (λ j. T (taken j)) n (32 - n) moves all))
 
--- a lane before those that were moved is 0
-moved_front : (n i : ℕ) (lanes : List ℕ) → n ≤ 16 → n + i < 16 → get_or (swz_l w8 16 lanes 0 (window n)) i 0 ≡ 0
-moved_front n i lanes fits before =
-    let at : get_or (window n) i 0 ≡ 255 = window_at n i fits (omega (arith, before))
-    ∙ get_or_append_left (replicate 16 255) (range_with_len 0 16) 0 (n + i) before ∙ get_or-replicate 16 (n + i) 255 0 before in
-    get_or-swz_l w8 16 lanes 0 (window n) i (omega (arith, (window_len n fits), before))
-    ∙ ap (λ j. cond (zeroes 16 w8 j) 0 (get_or lanes (16 * ((0 + i) / 16) + j) 0)) at
-
--- the others are those from the first on
-moved_back : (n i : ℕ) (lanes : List ℕ) → n ≤ 16 → i < 16 → 16 ≤ n + i
-    → get_or (swz_l w8 16 lanes 0 (window n)) i 0 ≡ get_or lanes (n + i - 16) 0
-moved_back n i lanes fits within after =
-    let at : get_or (window n) i 0 ≡ n + i - 16 = window_at n i fits within
-    ∙ get_or-append_right (replicate 16 255) (range_with_len 0 16) 16 (n + i) 0 refl after
-    ∙ get_or-range_with_len 0 16 (n + i - 16) 0 (omega (arith, fits, within)) ∙ omega arith in
-    get_or-swz_l_below w8 16 lanes 0 (window n) i (omega (arith, (window_len n fits), within)) (omega (arith, at, fits, within))
-    ∙ ap (λ j. get_or lanes j 0) (omega (arith, at, within))
+-- a splat, looked up
+splat_at : (look : ℕ → ℕ) (n x : ℕ) → map look (replicate n x) ≡ replicate n (look x)
+splat_at look zero x = refl
+splat_at look (suc n) x = ap (λ l. look x ∷ l) (splat_at look n x)
 
 -- so the window of n moves the first n lanes to the end, after zeros
 pub window_moves : (n : ℕ) (lanes : List ℕ) → n ≤ 16 → length lanes ≡ 16
     → swz_l w8 16 lanes 0 (window n) ≡ replicate (16 - n) 0 ++ take n lanes
 window_moves n lanes fits long =
-    let zeros : List ℕ = replicate (16 - n) 0 in
-    let some : length zeros ≡ 16 - n = length-replicate (16 - n) 0 in
-    let rest = length-take-le n lanes (omega (arith, fits, long)) in
-    let size : length (swz_l w8 16 lanes 0 (window n)) ≡ 16 = length-swz_l w8 16 lanes 0 (window n) ∙ window_len n fits in
-    ext_get_or 0 (swz_l w8 16 lanes 0 (window n)) (zeros ++ take n lanes)
-    (omega (arith, size, length-append zeros (take n lanes), some, rest, fits)) (λ i lt.
-    elim (cases_lt (n + i) 16) [
-      | inl before ↦
-          let left = get_or_append_left zeros (take n lanes) 0 i (omega (arith, some, before)) in
-          moved_front n i lanes fits before ∙ sym (left ∙ get_or-replicate (16 - n) i 0 0 (omega (arith, before)))
-      | inr after ↦
-          let right = get_or-append_right zeros (take n lanes) (16 - n) i 0 some (omega (arith, after)) in
-          let taken = get_or-take n lanes (i - (16 - n)) 0 (omega (arith, lt, size, after, fits)) in
-          moved_back n i lanes fits (omega (arith, lt, size)) after
-          ∙ sym (right ∙ taken ∙ ap (λ j. get_or lanes j 0) (omega (arith, after, fits)))
-    ])
+    let look : ℕ → ℕ = λ j. get_or lanes j 0 in
+    let none : get_or lanes 255 0 ≡ 0 = get_or_past lanes 255 0 (omega arith) in
+    let back : map look (range_with_len 0 n) ≡ take n lanes = pick_l-range_with_len 0 lanes 0 n (omega arith) in
+    looked_up lanes (omega arith) (window n) 0 (omega (arith, window_len n fits))
+    ∙ ap (map look) (window_is n fits) ∙ map-append look (replicate (16 - n) 255) (range_with_len 0 n)
+    ∙ ap₂ (λ (xs ys : List ℕ). xs ++ ys) (splat_at look (16 - n) 255 ∙ ap (replicate (16 - n)) none) back

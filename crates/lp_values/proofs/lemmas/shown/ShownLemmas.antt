@@ -1,9 +1,8 @@
 -- Texts as they are shown: what one byte more and one item more add.
 use Rattle.std.proofs.Common.{◌≡◌, ℕ, ◌+◌, ◌<◌, ◌≤◌, List, [], ◌∷◌, ◌++◌, length, take, drop, get_or, slice_index, length-drop, arith, refl}
 use Rattle.std.proofs.Common.{◌-◌, append_assoc, append-nil, true, false}
-use Rattle.std.proofs.lemmas.Grind.{common_steps, flat_map-append}
-use Rattle.std.proofs.lemmas.List.{take_more}
 use Rattle.std.proofs.Math.Nat.{sub_self}
+use Rattle.std.proofs.lemmas.{Grind.common_steps, Grind.flat_map-append, List.take_more}
 use Rattle.lp_format.specs.format.{backslash, is_one_of, escaped, escaped_byte}
 use Rattle.lp_scan.specs.declared.sets.TokenKind.{TokenKind}
 use Rattle.lp_scan.specs.code.{known_of}

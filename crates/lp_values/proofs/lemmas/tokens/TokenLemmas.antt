@@ -3,15 +3,12 @@ use Rattle.std.proofs.Common.{◌≡◌, ℕ, ◌<◌, Bool, List, [], ◌∷◌
 use Rattle.std.proofs.Common.{take, length, slice_index, ap, append_assoc, length-append, add-one, add-zero, drop-cons, ◌==◌, ◌&&◌, eq-eqb}
 use Rattle.std.proofs.Common.{eqb-true, ne_eqb, bytes_eq, append-nil, drop-drop, get_or-drop, length-drop, length-take-le, take-append-drop}
 use Rattle.std.proofs.Common.{length-take}
-use Rattle.std.proofs.lemmas.Grind.{common_steps}
 use Rattle.std.proofs.lemmas.Bool.{and_parts, or_right, cases_Bool, or_parts}
+use Rattle.std.proofs.lemmas.{Grind.common_steps, Slice.Eq.bytes_eq-Decides, List.drop_all, Slice.drop-put_mid, Slice.take-put_mid}
 use Rattle.lp_scan.specs.declared.sets.TokenKind.{TokenKind}
 use Rattle.lp_scan.specs.code.{stops_of, known_of, is_plain, IsRunAt}
 use Rattle.lp_format.specs.format.{backslash, is_one_of, without_escapes, is_one_escape, read_text, Text}
 use Rattle.lp_format.proofs.lemmas.names.NameLemmas.{no_backslash, without_escapes_same}
-use Rattle.std.proofs.lemmas.Slice.Eq.{bytes_eq-Decides}
-use Rattle.std.proofs.lemmas.List.{drop_all}
-use Rattle.std.proofs.lemmas.Slice.{drop-put_mid, take-put_mid}
 use borrow.Rule.Slice.PartMut.{put_mid, same_len_mid}
 use Rattle.lp_values.proofs.lemmas.tokens.WalkLemmas.{run_is_plain}
 

@@ -2,23 +2,18 @@
 use Rattle.std.proofs.Common.{◌≡◌, ◌≢◌, ℕ, zero, suc, ◌+◌, ◌-◌, ◌<◌, ◌≤◌, Bool, List, [], ◌∷◌, ◌++◌, length, take, slice_index, true, false}
 use Rattle.std.proofs.Common.{cond, eqb, not, ◌&&◌, refl, sym, ap, ap₂, ◌∙◌, subst, arith, inl, inr, add-one, add-zero, append_assoc, ◌%◌}
 use Rattle.std.proofs.Common.{◌^◌, bit_and, count_ones, ◌==◌, eqb-true, length-append, count_by}
-use Rattle.std.proofs.lemmas.Bool.{false≢true, cases_Bool, or_parts, not-true, not-false, or_cases, eqb-false, cases_lt, cases_eq}
-use Rattle.std.proofs.lemmas.Bool.{and_right}
-use Rattle.std.proofs.lemmas.List.{take_more}
-use Rattle.std.proofs.lemmas.List.Folds.{list_any_more}
-use Rattle.std.proofs.lemmas.List.Sums.{sum_by-cons}
+use Rattle.std.proofs.lemmas.Bool.{cases_Bool, or_parts, not-true, not-false, or_cases, eqb-false, cases_lt, cases_eq, and_right, and_parts}
+use Rattle.std.proofs.lemmas.{List.take_more, List.Folds.list_any_more, List.Sums.sum_by-cons}
 use Rattle.std.specs.List.{range_with_len}
 use mir.Val.{bool_byte}
 use Rattle.lp_format.specs.format.{backslash, is_one_of, is_escaped_after, is_bare_at, first_bare, without_escapes, EscapeScan, IsPassed}
 use Rattle.lp_scan.specs.code.{is_plain, AllPassBetween, IsRunAt, first_set, mask_of, mask_at}
-use Rattle.lp_values.specs.code.RawTokens.{is_escape_at}
 use Rattle.lp_format.proofs.lemmas.tokens.EscapeLemmas.{first_bare_is, is_escaped_more}
 use Rattle.lp_format.proofs.lemmas.names.NameLemmas.{without_escapes_plain_byte}
 use Rattle.lp_format.proofs.lemmas.split.SplitBare.{is_escaped-nil, is_escaped-append, is_escaped-after_other, flag_after}
 use Rattle.lp_scan.proofs.lemmas.scan.BareMasks.{at_most_one, escaped_is_not_bare, lowest_within, mask_next, next_bare, one_escaped}
 use Rattle.lp_scan.proofs.lemmas.scan.BareMasks.{ones_low, to_next, to_stop}
-use Rattle.lp_scan.proofs.lemmas.scan.EscapedMasks.{of_places}
-use Rattle.lp_scan.proofs.lemmas.scan.MaskBits.{and_of_maps}
+use Rattle.lp_scan.proofs.lemmas.scan.{EscapedMasks.of_places, MaskBits.and_of_maps}
 
 -- whether a text ends in an escape, by a walk from its first byte
 escaped_is_flag : (text : List ℕ) → is_escaped_after text ≡ flag_after false text
@@ -46,6 +41,10 @@ without_escapes_append known (b ∷ c ∷ rest) back bare =
           rw (e, without_escapes_append known (c ∷ rest) back inner) refl
     ]
 
+-- whether a known escape begins at this place: a bare backslash is there, before a byte that it escapes
+abbrev is_escape_at : List ℕ → List ℕ → ℕ → Bool
+is_escape_at known text k = is_bare_at (λ b. b == backslash) text k && is_one_of known (slice_index text (k + 1))
+
 module _ (known text : List ℕ) where
   -- at how many of so many places from one on a known escape begins
   abbrev pub escapes_from : ℕ → ℕ → ℕ
@@ -56,21 +55,71 @@ module _ (known text : List ℕ) where
   escapes_first at n = sum_by-cons (λ k. cond (is_escape_at known text k) 1 0) at (range_with_len (at + 1) n)
 
   -- a count of escapes, with a byte more
-  pub escapes_more : (n at : ℕ) → escapes_from at (suc n) ≡ escapes_from at n + cond (is_escape_at known text (at + n)) 1 0
-  escapes_more zero at = grind (arith, escapes_first)
-  escapes_more (suc n) at =
-      let place : at + 1 + n ≡ at + suc n = omega arith in
-      omega (
-        arith,
-        escapes_first at (suc n),
-        escapes_first at n,
-        escapes_more n (at + 1),
-        ap (λ (k : ℕ). cond {A = ℕ} (is_escape_at known text k) 1 0) place,
-      )
+  pub escapes_more : (n at j : ℕ) → at + n ≡ j → escapes_from at (suc n) ≡ escapes_from at n + cond (is_escape_at known text j) 1 0
+  escapes_more zero at j e = let here : at ≡ j = omega arith in rw (← here) (grind (arith, escapes_first))
+  escapes_more (suc n) at j e = omega (arith, escapes_first at (suc n), escapes_first at n, escapes_more n (at + 1) j (omega arith))
 
--- a bare byte that is no bare stop is no stop
-bare_fails : (t e : Bool) → e ≡ false → (t && not e) ≡ false → t ≡ false
-bare_fails t e bare h = grind arith
+  -- the escapes of two stretches are those of both
+  joined : (n at : ℕ) → escapes_from 0 (at + n) ≡ escapes_from 0 at + escapes_from at n
+  joined zero at = rw (add-zero at) (omega arith)
+  joined (suc n) at =
+      let place : suc (at + n) ≡ at + suc n = omega arith in
+      rw (← place) (omega (arith, escapes_more (at + n) 0 (at + n) (omega arith), escapes_more n at (at + n) refl, joined n at))
+
+  -- how many bytes the first so many take without their escapes
+  abbrev kept : ℕ → ℕ
+  kept k = length (without_escapes known (take k text))
+
+  -- a bare byte is kept, if it is the last
+  kept_byte : (k : ℕ) → k < length text → is_escaped_after (take k text) ≡ false → kept (k + 1) ≡ kept k + 1
+  unfolding without_escapes
+  kept_byte k within bare =
+      let parts = without_escapes_append known (take k text) (slice_index text k ∷ []) bare in
+      rw (take_more text k 0 within, parts, length-append (without_escapes known (take k text)) (slice_index text k ∷ [])) refl
+
+  -- of a bare backslash and the byte after it both are kept, unless this is known
+  kept_pair : (k : ℕ) (t : Bool) → k + 1 < length text → is_escaped_after (take k text) ≡ false → slice_index text k ≡ backslash
+      → is_one_of known (slice_index text (k + 1)) ≡ t → kept (k + 2) + cond t 1 0 ≡ kept k + 2
+  unfolding without_escapes
+  kept_pair k t within bare here is =
+      let two : k + 1 + 1 ≡ k + 2 = omega arith in
+      let front : take (k + 2) text ≡ take k text ++ (backslash ∷ slice_index text (k + 1) ∷ []) = rw (← two)
+      (rw ((take_more text (k + 1) 0 within), (take_more text k 0 (omega arith)), here) (simp append_assoc)) in
+      let parts = without_escapes_append known (take k text) (backslash ∷ slice_index text (k + 1) ∷ []) bare in
+      grind (arith, cases_Bool, length-append)
+
+  -- up to a bare place each escape leaves out one byte
+  all_counted : (k : ℕ) → k ≤ length text → is_escaped_after (take k text) ≡ false → kept k + escapes_from 0 k ≡ k
+  unfolding without_escapes
+  all_counted zero within bare = refl
+  all_counted (suc zero) within bare =
+      let more = is_escaped_more text 0 (omega arith) in
+      grind (arith, is_escaped-nil, kept_byte 0, escapes_more 0 0 0 refl)
+  all_counted (suc (suc j)) within bare =
+      let one : j + 1 ≡ suc j = omega arith in
+      let two : j + 1 + 1 ≡ suc (suc j) = omega arith in
+      elim (cases_Bool (is_escaped_after (take (j + 1) text))) [
+        | inl escaped ↦
+            let (unescaped, here) = and_parts _ _ (sym (is_escaped_more text j (omega arith)) ∙ escaped) in
+            let slash : slice_index text j ≡ backslash = eqb-true (slice_index text j) backslash here in
+            let pair_on : j + 2 ≡ suc (suc j) = omega arith in
+            let pair = rw pair_on at (kept_pair j _ (omega arith) (not-true _ unescaped) slash refl) in
+            let counted = all_counted j (omega arith) (not-true _ unescaped) in
+            let begins : is_escape_at known text j ≡ is_one_of known (slice_index text (j + 1)) = rw (here, not-true _ unescaped) refl in
+            let inside : is_escape_at known text (j + 1) ≡ false = ap (λ b. b && is_one_of known (slice_index text (j + 1 + 1)))
+            (escaped_is_not_bare (λ b. b == backslash) text (j + 1) escaped) in
+            omega (arith, pair, counted, rw begins at (escapes_more j 0 j (omega arith)), rw inside at (escapes_more (suc j) 0 (j + 1) (omega arith)))
+        | inr other ↦
+            let last : (slice_index text (j + 1) == backslash) ≡ false = sym (rw (two, other) at (is_escaped_more text (j + 1) (omega arith))) ∙ bare in
+            let plain : is_escape_at known text (j + 1) ≡ false =
+            ap (λ b. (b && not (is_escaped_after (take (j + 1) text))) && is_one_of known (slice_index text (j + 1 + 1))) last in
+            omega (
+              arith,
+              all_counted (suc j) (omega arith) (rw one at other),
+              rw (two, one) at (kept_byte (j + 1) (omega arith) other),
+              rw plain at (escapes_more (suc j) 0 (j + 1) (omega arith)),
+            )
+      ]
 
 module _ (known : List ℕ) (stops : ℕ → Bool) (text : List ℕ) where
   -- at the start of a text nothing is counted
@@ -87,13 +136,11 @@ module _ (known : List ℕ) (stops : ℕ → Bool) (text : List ℕ) where
       → is_plain stops (slice_index text at) ≡ true → EscapeScan known stops text (at + 1) found
   unfolding without_escapes
   walk_byte at found w within plain =
-      let more = take_more text at 0 within in
-      let separated_list = without_escapes_append known (take at text) (slice_index text at ∷ []) w.bare in
       record {
         within = omega arith;
         bare = rw (is_escaped_more text at within, w.bare, (plain_parts (slice_index text at) plain).1) refl;
         passed = grind (arith, cases_Bool, eqb-true, eqb-false);
-        counted = grind (arith, length-append);
+        counted = omega (arith, kept_byte known text at within w.bare, w.counted);
       }
 
   -- some plain bytes further
@@ -120,86 +167,24 @@ module _ (known : List ℕ) (stops : ℕ → Bool) (text : List ℕ) where
   walk_escape at found t w within here kept is =
       let two : at + 1 + 1 ≡ at + 2 = omega arith in
       let escaped : is_escaped_after (take (at + 1) text) ≡ true = rw (is_escaped_more text at (omega arith), w.bare, here) refl in
-      let front : take (at + 2) text ≡ take at text ++ (backslash ∷ slice_index text (at + 1) ∷ []) = rw (← two)
-      (rw ((take_more text (at + 1) 0 within), (take_more text at 0 (omega arith)), here) (simp append_assoc)) in
-      let separated_list = without_escapes_append known (take at text) (backslash ∷ slice_index text (at + 1) ∷ []) w.bare in
       record {
         within = omega arith;
         bare = rw (← two) (rw (is_escaped_more text (at + 1) within, escaped) refl);
         passed = grind (arith, cases_lt, cases_eq, and_right);
-        counted = grind (arith, cases_Bool, length-append);
+        counted = omega (arith, kept_pair known text at t within w.bare here is, w.counted);
       }
 
-  -- over a byte that is neither a backslash nor a stop
-  to_by_byte : (n at found : ℕ) → EscapeScan known stops text at found → at < length text
-      → (slice_index text at == backslash) ≡ false → is_bare_at stops text at ≡ false
-      → (EscapeScan known stops text (at + 1) found → EscapeScan known stops text (at + 1 + n) (found + escapes_from known text (at + 1) n))
-      → EscapeScan known stops text (at + suc n) (found + escapes_from known text at (suc n))
-  to_by_byte n at found w within other not_stop rest =
-      let stays : stops (slice_index text at) ≡ false = bare_fails (stops (slice_index text at))
-      (is_escaped_after (take at text)) w.bare not_stop in
-      let one = walk_byte at found w within (rw (stays, other) refl) in
-      let none : cond {A = ℕ} (is_escape_at known text at) 1
-      0 ≡ 0 = ap (λ (t : Bool). cond {A = ℕ}
-      ((t && not (is_escaped_after (take at text))) && is_one_of known (slice_index text (at + 1))) 1 0) other in
-      let place : at + 1 + n ≡ at + suc n = omega arith in
-      let count : found + escapes_from known text (at + 1) n ≡ found + escapes_from known text at (suc n) = omega
-      (arith, escapes_first known text at n, none) in
-      subst (λ (k : ℕ). EscapeScan known stops text k (found + escapes_from known text at (suc n))) place
-      (subst (λ (k : ℕ). EscapeScan known stops text (at + 1 + n) k) count (rest one))
-
-  -- over a backslash and the byte that it escapes
-  to_by_escape : (n at found : ℕ) → stops backslash ≡ false → EscapeScan known stops text at found → at + 1 < length text
-      → (slice_index text at == backslash) ≡ true
-      → ((more : ℕ) → EscapeScan known stops text (at + 2) more
-      → EscapeScan known stops text (at + 2 + n) (more + escapes_from known text (at + 2) n))
-      → EscapeScan known stops text (at + suc (suc n)) (found + escapes_from known text at (suc (suc n)))
-  to_by_escape n at found kept w within is rest =
-      let t = is_one_of known (slice_index text (at + 1)) in
-      let here : slice_index text at ≡ backslash = eqb-true (slice_index text at) backslash is in
-      let two = walk_escape at found t w within here kept refl in
-      let first : cond {A = ℕ} (is_escape_at known text at) 1 0 ≡ cond t 1 0 = ap₂
-      (λ (a e : Bool). cond {A = ℕ} ((a && not e) && t) 1 0) is w.bare in
-      let flag : is_escaped_after (take (at + 1) text) ≡ true = rw (is_escaped_more text at (omega arith), w.bare, here) refl in
-      let second : cond {A = ℕ} (is_escape_at known text (at + 1)) 1 0 ≡ 0 =
-      ap (λ (e : Bool). cond {A = ℕ}
-      (((slice_index text (at + 1) == backslash) && not e) && is_one_of known (slice_index text (at + 1 + 1))) 1 0) flag
-      ∙ ap (λ (a : Bool). cond {A = ℕ} (a && is_one_of known (slice_index text (at + 1 + 1))) 1 0)
-      (and_right (slice_index text (at + 1) == backslash) false refl) in
-      let next : at + 1 + 1 ≡ at + 2 = omega arith in
-      let after : escapes_from known text (at + 1 + 1) n ≡ escapes_from known text (at + 2)
-      n = ap (λ (k : ℕ). escapes_from known text k n) next in
-      let place : at + 2 + n ≡ at + suc (suc n) = omega arith in
-      let count : found + cond t 1 0 + escapes_from known text (at + 2) n ≡ found + escapes_from known text at (suc (suc n)) =
-      omega (arith, escapes_first known text at (suc n), escapes_first known text (at + 1) n, first, second, after) in
-      subst (λ (k : ℕ). EscapeScan known stops text k (found + escapes_from known text at (suc (suc n)))) place
-      (subst (λ (k : ℕ). EscapeScan known stops text (at + 2 + n) k) count (rest (found + cond t 1 0) two))
-
   -- up to a bare place, with no bare stop on the way
-  pub walk_to : (n at found : ℕ) → stops backslash ≡ false → EscapeScan known stops text at found → at + n ≤ length text
+  pub walk_to : (n at found : ℕ) → EscapeScan known stops text at found → at + n ≤ length text
       → is_escaped_after (take (at + n) text) ≡ false
       → ((k : ℕ) → at ≤ k → k < at + n → is_bare_at stops text k ≡ false)
       → EscapeScan known stops text (at + n) (found + escapes_from known text at n)
-  walk_to zero at found kept w room bare none = rw (add-zero at, add-zero found) w
-  walk_to (suc zero) at found kept w room bare none =
-      elim (cases_Bool (slice_index text at == backslash)) [
-        | inl is ↦ absurd (false≢true (sym bare ∙ rw (is_escaped_more text at (omega arith), w.bare, is) refl))
-        | inr other ↦ to_by_byte zero at found w (omega arith) other (none at (omega arith) (omega arith))
-            (λ one. rw (add-zero (at + 1), add-zero found) one)
-      ]
-  walk_to (suc (suc n)) at found kept w room bare none =
-      let one_on : at + 1 + suc n ≡ at + suc (suc n) = omega arith in
-      let two_on : at + 2 + n ≡ at + suc (suc n) = omega arith in
-      elim (cases_Bool (slice_index text at == backslash)) [
-        | inl is ↦
-            to_by_escape n at found kept w (omega arith) is
-            (λ more walked. walk_to n (at + 2) more kept walked (omega arith)
-            (ap (λ (k : ℕ). is_escaped_after (take k text)) two_on ∙ bare) (λ k from to. none k (omega arith) (omega arith)))
-        | inr other ↦
-            to_by_byte (suc n) at found w (omega arith) other (none at (omega arith) (omega arith))
-            (λ walked. walk_to (suc n) (at + 1) found kept walked (omega arith)
-            (ap (λ (k : ℕ). is_escaped_after (take k text)) one_on ∙ bare) (λ k from to. none k (omega arith) (omega arith)))
-      ]
+  walk_to n at found w room bare none = record {
+    within = room;
+    bare = bare;
+    passed = λ k to. elim (cases_lt k at) [ inl early ↦ w.passed k early | inr late ↦ none k late to ];
+    counted = omega (arith, w.counted, all_counted known text at w.within w.bare, all_counted known text (at + n) room bare, joined known text n at);
+  }
 
   -- the same, if the answer is added as a number
   pub walk_counted : (at found n : ℕ) (t : Bool) → EscapeScan known stops text at found → at + 1 < length text
@@ -262,7 +247,7 @@ escapes_mask known text at m k room m_is k_is =
     ap₂ bit_and m_is (k_is ∙ of_places text (is_one_of known) (at + 1) 64 (omega arith) ∙ mask_next next at 64)
     ∙ and_of_maps (is_bare_at (λ b. b == backslash) text) (λ j. next (j + 1)) (range_with_len at 64)
 
-module _ (known : List ℕ) (stops : ℕ → Bool) (text : List ℕ) (at found : ℕ) (room : at + 64 < length text) (kept : stops backslash ≡ false)
+module _ (known : List ℕ) (stops : ℕ → Bool) (text : List ℕ) (at found : ℕ) (room : at + 64 < length text)
     (w : EscapeScan known stops text at found) (run : ℕ) (run_is : run ≡ first_set (mask_at (is_bare_at stops text) at 64) 64)
     (n : ℕ) (n_is : n ≡ count_ones (mask_at (is_escape_at known text) at 64 % 2 ^ run)) where
   -- no stop is before the load
@@ -277,7 +262,7 @@ module _ (known : List ℕ) (stops : ℕ → Bool) (text : List ℕ) (at found :
   pub load_stops : run < 64 → EscapeScan known stops text (at + run) (found + n) × (stops (slice_index text (at + run)) ≡ true)
   load_stops short =
       let stop = to_stop stops text at room passed run run_is short in (
-        rw counted (walk_to known stops text run at found kept w (omega arith) (stop.0.is_bare (omega arith))
+        rw counted (walk_to known stops text run at found w (omega arith) (stop.0.is_bare (omega arith))
             (λ k from to. stop.0.passed k to)),
         stop.1,
       )
@@ -288,7 +273,7 @@ module _ (known : List ℕ) (stops : ℕ → Bool) (text : List ℕ) (at found :
   load_goes_on last far is =
       let one = at_most_one text at room last is in
       let whole : run ≡ 64 = omega (arith, lowest_within (is_bare_at stops text) at 64 run (omega arith) run_is) in
-      let walked = walk_to known stops text (64 + last) at found kept w (omega arith)
+      let walked = walk_to known stops text (64 + last) at found w (omega arith)
       (next_bare text at room last is) (λ k from to. (to_next stops text at room passed run run_is last far is).passed k to) in
       let same : escapes_from known text at (64 + last) ≡ n = elim (cases_eq last 0) [
         | inl none ↦ ap (λ (k : ℕ). escapes_from known text at (64 + k)) none ∙ ap (escapes_from known text at) (sym whole) ∙ sym counted
@@ -299,7 +284,7 @@ module _ (known : List ℕ) (stops : ℕ → Bool) (text : List ℕ) (at found :
             let zero : cond {A = ℕ} (is_escape_at known text (at + 64)) 1 0 ≡ 0 =
             ap (λ (t : Bool). cond {A = ℕ} (t && is_one_of known (slice_index text (at + 64 + 1))) 1 0) bare_not in
             ap (escapes_from known text at) more
-            ∙ escapes_more known text 64 at ∙ ap (λ (k : ℕ). escapes_from known text at 64 + k) zero
+            ∙ escapes_more known text 64 at (at + 64) refl ∙ ap (λ (k : ℕ). escapes_from known text at 64 + k) zero
             ∙ omega (arith, ap (escapes_from known text at) whole, counted)
       ] in
       subst (λ (k : ℕ). EscapeScan known stops text (at + (64 + last)) (found + k)) same walked

@@ -1,6 +1,5 @@
 use Rattle.std.proofs.Common.{◌≡◌, ◌≤◌, ◌+◌, length, arith, rules}
-use Rattle.std.proofs.lemmas.Grind.{common_steps}
-use Rattle.std.proofs.lemmas.Str.{IsCharBoundary-start}
+use Rattle.std.proofs.lemmas.{Grind.common_steps, Str.IsCharBoundary-start}
 use Rattle.lp_format.specs.format.Values.{float_len}
 use Rattle.lp_format.proofs.lemmas.literals.FloatLemmas.{float_boundary, integer_len_fits}
 use Rattle.lp_values.proofs.literals.float_len.Goals as goal

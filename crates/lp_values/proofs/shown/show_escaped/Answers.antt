@@ -1,7 +1,6 @@
 use Rattle.std.proofs.Common.{◌≡◌, ◌-◌, ◌<◌, true, [], ◌∷◌, ◌++◌, length, get_or, take, drop, rules, arith, append_assoc}
-use Rattle.std.proofs.lemmas.Grind.{common_steps}
-use Rattle.std.proofs.lemmas.Str.{IsCharBoundary-start, IsCharBoundary-before_ascii}
 use Rattle.std.proofs.Output.{has_written_append, has_written_of_eq}
+use Rattle.std.proofs.lemmas.{Grind.common_steps, Str.IsCharBoundary-start, Str.IsCharBoundary-before_ascii}
 use Rattle.lp_format.specs.format.Bytes.{backslash, is_one_of}
 use Rattle.lp_scan.specs.code.Tokens.{known_of}
 use Rattle.lp_format.specs.code.Shown.{shown_escapes}

@@ -1,6 +1,5 @@
 use Rattle.std.proofs.Common.{◌≡◌, ◌<◌, ℕ, Bool, List, true, false, if◌then◌else◌, drop, refl, rules, arith}
-use Rattle.std.proofs.lemmas.Grind.{common_steps}
-use Rattle.std.proofs.lemmas.Str.{IsCharBoundary-after_ascii}
+use Rattle.std.proofs.lemmas.{Grind.common_steps, Str.IsCharBoundary-after_ascii}
 use Rattle.lp_format.specs.format.{◌otherwise◌, reads, boolean, boolean_at, false_words, true_words, word_len}
 use Rattle.lp_format.proofs.lemmas.values.ValueLemmas.{boolean_misses, boolean_reads}
 use Rattle.lp_values.proofs.spelled_parts.boolean.Goals as goal

@@ -6,7 +6,7 @@ use Rattle.lp_format.specs.format.Bytes.{quote}
 use Rattle.lp_values.proofs.spelled_parts.string.Goals as goal
 
 pub returns-in_default-clause-value : goal.returns-in_default-clause-value
-returns-in_default-clause-value c = string_misses c.args.text.now (byte_missing quote c.args.text.now c.in_default.ensures.value)
+returns-in_default-clause-value c = grind (arith, common_steps, byte_missing, string_misses)
 
 pub returns-in_default-strip_byte-clause-value : goal.returns-in_default-strip_byte-clause-value
 returns-in_default-strip_byte-clause-value c =

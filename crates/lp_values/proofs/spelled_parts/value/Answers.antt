@@ -1,6 +1,5 @@
 use Rattle.std.proofs.Common.{arith}
-use Rattle.std.proofs.lemmas.Grind.{common_steps}
-use Rattle.std.proofs.lemmas.Bool.{eqb-true, eqb-false}
+use Rattle.std.proofs.lemmas.{Grind.common_steps, Bool.eqb-true, Bool.eqb-false}
 use Rattle.lp_format.proofs.lemmas.values.ValueForms.{number_form, string_form, boolean_form}
 use Rattle.lp_values.proofs.spelled_parts.value.Goals as goal
 

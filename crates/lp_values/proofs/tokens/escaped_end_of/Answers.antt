@@ -1,22 +1,18 @@
 use Rattle.std.proofs.Common.{◌≡◌, ℕ, ◌+◌, ◌-◌, ◌<◌, ◌≤◌, List, length, take, slice_index, true, false, sym, arith, inl, inr, refl}
-use Rattle.std.proofs.lemmas.Grind.{common_steps}
-use Rattle.std.proofs.lemmas.Bool.{false≢true, cases_eq}
+use Rattle.std.proofs.lemmas.{Grind.common_steps, Bool.false≢true, Bool.cases_eq}
 use Rattle.lp_scan.specs.declared.sets.TokenKind.{TokenKind}
 use Rattle.lp_scan.specs.code.{stops_of, known_of}
 use Rattle.lp_format.specs.format.{without_escapes, backslash}
 use Rattle.lp_values.specs.code.RawTokens.{IsTold}
 use Rattle.lp_format.proofs.lemmas.tokens.EscapeLemmas.{is_one_of_front}
-use Rattle.lp_values.proofs.lemmas.tokens.TokenLemmas.{backslash_goes_on}
-use Rattle.lp_values.proofs.lemmas.tokens.WalkLemmas.{walk_start, walk_run, walk_ends}
+use Rattle.lp_values.proofs.lemmas.tokens.{TokenLemmas.backslash_goes_on, WalkLemmas.walk_start, WalkLemmas.walk_run, WalkLemmas.walk_ends}
 use Rattle.lp_values.proofs.tokens.escaped_end_of.Goals as goal
 
 pub loop-end-init : goal.loop-end-init
 loop-end-init c =
-    let kind = c.args.kind in
-    let bytes = c.as_bytes-bytes.result.now in
     let run = rw (← c.as_bytes-bytes.ensures.value) at c.requires.run in
     record {
-      walked = walk_run (known_of kind) (stops_of kind) bytes 0 c.args.at 0 (walk_start (known_of kind) (stops_of kind) bytes) run;
+      walked = walk_run (known_of c.args.kind) _ _ 0 _ 0 (walk_start (known_of c.args.kind) _ _) run;
       after = omega arith;
     }
 
@@ -33,22 +29,18 @@ after_first kind bytes at next further here stop = grind (arith, common_steps, c
 pub returns-then-next-end-clause-end : goal.returns-then-next-end-clause-end
 returns-then-next-end-clause-end c =
     let load = c.escapes_in_load-next.ensures in
-    let bytes = c.as_bytes-bytes.result.now in
-    rw (← c.as_bytes-bytes.ensures.value) (sym (walk_ends (known_of c.args.kind) (stops_of c.args.kind) bytes _ _ load.walked
-    (λ _. load.stops c.if-next-end.true)).0)
+    rw (← c.as_bytes-bytes.ensures.value) (sym (walk_ends _ _ _ _ _ load.walked (λ _. load.stops c.if-next-end.true)).0)
 
 pub returns-then-next-end-clause-told : goal.returns-then-next-end-clause-told
 returns-then-next-end-clause-told c =
     let kind = c.args.kind in
     let bytes = c.as_bytes-bytes.result.now in
-    let at = c.args.at in
-    let next = c.escapes_in_load-next.result.0 in
     let load = c.escapes_in_load-next.ensures in
-    let here : slice_index bytes at ≡ backslash = rw c.as_bytes-bytes.ensures.value c.requires.here in
+    let here = rw (← c.as_bytes-bytes.ensures.value) at c.requires.here in
     let stop = load.stops c.if-next-end.true in
-    let ends = walk_ends (known_of kind) (stops_of kind) bytes next _ load.walked (λ _. stop) in
-    let after = after_first kind bytes at next (omega (arith, load.further, c.loop-end.invariant.after)) here stop in
-    rw (← c.as_bytes-bytes.ensures.value) (told kind bytes at next _ _ here after load.walked.within ends.1 refl)
+    let ends = walk_ends _ _ _ _ _ load.walked (λ _. stop) in
+    let after = after_first kind bytes c.args.at _ (omega (arith, load.further, c.loop-end.invariant.after)) here stop in
+    rw (← c.as_bytes-bytes.ensures.value) (told kind bytes c.args.at _ _ _ here after load.walked.within ends.1 refl)
 
 pub returns-clause-told : goal.returns-clause-told
 returns-clause-told c =

@@ -1,4 +1,4 @@
-use Rattle.std.proofs.Common.{◌≡◌, ◌+◌, ◌<◌, length, slice_index, sym, arith, true}
+use Rattle.std.proofs.Common.{sym, arith}
 use Rattle.lp_scan.specs.code.Tokens.{stops_of, known_of}
 use Rattle.lp_values.proofs.lemmas.tokens.TokenLemmas.{backslash_goes_on}
 use Rattle.lp_values.proofs.lemmas.tokens.WalkLemmas.{walk_run, walk_counted, walk_ends, walk_ends_after, is_stop_then}
@@ -6,57 +6,33 @@ use Rattle.lp_values.proofs.tokens.escapes_to_end.Goals as goal
 
 pub loop-end-init : goal.loop-end-init
 loop-end-init c =
-    let kind = c.args.kind in
     let run = c.plain_end-end.ensures in
-    record {
-      walked = walk_run (known_of kind) (stops_of kind) c.args.bytes.now c.args.at c.plain_end-end.result
-          c.args.found c.requires.walked run;
-      stopped = run.stops;
-      after = run.ordered;
-    }
+    record { walked = walk_run _ _ _ _ _ _ c.requires.walked run; stopped = run.stops; after = run.ordered }
 
 pub loop-end-preserved : goal.loop-end-preserved
 loop-end-preserved c =
-    let kind = c.args.kind in
-    let bytes = c.args.bytes.now in
-    let end = c.loop-end.end in
-    let walked = walk_counted (known_of kind) (stops_of kind) bytes end c.loop-end.known c.from-known.result
+    let walked = walk_counted (known_of c.args.kind) (stops_of c.args.kind) c.args.bytes.now c.loop-end.end c.loop-end.known c.from-known.result
     c.is_known.result c.loop-end.invariant.walked (omega arith) c.if-bytes-end-eq92.true
-    (backslash_goes_on kind) (sym c.is_known.ensures) c.from-known.ensures in
+    (backslash_goes_on c.args.kind) (sym c.is_known.ensures) c.from-known.ensures in
     let run = c.plain_end-end-in-loop-end.ensures in
     record {
-      walked = walk_run (known_of kind) (stops_of kind) bytes (end + 2) c.plain_end-end-in-loop-end.result _ walked run;
+      walked = walk_run _ _ _ _ _ _ walked run;
       stopped = run.stops;
       after = omega (arith, run.ordered, c.loop-end.invariant.after);
     }
 
 pub returns-then-end-bytes-clause-value : goal.returns-then-end-bytes-clause-value
 returns-then-end-bytes-clause-value c =
-    let kind = c.args.kind in
-    let ends = walk_ends_after (known_of kind) (stops_of kind) c.args.bytes.now c.loop-end.end c.loop-end.known
-    c.loop-end.invariant.walked (omega arith) c.if-bytes-end-eq92.true (backslash_goes_on kind) in
-    sym ends.0
+    sym (walk_ends_after _ _ _ _ _ c.loop-end.invariant.walked (omega arith) c.if-bytes-end-eq92.true (backslash_goes_on c.args.kind)).0
 
 pub returns-then-end-bytes-clause-len : goal.returns-then-end-bytes-clause-len
 returns-then-end-bytes-clause-len c =
-    let kind = c.args.kind in
-    let ends = walk_ends_after (known_of kind) (stops_of kind) c.args.bytes.now c.loop-end.end c.loop-end.known
-    c.loop-end.invariant.walked (omega arith) c.if-bytes-end-eq92.true (backslash_goes_on kind) in
-    ends.1
+    (walk_ends_after _ _ _ _ _ c.loop-end.invariant.walked (omega arith) c.if-bytes-end-eq92.true (backslash_goes_on c.args.kind)).1
 
 pub returns-else-bytes-end-eq92-clause-value : goal.returns-else-bytes-end-eq92-clause-value
 returns-else-bytes-end-eq92-clause-value c =
-    let kind = c.args.kind in
-    let bytes = c.args.bytes.now in
-    let end = c.loop-end.end in
-    let stop : end < length bytes → stops_of kind (slice_index bytes end) ≡ true = λ within.
-    is_stop_then (known_of kind) (stops_of kind) bytes (slice_index bytes end) (c.loop-end.invariant.stopped within)
-    c.if-bytes-end-eq92.false in
-    sym (walk_ends (known_of kind) (stops_of kind) bytes end c.loop-end.known c.loop-end.invariant.walked stop).0
+    sym (walk_ends _ _ _ _ _ c.loop-end.invariant.walked (λ within. is_stop_then (known_of c.args.kind) (stops_of c.args.kind) c.args.bytes.now _
+    (c.loop-end.invariant.stopped within) c.if-bytes-end-eq92.false)).0
 
 pub returns-after-loop-end-clause-value : goal.returns-after-loop-end-clause-value
-returns-after-loop-end-clause-value c =
-    let kind = c.args.kind in
-    let ends = walk_ends (known_of kind) (stops_of kind) c.args.bytes.now c.loop-end.end c.loop-end.known c.loop-end.invariant.walked
-    (λ within. absurd (omega arith)) in
-    sym ends.0
+returns-after-loop-end-clause-value c = sym (walk_ends _ _ _ _ _ c.loop-end.invariant.walked (λ within. absurd (omega arith))).0

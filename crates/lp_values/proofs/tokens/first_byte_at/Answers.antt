@@ -1,6 +1,5 @@
 use Rattle.std.proofs.Common.{arith}
-use Rattle.std.proofs.lemmas.Grind.{common_steps}
-use Rattle.std.proofs.lemmas.List.{take_rest}
+use Rattle.std.proofs.lemmas.{Grind.common_steps, List.take_rest}
 use Rattle.lp_values.proofs.lemmas.tokens.TokenLemmas.{byte_at, escape_at}
 use Rattle.lp_values.proofs.tokens.first_byte_at.Goals as goal
 

@@ -1,6 +1,5 @@
 use Rattle.std.proofs.Common.{arith, append-nil}
-use Rattle.std.proofs.lemmas.Grind.{common_steps}
-use Rattle.std.proofs.lemmas.Str.{IsCharBoundary-start}
+use Rattle.std.proofs.lemmas.{Grind.common_steps, Str.IsCharBoundary-start}
 use Rattle.lp_values.proofs.lemmas.tokens.TokenLemmas.{nothing_left}
 use Rattle.lp_values.proofs.tokens.put.Goals as goal
 

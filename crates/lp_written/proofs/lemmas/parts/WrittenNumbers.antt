@@ -10,6 +10,7 @@ use Rattle.std.specs.Bool.{then_some}
 use Rattle.std.specs.Str.Pattern.{FindsTextPrefix, LacksTextAt, StripsPrefix}
 use Rattle.lp_format.specs.format.{escaped, quotable, IsSigned, IsFloat, Value, integer, unsigned, float, string, boolean, integer_len}
 use Rattle.lp_format.specs.format.{fits_i64, float_at, float_len, minus, miss, reads, IsValue, built_value, byte}
+use Rattle.lp_format.specs.format.Bytes.{letter_i, letter_u, quote}
 use Rattle.std.proofs.lemmas.Bool.{cases_Bool, cases_lt, and_parts, eqb-false, or_parts, false≢true, not-true}
 use Rattle.std.proofs.lemmas.Fmt.{decimal_is_IsNumeral, decimal-digits_value, decimal_digit, first_decimal}
 use Rattle.std.proofs.lemmas.Int.Digits.{digits_value-lt}
@@ -21,7 +22,6 @@ use Rattle.lp_format.proofs.lemmas.values.ValueForms.{byte_missing}
 use Rattle.lp_written.proofs.lemmas.parts.WrittenNames.{byte_left}
 use Rattle.lp_written.specs.code.AsWritten.{EndsValue, IsOnlyRest, IsWrittenString, IsWrittenValue, has_extra_zero, is_written_integer}
 use Rattle.lp_written.specs.code.AsWritten.{is_written_unsigned}
-use Rattle.lp_format.specs.format.Bytes.{letter_i, letter_u, quote}
 
 -- digits without a zero before more of them are what the builder writes for their number
 pub unsigned_again : (ds : List ℕ) → IsNumeral 10 ds → has_extra_zero ds ≡ false → digits_value 10 ds < 2 ^ 64 → decimal (digits_value 10 ds) ≡ ds

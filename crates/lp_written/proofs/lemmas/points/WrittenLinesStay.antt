@@ -4,8 +4,7 @@ use Rattle.std.proofs.lemmas.List.{append_cancel_right}
 use Rattle.lp_format.specs.format.{newline, line_of, answer, point_of}
 use Rattle.lp_format.specs.laws.PointsOfLines.{LinesThatStayAreWritten, WrittenLinesStay}
 use Rattle.lp_format.proofs.lemmas.read_back.NameReadsBack.{read_line, read_line_is}
-use Rattle.lp_lines.proofs.lemmas.read_back.LinePieces.{admitted_point}
-use Rattle.lp_lines.proofs.lemmas.read_back.LineReadsBack.{line_reads_back}
+use Rattle.lp_lines.proofs.lemmas.read_back.{LinePieces.admitted_point, LineReadsBack.line_reads_back}
 use Rattle.lp_written.proofs.lemmas.points.LinesArePoints.{lines_are_points}
 
 -- a text that is as written is read as a line that the builder writes so

@@ -1,7 +1,6 @@
 use Rattle.std.proofs.Common.{◌≡◌, ◌∙◌, slice_index, sym, arith, eqb-true}
-use Rattle.lp_format.specs.format.{integer_len}
+use Rattle.lp_format.specs.format.{integer_len, Bytes.quote}
 use Rattle.lp_written.proofs.lemmas.parts.WrittenNumbers.{string_only_value}
-use Rattle.lp_format.specs.format.Bytes.{quote}
 use Rattle.lp_written.proofs.numbers.after_value.Goals as goal
 
 pub returns-then-has_byte_at : goal.returns-then-has_byte_at

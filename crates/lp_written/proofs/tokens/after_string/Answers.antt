@@ -1,8 +1,7 @@
 use Rattle.std.proofs.Common.{◌≡◌, ◌∙◌, drop, ap}
 use Rattle.lp_written.specs.code.AsWritten.{written_len}
 use Rattle.lp_written.proofs.lemmas.parts.WrittenNames.{byte_left, is_quote, string_answer}
-use Rattle.lp_format.specs.format.Values.{quotable}
-use Rattle.lp_format.specs.format.Bytes.{quote}
+use Rattle.lp_format.specs.format.{Values.quotable, Bytes.quote}
 use Rattle.lp_written.proofs.tokens.after_string.Goals as goal
 
 pub returns : goal.returns

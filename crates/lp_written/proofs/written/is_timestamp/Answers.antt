@@ -1,10 +1,9 @@
 use Rattle.std.proofs.Common.{◌<◌, ◌∙◌, sym, arith, subst}
 use Rattle.std.proofs.lemmas.Bool.{false≢true}
-use Rattle.lp_format.specs.format.Values.{integer_len}
+use Rattle.lp_format.specs.format.{Values.integer_len, Bytes.space}
 use Rattle.lp_written.specs.code.AsWritten.{IsWrittenTimestamp}
 use Rattle.lp_written.proofs.lemmas.parts.WrittenLines.{timestamp_answer, timestamp_len, whole_number}
 use Rattle.lp_written.proofs.lemmas.parts.WrittenNames.{byte_left}
-use Rattle.lp_format.specs.format.Bytes.{space}
 use Rattle.lp_written.proofs.written.is_timestamp.Goals as goal
 
 pub is_written_integer-requires-clause-signed : goal.is_written_integer-requires-clause-signed

@@ -1,11 +1,10 @@
 use Rattle.std.proofs.Common.{◌≡◌, ℕ, ◌-◌, ◌<◌, ◌≤◌, false, length, get_or}
 use Rattle.lp_format.specs.format.Bytes.{is_one_of}
-use Rattle.lp_build.specs.code.Marks.{listed}
 use Rattle.lp_build.proofs.builder.marks.walked_before_first.Given as goal
 
 -- what was passed holds no mark
 abbrev pub invariant-loop-at : goal.invariant-loop-at
-invariant-loop-at l = (l.at ≤ length l.text) × ((k : ℕ) → k < l.at → is_one_of (listed l.marks) (get_or l.text k 0) ≡ false)
+invariant-loop-at l = (l.at ≤ length l.text) × ((k : ℕ) → k < l.at → is_one_of l.marks (get_or l.text k 0) ≡ false)
 
 abbrev pub decreases-loop-at : goal.decreases-loop-at
 decreases-loop-at l = length l.text - l.at

@@ -1,7 +1,10 @@
-use Rattle.lp_events.proofs.lemmas.pull.EventSteps.{told_from_more}
+use Rattle.lp_events.specs.code.EventsLeft.{HasEventsLeft}
+use Rattle.lp_events.proofs.lemmas.events.LineEvents.{told_one, told_then}
 use Rattle.lp_events.proofs.pull.ParseEvents.tell.Goals as goal
 
 pub loop-event-preserved : goal.loop-event-preserved
 loop-event-preserved g c =
-    told_from_more g.S.EventSink.takes _ _ _ c.args.self c.loop-event.event-iterator c.next.new.self c.in-Some.event
-    c.loop-event.invariant c.in-Some.ensures.steps c.tell.ensures
+    let was = HasEventsLeft c.loop-event.event-iterator in
+    let now = HasEventsLeft c.next.new.self in
+    told_then g.S.EventSink.takes _ c.loop-event.sink _ (HasEventsLeft c.args.self) was now c.loop-event.invariant
+    (told_one g.S.EventSink.takes c.loop-event.sink c.loop-event.sink _ _ was now c.tell.ensures c.in-Some.ensures.steps)

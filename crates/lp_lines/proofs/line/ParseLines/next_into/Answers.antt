@@ -1,9 +1,7 @@
 use Rattle.std.proofs.Common.{rules, ◌≡◌, arith, max, true}
 use Rattle.lp_format.specs.code.Light.{inline_fields, inline_tags, is_light_in}
 use Rattle.lp_format.specs.format.Lines.{answer}
-use Rattle.lp_lines.specs.code.Lookups.{room_of}
-use Rattle.lp_lines.specs.code.Parsed.{FillsLine}
-use Rattle.lp_lines.specs.code.ReadInto.{item_in}
+use Rattle.lp_lines.specs.code.{Lookups.room_of, Parsed.FillsLine, ReadInto.item_in}
 use Rattle.lp_values.specs.code.Outcomes.{IsNotOutOfMemory}
 use Rattle.lp_lines.proofs.lemmas.line.AnsweredLines.{filled_answers, gave_item, item_is_no_refusal, more_room}
 use Rattle.lp_lines.proofs.line.ParseLines.next_into.Goals as goal

@@ -11,7 +11,7 @@ returns-in-Quiet c =
     let known : IsKnown (rules_of c.args.dialect) text (Quiet c.in-Quiet.n) = grind arith in
     all_quiet (rules_of c.args.dialect) text
     (still_last (rules_of c.args.dialect) text _ c.in-Quiet.n known.1 (take_rest text c.in-Quiet.n)
-    (c.has_newline.ensures.none c.if-not-has_newline.true))
+    (grind arith))
 
 pub returns-in-Within : goal.returns-in-Within
 returns-in-Within c =

@@ -1,7 +1,5 @@
 use Rattle.std.proofs.Common.{◌-◌, ◌∙◌, take, drop, sym, ap, arith, bytes_eq}
-use Rattle.std.proofs.lemmas.Grind.{common_steps}
-use Rattle.std.proofs.lemmas.Bool.Decides.{Decides-eqb}
-use Rattle.std.proofs.lemmas.Slice.Eq.{strip_prefix_is}
+use Rattle.std.proofs.lemmas.{Grind.common_steps, Bool.Decides.Decides-eqb, Slice.Eq.strip_prefix_is}
 use Rattle.lp_format.specs.format.{without_escapes}
 use Rattle.lp_scan.specs.code.{known_of}
 use Rattle.lp_values.proofs.lemmas.tokens.TokenLemmas.{nothing_left, nothing_same, other_front, same_after}

@@ -7,7 +7,7 @@ use Rattle.lp_split.proofs.split.tracked.Track.new.Goals as goal
 use Rattle.lp_format.specs.format.{space, tab}
 
 pub returns-in-Crate-clause-track : goal.returns-in-Crate-clause-track
-returns-in-Crate-clause-track c = (subst (λ (d : Dialect). NeverComment (rules_of d) []) (sym c.in-Crate.is) tt, first_place)
+returns-in-Crate-clause-track c = (subst (λ (d : Dialect). NeverComment (rules_of d) []) (sym c.in-Crate.is) tt, rw c.bare-place.ensures first_place)
 
 pub returns-in-Strict-clause-track : goal.returns-in-Strict-clause-track
-returns-in-Strict-clause-track c = (ap rules_of c.in-Strict.is, All-nil (λ b. (b ≡ space) ⊎ (b ≡ tab)), first_place)
+returns-in-Strict-clause-track c = (ap rules_of c.in-Strict.is, All-nil (λ b. (b ≡ space) ⊎ (b ≡ tab)), rw c.bare-place.ensures first_place)

@@ -1,13 +1,14 @@
 use Rattle.std.proofs.Common.{◌==◌, ◌∙◌, ℕ, ◌+◌, ap₂, sym, arith}
 use Rattle.std.proofs.lemmas.List.{take_rest}
+use Rattle.lp_format.specs.format.{newline}
 use Rattle.lp_split.proofs.lemmas.split.SplitSearches.{count_load, count_whole, load_at_most}
-use Rattle.lp_split.proofs.split.count_of.Goals as goal
+use Rattle.lp_split.proofs.split.newlines_in.Goals as goal
 
 pub loop-at-preserved : goal.loop-at-preserved
 loop-at-preserved c =
     let text = c.args.text.now in
     let l = c.loop-at in
-    let p = λ (b : ℕ). b == c.args.byte in
+    let p = λ (b : ℕ). b == newline in
     let more = count_load p text l.at c.places_of.result (omega arith) c.places_of.ensures in
     let few = load_at_most p text l.at c.places_of.result (omega arith) c.places_of.ensures in (
       omega (arith, few, c.ones_below-count.ensures),

@@ -1,7 +1,7 @@
 use Rattle.std.proofs.Common.{◌≡◌, ◌+◌, ◌≤◌, ◌++◌, length}
 use Rattle.lp_format.specs.format.Escapes.{escaped}
 use Rattle.lp_scan.specs.code.Tokens.{known_of}
-use Rattle.lp_build.proofs.builder.texts.put_runs.Given as goal
+use Rattle.lp_build.proofs.builder.texts.put_escaped.Given as goal
 
 -- what is written and what is left to write make the whole, and there is room for the latter
 abbrev pub invariant-loop-plain : goal.invariant-loop-plain

@@ -1,6 +1,33 @@
-//! A sink over a buffer of fixed length.
+//! A source that gives its bytes in parts, and a sink over a buffer of fixed length.
 
-use lp_rebuild::{DeviceFault, Failures, Sink};
+use lp_rebuild::{DeviceFault, Failures, Sink, Source};
+
+/// Bytes of which a read gives `len` at most.
+#[derive(Drop)]
+pub struct InParts<'a> {
+    left: &'a [u8],
+    len: usize,
+}
+
+impl<'a> InParts<'a> {
+    /// All of these bytes are left.
+    pub fn new(left: &'a [u8], len: usize) -> Self {
+        InParts { left, len }
+    }
+}
+
+impl Source for InParts<'_> {
+    ghost use Rattle.std.specs.Prelude.{None};
+
+    ghost bytes = { λ _. None };
+
+    ghost failures = { λ _. 0 };
+
+    fn read(&mut self, buf: &mut [u8]) -> Result<usize, DeviceFault> {
+        let len = self.len.min(buf.len());
+        self.left.read(&mut buf[..len])
+    }
+}
 
 /// A sink that fills a buffer, and fails if it is full.
 #[derive(Drop)]

@@ -1,0 +1,110 @@
+//! Tells fault lines, each on one line if that is asked for.
+//!
+//! A fault line is made as a rebuild makes it, and only then told: so the calls of `lp_rebuild` that refuse items serve for both
+//! forms, and a relay that refuses nothing pays one comparison for each line.
+ghost use Rattle.std.specs.Prelude.{◌≡◌, ◌<◌, ◌≤◌, ◌++◌, drop, length, string_bytes, take, IsUtf8, OnOk};
+ghost use Rattle.std.specs.List.{flat_map};
+ghost use Rattle.lp_relay_core.specs.Told.{hex_digit, on_one_line, told, told_byte};
+
+use lp_rebuild::batch::Progress;
+use std::alloc::AllocError;
+
+/// How a relay tells its fault lines.
+#[derive(Clone, Copy, Debug, PartialEq, Eq)]
+pub enum Faults {
+    /// As they are, with the text of the line that is at fault, which may have newlines.
+    Raw,
+    /// Each on one line, with Rust's escapes for what ASCII does not print: `\n`, `\t`, `\r`, `\\`, and `\x..` for each other byte. Of
+    /// a fault line of more than 200 bytes the first 200, and how many it has, as in `.. [1234 bytes]`.
+    OneLine,
+}
+
+// Of a fault line that is told on one line, so many bytes are told at most.
+const MOST_TOLD: usize = 200;
+
+// The hexadecimal digit of a number below 16.
+fn hex_digit(n: u8) -> char
+    requires { n < 16 }
+    ensures value { result ≡ hex_digit n }
+    ensures ascii { result < 128 }
+{
+    if n < 10 {
+        (b'0' + n) as char
+    } else {
+        (b'a' - 10 + n) as char
+    }
+}
+
+// Adds a byte as it is told on one line.
+fn tell_byte(faults: &mut String, byte: u8) -> Result<(), AllocError>
+    ensures { OnOk result (string_bytes faults.new ≡ string_bytes faults.old ++ told_byte byte) }
+{
+    match byte {
+        b'\n' => faults.push_str("\\n"),
+        b'\t' => faults.push_str("\\t"),
+        b'\r' => faults.push_str("\\r"),
+        b'\\' => faults.push_str("\\\\"),
+        b' '..=b'~' => faults.push(byte as char),
+        _ => {
+            faults.push_str("\\x")?;
+            faults.push(hex_digit(byte / 16))?;
+            faults.push(hex_digit(byte % 16))
+        }
+    }
+}
+
+// Adds bytes as they are told on one line.
+fn tell_bytes(faults: &mut String, bytes: &[u8]) -> Result<(), AllocError>
+    ensures { OnOk result (string_bytes faults.new ≡ string_bytes faults.old ++ flat_map told_byte bytes.now) }
+{
+    for at in 0..bytes.len() {
+        tell_byte(faults, bytes[at])?;
+    }
+    Ok(())
+}
+
+// Adds a text as it is told on one line.
+#[tactic(auto, using(crate::proofs::OneLine::told_whole, crate::proofs::OneLine::told_front))]
+fn tell_text(faults: &mut String, text: &[u8]) -> Result<(), AllocError>
+    ensures { OnOk result (string_bytes faults.new ≡ string_bytes faults.old ++ on_one_line text.now) }
+{
+    if text.len() <= MOST_TOLD {
+        return tell_bytes(faults, text);
+    }
+    let front = &text[..MOST_TOLD];
+    tell_bytes(faults, front)?;
+    write!(faults, ".. [{} bytes]", text.len())?;
+    Ok(())
+}
+
+// Tells on one line the fault line that follows the first bytes of these.
+#[cold]
+#[inline(never)]
+fn tell_on_one_line(faults: &mut String, from: usize) -> Result<(), AllocError>
+    requires front { IsUtf8 (take from (string_bytes faults.old)) }
+    requires some { from < length (string_bytes faults.old) }
+    ensures { OnOk result (string_bytes faults.new
+        ≡ take from (string_bytes faults.old) ++ told Faults.OneLine (drop from (string_bytes faults.old))) }
+{
+    let line = faults.split_off(from)?;
+    let bytes = line.as_bytes();
+    let text = &bytes[..bytes.len() - 1];
+    tell_text(faults, text)?;
+    faults.push('\n')
+}
+
+// Tells as the settings say the fault line that follows the first bytes, if there is one.
+#[inline(always)]
+pub(crate) fn tell(form: Faults, so_far: &mut Progress, from: usize) -> Result<(), AllocError>
+    requires front { IsUtf8 (take from (string_bytes so_far.old.faults)) }
+    requires within { from ≤ length (string_bytes so_far.old.faults) }
+    ensures faults { OnOk result (string_bytes so_far.new.faults
+        ≡ take from (string_bytes so_far.old.faults) ++ told form (drop from (string_bytes so_far.old.faults))) }
+    ensures others { (so_far.new.batch ≡ so_far.old.batch) × (so_far.new.line ≡ so_far.old.line)
+        × (so_far.new.carried ≡ so_far.old.carried) × (so_far.new.refused ≡ so_far.old.refused) }
+{
+    match form {
+        Faults::OneLine if from < so_far.faults.len() => tell_on_one_line(&mut so_far.faults, from),
+        _ => Ok(()),
+    }
+}
