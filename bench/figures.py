@@ -29,10 +29,20 @@ CALLERS = {
     "lp_rebuild": "C, `lp_rebuild`",
     "rust parse": "Rust, `parse_lines`",
     "rust rebuild": "Rust, read and built",
-    "python parse": "Python, `parse`",
-    "python rebuild": "Python, `rebuild`",
 }
-"""The calls from other languages, in the same way."""
+"""The calls from C and Rust, in the same way."""
+
+PYTHON = {
+    "python parse": "`parse`",
+    "python columns": "`columns`",
+    "python to_frame": "`to_frame`",
+    "python rebuild": "`rebuild`",
+    "python write_many": "`write_many`",
+    "python write_columns": "`write_columns`",
+    "python influxdb": "`influxdb`, `make_lines`",
+    "python aioinflux": "`aioinflux`, `serialize`",
+}
+"""The calls from Python, of this package and of two others, in the same way."""
 
 STREAMS = {
     "stream": "`LineStream`",
@@ -58,6 +68,8 @@ BESIDE = {
     "rust split": "crate split",
     "rust rebuild": "crate rebuild",
     "rust build": "crate build",
+    "python write_many": "aioinflux",
+    "python write_columns": "aioinflux",
 }
 """The call that a call is compared with, where its name is another."""
 

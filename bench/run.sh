@@ -7,11 +7,11 @@
 #                          and parts.tsv
 #
 # CARGO_FLAGS: more words for cargo, as where the crate lies if crates.io is out of reach.
-# PYTHON: python3 by default.
+# PYTHON: python3 by default. Debian's own has NumPy, pandas, influxdb and aioinflux, if they are installed.
 # ROUNDS: how often both take turns, 3 by default; the best round of each counts.
 # SEED, SIZE: of the corpora, `bench` and 16000000 bytes by default. CORPORA: the folder to make them in, and keep.
-# FIGURES, CALLERS, STREAMS: where the figures are written, by default bench/figures.tsv, bench/callers.tsv and
-# bench/streams.tsv, and nowhere if files are given.
+# FIGURES, CALLERS, PYTHONS, STREAMS: where the figures are written, by default bench/figures.tsv, bench/callers.tsv,
+# bench/python.tsv and bench/streams.tsv, and nowhere if files are given.
 set -eu
 here=$(cd "$(dirname "$0")" && pwd)
 . "$here/../launch.sh"
@@ -21,11 +21,13 @@ trap 'rm -rf "$built"' EXIT
 
 figures=${FIGURES:-$here/figures.tsv}
 callers=${CALLERS:-$here/callers.tsv}
+pythons=${PYTHONS:-$here/python.tsv}
 streams=${STREAMS:-$here/streams.tsv}
 corpora="files that were given"
 if [ $# -gt 0 ] || [ -n "${COUNT:-}" ]; then
     figures=${FIGURES:-$built/figures.tsv}
     callers=${CALLERS:-$built/callers.tsv}
+    pythons=${PYTHONS:-$built/python.tsv}
     streams=${STREAMS:-$built/streams.tsv}
 else
     corpora="seed ${SEED:-bench}, ${SIZE:-16000000} bytes each"
@@ -85,10 +87,10 @@ take_turns() {
     take_turn callers "" "$built/c" "$@"
     take_turn callers "rust " "$built/rust/target/release/lp_bench_crate" "$@"
     if [ $# -gt 0 ]; then
-        PYTHONPATH=$built/package "${PYTHON:-python3}" "$here/python.py" "$@" >> "$built/callers.rows"
+        PYTHONPATH=$built/package "${PYTHON:-python3}" "$here/python.py" "$@" >> "$built/python.rows"
     fi
 }
-touch "$built"/{figures,crate,callers,streams}.rows
+touch "$built"/{figures,crate,callers,python,streams}.rows
 for _ in $(seq "${ROUNDS:-3}"); do
     for file in "$@"; do
         take_turns "$file"
@@ -104,5 +106,7 @@ notes=(
     "$(rt version | head -n 1), $(rustc --version 2> "$built/rustc.log" || echo 'no rustc')"
 )
 python3 "$here/figures.py" "$built/figures.rows" "$built/crate.rows" "$figures" "${notes[@]}"
-python3 "$here/figures.py" "$built/callers.rows" "$built/beside.rows" "$callers" "${notes[@]}" "$("${PYTHON:-python3}" --version)"
+python3 "$here/figures.py" "$built/callers.rows" "$built/beside.rows" "$callers" "${notes[@]}"
+sed -n 's/^python aioinflux/aioinflux/p' "$built/python.rows" > "$built/aioinflux.rows"
+python3 "$here/figures.py" "$built/python.rows" "$built/aioinflux.rows" "$pythons" "${notes[@]}" "$("${PYTHON:-python3}" --version)"
 python3 "$here/figures.py" "$built/streams.rows" "$built/beside.rows" "$streams" "${notes[@]}"

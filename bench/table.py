@@ -1,5 +1,5 @@
 #!/usr/bin/env python3
-"""Writes the tables of figures.tsv, figures_avx512.tsv, callers.tsv, streams.tsv, instructions.tsv and parts.tsv into
+"""Writes the tables of figures.tsv, figures_avx512.tsv, callers.tsv, python.tsv, streams.tsv, instructions.tsv and parts.tsv into
 README.md, each between its two marks.
 
     bench/table.py
@@ -8,11 +8,11 @@ README.md, each between its two marks.
 import sys
 from pathlib import Path
 
-from figures import CALLERS, CALLS, STREAMS, Figure, read
+from figures import CALLERS, CALLS, PYTHON, STREAMS, Figure, read
 
 BEGIN = "<!-- The table of {}, as table.py writes it. -->"
 END = "<!-- The end of the table. -->"
-TABLES = {"figures.tsv": CALLS, "figures_avx512.tsv": CALLS, "callers.tsv": CALLERS, "streams.tsv": STREAMS}
+TABLES = {"figures.tsv": CALLS, "figures_avx512.tsv": CALLS, "callers.tsv": CALLERS, "python.tsv": PYTHON, "streams.tsv": STREAMS}
 """The files, and the names of the calls in each."""
 
 COUNTED = ("instructions.tsv", "parts.tsv")

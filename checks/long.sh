@@ -2,8 +2,8 @@
 # What takes long and is run by hand, beside the test command:
 #
 #   checks/long.sh [SECONDS]    what is installed; the tables of docs/INTEROP.md; relays by Slurm and by ssh; columns by Dask; the
-#                               fuzzer for so many seconds, 600 if none are given; and a million generated texts, compared with the
-#                               Rust crate
+#                               tests of the Python package under the address sanitizer; the fuzzer for so many seconds, 600 if
+#                               none are given; and a million generated texts, compared with the Rust crate
 set -eu
 here=$(cd "$(dirname "$0")" && pwd)
 "$here/dist.sh"
@@ -11,5 +11,6 @@ here=$(cd "$(dirname "$0")" && pwd)
 "$here/interop.sh" "$here/../crates/lp_relay/out/lp_relay"
 "$here/engines.sh" "$here/../crates/lp_relay/out/lp_relay"
 "$here/dask.sh"
+WATCHED=1 "$here/../bindings/python/test.sh"
 "$here/fuzz.sh" "${1:-600}"
 "$here/differential.sh" 1000000

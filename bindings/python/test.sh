@@ -10,7 +10,8 @@
 #     bindings/python/test.sh ARCHIVE     takes one that was made before
 #
 # PYTHON is the Python that runs them: python3 by default. If it lacks NumPy or pandas, and Debian's own Python has it, that runs the
-# same tests over the same package.
+# same tests over the same package. If WATCHED is set, the tests alone are run, with the extension compiled for the address sanitizer,
+# and with each request of Python for memory one of the C library, so that the sanitizer sees it.
 set -eu
 here=$(cd "$(dirname "$0")" && pwd)
 bindings=$(dirname "$here")
@@ -39,6 +40,12 @@ export ARCHIVE LP_RELAY PYTHONDONTWRITEBYTECODE=1
 built=$(mktemp -d)
 trap 'rm -rf "$built"' EXIT
 cd "$built"
+watched=(env)
+if [ -n "${WATCHED:-}" ]; then
+    export CFLAGS="${CFLAGS:-} -g -fsanitize=address"
+    watched=(env "LD_PRELOAD=$("${CC:-cc}" -print-file-name=libasan.so)" PYTHONMALLOC=malloc
+        ASAN_OPTIONS=detect_leaks=0:allocator_may_return_null=1)
+fi
 CFLAGS="${CFLAGS:-} -Werror" "$python" "$here/build_backend.py" "$built/package"
 "$python" "$here/build_backend.py" "$built/refusing" --refuse
 # Prints which of NumPy and pandas a Python has.
@@ -52,7 +59,7 @@ extras_of() {
 # Runs the tests by a Python that has these of NumPy and pandas.
 run_tests() {
     local python=$1 extras=$2
-    if ! LP_REFUSED_LIBRARY=$built/refusing PYTHONPATH=$built/package "$python" -m unittest discover -s "$here/tests" \
+    if ! LP_REFUSED_LIBRARY=$built/refusing PYTHONPATH=$built/package "${watched[@]}" "$python" -m unittest discover -s "$here/tests" \
         >"$built/answers" 2>"$built/said" || ! grep -q '^Ran [1-9]' "$built/said" || ! grep -q '^answers.tsv: ' "$built/answers"; then
         cat "$built/said" >&2
         exit 1
@@ -73,6 +80,10 @@ for extra in numpy pandas; do
     fi
 done
 
+if [ -n "${WATCHED:-}" ]; then
+    echo "python: the extension was watched by the address sanitizer"
+    exit 0
+fi
 if command -v mypy >/dev/null; then
     if ! (cd "$here/src" && mypy --strict --cache-dir "$built/mypy" -p line_protocol >"$built/said" 2>&1); then
         cat "$built/said" >&2
