@@ -14,6 +14,57 @@ static const char *const TEXTS[] = {
     "m,host=a\\ b value=1,message=\"a long text that goes on, and on = and on,\n, up to its end\",other=2 1234567890\nn f=1",
 };
 
+// [cuts_in_c]
+/* Hands on each piece of a file that has less than `room` bytes, read into the buffer of so many; the others are passed over. */
+static void each_piece(FILE *file, uint8_t *buffer, size_t room, void (*take)(const uint8_t *piece, size_t len)) {
+    lp_cuts cuts = LP_NO_CUTS;
+    size_t held = 0, cut = 0, got; /* so many bytes of the piece that goes on are at the start of the buffer */
+    lp_cuts_begin(false, room - 1, &cuts);
+    while ((got = fread(buffer + held, 1, room - held, file)) > 0) {
+        size_t start = 0, at = held, end = held + got;
+        while (at < end) {
+            uint32_t answer = lp_cuts_next(&cuts, buffer + at, end - at, &cut);
+            at += cut;
+            if (answer == LP_PIECE) take(buffer + start, at - start);
+            if (at < end) start = ++at; /* after the newline */
+            else if (answer == LP_TOO_LONG) start = at; /* nothing of it is kept */
+        }
+        held = end - start;
+        memmove(buffer, buffer + start, held);
+    }
+    if (cuts.len < room) take(buffer, held); /* the last one, which no newline ends */
+}
+// [end]
+
+static size_t pieces_taken, bytes_taken;
+
+static void count_piece(const uint8_t *piece, size_t len) {
+    (void)piece;
+    pieces_taken++;
+    bytes_taken += len;
+}
+
+/* Whether a buffer of so many bytes gives each piece of a file that is shorter, and no other. */
+static bool reads_file(const char *text, size_t room) {
+    lp_lines lines = LP_NO_LINES;
+    lp_view piece = LP_NO_VIEW;
+    size_t pieces = 0, bytes = 0;
+    uint8_t *buffer = malloc(room);
+    FILE *file = tmpfile();
+    if (!file || !lp_lines_begin((const uint8_t *)text, strlen(text), false, &lines)) return false;
+    while (lp_lines_piece(&lines, &piece)) {
+        pieces += piece.text.len < room;
+        bytes += piece.text.len < room ? piece.text.len : 0;
+    }
+    fputs(text, file);
+    rewind(file);
+    pieces_taken = bytes_taken = 0;
+    each_piece(file, buffer, room, count_piece);
+    fclose(file);
+    free(buffer);
+    return pieces_taken == pieces && bytes_taken == bytes;
+}
+
 /* Finds the place of each cut of a text that is handed in by so many bytes at once, and gives how many there are. Each part is a
  * block of just its length, so that the address sanitizer sees what is touched past it. */
 static size_t cut_in_parts(const char *text, size_t len, size_t most, bool strict, size_t *places) {
@@ -93,7 +144,8 @@ static bool is_safe_forged(void) {
 int main(void) {
     size_t count = sizeof TEXTS / sizeof *TEXTS;
     for (size_t n = 0; n < count; n++) {
-        if (equals_whole(TEXTS[n], false) && equals_whole(TEXTS[n], true)) continue;
+        bool is_read = reads_file(TEXTS[n], 1) && reads_file(TEXTS[n], 8) && reads_file(TEXTS[n], 200);
+        if (is_read && equals_whole(TEXTS[n], false) && equals_whole(TEXTS[n], true)) continue;
         printf("the parts of text %zu are not cut as the whole", n);
         return 1;
     }

@@ -110,7 +110,8 @@ impl<R: BufRead> LineReader<R> {
 
     /// The next piece, lent until the next call, or the error in its place; `None` once the last piece was given.
     ///
-    /// It asks for memory only if a piece is longer than those before it.
+    /// It asks for memory only if a piece is longer than those before it. It panics if a piece has more bytes than a `usize` may
+    /// hold, which takes a limit and 2^64 bytes.
     pub fn next_line(&mut self) -> Option<Result<&str, LineError>> {
         if mem::take(&mut self.is_given) {
             self.held.clear();
