@@ -32,9 +32,9 @@ def of_rust():
     for name, body in re.findall(r"struct (\w+) \{(.*?)\}", text):
         fields = [field for field in re.findall(r"(\w+): ([^,]+),", body) if "PhantomData" not in field[1]]
         structs[c_name(name)] = [(rust_type(kind), WORDS.get(field, field)) for field, kind in fields]
-    for name, inner, result in re.findall(r"fn (lp_\w+)\((.*?)\) -> (\w+);", text):
+    for name, inner, result in re.findall(r"fn (lp_\w+)\((.*?)\)(?: -> (\w+))?;", text):
         kinds = [part.split(":", 1)[1].strip() for part in inner.split(",") if ":" in part]
-        calls[name] = (SCALARS[result], [rust_type(kind) for kind in kinds])
+        calls[name] = (SCALARS[result] if result else "void", [rust_type(kind) for kind in kinds])
     return enums, structs, calls
 
 

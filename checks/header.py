@@ -70,9 +70,9 @@ def of_source():
     for name, body in re.findall(r"pub struct (\w+) \{(.*?)\}", text):
         fields = re.findall(r"pub (\w+): ([^,]+),", body)
         structs[c_name(name)] = [one for n, k in fields for one in field_types(n, k.strip())]
-    for name, inner, result in re.findall(r'pub extern "C" fn (\w+)\((.*?)\) -> (\w+)', text):
+    for name, inner, result in re.findall(r'pub extern "C" fn (\w+)\((.*?)\)(?: -> (\w+))?', text):
         kinds = [part.split(":", 1)[1].strip() for part in inner.split(",") if ":" in part]
-        calls[name] = (SCALARS[result], [one for kind in kinds for one in parameter_types(kind)])
+        calls[name] = (SCALARS[result] if result else "void", [one for kind in kinds for one in parameter_types(kind)])
     return enums, structs, calls
 
 

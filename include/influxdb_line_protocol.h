@@ -29,7 +29,10 @@ enum lp_answer {
     LP_OUT_OF_MEMORY = 5, /* a request for memory was refused */
     LP_NOT_A_LINE = 6,    /* what was handed in is no line */
     LP_WRITTEN = 7,       /* what was asked for was written */
-    LP_NOT_UTF8 = 8       /* the text is no UTF-8 */
+    LP_NOT_UTF8 = 8,      /* the text is no UTF-8 */
+    LP_PIECE = 9,         /* a newline of the text ends the piece */
+    LP_MORE_TEXT = 10,    /* no newline of the text ends the piece: it goes on in the text that comes */
+    LP_TOO_LONG = 11      /* the piece has more bytes than it may have */
 };
 
 /* What a part is. */
@@ -102,6 +105,19 @@ typedef struct lp_row { lp_line line; size_t parts_at; uint32_t answer; } lp_row
 /* What is left of a text: a cursor. Copy it to come back to where it was. */
 typedef struct lp_lines { lp_text rest; bool ended; bool strict; } lp_lines;
 
+/* A search for cuts: what it knows of the bytes of the piece that came so far. lp_cuts_begin fills it. `limit`, `len` and `strict`
+ * are for you to read; what the others hold is the library's. Copy it to come back to where it was. */
+typedef struct lp_cuts {
+    size_t limit; /* so many bytes a piece may have */
+    size_t len;   /* so many bytes of the piece came so far */
+    size_t equals;
+    size_t commas;
+    uint32_t begins;
+    uint32_t part;
+    bool escaped;
+    bool strict;
+} lp_cuts;
+
 /* How much was rebuilt. */
 typedef struct lp_counts {
     size_t batch_len;  /* so many bytes the lines take that are written again */
@@ -116,6 +132,7 @@ typedef struct lp_counts {
 #define LP_EMPTY_LINE { LP_NO_TEXT, LP_NO_VIEW, LP_NO_TEXT, 0, 0, 0, 0, 0, 0, false, false }
 #define LP_EMPTY_ROW { LP_EMPTY_LINE, 0, 0 }
 #define LP_NO_LINES { LP_NO_TEXT, true, false }
+#define LP_NO_CUTS { SIZE_MAX, 0, 0, 0, 0, 0, false, false }
 
 /* The same for what sees no initializers, as cgo and bindgen: bindings/c/empty.c has these. */
 extern const lp_text lp_no_text;
@@ -123,6 +140,7 @@ extern const lp_view lp_no_view;
 extern const lp_line lp_empty_line;
 extern const lp_row lp_empty_row;
 extern const lp_lines lp_no_lines;
+extern const lp_cuts lp_no_cuts;
 extern const lp_part lp_empty_part;
 
 /* Empties parts that were never written. */
@@ -156,6 +174,25 @@ uint32_t lp_lines_block(lp_lines *lines, lp_room *room, lp_row *rows, size_t row
 
 /* Takes the next piece of the text, as the splitter cuts it, not parsed. False: none is left, and `lines` is as it was. */
 bool lp_lines_piece(lp_lines *lines, lp_view *piece);
+
+/* A text that comes in parts is cut into its pieces by a search, which keeps no byte of it: what it must know is in an lp_cuts of
+ * yours. Each byte is handed in once, in order, in parts that may end anywhere, and need not be UTF-8. */
+
+/* Begins a search by the rules of the strict dialect or else of the Rust crate, in a text whose pieces may have `limit` bytes; with
+ * SIZE_MAX no piece is too long. */
+void lp_cuts_begin(bool strict, size_t limit, lp_cuts *cuts);
+
+/* Searches the `len` bytes at `text`, which come after those that were searched before. It asks for no memory, and passes each byte
+ * a few times at most. What it finds is where lp_lines_piece cuts the whole text, whatever comes after it.
+ * LP_PIECE: the byte at `cut` is the newline that ends the piece, which is what came since the last cut. Go on with the byte after
+ * it: hand in the rest.
+ * LP_MORE_TEXT: no newline of these bytes ends the piece, and `cut` is `len`: keep them, and hand in what comes. If nothing does,
+ * what you keep is the last piece.
+ * LP_TOO_LONG: the piece has more than `limit` bytes. If `cut` is less than `len`, the byte there is the newline that ends it, and
+ * you go on with the byte after it; else it goes on, and you need not keep its bytes.
+ * LP_OUT_OF_MEMORY: no size_t may hold how many bytes the piece has; nothing is changed.
+ * A search that lp_cuts_begin did not fill is safe, but finds cuts where there are none. */
+uint32_t lp_cuts_next(lp_cuts *cuts, const uint8_t *text, size_t len, size_t *cut);
 
 /* Writing. A line is handed in as it was read, or as you make it: `measurement`; `tags` and `fields`, with so many tags and
  * then so many fields in `parts`, which may hold more; `has_tag_set`, which is set where there are tags; `timestamp`, where

@@ -73,7 +73,8 @@ own=$(LP_ANSWERS=$here/../../crates/lp_answers/data/answers.tsv try -- --show-ou
 answers=$(grep '^answers.tsv: ' "$built/log")
 # shellcheck disable=SC2086
 if ! (cd "$built/crate" && cargo run -q --example lines $flags) >"$built/printed" 2>"$built/log" ||
-    ! printf 'disk usage at None\na fault: No fields were provided\n' | diff - "$built/printed"; then
+    ! printf '%s\n' 'disk usage at None' 'a fault: No fields were provided' '"cpu note=\"a\nb\" 1"' '"cpu usage=64i 2"' |
+        diff - "$built/printed"; then
     cat "$built/log" >&2
     echo "rust: the example does not print its items" >&2
     exit 1

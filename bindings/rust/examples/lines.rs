@@ -13,4 +13,18 @@ fn main() {
         }
     }
     // [end]
+    print_pieces().expect("a slice can be read");
+}
+
+fn print_pieces() -> Result<(), influxdb_line_protocol::LineError> {
+    // [reader_in_rust]
+    use influxdb_line_protocol::LineReader;
+
+    let input = "cpu note=\"a\nb\" 1\ncpu usage=64i 2";
+    let mut lines = LineReader::new(std::io::BufReader::with_capacity(8, input.as_bytes()));
+    while let Some(line) = lines.next_line() {
+        println!("{:?}", line?);
+    }
+    // [end]
+    Ok(())
 }

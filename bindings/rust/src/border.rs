@@ -10,6 +10,7 @@ pub(crate) mod answer {
     pub(crate) const MORE_ROOM: u32 = 4;
     pub(crate) const OUT_OF_MEMORY: u32 = 5;
     pub(crate) const WRITTEN: u32 = 7;
+    pub(crate) const TOO_LONG: u32 = 11;
 }
 
 /// What a part is.
@@ -171,6 +172,41 @@ impl<'a> Lines<'a> {
     }
 }
 
+/// A search for cuts.
+#[repr(C)]
+#[derive(Clone, Copy, Debug)]
+pub(crate) struct Cuts {
+    limit: usize,
+    len: usize,
+    equals: usize,
+    commas: usize,
+    begins: u32,
+    part: u32,
+    escaped: bool,
+    strict: bool,
+}
+
+impl Cuts {
+    /// A search in a text whose pieces may have so many bytes.
+    pub(crate) fn begin(strict: bool, limit: usize) -> Self {
+        let mut cuts =
+            Cuts { limit: 0, len: 0, equals: 0, commas: 0, begins: 0, part: 0, escaped: false, strict: false };
+        // SAFETY: the pointer is that of a borrow.
+        unsafe { lp_cuts_begin(strict, limit, &mut cuts) };
+        cuts
+    }
+
+    /// The answer for the bytes that come next, and how many of them are of the piece: of what comes after these, the first one
+    /// is the newline that ends it.
+    pub(crate) fn next(&mut self, text: &[u8]) -> (u32, usize) {
+        let mut cut = 0;
+        // SAFETY: each pointer is that of a borrow, and `cut` is apart from the others.
+        let answer = unsafe { lp_cuts_next(self, text.as_ptr(), text.len(), &mut cut) };
+        assert_ne!(answer, answer::OUT_OF_MEMORY, "a piece has more bytes than a usize may hold");
+        (answer, cut)
+    }
+}
+
 /// A call that puts a text out.
 pub(crate) type PutOut =
     unsafe extern "C" fn(*const Line<'_>, *const Part<'_>, usize, *mut u8, usize, *mut usize) -> u32;
@@ -186,6 +222,8 @@ extern "C" {
         filled: *mut usize,
     ) -> u32;
     pub(crate) fn lp_lines_piece<'a>(lines: *mut Lines<'a>, piece: *mut View<'a>) -> bool;
+    fn lp_cuts_begin(strict: bool, limit: usize, cuts: *mut Cuts);
+    fn lp_cuts_next(cuts: *mut Cuts, text: *const u8, len: usize, cut: *mut usize) -> u32;
     pub(crate) fn lp_line_show(
         line: *const Line<'_>,
         parts: *const Part<'_>,

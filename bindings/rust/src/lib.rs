@@ -2,6 +2,7 @@
 //! `influxdb-line-protocol` 2.0.0 over the static library `lp_c`.
 //!
 //! - [`parse_lines`] reads a text line by line, [`split_lines`] cuts it.
+//! - [`LineReader`] cuts what a reader gives, as it comes.
 //! - [`LineProtocolBuilder`] writes lines.
 //!
 //! [InfluxDB line protocol]: https://docs.influxdata.com/influxdb/v2.0/reference/syntax/line-protocol
@@ -14,10 +15,12 @@ mod escaped;
 #[cfg(not(lp_heap))]
 mod heap;
 mod line;
+mod reader;
 mod reading;
 
 pub use builder::LineProtocolBuilder;
 pub use error::{Error, Result};
 pub use escaped::EscapedStr;
 pub use line::{FieldSet, FieldValue, Measurement, ParsedLine, Series, TagSet};
+pub use reader::{Dialect, LineError, LineReader};
 pub use reading::{parse_lines, split_lines};

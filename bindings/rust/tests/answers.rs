@@ -1,10 +1,11 @@
 //! The rows of crates/lp_answers/data/answers.tsv, compared with what this crate gives for their texts, in its dialect. The head of
 //! that table says how a row is spelled, and what each kind asks. `LP_ANSWERS` names the table, if this crate is a copy.
-use influxdb_line_protocol::{parse_lines, split_lines, Error, EscapedStr, FieldValue, ParsedLine};
+use influxdb_line_protocol::{parse_lines, split_lines, Dialect, Error, EscapedStr, FieldValue, LineReader, ParsedLine};
 use std::{
     borrow::Cow,
     collections::BTreeMap,
     env, fs,
+    io::BufReader,
     num::{IntErrorKind, ParseIntError},
 };
 
@@ -103,6 +104,12 @@ fn base(text: &str) -> String {
     }
 }
 
+// The pieces of a text that is read by three bytes at once.
+fn pieces_in_parts(text: &str, dialect: Dialect) -> String {
+    let reader = BufReader::with_capacity(3, text.as_bytes());
+    LineReader::new_in(reader, dialect, usize::MAX).map(|piece| format!("<{}>", piece.expect("it is a text"))).collect()
+}
+
 // What this crate gives for a text, or `None` if no call gives it.
 fn answer(kind: &str, text: &str) -> Option<String> {
     Some(match kind {
@@ -142,7 +149,13 @@ fn each_row_has_its_answer() {
         };
         assert_eq!(given, if kind == "items" { with_numbers(&wanted) } else { wanted }, "{row}");
         *compared.entry(kind).or_insert(0) += 1;
-        strict += cells.len() - 3;
+        if kind != "pieces" {
+            strict += cells.len() - 3;
+            continue;
+        }
+        for (wanted, dialect) in cells[2..].iter().zip([Dialect::Crate, Dialect::Strict]) {
+            assert_eq!(pieces_in_parts(&text_of(cells[1]), dialect), text_of(wanted), "{row}");
+        }
     }
     let (compared, passed_over) = (told(&table, &compared), told(&table, &passed_over));
     println!("answers.tsv: compared {compared}; passed over {passed_over}, and {strict} answers in the strict dialect");

@@ -54,6 +54,9 @@ line_own read room Answer.OutOfMemory line xs own item is h = absurd h
 line_own read room Answer.NotALine line xs own item is h = absurd h
 line_own read room Answer.Written line xs own item is h = absurd h
 line_own read room Answer.NotUtf8 line xs own item is h = absurd h
+line_own read room Answer.Piece line xs own item is h = absurd h
+line_own read room Answer.MoreText line xs own item is h = absurd h
+line_own read room Answer.TooLong line xs own item is h = absurd h
 
 -- the same of any item
 item_own : (item : Option (Result format.Line Fault)) (room : ℕ) (answer : Answer) (line : Line) (xs : List Part) (own : ℕ)

@@ -1,5 +1,6 @@
 pub mod BlockLemmas
 pub mod CursorLemmas
+pub mod CutLemmas
 pub mod FillLemmas
 pub mod FloatLemmas
 pub mod TextLemmas

@@ -1,5 +1,6 @@
 pub mod Blocks
 pub mod Crossing
+pub mod Cutting
 pub mod Handed
 pub mod Messages
 pub mod Numbers

@@ -16,6 +16,9 @@ answer_number Answer.OutOfMemory = 5
 answer_number Answer.NotALine = 6
 answer_number Answer.Written = 7
 answer_number Answer.NotUtf8 = 8
+answer_number Answer.Piece = 9
+answer_number Answer.MoreText = 10
+answer_number Answer.TooLong = 11
 
 -- the number of what a part is
 abbrev pub kind_number : Kind → ℕ

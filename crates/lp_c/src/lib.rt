@@ -5,6 +5,7 @@
 #![tactic(auto)]
 
 mod blocks;
+mod cuts;
 mod handed;
 mod lent;
 mod messages;

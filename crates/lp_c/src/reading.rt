@@ -37,7 +37,7 @@ pub extern "C" fn lp_lines_begin<'a>(text: &'a [u8], strict: bool, lines: &mut L
 }
 
 // The dialect that a cursor names.
-fn dialect_of(strict: bool) -> Dialect
+pub(crate) fn dialect_of(strict: bool) -> Dialect
     ensures { rules_of result ≡ dialect_of strict }
 {
     if strict {

@@ -101,6 +101,12 @@ pub enum Answer {
     Written = 7,
     /// The text is no UTF-8.
     NotUtf8 = 8,
+    /// A newline of the text ends the piece.
+    Piece = 9,
+    /// No newline of the text ends the piece: it goes on in the text that comes.
+    MoreText = 10,
+    /// The piece has more bytes than it may have, whether a newline of the text ends it or not.
+    TooLong = 11,
 }
 
 impl Answer {

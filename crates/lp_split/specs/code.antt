@@ -11,6 +11,6 @@ pub use Stops.{is_stop, IsBarePassed}
 pub use Ahead.{IsAhead, AreSeen}
 pub use Tracks.{IsCountOf, EndsIn, IsPlace, Steps, NeverComment, IsTrackOf, Leads, LeadsTo, most_counted, TracksOn, Part, Head, Plain}
 pub use Tracks.{Quoted, Place, Track, Comment, Blanks, Line}
-pub use Searches.{IsKnown, IsHeldAt, FindsCut, SearchesOn}
+pub use Searches.{IsKnown, IsHeldAt, FindsCut, SearchesOn, CutsOrTracks}
 pub use Streams.{Held, TakesPiece, GivesCut, GivesCutText, GivesLast, GivesLastText}
 pub use Bounded.{HeldWithin, IsTooLong, CutsTo, HoldsBy, Holds, kept, most_given, KeepsRules, FindsWithin, GivesWithin, GivesLastWithin}

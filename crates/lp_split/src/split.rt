@@ -18,9 +18,10 @@ use std::simd::prelude::*;
 mod resumed;
 mod tracked;
 
-use resumed::{Part, cut_after};
+use resumed::cut_after;
+pub use resumed::{Part, cut_or_track};
 pub(crate) use resumed::{Search, search_on};
-pub(crate) use tracked::{Track, track_on};
+pub use tracked::{Place, Track, track_on};
 
 // How many bytes are looked at by wide loads, if they show nothing, before `memchr` searches on.
 const NEAR: usize = 320;

@@ -5,7 +5,7 @@ use Rattle.lp_split.specs.declared.split.Mark.{Mark}
 use Rattle.lp_split.specs.declared.split.resumed.Search.{Search}
 use Rattle.lp_split.specs.declared.split.resumed.Search.TheVariants.{Begins, Quiet, Within}
 use Rattle.lp_split.specs.code.Ahead.{AreSeen}
-use Rattle.lp_split.specs.code.Tracks.{IsTrackOf, most_counted}
+use Rattle.lp_split.specs.code.Tracks.{IsTrackOf, most_counted, Track}
 
 -- what a search knows of a text: the marks that were seen at its start, that its first bytes hold no cut, or their track
 abbrev pub IsKnown : Dialect → List ℕ → Search → Type 0
@@ -26,3 +26,8 @@ FindsCut dialect text (Some cut) = IsFirstCut dialect text (Some cut.at) × AreS
 abbrev pub SearchesOn : Dialect → List ℕ → Result Mark Search → Type 0
 SearchesOn dialect text (Ok cut) = FindsCut dialect text (Some cut)
 SearchesOn dialect text (Err search) = IsLastPiece dialect text × IsKnown dialect text search
+
+-- the first cut of a text was found, or the track of all its bytes, since it is one piece
+abbrev pub CutsOrTracks : Dialect → List ℕ → Result ℕ Track → Type 0
+CutsOrTracks dialect text (Ok at) = IsFirstCut dialect text (Some at)
+CutsOrTracks dialect text (Err track) = IsTrackOf dialect text track × (most_counted track ≤ length text)

@@ -7,16 +7,19 @@
 ghost use Rattle.std.specs.Prelude.{◌≤◌, Some, length, take};
 ghost use Rattle.lp_format.specs.format.{IsBareAfter, IsFirstCut};
 ghost use Rattle.lp_format.specs.format.Dialects as dialects;
-ghost use Rattle.lp_split.specs.code.{rules_of, EndsIn, IsKnown, SearchesOn, IsTrackOf, most_counted};
+ghost use Rattle.lp_split.specs.code.{rules_of, CutsOrTracks, EndsIn, IsKnown, SearchesOn, IsTrackOf, most_counted};
 
 use super::tracked::Place;
 use super::{Dialect, Mark, Track, first_cut, first_newline, late_cut, track_on};
 
 /// A part of a piece, by what ends its stretches.
 #[derive(Clone, Copy)]
-pub(crate) enum Part {
+pub enum Part {
+    /// What comes before the first bare space: the measurement and the tags.
     Head,
+    /// Fields and what follows them, outside of quotes.
     Plain,
+    /// What is between the quotes of a string.
     Quoted,
 }
 
@@ -67,6 +70,19 @@ pub(super) fn cut_after(
     match cut_from(text, at, Track::Line(Place::bare(part, equals, commas))) {
         Ok(cut) => Some(cut.at),
         Err(_) => None,
+    }
+}
+
+/// The place of the newline that ends the first piece of a text; or the track of all its bytes, if it is one piece.
+///
+/// If the piece goes on, [`track_on`] searches the bytes that come after these. No memory is taken.
+#[tactic(auto, using(crate::proofs::lemmas::split::TrackedPieces::tracks_all))]
+pub fn cut_or_track(dialect: Dialect, text: &[u8]) -> Result<usize, Track>
+    ensures { CutsOrTracks (rules_of dialect) text.now result }
+{
+    match first_cut(dialect, text, 0) {
+        Some(cut) => Ok(cut.at),
+        None => track_on(text, Track::new(dialect)),
     }
 }
 

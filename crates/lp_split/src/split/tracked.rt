@@ -10,11 +10,15 @@ use lp_scan::scan::{WIDE, ones_below};
 /// A place in a piece: in which part it is, whether its byte is escaped, and how many bare `=` and `,` the plain
 /// stretches before it hold.
 #[derive(Clone, Copy)]
-pub(crate) struct Place {
-    part: Part,
-    is_escaped: bool,
-    equals: usize,
-    commas: usize,
+pub struct Place {
+    /// The part.
+    pub part: Part,
+    /// Whether a bare backslash comes before it.
+    pub is_escaped: bool,
+    /// How many bare `=` the plain stretches before it hold.
+    pub equals: usize,
+    /// How many bare `,` they hold.
+    pub commas: usize,
 }
 
 impl Place {
@@ -34,7 +38,7 @@ impl Place {
 
 /// What the bytes of a piece so far tell.
 #[derive(Clone, Copy)]
-pub(crate) enum Track {
+pub enum Track {
     /// They begin a comment.
     Comment,
     /// They are blanks, which may yet begin one.
@@ -167,7 +171,9 @@ fn leap(track: Track, text: &[u8]) -> (usize, Track)
 }
 
 /// The place of the newline that ends the piece, among the bytes that come after those of its track; or the track of all.
-pub(crate) fn track_on(text: &[u8], from: Track) -> Result<usize, Track>
+///
+/// Each of these bytes is looked at once. No memory is taken.
+pub fn track_on(text: &[u8], from: Track) -> Result<usize, Track>
     requires room { most_counted from + length text.now < 2 ^ 64 }
     ensures { TracksOn text.now from result }
 {

@@ -1,11 +1,11 @@
 -- The track of a piece, and what a search knows of a text, by the rules of both dialects.
 use Rattle.std.proofs.Common.{◌≡◌, ◌≢◌, ℕ, false, List, [], length, take, drop, Err, sym, ap, ◌∙◌, subst, arith, append-nil}
 use Rattle.std.proofs.Common.{take-append-drop, ◌⊎◌, inl, inr, eqb, ◌∷◌, ◌++◌, refl, append_assoc, Some, None, Ok, ◌+◌, ◌≤◌, length-drop}
-use Rattle.std.proofs.Common.{All, take_all, get_or-drop, take-add, ne_eqb}
+use Rattle.std.proofs.Common.{All, take_all, get_or-drop, take-add, ne_eqb, Result}
 use Rattle.lp_format.specs.format.{Dialect, Strict, Crate, begins_comment, IsLastPiece, IsCutPiece, IsFirstCut, newline, IsBareAfter}
 use Rattle.lp_format.specs.format.{IsClosed, IsOpen}
 use Rattle.lp_split.specs.declared.split.resumed.Search.TheVariants.{Quiet}
-use Rattle.lp_split.specs.code.{SearchesOn, NeverComment, EndsIn, IsPlace, IsTrackOf, Leads, LeadsTo, Steps, TracksOn, Part, Head}
+use Rattle.lp_split.specs.code.{SearchesOn, CutsOrTracks, most_counted, NeverComment, EndsIn, IsPlace, IsTrackOf, Leads, LeadsTo, Steps, TracksOn, Part, Head}
 use Rattle.lp_split.specs.code.{Track, Place, Comment, Blanks, Line}
 use Rattle.lp_format.proofs.lemmas.split.SplitPieces.{IsLastPiece-extend, begins_comment-append}
 use Rattle.std.proofs.lemmas.List.Elements.{All-head, All-tail, All-push, All-weaker}
@@ -124,3 +124,9 @@ tracks_cut dialect text rest at i track same within is tracks = grind (arith, ge
 pub tracks_on : (dialect : Dialect) (text rest : List ℕ) (at : ℕ) (from to : Track) → rest ≡ drop at text → at ≤ length text
     → IsTrackOf dialect (take at text) from → TracksOn rest from (Err to) → IsTrackOf dialect text to
 tracks_on dialect text rest at from to same within is tracks = grind (arith, take-append-drop)
+
+-- a text that is tracked from its first byte on
+pub tracks_all : (dialect : Dialect) (text : List ℕ) (first : Track) (result : Result ℕ Track) → IsTrackOf dialect [] first
+    → most_counted first ≡ 0 → TracksOn text first result → CutsOrTracks dialect text result
+tracks_all dialect text first (Ok i) begins none h = (h.0, h.1, h.2 dialect [] begins)
+tracks_all dialect text first (Err track) begins none h = (h.1 dialect [] begins, omega (arith, h.0, none))
