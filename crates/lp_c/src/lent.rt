@@ -147,16 +147,6 @@ pub fn show_text<'a>(
     show_escaped(view, room, len, text)
 }
 
-// Shows that a part has no text.
-#[inline(always)]
-fn show_no_text(part: &mut Part<'_>)
-    ensures text { text_shown part.new.text ≡ record { bytes = []; is_single = true } }
-    ensures kept { part.new ≡ record part.old { text = part.new.text } }
-{
-    part.text.text = b"";
-    part.text.copied = false;
-}
-
 // Shows the kind of a part, and its values beside its text.
 #[inline(always)]
 fn show_kind(part: &mut Part<'_>, kind: Kind, integer: i64, unsigned: u64, boolean: bool)
@@ -171,6 +161,23 @@ fn show_kind(part: &mut Part<'_>, kind: Kind, integer: i64, unsigned: u64, boole
     part.unsigned = unsigned;
     part.kind = kind.number();
     part.boolean = boolean;
+}
+
+// Shows a part of this kind and these values that has no text.
+#[inline(always)]
+fn show_alone(part: &mut Part<'_>, kind: Kind, integer: i64, unsigned: u64, boolean: bool)
+    ensures text { text_shown part.new.text ≡ record { bytes = []; is_single = true } }
+    ensures others { part.new ≡ record part.old {
+      text = part.new.text;
+      integer = integer;
+      unsigned = unsigned;
+      kind = kind_number kind;
+      boolean = boolean;
+    } }
+{
+    part.text.text = b"";
+    part.text.copied = false;
+    show_kind(part, kind, integer, unsigned, boolean);
 }
 
 // Shows a tag in the place of a part, word by word: a part that is made and then moved would be written twice.
@@ -207,13 +214,11 @@ pub fn show_field<'a>(
     let len = show_text(&mut part.key, room, len, key);
     match value {
         SpelledValue::I64(integer) => {
-            show_no_text(part);
-            show_kind(part, Kind::Integer, integer, 0, false);
+            show_alone(part, Kind::Integer, integer, 0, false);
             len
         }
         SpelledValue::U64(unsigned) => {
-            show_no_text(part);
-            show_kind(part, Kind::Unsigned, 0, unsigned, false);
+            show_alone(part, Kind::Unsigned, 0, unsigned, false);
             len
         }
         SpelledValue::F64(literal) => {
@@ -227,8 +232,7 @@ pub fn show_field<'a>(
             show_text(&mut part.text, room, len, text)
         }
         SpelledValue::Boolean(boolean) => {
-            show_no_text(part);
-            show_kind(part, Kind::Boolean, 0, 0, boolean);
+            show_alone(part, Kind::Boolean, 0, 0, boolean);
             len
         }
     }
