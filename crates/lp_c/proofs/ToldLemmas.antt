@@ -171,9 +171,10 @@ module _ {A : Type 0} (event : A → Event) (shown : Part → Option A) (copies 
       → TellsPart shown copies count others old x mid → ToldParts shown copies count others mid xs new
       → ToldParts shown copies count others old (x ∷ xs) new
   told_first old mid new x xs fits one next =
-      let moved : place mid ≡ place old + 1 = omega (arith, placed old, placed mid, one.counted, one.kept, fits) in
+      let once = one.counted (omega (arith, fits)) in
+      let moved : place mid ≡ place old + 1 = omega (arith, placed old, placed mid, once, one.kept) in
       record {
-        counted = omega (arith, one.counted, next.counted, fits);
+        counted = omega (arith, once, next.counted);
         kept = next.kept ∙ one.kept;
         copied = puts_two old.room mid.room new.room (copies x) (all_copies copies xs) _ _ _ one.copied next.copied;
         measurement = next.measurement ∙ one.measurement;
@@ -205,13 +206,13 @@ module _ {A : Type 0} (event : A → Event) (shown : Part → Option A) (copies 
       }
 
   -- parts that are told one after another are counted, and put if there are places and room for all
-  told_parts : (old new : Telling) (xs : List A) → count old.line.now + length xs < 2 ^ 64
-      → old.line.now.copied_len < 2 ^ 64 → TakesAll Tells old (map event xs) new
+  told_parts : (old new : Telling) (xs : List A) → count (lent_to old).line + length xs < 2 ^ 64
+      → old.copied_len < 2 ^ 64 → TakesAll Tells old (map event xs) new
       → (new.fault ≡ old.fault) × ToldParts shown copies count others (lent_to old) xs (lent_to new)
   told_parts old new [] fits small same = rw (← same) (refl, told_none (lent_to old) small)
   told_parts old new (x ∷ xs) fits small (mid, first, more) =
       let one = does old mid x first in
-      let next = told_parts mid new xs (omega (arith, one.counted, fits)) (omega (arith, one.copied.counted)) more in
+      let next = told_parts mid new xs (omega (arith, one.counted (omega (arith, fits)), fits)) (omega (arith, one.copied.counted)) more in
       (next.0 ∙ keeps old mid x first, told_first (lent_to old) (lent_to mid) (lent_to new) x xs fits one next.1)
 
 -- a line has a tag set if it has tags
@@ -419,3 +420,14 @@ answer_told dialect text old new events short none are told = go (answer dialect
         let parted = takes_parted Tells old new front (failed fault ∷ []) (rw are at told) in
         let last : Tells parted.0 (failed fault) new = rw parted.2.2 at parted.2.1 in
         kept_fault new.fault fault last.fault
+
+-- of what was lent before a line is told the room alone counts
+pub told_in_room : (read : Result format.Line Fault) (kept : Option SpelledFault) (old lent new : Lent) → lent.room ≡ old.room
+    → Told read kept old new → Told read kept lent new
+told_in_room (Ok read) None old lent new same told = record {
+  counts = told.counts;
+  waits = λ fits small room. told.waits fits small (rw same at room);
+}
+told_in_room (Ok read) (Some kept) old lent new same told = absurd told
+told_in_room (Err fault) None old lent new same told = absurd told
+told_in_room (Err fault) (Some kept) old lent new same told = told

@@ -30,9 +30,10 @@ pub record Lent : Type 0 where
 abbrev pub lent : Line → List Part → Room → Lent
 lent line parts room = record { line = line; parts = parts; room = room.bytes.now }
 
--- what a sink was lent
+-- what a sink was lent, with what it has counted
 abbrev pub lent_to : Telling → Lent
-lent_to sink = lent sink.line.now sink.parts.now sink.room.now
+lent_to sink = lent (record sink.line.now { tags = sink.tags; fields = sink.fields; copied_len = sink.copied_len })
+    sink.parts.now sink.room.now
 
 -- the place of the next part
 abbrev pub place : Lent → ℕ
@@ -108,7 +109,7 @@ pub record PutsPart {A : Type 0} (shown : Part → Option A) (copies : A → Lis
 -- a part more is counted, and its copies put; it is put, if there is a place for it
 pub record TellsPart {A : Type 0} (shown : Part → Option A) (copies : A → List ℕ) (count others : Line → ℕ)
     (old : Lent) (x : A) (new : Lent) : Type 0 where
-  pub counted : count new.line ≡ min (count old.line + 1) (2 ^ 64 - 1)
+  pub counted : count old.line + 1 < 2 ^ 64 → count new.line ≡ count old.line + 1
   pub kept : others new.line ≡ others old.line
   pub copied : PutsCopy old.room old.line.copied_len (copies x) new.room new.line.copied_len
   pub measurement : new.line.measurement ≡ old.line.measurement

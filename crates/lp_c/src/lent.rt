@@ -1,11 +1,11 @@
 //! Texts, tags, fields and faults are put into what the caller lends.
 
-ghost use Rattle.std.specs.Prelude.{◌≡◌, ◌≢◌, ◌+◌, ◌≤◌, ◌-◌, ◌^◌, [], drop, false, length, map, pos, true};
+ghost use Rattle.std.specs.Prelude.{◌≡◌, ◌≢◌, ◌+◌, ◌≤◌, ◌-◌, ◌^◌, [], drop, false, length, map, true};
 ghost use Rattle.std.specs.Prelude.{MatchOption, Some};
 ghost use Rattle.std.specs.List.{sum_by};
 ghost use Rattle.influxdb_line_protocol.specs.code.Events.{spelled_field, spelled_tag};
 ghost use Rattle.influxdb_line_protocol.specs.code.Outcomes.{side};
-ghost use Rattle.influxdb_line_protocol.specs.code.SpelledParts.{spelled_fault, spelled_text};
+ghost use Rattle.influxdb_line_protocol.specs.code.SpelledParts.{spelled_fault, spelled_text, spelling_of};
 ghost use Rattle.influxdb_line_protocol.specs.format.Lines as format;
 ghost use Rattle.lp_c.specs.Crossing.{AnswersFault, ShowsLine, fault_seen, field_shown, side_of, tag_shown, taken_by, text_shown};
 ghost use Rattle.lp_c.specs.Numbers.{answer_number, kind_number};
@@ -30,6 +30,14 @@ fn put<'a>(room: &mut Room<'a>, text: &[u8]) -> &'a [u8]
     front
 }
 
+// Whether a text reads as it is spelled: it holds no backslash.
+#[inline(always)]
+fn reads_as_spelled(text: Spelled<'_>) -> bool
+    ensures { result ≡ true → spelled_text text.entry ≡ record { bytes = spelling_of text.entry; is_single = true } }
+{
+    text.is_plain()
+}
+
 // The logical text, if it is a part of the input: without a backslash it is the spelling, and of one escape the byte after it.
 #[inline(always)]
 fn shared<'a>(spelled: Spelled<'a>) -> Option<&'a [u8]>
@@ -47,7 +55,7 @@ fn shared<'a>(spelled: Spelled<'a>) -> Option<&'a [u8]>
 }
 
 // Puts the logical text of a spelling into the room after `len` bytes, if it fits, and says how many bytes there are with it.
-#[inline(never)]
+#[inline(always)]
 fn put_copy(room: &mut Room<'_>, len: usize, spelled: Spelled<'_>) -> usize
     ensures { PutsCopy room.old.bytes.now len (spelled_text spelled.entry).bytes room.new.bytes.now result }
 {
@@ -70,7 +78,8 @@ pub fn put_text(room: &mut Room<'_>, len: usize, text: Spelled<'_>) -> usize
 }
 
 // The same of the texts of a tag.
-#[inline(always)]
+#[cold]
+#[inline(never)]
 pub fn put_tag(room: &mut Room<'_>, len: usize, key: Spelled<'_>, value: Spelled<'_>) -> usize
     ensures { PutsCopy room.old.bytes.now len (tag_copies (spelled_tag (key.entry, value.entry))) room.new.bytes.now result }
 {
@@ -79,7 +88,8 @@ pub fn put_tag(room: &mut Room<'_>, len: usize, key: Spelled<'_>, value: Spelled
 }
 
 // The same of the texts of a field.
-#[inline(always)]
+#[cold]
+#[inline(never)]
 pub fn put_field(
     room: &mut Room<'_>,
     len: usize,
@@ -95,88 +105,136 @@ pub fn put_field(
     }
 }
 
-// A text as it is shown: a part of the input as it is; of a copy the length, until it is in the room.
-#[inline(always)]
-pub fn view_of<'a>(text: Spelled<'a>) -> View<'a>
-    ensures { Waits text_shown view_len filled_view (text_copy (spelled_text text.entry)) (spelled_text text.entry) result }
+// Shows a text that holds a backslash: a part of the input as it is; of a copy the length, until it is handed out of the room, into
+// which it is put after `len` bytes. Says how many bytes there are with it.
+#[cold]
+#[inline(never)]
+fn show_escaped<'a>(
+    view: &mut View<'a>,
+    room: &mut Room<'_>,
+    len: usize,
+    text: Spelled<'a>,
+) -> usize
+    ensures waits { Waits text_shown view_len filled_view (text_copy (spelled_text text.entry)) (spelled_text text.entry) view.new }
+    ensures copy { PutsCopy room.old.bytes.now len (text_copy (spelled_text text.entry)) room.new.bytes.now result }
 {
-    match shared(text) {
-        Some(text) => View {
-            text,
-            copied: false,
-        },
-        None => View {
-            text: &text.spelled().as_bytes()[..text.len()],
-            copied: true,
-        },
+    if let Some(shared) = shared(text) {
+        view.text = shared;
+        view.copied = false;
+        return len;
     }
+    view.text = &text.spelled().as_bytes()[..text.len()];
+    view.copied = true;
+    put_copy(room, len, text)
 }
 
-// A part of this kind with a key, and no value.
+// The same of any text. Most texts hold no backslash: two words and a byte are written.
 #[inline(always)]
-fn part_of<'a>(kind: Kind, key: View<'a>) -> Part<'a>
-    ensures key { result.key ≡ key.entry }
-    ensures kind { result.kind ≡ kind_number kind }
-    ensures text { text_shown result.text ≡ record { bytes = []; is_single = true } }
-    ensures integer { result.integer ≡ pos 0 }
-    ensures unsigned { result.unsigned ≡ 0 }
-    ensures boolean { result.boolean ≡ false }
+pub fn show_text<'a>(
+    view: &mut View<'a>,
+    room: &mut Room<'_>,
+    len: usize,
+    text: Spelled<'a>,
+) -> usize
+    ensures waits { Waits text_shown view_len filled_view (text_copy (spelled_text text.entry)) (spelled_text text.entry) view.new }
+    ensures copy { PutsCopy room.old.bytes.now len (text_copy (spelled_text text.entry)) room.new.bytes.now result }
 {
-    Part {
-        key,
-        text: View {
-            text: b"",
-            copied: false,
-        },
-        integer: 0,
-        unsigned: 0,
-        kind: kind.number(),
-        boolean: false,
+    view.text = text.spelled().as_bytes();
+    view.copied = false;
+    if reads_as_spelled(text) {
+        return len;
     }
+    show_escaped(view, room, len, text)
 }
 
-// A tag as it is shown once its copies are in the room.
+// Shows the kind of a part, and its values beside its text.
 #[inline(always)]
-pub fn tag_of<'a>(key: Spelled<'a>, value: Spelled<'a>) -> Part<'a>
-    ensures { Waits tag_shown part_len filled_part (tag_copies (spelled_tag (key.entry, value.entry)))
-        (Some (spelled_tag (key.entry, value.entry))) result }
+fn show_kind(part: &mut Part<'_>, kind: Kind, integer: i64, unsigned: u64, boolean: bool)
+    ensures { part.new ≡ record part.old {
+      integer = integer;
+      unsigned = unsigned;
+      kind = kind_number kind;
+      boolean = boolean;
+    } }
 {
-    let mut part = part_of(Kind::Tag, view_of(key));
-    part.text = view_of(value);
-    part
+    part.integer = integer;
+    part.unsigned = unsigned;
+    part.kind = kind.number();
+    part.boolean = boolean;
 }
 
-// A field as it is shown once its copies are in the room.
+// Shows a part of this kind and these values that has no text.
 #[inline(always)]
-pub fn field_of<'a>(key: Spelled<'a>, value: SpelledValue<'a>) -> Part<'a>
-    ensures { Waits field_shown part_len filled_part (field_copies (spelled_field (key.entry, value.entry)))
-        (Some (spelled_field (key.entry, value.entry))) result }
+fn show_alone(part: &mut Part<'_>, kind: Kind, integer: i64, unsigned: u64, boolean: bool)
+    ensures text { text_shown part.new.text ≡ record { bytes = []; is_single = true } }
+    ensures others { part.new ≡ record part.old {
+      text = part.new.text;
+      integer = integer;
+      unsigned = unsigned;
+      kind = kind_number kind;
+      boolean = boolean;
+    } }
 {
-    let key = view_of(key);
+    part.text.text = b"";
+    part.text.copied = false;
+    show_kind(part, kind, integer, unsigned, boolean);
+}
+
+// Shows a tag in the place of a part, word by word: a part that is made and then moved would be written twice.
+#[inline(always)]
+pub fn show_tag<'a>(
+    part: &mut Part<'a>,
+    room: &mut Room<'_>,
+    len: usize,
+    key: Spelled<'a>,
+    value: Spelled<'a>,
+) -> usize
+    ensures waits { Waits tag_shown part_len filled_part (tag_copies (spelled_tag (key.entry, value.entry)))
+        (Some (spelled_tag (key.entry, value.entry))) part.new }
+    ensures copies { PutsCopy room.old.bytes.now len (tag_copies (spelled_tag (key.entry, value.entry))) room.new.bytes.now result }
+{
+    let len = show_text(&mut part.key, room, len, key);
+    show_kind(part, Kind::Tag, 0, 0, false);
+    show_text(&mut part.text, room, len, value)
+}
+
+// Shows a field in the same way.
+#[inline(always)]
+pub fn show_field<'a>(
+    part: &mut Part<'a>,
+    room: &mut Room<'_>,
+    len: usize,
+    key: Spelled<'a>,
+    value: SpelledValue<'a>,
+) -> usize
+    ensures waits { Waits field_shown part_len filled_part (field_copies (spelled_field (key.entry, value.entry)))
+        (Some (spelled_field (key.entry, value.entry))) part.new }
+    ensures copies { PutsCopy room.old.bytes.now len (field_copies (spelled_field (key.entry, value.entry))) room.new.bytes.now result }
+{
+    let len = show_text(&mut part.key, room, len, key);
     match value {
-        SpelledValue::I64(integer) => Part {
-            integer,
-            ..part_of(Kind::Integer, key)
-        },
-        SpelledValue::U64(unsigned) => Part {
-            unsigned,
-            ..part_of(Kind::Unsigned, key)
-        },
-        SpelledValue::F64(literal) => Part {
-            text: View {
-                text: literal.as_str().as_bytes(),
-                copied: false,
-            },
-            ..part_of(Kind::Float, key)
-        },
-        SpelledValue::String(text) => Part {
-            text: view_of(text),
-            ..part_of(Kind::String, key)
-        },
-        SpelledValue::Boolean(boolean) => Part {
-            boolean,
-            ..part_of(Kind::Boolean, key)
-        },
+        SpelledValue::I64(integer) => {
+            show_alone(part, Kind::Integer, integer, 0, false);
+            len
+        }
+        SpelledValue::U64(unsigned) => {
+            show_alone(part, Kind::Unsigned, 0, unsigned, false);
+            len
+        }
+        SpelledValue::F64(literal) => {
+            part.text.text = literal.as_str().as_bytes();
+            part.text.copied = false;
+            show_kind(part, Kind::Float, 0, 0, false);
+            len
+        }
+        SpelledValue::String(text) => {
+            show_kind(part, Kind::String, 0, 0, false);
+            show_text(&mut part.text, room, len, text)
+        }
+        SpelledValue::Boolean(boolean) => {
+            show_alone(part, Kind::Boolean, 0, 0, boolean);
+            len
+        }
     }
 }
 

@@ -10,18 +10,23 @@ ghost use Rattle.lp_c.specs.Crossing.{AnswersItem, taken_by};
 ghost use Rattle.lp_c.specs.Numbers.{answer_number};
 ghost use Rattle.lp_c.specs.Telling.{TellsField, TellsTag, Told, lent, lent_to};
 
-use crate::lent::{field_of, fill_line, put_fault, put_field, put_tag, put_text, tag_of, view_of};
+use crate::lent::{fill_line, put_fault, put_field, put_tag, show_field, show_tag, show_text};
 use crate::views::{Answer, FaultKind, Line, Part, Room, Side};
 use influxdb_line_protocol::{
     Dialect, EventSink, Spelled, SpelledFault, SpelledValue, read_line_events,
 };
 
-/// A line that is told: where it is put, and its fault, if it has one.
+/// A line that is told: where it is put, what was counted of it, and its fault, if it has one.
+///
+/// The counts are not in the line until it was told, since a number in memory is loaded and stored again for each part.
 #[derive(Drop)]
 pub(crate) struct Telling<'l, 'a> {
     pub(crate) line: &'l mut Line<'a>,
     pub(crate) parts: &'l mut [Part<'a>],
     pub(crate) room: &'l mut Room<'a>,
+    pub(crate) tags: usize,
+    pub(crate) fields: usize,
+    pub(crate) copied_len: usize,
     pub(crate) fault: Option<SpelledFault<'a>>,
 }
 
@@ -32,38 +37,37 @@ impl<'l, 'a> EventSink<'a> for Telling<'l, 'a> {
 
     #[inline(always)]
     fn measurement(&mut self, name: Spelled<'a>) {
-        self.line.measurement = view_of(name);
-        self.line.tags = 0;
-        self.line.fields = 0;
-        self.line.copied_len = put_text(self.room, 0, name);
+        self.tags = 0;
+        self.fields = 0;
+        self.copied_len = show_text(&mut self.line.measurement, self.room, 0, name);
     }
 
     #[inline(always)]
     fn tag(&mut self, key: Spelled<'a>, value: Spelled<'a>) {
-        let at = self.line.tags.saturating_add(self.line.fields);
-        let part = tag_of(key, value);
-        if at < self.parts.len() {
-            self.parts[at] = part;
-        }
-        self.line.tags = self.line.tags.saturating_add(1);
-        self.line.copied_len = put_tag(self.room, self.line.copied_len, key, value);
+        let at = self.tags.wrapping_add(self.fields);
+        self.tags = self.tags.wrapping_add(1);
+        self.copied_len = if at < self.parts.len() {
+            show_tag(&mut self.parts[at], self.room, self.copied_len, key, value)
+        } else {
+            put_tag(self.room, self.copied_len, key, value)
+        };
     }
 
     #[inline(always)]
     fn field(&mut self, key: Spelled<'a>, value: SpelledValue<'a>) {
-        let at = self.line.tags.saturating_add(self.line.fields);
-        let part = field_of(key, value);
-        if at < self.parts.len() {
-            self.parts[at] = part;
-        }
-        self.line.fields = self.line.fields.saturating_add(1);
-        self.line.copied_len = put_field(self.room, self.line.copied_len, key, value);
+        let at = self.tags.wrapping_add(self.fields);
+        self.fields = self.fields.wrapping_add(1);
+        self.copied_len = if at < self.parts.len() {
+            show_field(&mut self.parts[at], self.room, self.copied_len, key, value)
+        } else {
+            put_field(self.room, self.copied_len, key, value)
+        };
     }
 
     #[inline(always)]
     fn end(&mut self, series: &'a str, timestamp: Option<i64>) {
         self.line.series = series.as_bytes();
-        self.line.has_tag_set = self.line.tags != 0;
+        self.line.has_tag_set = self.tags != 0;
         self.line.has_timestamp = timestamp.is_some();
         self.line.timestamp = timestamp.unwrap_or(0);
         self.line.fault = FaultKind::None.number();
@@ -100,7 +104,8 @@ fn give_back(line: &mut Line<'_>, parts: &mut [Part<'_>], room: &mut Room<'_>)
 {}
 
 // Puts out what the trimmed text `text` says, as far as it fits, and gives the fault that was told.
-#[inline(never)]
+#[tactic(auto, using(crate::proofs::ToldLemmas::told_in_room))]
+#[inline(always)]
 fn put_told<'a>(
     dialect: Dialect,
     text: &'a str,
@@ -116,6 +121,9 @@ fn put_told<'a>(
         line,
         parts,
         room,
+        tags: 0,
+        fields: 0,
+        copied_len: 0,
         fault: None,
     };
     tell_line(dialect, text, &mut telling);
@@ -123,15 +131,23 @@ fn put_told<'a>(
         line,
         parts,
         room,
+        tags,
+        fields,
+        copied_len,
         fault,
     } = telling;
+    line.tags = tags;
+    line.fields = fields;
+    line.copied_len = copied_len;
     give_back(line, parts, room);
     fault
 }
 
 // Puts out the item of the trimmed text `text`, or says how much more it takes. Room that was handed out cannot be taken back, so a
 // line that is told only writes its copies there; they are handed out once the line has ended, and has all that it takes.
-#[inline(always)]
+//
+// It is the one function around the reader: so a fault stays in it, and the function is small enough for the reader to be inlined.
+#[inline(never)]
 pub(crate) fn put_item<'a>(
     dialect: Dialect,
     text: &'a str,
