@@ -1,4 +1,4 @@
 pub mod events
 pub mod fields
 pub mod lines
-pub mod steps
+pub mod pull

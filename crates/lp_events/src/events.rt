@@ -1,19 +1,19 @@
 //! Lines, told to a sink part by part, with no memory.
 
-ghost use Rattle.std.specs.Prelude.{◌≡◌, [], length};
-ghost use Rattle.lp_format.specs.format.{Left, answer};
+ghost use Rattle.std.specs.Prelude.{◌≡◌, ◌<◌, ◌++◌, ℕ, List, length, slice_index, IfOk, IfSome};
+ghost use Rattle.lp_format.specs.format.{space, answer, field, field_set, front_before, separated_list, tag, tag_set};
 ghost use Rattle.lp_split.specs.code.{rules_of};
-ghost use Rattle.lp_values.specs.code.SpelledParts.{spelled_fault, spelled_text};
-ghost use Rattle.lp_events.specs.code.Events.{AreEventsOf, AreEventsOfText, Event, WasTold, ended, failed, named, spelled_field, spelled_tag};
-ghost use Rattle.lp_events.specs.code.Events.{tagged, valued};
-ghost use Rattle.lp_events.specs.code.EventsLeft.{AreEventsLeft, AreLeftAfterSeries, AreLeftFrom, Completes, IsLeftAfter, ToldTo};
+ghost use Rattle.lp_values.specs.code.SpelledParts.{GivesSpelled, spelled_fault, spelled_text};
+ghost use Rattle.lp_events.specs.code.Events.{AreCounted, AreEventsOf, AreEventsOfText, AreFields, AreTags, AreToldBefore, Event};
+ghost use Rattle.lp_events.specs.code.Events.{WasTold, WasToldParts, ended, failed, named, spelled_field, spelled_tag, tagged, valued};
 
 use crate::lines::next_line;
-use crate::place::{Names, Place};
-use crate::steps::{begin, end, first_field, next_field, next_tag};
+use lp_scan::trim::{strip_byte, trim_start_spaces};
 use lp_split::Dialect;
 use lp_split::split::split_lines_in;
-use lp_values::{Spelled, SpelledFault, SpelledValue};
+use lp_values::names::NameKind;
+use lp_values::spelled_parts::{self, Front};
+use lp_values::{ErrorKind, Spelled, SpelledFault, SpelledValue};
 
 /// What takes the parts of lines, as a reader tells them.
 ///
@@ -51,55 +51,165 @@ pub trait EventSink<'a> {
         ensures { takes self.old (failed (spelled_fault fault.entry)) self.new };
 }
 
-// Tells the tags of a line that are left, and gives where they end.
+// A tag at the start of `text`, and the rest.
+#[tactic(auto, unfolding(lp_format::specs::format::Lines::tag))]
 #[inline(always)]
-fn tags<'a, S: EventSink<'a>>(names: Names<'a>, sink: &mut S) -> Result<Names<'a>, SpelledFault<'a>>
-    ensures { (left : Left) → ToldTo S.takes sink.old sink.new (AreLeftFrom (Place.Names names.entry) left)
-        (IsLeftAfter left (λ after. AreLeftAfterSeries after.line.now after.rest.now left) result) }
+pub(crate) fn tag<'a>(text: &'a str) -> Front<'a, (Spelled<'a>, Spelled<'a>)>
+    ensures value { GivesSpelled spelled_tag result (tag text.now) }
+    ensures less { IfOk result (λ o. IfSome o (λ p. length p.1.now < length text.now)) }
 {
-    let mut names = names;
-    while let Some(((key, value), after)) = next_tag(names)? {
-        sink.tag(key, value);
-        names = after;
-    }
-    Ok(names)
+    let Some((key, rest)) = spelled_parts::name(NameKind::TagKey, text)? else {
+        return Ok(None);
+    };
+    let Some(rest) = strip_byte(b'=', rest) else {
+        return Ok(None);
+    };
+    let Some((value, rest)) = spelled_parts::name(NameKind::TagValue, rest)? else {
+        return Ok(None);
+    };
+    Ok(Some(((key, value), rest)))
 }
 
-// Tells the fields of a line after its tags, and its end.
+// A field at the start of `text`, and the rest.
+#[tactic(auto, unfolding(lp_format::specs::format::Lines::field))]
 #[inline(always)]
-fn fields<'a, S: EventSink<'a>>(
-    dialect: Dialect,
-    names: Names<'a>,
-    sink: &mut S,
-) -> Result<(), SpelledFault<'a>>
-    ensures { (left : Left) → left.dialect ≡ rules_of dialect → ToldTo S.takes sink.old sink.new
-        (AreLeftAfterSeries names.entry.line.now names.entry.rest.now left) (IsLeftAfter left (λ done. AreEventsLeft left) result) }
+pub(crate) fn field<'a>(text: &'a str) -> Front<'a, (Spelled<'a>, SpelledValue<'a>)>
+    ensures value { GivesSpelled spelled_field result (field text.now) }
+    ensures less { IfOk result (λ o. IfSome o (λ p. length p.1.now < length text.now)) }
 {
-    let ((key, value), mut fields) = first_field(names)?;
-    sink.field(key, value);
-    while let Some(((key, value), after)) = next_field(fields)? {
-        sink.field(key, value);
-        fields = after;
+    let Some((key, rest)) = spelled_parts::name(NameKind::FieldKey, text)? else {
+        return Ok(None);
+    };
+    let Some(rest) = strip_byte(b'=', rest) else {
+        return Ok(None);
+    };
+    let Some((value, rest)) = spelled_parts::value(rest)? else {
+        return Ok(None);
+    };
+    Ok(Some(((key, value), rest)))
+}
+
+// Tells the tags at the start of `text`, joined by commas, and gives their number and the rest.
+#[inline(always)]
+fn tags<'a, S: EventSink<'a>>(text: &'a str, sink: &mut S) -> Front<'a, usize>
+    ensures { WasToldParts S.takes tagged sink.old sink.new (AreCounted result (separated_list tag text.now)) }
+{
+    let mut count = 0;
+    let mut rest = text;
+    let mut place = text;
+    while let Some(((key, value), after)) = tag(place)? {
+        sink.tag(key, value);
+        count += 1;
+        rest = after;
+        match strip_byte(b',', rest) {
+            Some(suffix) => place = suffix,
+            None => return Ok(Some((count, rest))),
+        }
     }
-    let timestamp = end(dialect, fields)?;
-    sink.end(fields.series, timestamp);
-    Ok(())
+    if count == 0 {
+        return Ok(None);
+    }
+    Ok(Some((count, rest)))
+}
+
+// Tells the fields at the start of `text`, joined by commas, and gives their number and the rest.
+#[inline(always)]
+fn fields<'a, S: EventSink<'a>>(text: &'a str, sink: &mut S) -> Front<'a, usize>
+    ensures { WasToldParts S.takes valued sink.old sink.new (AreCounted result (separated_list field text.now)) }
+{
+    let mut count = 0;
+    let mut rest = text;
+    let mut place = text;
+    while let Some(((key, value), after)) = field(place)? {
+        sink.field(key, value);
+        count += 1;
+        rest = after;
+        match strip_byte(b',', rest) {
+            Some(suffix) => place = suffix,
+            None => return Ok(Some((count, rest))),
+        }
+    }
+    if count == 0 {
+        return Ok(None);
+    }
+    Ok(Some((count, rest)))
+}
+
+// Tells the tags after the comma at the start of `text`, and gives the rest. If no comma is there, there are none.
+#[inline(always)]
+fn tag_set<'a, S: EventSink<'a>>(text: &'a str, sink: &mut S) -> Result<&'a str, SpelledFault<'a>>
+    ensures { WasToldParts S.takes tagged sink.old sink.new (AreTags result (tag_set text.now)) }
+{
+    let Some(rest) = strip_byte(b',', text) else {
+        return Ok(text);
+    };
+    let Some((_, rest)) = tags(rest, sink)? else {
+        return Err(SpelledFault::TagSetMalformed);
+    };
+    Ok(rest)
+}
+
+// Tells the fields at the start of `text`, joined by commas, and gives the rest: in the crate's dialect without the comma
+// after a first field that is the only one. `None` if no field is there.
+#[inline(always)]
+fn field_set<'a, S: EventSink<'a>>(
+    dialect: Dialect,
+    text: &'a str,
+    sink: &mut S,
+) -> Result<Option<&'a str>, SpelledFault<'a>>
+    ensures { WasToldParts S.takes valued sink.old sink.new (AreFields result (field_set (rules_of dialect) text.now)) }
+{
+    let Some((count, rest)) = fields(text, sink)? else {
+        return Ok(None);
+    };
+    match dialect {
+        Dialect::Crate if count == 1 => Ok(Some(strip_byte(b',', rest).unwrap_or(rest))),
+        _ => Ok(Some(rest)),
+    }
+}
+
+// What comes before `rest`, which ends `line` and begins with a space.
+#[inline(always)]
+pub(crate) fn front_before<'a>(line: &'a str, rest: &str) -> &'a str
+    requires ends { (front : List ℕ) × (line.now ≡ front ++ rest.now) }
+    requires space { slice_index rest.now 0 ≡ space }
+    ensures { result.now ≡ front_before line.now rest.now }
+{
+    &line[..line.len() - rest.len()]
 }
 
 // Tells what the trimmed text `line` says, but for its fault.
+#[tactic(auto, unfolding(lp_format::specs::format::Lines::answer))]
 #[inline(always)]
 fn parts<'a, S: EventSink<'a>>(
     dialect: Dialect,
     line: &'a str,
     sink: &mut S,
 ) -> Result<(), SpelledFault<'a>>
-    ensures { (left : Left) → left.dialect ≡ rules_of dialect
-        → ToldTo S.takes sink.old sink.new (Completes line.now [] left) (IsLeftAfter left (λ done. AreEventsLeft left) result) }
+    ensures { WasTold S.takes sink.old sink.new (AreToldBefore result (answer (rules_of dialect) line.now)) }
 {
-    let (measurement, names) = begin(line)?;
+    let Some((measurement, rest)) = spelled_parts::name(NameKind::Measurement, line)? else {
+        return Err(SpelledFault::MeasurementValueInvalid);
+    };
     sink.measurement(measurement);
-    let names = tags(names, sink)?;
-    fields(dialect, names, sink)
+    let rest = tag_set(rest, sink)?;
+    let Some(_after_space) = strip_byte(b' ', rest) else {
+        return Err(SpelledFault::GenericParsingError {
+            kind: ErrorKind::TakeWhile1,
+        });
+    };
+    let series = front_before(line, rest);
+    let Some(rest) = field_set(dialect, trim_start_spaces(rest), sink)? else {
+        return Err(SpelledFault::FieldSetMissing);
+    };
+    let (timestamp, rest) = spelled_parts::timestamp(rest)?;
+    if !rest.is_empty() {
+        return Err(SpelledFault::CannotParseEntireLine {
+            trailing_content: rest,
+        });
+    }
+    sink.end(series, timestamp);
+    Ok(())
 }
 
 /// Tells what the trimmed text `line` says: its measurement, tags, fields and end; or, if it is at fault, the parts that

@@ -8,7 +8,6 @@ pub mod events;
 pub mod lines;
 mod place;
 pub mod pull;
-mod steps;
 
 pub use events::{EventSink, read_events_in, read_line_events};
 pub use pull::{Event, ParseEvents, parse_events, parse_events_in};

@@ -2,16 +2,15 @@
 use Rattle.std.specs.Prelude.{◌≡◌, ℕ, ◌+◌, ◌<◌, ◌≤◌, ◌==◌, Bool, true, false, List, [], ◌∷◌, ◌++◌, drop, length, Option, Some, None, Result}
 use Rattle.std.specs.Prelude.{Ok, Err}
 use Rattle.lp_format.specs.format.{comma, space, answers_of, after_comma, answer, byte, field, front_before, many, prepend, separated_list}
-use Rattle.lp_format.specs.format.{some_tags, spaces, tag, tag_set, a_measurement, name, Left, PiecesLeft, most_pieces, Pair, Reading, Text, miss}
+use Rattle.lp_format.specs.format.{some_tags, spaces, tag, tag_set, a_measurement, name, Left, PiecesLeft, most_pieces, Pair, Reading, Text}
 use Rattle.lp_format.specs.format.{reads, Value}
 use Rattle.lp_values.specs.code.SpelledParts.{spelled_fault, spelled_text}
 use Rattle.lp_values.specs.declared.spelled.SpelledFault.{SpelledFault}
-use Rattle.lp_events.specs.code.Events.{AreEventsOf, AreEventsOfAll, Event, WasTold, ended, failed, front_events, named, spelled_field, spelled_tag}
+use Rattle.lp_events.specs.code.Events.{AreEventsOf, AreEventsOfAll, Event, ended, failed, front_events, named, spelled_field, spelled_tag}
 use Rattle.lp_events.specs.code.Events.{tagged, valued}
 use Rattle.lp_events.specs.declared.pull.Event.TheVariants.{Measurement, Tag, Field, End, Fault}
 use Rattle.lp_events.specs.declared.{place.Place.Place, place.Place.TheVariants.Between, place.Place.TheVariants.Names}
 use Rattle.lp_events.specs.declared.{place.Place.TheVariants.Fields, pull.ParseEvents.ParseEvents}
-use Rattle.lp_events.specs.declared.place.Fields as fields
 use Rattle.lp_events.specs.declared.pull.Event as given
 
 -- an event that was given, as a sink is told of it
@@ -87,40 +86,11 @@ AreLeftFrom (Fields p) left events =
     → FieldsRead line p.series.now measurement tags fields p.rest.now p.is_first
     → Completes line (front_events measurement tags fields) left events
 
--- these events are left after the fields of a line, whichever they are
-abbrev pub AreLeftAfterFields : fields.Fields → Left → List Event → Type 0
-AreLeftAfterFields p left events =
-    (line : List ℕ) (measurement : Text) (tags : List (Pair Text Text)) (fields : List (Pair Text (Value Text)))
-    → FieldsRead line p.series.now measurement tags fields p.rest.now p.is_first → after_comma field p.rest.now ≡ miss
-    → Completes line (front_events measurement tags fields) left events
-
--- a part that was read is the first of the events that are left, and the others are left after it; a fault is the last event of its line
-abbrev pub GivesPart : {R : Type 0} → (R → Event) → (R → Left → List Event → Type 0) → (Left → List Event → Type 0)
-    → Result R SpelledFault → Type 0
-GivesPart event After Are (Ok part) = (left : Left) (others : List Event) → After part left others → Are left (event part ∷ others)
-GivesPart event After Are (Err fault) =
-    (left : Left) (others : List Event) → AreEventsLeft left others → Are left (failed (spelled_fault fault) ∷ others)
-
--- the same of a part that may be missing: what is left is then what is left if no such part follows
-abbrev pub GivesNext : {R : Type 0} → (R → Event) → (R → Left → List Event → Type 0) → (Left → List Event → Type 0)
-    → (Left → List Event → Type 0) → Result (Option R) SpelledFault → Type 0
-GivesNext event After Done Are (Ok None) = (left : Left) (events : List Event) → Done left events → Are left events
-GivesNext event After Done Are (Ok (Some part)) = GivesPart event After Are (Ok part)
-GivesNext event After Done Are (Err fault) = GivesPart event After Are (Err fault)
-
--- a step gives the first of the events that are left, and leaves the others
+-- a step gives the first of the events that are left, and leaves the others; a fault is the last event of its line
 abbrev pub Steps : (Left → List Event → Type 0) → Result (given.Event × Place) SpelledFault → Type 0
-Steps Are step = GivesPart (λ p. told p.0) (λ p. AreLeftFrom p.1) Are step
-
--- a sink was told of events, and with those that are left now they were left before
-abbrev pub ToldTo : {S : Type 0} → (S → Event → S → Type 0) → S → S → (List Event → Type 0) → (List Event → Type 0) → Type 0
-ToldTo takes before after WereLeft AreLeft =
-    WasTold takes before after (λ events. (others : List Event) → AreLeft others → WereLeft (events ++ others))
-
--- what is left after parts of a line that were told; of a line at fault its fault comes first
-abbrev pub IsLeftAfter : {R : Type 0} → Left → (R → List Event → Type 0) → Result R SpelledFault → List Event → Type 0
-IsLeftAfter left After (Ok part) events = After part events
-IsLeftAfter left After (Err fault) events = (others : List Event) × (events ≡ failed (spelled_fault fault) ∷ others) × AreEventsLeft left others
+Steps Are (Ok p) = (left : Left) (others : List Event) → AreLeftFrom p.1 left others → Are left (told p.0 ∷ others)
+Steps Are (Err fault) =
+    (left : Left) (others : List Event) → AreEventsLeft left others → Are left (failed (spelled_fault fault) ∷ others)
 
 -- these events are left to be given
 abbrev pub HasEventsLeft : ParseEvents → List Event → Type 0

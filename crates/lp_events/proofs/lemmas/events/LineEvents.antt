@@ -1,15 +1,16 @@
 -- What a sink was told of a line, one event after another, and of the lines of a text.
-use Rattle.std.proofs.Common.{◌≡◌, ℕ, ◌<◌, List, [], ◌∷◌, ◌++◌, length, refl, arith, true}
-use Rattle.std.proofs.Common.{append_assoc, Some, None, Ok, ◌==◌, Err, Bor, append-nil, All, eq-eqb, ne_eqb}
-use Rattle.std.proofs.lemmas.{List.Elements.All-head, List.Elements.All-tail}
-use Rattle.lp_format.specs.format.{cannot_parse_entire_line, Line}
-use Rattle.lp_format.specs.format.{answer, complete, Dialect, answers_of, answers_of_piece, Left, trimmed}
+use Rattle.std.proofs.Common.{◌≡◌, ℕ, ◌+◌, ◌<◌, List, [], ◌∷◌, ◌++◌, length, length-append, map, refl, arith, inl, inr, true}
+use Rattle.std.proofs.Common.{append_assoc, Some, Ok, ℤ, ◌==◌, Option, Err, Bor, append-nil, All, eq-eqb, ne_eqb}
+use Rattle.std.proofs.lemmas.{List.map_push, List.Elements.All-head, List.Elements.All-tail}
+use Rattle.lp_format.specs.format.{comma, Fault, Reading, fatal, miss, reads, Text, cannot_parse_entire_line, byte, separated_list, Line}
+use Rattle.lp_format.specs.format.{answer, some_tags, complete, Dialect, answers_of, answers_of_piece, Left, Pair, trimmed, Value}
 use Rattle.lp_values.specs.declared.spelled.SpelledFault.{SpelledFault}
 use Rattle.lp_values.specs.code.SpelledParts.{spelled_fault}
-use Rattle.lp_events.specs.code.Events.{Event, TakesAll, AreEventsOf, AreEventsOfAll, WasTold}
-use Rattle.lp_events.specs.code.Events.{failed}
-use Rattle.lp_events.specs.code.EventsLeft.{AreEventsLeft, Completes, IsLeftAfter, ToldTo}
+use Rattle.lp_events.specs.code.Events.{AreCounted, Event, TakesAll, WasToldParts, AreEventsOf, AreEventsOfAll, AreToldBefore, WasTold}
+use Rattle.lp_events.specs.code.Events.{ended, front_events, named, tagged, valued}
+use Rattle.lp_events.specs.code.EventsLeft.{AreEventsLeft, Completes, SoFar}
 use Rattle.lp_events.specs.code.LineSteps.{GivesLine, IsBlankPiece}
+use Rattle.lp_events.proofs.lemmas.fields.ManyLemmas.{Reached, last_read, reached_all, reached_fatal, reached_more}
 
 -- some events and then others
 pub takes_append : {S : Type 0} (takes : S → Event → S → Type 0) (before mid after : S) (events others : List Event)
@@ -23,6 +24,72 @@ pub takes_more : {S : Type 0} (takes : S → Event → S → Type 0) (before mid
     → TakesAll takes before events mid → takes mid event after → TakesAll takes before (events ++ event ∷ []) after
 takes_more takes before mid after events event told one = grind (arith, takes_append)
 
+-- the parts that were told are so many, and all that was read so far; the next one may be at the place
+abbrev pub ToldSoFar : {S A : Type 0} → (S → Event → S → Type 0) → (A → Event) → (List ℕ → Reading A)
+    → S → S → List ℕ → ℕ → List ℕ → List ℕ → Type 0
+ToldSoFar takes event one before after text count rest place =
+    WasToldParts takes event before after (λ parts. (count ≡ length parts) × Reached one text parts rest place)
+
+module _ {S A : Type 0} (takes : S → Event → S → Type 0) (event : A → Event) (one : List ℕ → Reading A) where
+  -- nothing was told yet
+  pub told_none : (before : S) (text : List ℕ) → ToldSoFar takes event one before before text 0 text text
+  told_none before text = record { parts = []; told = refl; are = (refl, inl (refl, refl)) }
+
+  -- one part more was told
+  pub told_more : (before mid after : S) (text : List ℕ) (count : ℕ) (rest place : List ℕ) (x : A) (end : List ℕ)
+      → ToldSoFar takes event one before mid text count rest place → one place ≡ reads x end → length end < length place
+      → takes mid (event x) after
+      → WasToldParts takes event before after (λ parts. (count + 1 ≡ length parts) × SoFar one text parts end)
+  told_more before mid after text count rest place x end so_far is less told =
+      let parts = so_far.parts in
+      record {
+        parts = parts ++ x ∷ [];
+        told = rw (map_push event parts x) (takes_more takes before mid after (map event parts) (event x) so_far.told told);
+        are = (
+          (let count = so_far.are.0 in omega (arith, count, length-append parts (x ∷ []))),
+          reached_more one end x so_far.are.1 is less,
+        );
+      }
+
+  -- one part more was told, and a comma comes after it
+  pub told_next : (before mid after : S) (text : List ℕ) (count : ℕ) (rest place : List ℕ) (x : A) (end next : List ℕ)
+      → ToldSoFar takes event one before mid text count rest place → one place ≡ reads x end → length end < length place
+      → takes mid (event x) after → byte comma end ≡ reads comma next → ToldSoFar takes event one before after text (count + 1) end next
+  told_next before mid after text count rest place x end next so_far is less told mark =
+      let more = told_more before mid after text count rest place x end so_far is less told in
+      record {
+        parts = more.parts;
+        told = more.told;
+        are = (more.are.0, inr (record { so_far = more.are.1; mark = mark; some = (let count = more.are.0 in omega arith) }));
+      }
+
+  -- one part more was told, and no comma comes after it
+  pub told_last : (before mid after : S) (text : List ℕ) (count : ℕ) (rest place : List ℕ) (x : A) (end : Bor (List ℕ))
+      → ToldSoFar takes event one before mid text count rest place → one place ≡ reads x end.now → length end.now < length place
+      → takes mid (event x) after → byte comma end.now ≡ miss
+      → WasToldParts takes event before after (AreCounted (Ok (Some (count + 1, end))) (separated_list one text))
+  told_last before mid after text count rest place x end so_far is less told none =
+      let more = told_more before mid after text count rest place x end.now so_far is less told in
+      record { parts = more.parts; told = more.told; are = (more.are.0, last_read one more.are.1 none) }
+
+  -- no part reads at the place: these were all
+  pub told_all : (before after : S) (text : List ℕ) (count : ℕ) (rest : Bor (List ℕ)) (place : List ℕ)
+      → ToldSoFar takes event one before after text count rest.now place → one place ≡ miss → 0 < count
+      → WasToldParts takes event before after (AreCounted (Ok (Some (count, rest))) (separated_list one text))
+  told_all before after text count rest place so_far none some =
+      record {
+        parts = so_far.parts;
+        told = so_far.told;
+        are = (so_far.are.0, reached_all one so_far.are.1 none (let count = so_far.are.0 in omega arith));
+      }
+
+  -- what is at the place is fatal
+  pub told_fatal : (before after : S) (text : List ℕ) (count : ℕ) (rest place : List ℕ) (fault : Fault)
+      → ToldSoFar takes event one before after text count rest place → one place ≡ fatal fault
+      → WasToldParts takes event before after (λ parts. separated_list one text ≡ fatal fault)
+  told_fatal before after text count rest place fault so_far is =
+      record { parts = so_far.parts; told = so_far.told; are = reached_fatal one fault so_far.are.1 is }
+
 -- a line is complete if nothing is left
 pub complete_none : (l : Line) (rest : List ℕ) → length rest ≡ 0 → complete l rest ≡ Ok l
 complete_none l rest none = grind (arith)
@@ -30,6 +97,31 @@ complete_none l rest none = grind (arith)
 -- what is left is its fault
 pub complete_some : (l : Line) (rest : List ℕ) → 0 < length rest → complete l rest ≡ Err (cannot_parse_entire_line rest)
 complete_some l rest some = grind (arith)
+
+-- the measurement of a line was told, and then these tags and fields
+module _ {S : Type 0} (takes : S → Event → S → Type 0) (before begun mid after : S) (m : Text) (tags : List (Pair Text Text))
+    (fields : List (Pair Text (Value Text))) (first : takes before (named m) begun) (tags_told : TakesAll takes begun (map tagged tags) mid)
+    (fields_told : TakesAll takes mid (map valued fields) after) where
+  -- they are a front of events
+  front_told : TakesAll takes before (front_events m tags fields) after
+  front_told = takes_append takes before mid after (named m ∷ map tagged tags) (map valued fields) (begun, first, tags_told) fields_told
+
+  -- the line is at fault after them
+  pub fault_told : (dialect : Dialect) (line : List ℕ) (fault : SpelledFault) → answer dialect line ≡ Err (spelled_fault fault)
+      → WasTold takes before after (AreToldBefore {X = Unit {0}} (Err fault) (answer dialect line))
+  fault_told dialect line fault is = record { events = front_events m tags fields; told = front_told; are = (is, inr (m, tags, fields, refl)) }
+
+  -- the line ends after them
+  pub line_told : (last : S) (set : Option (List (Pair Text Text))) (series : List ℕ) (time : Option ℤ) (dialect : Dialect) (line : List ℕ)
+      → some_tags set ≡ tags → takes after (ended series time) last
+      → answer dialect line ≡ Ok (record { series = series; measurement = m; tags = set; fields = fields; timestamp = time })
+      → WasTold takes before last (AreToldBefore {X = Unit {0}} (Ok (tt {0})) (answer dialect line))
+  line_told last set series time dialect line tags_are done is =
+      record {
+        events = front_events m tags fields ++ ended series time ∷ [];
+        told = takes_more takes before after last (front_events m tags fields) (ended series time) front_told done;
+        are = (record { series = series; measurement = m; tags = set; fields = fields; timestamp = time }, is, rw tags_are refl);
+      }
 
 -- blank pieces have no events
 pub blank_events : (dialect : Dialect) (skipped : List (List ℕ)) → All IsBlankPiece skipped → AreEventsOfAll [] (answers_of dialect skipped)
@@ -53,6 +145,11 @@ line_first dialect (p ∷ skipped) piece pieces first others events blank some i
 pub line_left : (before after : Left) (line : Bor (List ℕ)) (events : List Event) → GivesLine before (Some line) after
     → Completes line.now [] after events → AreEventsLeft before events
 line_left before after line events found h = grind (arith, line_first)
+
+-- a sink was told of events, and with those that are left now they were left before
+abbrev pub ToldTo : {S : Type 0} → (S → Event → S → Type 0) → S → S → (List Event → Type 0) → (List Event → Type 0) → Type 0
+ToldTo takes before after WereLeft AreLeft =
+    WasTold takes before after (λ events. (others : List Event) → AreLeft others → WereLeft (events ++ others))
 
 module _ {S : Type 0} (takes : S → Event → S → Type 0) (before mid after : S) where
   -- it was told of more
@@ -87,23 +184,3 @@ pub told_to_end : {S : Type 0} (takes : S → Event → S → Type 0) (before af
     → ToldTo takes before after WereLeft AreLeft → AreLeft [] → WasTold takes before after WereLeft
 told_to_end takes before after WereLeft AreLeft so_far none =
     record { events = so_far.events; told = so_far.told; are = rw append-nil at (so_far.are [] none) }
-
--- a sink was told of nothing more
-pub told_nothing : {S : Type 0} (takes : S → Event → S → Type 0) (now : S) (WereLeft AreLeft : List Event → Type 0)
-    → ((others : List Event) → AreLeft others → WereLeft others) → ToldTo takes now now WereLeft AreLeft
-told_nothing takes now WereLeft AreLeft seen = record { events = []; told = refl; are = seen }
-
--- what can be left before a fault can be left if that comes first
-pub fault_first : (left : Left) (fault : SpelledFault) (WereLeft : List Event → Type 0)
-    → ((others : List Event) → AreEventsLeft left others → WereLeft (failed (spelled_fault fault) ∷ others))
-    → (events : List Event) → IsLeftAfter {R = Unit {0}} left (λ done. WereLeft) (Err fault) events → WereLeft events
-fault_first left fault WereLeft given events (others, is, later) = rw is (given others later)
-
--- if a sink was told of a line up to the pieces after it, it was told of the events of the line
-pub told_whole : {S : Type 0} (takes : S → Event → S → Type 0) (before after : S) (dialect : Dialect) (line : List ℕ)
-    → (let left : Left = record { dialect = dialect; text = None } in ToldTo takes before after (Completes line [] left) (AreEventsLeft left))
-    → WasTold takes before after (λ events. AreEventsOf events (answer dialect line))
-told_whole takes before after dialect line so_far =
-    let left : Left = record { dialect = dialect; text = None } in
-    let h = so_far.are [] (record { pieces = []; are_left = refl; are = refl }) in
-    record { events = so_far.events; told = so_far.told; are = grind (arith, append-nil) }

@@ -1,12 +1,12 @@
 -- Values that commas join are read one after another; and what a tag set was read from.
-use Rattle.std.proofs.Common.{◌≡◌, ℕ, zero, suc, ◌<◌, ◌≤◌, List, [], ◌∷◌, ◌++◌, length, refl, ◌∙◌, arith, inl, inr}
+use Rattle.std.proofs.Common.{◌≡◌, ℕ, zero, suc, ◌<◌, ◌≤◌, List, [], ◌∷◌, ◌++◌, length, length-append, refl, ap, ◌∙◌, arith, inl, inr}
 use Rattle.std.proofs.Common.{append_assoc, subst, ◌⊎◌, Option, Some, None, Result, Ok, append-nil}
 use Rattle.std.proofs.lemmas.Bool.{cases_Bool}
 use Rattle.lp_format.specs.format.{comma, Dialect, Fault, Text, Read, Reading, miss, fatal, reads, name, a_measurement, Pair, Value}
 use Rattle.lp_format.specs.format.{after_comma, byte, field, field_set, many, prepend, separated_list, some_tags, tag, tag_set}
 use Rattle.lp_format.specs.laws.Meanings.{SeparatedBy, SeparatedAfterComma}
 use Rattle.lp_format.proofs.lemmas.meanings.{JoinedMeaning.the_most_is_read, ShorterRests.tag_no_longer}
-use Rattle.lp_values.proofs.lemmas.fields.ReadingLemmas.{EndsIn, EndsIn-end, EndsIn-self, bind_reads, byte_parts, name_ends}
+use Rattle.lp_values.proofs.lemmas.fields.ReadingLemmas.{EndsIn, EndsIn-end, EndsIn-self, bind_reads, byte_ends, byte_parts, name_ends}
 use Rattle.lp_values.proofs.lemmas.fields.ReadingLemmas.{tag_ends}
 use Rattle.lp_events.specs.code.EventsLeft.{SoFar}
 
@@ -17,6 +17,16 @@ prepend-prepend xs ys rest = grind (arith, append_assoc)
 -- if no element is, none are read
 many_miss : {A : Type 0} (one : List ℕ → Reading A) (n : ℕ) (rest : List ℕ) → one rest ≡ miss → many one n rest ≡ reads [] rest
 many_miss one n rest e = grind (arith)
+
+-- some were read, and a comma after them: the next one may come after it
+pub record AtNext {A : Type 0} (one : List ℕ → Reading A) (text : List ℕ) (done : List A) (rest place : List ℕ) : Type 0 where
+  pub so_far : SoFar one text done rest
+  pub mark : byte comma rest ≡ reads comma place
+  pub some : 0 < length done
+
+-- where the next one may be: at the start of all, or after those that were read and a comma
+abbrev pub Reached : {A : Type 0} → (List ℕ → Reading A) → List ℕ → List A → List ℕ → List ℕ → Type 0
+Reached one text done rest place = ((done ≡ []) × (place ≡ text)) ⊎ AtNext one text done rest place
 
 module _ {A : Type 0} (one : List ℕ → Reading A) where
   -- after the first element the list has it alone
@@ -49,6 +59,35 @@ module _ {A : Type 0} (one : List ℕ → Reading A) where
   pub so_far_fatal : (text : List ℕ) (done : List A) (rest : List ℕ) (e : Fault) → SoFar one text done rest
       → after_comma one rest ≡ fatal e → separated_list one text ≡ fatal e
   so_far_fatal text done rest e so_far found = grind (arith)
+
+  -- what is read after a comma is read where the next one may be
+  next_is : (rest place : List ℕ) → byte comma rest ≡ reads comma place → after_comma one rest ≡ one place
+  next_is rest place mark = rw mark refl
+
+  -- one more is read if it may be
+  pub reached_more : {text : List ℕ} {done : List A} {rest place : List ℕ} (after : List ℕ) (y : A)
+      → Reached one text done rest place → one place ≡ reads y after
+      → length after < length place → SoFar one text (done ++ y ∷ []) after
+  reached_more {text} {done} {rest} {place} after y (inl first) e less = rw first.0 (so_far_start y text after (rw first.1 at e))
+  reached_more {text} {done} {rest} {place} after y (inr more) e less = grind (arith, byte_ends, so_far_more, next_is, length-append)
+
+  -- what is fatal where the next one may be is fatal for all
+  pub reached_fatal : {text : List ℕ} {done : List A} {rest place : List ℕ} (e : Fault)
+      → Reached one text done rest place → one place ≡ fatal e → separated_list one text ≡ fatal e
+  reached_fatal {text} {done} {rest} {place} e (inl first) found = rw (rw first.1 at found) refl
+  reached_fatal {text} {done} {rest} {place} e (inr more) found =
+      so_far_fatal text done rest e more.so_far (next_is rest place more.mark ∙ found)
+
+  -- nothing is read where the next one may be: these are all
+  pub reached_all : {text : List ℕ} {done : List A} {rest place : List ℕ} → Reached one text done rest place
+      → one place ≡ miss → 0 < length done → separated_list one text ≡ reads done rest
+  reached_all {text} {done} {rest} {place} (inl first) e some = absurd (let none = ap length first.0 in omega arith)
+  reached_all {text} {done} {rest} {place} (inr more) e some = so_far_end text done rest more.so_far (next_is rest place more.mark ∙ e)
+
+  -- if no comma comes after them, these are all
+  pub last_read : {text : List ℕ} {done : List A} {rest : List ℕ} → SoFar one text done rest
+      → byte comma rest ≡ miss → separated_list one text ≡ reads done rest
+  last_read {text} {done} {rest} so_far none = so_far_end text done rest so_far (rw none refl)
 
 -- a text begins with a comma, or does not
 pub comma_cases : (text : List ℕ) → (byte comma text ≡ miss) ⊎ ((place : List ℕ) × (byte comma text ≡ reads comma place))

@@ -3,7 +3,7 @@ use Rattle.std.proofs.lemmas.Grind.{common_steps}
 use Rattle.lp_split.specs.code.{rules_of}
 use Rattle.lp_events.specs.code.{EventsLeft.AreLeftFrom, EventsLeft.Completes, EventsLeft.HasEventsLeft, LineSteps.GivesLine}
 use Rattle.lp_events.specs.declared.place.Place.TheVariants.{Fields}
-use Rattle.lp_events.proofs.lemmas.steps.EventSteps.{steps_from, step_less}
+use Rattle.lp_events.proofs.lemmas.pull.EventSteps.{steps_from, step_less}
 use Rattle.lp_events.proofs.lemmas.events.LineEvents.{blank_events, line_left}
 use Rattle.lp_events.proofs.lemmas.lines.LineSteps.{line_less, none_comes}
 use Rattle.lp_events.proofs.pull.ParseEvents.step.Goals as goal
@@ -15,11 +15,11 @@ pub returns-in_ok-next_line-in-Between-clause-steps : goal.returns-in_ok-next_li
 returns-in_ok-next_line-in-Between-clause-steps c =
     let reader = c.args.self.now in
     let line = c.in_ok-next_line-in-Between.field-0 in
-    steps_from (Completes line.now []) (λ left events. left ≡ c.next_line.new.lines → HasEventsLeft reader events) c.at_line.result
+    steps_from (Completes line.now []) (λ left events. left ≡ c.next_line.new.lines → HasEventsLeft reader events) c.begin.result
     (λ left events h same. rw c.in-Between.is
     (line_left reader.lines left line events
     (subst (GivesLine reader.lines (Some line)) (sym same) c.in_ok-next_line-in-Between.ensures.gives) h))
-    c.at_line.ensures.steps
+    c.begin.ensures.steps
 
 pub returns-in_ok-next_line-in-Between-clause-less : goal.returns-in_ok-next_line-in-Between-clause-less
 returns-in_ok-next_line-in-Between-clause-less c = grind (arith, common_steps, step_less, line_less)

@@ -1,4 +1,5 @@
-use Rattle.lp_events.specs.code.EventsLeft.{HasEventsLeft, ToldTo}
+use Rattle.lp_events.specs.code.EventsLeft.{HasEventsLeft}
+use Rattle.lp_events.proofs.lemmas.events.LineEvents.{ToldTo}
 use Rattle.lp_events.proofs.pull.ParseEvents.tell.Given as goal
 
 abbrev pub invariant-loop-event : goal.invariant-loop-event
