@@ -113,8 +113,9 @@ fn escapes_to_end(kind: TokenKind, bytes: &[u8], at: usize, found: usize) -> (us
 
 // The end of the token at the start of `text`, of which the first backslash is at `at`, and how many bytes it takes without its
 // escapes.
-#[inline(always)]
-fn escaped_end_of(kind: TokenKind, text: &str, at: usize) -> (usize, usize)
+#[cold]
+#[inline(never)]
+fn escaped_end(kind: TokenKind, text: &str, at: usize) -> (usize, usize)
     requires run { IsRunAt (is_plain (stops_of kind)) text.now 0 at }
     requires within { at < length text.now }
     requires here { slice_index text.now at ≡ backslash }
@@ -135,25 +136,6 @@ fn escaped_end_of(kind: TokenKind, text: &str, at: usize) -> (usize, usize)
     }
     let (end, known) = escapes_to_end(kind, bytes, end, known);
     (end, end - known)
-}
-
-// The same, with a loop for each set of bytes that end a token, which then compares with bytes that are known.
-#[cold]
-#[inline(never)]
-fn escaped_end(kind: TokenKind, text: &str, at: usize) -> (usize, usize)
-    requires run { IsRunAt (is_plain (stops_of kind)) text.now 0 at }
-    requires within { at < length text.now }
-    requires here { slice_index text.now at ≡ backslash }
-    ensures end { result.0 ≡ first_bare (stops_of kind) text.now }
-    ensures told { IsTold (known_of kind) (take result.0 text.now) result.1 false }
-    ensures boundary { IsCharBoundary text.now result.0 }
-{
-    match kind {
-        TokenKind::Measurement => escaped_end_of(TokenKind::Measurement, text, at),
-        TokenKind::TagKey | TokenKind::FieldKey => { escaped_end_of(TokenKind::TagKey, text, at) }
-        TokenKind::TagValue => escaped_end_of(TokenKind::TagValue, text, at),
-        TokenKind::String => escaped_end_of(TokenKind::String, text, at),
-    }
 }
 
 // The end of the token at the start of `text`, how many bytes it takes without its escapes, and whether it holds no backslash.
@@ -199,6 +181,7 @@ fn begins_escaped(kind: TokenKind, spelling: &[u8]) -> bool
 }
 
 // The place of the first byte of the logical text that is spelled from `at` on: after the backslash of a known escape.
+#[tactic(auto, using(std::proofs::lemmas::Grind::common_steps, std::proofs::lemmas::List::take_rest, crate::proofs::lemmas::tokens::TokenLemmas::byte_at, crate::proofs::lemmas::tokens::TokenLemmas::escape_at))]
 #[inline(always)]
 fn first_byte_at(kind: TokenKind, spelling: &[u8], at: usize) -> usize
     requires { at < length spelling.now }
@@ -263,6 +246,7 @@ fn backslash_at(bytes: &[u8], at: usize) -> usize
 }
 
 /// The first stretch from `at` on that a spelling and its logical text have in common: from one place up to a backslash, or the end.
+#[tactic(auto, using(std::proofs::lemmas::Grind::common_steps, crate::proofs::lemmas::tokens::TokenLemmas::stretch_stays))]
 #[inline(always)]
 pub(crate) fn stretch_at(kind: TokenKind, spelling: &[u8], at: usize) -> (usize, usize)
     requires { at < length spelling.now }
@@ -307,6 +291,7 @@ fn copy(alloc: Global, kind: TokenKind, spelled: &str, len: usize) -> Result<Str
 }
 
 // The logical text of `text`, which holds a backslash, and takes `len` bytes without its escapes.
+#[tactic(auto, using(std::proofs::lemmas::Grind::common_steps, crate::proofs::lemmas::tokens::TokenLemmas::read_escape))]
 #[inline(always)]
 pub(crate) fn unescaped<'a>(
     alloc: Global,
