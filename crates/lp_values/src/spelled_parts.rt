@@ -86,6 +86,7 @@ fn unsigned<'a>(text: &'a str, whole: usize) -> Front<'a, SpelledValue<'a>>
 }
 
 // A number at the start of `text`, by the byte after its integer, and the rest.
+#[tactic(auto, using(crate::proofs::lemmas::fields::ReadingLemmas::which_number))]
 #[inline(always)]
 fn number<'a>(text: &'a str) -> Front<'a, SpelledValue<'a>>
     ensures value { GivesSpelled spelled_value result (integer_at text.now otherwise unsigned_at text.now otherwise float_at text.now) }
