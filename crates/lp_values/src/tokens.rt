@@ -113,9 +113,8 @@ fn escapes_to_end(kind: TokenKind, bytes: &[u8], at: usize, found: usize) -> (us
 
 // The end of the token at the start of `text`, of which the first backslash is at `at`, and how many bytes it takes without its
 // escapes.
-#[cold]
-#[inline(never)]
-fn escaped_end(kind: TokenKind, text: &str, at: usize) -> (usize, usize)
+#[inline(always)]
+fn escaped_end_of(kind: TokenKind, text: &str, at: usize) -> (usize, usize)
     requires run { IsRunAt (is_plain (stops_of kind)) text.now 0 at }
     requires within { at < length text.now }
     requires here { slice_index text.now at ≡ backslash }
@@ -136,6 +135,26 @@ fn escaped_end(kind: TokenKind, text: &str, at: usize) -> (usize, usize)
     }
     let (end, known) = escapes_to_end(kind, bytes, end, known);
     (end, end - known)
+}
+
+// The same, with a loop for each set of bytes that end a token, which then compares with bytes that are known: with one loop for
+// all of them, events take 2.8 times the instructions on `escapes`.
+#[cold]
+#[inline(never)]
+fn escaped_end(kind: TokenKind, text: &str, at: usize) -> (usize, usize)
+    requires run { IsRunAt (is_plain (stops_of kind)) text.now 0 at }
+    requires within { at < length text.now }
+    requires here { slice_index text.now at ≡ backslash }
+    ensures end { result.0 ≡ first_bare (stops_of kind) text.now }
+    ensures told { IsTold (known_of kind) (take result.0 text.now) result.1 false }
+    ensures boundary { IsCharBoundary text.now result.0 }
+{
+    match kind {
+        TokenKind::Measurement => escaped_end_of(TokenKind::Measurement, text, at),
+        TokenKind::TagKey | TokenKind::FieldKey => { escaped_end_of(TokenKind::TagKey, text, at) }
+        TokenKind::TagValue => escaped_end_of(TokenKind::TagValue, text, at),
+        TokenKind::String => escaped_end_of(TokenKind::String, text, at),
+    }
 }
 
 // The end of the token at the start of `text`, how many bytes it takes without its escapes, and whether it holds no backslash.

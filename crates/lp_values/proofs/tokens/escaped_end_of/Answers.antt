@@ -6,7 +6,7 @@ use Rattle.lp_format.specs.format.{without_escapes, backslash}
 use Rattle.lp_values.specs.code.RawTokens.{IsTold}
 use Rattle.lp_format.proofs.lemmas.tokens.EscapeLemmas.{is_one_of_front}
 use Rattle.lp_values.proofs.lemmas.tokens.{TokenLemmas.backslash_goes_on, WalkLemmas.walk_start, WalkLemmas.walk_run, WalkLemmas.walk_ends}
-use Rattle.lp_values.proofs.tokens.escaped_end.Goals as goal
+use Rattle.lp_values.proofs.tokens.escaped_end_of.Goals as goal
 
 pub loop-end-init : goal.loop-end-init
 loop-end-init c =

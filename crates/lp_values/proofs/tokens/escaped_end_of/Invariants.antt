@@ -1,7 +1,7 @@
 use Rattle.std.proofs.Common.{◌-◌, ◌≤◌, length}
 use Rattle.lp_format.specs.format.Escapes.{EscapeScan}
 use Rattle.lp_scan.specs.code.Tokens.{stops_of, known_of}
-use Rattle.lp_values.proofs.tokens.escaped_end.Given as goal
+use Rattle.lp_values.proofs.tokens.escaped_end_of.Given as goal
 
 -- the walk is at a bare place, at the first backslash or after it
 abbrev pub invariant-loop-end : goal.invariant-loop-end
