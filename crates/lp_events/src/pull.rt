@@ -93,6 +93,7 @@ fn next_field<'a>(text: &'a str) -> Front<'a, (Spelled<'a>, SpelledValue<'a>)>
 }
 
 // The measurement of a trimmed text.
+#[tactic(auto, using(crate::proofs::lemmas::pull::EventSteps::first_steps), unfolding(lp_format::specs::format::Lines::answer))]
 #[inline(always)]
 fn begin<'a>(line: &'a str) -> Step<'a>
     ensures steps { Steps (Completes line.now []) result }
@@ -110,6 +111,7 @@ fn begin<'a>(line: &'a str) -> Step<'a>
 }
 
 // The first field of a line, after its tags and spaces.
+#[tactic(auto, using(crate::proofs::lemmas::pull::EventSteps::first_steps), unfolding(lp_format::specs::format::Lines::answer))]
 #[inline(always)]
 fn first_field<'a>(names: Names<'a>) -> Step<'a>
     ensures steps { Steps (AreLeftAfterSeries names.entry.line.now names.entry.rest.now) result }

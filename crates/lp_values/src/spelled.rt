@@ -108,6 +108,7 @@ impl<'a> Spelled<'a> {
     /// # Errors
     ///
     /// If memory was refused.
+    #[tactic(auto, using(std::proofs::lemmas::Grind::common_steps, crate::proofs::lemmas::tokens::TokenLemmas::read_plain))]
     #[inline(always)]
     pub fn to_escaped_str(&self, alloc: Global) -> Result<EscapedStr<'a>, AllocError>
         ensures text { IfOk result (λ text. read_of text ≡ spelled_text self.now) }
@@ -126,6 +127,7 @@ impl<'a> Spelled<'a> {
 /// ```text
 /// cpu\ load  puts the copy  cpu load  in the place of  disk load
 /// ```
+#[tactic(auto, using(std::proofs::lemmas::Grind::common_steps, crate::proofs::lemmas::tokens::TokenLemmas::read_plain))]
 #[inline(always)]
 pub fn put_text<'a>(alloc: Global, place: &mut EscapedStr<'a>, text: Spelled<'a>) -> bool
     ensures text { result ≡ true → read_of place.new ≡ spelled_text text.entry }

@@ -66,6 +66,7 @@ fn integer<'a>(text: &'a str, whole: usize) -> Front<'a, SpelledValue<'a>>
 }
 
 // Digits and `u` at the start of `text`, and the rest, where the digits take `whole` bytes.
+#[tactic(auto, using(std::proofs::lemmas::Grind::common_steps, lp_format::proofs::lemmas::values::ValueLemmas::front_numeral, lp_format::proofs::lemmas::values::ValueLemmas::unsigned_overflows, lp_format::proofs::lemmas::values::ValueLemmas::unsigned_reads))]
 #[inline(always)]
 fn unsigned<'a>(text: &'a str, whole: usize) -> Front<'a, SpelledValue<'a>>
     requires whole { whole ≡ digits_len text.now }
@@ -85,6 +86,7 @@ fn unsigned<'a>(text: &'a str, whole: usize) -> Front<'a, SpelledValue<'a>>
 }
 
 // A number at the start of `text`, by the byte after its integer, and the rest.
+#[tactic(auto, using(crate::proofs::lemmas::fields::ReadingLemmas::which_number))]
 #[inline(always)]
 fn number<'a>(text: &'a str) -> Front<'a, SpelledValue<'a>>
     ensures value { GivesSpelled spelled_value result (integer_at text.now otherwise unsigned_at text.now otherwise float_at text.now) }
@@ -124,6 +126,7 @@ fn string<'a>(text: &'a str) -> Front<'a, SpelledValue<'a>>
 }
 
 // A Boolean at the start of `text`, and the rest.
+#[tactic(auto, using(std::proofs::lemmas::Grind::common_steps, lp_format::proofs::lemmas::values::ValueLemmas::boolean_misses, std::proofs::Common::rules))]
 #[inline(always)]
 fn boolean<'a>(text: &'a str) -> Front<'a, SpelledValue<'a>>
     ensures value { GivesSpelled spelled_value result (boolean_at true true_words text.now otherwise boolean_at false false_words text.now) }
@@ -136,6 +139,7 @@ fn boolean<'a>(text: &'a str) -> Front<'a, SpelledValue<'a>>
 }
 
 /// The value at the start of `text` as it is spelled, and the rest. `None` if none is there.
+#[tactic(auto, using(std::proofs::lemmas::Grind::common_steps, lp_format::proofs::lemmas::values::ValueForms::number_form, lp_format::proofs::lemmas::values::ValueForms::string_form, lp_format::proofs::lemmas::values::ValueForms::boolean_form))]
 #[inline(always)]
 pub fn value<'a>(text: &'a str) -> Front<'a, SpelledValue<'a>>
     ensures value { GivesSpelled spelled_value result (value text.now) }

@@ -3,12 +3,12 @@ use Rattle.std.proofs.Common.{◌≡◌, ℕ, ◌-◌, ◌<◌, List, [], ◌∷
 use Rattle.std.proofs.Common.{append_assoc, length-append, length-drop, length-take, ◌+◌, ◌≤◌, ℤ, ◌==◌, MatchOption, Option, Some}
 use Rattle.std.proofs.Common.{Result, Ok, Err, is_some, IfOk, MatchResult, Bor, ne_eqb, append-nil}
 use Rattle.std.proofs.Math.Seq.{take-append_seam}
-use Rattle.std.proofs.lemmas.{Bool.cases_Bool, Bool.Decides.nat_tests, List.map_push}
+use Rattle.std.proofs.lemmas.{Bool.cases_Bool, Bool.Decides.nat_tests, Grind.common_steps, List.map_push, Result.err_from_is_err_and}
 use Rattle.lp_events.specs.declared.pull.Event as given
 use Rattle.lp_format.specs.format.{comma, space, Dialect, after_comma, answer, byte, field, field_set, front_before, spaces, tag, timestamp}
 use Rattle.lp_format.specs.format.{without_comma, complete, NameKind, name, Left, Pair, Fault, Text, cannot_parse_entire_line, fatal, miss}
 use Rattle.lp_format.specs.format.{reads, tag_set_malformed, Value}
-use Rattle.lp_values.proofs.lemmas.fields.ReadingLemmas.{EndsIn, bind_reads, byte_parts, name_parts}
+use Rattle.lp_values.proofs.lemmas.fields.ReadingLemmas.{EndsIn, bind_reads, byte_parts, name_ends, name_parts}
 use Rattle.lp_values.specs.declared.spelled.SpelledFault.{SpelledFault}
 use Rattle.lp_events.specs.code.Events.{AreEventsOf, AreFrontEvents, Event, ended, failed, front_events, tagged, valued}
 use Rattle.lp_events.specs.code.EventsLeft.{AreEventsLeft, Completes, FieldsRead, NamesRead, SeriesRead, Steps}
@@ -179,3 +179,6 @@ field_after m tags fields x = simp (append_assoc, map_push)
 pub step_less : (result : Result (given.Event × Place) SpelledFault) (line after before : ℕ) → IfOk result (λ p. most_of_line p.1 < line + 1)
     → line + 1 + after ≤ before → MatchResult result (λ p. most_of_line p.1 + after < before) (λ fault. after < before)
 step_less fault line after before less fits = grind (arith)
+
+-- what shows that the first steps of a line are right
+pub ruleset first_steps = (common_steps, err_from_is_err_and, completes_fault, front_is, name_ends, name_shorter)

@@ -1,21 +1,7 @@
-use Rattle.std.proofs.Common.{[], ◌∷◌, arith}
-use Rattle.std.proofs.lemmas.{Grind.common_steps, Result.err_from_is_err_and}
-use Rattle.lp_format.specs.format.Lines.{answer}
+use Rattle.std.proofs.Common.{[], ◌∷◌}
 use Rattle.lp_events.specs.code.Events.{spelled_field}
-use Rattle.lp_events.proofs.lemmas.pull.EventSteps.{completes_fault, completes_more, field_after, first_read}
+use Rattle.lp_events.proofs.lemmas.pull.EventSteps.{completes_more, field_after, first_read}
 use Rattle.lp_events.proofs.pull.first_field.Goals as goal
-
-pub returns-in_default-clause-steps : goal.returns-in_default-clause-steps
-unfolding answer
-returns-in_default-clause-steps c = grind (arith, common_steps, completes_fault)
-
-pub returns-in_err-key-clause-steps : goal.returns-in_err-key-clause-steps
-unfolding answer
-returns-in_err-key-clause-steps c = grind (arith, common_steps, err_from_is_err_and, completes_fault)
-
-pub returns-in_default-2-clause-steps : goal.returns-in_default-2-clause-steps
-unfolding answer
-returns-in_default-2-clause-steps c = grind (arith, common_steps, completes_fault)
 
 pub returns-clause-steps : goal.returns-clause-steps
 returns-clause-steps c = λ left others later m tags h.

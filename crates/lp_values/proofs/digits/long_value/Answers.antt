@@ -4,15 +4,6 @@ use Rattle.std.specs.Str.Parse.{AllDigits, digits_value}
 use Rattle.lp_values.proofs.lemmas.digits.DigitLemmas.{few_fit, by_last, digits_parts, whole_lanes}
 use Rattle.lp_values.proofs.digits.long_value.Goals as goal
 
-pub value_after-requires-clause-digits : goal.value_after-requires-clause-digits
-value_after-requires-clause-digits c = grind (arith, common_steps, digits_parts)
-
-pub value_after-requires-clause-fits : goal.value_after-requires-clause-fits
-value_after-requires-clause-fits c = grind (arith, common_steps, digits_parts, few_fit)
-
-pub overflow_mul-result : goal.overflow_mul-result
-overflow_mul-result c = grind (arith, common_steps, by_last, few_fit)
-
 pub lanes_number-requires-clause-digits : goal.lanes_number-requires-clause-digits
 lanes_number-requires-clause-digits c =
     let ds = c.args.digits.now in

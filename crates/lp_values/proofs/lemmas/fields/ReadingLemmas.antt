@@ -1,4 +1,6 @@
 -- What comes after a reading ends the text.
+use Rattle.std.proofs.lemmas.{Grind.common_steps, Bool.eqb-false}
+use Rattle.lp_format.proofs.lemmas.values.{ValueForms.no_number, ValueForms.float_is, ValueForms.unsigned_is, ValueLemmas.integer_decides}
 use Rattle.std.proofs.Common.{◌≡◌, ℕ, List, [], ◌∷◌, ◌++◌, take, drop, sym, ◌∙◌, ap, refl, append_assoc, arith, eqb-true, take-append-drop}
 use Rattle.std.proofs.lemmas.Bool.{cases_Bool}
 use Rattle.lp_format.specs.format.{comma, equals, Text, Read, Reading, reads, ◌>>=◌, NameKind, name, a_tag_key, a_tag_value, escapable}
@@ -87,3 +89,6 @@ pub after_comma_ends : {A : Type 0} (one : List ℕ → Reading A)
 after_comma_ends one ends text x rest e =
     let mark = bind_reads (byte comma text) _ x rest e in
     EndsIn-end text mark.mid rest (byte_ends comma text mark.first mark.mid mark.was) (ends mark.mid x rest mark.next)
+
+-- what tells which number a text begins with
+pub ruleset which_number = (common_steps, eqb-false, eqb-true, no_number, integer_decides, unsigned_is, float_is)

@@ -1,4 +1,4 @@
-use Rattle.std.proofs.Common.{◌≡◌, ◌≤◌, ◌+◌, length, arith, rules}
+use Rattle.std.proofs.Common.{◌≡◌, ◌≤◌, ◌+◌, length, arith}
 use Rattle.std.proofs.lemmas.{Grind.common_steps, Str.IsCharBoundary-start}
 use Rattle.lp_format.specs.format.Values.{float_len}
 use Rattle.lp_format.proofs.lemmas.literals.FloatLemmas.{float_boundary, integer_len_fits}
@@ -6,12 +6,6 @@ use Rattle.lp_values.proofs.literals.float_len.Goals as goal
 
 pub returns-then-whole-eq0-clause-boundary : goal.returns-then-whole-eq0-clause-boundary
 returns-then-whole-eq0-clause-boundary c = IsCharBoundary-start c.args.text.now c.utf8.text
-
-pub slice_bounds-after-count : goal.slice_bounds-after-count
-slice_bounds-after-count c = omega (arith, integer_len_fits c.args.text.now)
-
-pub slice_bounds-after-start : goal.slice_bounds-after-start
-slice_bounds-after-start c = grind (arith, common_steps, integer_len_fits, rules)
 
 pub returns-clause-boundary : goal.returns-clause-boundary
 returns-clause-boundary c =
