@@ -1,13 +1,11 @@
 -- The texts that the builder writes for the parts of a parsed line.
 use Rattle.std.specs.Prelude.{ℕ, List, [], ◌∷◌, ◌++◌, map, flat_map}
-use Rattle.std.specs.List.{AllByRecursion}
-use Rattle.lp_values.specs.declared.{escaped.EscapedStr.EscapedStr, values.FieldValue.FieldValue, values.FieldValue.TheVariants.String}
+use Rattle.lp_values.specs.declared.{escaped.EscapedStr.EscapedStr, values.FieldValue.FieldValue}
 use Rattle.lp_build.specs.declared.builder.lines.Parts.{Parts}
-use Rattle.lp_format.specs.format.{newline, space, a_measurement, a_tag_key, a_tag_value, a_field_key, escapable, quotable, Tag, Field}
+use Rattle.lp_format.specs.format.{newline, space, a_measurement, Tag, Field}
 use Rattle.lp_format.specs.format.{spelling, built_tag, built_value, built_fields, built_timestamp, logical_tag, logical_field}
 use Rattle.lp_format.specs.format.{logical_value}
-use Rattle.lp_values.specs.code.{Texts.text_of, ReadValues.value_of}
-use Rattle.lp_build.specs.code.Built.{IsPlainText}
+use Rattle.lp_values.specs.code.ReadValues.{value_of}
 use Rattle.lp_lines.specs.code.Parsed.{tag_of, field_of}
 
 -- the text of a value
@@ -35,26 +33,3 @@ unfoldable pub parts_text : Parts → List ℕ
 parts_text p =
     spelling a_measurement p.measurement.now ++ flat_map tag_text p.tags.now ++ fields_text space p.fields.now
     ++ built_timestamp p.timestamp ++ newline ∷ []
-
--- no byte of a tag gets a backslash
-abbrev pub IsPlainTag : EscapedStr × EscapedStr → Type 0
-IsPlainTag t = IsPlainText (escapable a_tag_key) (text_of t.0) × IsPlainText (escapable a_tag_value) (text_of t.1)
-
--- the text between the quotes of a value, and none if it has no quotes
-abbrev pub quoted_text : FieldValue → List ℕ
-quoted_text (String t) = text_of t
-quoted_text other = []
-
--- no byte of a value gets a backslash
-abbrev pub IsPlainValue : FieldValue → Type 0
-IsPlainValue v = IsPlainText quotable (quoted_text v)
-
--- no byte of a field gets a backslash
-abbrev pub IsPlainField : EscapedStr × FieldValue → Type 0
-IsPlainField f = IsPlainText (escapable a_field_key) (text_of f.0) × IsPlainValue f.1
-
--- no byte of the parts of a line gets a backslash
-pub record ArePlainParts (p : Parts) : Type 0 where
-  pub measurement : IsPlainText (escapable a_measurement) p.measurement.now
-  pub tags : AllByRecursion IsPlainTag p.tags.now
-  pub fields : AllByRecursion IsPlainField p.fields.now

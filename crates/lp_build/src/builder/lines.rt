@@ -1,23 +1,22 @@
 //! Parsed lines that are written again.
 
-ghost use Rattle.std.specs.Prelude.{◌≡◌, ℕ, ◌+◌, ◌<◌, ◌≤◌, ◌^◌, ◌∷◌, ◌++◌, length, not, true, IfSome, SomeIff, option_map, flat_map};
-ghost use Rattle.std.specs.List.{AllByRecursion, list_all};
+ghost use Rattle.std.specs.Prelude.{◌≡◌, ℕ, ◌+◌, ◌<◌, ◌≤◌, ◌^◌, ◌∷◌, ◌++◌, length, not, SomeIff, flat_map};
+ghost use Rattle.std.specs.List.{list_all};
 ghost use Rattle.smallvec.specs.SmallVec.{small_vec_len};
 ghost use Rattle.lp_format.specs.format.{is_one_of, space, built, built_timestamp, built_value, field_text, is_admitted_field};
 ghost use Rattle.lp_format.specs.format.{is_admitted_name, is_admitted_point, is_admitted_tag, never_in, float};
 ghost use Rattle.lp_values.specs.code.Outcomes.{kind_of};
 ghost use Rattle.lp_lines.specs.code.Parsed.{parsed_point};
 ghost use Rattle.lp_values.specs.code.Texts.{literal_of, text_of};
-ghost use Rattle.lp_build.specs.code.WrittenAgain.{ArePlainParts, IsPlainField, IsPlainTag, IsPlainValue, fields_text, parts_text};
+ghost use Rattle.lp_build.specs.code.WrittenAgain.{fields_text, parts_text};
 ghost use Rattle.lp_build.specs.code.WrittenAgain.{point_field, point_tag, tag_text, value_text};
 ghost use Rattle.lp_build.specs.code.Built.{Writes, buffer_of};
 
 use super::marks::is_free_of;
-use super::texts::{Extent, measure, put_escaped};
-use super::values::put_string;
+use super::texts::{escaped_len, put_escaped};
 use super::{
-    BeforeMeasurement, BufMut, FieldValue, LineProtocolBuilder, Refused, measure_tag, put_field,
-    put_tag,
+    BeforeMeasurement, BufMut, FieldValue, LineProtocolBuilder, Refused, field_len, put_field,
+    put_tag, tag_len,
 };
 use lp_lines::ParsedLine;
 use lp_lines::parsed::tags_in;
@@ -93,160 +92,88 @@ pub fn is_admitted(line: &ParsedLine<'_>) -> bool
         && are_fields_admitted(line.field_set.as_slice())
 }
 
-// A value of a parsed line, as the builder takes it, and whether its text is known to get no backslash.
-#[derive(Clone, Copy)]
-struct ReadValue<'l, 'a> {
-    value: &'l values::FieldValue<'a>,
-    is_plain: bool,
-    ghost told: { is_plain ≡ true → IsPlainValue value.now },
-}
-
-impl FieldValue for ReadValue<'_, '_> {
-    ghost text = { λ v. value_text v.value.now };
+/// The value, as the call for its own type writes it.
+impl FieldValue for values::FieldValue<'_> {
+    ghost text = { λ v. value_text v };
 
     fn fmt_len(&self) -> Option<usize> {
-        Some(measure_value(self.value)?.len)
+        match self {
+            values::FieldValue::I64(value) => value.fmt_len(),
+            values::FieldValue::U64(value) => value.fmt_len(),
+            values::FieldValue::F64(value) => value.fmt_len(),
+            values::FieldValue::String(value) => value.as_str().fmt_len(),
+            values::FieldValue::Boolean(value) => value.fmt_len(),
+        }
     }
 
     fn fmt<B: BufMut>(&self, buf: &mut B) {
-        match self.value {
+        match self {
             values::FieldValue::I64(value) => value.fmt(buf),
             values::FieldValue::U64(value) => value.fmt(buf),
             values::FieldValue::F64(value) => value.fmt(buf),
-            values::FieldValue::String(value) => {
-                put_string(buf, self.is_plain, value.as_str().as_bytes());
-            }
+            values::FieldValue::String(value) => value.as_str().fmt(buf),
             values::FieldValue::Boolean(value) => value.fmt(buf),
         }
     }
 }
 
-// The length of the tags, each with its comma, if a `usize` holds it, and whether none gets a backslash.
-fn measure_tags(tags: &[(EscapedStr<'_>, EscapedStr<'_>)]) -> Option<Extent>
-    ensures len { let text = flat_map tag_text tags.now in
-        SomeIff (option_map (λ m. m.len) result) (length text < 2 ^ 64) (length text) }
-    ensures plain { IfSome result (λ m. m.is_plain ≡ true → AllByRecursion IsPlainTag tags.now) }
+// The length of the tags, each with its comma, if a `usize` holds it.
+fn tags_len(tags: &[(EscapedStr<'_>, EscapedStr<'_>)]) -> Option<usize>
+    ensures { let text = flat_map tag_text tags.now in
+        SomeIff result (length text < 2 ^ 64) (length text) }
 {
     let mut len = 0usize;
-    let mut is_plain = true;
-    for tag in tags {
-        let one = measure_tag(tag.0.as_str().as_bytes(), tag.1.as_str().as_bytes())?;
-        len = len.checked_add(one.len)?;
-        is_plain &= one.is_plain;
+    for (key, value) in tags {
+        len = len.checked_add(tag_len(key.as_str().as_bytes(), value.as_str().as_bytes())?)?;
     }
-    Some(Extent { len, is_plain })
+    Some(len)
 }
 
 // Appends the tags, each with its comma.
-fn put_tags<B: BufMut>(buf: &mut B, is_plain: bool, tags: &[(EscapedStr<'_>, EscapedStr<'_>)])
-    requires plain { is_plain ≡ true → AllByRecursion IsPlainTag tags.now }
-    requires room { length (flat_map tag_text tags.now) ≤ B.room buf.old }
+fn put_tags<B: BufMut>(buf: &mut B, tags: &[(EscapedStr<'_>, EscapedStr<'_>)])
+    requires { length (flat_map tag_text tags.now) ≤ B.room buf.old }
     ensures bytes { B.bytes buf.new ≡ B.bytes buf.old ++ flat_map tag_text tags.now }
     ensures room { B.room buf.old ≤ B.room buf.new + length (flat_map tag_text tags.now) }
 {
     for (key, value) in tags {
-        put_tag(
-            buf,
-            is_plain,
-            key.as_str().as_bytes(),
-            value.as_str().as_bytes(),
-        );
+        put_tag(buf, key.as_str().as_bytes(), value.as_str().as_bytes());
     }
 }
 
-// The length of a field with the byte before it, if a `usize` holds it, and whether it gets no backslash.
-fn measure_field(field: &(EscapedStr<'_>, values::FieldValue<'_>)) -> Option<Extent>
-    ensures len { let text = space ∷ field_text (text_of field.now.0) (value_text field.now.1) in
-        SomeIff (option_map (λ m. m.len) result) (length text < 2 ^ 64) (length text) }
-    ensures plain { IfSome result (λ m. m.is_plain ≡ true → IsPlainField field.now) }
-{
-    let key = measure(TokenKind::FieldKey, field.0.as_str().as_bytes());
-    let value = measure_value(&field.1)?;
-    Some(Extent {
-        len: key.len.checked_add(value.len)?.checked_add(2)?,
-        is_plain: key.is_plain && value.is_plain,
-    })
-}
-
-// The length of a text that gets no backslash.
-fn plain_extent(len: Option<usize>) -> Option<Extent>
-    ensures { option_map (λ e. e.len) result ≡ len }
-{
-    let len = len?;
-    Some(Extent {
-        len,
-        is_plain: true,
-    })
-}
-
-// The length of a value's text, if a `usize` holds it, and whether it gets no backslash.
-#[inline(always)]
-#[tactic(auto, using(crate::proofs::lemmas::builder::BuilderLemmas::escaped_nothing))]
-fn measure_value(value: &values::FieldValue<'_>) -> Option<Extent>
-    ensures len { SomeIff (option_map (λ m. m.len) result) (length (value_text value.now) < 2 ^ 64) (length (value_text value.now)) }
-    ensures plain { IfSome result (λ m. m.is_plain ≡ true → IsPlainValue value.now) }
-{
-    match value {
-        values::FieldValue::I64(value) => plain_extent(value.fmt_len()),
-        values::FieldValue::U64(value) => plain_extent(value.fmt_len()),
-        values::FieldValue::F64(value) => plain_extent(value.fmt_len()),
-        values::FieldValue::Boolean(value) => plain_extent(value.fmt_len()),
-        values::FieldValue::String(text) => {
-            let text = measure(TokenKind::String, text.as_str().as_bytes());
-            Some(Extent {
-                len: text.len.checked_add(2)?,
-                is_plain: text.is_plain,
-            })
-        }
-    }
-}
-
-// The length of the fields, each with the byte before it, if a `usize` holds it, and whether none gets a backslash.
+// The length of the fields, each with the byte before it, if a `usize` holds it.
 #[tactic(auto, using(crate::proofs::lemmas::builder::WrittenAgainLemmas::length_fields_after))]
-fn measure_fields(fields: &[(EscapedStr<'_>, values::FieldValue<'_>)]) -> Option<Extent>
-    ensures len { let text = fields_text space fields.now in
-        SomeIff (option_map (λ m. m.len) result) (length text < 2 ^ 64) (length text) }
-    ensures plain { IfSome result (λ m. m.is_plain ≡ true → AllByRecursion IsPlainField fields.now) }
+fn fields_len(fields: &[(EscapedStr<'_>, values::FieldValue<'_>)]) -> Option<usize>
+    ensures { let text = fields_text space fields.now in
+        SomeIff result (length text < 2 ^ 64) (length text) }
 {
     let mut len = 0usize;
-    let mut is_plain = true;
-    for field in fields {
-        let one = measure_field(field)?;
-        len = len.checked_add(one.len)?;
-        is_plain &= one.is_plain;
+    for (key, value) in fields {
+        len = len.checked_add(field_len(key.as_str().as_bytes(), value)?)?;
     }
-    Some(Extent { len, is_plain })
+    Some(len)
 }
 
 // Appends the fields, the first after a space and each other after a comma.
-fn put_fields<B: BufMut>(
-    buf: &mut B,
-    is_plain: bool,
-    fields: &[(EscapedStr<'_>, values::FieldValue<'_>)],
-)
-    requires plain { is_plain ≡ true → AllByRecursion IsPlainField fields.now }
-    requires room { length (fields_text space fields.now) ≤ B.room buf.old }
+fn put_fields<B: BufMut>(buf: &mut B, fields: &[(EscapedStr<'_>, values::FieldValue<'_>)])
+    requires { length (fields_text space fields.now) ≤ B.room buf.old }
     ensures bytes { B.bytes buf.new ≡ B.bytes buf.old ++ fields_text space fields.now }
     ensures room { B.room buf.old ≤ B.room buf.new + length (fields_text space fields.now) }
 {
     let mut before = b' ';
     for (key, value) in fields {
-        let value = ReadValue { value, is_plain };
-        put_field(buf, before, is_plain, key.as_str().as_bytes(), &value);
+        put_field(buf, before, key.as_str().as_bytes(), value);
         before = b',';
     }
 }
 
-// The length of the timestamp with the space before it: 0, if there is none.
-fn timestamp_len(timestamp: Option<i64>) -> usize
-    ensures value { result ≡ length (built_timestamp timestamp) }
-    ensures few { result ≤ 21 }
+// The length of the timestamp with the space before it: 0, if there is none. A space is as long as the letter of an integer.
+fn timestamp_len(timestamp: Option<i64>) -> Option<usize>
+    ensures { SomeIff result (length (built_timestamp timestamp) < 2 ^ 64) (length (built_timestamp timestamp)) }
 {
-    let Some(timestamp) = timestamp else {
-        return 0;
-    };
-    let mut digits = itoa::Buffer::new();
-    digits.format(timestamp).len() + 1
+    match timestamp {
+        Some(timestamp) => timestamp.fmt_len(),
+        None => Some(0),
+    }
 }
 
 // Appends the timestamp, if there is one, with the space before it.
@@ -284,37 +211,29 @@ impl<'l, 'a> Parts<'l, 'a> {
         }
     }
 
-    // The length of the line and its newline, if a `usize` holds it, and whether it gets no backslash.
+    // The length of the line and its newline, if a `usize` holds it.
     #[tactic(auto, unfolding(crate::specs::code::WrittenAgain::parts_text))]
-    fn measure(&self) -> Option<Extent>
-        ensures len { let text = parts_text self.now in
-            SomeIff (option_map (λ m. m.len) result) (length text < 2 ^ 64) (length text) }
-        ensures plain { IfSome result (λ m. m.is_plain ≡ true → ArePlainParts self.now) }
+    fn len(&self) -> Option<usize>
+        ensures { let text = parts_text self.now in
+            SomeIff result (length text < 2 ^ 64) (length text) }
     {
-        let measurement = measure(TokenKind::Measurement, self.measurement);
-        let tags = measure_tags(self.tags)?;
-        let fields = measure_fields(self.fields)?;
-        let end = timestamp_len(self.timestamp) + 1;
-        let len = measurement
-            .len
-            .checked_add(tags.len)?
-            .checked_add(fields.len)?
-            .checked_add(end)?;
-        let is_plain = measurement.is_plain && tags.is_plain && fields.is_plain;
-        Some(Extent { len, is_plain })
+        escaped_len(TokenKind::Measurement, self.measurement)
+            .checked_add(tags_len(self.tags)?)?
+            .checked_add(fields_len(self.fields)?)?
+            .checked_add(timestamp_len(self.timestamp)?)?
+            .checked_add(1)
     }
 
-    // Appends the line and its newline. Its texts are not searched if they are known to get no backslash.
+    // Appends the line and its newline.
     #[tactic(auto, unfolding(crate::specs::code::WrittenAgain::parts_text))]
-    fn put<B: BufMut>(&self, buf: &mut B, is_plain: bool)
-        requires plain { is_plain ≡ true → ArePlainParts self.now }
-        requires room { length (parts_text self.now) ≤ B.room buf.old }
+    fn put<B: BufMut>(&self, buf: &mut B)
+        requires { length (parts_text self.now) ≤ B.room buf.old }
         ensures bytes { B.bytes buf.new ≡ B.bytes buf.old ++ parts_text self.now }
         ensures room { B.room buf.old ≤ B.room buf.new + length (parts_text self.now) }
     {
-        put_escaped(buf, TokenKind::Measurement, is_plain, self.measurement);
-        put_tags(buf, is_plain, self.tags);
-        put_fields(buf, is_plain, self.fields);
+        put_escaped(buf, TokenKind::Measurement, self.measurement);
+        put_tags(buf, self.tags);
+        put_fields(buf, self.fields);
         put_timestamp(buf, self.timestamp);
         buf.put(b"\n");
     }
@@ -337,10 +256,10 @@ pub fn write_line<B: BufMut>(
         (built (parsed_point line.now)) (buffer_of builder) result }
 {
     let parts = Parts::of(line);
-    let Some(extent) = parts.measure() else {
+    let Some(n) = parts.len() else {
         return Err(builder.too_long());
     };
-    let mut buf = builder.with_room(extent.len)?;
-    parts.put(&mut buf, extent.is_plain);
+    let mut buf = builder.with_room(n)?;
+    parts.put(&mut buf);
     Ok(LineProtocolBuilder::over(buf))
 }

@@ -9,11 +9,6 @@ use Rattle.std.proofs.lemmas.Bool.{not-false, not-true}
 use Rattle.lp_format.specs.format.{backslash, is_one_of, escaped}
 use Rattle.lp_scan.specs.code.{IsRunAt}
 
--- nothing gets a backslash in an empty text
-pub escaped_nothing : (bytes : List ℕ) → escaped bytes [] ≡ []
-unfolding escaped
-escaped_nothing bytes = refl
-
 -- a text without a byte that gets a backslash stays
 pub escaped_same : (bytes text : List ℕ)
     → ((k : ℕ) → k < length text → is_one_of bytes (get_or text k 0) ≡ false) → escaped bytes text ≡ text

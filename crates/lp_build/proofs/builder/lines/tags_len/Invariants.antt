@@ -1,11 +1,10 @@
-use Rattle.std.proofs.Common.{◌≡◌, ◌+◌, ◌<◌, ◌^◌, true, length, drop}
-use Rattle.std.specs.List.{AllByRecursion, flat_map}
-use Rattle.lp_build.specs.code.WrittenAgain.{IsPlainTag, tag_text}
-use Rattle.lp_build.proofs.builder.lines.measure_tags.Given as goal
+use Rattle.std.proofs.Common.{◌≡◌, ◌+◌, ◌<◌, ◌^◌, length, drop}
+use Rattle.std.specs.List.{flat_map}
+use Rattle.lp_build.specs.code.WrittenAgain.{tag_text}
+use Rattle.lp_build.proofs.builder.lines.tags_len.Given as goal
 
--- what is counted and what is left to count make the whole; if all that is left is plain, all is
-abbrev pub invariant-loop-tag : goal.invariant-loop-tag
-invariant-loop-tag l =
+-- what is counted and what is left to count make the whole
+abbrev pub invariant-loop-key : goal.invariant-loop-key
+invariant-loop-key l =
     (l.len < 2 ^ 64)
-    × (l.len + length (flat_map tag_text (drop l.tag-index l.tags)) ≡ length (flat_map tag_text l.tags))
-    × (l.is_plain ≡ true → AllByRecursion IsPlainTag (drop l.tag-index l.tags) → AllByRecursion IsPlainTag l.tags)
+    × (l.len + length (flat_map tag_text (drop l.key-index l.tags)) ≡ length (flat_map tag_text l.tags))
