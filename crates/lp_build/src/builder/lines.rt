@@ -4,12 +4,11 @@ ghost use Rattle.std.specs.Prelude.{◌≡◌, ℕ, ◌+◌, ◌<◌, ◌≤◌,
 ghost use Rattle.std.specs.List.{list_all};
 ghost use Rattle.smallvec.specs.SmallVec.{small_vec_len};
 ghost use Rattle.lp_format.specs.format.{is_one_of, space, built, built_timestamp, built_value, field_text, is_admitted_field};
-ghost use Rattle.lp_format.specs.format.{is_admitted_name, is_admitted_point, is_admitted_tag, never_in, float};
+ghost use Rattle.lp_format.specs.format.{is_admitted_name, is_admitted_point, is_admitted_tag, logical_field, never_in, float};
 ghost use Rattle.lp_values.specs.code.Outcomes.{kind_of};
-ghost use Rattle.lp_lines.specs.code.Parsed.{parsed_point};
+ghost use Rattle.lp_lines.specs.code.Parsed.{field_of, parsed_point};
 ghost use Rattle.lp_values.specs.code.Texts.{literal_of, text_of};
-ghost use Rattle.lp_build.specs.code.WrittenAgain.{fields_text, parts_text};
-ghost use Rattle.lp_build.specs.code.WrittenAgain.{point_field, point_tag, tag_text, value_text};
+ghost use Rattle.lp_build.specs.code.WrittenAgain.{fields_text, line_text, point_tag, tag_text, value_text};
 ghost use Rattle.lp_build.specs.code.Built.{Writes, buffer_of};
 
 use super::marks::is_free_of;
@@ -50,6 +49,7 @@ fn never_in(kind: NameKind) -> [u8; 4]
 
 // Whether the name is admitted as one of this kind.
 #[tactic(auto, unfolding(lp_format::specs::format::Points::is_admitted_name))]
+#[inline(always)]
 fn is_admitted_name(kind: NameKind, name: &EscapedStr<'_>) -> bool
     ensures { result ≡ is_admitted_name (kind_of kind) (text_of name.now) }
 {
@@ -72,7 +72,7 @@ fn are_tags_admitted(tags: &[(EscapedStr<'_>, EscapedStr<'_>)]) -> bool
 
 // Whether the key of each field is admitted.
 fn are_fields_admitted(fields: &[(EscapedStr<'_>, values::FieldValue<'_>)]) -> bool
-    ensures { result ≡ list_all (λ f. is_admitted_field (point_field f)) fields.now }
+    ensures { result ≡ list_all (λ f. is_admitted_field (logical_field (field_of f))) fields.now }
 {
     fields
         .iter()
@@ -189,54 +189,33 @@ fn put_timestamp<B: BufMut>(buf: &mut B, timestamp: Option<i64>)
     }
 }
 
-// What is written of a line.
-#[derive(Clone, Copy)]
-struct Parts<'l, 'a> {
-    measurement: &'l [u8],
-    tags: &'l [(EscapedStr<'a>, EscapedStr<'a>)],
-    fields: &'l [(EscapedStr<'a>, values::FieldValue<'a>)],
-    timestamp: Option<i64>,
+// The length of the line and its newline, if a `usize` holds it.
+#[tactic(auto, unfolding(crate::specs::code::WrittenAgain::line_text))]
+fn line_len(line: &ParsedLine<'_>) -> Option<usize>
+    ensures { let text = line_text line.now in
+        SomeIff result (length text < 2 ^ 64) (length text) }
+{
+    let name = line.series.measurement.as_str();
+    escaped_len(TokenKind::Measurement, name.as_bytes())
+        .checked_add(tags_len(tags_in(&line.series))?)?
+        .checked_add(fields_len(line.field_set.as_slice())?)?
+        .checked_add(timestamp_len(line.timestamp)?)?
+        .checked_add(1)
 }
 
-impl<'l, 'a> Parts<'l, 'a> {
-    // The parts of this line.
-    fn of(line: &'l ParsedLine<'a>) -> Self
-        ensures { parts_text result ≡ built (parsed_point line.now) }
-    {
-        Parts {
-            measurement: line.series.measurement.as_str().as_bytes(),
-            tags: tags_in(&line.series),
-            fields: line.field_set.as_slice(),
-            timestamp: line.timestamp,
-        }
-    }
-
-    // The length of the line and its newline, if a `usize` holds it.
-    #[tactic(auto, unfolding(crate::specs::code::WrittenAgain::parts_text))]
-    fn len(&self) -> Option<usize>
-        ensures { let text = parts_text self.now in
-            SomeIff result (length text < 2 ^ 64) (length text) }
-    {
-        escaped_len(TokenKind::Measurement, self.measurement)
-            .checked_add(tags_len(self.tags)?)?
-            .checked_add(fields_len(self.fields)?)?
-            .checked_add(timestamp_len(self.timestamp)?)?
-            .checked_add(1)
-    }
-
-    // Appends the line and its newline.
-    #[tactic(auto, unfolding(crate::specs::code::WrittenAgain::parts_text))]
-    fn put<B: BufMut>(&self, buf: &mut B)
-        requires { length (parts_text self.now) ≤ B.room buf.old }
-        ensures bytes { B.bytes buf.new ≡ B.bytes buf.old ++ parts_text self.now }
-        ensures room { B.room buf.old ≤ B.room buf.new + length (parts_text self.now) }
-    {
-        put_escaped(buf, TokenKind::Measurement, self.measurement);
-        put_tags(buf, self.tags);
-        put_fields(buf, self.fields);
-        put_timestamp(buf, self.timestamp);
-        buf.put(b"\n");
-    }
+// Appends the line and its newline.
+#[tactic(auto, unfolding(crate::specs::code::WrittenAgain::line_text))]
+fn put_line<B: BufMut>(buf: &mut B, line: &ParsedLine<'_>)
+    requires { length (line_text line.now) ≤ B.room buf.old }
+    ensures bytes { B.bytes buf.new ≡ B.bytes buf.old ++ line_text line.now }
+    ensures room { B.room buf.old ≤ B.room buf.new + length (line_text line.now) }
+{
+    let name = line.series.measurement.as_str();
+    put_escaped(buf, TokenKind::Measurement, name.as_bytes());
+    put_tags(buf, tags_in(&line.series));
+    put_fields(buf, line.field_set.as_slice());
+    put_timestamp(buf, line.timestamp);
+    buf.put(b"\n");
 }
 
 /// Appends a parsed line as the builder writes it, with its newline: the measurement, the tags, the
@@ -247,6 +226,7 @@ impl<'l, 'a> Parts<'l, 'a> {
 ///
 /// `TooLong` if no `usize` holds the length of the line, and else what the buffer answers if
 /// it has no room for the whole of it. The builder is then as before: no part of the line is written.
+#[tactic(auto, using(crate::proofs::lemmas::builder::WrittenAgainLemmas::line_text_is))]
 pub fn write_line<B: BufMut>(
     builder: LineProtocolBuilder<B, BeforeMeasurement>,
     line: &ParsedLine<'_>,
@@ -255,11 +235,10 @@ pub fn write_line<B: BufMut>(
     ensures { Writes B.bytes B.room B.refuses
         (built (parsed_point line.now)) (buffer_of builder) result }
 {
-    let parts = Parts::of(line);
-    let Some(n) = parts.len() else {
+    let Some(n) = line_len(line) else {
         return Err(builder.too_long());
     };
     let mut buf = builder.with_room(n)?;
-    parts.put(&mut buf);
+    put_line(&mut buf, line);
     Ok(LineProtocolBuilder::over(buf))
 }
