@@ -22,6 +22,7 @@ use Rattle.lp_lines.proofs.lemmas.names.ParsedNames.{ParsedPoint, names_are_pars
 use Rattle.std.specs.List.{AllByRecursion, list_all}
 use Rattle.std.proofs.lemmas.Bool.{and_parts, cases_Bool, false≢true, and_from, both_ways}
 use Rattle.std.proofs.lemmas.List.{length-map, get_or-map}
+use Rattle.std.proofs.lemmas.List.Elements.{Contains-append_left, Contains-append_right}
 use Rattle.lp_split.specs.code.{Head, Plain}
 use Rattle.lp_split.proofs.lemmas.split.SplitWalk.{Plain-comma}
 use Rattle.lp_format.proofs.lemmas.split.{SplitPieces.pieces_exist, SplitPieces.same_pieces, SplitBare.is_escaped-push_other}
@@ -292,12 +293,6 @@ admitted_before (q ∷ before) p after all pass =
     let more = admitted_before before p after all.1 parts.1 in
     ((record { is_point = all.0; names_are = parts.0 }, more.0), more.1)
 
--- a point is among others
-among : (before : List Point) (p : Point) (after : List Point) (others : List (Result Point Fault))
-    → Contains (map Ok (before ++ p ∷ after) ++ others) (Ok p)
-among [] p after others = first_element (Ok p) (map Ok after ++ others)
-among (q ∷ before) p after others = later_element (Ok q) (Ok p) (map Ok (before ++ p ∷ after) ++ others) (among before p after others)
-
 -- points before one that is answered with a fault are not all points
 not_all : (before : List Point) (p : Point) (after : List Point) (fault : Fault) (more others : List (Result Point Fault))
     → map Ok before ++ Err fault ∷ more ≡ map Ok (before ++ p ∷ after) ++ others → ⊥
@@ -310,7 +305,8 @@ other_batches_do_not dialect points t items others all bad h k e =
     let f = first_failing is_admitted_point points bad in
     let points_are = admitted_before f.front f.stop f.after (subst (AllByRecursion IsPoint) f.is all) f.pass in
     let are : items ≡ map Ok (f.front ++ f.stop ∷ f.after) ++ others = e ∙ ap (λ ps. map Ok ps ++ others) f.is in
-    let here = subst (λ xs. Contains xs (Ok f.stop)) (sym are) (among f.front f.stop f.after others) in
+    let stop = made_element Ok _ f.stop (Contains-append_right f.front (f.stop ∷ f.after) f.stop (first_element f.stop f.after)) in
+    let here = subst (λ xs. Contains xs (Ok f.stop)) (sym are) (Contains-append_left _ others (Ok f.stop) stop) in
     let names = items_have_readable_names dialect (built_all points ++ t) items f.stop h here in
     let has = subst (λ ps. HasAnswers dialect (built_all ps ++ t) h.0) f.is h.1 in
     let w = other_points_end_with_backslash dialect f.front f.stop f.after t h.0 points_are.0 points_are.1 f.fails names has in
