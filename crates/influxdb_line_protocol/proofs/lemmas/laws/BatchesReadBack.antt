@@ -254,10 +254,6 @@ items_have_readable_names dialect text items p h here kind n named =
     parsed_is_readable
     (names_are_parsed dialect text h.0 found.0 kind n h.1 found.1 (subst (λ q. Contains (names_of kind q) n) (sym found.2) named))
 
--- the lines of two lists of points
-built_of_two : (before others : List Point) (t : List ℕ) → built_all (before ++ others) ++ t ≡ built_all before ++ (built_all others ++ t)
-built_of_two before others t = grind (arith, flat_map-append, append_assoc)
-
 -- the answers for the line of such a point, and for what follows it
 point_answered : (dialect : Dialect) (p : Point) (u : List ℕ) (answers : List (Result Line Fault)) → IsPoint p
     → is_admitted_point p ≡ false → HasReadableNames p
@@ -276,9 +272,10 @@ other_points_end_with_backslash dialect before p after t answers ok is_point bad
     let more = answers_of dialect suffix.0 in
     let alone : HasAnswers dialect u more = record { pieces = suffix.0; are = suffix.1; answered = refl } in
     let batch = admitted_batches_read_back dialect before u more ok alone in
+    let joined : built_all before ++ u ≡ built_all (before ++ p ∷ after) ++ t = grind (arith, flat_map-append, append_assoc) in
     let same : answers ≡ map Ok batch.0 ++ more =
     same_answers dialect (built_all (before ++ p ∷ after) ++ t) answers (map Ok batch.0 ++ more) h
-    (subst (λ x. HasAnswers dialect x (map Ok batch.0 ++ more)) (sym (built_of_two before (p ∷ after) t)) batch.2) in
+    (subst (λ x. HasAnswers dialect x (map Ok batch.0 ++ more)) joined batch.2) in
     let one =
     point_answered dialect p (built_all after ++ t) more is_point bad names
     (subst (λ x. HasAnswers dialect x more) (append_assoc (built p) (built_all after) t) alone) in
