@@ -82,6 +82,7 @@ pub fn all_events_come()
 /// between two texts joins their pieces exactly if it may end the last piece of the first, and
 /// there their answers are joined too. In the strict dialect, other bytes after the `#` of a
 /// comment change no other piece and no item.
+#[tactic(auto, using(lp_format::proofs::lemmas::pieces::Batches::piece_laws))]
 pub fn pieces_join()
     ensures some { PiecesExist }
     ensures one { PiecesAreUnique }
@@ -152,6 +153,7 @@ pub fn longest_blank_front_is_trimmed()
 /// A name is spelled by all of a text before the first byte that ends such a name and that no
 /// backslash escapes, or by all of it if there is none. So is the body of a string before the
 /// quote that closes it.
+#[tactic(auto, using(lp_split::proofs::lemmas::split::StopMeaning::before_stop))]
 pub fn first_bare_stop_ends()
     ensures name { NameEndsBeforeStop }
     ensures body { BodyEndsBeforeQuote }

@@ -4,14 +4,13 @@
 //! line without a field, a tag after a field or a second timestamp does not compile, and
 //! [`LineProtocolBuilder::build`] gives the buffer back between two lines alone.
 
-ghost use Rattle.std.specs.Prelude.{◌≡◌, ◌≢◌, ◌+◌, ◌<◌, ◌≤◌, ◌^◌, [], ◌∷◌, ◌++◌, true, length, IfOk, IfErr, IfSome, IsOk, SomeIff};
-ghost use Rattle.std.specs.Prelude.{option_map};
+ghost use Rattle.std.specs.Prelude.{◌≡◌, ◌≢◌, ◌+◌, ◌<◌, ◌≤◌, ◌^◌, [], ◌∷◌, ◌++◌, length, IfOk, IfErr, IsOk, SomeIff};
 ghost use Rattle.std.specs.Fmt.{signed_decimal};
 ghost use Rattle.lp_build.specs.declared.builder.buffer.NoRoom.{NoRoom};
 ghost use Rattle.lp_build.specs.declared.builder.buffer.NoRoom.TheVariants.{TooLong};
-ghost use Rattle.lp_format.specs.format.{newline, space, comma, a_field_key, a_measurement, a_tag_key, a_tag_value, escapable, built_tag};
+ghost use Rattle.lp_format.specs.format.{newline, space, comma, a_measurement, built_tag};
 ghost use Rattle.lp_format.specs.format.{field_text, spelling};
-ghost use Rattle.lp_build.specs.code.Built.{IsPlainText, Writes, buffer_of};
+ghost use Rattle.lp_build.specs.code.Built.{Writes, buffer_of};
 
 use lp_scan::sets::TokenKind;
 use std::alloc::Global;
@@ -25,38 +24,32 @@ mod values;
 
 pub use buffer::{BufMut, NoRoom};
 pub use lines::{is_admitted, write_line};
-use texts::{Extent, escaped_len, measure, put_escaped};
+use texts::{escaped_len, put_escaped};
 pub use values::FieldValue;
 
-// The length of a tag with the comma before it, if a `usize` holds it, and whether it gets no backslash.
+// The length of a tag with the comma before it, if a `usize` holds it.
 #[inline(always)]
-fn measure_tag(key: &[u8], value: &[u8]) -> Option<Extent>
-    ensures len { let text = built_tag (record { key = key.now; value = value.now }) in
-        SomeIff (option_map (λ m. m.len) result) (length text < 2 ^ 64) (length text) }
-    ensures plain { IfSome result (λ m. m.is_plain ≡ true
-        → IsPlainText (escapable a_tag_key) key.now × IsPlainText (escapable a_tag_value) value.now) }
+fn tag_len(key: &[u8], value: &[u8]) -> Option<usize>
+    ensures { let text = built_tag (record { key = key.now; value = value.now }) in
+        SomeIff result (length text < 2 ^ 64) (length text) }
 {
-    let key = measure(TokenKind::TagKey, key);
-    let value = measure(TokenKind::TagValue, value);
-    Some(Extent {
-        len: key.len.checked_add(value.len)?.checked_add(2)?,
-        is_plain: key.is_plain && value.is_plain,
-    })
+    let key_len = escaped_len(TokenKind::TagKey, key);
+    let value_len = escaped_len(TokenKind::TagValue, value);
+    key_len.checked_add(value_len)?.checked_add(2)
 }
 
 // Appends a tag with the comma before it.
-fn put_tag<B: BufMut>(buf: &mut B, is_plain: bool, key: &[u8], value: &[u8])
-    requires plain { is_plain ≡ true → IsPlainText (escapable a_tag_key) key.now × IsPlainText (escapable a_tag_value) value.now }
-    requires room { length (built_tag (record { key = key.now; value = value.now })) ≤ B.room buf.old }
+fn put_tag<B: BufMut>(buf: &mut B, key: &[u8], value: &[u8])
+    requires { length (built_tag (record { key = key.now; value = value.now })) ≤ B.room buf.old }
     ensures bytes { B.bytes buf.new
         ≡ B.bytes buf.old ++ built_tag (record { key = key.now; value = value.now }) }
     ensures room { B.room buf.old
         ≤ B.room buf.new + length (built_tag (record { key = key.now; value = value.now })) }
 {
     buf.put(b",");
-    put_escaped(buf, TokenKind::TagKey, is_plain, key);
+    put_escaped(buf, TokenKind::TagKey, key);
     buf.put(b"=");
-    put_escaped(buf, TokenKind::TagValue, is_plain, value);
+    put_escaped(buf, TokenKind::TagValue, value);
 }
 
 // The length of a field with the byte before it, if a `usize` holds it.
@@ -70,20 +63,13 @@ fn field_len<F: FieldValue>(key: &[u8], value: &F) -> Option<usize>
 }
 
 // Appends `before`, and then a field.
-fn put_field<B: BufMut, F: FieldValue>(
-    buf: &mut B,
-    before: u8,
-    is_plain: bool,
-    key: &[u8],
-    value: &F,
-)
-    requires plain { is_plain ≡ true → IsPlainText (escapable a_field_key) key.now }
-    requires room { length (before ∷ field_text key.now (F.text value.now)) ≤ B.room buf.old }
+fn put_field<B: BufMut, F: FieldValue>(buf: &mut B, before: u8, key: &[u8], value: &F)
+    requires { length (before ∷ field_text key.now (F.text value.now)) ≤ B.room buf.old }
     ensures bytes { B.bytes buf.new ≡ B.bytes buf.old ++ before ∷ field_text key.now (F.text value.now) }
     ensures room { B.room buf.old ≤ B.room buf.new + length (before ∷ field_text key.now (F.text value.now)) }
 {
     buf.put(&[before]);
-    put_escaped(buf, TokenKind::FieldKey, is_plain, key);
+    put_escaped(buf, TokenKind::FieldKey, key);
     buf.put(b"=");
     value.fmt(buf);
 }
@@ -196,7 +182,7 @@ impl<B: BufMut, S> LineProtocolBuilder<B, S> {
             return Err(self.too_long());
         };
         let mut buf = self.with_room(n)?;
-        put_field(&mut buf, before, false, key.as_bytes(), value);
+        put_field(&mut buf, before, key.as_bytes(), value);
         Ok(LineProtocolBuilder::over(buf))
     }
 
@@ -241,7 +227,7 @@ impl<B: BufMut> LineProtocolBuilder<B, BeforeMeasurement> {
             (spelling a_measurement name.now) (buffer_of self) result }
     {
         let mut buf = self.with_room(escaped_len(TokenKind::Measurement, name.as_bytes()))?;
-        put_escaped(&mut buf, TokenKind::Measurement, false, name.as_bytes());
+        put_escaped(&mut buf, TokenKind::Measurement, name.as_bytes());
         Ok(LineProtocolBuilder::over(buf))
     }
 
@@ -269,11 +255,11 @@ impl<B: BufMut> LineProtocolBuilder<B, AfterMeasurement> {
         ensures { Writes B.bytes B.room B.refuses
             (built_tag (record { key = key.now; value = value.now })) (buffer_of self) result }
     {
-        let Some(extent) = measure_tag(key.as_bytes(), value.as_bytes()) else {
+        let Some(n) = tag_len(key.as_bytes(), value.as_bytes()) else {
             return Err(self.too_long());
         };
-        let mut buf = self.with_room(extent.len)?;
-        put_tag(&mut buf, false, key.as_bytes(), value.as_bytes());
+        let mut buf = self.with_room(n)?;
+        put_tag(&mut buf, key.as_bytes(), value.as_bytes());
         Ok(LineProtocolBuilder::over(buf))
     }
 

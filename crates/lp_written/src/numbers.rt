@@ -59,7 +59,7 @@ fn after_float(text: &str, whole: usize) -> Option<&str>
 }
 
 // What follows a number at the start of `text`, where an integer takes `whole` bytes.
-#[tactic(auto, using(crate::proofs::lemmas::parts::WrittenNumbers::signed_number))]
+#[tactic(auto, using(crate::proofs::lemmas::parts::WrittenNumbers::number_steps))]
 #[inline(always)]
 fn after_number(text: &str, whole: usize) -> Option<&str>
     requires whole { whole ≡ integer_len text.now }
@@ -91,6 +91,7 @@ fn after_word(text: &str) -> Option<&str>
 }
 
 /// What follows the value at the start of `text`, if that is as the builder writes it.
+#[tactic(auto, using(crate::proofs::lemmas::parts::WrittenNumbers::string_only_value))]
 #[inline(always)]
 pub(crate) fn after_value(text: &str) -> Option<&str>
     ensures { IsOnlyRest (IsWrittenValue text.now) EndsValue result }

@@ -32,6 +32,7 @@ fn after_field(text: &str) -> Option<&str>
 }
 
 // Whether the builder writes `text` for a timestamp, or for none.
+#[tactic(auto, using(crate::proofs::lemmas::parts::WrittenLines::whole_number))]
 #[inline(always)]
 fn is_timestamp(text: &str) -> bool
     ensures { (result ≡ true) ↔ IsWrittenTimestamp text.now }
@@ -69,6 +70,7 @@ fn is_after_field(text: &str) -> bool
 }
 
 // Whether the builder writes `text` for the fields after the space before them, and a timestamp.
+#[tactic(auto, using(crate::proofs::lemmas::parts::WrittenLines::first_step))]
 #[inline(always)]
 fn are_fields(text: &str) -> bool
     ensures { (result ≡ true) ↔ AreWrittenFields text.now }
@@ -80,7 +82,7 @@ fn are_fields(text: &str) -> bool
 }
 
 // Whether the builder writes `text` after a measurement.
-#[tactic(auto, using(crate::proofs::lemmas::parts::WrittenLines::tag_less))]
+#[tactic(auto, using(crate::proofs::lemmas::parts::WrittenLines::tag_steps))]
 #[inline(always)]
 fn is_after_name(text: &str) -> bool
     ensures { (result ≡ true) ↔ IsWrittenAfterName text.now }
@@ -104,6 +106,7 @@ fn is_after_name(text: &str) -> bool
 /// m,t=x a=1i 7    is as written
 /// m,t=x  a=01i    is not: the builder writes one space and no leading zero
 /// ```
+#[tactic(auto, using(crate::proofs::lemmas::parts::WrittenLines::line_step))]
 pub fn is_as_written(line: &str) -> bool
     ensures { (result ≡ true) ↔ IsAsWritten line.now }
 {

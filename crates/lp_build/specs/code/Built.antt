@@ -2,15 +2,10 @@
 use Rattle.std.specs.Prelude.{◌≡◌, ◌≢◌, ℕ, ◌+◌, ◌^◌, ◌<◌, ◌≤◌, ◌↔◌, List, ◌++◌, length, Result, IfOk, IfErr, IsOk, MatchResult}
 use Rattle.lp_build.specs.declared.builder.LineProtocolBuilder.{LineProtocolBuilder}
 use Rattle.lp_build.specs.declared.{builder.buffer.NoRoom.NoRoom, builder.buffer.NoRoom.TheVariants.TooLong, builder.Refused.Refused}
-use Rattle.lp_format.specs.format.Escapes.{escaped}
 
 -- the buffer that a builder writes to
 abbrev pub buffer_of : {B S : Type 0} → LineProtocolBuilder B S → B
 buffer_of b = b.buf
-
--- no byte of a text gets a backslash
-abbrev pub IsPlainText : List ℕ → List ℕ → Type 0
-IsPlainText bytes text = escaped bytes text ≡ text
 
 -- a call whose text is this one appends exactly it, or is refused and changes nothing
 pub record Writes {B S T : Type 0} (bytes : B → List ℕ) (room : B → ℕ) (refuses : NoRoom → Type 0)

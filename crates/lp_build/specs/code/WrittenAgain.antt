@@ -1,14 +1,12 @@
 -- The texts that the builder writes for the parts of a parsed line.
 use Rattle.std.specs.Prelude.{ℕ, List, [], ◌∷◌, ◌++◌, map, flat_map}
-use Rattle.std.specs.List.{AllByRecursion}
-use Rattle.lp_values.specs.declared.{escaped.EscapedStr.EscapedStr, values.FieldValue.FieldValue, values.FieldValue.TheVariants.String}
-use Rattle.lp_build.specs.declared.builder.lines.Parts.{Parts}
-use Rattle.lp_format.specs.format.{newline, space, a_measurement, a_tag_key, a_tag_value, a_field_key, escapable, quotable, Tag, Field}
+use Rattle.lp_values.specs.declared.{escaped.EscapedStr.EscapedStr, values.FieldValue.FieldValue}
+use Rattle.lp_lines.specs.declared.parsed.ParsedLine.{ParsedLine}
+use Rattle.lp_format.specs.format.{newline, space, a_measurement, Tag}
 use Rattle.lp_format.specs.format.{spelling, built_tag, built_value, built_fields, built_timestamp, logical_tag, logical_field}
 use Rattle.lp_format.specs.format.{logical_value}
 use Rattle.lp_values.specs.code.{Texts.text_of, ReadValues.value_of}
-use Rattle.lp_build.specs.code.Built.{IsPlainText}
-use Rattle.lp_lines.specs.code.Parsed.{tag_of, field_of}
+use Rattle.lp_lines.specs.code.{Lookups.some_items, Parsed.tag_of, Parsed.field_of}
 
 -- the text of a value
 abbrev pub value_text : FieldValue → List ℕ
@@ -18,10 +16,6 @@ value_text v = built_value (logical_value (value_of v))
 abbrev pub point_tag : EscapedStr × EscapedStr → Tag
 point_tag t = logical_tag (tag_of t)
 
--- a field by its logical texts
-abbrev pub point_field : EscapedStr × FieldValue → Field
-point_field f = logical_field (field_of f)
-
 -- the text of a tag, with the comma before it
 abbrev pub tag_text : EscapedStr × EscapedStr → List ℕ
 tag_text t = built_tag (point_tag t)
@@ -30,31 +24,8 @@ tag_text t = built_tag (point_tag t)
 abbrev pub fields_text : ℕ → List (EscapedStr × FieldValue) → List ℕ
 fields_text before fields = built_fields before (map logical_field (map field_of fields))
 
--- the text of the parts of a line, with its newline
-unfoldable pub parts_text : Parts → List ℕ
-parts_text p =
-    spelling a_measurement p.measurement.now ++ flat_map tag_text p.tags.now ++ fields_text space p.fields.now
-    ++ built_timestamp p.timestamp ++ newline ∷ []
-
--- no byte of a tag gets a backslash
-abbrev pub IsPlainTag : EscapedStr × EscapedStr → Type 0
-IsPlainTag t = IsPlainText (escapable a_tag_key) (text_of t.0) × IsPlainText (escapable a_tag_value) (text_of t.1)
-
--- the text between the quotes of a value, and none if it has no quotes
-abbrev pub quoted_text : FieldValue → List ℕ
-quoted_text (String t) = text_of t
-quoted_text other = []
-
--- no byte of a value gets a backslash
-abbrev pub IsPlainValue : FieldValue → Type 0
-IsPlainValue v = IsPlainText quotable (quoted_text v)
-
--- no byte of a field gets a backslash
-abbrev pub IsPlainField : EscapedStr × FieldValue → Type 0
-IsPlainField f = IsPlainText (escapable a_field_key) (text_of f.0) × IsPlainValue f.1
-
--- no byte of the parts of a line gets a backslash
-pub record ArePlainParts (p : Parts) : Type 0 where
-  pub measurement : IsPlainText (escapable a_measurement) p.measurement.now
-  pub tags : AllByRecursion IsPlainTag p.tags.now
-  pub fields : AllByRecursion IsPlainField p.fields.now
+-- the text of a parsed line, with its newline, from the texts of its parts
+unfoldable pub line_text : ParsedLine → List ℕ
+line_text l =
+    spelling a_measurement (text_of l.series.measurement) ++ flat_map tag_text (some_items l.series.tag_set)
+    ++ fields_text space l.field_set.items ++ built_timestamp l.timestamp ++ newline ∷ []

@@ -1,23 +1,21 @@
 //! Parsed lines that are written again.
 
-ghost use Rattle.std.specs.Prelude.{◌≡◌, ℕ, ◌+◌, ◌<◌, ◌≤◌, ◌^◌, ◌∷◌, ◌++◌, length, not, true, IfSome, SomeIff, option_map, flat_map};
-ghost use Rattle.std.specs.List.{AllByRecursion, list_all};
+ghost use Rattle.std.specs.Prelude.{◌≡◌, ℕ, ◌+◌, ◌<◌, ◌≤◌, ◌^◌, ◌∷◌, ◌++◌, length, not, SomeIff, flat_map};
+ghost use Rattle.std.specs.List.{list_all};
 ghost use Rattle.smallvec.specs.SmallVec.{small_vec_len};
 ghost use Rattle.lp_format.specs.format.{is_one_of, space, built, built_timestamp, built_value, field_text, is_admitted_field};
-ghost use Rattle.lp_format.specs.format.{is_admitted_name, is_admitted_point, is_admitted_tag, never_in, float};
+ghost use Rattle.lp_format.specs.format.{is_admitted_name, is_admitted_point, is_admitted_tag, logical_field, never_in, float};
 ghost use Rattle.lp_values.specs.code.Outcomes.{kind_of};
-ghost use Rattle.lp_lines.specs.code.Parsed.{parsed_point};
+ghost use Rattle.lp_lines.specs.code.Parsed.{field_of, parsed_point};
 ghost use Rattle.lp_values.specs.code.Texts.{literal_of, text_of};
-ghost use Rattle.lp_build.specs.code.WrittenAgain.{ArePlainParts, IsPlainField, IsPlainTag, IsPlainValue, fields_text, parts_text};
-ghost use Rattle.lp_build.specs.code.WrittenAgain.{point_field, point_tag, tag_text, value_text};
+ghost use Rattle.lp_build.specs.code.WrittenAgain.{fields_text, line_text, point_tag, tag_text, value_text};
 ghost use Rattle.lp_build.specs.code.Built.{Writes, buffer_of};
 
 use super::marks::is_free_of;
-use super::texts::{Extent, measure, put_escaped};
-use super::values::put_string;
+use super::texts::{escaped_len, put_escaped};
 use super::{
-    BeforeMeasurement, BufMut, FieldValue, LineProtocolBuilder, Refused, measure_tag, put_field,
-    put_tag,
+    BeforeMeasurement, BufMut, FieldValue, LineProtocolBuilder, Refused, field_len, put_field,
+    put_tag, tag_len,
 };
 use lp_lines::ParsedLine;
 use lp_lines::parsed::tags_in;
@@ -51,6 +49,7 @@ fn never_in(kind: NameKind) -> [u8; 4]
 
 // Whether the name is admitted as one of this kind.
 #[tactic(auto, unfolding(lp_format::specs::format::Points::is_admitted_name))]
+#[inline(always)]
 fn is_admitted_name(kind: NameKind, name: &EscapedStr<'_>) -> bool
     ensures { result ≡ is_admitted_name (kind_of kind) (text_of name.now) }
 {
@@ -73,7 +72,7 @@ fn are_tags_admitted(tags: &[(EscapedStr<'_>, EscapedStr<'_>)]) -> bool
 
 // Whether the key of each field is admitted.
 fn are_fields_admitted(fields: &[(EscapedStr<'_>, values::FieldValue<'_>)]) -> bool
-    ensures { result ≡ list_all (λ f. is_admitted_field (point_field f)) fields.now }
+    ensures { result ≡ list_all (λ f. is_admitted_field (logical_field (field_of f))) fields.now }
 {
     fields
         .iter()
@@ -93,160 +92,88 @@ pub fn is_admitted(line: &ParsedLine<'_>) -> bool
         && are_fields_admitted(line.field_set.as_slice())
 }
 
-// A value of a parsed line, as the builder takes it, and whether its text is known to get no backslash.
-#[derive(Clone, Copy)]
-struct ReadValue<'l, 'a> {
-    value: &'l values::FieldValue<'a>,
-    is_plain: bool,
-    ghost told: { is_plain ≡ true → IsPlainValue value.now },
-}
-
-impl FieldValue for ReadValue<'_, '_> {
-    ghost text = { λ v. value_text v.value.now };
+/// The value, as the call for its own type writes it.
+impl FieldValue for values::FieldValue<'_> {
+    ghost text = { λ v. value_text v };
 
     fn fmt_len(&self) -> Option<usize> {
-        Some(measure_value(self.value)?.len)
+        match self {
+            values::FieldValue::I64(value) => value.fmt_len(),
+            values::FieldValue::U64(value) => value.fmt_len(),
+            values::FieldValue::F64(value) => value.fmt_len(),
+            values::FieldValue::String(value) => value.as_str().fmt_len(),
+            values::FieldValue::Boolean(value) => value.fmt_len(),
+        }
     }
 
     fn fmt<B: BufMut>(&self, buf: &mut B) {
-        match self.value {
+        match self {
             values::FieldValue::I64(value) => value.fmt(buf),
             values::FieldValue::U64(value) => value.fmt(buf),
             values::FieldValue::F64(value) => value.fmt(buf),
-            values::FieldValue::String(value) => {
-                put_string(buf, self.is_plain, value.as_str().as_bytes());
-            }
+            values::FieldValue::String(value) => value.as_str().fmt(buf),
             values::FieldValue::Boolean(value) => value.fmt(buf),
         }
     }
 }
 
-// The length of the tags, each with its comma, if a `usize` holds it, and whether none gets a backslash.
-fn measure_tags(tags: &[(EscapedStr<'_>, EscapedStr<'_>)]) -> Option<Extent>
-    ensures len { let text = flat_map tag_text tags.now in
-        SomeIff (option_map (λ m. m.len) result) (length text < 2 ^ 64) (length text) }
-    ensures plain { IfSome result (λ m. m.is_plain ≡ true → AllByRecursion IsPlainTag tags.now) }
+// The length of the tags, each with its comma, if a `usize` holds it.
+fn tags_len(tags: &[(EscapedStr<'_>, EscapedStr<'_>)]) -> Option<usize>
+    ensures { let text = flat_map tag_text tags.now in
+        SomeIff result (length text < 2 ^ 64) (length text) }
 {
     let mut len = 0usize;
-    let mut is_plain = true;
-    for tag in tags {
-        let one = measure_tag(tag.0.as_str().as_bytes(), tag.1.as_str().as_bytes())?;
-        len = len.checked_add(one.len)?;
-        is_plain &= one.is_plain;
+    for (key, value) in tags {
+        len = len.checked_add(tag_len(key.as_str().as_bytes(), value.as_str().as_bytes())?)?;
     }
-    Some(Extent { len, is_plain })
+    Some(len)
 }
 
 // Appends the tags, each with its comma.
-fn put_tags<B: BufMut>(buf: &mut B, is_plain: bool, tags: &[(EscapedStr<'_>, EscapedStr<'_>)])
-    requires plain { is_plain ≡ true → AllByRecursion IsPlainTag tags.now }
-    requires room { length (flat_map tag_text tags.now) ≤ B.room buf.old }
+fn put_tags<B: BufMut>(buf: &mut B, tags: &[(EscapedStr<'_>, EscapedStr<'_>)])
+    requires { length (flat_map tag_text tags.now) ≤ B.room buf.old }
     ensures bytes { B.bytes buf.new ≡ B.bytes buf.old ++ flat_map tag_text tags.now }
     ensures room { B.room buf.old ≤ B.room buf.new + length (flat_map tag_text tags.now) }
 {
     for (key, value) in tags {
-        put_tag(
-            buf,
-            is_plain,
-            key.as_str().as_bytes(),
-            value.as_str().as_bytes(),
-        );
+        put_tag(buf, key.as_str().as_bytes(), value.as_str().as_bytes());
     }
 }
 
-// The length of a field with the byte before it, if a `usize` holds it, and whether it gets no backslash.
-fn measure_field(field: &(EscapedStr<'_>, values::FieldValue<'_>)) -> Option<Extent>
-    ensures len { let text = space ∷ field_text (text_of field.now.0) (value_text field.now.1) in
-        SomeIff (option_map (λ m. m.len) result) (length text < 2 ^ 64) (length text) }
-    ensures plain { IfSome result (λ m. m.is_plain ≡ true → IsPlainField field.now) }
-{
-    let key = measure(TokenKind::FieldKey, field.0.as_str().as_bytes());
-    let value = measure_value(&field.1)?;
-    Some(Extent {
-        len: key.len.checked_add(value.len)?.checked_add(2)?,
-        is_plain: key.is_plain && value.is_plain,
-    })
-}
-
-// The length of a text that gets no backslash.
-fn plain_extent(len: Option<usize>) -> Option<Extent>
-    ensures { option_map (λ e. e.len) result ≡ len }
-{
-    let len = len?;
-    Some(Extent {
-        len,
-        is_plain: true,
-    })
-}
-
-// The length of a value's text, if a `usize` holds it, and whether it gets no backslash.
-#[inline(always)]
-#[tactic(auto, using(crate::proofs::lemmas::builder::BuilderLemmas::escaped_nothing))]
-fn measure_value(value: &values::FieldValue<'_>) -> Option<Extent>
-    ensures len { SomeIff (option_map (λ m. m.len) result) (length (value_text value.now) < 2 ^ 64) (length (value_text value.now)) }
-    ensures plain { IfSome result (λ m. m.is_plain ≡ true → IsPlainValue value.now) }
-{
-    match value {
-        values::FieldValue::I64(value) => plain_extent(value.fmt_len()),
-        values::FieldValue::U64(value) => plain_extent(value.fmt_len()),
-        values::FieldValue::F64(value) => plain_extent(value.fmt_len()),
-        values::FieldValue::Boolean(value) => plain_extent(value.fmt_len()),
-        values::FieldValue::String(text) => {
-            let text = measure(TokenKind::String, text.as_str().as_bytes());
-            Some(Extent {
-                len: text.len.checked_add(2)?,
-                is_plain: text.is_plain,
-            })
-        }
-    }
-}
-
-// The length of the fields, each with the byte before it, if a `usize` holds it, and whether none gets a backslash.
+// The length of the fields, each with the byte before it, if a `usize` holds it.
 #[tactic(auto, using(crate::proofs::lemmas::builder::WrittenAgainLemmas::length_fields_after))]
-fn measure_fields(fields: &[(EscapedStr<'_>, values::FieldValue<'_>)]) -> Option<Extent>
-    ensures len { let text = fields_text space fields.now in
-        SomeIff (option_map (λ m. m.len) result) (length text < 2 ^ 64) (length text) }
-    ensures plain { IfSome result (λ m. m.is_plain ≡ true → AllByRecursion IsPlainField fields.now) }
+fn fields_len(fields: &[(EscapedStr<'_>, values::FieldValue<'_>)]) -> Option<usize>
+    ensures { let text = fields_text space fields.now in
+        SomeIff result (length text < 2 ^ 64) (length text) }
 {
     let mut len = 0usize;
-    let mut is_plain = true;
-    for field in fields {
-        let one = measure_field(field)?;
-        len = len.checked_add(one.len)?;
-        is_plain &= one.is_plain;
+    for (key, value) in fields {
+        len = len.checked_add(field_len(key.as_str().as_bytes(), value)?)?;
     }
-    Some(Extent { len, is_plain })
+    Some(len)
 }
 
 // Appends the fields, the first after a space and each other after a comma.
-fn put_fields<B: BufMut>(
-    buf: &mut B,
-    is_plain: bool,
-    fields: &[(EscapedStr<'_>, values::FieldValue<'_>)],
-)
-    requires plain { is_plain ≡ true → AllByRecursion IsPlainField fields.now }
-    requires room { length (fields_text space fields.now) ≤ B.room buf.old }
+fn put_fields<B: BufMut>(buf: &mut B, fields: &[(EscapedStr<'_>, values::FieldValue<'_>)])
+    requires { length (fields_text space fields.now) ≤ B.room buf.old }
     ensures bytes { B.bytes buf.new ≡ B.bytes buf.old ++ fields_text space fields.now }
     ensures room { B.room buf.old ≤ B.room buf.new + length (fields_text space fields.now) }
 {
     let mut before = b' ';
     for (key, value) in fields {
-        let value = ReadValue { value, is_plain };
-        put_field(buf, before, is_plain, key.as_str().as_bytes(), &value);
+        put_field(buf, before, key.as_str().as_bytes(), value);
         before = b',';
     }
 }
 
-// The length of the timestamp with the space before it: 0, if there is none.
-fn timestamp_len(timestamp: Option<i64>) -> usize
-    ensures value { result ≡ length (built_timestamp timestamp) }
-    ensures few { result ≤ 21 }
+// The length of the timestamp with the space before it: 0, if there is none. A space is as long as the letter of an integer.
+fn timestamp_len(timestamp: Option<i64>) -> Option<usize>
+    ensures { SomeIff result (length (built_timestamp timestamp) < 2 ^ 64) (length (built_timestamp timestamp)) }
 {
-    let Some(timestamp) = timestamp else {
-        return 0;
-    };
-    let mut digits = itoa::Buffer::new();
-    digits.format(timestamp).len() + 1
+    match timestamp {
+        Some(timestamp) => timestamp.fmt_len(),
+        None => Some(0),
+    }
 }
 
 // Appends the timestamp, if there is one, with the space before it.
@@ -262,62 +189,33 @@ fn put_timestamp<B: BufMut>(buf: &mut B, timestamp: Option<i64>)
     }
 }
 
-// What is written of a line.
-#[derive(Clone, Copy)]
-struct Parts<'l, 'a> {
-    measurement: &'l [u8],
-    tags: &'l [(EscapedStr<'a>, EscapedStr<'a>)],
-    fields: &'l [(EscapedStr<'a>, values::FieldValue<'a>)],
-    timestamp: Option<i64>,
+// The length of the line and its newline, if a `usize` holds it.
+#[tactic(auto, unfolding(crate::specs::code::WrittenAgain::line_text))]
+fn line_len(line: &ParsedLine<'_>) -> Option<usize>
+    ensures { let text = line_text line.now in
+        SomeIff result (length text < 2 ^ 64) (length text) }
+{
+    let name = line.series.measurement.as_str();
+    escaped_len(TokenKind::Measurement, name.as_bytes())
+        .checked_add(tags_len(tags_in(&line.series))?)?
+        .checked_add(fields_len(line.field_set.as_slice())?)?
+        .checked_add(timestamp_len(line.timestamp)?)?
+        .checked_add(1)
 }
 
-impl<'l, 'a> Parts<'l, 'a> {
-    // The parts of this line.
-    fn of(line: &'l ParsedLine<'a>) -> Self
-        ensures { parts_text result ≡ built (parsed_point line.now) }
-    {
-        Parts {
-            measurement: line.series.measurement.as_str().as_bytes(),
-            tags: tags_in(&line.series),
-            fields: line.field_set.as_slice(),
-            timestamp: line.timestamp,
-        }
-    }
-
-    // The length of the line and its newline, if a `usize` holds it, and whether it gets no backslash.
-    #[tactic(auto, unfolding(crate::specs::code::WrittenAgain::parts_text))]
-    fn measure(&self) -> Option<Extent>
-        ensures len { let text = parts_text self.now in
-            SomeIff (option_map (λ m. m.len) result) (length text < 2 ^ 64) (length text) }
-        ensures plain { IfSome result (λ m. m.is_plain ≡ true → ArePlainParts self.now) }
-    {
-        let measurement = measure(TokenKind::Measurement, self.measurement);
-        let tags = measure_tags(self.tags)?;
-        let fields = measure_fields(self.fields)?;
-        let end = timestamp_len(self.timestamp) + 1;
-        let len = measurement
-            .len
-            .checked_add(tags.len)?
-            .checked_add(fields.len)?
-            .checked_add(end)?;
-        let is_plain = measurement.is_plain && tags.is_plain && fields.is_plain;
-        Some(Extent { len, is_plain })
-    }
-
-    // Appends the line and its newline. Its texts are not searched if they are known to get no backslash.
-    #[tactic(auto, unfolding(crate::specs::code::WrittenAgain::parts_text))]
-    fn put<B: BufMut>(&self, buf: &mut B, is_plain: bool)
-        requires plain { is_plain ≡ true → ArePlainParts self.now }
-        requires room { length (parts_text self.now) ≤ B.room buf.old }
-        ensures bytes { B.bytes buf.new ≡ B.bytes buf.old ++ parts_text self.now }
-        ensures room { B.room buf.old ≤ B.room buf.new + length (parts_text self.now) }
-    {
-        put_escaped(buf, TokenKind::Measurement, is_plain, self.measurement);
-        put_tags(buf, is_plain, self.tags);
-        put_fields(buf, is_plain, self.fields);
-        put_timestamp(buf, self.timestamp);
-        buf.put(b"\n");
-    }
+// Appends the line and its newline.
+#[tactic(auto, unfolding(crate::specs::code::WrittenAgain::line_text))]
+fn put_line<B: BufMut>(buf: &mut B, line: &ParsedLine<'_>)
+    requires { length (line_text line.now) ≤ B.room buf.old }
+    ensures bytes { B.bytes buf.new ≡ B.bytes buf.old ++ line_text line.now }
+    ensures room { B.room buf.old ≤ B.room buf.new + length (line_text line.now) }
+{
+    let name = line.series.measurement.as_str();
+    put_escaped(buf, TokenKind::Measurement, name.as_bytes());
+    put_tags(buf, tags_in(&line.series));
+    put_fields(buf, line.field_set.as_slice());
+    put_timestamp(buf, line.timestamp);
+    buf.put(b"\n");
 }
 
 /// Appends a parsed line as the builder writes it, with its newline: the measurement, the tags, the
@@ -328,6 +226,7 @@ impl<'l, 'a> Parts<'l, 'a> {
 ///
 /// `TooLong` if no `usize` holds the length of the line, and else what the buffer answers if
 /// it has no room for the whole of it. The builder is then as before: no part of the line is written.
+#[tactic(auto, using(crate::proofs::lemmas::builder::WrittenAgainLemmas::line_text_is))]
 pub fn write_line<B: BufMut>(
     builder: LineProtocolBuilder<B, BeforeMeasurement>,
     line: &ParsedLine<'_>,
@@ -336,11 +235,10 @@ pub fn write_line<B: BufMut>(
     ensures { Writes B.bytes B.room B.refuses
         (built (parsed_point line.now)) (buffer_of builder) result }
 {
-    let parts = Parts::of(line);
-    let Some(extent) = parts.measure() else {
+    let Some(n) = line_len(line) else {
         return Err(builder.too_long());
     };
-    let mut buf = builder.with_room(extent.len)?;
-    parts.put(&mut buf, extent.is_plain);
+    let mut buf = builder.with_room(n)?;
+    put_line(&mut buf, line);
     Ok(LineProtocolBuilder::over(buf))
 }

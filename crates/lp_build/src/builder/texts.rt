@@ -1,8 +1,7 @@
 //! Texts that are written with their backslashes, and how long they are so.
 
-ghost use Rattle.std.specs.Prelude.{◌≡◌, ◌+◌, ◌<◌, ◌≤◌, ◌∷◌, ◌++◌, ℕ, true, length, IfNone, IfSome};
+ghost use Rattle.std.specs.Prelude.{◌≡◌, ◌+◌, ◌<◌, ◌≤◌, ◌∷◌, ◌++◌, ℕ, length, IfNone, IfSome};
 ghost use Rattle.lp_format.specs.format.{backslash, is_one_of, escaped};
-ghost use Rattle.lp_build.specs.code.Built.{IsPlainText};
 ghost use Rattle.lp_scan.specs.code.{known_of};
 
 use super::buffer::BufMut;
@@ -19,13 +18,6 @@ fn marks(kind: TokenKind) -> [u8; 4]
         TokenKind::TagKey | TokenKind::TagValue | TokenKind::FieldKey => *b",= \\",
         TokenKind::String => *b"\"\\\\\\",
     }
-}
-
-// What was measured of a text: how many bytes it has with its backslashes, and whether it is known to have none.
-#[derive(Clone, Copy)]
-pub(super) struct Extent {
-    pub(super) len: usize,
-    pub(super) is_plain: bool,
 }
 
 // The first byte of `text` that gets a backslash: what comes before it, the byte, and what follows.
@@ -58,37 +50,13 @@ pub(super) fn escaped_len(kind: TokenKind, text: &[u8]) -> usize
     len
 }
 
-// The length of `text` with its backslashes, and whether it has none.
+// Appends `text` with its backslashes. What is between two of them is copied as one run.
 #[inline(always)]
-pub(super) fn measure(kind: TokenKind, text: &[u8]) -> Extent
-    ensures len { result.len ≡ length (escaped (known_of kind) text.now) }
-    ensures plain { result.is_plain ≡ true → IsPlainText (known_of kind) text.now }
-{
-    match next_escape(kind, text) {
-        None => Extent {
-            len: text.len(),
-            is_plain: true,
-        },
-        Some((plain, _, after)) => Extent {
-            len: plain.len() + 2 + escaped_len(kind, after),
-            is_plain: false,
-        },
-    }
-}
-
-// Appends `text` with its backslashes. What is between two of them is copied as one run. It is not searched if it is known
-// to have none.
-#[inline(always)]
-pub(super) fn put_escaped<B: BufMut>(buf: &mut B, kind: TokenKind, is_plain: bool, text: &[u8])
-    requires plain { is_plain ≡ true → IsPlainText (known_of kind) text.now }
-    requires room { length (escaped (known_of kind) text.now) ≤ B.room buf.old }
+pub(super) fn put_escaped<B: BufMut>(buf: &mut B, kind: TokenKind, text: &[u8])
+    requires { length (escaped (known_of kind) text.now) ≤ B.room buf.old }
     ensures bytes { B.bytes buf.new ≡ B.bytes buf.old ++ escaped (known_of kind) text.now }
     ensures room { B.room buf.old ≤ B.room buf.new + length (escaped (known_of kind) text.now) }
 {
-    if is_plain {
-        buf.put(text);
-        return;
-    }
     let mut rest = text;
     while let Some((plain, byte, after)) = next_escape(kind, rest) {
         buf.put(plain);

@@ -1,8 +1,7 @@
 //! Values of fields, as the builder writes them.
 
-ghost use Rattle.std.specs.Prelude.{◌≡◌, ◌+◌, ◌<◌, ◌≤◌, ◌^◌, List, ◌++◌, ℕ, true, length, SomeIff, decimal};
-ghost use Rattle.lp_format.specs.format.{integer, unsigned, string, boolean, quotable, built_value};
-ghost use Rattle.lp_build.specs.code.Built.{IsPlainText};
+ghost use Rattle.std.specs.Prelude.{◌≡◌, ◌+◌, ◌<◌, ◌≤◌, ◌^◌, List, ◌++◌, ℕ, length, SomeIff, decimal};
+ghost use Rattle.lp_format.specs.format.{integer, unsigned, string, boolean, built_value};
 
 use super::buffer::BufMut;
 use super::texts::{escaped_len, put_escaped};
@@ -94,19 +93,8 @@ impl FieldValue for &str {
     }
 
     fn fmt<B: BufMut>(&self, buf: &mut B) {
-        put_string(buf, false, self.as_bytes());
+        buf.put(b"\"");
+        put_escaped(buf, TokenKind::String, self.as_bytes());
+        buf.put(b"\"");
     }
-}
-
-// Appends `text` between quotes, with its backslashes.
-#[inline(always)]
-pub(super) fn put_string<B: BufMut>(buf: &mut B, is_plain: bool, text: &[u8])
-    requires plain { is_plain ≡ true → IsPlainText quotable text.now }
-    requires room { length (built_value (string text.now)) ≤ B.room buf.old }
-    ensures bytes { B.bytes buf.new ≡ B.bytes buf.old ++ built_value (string text.now) }
-    ensures room { B.room buf.old ≤ B.room buf.new + length (built_value (string text.now)) }
-{
-    buf.put(b"\"");
-    put_escaped(buf, TokenKind::String, is_plain, text);
-    buf.put(b"\"");
 }

@@ -22,6 +22,7 @@ use Rattle.lp_lines.proofs.lemmas.names.ParsedNames.{ParsedPoint, names_are_pars
 use Rattle.std.specs.List.{AllByRecursion, list_all}
 use Rattle.std.proofs.lemmas.Bool.{and_parts, cases_Bool, false≢true, and_from, both_ways}
 use Rattle.std.proofs.lemmas.List.{length-map, get_or-map}
+use Rattle.std.proofs.lemmas.List.Elements.{Contains-append_left, Contains-append_right}
 use Rattle.lp_split.specs.code.{Head, Plain}
 use Rattle.lp_split.proofs.lemmas.split.SplitWalk.{Plain-comma}
 use Rattle.lp_format.proofs.lemmas.split.{SplitPieces.pieces_exist, SplitPieces.same_pieces, SplitBare.is_escaped-push_other}
@@ -253,10 +254,6 @@ items_have_readable_names dialect text items p h here kind n named =
     parsed_is_readable
     (names_are_parsed dialect text h.0 found.0 kind n h.1 found.1 (subst (λ q. Contains (names_of kind q) n) (sym found.2) named))
 
--- the lines of two lists of points
-built_of_two : (before others : List Point) (t : List ℕ) → built_all (before ++ others) ++ t ≡ built_all before ++ (built_all others ++ t)
-built_of_two before others t = grind (arith, flat_map-append, append_assoc)
-
 -- the answers for the line of such a point, and for what follows it
 point_answered : (dialect : Dialect) (p : Point) (u : List ℕ) (answers : List (Result Line Fault)) → IsPoint p
     → is_admitted_point p ≡ false → HasReadableNames p
@@ -275,9 +272,10 @@ other_points_end_with_backslash dialect before p after t answers ok is_point bad
     let more = answers_of dialect suffix.0 in
     let alone : HasAnswers dialect u more = record { pieces = suffix.0; are = suffix.1; answered = refl } in
     let batch = admitted_batches_read_back dialect before u more ok alone in
+    let joined : built_all before ++ u ≡ built_all (before ++ p ∷ after) ++ t = grind (arith, flat_map-append, append_assoc) in
     let same : answers ≡ map Ok batch.0 ++ more =
     same_answers dialect (built_all (before ++ p ∷ after) ++ t) answers (map Ok batch.0 ++ more) h
-    (subst (λ x. HasAnswers dialect x (map Ok batch.0 ++ more)) (sym (built_of_two before (p ∷ after) t)) batch.2) in
+    (subst (λ x. HasAnswers dialect x (map Ok batch.0 ++ more)) joined batch.2) in
     let one =
     point_answered dialect p (built_all after ++ t) more is_point bad names
     (subst (λ x. HasAnswers dialect x more) (append_assoc (built p) (built_all after) t) alone) in
@@ -292,12 +290,6 @@ admitted_before (q ∷ before) p after all pass =
     let more = admitted_before before p after all.1 parts.1 in
     ((record { is_point = all.0; names_are = parts.0 }, more.0), more.1)
 
--- a point is among others
-among : (before : List Point) (p : Point) (after : List Point) (others : List (Result Point Fault))
-    → Contains (map Ok (before ++ p ∷ after) ++ others) (Ok p)
-among [] p after others = first_element (Ok p) (map Ok after ++ others)
-among (q ∷ before) p after others = later_element (Ok q) (Ok p) (map Ok (before ++ p ∷ after) ++ others) (among before p after others)
-
 -- points before one that is answered with a fault are not all points
 not_all : (before : List Point) (p : Point) (after : List Point) (fault : Fault) (more others : List (Result Point Fault))
     → map Ok before ++ Err fault ∷ more ≡ map Ok (before ++ p ∷ after) ++ others → ⊥
@@ -310,7 +302,8 @@ other_batches_do_not dialect points t items others all bad h k e =
     let f = first_failing is_admitted_point points bad in
     let points_are = admitted_before f.front f.stop f.after (subst (AllByRecursion IsPoint) f.is all) f.pass in
     let are : items ≡ map Ok (f.front ++ f.stop ∷ f.after) ++ others = e ∙ ap (λ ps. map Ok ps ++ others) f.is in
-    let here = subst (λ xs. Contains xs (Ok f.stop)) (sym are) (among f.front f.stop f.after others) in
+    let stop = made_element Ok _ f.stop (Contains-append_right f.front (f.stop ∷ f.after) f.stop (first_element f.stop f.after)) in
+    let here = subst (λ xs. Contains xs (Ok f.stop)) (sym are) (Contains-append_left _ others (Ok f.stop) stop) in
     let names = items_have_readable_names dialect (built_all points ++ t) items f.stop h here in
     let has = subst (λ ps. HasAnswers dialect (built_all ps ++ t) h.0) f.is h.1 in
     let w = other_points_end_with_backslash dialect f.front f.stop f.after t h.0 points_are.0 points_are.1 f.fails names has in

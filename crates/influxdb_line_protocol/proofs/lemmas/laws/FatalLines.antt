@@ -12,7 +12,7 @@ use Rattle.lp_format.specs.format.Pieces.{Pieces, Pieces.last, Pieces.cut}
 use Rattle.lp_format.specs.laws.NamesOfLines.{IsParsedName}
 use Rattle.lp_format.proofs.lemmas.split.{SplitPieces.no_cut_within, SplitBare.place_in_append}
 use Rattle.lp_format.proofs.lemmas.read_back.NameReadsBack.{may_hold, escaped_plain, read_tag}
-use Rattle.lp_lines.proofs.lemmas.names.Spellings.{reaches_start, Reaches, SpelledAs, never_unescapable, never_stops, spelling_as, Stops}
+use Rattle.lp_lines.proofs.lemmas.names.Spellings.{reaches_start, Reaches, SpelledAs, never_unescapable, never_stops, spelling_as}
 use Rattle.lp_lines.proofs.lemmas.names.Spellings.{spelled_fatal, spelled_begins, reaches_head, BeginsLine, line_no_comment, line_trimmed}
 use Rattle.lp_lines.proofs.lemmas.names.Spellings.{line_some, name_reads_back, reaches_name, reaches_other}
 use Rattle.lp_split.specs.code.{Head}
@@ -146,10 +146,6 @@ first_same : (text more : List ℕ) → 0 < length text → slice_index text 0 �
 first_same [] more h = absurd (omega (arith, h))
 first_same (b ∷ text) more h = refl
 
--- the stop ends the name
-stops_with : (kind : NameKind) (stop : ℕ) (rest : List ℕ) → is_one_of (never_in kind) stop ≡ true → StopsWith stop rest → Stops kind rest
-stops_with kind stop rest never h = grind (arith, never_stops)
-
 -- a parsed name that is not admitted stops too early
 pub name_stops : (kind : NameKind) (n : List ℕ) → IsParsedName kind n → is_admitted_name kind n ≡ false → NameStops kind n
 name_stops kind n h bad =
@@ -170,7 +166,7 @@ name_stops kind n h bad =
         some = some;
         first = first_same place.front (place.stop ∷ place.after) some ∙ ap (λ (xs : List ℕ). slice_index xs 0) (sym place.is);
       };
-      fails = λ rest stops. spelled_fatal spelled some ends rest (stops_with kind place.stop rest never stops);
+      fails = λ rest stops. spelled_fatal spelled some ends rest (grind (arith, never_stops, never));
     }
 
 -- a line whose measurement stops too early

@@ -3,16 +3,11 @@
 use Rattle.std.proofs.Common.{◌≡◌, ℕ, suc, zero, ◌+◌, ◌<◌, Bool, true, false, List, [], ◌∷◌, ◌++◌, length, take, drop, get_or, arith}
 use Rattle.std.proofs.Common.{ap, refl, ◌-◌, add-one, length-drop, length-append, ◌∙◌, ◌≤◌, ◌^◌, ◌*◌, ◌/◌, take_all, decimal}
 use Rattle.std.proofs.Common.{not, pow-suc}
-use Rattle.std.proofs.Math.Nat.{pow-zero}
+use Rattle.std.proofs.Math.Nat.{one-le-pow}
 use Rattle.std.proofs.lemmas.Fmt.{decimal_step, decimal_digit}
 use Rattle.std.proofs.lemmas.Bool.{not-false, not-true}
 use Rattle.lp_format.specs.format.{backslash, is_one_of, escaped}
 use Rattle.lp_scan.specs.code.{IsRunAt}
-
--- nothing gets a backslash in an empty text
-pub escaped_nothing : (bytes : List ℕ) → escaped bytes [] ≡ []
-unfolding escaped
-escaped_nothing bytes = refl
 
 -- a text without a byte that gets a backslash stays
 pub escaped_same : (bytes text : List ℕ)
@@ -52,23 +47,16 @@ pub escaped_none : (bytes text : List ℕ) (mark : ℕ → Bool) (at : ℕ)
     → escaped bytes text ≡ text
 escaped_none bytes text mark at same run all = grind (arith, not-true, escaped_same)
 
--- a power of ten is positive
-power_positive : (k : ℕ) → 0 < 10 ^ k
-power_positive zero = omega (arith, pow-zero 10)
-power_positive (suc k) = omega (arith, pow-suc 10 k, power_positive k)
-
 -- the length of a number that lies between two powers of ten
 pub length_decimal : (n k : ℕ)
     → 10 ^ k ≤ n → n < 10 * 10 ^ k → n < 2 ^ 64 → length (decimal n) ≡ k + 1
 length_decimal n zero low high fits = ap length (decimal_digit n high)
 length_decimal n (suc k) low high fits =
     let power : 10 ^ suc k ≡ 10 ^ k * 10 = pow-suc 10 k in
-    let positive : 0 < 10 ^ k = power_positive k in
+    let positive : 0 < 10 ^ k = omega (arith, one-le-pow k 10 (omega arith)) in
     let step : length (decimal n) ≡ length (decimal (n / 10)) + 1 =
     ap length (decimal_step n (omega arith) fits) ∙ length-append _ _ in
-    let less : length (decimal (n / 10)) ≡ k + 1 =
-    length_decimal (n / 10) k (omega arith) (omega arith) (omega arith) in
-    omega arith
+    omega (arith, step, length_decimal (n / 10) k (omega arith) (omega arith) (omega arith))
 
 -- the length of a digit
 pub length_digit : (n : ℕ) → n < 10 → length (decimal n) ≡ 1

@@ -1,12 +1,12 @@
 -- The series of each line that is read is a parsed one.
-use Rattle.std.proofs.Common.{◌≡◌, ℕ, zero, suc, ◌≤◌, Bool, List, [], ◌∷◌, ◌++◌, length, drop, refl, sym, ap, ◌∙◌, subst, arith}
+use Rattle.std.proofs.Common.{◌≡◌, ℕ, zero, suc, ◌≤◌, List, [], ◌∷◌, ◌++◌, length, drop, refl, sym, ap, ◌∙◌, subst, arith}
 use Rattle.std.proofs.Common.{append_assoc, Option, Some, None, Ok, take-append-drop}
 use Rattle.std.proofs.lemmas.Bool.{cases_Bool}
 use Rattle.std.proofs.lemmas.List.{append_cancel_left}
 use Rattle.lp_lines.specs.laws.BaseLaws.{IsParsedSeries, ReadSeriesAreParsed}
 use Rattle.lp_format.specs.format.{after_comma, many, some_tags, tag, tag_set, NameKind, a_measurement, a_tag_key, a_tag_value, name}
 use Rattle.lp_format.specs.format.{spelled, spelled_len, Pair, Reading, Text, reads, comma, equals}
-use Rattle.lp_format.specs.laws.Meanings.{IsAtStop, SeparatedAfterComma}
+use Rattle.lp_format.specs.laws.Meanings.{SeparatedAfterComma}
 use Rattle.lp_events.proofs.lemmas.fields.ManyLemmas.{set_separated}
 use Rattle.lp_lines.proofs.lemmas.read_back.LineReadsBack.{front_is}
 use Rattle.lp_lines.proofs.lemmas.names.ParsedNames.{answer_parts}
@@ -20,14 +20,10 @@ record ReadsCut {A : Type 0} (one : List ℕ → Reading A) (text : List ℕ) (x
   is : text ≡ front ++ rest
   again : (kept lost : List ℕ) → rest ≡ kept ++ lost → one (front ++ kept) ≡ reads x kept
 
--- a stop stays one if the text after it is cut
-stop_cut : (passes : ℕ → Bool) (front kept lost : List ℕ) → IsAtStop passes front (kept ++ lost) → IsAtStop passes front kept
-stop_cut passes front kept lost at = grind (arith)
-
--- so a name is spelled as it was
+-- a name is spelled as it was if the text after it is cut
 spelled_cut : (kind : NameKind) (front kept lost : List ℕ) → spelled kind (front ++ (kept ++ lost)) ≡ front
     → spelled kind (front ++ kept) ≡ front
-spelled_cut kind front kept lost h = grind (arith, before_stop, stop_cut)
+spelled_cut kind front kept lost h = grind (arith, before_stop)
 
 -- two texts that spell one name read to it
 name_same : (kind : NameKind) (text other : List ℕ) (t : Text) (rest : List ℕ) → name kind text ≡ reads t rest
@@ -56,12 +52,6 @@ name_cut kind text t rest e =
     sym (take-append-drop (spelled_len kind text) text) ∙ ap (λ (r : List ℕ). spelled kind text ++ r) (sym after) in
     record { front = spelled kind text; is = is; again = λ kept lost at. name_kept kind text t rest e is kept lost at }
 
--- a tag by its names
-tag_by : (line after rest : List ℕ) (k v : Text) → name a_tag_key line ≡ reads k (equals ∷ after) → name a_tag_value after ≡ reads v rest
-    → tag line ≡ reads (record { key = k; value = v }) rest
-unfolding tag
-tag_by line after rest k v e f = rw (e, f) refl
-
 -- a tag reads the same wherever the text after it is cut
 tag_cut : (text : List ℕ) (x : Pair Text Text) (rest : List ℕ) → tag text ≡ reads x rest → ReadsCut tag text x rest
 unfolding tag
@@ -77,8 +67,7 @@ tag_cut text x rest e =
           let cut : equals ∷ p.mid ≡ (equals ∷ value.front ++ kept) ++ lost =
           left ∙ ap (λ (r : List ℕ). (equals ∷ value.front) ++ r) at ∙ sym (append_assoc (equals ∷ value.front) kept lost) in
           ap tag (append_assoc key.front (equals ∷ value.front) kept)
-          ∙ tag_by (key.front ++ (equals ∷ value.front ++ kept)) (value.front ++ kept) kept x.key x.value
-          (key.again (equals ∷ value.front ++ kept) lost cut) (value.again kept lost at);
+          ∙ rw (key.again (equals ∷ value.front ++ kept) lost cut, value.again kept lost at) refl;
     }
 
 -- a front of the text with these tags, each after a comma, and nothing after them

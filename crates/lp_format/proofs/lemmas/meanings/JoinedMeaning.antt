@@ -1,5 +1,5 @@
 -- What is joined by commas is read as the most that are at the start.
-use Rattle.std.proofs.Common.{◌≡◌, ◌≢◌, ℕ, zero, suc, ◌<◌, ◌≤◌, List, [], ◌∷◌, ◌++◌, length, refl, sym, ap, ◌∙◌, subst, arith}
+use Rattle.std.proofs.Common.{◌≡◌, ◌≢◌, ℕ, zero, suc, ◌<◌, ◌≤◌, List, [], ◌∷◌, ◌++◌, length, refl, sym, ap, ◌∙◌, arith}
 use Rattle.std.proofs.Common.{length-append, eqb-true}
 use Rattle.std.proofs.lemmas.Bool.{cases_Bool}
 use Rattle.lp_format.specs.format.{Fault, Reading, miss, fatal, reads, after_comma, separated_list, many, prepend, comma}
@@ -32,10 +32,7 @@ module _ {A : Type 0} where
   chain_most f g [] [] text a b h k none = omega arith
   chain_most f g [] (y ∷ ys) text a b h k none = absurd (none y k.0 (ap f (sym h) ∙ k.1))
   chain_most f g (x ∷ xs) [] text a b h k none = omega arith
-  chain_most f g (x ∷ xs) (y ∷ ys) text a b h k none =
-      let same : k.0 ≡ h.0 = let e = sym k.1 ∙ h.1 in cc in
-      let fewer = chain_most g g xs ys h.0 a b h.2 (subst (λ (t : List ℕ). Chain g g ys t b) same k.2) none in
-      omega arith
+  chain_most f g (x ∷ xs) (y ∷ ys) text a b h k none = grind (arith, chain_most g g xs ys h.0 a b h.2)
 
   -- two such are the same
   chain_same : (f g : List ℕ → Reading A) (xs ys : List A) (text a b : List ℕ) → Chain f g xs text a → Chain f g ys text b
@@ -43,11 +40,7 @@ module _ {A : Type 0} where
   chain_same f g [] [] text a b h k none nor = (refl, sym h ∙ k)
   chain_same f g [] (y ∷ ys) text a b h k none nor = absurd (none y k.0 (ap f (sym h) ∙ k.1))
   chain_same f g (x ∷ xs) [] text a b h k none nor = absurd (nor x h.0 (ap f (sym k) ∙ h.1))
-  chain_same f g (x ∷ xs) (y ∷ ys) text a b h k none nor =
-      let first : x ≡ y = cc in
-      let same : k.0 ≡ h.0 = cc in
-      let more = chain_same g g xs ys h.0 a b h.2 (subst (λ (t : List ℕ). Chain g g ys t b) same k.2) none nor in
-      (cc (first, more.0), more.1)
+  chain_same f g (x ∷ xs) (y ∷ ys) text a b h k none nor = grind (arith, chain_same g g xs ys h.0 a b h.2)
 
   -- one more
   chain_push : (f g : List ℕ → Reading A) (xs : List A) (text a : List ℕ) (y : A) (after : List ℕ) → Chain f g xs text a

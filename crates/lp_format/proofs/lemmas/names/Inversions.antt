@@ -42,8 +42,7 @@ chain_counted : {A : Type 0} (g : List ℕ → Reading A)
 chain_counted g shorter zero [] text rest h none room = refl
 chain_counted g shorter (suc n) [] text rest h none room = grind arith
 chain_counted g shorter zero (x ∷ xs) text rest h none room = absurd (omega (arith, shorter text x h.0 h.1))
-chain_counted g shorter (suc n) (x ∷ xs) text rest h none room =
-    grind (arith, chain_counted g shorter n xs h.0 rest h.2 none (omega (arith, shorter text x h.0 h.1)))
+chain_counted g shorter (suc n) (x ∷ xs) text rest h none room = grind (arith, chain_counted g shorter n xs h.0 rest h.2 none)
 
 module _ {A : Type 0} (one : List ℕ → Reading A)
     (no_longer : (text : List ℕ) (x : A) (rest : List ℕ) → one text ≡ reads x rest → length rest ≤ length text) where

@@ -7,7 +7,7 @@ use Rattle.lp_format.specs.format.{Dialect, Strict, Fault, IsCutPiece, begins_co
 use Rattle.lp_format.specs.format.Pieces.{Pieces, Pieces.last, Pieces.cut}
 use Rattle.lp_format.specs.format.{hash, space, tab, HasAnswers, answers_of_piece, Line}
 use Rattle.lp_format.proofs.lemmas.split.SplitPieces.{same_pieces, join_from_cut, Pieces-nil, begins_comment-append, comment_replaced}
-use Rattle.lp_format.proofs.lemmas.split.SplitPieces.{piece_is_comment}
+use Rattle.lp_format.proofs.lemmas.split.SplitPieces.{piece_is_comment, pieces_exist, cut_from_join}
 use Rattle.std.proofs.lemmas.Bool.{and_parts, cases_Bool, false≢true}
 use Rattle.std.proofs.lemmas.List.Elements.{All-head, All-tail}
 use Rattle.lp_format.specs.laws.Laws.{CommentTextIsIgnored}
@@ -52,3 +52,6 @@ pub comment_text_is_ignored : CommentTextIsIgnored
 comment_text_is_ignored front old new before after text answers f n h k =
     let other = comment_replaced before front old new after text f n h in
     grind (arith, piece_is_comment, begins_comment-append, same_pieces, comment_answers, flat_map-append)
+
+-- the laws of pieces
+pub ruleset piece_laws = (pieces_exist, same_pieces, pieces_are_text, cut_from_join, join_from_cut, answers_join)

@@ -181,12 +181,19 @@ pub whole_number : (number : List ℕ) → 0 < integer_len number → length num
 whole_number number some whole =
     subst (IsSigned (codes "-")) (take_all (integer_len number) number whole) (signed_front (codes "-") number some)
 
--- and is a timestamp if the builder writes it so
-pub timestamp_answer : (number : List ℕ) → IsSigned (codes "-") number → (is_written_integer number ≡ true) ↔ IsWrittenTimestamp (space ∷ number)
-timestamp_answer number signed = (
-  (λ ok. let t = integer_told number signed ok in present t.0 t.1 (ap (λ (xs : List ℕ). space ∷ xs) (sym t.2))),
-  (λ w. let t = timestamp_number number w in subst (λ xs. is_written_integer xs ≡ true) t.2 (integer_tells t.0 t.1)),
-)
+-- so a space and a number are a timestamp if that is an integer to its end, which the builder writes so
+pub timestamp_tells : (text number : List ℕ) → byte space text ≡ reads space number → IsWrittenTimestamp text
+    ↔ ((0 < integer_len number) × (integer_len number ≡ length number) × (is_written_integer number ≡ true))
+timestamp_tells text number read =
+    rw (byte_left space text number read) (
+      (λ w.
+          let t = timestamp_number number w in
+          let len = timestamp_len number w in
+          (len.0, len.1, subst (λ xs. is_written_integer xs ≡ true) t.2 (integer_tells t.0 t.1))),
+      (λ h.
+          let t = integer_told number (whole_number number h.0 (omega arith)) h.2 in
+          present t.0 t.1 (ap (λ (xs : List ℕ). space ∷ xs) (sym t.2))),
+    )
 
 -- the timestamp of a point is one
 stamp_item : (t : Option ℤ) → IfSome t (λ z. fits_i64 z ≡ true) → IsWrittenTimestamp (built_timestamp t)
@@ -347,3 +354,6 @@ line_step line o only = go o (followed_step (IsWrittenName a_measurement) IsWrit
         (λ r. IsWrittenAfterName r.now ↔ IsFollowed (IsWrittenName a_measurement) IsWrittenAfterName line)
         → MatchOption o (IsAsWritten line → ⊥) (λ r. IsWrittenAfterName r.now ↔ IsAsWritten line)
     go r none = grind (arith, parts, point_of_line)
+
+-- the steps of a reader of tags
+pub ruleset tag_steps = (tag_less, no_gap, fields_after)

@@ -316,3 +316,6 @@ string_only_value text (Some left) whole first only = (
   string_value text left.now only.0,
   λ rest w ends. only.1 rest (value_string text rest whole first w ends) tt,
 )
+
+-- the steps of a reader of a number
+pub ruleset number_steps = (signed_number, at_mark, unsigned_answer)

@@ -1,6 +1,5 @@
 use Rattle.std.proofs.Common.{◌+◌, ◌∙◌, sym, arith}
-use Rattle.std.proofs.lemmas.Bool.{false≢true}
-use Rattle.lp_written.proofs.lemmas.parts.WrittenTokens.{ends_here, escape_passed, run_mark, run_passed}
+use Rattle.lp_written.proofs.lemmas.parts.WrittenTokens.{escape_passed, run_mark, run_passed}
 use Rattle.lp_written.proofs.tokens.written_len.Goals as goal
 
 pub loop-end-init : goal.loop-end-init
@@ -26,24 +25,3 @@ loop-end-preserved c =
       mark = run_mark kind bytes (at + 2) end run;
       passed = omega (arith, escape, passed, run.ordered, c.loop-end.invariant.passed);
     }
-
-pub returns-else-is_known-clause-value : goal.returns-else-is_known-clause-value
-returns-else-is_known-clause-value c =
-    let now = c.loop-end.invariant in
-    let none = ends_here c.args.kind c.args.bytes.now c.loop-end.end now.within now.mark
-    (λ inside here found. false≢true (sym c.if-is_known.false ∙ c.is_known.ensures ∙ found)) in
-    omega (arith, none, now.passed)
-
-pub returns-else-bytes-end-eq92-clause-value : goal.returns-else-bytes-end-eq92-clause-value
-returns-else-bytes-end-eq92-clause-value c =
-    let now = c.loop-end.invariant in
-    let none = ends_here c.args.kind c.args.bytes.now c.loop-end.end now.within now.mark
-    (λ inside here found. c.if-bytes-end-eq92.false here) in
-    omega (arith, none, now.passed)
-
-pub returns-after-loop-end-clause-value : goal.returns-after-loop-end-clause-value
-returns-after-loop-end-clause-value c =
-    let now = c.loop-end.invariant in
-    let none = ends_here c.args.kind c.args.bytes.now c.loop-end.end now.within now.mark
-    (λ inside here found. absurd (omega (arith, inside, c.loop-end-test.false))) in
-    omega (arith, none, now.passed)

@@ -1,5 +1,4 @@
-use Rattle.std.proofs.Common.{rules, Some, None}
-use Rattle.std.proofs.lemmas.Bool.{false≢true}
+use Rattle.std.proofs.Common.{rules, Some, None, arith}
 use Rattle.lp_written.proofs.lemmas.parts.WrittenLines.{field_step, only_timestamp}
 use Rattle.lp_written.proofs.written.is_after_field.Goals as goal
 
@@ -12,8 +11,7 @@ loop-field-preserved c =
 
 pub returns-in_default-after_field : goal.returns-in_default-after_field
 returns-in_default-after_field c =
-    let none = field_step c.loop-field.left.now c.in-Some.field.now None c.in-Some.ensures.value c.in_default-after_field.ensures in
-    (λ h. absurd (false≢true h), λ w. absurd (none (c.loop-field.invariant.same.1 w)))
+    grind (arith, field_step c.loop-field.left.now c.in-Some.field.now None c.in-Some.ensures.value c.in_default-after_field.ensures)
 
 pub returns : goal.returns
 returns c =

@@ -1,13 +1,12 @@
-use Rattle.std.proofs.Common.{◌≡◌, ◌+◌, ◌≤◌, ◌++◌, true, length, drop}
-use Rattle.std.specs.List.{AllByRecursion, flat_map}
-use Rattle.lp_build.specs.code.WrittenAgain.{IsPlainTag, tag_text}
+use Rattle.std.proofs.Common.{◌≡◌, ◌+◌, ◌≤◌, ◌++◌, length, drop}
+use Rattle.std.specs.List.{flat_map}
+use Rattle.lp_build.specs.code.WrittenAgain.{tag_text}
 use Rattle.lp_build.proofs.builder.lines.put_tags.Given as goal
 
--- what is written and what is left to write make the whole, and there is room for the latter; the latter is plain if all is
+-- what is written and what is left to write make the whole, and there is room for the latter
 abbrev pub invariant-loop-key : goal.invariant-loop-key
 invariant-loop-key g l =
     let whole = flat_map tag_text l.tags in
     let left = flat_map tag_text (drop l.key-index l.tags) in
     (g.B.BufMut.bytes l.buf ++ left ≡ g.B.BufMut.bytes l.initial.buf ++ whole)
     × (g.B.BufMut.room l.initial.buf + length left ≤ g.B.BufMut.room l.buf + length whole)
-    × (l.is_plain ≡ true → AllByRecursion IsPlainTag (drop l.key-index l.tags))
