@@ -249,7 +249,7 @@ impl<'l, 'a> EventSink<'a> for Filling<'l, 'a> {
 }
 
 /// Tells a line that is filled what the trimmed text `line` says.
-#[tactic(auto, using(crate::proofs::lemmas::line::Filled::same_line, crate::proofs::lemmas::line::Filled::rooms_kept, crate::proofs::lemmas::line::Filled::filled_answer))]
+#[tactic(auto, using(crate::proofs::lemmas::line::Filled::filled_steps))]
 #[inline(always)]
 pub(crate) fn tell_line<'l, 'a>(dialect: Dialect, line: &'a str, filling: &mut Filling<'l, 'a>)
     requires not_refused { filling.old.refused ≡ false }

@@ -91,7 +91,7 @@ fn value_after(before: u64, digits: &[u8]) -> u64
 }
 
 // The number that at most 19 digits write, by four digits after four.
-#[tactic(auto, using(std::proofs::lemmas::Grind::common_steps, std::proofs::lemmas::List::take_rest, crate::proofs::lemmas::digits::DigitLemmas::few_fit, crate::proofs::lemmas::digits::DigitLemmas::four_fit, crate::proofs::lemmas::digits::DigitLemmas::four_more))]
+#[tactic(auto, using(crate::proofs::lemmas::digits::DigitLemmas::four_steps))]
 #[inline(never)]
 fn value_by_fours(digits: &[u8]) -> u64
     requires digits { AllDigits 10 digits.now }
@@ -121,7 +121,7 @@ fn digit_lanes(bytes: &[u8]) -> u8x16
 }
 
 // The first `len` lanes at the end, after zeros.
-#[tactic(auto, using(crate::proofs::lemmas::digits::DigitLemmas::window_fits, crate::proofs::lemmas::digits::DigitLemmas::window_moves))]
+#[tactic(auto, using(crate::proofs::lemmas::digits::DigitLemmas::window_steps))]
 #[inline(always)]
 fn moved_to_end(lanes: u8x16, len: usize) -> u8x16
     requires whole { length lanes ≡ LANES }
@@ -147,7 +147,7 @@ fn lanes_number(digits: u8x16) -> u64
 }
 
 // The number that the first `len` bytes write, by one load.
-#[tactic(auto, using(std::proofs::lemmas::Grind::common_steps, crate::proofs::lemmas::digits::DigitLemmas::moved_below, crate::proofs::lemmas::digits::DigitLemmas::moved_number))]
+#[tactic(auto, using(crate::proofs::lemmas::digits::DigitLemmas::moved_steps))]
 #[inline(always)]
 fn loaded_value(bytes: &[u8], len: usize) -> u64
     requires room { LANES ≤ length bytes.now }
@@ -159,7 +159,7 @@ fn loaded_value(bytes: &[u8], len: usize) -> u64
 }
 
 // The number that 17 to 19 digits write: the last 16 by one load, after the first.
-#[tactic(auto, using(std::proofs::lemmas::Grind::common_steps, crate::proofs::lemmas::digits::DigitLemmas::digits_parts, crate::proofs::lemmas::digits::DigitLemmas::few_fit, crate::proofs::lemmas::digits::DigitLemmas::by_last))]
+#[tactic(auto, using(crate::proofs::lemmas::digits::DigitLemmas::last_steps))]
 #[inline(always)]
 fn long_value(digits: &[u8]) -> u64
     requires digits { AllDigits 10 digits.now }

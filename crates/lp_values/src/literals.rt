@@ -81,7 +81,7 @@ fn exponent_len(bytes: &[u8]) -> usize
 }
 
 // How many bytes of `text` the longest float at the start takes, where an integer takes `whole`.
-#[tactic(auto, using(std::proofs::lemmas::Grind::common_steps, lp_format::proofs::lemmas::literals::FloatLemmas::integer_len_fits, std::proofs::Common::rules))]
+#[tactic(auto, using(crate::proofs::lemmas::fields::ReadingLemmas::float_len_steps))]
 #[inline(always)]
 fn float_len(text: &str, whole: usize) -> usize
     requires { whole ≡ integer_len text.now }
@@ -118,7 +118,7 @@ impl<'a> FloatText<'a> {
     }
 
     /// The longest float at the start of `text`, and the rest, where an integer takes `whole` bytes.
-    #[tactic(auto, using(std::proofs::lemmas::Grind::common_steps, lp_format::proofs::lemmas::literals::FloatLemmas::float_misses, lp_format::proofs::lemmas::literals::FloatLemmas::float_reads, lp_format::proofs::lemmas::literals::FloatLemmas::float_len_float, std::proofs::lemmas::Grind::merely))]
+    #[tactic(auto, using(crate::proofs::lemmas::fields::ReadingLemmas::float_steps))]
     #[inline(always)]
     pub fn front(text: &'a str, whole: usize) -> Option<(Self, &'a str)>
         requires { whole ≡ integer_len text.now }

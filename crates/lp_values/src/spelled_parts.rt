@@ -66,7 +66,7 @@ fn integer<'a>(text: &'a str, whole: usize) -> Front<'a, SpelledValue<'a>>
 }
 
 // Digits and `u` at the start of `text`, and the rest, where the digits take `whole` bytes.
-#[tactic(auto, using(std::proofs::lemmas::Grind::common_steps, lp_format::proofs::lemmas::values::ValueLemmas::front_numeral, lp_format::proofs::lemmas::values::ValueLemmas::unsigned_overflows, lp_format::proofs::lemmas::values::ValueLemmas::unsigned_reads))]
+#[tactic(auto, using(crate::proofs::lemmas::fields::ReadingLemmas::unsigned_steps))]
 #[inline(always)]
 fn unsigned<'a>(text: &'a str, whole: usize) -> Front<'a, SpelledValue<'a>>
     requires whole { whole ≡ digits_len text.now }
@@ -126,7 +126,7 @@ fn string<'a>(text: &'a str) -> Front<'a, SpelledValue<'a>>
 }
 
 // A Boolean at the start of `text`, and the rest.
-#[tactic(auto, using(std::proofs::lemmas::Grind::common_steps, lp_format::proofs::lemmas::values::ValueLemmas::boolean_misses, std::proofs::Common::rules))]
+#[tactic(auto, using(crate::proofs::lemmas::fields::ReadingLemmas::boolean_steps))]
 #[inline(always)]
 fn boolean<'a>(text: &'a str) -> Front<'a, SpelledValue<'a>>
     ensures value { GivesSpelled spelled_value result (boolean_at true true_words text.now otherwise boolean_at false false_words text.now) }
@@ -139,7 +139,7 @@ fn boolean<'a>(text: &'a str) -> Front<'a, SpelledValue<'a>>
 }
 
 /// The value at the start of `text` as it is spelled, and the rest. `None` if none is there.
-#[tactic(auto, using(std::proofs::lemmas::Grind::common_steps, lp_format::proofs::lemmas::values::ValueForms::number_form, lp_format::proofs::lemmas::values::ValueForms::string_form, lp_format::proofs::lemmas::values::ValueForms::boolean_form))]
+#[tactic(auto, using(crate::proofs::lemmas::fields::ReadingLemmas::value_forms))]
 #[inline(always)]
 pub fn value<'a>(text: &'a str) -> Front<'a, SpelledValue<'a>>
     ensures value { GivesSpelled spelled_value result (value text.now) }

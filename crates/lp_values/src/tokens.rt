@@ -200,7 +200,7 @@ fn begins_escaped(kind: TokenKind, spelling: &[u8]) -> bool
 }
 
 // The place of the first byte of the logical text that is spelled from `at` on: after the backslash of a known escape.
-#[tactic(auto, using(std::proofs::lemmas::Grind::common_steps, std::proofs::lemmas::List::take_rest, crate::proofs::lemmas::tokens::TokenLemmas::byte_at, crate::proofs::lemmas::tokens::TokenLemmas::escape_at))]
+#[tactic(auto, using(crate::proofs::lemmas::tokens::TokenLemmas::byte_steps))]
 #[inline(always)]
 fn first_byte_at(kind: TokenKind, spelling: &[u8], at: usize) -> usize
     requires { at < length spelling.now }

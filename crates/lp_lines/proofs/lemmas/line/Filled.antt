@@ -162,3 +162,6 @@ module _ (old new : Filling) (none : old.fault ≡ None) where
     line_answers set fields without taken kept kept_fields some =
         let read = line_is (answer dialect text) filled without in
         read.1 ∙ ap Ok (sym (is_line dialect text read.0 new set fields read.1 (read.2.read taken) kept kept_fields some))
+
+-- what a line is once it was told
+pub ruleset filled_steps = (same_line, rooms_kept, filled_answer)

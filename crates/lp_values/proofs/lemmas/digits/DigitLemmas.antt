@@ -10,7 +10,7 @@ use Rattle.std.specs.{Str.Parse.digits_value, Str.Parse.digits_value_after, Simd
 use Rattle.std.proofs.lemmas.Simd.{zip2_splat, Each1-from_get_or, SwzOk-from_Each1, length-chunk}
 use Rattle.std.proofs.lemmas.Simd.{swz_l, SwzOk, pick_l-range_with_len, Each1-chunk}
 use Rattle.std.proofs.lemmas.Int.Digits.{digits_value-lt, all_below_base_from_digits, digits_value_is, number_lt}
-use Rattle.std.proofs.lemmas.{Bool.agree_below_at, List.take-map, List.map-append, List.get_or_past}
+use Rattle.std.proofs.lemmas.{Bool.agree_below_at, Grind.common_steps, List.take-map, List.map-append, List.get_or_past, List.take_rest}
 use Rattle.std.proofs.lemmas.{List.Folds.prefix_len-append, Str.Parse.digit_from_value, Str.digit_value_digit, Slice.Eq.bytes_eq-Decides}
 use lib.Lanes.{zip2, Each1, chunk}
 use Rattle.lp_format.specs.format.{digits_len, newline}
@@ -244,3 +244,15 @@ window_moves n lanes fits long =
     looked_up lanes (omega arith) (window n) 0 (omega (arith, window_len n fits))
     ∙ ap (map look) (window_is n fits) ∙ map-append look (replicate (16 - n) 255) (range_with_len 0 n)
     ∙ ap₂ (λ (xs ys : List ℕ). xs ++ ys) (splat_at look (16 - n) 255 ∙ ap (replicate (16 - n)) none) back
+
+-- a number by its digits, four at a time
+pub ruleset four_steps = (common_steps, take_rest, few_fit, four_fit, four_more)
+
+-- the window of the table that moves lanes
+pub ruleset window_steps = (window_fits, window_moves)
+
+-- the number of the lanes that were moved to the end
+pub ruleset moved_steps = (common_steps, moved_below, moved_number)
+
+-- a number by its first digits, and the last ones
+pub ruleset last_steps = (common_steps, digits_parts, few_fit, by_last)

@@ -1,7 +1,9 @@
 -- What comes after a reading ends the text.
-use Rattle.std.proofs.lemmas.{Grind.common_steps, Bool.eqb-false}
-use Rattle.lp_format.proofs.lemmas.values.{ValueForms.no_number, ValueForms.float_is, ValueForms.unsigned_is, ValueLemmas.integer_decides}
-use Rattle.std.proofs.Common.{◌≡◌, ℕ, List, [], ◌∷◌, ◌++◌, take, drop, sym, ◌∙◌, ap, refl, append_assoc, arith, eqb-true, take-append-drop}
+use Rattle.std.proofs.lemmas.{Grind.common_steps, Grind.merely, Bool.eqb-false}
+use Rattle.lp_format.proofs.lemmas.values.ValueForms.{no_number, float_is, unsigned_is, number_form, string_form, boolean_form}
+use Rattle.lp_format.proofs.lemmas.values.ValueLemmas.{integer_decides, front_numeral, unsigned_overflows, unsigned_reads, boolean_misses}
+use Rattle.lp_format.proofs.lemmas.literals.FloatLemmas.{integer_len_fits, float_misses, float_reads, float_len_float}
+use Rattle.std.proofs.Common.{◌≡◌, ℕ, List, [], ◌∷◌, ◌++◌, take, drop, sym, ◌∙◌, ap, refl, append_assoc, arith, eqb-true, take-append-drop, rules}
 use Rattle.std.proofs.lemmas.Bool.{cases_Bool}
 use Rattle.lp_format.specs.format.{comma, equals, Text, Read, Reading, reads, ◌>>=◌, NameKind, name, a_tag_key, a_tag_value, escapable}
 use Rattle.lp_format.specs.format.{spelled, spelled_len, read_text, Pair, byte, key_value, tag, after_comma}
@@ -92,3 +94,18 @@ after_comma_ends one ends text x rest e =
 
 -- what tells which number a text begins with
 pub ruleset which_number = (common_steps, eqb-false, eqb-true, no_number, integer_decides, unsigned_is, float_is)
+
+-- what an unsigned number at the start of a text reads
+pub ruleset unsigned_steps = (common_steps, front_numeral, unsigned_overflows, unsigned_reads)
+
+-- what the word for a Boolean at the start of a text reads
+pub ruleset boolean_steps = (common_steps, boolean_misses, rules)
+
+-- what the first byte of a value tells of its kind
+pub ruleset value_forms = (common_steps, number_form, string_form, boolean_form)
+
+-- how long a float at the start of a text is
+pub ruleset float_len_steps = (common_steps, integer_len_fits, rules)
+
+-- what a float at the start of a text reads
+pub ruleset float_steps = (common_steps, merely, float_misses, float_reads, float_len_float)
