@@ -1,8 +1,8 @@
 //! What the words after the program's name ask for, and its exit status.
 ghost use Rattle.std.specs.Prelude.{◌≡◌};
 ghost use Rattle.lp_relay.specs.Words.{are_at_odds, are_inputs, asked_cut, asked_request, asked_task, asks_output, cut_task, decimal, fault_status, faults_form};
-ghost use Rattle.lp_relay.specs.Words.{first_number, given_settings, lines_form, names_file, names_input, names_lines, nothing_given};
-ghost use Rattle.lp_relay.specs.Words.{relay_status, request_of};
+ghost use Rattle.lp_relay.specs.Words.{first_number, given_settings, lines_form, names_file, names_input, names_lines};
+ghost use Rattle.lp_relay.specs.Words.{nothing_given, relay_status, request_of};
 ghost use Rattle.lp_relay.specs.Words.{with_flag, with_value};
 
 use influxdb_line_protocol::Dialect;
@@ -30,8 +30,8 @@ it refuses. A FILE that is - is standard input; ./-x names a file -x.
   --verbatim         writes each line that can be read as it came, byte for byte; if it is not
                      given, lines are written again in one spelling, which some servers read as
                      other points if a name has a backslash
-  --canonical        writes each line as it came that is as it would be written again, byte for byte,
-                     and refuses each other line for its first part that is not so
+  --canonical        writes each line as it came that is as it would be written again, byte for
+                     byte, and refuses each other line for its first part that is not so
   --lines            names the line of the input in each fault, instead of the number of the item
   --first-item N     the number of the first item, in faults: 1 if it is not given
   --first-line N     the number of the first line, in faults, which name lines then
@@ -252,8 +252,8 @@ impl<'a> Given<'a> {
         None
     }
 
-    // Whether two options exclude each other: a check has no file for lines, the number of the first item is none of a line, and lines
-    // go out in one way.
+    // Whether two options exclude each other: a check has no file for lines, the number of the first item is none of a line, and
+    // lines go out in one way.
     fn are_at_odds(self) -> bool
         ensures { result ≡ are_at_odds self.entry }
     {
@@ -392,8 +392,8 @@ fn cut_of<'a>(words: &[&str]) -> Option<Task<'a>>
 /// What the words after the program's name ask for, or `None` if they are not as [`USAGE`] says.
 ///
 /// The options of a relay come in any order, each at most once, but not both `--check` and `--output`, not both
-/// `--verbatim` and `--canonical`, nor `--first-item` with `--lines` or `--first-line`, whose numbers are at least 1; `--cut` and a number, [`MOST_PARTS`] at most, come first or after
-/// `--strict`. The words after these name inputs. `--help`, `-h` or `--version` comes alone. A number, as after
+/// `--verbatim` and `--canonical`, nor `--first-item` with `--lines` or `--first-line`, whose numbers are at least 1; `--cut` and
+/// a number, [`MOST_PARTS`] at most, come first or after `--strict`. The words after these name inputs. `--help`, `-h` or `--version` comes alone. A number, as after
 /// `--max-line`, is a decimal one that a `usize` holds: digits alone, of which the first may be zeros. A word with no byte, or
 /// that begins with `-`, names no file, and `-` alone names standard input. It takes no memory.
 ///
@@ -406,6 +406,7 @@ fn cut_of<'a>(words: &[&str]) -> Option<Task<'a>>
 /// task_of(&["a", "-o", "b"])            gives  None
 /// task_of(&["--check", "a"])            gives  a relay of the file `a` that writes no line
 /// task_of(&["--check", "-o", "b"])      gives  None
+/// task_of(&["--canonical"])             gives  a relay that lets out only lines that are as they would be written
 /// task_of(&["--strict", "--strict"])    gives  None
 /// task_of(&["--max-line", "+80"])       gives  None
 /// task_of(&["--first-line", "5"])       gives  a relay whose fault lines name lines, of which the first is 5

@@ -1,5 +1,5 @@
 -- Lines that go out only if they are as they would be written.
-use Rattle.std.proofs.Common.{◌≡◌, ◌≢◌, ◌+◌, ◌-◌, ◌<◌, ◌==◌, ℕ, Bool, false, true, List, [], ◌∷◌, ◌++◌, length, take, drop, string_bytes, Ok, Err}
+use Rattle.std.proofs.Common.{◌≡◌, ◌≢◌, ◌+◌, ◌-◌, ◌==◌, ℕ, Bool, false, true, List, [], ◌∷◌, ◌++◌, length, take, drop, string_bytes, Ok, Err}
 use Rattle.std.proofs.Common.{Option, Result, refl, sym, ap, subst, ◌∙◌, arith, append-nil, length-append, inl, inr}
 use Rattle.std.proofs.Math.Seq.{drop-append_seam, take-append_seam}
 use Rattle.std.proofs.lemmas.Bool.{cases_Bool}
@@ -117,11 +117,6 @@ a_line old new (Ok line) takes more =
           }
       | inr bad ↦ absurd (more (ap length (rw bad at takes.batch ∙ append-nil old.batch.items)))
     ]
-
--- something was written for a text, so it was carried
-pub is_carried : (old new : Progress) (answer : Result Line Fault) → Takes old answer new → length new.batch.items ≢ length old.batch.items
-    → 0 < new.carried
-is_carried old new answer takes more = omega (arith, (a_line old new answer takes more).carried)
 
 -- an item was refused since its line is not as it would be written
 takes_wrong : (old new : Made) (wrong : List ℕ) → new.batch ≡ old.batch

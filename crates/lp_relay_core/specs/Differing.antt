@@ -37,7 +37,8 @@ part_after Comma b = Comma
 abbrev pub at_start : Place
 at_start = record { part = Measurement; is_escaped = false }
 
--- where a front ends that has one byte more: an escaped byte stays in its part, and a backslash that is not escaped escapes the next
+-- where a front ends that has one byte more: an escaped byte stays in its part, and a backslash that is not escaped escapes the
+-- next byte
 abbrev pub place_after : Place → ℕ → Place
 place_after place b =
     if place.is_escaped then record { part = place.part; is_escaped = false }
