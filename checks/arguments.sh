@@ -73,8 +73,8 @@ wanted_of_both "usage: lp_rebuild [--strict]$newline"
 
 crate=lp_relay
 program=$relay
-usage="usage: lp_relay [--strict] [--verbatim] [--first-item N | [--lines] [--first-line N]]
-                [--faults line|raw] [--max-line BYTES] [--progress] [--summary]
+usage="usage: lp_relay [--strict] [--verbatim | --canonical] [--faults line|raw] [--max-line BYTES]
+                [--first-item N | [--lines] [--first-line N]] [--progress] [--summary]
                 [--check | --output FILE] [FILE..]
        lp_relay [--strict] --cut PARTS [FILE..]
        lp_relay --help | --version$newline"
@@ -162,6 +162,12 @@ if [ -n "$program" ]; then
     wanted 2 "" "$usage" --verbatim=1
     wanted 2 "" "$usage" --verbatim --cut 2
     wanted 2 "" "$usage" --verbatim --help
+    wanted 2 "" "$usage" --canonical --canonical
+    wanted 2 "" "$usage" --canonical=1
+    wanted 2 "" "$usage" --canonical --verbatim
+    wanted 2 "" "$usage" --verbatim --strict --canonical
+    wanted 2 "" "$usage" --canonical --cut 2
+    wanted 2 "" "$usage" --canonical --help
     wanted 2 "" "$usage" --check --check
     wanted 2 "" "$usage" --summary --summary
     wanted 2 "" "$usage" --summary=1
@@ -268,6 +274,17 @@ if [ -n "$program" ]; then
     wanted 1 'm,p=C:\\W a=64i'"$newline" "item 2: a name cannot be written again$newline"
     wanted 0 'm,p=C:\W  a=064i'"${newline}w\\$tab a=1i$newline" "" --verbatim
     wanted 0 "" "" --verbatim --check
+    wanted 1 "" "item 1: not as written: the value of tag 1${newline}item 2: a name cannot be written again$newline" --canonical
+    # Of these lines the first two are as they would be written, the second one behind blanks, and each other one has a part that is not.
+    text='m,t=x a=1i 5\n  m s="a b\\\\"\nm\\x a=1\nm,k\\x=v a=1\nm,k=v,t=a=b a=1\nm f,g=1\nm a=1,b=T\nm s="C:\\W"\n'
+    canonical="m,t=x a=1i 5${newline}m s=\"a b\\\\\"$newline"
+    lines="3: not as written: the measurement|4: not as written: the key of tag 1|5: not as written: the value of tag 2|"
+    lines="${lines}6: not as written: the key of field 1|7: not as written: the value of field 2|8: not as written: the value of field 1"
+    wanted 1 "$canonical" "line ${lines//|/"${newline}line "}$newline" --canonical --lines
+    text='m a=1,\nm  a=1\nm a=1 7 \nm a=1  7\nm a=1 007\nx\n'
+    lines="1: not as written: the comma after the fields|2: not as written: the spaces|3: not as written: the spaces|"
+    lines="${lines}4: not as written: the spaces|5: not as written: the timestamp|6: ${missing}"
+    wanted 1 "" "line ${lines//|/"${newline}line "}" --canonical --lines --check
     text='m a=1i,\n'
 fi
 run --help

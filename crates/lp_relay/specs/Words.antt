@@ -13,8 +13,9 @@ use Rattle.lp_rebuild.specs.declared.program.RunFault.{RunFault}
 use Rattle.lp_rebuild.specs.declared.program.RunFault.TheVariants.{Read, NotUtf8, OutOfMemory, Write}
 use Rattle.lp_relay_core.specs.declared.telling.Faults.{Faults}
 use Rattle.lp_relay_core.specs.declared.telling.Faults.TheVariants.{Raw, OneLine}
-use Rattle.lp_relay_core.specs.declared.taking.Lines.TheVariants.{Rebuilt, Verbatim}
-use Rattle.lp_relay_core.specs.declared.taking.Numbering.TheVariants.{Items, Lines}
+use Rattle.lp_relay_core.specs.declared.taking.Lines.{Lines}
+use Rattle.lp_relay_core.specs.declared.taking.Lines.TheVariants.{Rebuilt, Verbatim, Canonical}
+use Rattle.lp_relay_core.specs.declared.taking.Numbering.TheVariants as named
 use Rattle.lp_relay_core.specs.declared.relaying.Relayed.{Relayed}
 use Rattle.lp_relay.specs.declared.words.Given.{Given}
 use Rattle.lp_relay.specs.declared.words.Request.{Request}
@@ -27,6 +28,7 @@ abbrev pub nothing_given : Given
 nothing_given = record {
   strict = false;
   verbatim = false;
+  canonical = false;
   lines = false;
   first_item = None;
   first_line = None;
@@ -46,14 +48,18 @@ default_max_line = 2 ^ 24
 abbrev pub names_lines : Given → Bool
 names_lines given = given.lines || is_some given.first_line
 
+-- how lines go out
+abbrev pub lines_form : Given → Lines
+lines_form given = if given.verbatim then Verbatim else (if given.canonical then Canonical else Rebuilt)
+
 -- the settings of the options that were given: those that were not have their defaults
 abbrev pub given_settings : Given → Settings
 given_settings given = record {
   relay = record {
     dialect = if given.strict then Strict else Crate;
     limit = unwrap_or given.max_line default_max_line;
-    lines = if given.verbatim then Verbatim else Rebuilt;
-    numbering = if names_lines given then Lines else Items;
+    lines = lines_form given;
+    numbering = if names_lines given then named.Lines else named.Items;
     first = unwrap_or given.first_item (unwrap_or given.first_line 1);
     faults = unwrap_or given.faults OneLine;
   };
@@ -85,9 +91,11 @@ are_inputs words = list_all (λ word. names_input word.now) words
 abbrev pub asks_output : List ℕ → Bool
 asks_output word = bytes_eq word (codes "--output") || bytes_eq word (codes "-o")
 
--- whether two options exclude each other: a check has no file for lines, and the number of the first item is none of a line
+-- whether two options exclude each other: a check has no file for lines, the number of the first item is none of a line, and lines
+-- go out in one way
 abbrev pub are_at_odds : Given → Bool
-are_at_odds given = (given.check && is_some given.output) || (is_some given.first_item && names_lines given)
+are_at_odds given =
+    (given.check && is_some given.output) || (is_some given.first_item && names_lines given) || (given.verbatim && given.canonical)
 
 -- the relay of the options that were given and of the inputs that words name, if each names an input and no options exclude each other
 abbrev pub request_of : Given → List (Bor (List ℕ)) → Option Request
@@ -100,11 +108,12 @@ abbrev pub with_flag : Given → List ℕ → Option Given
 with_flag given word =
     if bytes_eq word (codes "--strict") && not given.strict then Some (record given { strict = true })
     else (if bytes_eq word (codes "--verbatim") && not given.verbatim then Some (record given { verbatim = true })
+    else (if bytes_eq word (codes "--canonical") && not given.canonical then Some (record given { canonical = true })
     else (if bytes_eq word (codes "--lines") && not given.lines then Some (record given { lines = true })
     else (if bytes_eq word (codes "--progress") && not given.progress then Some (record given { progress = true })
     else (if bytes_eq word (codes "--summary") && not given.summary then Some (record given { summary = true })
     else (if bytes_eq word (codes "--check") && not given.check then Some (record given { check = true })
-    else None)))))
+    else None))))))
 
 -- the number that a word writes, if it is at least 1
 abbrev pub first_number : List ℕ → Option ℕ

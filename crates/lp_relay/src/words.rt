@@ -1,7 +1,8 @@
 //! What the words after the program's name ask for, and its exit status.
 ghost use Rattle.std.specs.Prelude.{◌≡◌};
 ghost use Rattle.lp_relay.specs.Words.{are_at_odds, are_inputs, asked_cut, asked_request, asked_task, asks_output, cut_task, decimal, fault_status, faults_form};
-ghost use Rattle.lp_relay.specs.Words.{first_number, given_settings, names_file, names_input, names_lines, nothing_given, relay_status, request_of};
+ghost use Rattle.lp_relay.specs.Words.{first_number, given_settings, lines_form, names_file, names_input, names_lines};
+ghost use Rattle.lp_relay.specs.Words.{nothing_given, relay_status, request_of};
 ghost use Rattle.lp_relay.specs.Words.{with_flag, with_value};
 
 use influxdb_line_protocol::Dialect;
@@ -10,8 +11,8 @@ use lp_relay_core::{Faults, Lines, Numbering, Relayed};
 
 /// How the program is called: the lines that it prints if its words ask for nothing, without the last newline.
 pub const USAGE: &str =
-    "usage: lp_relay [--strict] [--verbatim] [--first-item N | [--lines] [--first-line N]]
-                [--faults line|raw] [--max-line BYTES] [--progress] [--summary]
+    "usage: lp_relay [--strict] [--verbatim | --canonical] [--faults line|raw] [--max-line BYTES]
+                [--first-item N | [--lines] [--first-line N]] [--progress] [--summary]
                 [--check | --output FILE] [FILE..]
        lp_relay [--strict] --cut PARTS [FILE..]
        lp_relay --help | --version";
@@ -29,6 +30,8 @@ it refuses. A FILE that is - is standard input; ./-x names a file -x.
   --verbatim         writes each line that can be read as it came, byte for byte; if it is not
                      given, lines are written again in one spelling, which some servers read as
                      other points if a name has a backslash
+  --canonical        writes each line as it came that is as it would be written again, byte for
+                     byte, and refuses each other line for its first part that is not so
   --lines            names the line of the input in each fault, instead of the number of the item
   --first-item N     the number of the first item, in faults: 1 if it is not given
   --first-line N     the number of the first line, in faults, which name lines then
@@ -50,8 +53,8 @@ it refuses. A FILE that is - is standard input; ./-x names a file -x.
   --version          prints the version
 
 The options of a relay come in any order, each at most once, before the files; not both --check
-and --output, nor --first-item with --lines or --first-line. --cut PARTS comes first, or after
---strict.
+and --output, not both --verbatim and --canonical, nor --first-item with --lines or --first-line.
+--cut PARTS comes first, or after --strict.
 
 Status 0: every item was carried; 1: some item was not; 2: the input could not be read, memory
 ran out, the output could not be written, it is an input too, or the arguments are wrong; 141:
@@ -106,6 +109,7 @@ pub enum Task<'a> {
 pub(crate) struct Given<'a> {
     strict: bool,
     verbatim: bool,
+    canonical: bool,
     lines: bool,
     first_item: Option<usize>,
     first_line: Option<usize>,
@@ -124,6 +128,7 @@ impl<'a> Given<'a> {
         Given {
             strict: false,
             verbatim: false,
+            canonical: false,
             lines: false,
             first_item: None,
             first_line: None,
@@ -143,6 +148,19 @@ impl<'a> Given<'a> {
         self.lines || self.first_line.is_some()
     }
 
+    // How lines go out.
+    fn lines_form(self) -> Lines
+        ensures { result ≡ lines_form self.entry }
+    {
+        if self.verbatim {
+            Lines::Verbatim
+        } else if self.canonical {
+            Lines::Canonical
+        } else {
+            Lines::Rebuilt
+        }
+    }
+
     fn settings(self) -> Settings
         ensures { result ≡ given_settings self.entry }
     {
@@ -150,11 +168,6 @@ impl<'a> Given<'a> {
             Dialect::Strict
         } else {
             Dialect::Crate
-        };
-        let lines = if self.verbatim {
-            Lines::Verbatim
-        } else {
-            Lines::Rebuilt
         };
         let numbering = if self.names_lines() {
             Numbering::Lines
@@ -164,7 +177,7 @@ impl<'a> Given<'a> {
         let relay = lp_relay_core::Settings {
             dialect,
             limit: self.max_line.unwrap_or(DEFAULT_MAX_LINE),
-            lines,
+            lines: self.lines_form(),
             numbering,
             first: self.first_item.unwrap_or(self.first_line.unwrap_or(1)),
             faults: self.faults.unwrap_or(Faults::OneLine),
@@ -188,6 +201,10 @@ impl<'a> Given<'a> {
         if word == "--verbatim" && !self.verbatim {
             let verbatim = true;
             return Some(Given { verbatim, ..self });
+        }
+        if word == "--canonical" && !self.canonical {
+            let canonical = true;
+            return Some(Given { canonical, ..self });
         }
         if word == "--lines" && !self.lines {
             let lines = true;
@@ -235,11 +252,14 @@ impl<'a> Given<'a> {
         None
     }
 
-    // Whether two options exclude each other: a check has no file for lines, and the number of the first item is none of a line.
+    // Whether two options exclude each other: a check has no file for lines, the number of the first item is none of a line, and
+    // lines go out in one way.
     fn are_at_odds(self) -> bool
         ensures { result ≡ are_at_odds self.entry }
     {
-        self.check && self.output.is_some() || self.first_item.is_some() && self.names_lines()
+        self.check && self.output.is_some()
+            || self.first_item.is_some() && self.names_lines()
+            || self.verbatim && self.canonical
     }
 
     // The request of these options and inputs, if each word names an input and no options exclude each other.
@@ -371,9 +391,9 @@ fn cut_of<'a>(words: &[&str]) -> Option<Task<'a>>
 
 /// What the words after the program's name ask for, or `None` if they are not as [`USAGE`] says.
 ///
-/// The options of a relay come in any order, each at most once, but not both `--check` and `--output`, nor `--first-item`
-/// with `--lines` or `--first-line`, whose numbers are at least 1; `--cut` and a number, [`MOST_PARTS`] at most, come first or after
-/// `--strict`. The words after these name inputs. `--help`, `-h` or `--version` comes alone. A number, as after
+/// The options of a relay come in any order, each at most once, but not both `--check` and `--output`, not both
+/// `--verbatim` and `--canonical`, nor `--first-item` with `--lines` or `--first-line`, whose numbers are at least 1; `--cut` and
+/// a number, [`MOST_PARTS`] at most, come first or after `--strict`. The words after these name inputs. `--help`, `-h` or `--version` comes alone. A number, as after
 /// `--max-line`, is a decimal one that a `usize` holds: digits alone, of which the first may be zeros. A word with no byte, or
 /// that begins with `-`, names no file, and `-` alone names standard input. It takes no memory.
 ///
@@ -386,6 +406,7 @@ fn cut_of<'a>(words: &[&str]) -> Option<Task<'a>>
 /// task_of(&["a", "-o", "b"])            gives  None
 /// task_of(&["--check", "a"])            gives  a relay of the file `a` that writes no line
 /// task_of(&["--check", "-o", "b"])      gives  None
+/// task_of(&["--canonical"])             gives  a relay that lets out only lines that are as they would be written
 /// task_of(&["--strict", "--strict"])    gives  None
 /// task_of(&["--max-line", "+80"])       gives  None
 /// task_of(&["--first-line", "5"])       gives  a relay whose fault lines name lines, of which the first is 5

@@ -11,7 +11,8 @@ use Rattle.lp_relay_core.specs.Relays.{named_faults}
 use Rattle.lp_relay_core.specs.declared.telling.Faults.{Faults}
 use Rattle.lp_relay_core.specs.Told.{told}
 use Rattle.lp_relay_core.specs.LineFaults.{item_text, line_fault, line_faults}
-use Rattle.lp_relay_core.specs.Relaying.{Item, answered, as_it_came, not_utf8, too_long, is_carried_item, first_of, item_fault, item_faults}
+use Rattle.lp_relay_core.specs.Relaying.{Item, answered, as_it_came, not_as_written, not_utf8, too_long, is_carried_item}
+use Rattle.lp_relay_core.specs.Relaying.{first_of, item_fault, item_faults}
 use Rattle.lp_relay_core.specs.Relaying.{items_of_piece, items_of}
 use Rattle.lp_relay_core.specs.RelaySteps.{faults_at, faults_from, faults_past, first_line, items_before, line_after, line_past, made_of_none}
 use Rattle.lp_relay_core.proofs.ItemLemmas.{faults_append}
@@ -52,6 +53,7 @@ fault_by_number : (number : ℕ) (item : Item)
 fault_by_number number (answered (Ok line)) = refl
 fault_by_number number (answered (Err fault)) = refl
 fault_by_number number (as_it_came piece) = refl
+fault_by_number number (not_as_written wrong) = refl
 fault_by_number number not_utf8 = refl
 fault_by_number number too_long = refl
 

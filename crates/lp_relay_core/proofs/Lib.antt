@@ -6,6 +6,8 @@ pub mod PassLemmas
 pub mod ItemLemmas
 pub mod FaultLines
 pub mod RelayLemmas
+pub mod DifferingLemmas
+pub mod CanonicalLemmas
 pub mod ToldLemmas
 pub mod OneLine
 pub mod RelayPieces

@@ -33,7 +33,7 @@ takes_nothing : (old : Made) → TakesItems Raw old [] old
 takes_nothing old = grind (arith, append-nil)
 
 -- an answer is one item
-takes_answer : (old : Progress) (answer : Result Line Fault) (new : Progress) → Takes old answer new
+pub takes_answer : (old : Progress) (answer : Result Line Fault) (new : Progress) → Takes old answer new
     → TakesItems Raw (made old) (answered answer ∷ []) (made new)
 takes_answer old answer new t = grind (arith, append-nil, string_bytes, add_where, add_elsewhere)
 
@@ -61,7 +61,7 @@ text_item lines dialect piece u some =
     ∙ ap (λ (l : List (Result Line Fault)). map (item_of lines piece) l) (piece_answers dialect piece some)
 
 -- of a blank text nothing is taken
-takes_blank : (lines : Lines) (dialect : Dialect) (piece : List ℕ) (old : Made) → IsUtf8 piece → length (trimmed piece) ≡ 0
+pub takes_blank : (lines : Lines) (dialect : Dialect) (piece : List ℕ) (old : Made) → IsUtf8 piece → length (trimmed piece) ≡ 0
     → TakesItems Raw old (items_of_bytes lines dialect piece) old
 takes_blank lines dialect piece old u blank =
     subst (λ (l : List Item). TakesItems Raw old l old) (sym (blank_items lines dialect piece u blank)) (takes_nothing old)
@@ -90,10 +90,10 @@ is_blank : (text piece : List ℕ) (test : Bool) → text ≡ trimmed piece → 
 is_blank text piece test is tests holds = ap length (sym is) ∙ eqb-true (length text) 0 (sym tests ∙ holds)
 
 -- of a text that is blank nothing goes out as it came
-pub takes_no_line : (dialect : Dialect) (piece text : List ℕ) (test : Bool) (old : Made) → text ≡ trimmed piece → IsUtf8 piece
-    → test ≡ (length text == 0) → test ≡ true → TakesItems Raw old (items_of_bytes Verbatim dialect piece) old
-takes_no_line dialect piece text test old is u tests holds =
-    takes_blank Verbatim dialect piece old u (is_blank text piece test is tests holds)
+pub takes_no_line : (lines : Lines) (dialect : Dialect) (piece text : List ℕ) (test : Bool) (old : Made) → text ≡ trimmed piece
+    → IsUtf8 piece → test ≡ (length text == 0) → test ≡ true → TakesItems Raw old (items_of_bytes lines dialect piece) old
+takes_no_line lines dialect piece text test old is u tests holds =
+    takes_blank lines dialect piece old u (is_blank text piece test is tests holds)
 
 -- the item of a text that goes out as it came, if it is a line
 piece_of_line : (piece : List ℕ) (answer : Result Line Fault) → is_ok answer ≡ true → item_of Verbatim piece answer ≡ as_it_came piece
@@ -106,7 +106,7 @@ answer_of_fault piece (Ok line) is = absurd (cc)
 answer_of_fault piece (Err fault) is = refl
 
 -- a text that is not empty
-not_blank : (text piece : List ℕ) (test : Bool) → text ≡ trimmed piece → test ≡ (length text == 0) → test ≡ false → 0 < length (trimmed piece)
+pub not_blank : (text piece : List ℕ) (test : Bool) → text ≡ trimmed piece → test ≡ (length text == 0) → test ≡ false → 0 < length (trimmed piece)
 not_blank text piece test is tests fails =
     elim (eq-zero-or-pos (length text)) [
       | inl none ↦ absurd (eqb-false (length text) 0 (sym tests ∙ fails) none)

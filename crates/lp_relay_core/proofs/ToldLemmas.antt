@@ -15,7 +15,7 @@ use Rattle.lp_relay_core.specs.declared.telling.Faults.{Faults}
 use Rattle.lp_relay_core.specs.declared.telling.Faults.TheVariants.{Raw, OneLine}
 use Rattle.lp_relay_core.specs.declared.taking.Lines.{Lines}
 use Rattle.lp_relay_core.specs.LineFaults.{item_text}
-use Rattle.lp_relay_core.specs.Relaying.{Item, is_carried_item, items_of_bytes, too_long}
+use Rattle.lp_relay_core.specs.Relaying.{Item, is_carried_item, items_of_bytes}
 use Rattle.lp_relay_core.specs.RelaySteps.{Made, TakesItems, faults_at, faults_next, items_given}
 use Rattle.lp_relay_core.specs.Told.{told}
 use Rattle.lp_relay_core.proofs.RelayLemmas.{blank_items, text_item}

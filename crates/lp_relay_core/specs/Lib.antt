@@ -1,8 +1,10 @@
 pub mod Cuts
 pub mod CutSteps
+pub mod Differing
 pub mod LineFaults
 pub mod Relaying
 pub mod RelaySteps
 pub mod Relays
+pub mod TakenBack
 pub mod Told
 pub mod Verdicts

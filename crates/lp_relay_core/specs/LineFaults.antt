@@ -4,7 +4,8 @@ use Rattle.std.specs.List.{flat_map}
 use Rattle.influxdb_line_protocol.specs.format.Bytes.{newlines_in}
 use Rattle.lp_rebuild.specs.Rebuilding.{refusal_text}
 use Rattle.lp_rebuild.specs.RebuildSteps.{fault_line_on}
-use Rattle.lp_relay_core.specs.Relaying.{Item, answered, as_it_came, not_utf8, too_long, is_carried_item, items_of_piece}
+use Rattle.lp_relay_core.specs.Relaying.{Item, answered, as_it_came, not_as_written, not_utf8, too_long, is_carried_item}
+use Rattle.lp_relay_core.specs.Relaying.{items_of_piece}
 use Rattle.lp_relay_core.specs.declared.taking.Settings.{Settings}
 use Rattle.lp_relay_core.specs.Told.{told}
 
@@ -12,6 +13,7 @@ use Rattle.lp_relay_core.specs.Told.{told}
 abbrev pub item_text : Item → List ℕ
 item_text (answered answer) = refusal_text answer
 item_text (as_it_came piece) = []
+item_text (not_as_written wrong) = wrong
 item_text not_utf8 = codes "the line is not UTF-8"
 item_text too_long = codes "the line is too long"
 

@@ -3,33 +3,48 @@
 use Rattle.std.specs.Prelude.{ℕ, ◌+◌, ◌-◌, ◌^◌, ◌==◌, nat_lt, max, Bool, true, false, not, List, [], ◌∷◌, ◌++◌, length, codes, map}
 use Rattle.std.specs.Prelude.{Option, Some, None, Result, Ok, Err, if◌then◌else◌}
 use Rattle.std.specs.List.{flat_map, count_by}
-use Rattle.std.specs.Str.{is_utf8}
+use Rattle.std.specs.Str.{bytes_eq, is_utf8}
 use Rattle.influxdb_line_protocol.specs.format.Bytes.{newline}
 use Rattle.influxdb_line_protocol.specs.format.Dialects.{Dialect}
 use Rattle.influxdb_line_protocol.specs.format.Readings.{Fault}
-use Rattle.influxdb_line_protocol.specs.format.Points.{built_all}
-use Rattle.influxdb_line_protocol.specs.format.Lines.{Line}
+use Rattle.influxdb_line_protocol.specs.format.Points.{built, built_all, is_admitted_point}
+use Rattle.influxdb_line_protocol.specs.format.Lines.{Line, point_of}
 use Rattle.influxdb_line_protocol.specs.format.Items.{answers_of_piece}
+use Rattle.influxdb_line_protocol.specs.format.Trimming.{trimmed}
 use Rattle.lp_rebuild.specs.Rebuilding.{carried_point, fault_line, fault_of, is_carried_answer}
 use Rattle.influxdb_line_protocol.specs.code.Rules.{rules_of}
 use Rattle.lp_relay_core.specs.declared.taking.Lines.{Lines}
-use Rattle.lp_relay_core.specs.declared.taking.Lines.TheVariants.{Rebuilt, Verbatim}
+use Rattle.lp_relay_core.specs.declared.taking.Lines.TheVariants.{Rebuilt, Verbatim, Canonical}
 use Rattle.lp_relay_core.specs.declared.taking.Settings.{Settings}
 use Rattle.lp_relay_core.specs.declared.telling.Faults.{Faults}
+use Rattle.lp_relay_core.specs.Differing.{at_start, differing_part, part_text}
 use Rattle.lp_relay_core.specs.Told.{told}
 
--- an item: an answer; a piece that holds a line and goes out as it came; or a piece that has no answer, since it is not UTF-8 or
--- is too long
+-- an item: an answer; a text that holds a line and goes out as it came; a line that is refused, with what is wrong with it, since
+-- it is not as it would be written; or a piece that has no answer, since it is not UTF-8 or is too long
 pub data Item : Type 0 where
   answered : Result Line Fault → Item
   as_it_came : List ℕ → Item
+  not_as_written : List ℕ → Item
   not_utf8 too_long : Item
 
--- the item of an answer for a piece: where lines go out as they came, that of a line is its piece, whatever its names are
+-- the item of a line whose text is this: if a name of it is not admitted, its answer, which is refused; the text as it came, if the
+-- builder writes it, and a newline, for the point of the line; and else what is wrong with it
+abbrev pub canonical_item : List ℕ → Line → Item
+canonical_item text line =
+    if is_admitted_point (point_of line)
+    then if bytes_eq (built (point_of line)) (text ++ newline ∷ []) then as_it_came text
+    else not_as_written (part_text (differing_part at_start text (built (point_of line))))
+    else answered (Ok line)
+
+-- the item of an answer for a piece: where lines go out as they came, that of a line is its piece, whatever its names are; where
+-- only lines go out that are as they would be written, that of the line that is left of the piece once it is trimmed
 abbrev pub item_of : Lines → List ℕ → Result Line Fault → Item
 item_of Rebuilt piece answer = answered answer
 item_of Verbatim piece (Ok line) = as_it_came piece
 item_of Verbatim piece (Err fault) = answered (Err fault)
+item_of Canonical piece (Ok line) = canonical_item (trimmed piece) line
+item_of Canonical piece (Err fault) = answered (Err fault)
 
 -- the greatest length of a piece, if it has one: `usize::MAX` is none
 abbrev pub limit_of : ℕ → Option ℕ
@@ -61,13 +76,15 @@ items_of s pieces = flat_map (items_of_piece s) pieces
 abbrev pub is_carried_item : Item → Bool
 is_carried_item (answered answer) = is_carried_answer answer
 is_carried_item (as_it_came piece) = true
+is_carried_item (not_as_written wrong) = false
 is_carried_item not_utf8 = false
 is_carried_item too_long = false
 
--- what goes out for an item: the line that is written again, or the piece that goes out as it came and a newline
+-- what goes out for an item: the line that is written again, or the text that goes out as it came and a newline
 abbrev pub item_line : Item → List ℕ
 item_line (answered answer) = built_all (carried_point answer)
 item_line (as_it_came piece) = piece ++ newline ∷ []
+item_line (not_as_written wrong) = []
 item_line not_utf8 = []
 item_line too_long = []
 
@@ -79,6 +96,7 @@ items_batch items = flat_map item_line items
 abbrev pub item_fault : ℕ → Item → List ℕ
 item_fault number (answered answer) = fault_of number answer
 item_fault number (as_it_came piece) = []
+item_fault number (not_as_written wrong) = fault_line number wrong
 item_fault number not_utf8 = fault_line number (codes "the line is not UTF-8")
 item_fault number too_long = fault_line number (codes "the line is too long")
 

@@ -2,12 +2,14 @@
 //! or rebuilt apart.
 //!
 //! [`relay`] holds a line of its input and a block. By its [`Settings`] it passes over lines that are too long, lets lines out as
-//! they came, and its faults name lines of the input, or are told on one line each. [`part_ends`] gives the ends of the parts of a text.
+//! they came, or only lines that are as they would be written, and its faults name lines of the input, or are told on one line
+//! each. [`part_ends`] gives the ends of the parts of a text.
 //!
 //! It takes each item as `lp_rebuild` does. It is a crate of its own, since the program `lp_rebuild` needs none of it.
 #![tactic(auto)]
 
 mod cuts;
+mod differing;
 mod relaying;
 mod taking;
 mod telling;

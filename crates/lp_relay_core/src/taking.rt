@@ -5,11 +5,13 @@ ghost use Rattle.influxdb_line_protocol.specs.format.Bytes.{newlines_in};
 ghost use Rattle.lp_relay_core.specs.Relaying.{as_it_came, items_of_bytes};
 ghost use Rattle.lp_relay_core.specs.RelaySteps.{HoldsLess, TakesItems, items_before, items_given, made, made_of_none};
 ghost use Rattle.lp_relay_core.specs.RelaySteps.{newlines_given, line_after};
+ghost use Rattle.lp_relay_core.specs.TakenBack.{TakesBack};
 
+use crate::differing::{Part, differing_part, part_text};
 use crate::telling::{Faults, tell};
 use crate::verdict::is_line;
 use influxdb_line_protocol::{
-    Dialect, EscapedStr, FieldSet, ParsedLine, PieceTooLong, Series, TagSet,
+    Dialect, EscapedStr, FieldSet, ParsedLine, PieceTooLong, Series, TagSet, is_as_written, laws,
 };
 use lp_lines::freeing::{forget_line, free_line};
 use lp_rebuild::batch::{self, Progress, refuse};
@@ -26,6 +28,10 @@ pub enum Lines {
     Rebuilt,
     /// A line goes out byte for byte as it came, whatever its names are, with what its piece has before it, and a newline.
     Verbatim,
+    /// A line goes out byte for byte as it came, without what its piece has before it, if it is as it would be written again, and
+    /// else it is refused: for a name that is not admitted, or with the first part of it that is not so, as in
+    /// `not as written: the value of tag 2`.
+    Canonical,
 }
 
 /// What the fault lines of a relay name.
@@ -113,7 +119,7 @@ pub(crate) fn nothing_made(alloc: Global, settings: Settings) -> Progress
     }
 }
 
-// Takes a piece that holds a line as it came.
+// Takes a text that holds a line as it came.
 fn take_as_it_came(so_far: &mut Progress, piece: &str) -> Result<(), AllocError>
     requires { so_far.old.carried + so_far.old.refused < usize.MAX }
     ensures taken { OnOk result (TakesItems Faults.Raw (made so_far.old) (as_it_came piece.now ∷ []) (made so_far.new)) }
@@ -153,6 +159,57 @@ fn take_verbatim<'a>(
     batch::take_text(alloc, dialect, so_far, text, line, spare)
 }
 
+// Takes back the line that was written last, after these first bytes of the batch, and refuses its item for this part.
+fn take_back(
+    alloc: Global,
+    so_far: &mut Progress,
+    start: usize,
+    part: Part,
+) -> Result<(), AllocError>
+    requires some { 0 < so_far.old.carried }
+    requires room { so_far.old.carried + so_far.old.refused ≤ usize.MAX }
+    ensures { OnOk result (TakesBack so_far.old start part so_far.new) }
+{
+    so_far.batch.truncate(start);
+    so_far.carried -= 1;
+    let text = part_text(alloc, part)?;
+    refuse(so_far, text.as_str())
+}
+
+// Takes the text of a piece if it is as the builder writes it. Another line is written again, to find the part that is not so, and
+// taken back; a text at fault is refused as a rebuild does.
+#[inline(never)]
+fn take_canonical<'a>(
+    alloc: Global,
+    dialect: Dialect,
+    so_far: &mut Progress,
+    piece: &'a str,
+    line: &mut ParsedLine<'a>,
+    spare: &mut Option<TagSet<'a>>,
+) -> Result<(), AllocError>
+    requires { so_far.old.carried + so_far.old.refused < usize.MAX }
+    ensures taken { OnOk result
+        (TakesItems Faults.Raw (made so_far.old) (items_of_bytes Lines.Canonical (rules_of dialect) piece.now) (made so_far.new)) }
+    ensures counted { OnOk result
+        (so_far.new.carried + so_far.new.refused ≤ so_far.old.carried + so_far.old.refused + 1) }
+{
+    laws::written_lines_stay();
+    let text = trimmed(piece);
+    if text.is_empty() {
+        return Ok(());
+    }
+    if is_as_written(text) {
+        return take_as_it_came(so_far, text);
+    }
+    let start = so_far.batch.len();
+    batch::take_text(alloc, dialect, so_far, text, line, spare)?;
+    if so_far.batch.len() == start {
+        return Ok(());
+    }
+    let part = differing_part(text.as_bytes(), &so_far.batch[start..]);
+    take_back(alloc, so_far, start, part)
+}
+
 // Takes the text of a piece. It is called for each line, so that the test whether a line is as written is compiled once, in line
 // here.
 #[inline(never)]
@@ -173,6 +230,7 @@ fn take_text<'a>(
     match settings.lines {
         Lines::Rebuilt => batch::take_piece(alloc, settings.dialect, so_far, piece, line, spare),
         Lines::Verbatim => take_verbatim(alloc, settings.dialect, so_far, piece, line, spare),
+        Lines::Canonical => take_canonical(alloc, settings.dialect, so_far, piece, line, spare),
     }
 }
 

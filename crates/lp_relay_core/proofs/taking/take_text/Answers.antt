@@ -27,3 +27,13 @@ returns-in-Verbatim-clause-taken c =
     on_ok_weaker c.take_verbatim.result
     (λ takes. subst (λ l. TakesItems Raw (made old) (items_of_bytes l d piece) (made new)) (sym c.in-Verbatim.is) takes)
     c.take_verbatim.ensures.taken
+
+pub returns-in-Canonical-clause-taken : goal.returns-in-Canonical-clause-taken
+returns-in-Canonical-clause-taken c =
+    let d = rules_of c.args.settings.dialect in
+    let piece = c.args.piece.now in
+    let old = c.args.so_far.now in
+    let new = c.take_canonical.new.so_far in
+    on_ok_weaker c.take_canonical.result
+    (λ takes. subst (λ l. TakesItems Raw (made old) (items_of_bytes l d piece) (made new)) (sym c.in-Canonical.is) takes)
+    c.take_canonical.ensures.taken

@@ -1,12 +1,13 @@
 use Rattle.std.proofs.lemmas.Result.{on_ok_weaker}
 use Rattle.influxdb_line_protocol.specs.code.Rules.{rules_of}
+use Rattle.lp_relay_core.specs.declared.taking.Lines.TheVariants.{Verbatim}
 use Rattle.lp_relay_core.specs.RelaySteps.{made}
 use Rattle.lp_relay_core.proofs.RelayLemmas.{takes_fault, takes_line, takes_no_line}
 use Rattle.lp_relay_core.proofs.taking.take_verbatim.Goals as goal
 
 pub returns-then-is_empty-clause-taken : goal.returns-then-is_empty-clause-taken
 returns-then-is_empty-clause-taken c =
-    takes_no_line (rules_of c.args.dialect) c.args.piece.now c.trimmed-text.result.now c.is_empty.result (made c.args.so_far.now)
+    takes_no_line Verbatim (rules_of c.args.dialect) c.args.piece.now c.trimmed-text.result.now c.is_empty.result (made c.args.so_far.now)
     c.trimmed-text.ensures c.utf8.piece c.is_empty.ensures c.if-is_empty.true
 
 pub returns-then-is_line-clause-taken : goal.returns-then-is_line-clause-taken
