@@ -6,6 +6,8 @@ mod admitted;
 #[cfg(test)]
 mod built;
 #[cfg(test)]
+mod canonical_relays;
+#[cfg(test)]
 mod changed;
 #[cfg(test)]
 mod failed_relays;
