@@ -11,7 +11,8 @@
 #
 # PYTHON is the Python that runs them: python3 by default. If it lacks NumPy or pandas, and Debian's own Python has it, that runs the
 # same tests over the same package. If WATCHED is set, the tests alone are run, with the extension compiled for the address sanitizer,
-# and with each request of Python for memory one of the C library, so that the sanitizer sees it.
+# and with each request of Python for memory one of the C library, so that the sanitizer sees it. Tests of how much memory is held are
+# passed over then, and the largest sizes.
 set -eu
 here=$(cd "$(dirname "$0")" && pwd)
 bindings=$(dirname "$here")

