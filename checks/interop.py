@@ -1,5 +1,5 @@
 #!/usr/bin/env python3
-"""What readers in use make of the texts below, and of what lp_relay writes of them, rebuilt and verbatim: the tables of
+"""What readers in use make of the texts below, and of what lp_relay writes of them, rebuilt, verbatim and canonical: the tables of
 docs/INTEROP.md. It is called by checks/interop.sh, which starts the servers.
 
     checks/interop.py [--write | --print] RELAY [READER=VERSION=PLACE..]
@@ -271,7 +271,9 @@ def shown_relay(text, written, faults):
 
 # The ways in which lp_relay writes lines, and their options.
 REBUILT, VERBATIM, STRICT, BOTH = "rebuilt", "`--verbatim`", "`--strict`", "`--strict --verbatim`"
-WAYS = {REBUILT: [], VERBATIM: ["--verbatim"], STRICT: ["--strict"], BOTH: ["--strict", "--verbatim"]}
+CANONICAL = "`--strict --canonical`"
+WAYS = {REBUILT: [], VERBATIM: ["--verbatim"], STRICT: ["--strict"], BOTH: ["--strict", "--verbatim"],
+        CANONICAL: ["--strict", "--canonical"]}
 
 
 def relayed_by_all(program, text):
@@ -279,16 +281,20 @@ def relayed_by_all(program, text):
     return {way: relayed(program, text, *options) for way, options in WAYS.items()}
 
 
-def told_ways(made):
-    """The ways of which something is told, of what was made in each: another way is as these are."""
+def told_ways(text, ways, made):
+    """The ways of which something is told, of what was made of a text in each: another way is as these are."""
     both_as = VERBATIM if made[STRICT] == made[REBUILT] else STRICT
     told = [way for way, other in [(VERBATIM, REBUILT), (STRICT, REBUILT), (BOTH, both_as)] if made[way] != made[other]]
+    # Lines that are as they would be rebuilt go out, where all are; and none if some are not.
+    rebuilt = ways[STRICT][0]
+    if ways[CANONICAL][0] != (rebuilt if rebuilt in text + b"\n" else b""):
+        told.append(CANONICAL)
     return [REBUILT, *told]
 
 
 def shown_ways(text, ways):
     """What the table says of what lp_relay made of a text."""
-    first, *others = told_ways(ways)
+    first, *others = told_ways(text, ways, ways)
     return "; ".join([shown_relay(text, *ways[first]), *(f"{way}: {shown_relay(text, *ways[way])}" for way in others)])
 
 
@@ -438,8 +444,8 @@ class Column:
     def stored(self, text, ways):
         """What the reader makes of a text, and of the lines that lp_relay writes of it in each way."""
         plain, strict = (written_points(ways[way][0].decode()) for way in (REBUILT, STRICT))
-        lines = {way: self.part(ways[way][0], strict if way in (STRICT, BOTH) else plain) for way in WAYS if ways[way][0]}
-        told = told_ways({way: written for way, (written, _) in ways.items()})
+        lines = {way: self.part(ways[way][0], strict if "--strict" in WAYS[way] else plain) for way in WAYS if ways[way][0]}
+        told = told_ways(text, ways, {way: written for way, (written, _) in ways.items()})
         return Stored(self.part(text, plain, not ways[REBUILT][1]), lines, told)
 
 

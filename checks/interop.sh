@@ -1,6 +1,6 @@
 #!/usr/bin/env bash
-# Writes texts to servers of its own, and the lines that lp_relay makes of them, rebuilt and verbatim, and compares what is stored with
-# the tables of docs/INTEROP.md. The texts are in interop.py.
+# Writes texts to servers of its own, and the lines that lp_relay makes of them, rebuilt, verbatim and canonical, and compares what is
+# stored with the tables of docs/INTEROP.md. The texts are in interop.py.
 #
 #   checks/interop.sh RELAY            compares with the page
 #   checks/interop.sh --write RELAY    writes the tables into the page
