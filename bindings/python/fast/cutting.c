@@ -53,62 +53,35 @@ PyObject *fast_outliers(PyObject *module, PyObject *args) {
     return found;
 }
 
-/* Where in a piece a byte stands (docs/FORMAT.md, section 3): in the head, in a plain stretch, in a quoted one, or in a comment piece. */
-enum place { IN_HEAD, IN_PLAIN, IN_QUOTED, IN_COMMENT };
-
-/* A piece so far: the place, whether all of it is blank, whether the next byte is escaped, and how many more `=` than `,` it has. */
-typedef struct { int place, is_blank, is_escaped; long long excess; } PieceState;
-
-/* Takes a byte of a piece. True: it is the newline that ends the piece. */
-static bool take_byte(PieceState *state, uint8_t byte, bool is_strict) {
-    if (is_strict && state->is_blank && byte == '#') state->place = IN_COMMENT;
-    state->is_blank = state->is_blank && (byte == ' ' || byte == '\t');
-    if (state->place == IN_COMMENT) return byte == '\n';
-    const bool is_bare = !state->is_escaped;
-    state->is_escaped = is_bare && byte == '\\';
-    if (!is_bare) return false;
-    if (state->place == IN_QUOTED) {
-        if (byte == '"') state->place = IN_PLAIN;
-        return false;
-    }
-    if (state->place == IN_PLAIN) {
-        state->excess += (byte == '=') - (byte == ',');
-        if (byte == '"' && state->excess > 0) state->place = IN_QUOTED;
-    } else if (byte == ' ') {
-        state->place = IN_PLAIN;
-    }
-    return byte == '\n';
-}
-
-/* skip(bytes, state, strict): goes on with a piece of which the state says what came before. Gives where the newline is that ends it, or
- * -1, and its new state. It begins with (0, 1, 0, 0). */
+/* skip(bytes, state, strict): goes on with a piece, of which the state says what came before. Gives where the newline is that ends it,
+ * or -1, and its new state, which are the members of an lp_cuts that the library looks at. It begins with (0, 0, 0, 0, 0, False). */
 PyObject *fast_skip(PyObject *module, PyObject *args) {
     PyObject *bytes;
-    PieceState state;
-    int strict;
+    unsigned long long len, equals, commas;
+    unsigned int begins, part;
+    int escaped, strict;
+    size_t cut = 0;
     (void)module;
-    if (!PyArg_ParseTuple(args, "S(iiiL)p", &bytes, &state.place, &state.is_blank, &state.is_escaped, &state.excess, &strict)) return NULL;
+    if (!PyArg_ParseTuple(args, "S(KKKIIp)p", &bytes, &len, &equals, &commas, &begins, &part, &escaped, &strict)) return NULL;
+    lp_cuts cuts = { SIZE_MAX, (size_t)len, (size_t)equals, (size_t)commas, begins, part, escaped, strict };
     const lp_text text = text_of(bytes);
-    size_t at = 0;
-    PyThreadState *thread = let_go(text.len);
-    while (at < text.len && !take_byte(&state, text.at[at], strict)) at++;
-    take_back(thread);
-    return Py_BuildValue("n(iiiL)", at < text.len ? (Py_ssize_t)at : (Py_ssize_t)-1, state.place, state.is_blank, state.is_escaped,
-                         state.excess);
+    PyThreadState *state = let_go(text.len);
+    const bool ends = lp_cuts_next(&cuts, text.at, text.len, &cut) == LP_PIECE;
+    take_back(state);
+    return Py_BuildValue("n(KKKIIO)", ends ? (Py_ssize_t)cut : (Py_ssize_t)-1, (unsigned long long)cuts.len,
+                         (unsigned long long)cuts.equals, (unsigned long long)cuts.commas, cuts.begins, cuts.part,
+                         cuts.escaped ? Py_True : Py_False);
 }
 
 /* A walk over a source from cut to cut, block by block. A cut is directly after a newline that ends a piece. */
 typedef struct {
-    PieceState piece; /* what came of the piece that has not ended */
-    bool is_strict;
-    uint64_t given;   /* how many bytes came before the block */
-    uint64_t cut;     /* the last cut, or 0 */
+    lp_cuts cuts;
+    uint64_t given; /* how many bytes came before the block */
+    uint64_t cut;   /* the last cut, or 0 */
     uint64_t size, count, place; /* what is cut, into how many parts; and where the next part ends if all have one length */
     uint64_t *ends;
-    size_t found;     /* so many ends are known */
+    size_t found;   /* so many ends are known */
 } Walk;
-
-static const PieceState new_piece = { IN_HEAD, true, false, 0 };
 
 /* Whether the end of a part is not known yet. That of the last part is where the source ends. */
 static bool goes_on(const Walk *walk) { return walk->found + 1 < walk->count; }
@@ -128,34 +101,13 @@ static void take_cut(Walk *walk, uint64_t cut) {
     }
 }
 
-/* Goes on byte by byte to the next cut in a block, or to its end. Gives where it is then. */
-static size_t walk_bytes(Walk *walk, lp_text block, size_t at) {
-    while (at < block.len && !take_byte(&walk->piece, block.at[at], walk->is_strict)) at++;
-    if (at == block.len) return at;
-    walk->piece = new_piece;
-    take_cut(walk, walk->given + ++at);
-    return at;
-}
-
-/* Goes on piece by piece, from a cut to the last one of a block, and gives where that is. What comes after the last newline, which may
- * be a part of a character, is not looked at. If the rest is no UTF-8, it stays where it is. */
-static size_t walk_pieces(Walk *walk, lp_text block, size_t at) {
-    lp_lines lines = LP_NO_LINES;
-    lp_view piece = LP_NO_VIEW;
-    size_t end = block.len;
-    while (end > at && block.at[end - 1] != '\n') end--;
-    if (!lp_lines_begin(block.at + at, end - at, walk->is_strict, &lines)) return at;
-    while (lp_lines_piece(&lines, &piece)) {
-        const size_t next = (size_t)(piece.text.at - block.at) + piece.text.len + 1;
-        if (next <= end) take_cut(walk, walk->given + (at = next));
-    }
-    return at;
-}
-
-/* Takes a block: byte by byte what is left of the piece before it, then its pieces, and then the piece that has not ended. */
+/* Takes each cut of a block. */
 static void walk_block(Walk *walk, lp_text block) {
-    size_t at = walk_pieces(walk, block, walk_bytes(walk, block, 0));
-    while (at < block.len) at = walk_bytes(walk, block, at);
+    size_t at = 0, cut = 0;
+    while (at < block.len && lp_cuts_next(&walk->cuts, block.at + at, block.len - at, &cut) == LP_PIECE) {
+        at += cut + 1;
+        take_cut(walk, walk->given + at);
+    }
     walk->given += block.len;
 }
 
@@ -197,7 +149,8 @@ PyObject *fast_part_ends(PyObject *module, PyObject *args) {
         PyErr_SetString(PyExc_TypeError, "blocks come from an iterator, and are cut into one part at least");
         return NULL;
     }
-    Walk walk = { new_piece, strict, 0, 0, (uint64_t)size, (uint64_t)count, 0, NULL, 0 };
+    Walk walk = { LP_NO_CUTS, 0, 0, (uint64_t)size, (uint64_t)count, 0, NULL, 0 };
+    lp_cuts_begin(strict, SIZE_MAX, &walk.cuts);
     walk.ends = (size_t)count > PY_SSIZE_T_MAX / sizeof *walk.ends ? NULL : PyMem_Malloc((size_t)count * sizeof *walk.ends);
     if (!walk.ends) return PyErr_NoMemory();
     if (walk_all(&walk, blocks)) ends = told_ends(&walk);

@@ -1,8 +1,8 @@
-"""The extension module, which _fast.c is."""
+"""The extension module, of the folder fast."""
 
 from typing import Any, Iterable, Iterator, List, Optional, Tuple
 
-PieceState = Tuple[int, int, int, int]
+PieceState = Tuple[int, int, int, int, int, bool]
 
 class LineMembers:
     _spelled: Optional[bytes]

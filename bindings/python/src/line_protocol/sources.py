@@ -19,7 +19,7 @@ _PATIENCE = 1 << 16
 _REFUSED = (type(iter("")), type(iter("é")))
 """Iterators of single characters: a `str` was meant."""
 
-_BEGUN = (0, 1, 0, 0)
+_BEGUN = (0, 0, 0, 0, 0, False)
 """The state of a line of which nothing was skipped yet."""
 
 Refused = Tuple[FaultKind, bytes, int, int]
