@@ -3,7 +3,7 @@
 #include "influxdb_line_protocol.h"
 #include <stdlib.h>
 
-enum { ROWS = 32 };
+enum { ROWS = 32, PART = 1 << 16 };
 
 /* What is lent, for all texts: it grows where an item takes more. */
 static lp_row rows[ROWS];
@@ -90,9 +90,27 @@ static uint64_t rebuilt(const uint8_t *text, size_t len) {
     return answer == LP_WRITTEN ? counts.batch_len : 0;
 }
 
+/* How many pieces a text has that comes in parts. As each call does, it tests first whether the text is UTF-8. */
+static uint64_t cuts(const uint8_t *text, size_t len) {
+    lp_cuts state = LP_NO_CUTS;
+    uint64_t pieces = 1;
+    if (!is_utf8(text, len)) return 0;
+    lp_cuts_begin(false, SIZE_MAX, &state);
+    for (size_t at = 0; at < len;) {
+        size_t end = at + (len - at < PART ? len - at : PART), cut = 0;
+        while (at < end && lp_cuts_next(&state, text + at, end - at, &cut) == LP_PIECE) {
+            at += cut + 1;
+            pieces++;
+        }
+        at = end;
+    }
+    return pieces;
+}
+
 const struct call calls[] = {
     { "lp_lines_next", by_next },
     { "lp_lines_block", by_block },
+    { "lp_cuts_next", cuts },
     { "lp_rebuild", rebuilt },
     { NULL, NULL },
 };

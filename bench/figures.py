@@ -26,6 +26,7 @@ CALLS = {
 CALLERS = {
     "lp_lines_next": "C, `lp_lines_next`",
     "lp_lines_block": "C, `lp_lines_block`",
+    "lp_cuts_next": "C, `lp_cuts_next`",
     "lp_rebuild": "C, `lp_rebuild`",
     "rust parse": "Rust, `parse_lines`",
     "rust rebuild": "Rust, read and built",
@@ -59,6 +60,7 @@ BESIDE = {
     "pull": "parse",
     "lp_lines_next": "library parse",
     "lp_lines_block": "library parse",
+    "lp_cuts_next": "library split",
     "lp_rebuild": "library rebuild",
     "stream": "library split",
     "stream bytes": "library split",
