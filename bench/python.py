@@ -3,8 +3,7 @@
 
     bindings/python/build_backend.py FOLDER && PYTHONPATH=FOLDER bench/python.py FILE..
 
-Each call runs three times after a first one, and the fastest run counts; a call that takes more than a second runs once. What a call
-takes is made before it is timed. A writer is given points that are there: lines, columns, or the dictionaries that the other packages
+Each call runs once after a first run; a call that takes more than a second runs once in all. What a call takes is made before it is timed. A writer is given points that are there: lines, columns, or the dictionaries that the other packages
 take. A speed is that of the file's bytes. The answer is how many items, or how many bytes, a call gave; for columns and frames how many
 measurements. What is not installed, or refuses what the file says, has no row.
 """
@@ -16,8 +15,6 @@ from pathlib import Path
 from typing import Any, Callable, Dict, Iterator, List, Tuple
 
 import line_protocol
-
-RUNS = 3
 
 Call = Tuple[str, Callable[[], Any], Callable[[Any], int]]
 """The name of a call, what makes that which it takes, and the call, which gives a number."""
@@ -58,10 +55,10 @@ def timed(call: Callable[[Any], int], given: Any) -> Tuple[float, int]:
     return time.process_time() - start, answer
 
 
-def fastest(call: Callable[[Any], int], given: Any) -> Tuple[float, int]:
-    """The same of the fastest of some runs."""
+def warmed(call: Callable[[Any], int], given: Any) -> Tuple[float, int]:
+    """The same after a first run, unless that took long."""
     first = timed(call, given)
-    return first if first[0] > 1 else min(timed(call, given) for _ in range(RUNS))
+    return first if first[0] > 1 else timed(call, given)
 
 
 def main() -> None:
@@ -73,7 +70,7 @@ def main() -> None:
 
         for name, prepare, call in [*own_calls(data, lines), *other_calls(lines)]:
             try:
-                seconds, answer = fastest(call, prepare())
+                seconds, answer = warmed(call, prepare())
             except ValueError:
                 continue  # what has no spelling, such as a float that is infinite
             print(f"python {name}", path.name, f"{len(data) / 1e6 / seconds:.1f}", answer, sep="\t")
