@@ -3,9 +3,10 @@
 
     bindings/python/build_backend.py FOLDER && PYTHONPATH=FOLDER bench/python.py FILE..
 
-Each call runs once after a first run; a call that takes more than a second runs once in all. What a call takes is made before it is timed. A writer is given points that are there: lines, columns, or the dictionaries that the other packages
-take. A speed is that of the file's bytes. The answer is how many items, or how many bytes, a call gave; for columns and frames how many
-measurements. What is not installed, or refuses what the file says, has no row.
+Each call runs once after a first run; a call that takes more than a second runs once in all. What a call takes is made before it is
+timed: a writer is given points that are there: lines, columns, or the dictionaries that the other packages take. A speed is that of the
+file's bytes. The answer is how many items, or how many bytes, a call gave; for columns and frames how many measurements. What is not
+installed, or refuses what the file says, has no row.
 """
 
 import sys
