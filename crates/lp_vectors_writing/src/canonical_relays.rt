@@ -19,7 +19,8 @@ fn give(rt: &impl Abort, alloc: Global, text: &[u8], out: &[u8], faults: &[u8]) 
 
 #[test]
 fn lines_that_are_as_written_go_out(rt: HostRuntime) {
-    let text = b"# c\n  m,t=x\\ y a=1i,b=\"c d\\\\\" 5\nm a=\"long\nline\",b=1.50,c=true\n\nm\\\\x a=7u -1";
+    let text =
+        b"# c\n  m,t=x\\ y a=1i,b=\"c d\\\\\" 5\nm a=\"long\nline\",b=1.50,c=true\n\nm\\\\x a=7u -1";
     let out = b"m,t=x\\ y a=1i,b=\"c d\\\\\" 5\nm a=\"long\nline\",b=1.50,c=true\nm\\\\x a=7u -1\n";
     give(&rt, rt.alloc(), text, out, b"");
 }
