@@ -2,7 +2,6 @@ pub mod GivenEvents
 pub mod GivenItems
 pub use Rattle.lp_format.specs.laws.NamesOfLines
 pub use Rattle.lp_format.specs.laws.PointsOfLines
-pub use Rattle.lp_format.specs.laws.UnreadableNames
 pub use Rattle.lp_format.specs.laws.Laws
 pub use Rattle.lp_format.specs.laws.Meanings
 pub use Rattle.lp_format.specs.laws.MeaningsOfAnswers

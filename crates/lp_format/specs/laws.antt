@@ -1,6 +1,5 @@
 pub mod NamesOfLines
 pub mod PointsOfLines
-pub mod UnreadableNames
 pub mod Laws
 pub mod Meanings
 pub mod MeaningsOfAnswers

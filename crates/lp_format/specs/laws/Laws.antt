@@ -4,8 +4,7 @@ use Rattle.std.specs.List.{AllByRecursion, list_all, join_with_byte}
 use Rattle.lp_format.specs.format.{Dialect, Strict, newline, Fault, ends_with_backslash, Point, IsPoint, is_admitted_point, built_all}
 use Rattle.lp_format.specs.format.{IsCutPiece, begins_comment, Line, point_of, answer, NameKind, HasAnswers, HasItems}
 use Rattle.lp_format.specs.format.Pieces.{Pieces}
-use Rattle.lp_format.specs.laws.NamesOfLines.{names_of, IsParsedName, EndsItsFields}
-use Rattle.lp_format.specs.laws.UnreadableNames.{HasReadableNames}
+use Rattle.lp_format.specs.laws.NamesOfLines.{names_of, IsParsedName, HasReadableNames, EndsItsFields}
 
 -- a point whose names are all admitted
 pub record IsAdmittedPoint (p : Point) : Type 0 where

@@ -1,5 +1,5 @@
 -- Which names the lines of a text have, and where their fields end.
-use Rattle.std.specs.Prelude.{◌≡◌, ◌≢◌, ◌⊎◌, ℕ, ◌<◌, true, false, List, [], ◌∷◌, ◌++◌, length, drop, map, slice_index, Ok}
+use Rattle.std.specs.Prelude.{◌≡◌, ◌≢◌, ◌⊎◌, ℕ, ◌<◌, true, false, List, [], ◌∷◌, ◌++◌, length, drop, map, slice_index, Ok, Contains}
 use Rattle.lp_format.specs.format.{Strict, space, hash, is_one_of, reads, NameKind, a_measurement, a_tag_key, a_tag_value, a_field_key}
 use Rattle.lp_format.specs.format.{ends_in_backslash, name, Point, never_in, Line, tag_set, field_set, spaces}
 
@@ -26,6 +26,10 @@ pub record IsParsedName (kind : NameKind) (n : List ℕ) : Type 0 where
   -- a tab or a newline comes directly after a backslash, and so does a NUL in a measurement
   pub after_backslash : (front back : List ℕ) (b : ℕ) → n ≡ front ++ b ∷ back → is_one_of (never_in kind) b ≡ true
       → ends_in_backslash front ≡ true
+
+-- no name of the point is one that no line has
+abbrev pub HasReadableNames : Point → Type 0
+HasReadableNames p = (kind : NameKind) (n : List ℕ) → Contains (names_of kind p) n → IsParsedName kind n
 
 -- nothing, or a text that begins with a space
 abbrev pub IsNothingOrSpaced : List ℕ → Type 0

@@ -4,13 +4,11 @@ use Rattle.std.proofs.Common.{inl, inr, Err, Result, ◌<◌, length, Contains, 
 use Rattle.lp_format.specs.format.{Dialect, Point, line_of, built_all, IsPoint, Tag, Field, IsValue, is_admitted_name, is_admitted_tag}
 use Rattle.lp_format.specs.format.{is_admitted_field, is_admitted_point, spelling, built, built_tag, built_field, built_fields, built_value}
 use Rattle.lp_format.specs.format.{built_timestamp, answers_of_piece, HasAnswers, item_of, answers_of, newline, equals, space, comma, Fault}
-use Rattle.lp_format.specs.format.{ends_with_backslash, a_measurement, a_field_key, NameKind, a_tag_key, a_tag_value, ends_in_backslash}
+use Rattle.lp_format.specs.format.{ends_with_backslash, a_measurement, a_field_key, a_tag_key, a_tag_value}
 use Rattle.lp_format.specs.format.{EndsPlain, Line, point_of, field, spaces, answer, Pieces.Pieces, Pieces.Pieces.cut}
 use Rattle.lp_format.specs.laws.Laws.{IsAdmittedPoint, AdmittedBatchesReadBack, OtherBatchesDoNotReadBack, ItemsHaveReadableNames}
 use Rattle.lp_format.specs.laws.Laws.{OtherPointsEndWithBackslash}
-use Rattle.lp_format.specs.laws.NamesOfLines.{IsParsedName, names_of, BeginsNoComment}
-use Rattle.lp_format.specs.laws.UnreadableNames.{IsUnreadable, HasReadableNames, IsUnreadable.empty, IsUnreadable.ends, IsUnreadable.begins}
-use Rattle.lp_format.specs.laws.UnreadableNames.{IsUnreadable.alone}
+use Rattle.lp_format.specs.laws.NamesOfLines.{IsParsedName, names_of, HasReadableNames}
 use Rattle.lp_lines.proofs.lemmas.read_back.LinePieces.{IsAdmitted, admitted_point, line_begins, line_is_cut_piece, reaches_tags}
 use Rattle.lp_lines.proofs.lemmas.read_back.LinePieces.{reaches_field, AdmittedTag, AdmittedField, admitted_tags, line_parts}
 use Rattle.lp_lines.proofs.lemmas.read_back.LineReadsBack.{line_reads_back, measurement_reads_back, tag_set_reads_back, field_reads_back}
@@ -20,9 +18,9 @@ use Rattle.lp_lines.proofs.lemmas.names.Spellings.{spelled_spaces, reaches_name,
 use Rattle.lp_lines.proofs.lemmas.names.Spellings.{reaches_start}
 use Rattle.lp_lines.proofs.lemmas.names.ParsedNames.{ParsedPoint, names_are_parsed, nothing_in_nil}
 use Rattle.std.specs.List.{AllByRecursion, list_all}
-use Rattle.std.proofs.lemmas.Bool.{and_parts, cases_Bool, false≢true, and_from, both_ways}
+use Rattle.std.proofs.lemmas.Bool.{and_parts, cases_Bool, false≢true, and_from}
 use Rattle.std.proofs.lemmas.List.{length-map, get_or-map}
-use Rattle.std.proofs.lemmas.List.Elements.{Contains-append_left, Contains-append_right}
+use Rattle.std.proofs.lemmas.List.Elements.{All-contains_itself, All-weaker, Contains-append_left, Contains-append_right, recursion_from_All}
 use Rattle.lp_split.specs.code.{Head, Plain}
 use Rattle.lp_split.proofs.lemmas.split.SplitWalk.{Plain-comma}
 use Rattle.lp_format.proofs.lemmas.split.{SplitPieces.pieces_exist, SplitPieces.same_pieces, SplitBare.is_escaped-push_other}
@@ -181,40 +179,9 @@ items_of_lines : (lines : List Line) (answers : List (Result Line Fault))
 items_of_lines [] answers = refl
 items_of_lines (line ∷ lines) answers = ap (λ xs. Ok (point_of line) ∷ xs) (items_of_lines lines answers)
 
--- a name as a line can have it is not unreadable
-parsed_is_readable : {kind : NameKind} {n : List ℕ} → IsParsedName kind n → ¬ IsUnreadable kind n
-parsed_is_readable h (empty kind) = absurd (omega (arith, h.some))
-parsed_is_readable h (ends kind n e) = both_ways (ends_in_backslash n) h.ends e
-parsed_is_readable h (begins n e) = h.begins e
-parsed_is_readable h (alone kind front back b never e) = both_ways (ends_in_backslash front) e (h.after_backslash front back b refl never)
-
--- a name that is not unreadable is not empty
-readable_some : (kind : NameKind) (n : List ℕ) → ¬ IsUnreadable kind n → 0 < length n
-readable_some kind [] h = absurd (h (empty kind))
-readable_some kind (b ∷ n) h = omega arith
-
--- and, as a measurement, does not begin with `#`
-readable_begins : (kind : NameKind) (n : List ℕ) → ¬ IsUnreadable kind n → BeginsNoComment kind n
-readable_begins a_measurement n h = λ e. h (begins n e)
-readable_begins kind n h = tt
-
--- so it is a name as a line can have it
-readable_is_parsed : (kind : NameKind) (n : List ℕ) → ¬ IsUnreadable kind n → IsParsedName kind n
-readable_is_parsed kind n h =
-    record {
-      some = readable_some kind n h;
-      ends = elim (cases_Bool (ends_in_backslash n)) [ inl e ↦ absurd (h (ends kind n e)) | inr e ↦ e ];
-      begins = readable_begins kind n h;
-      after_backslash = λ front back b is never. elim (cases_Bool (ends_in_backslash front)) [
-        | inl e ↦ e
-        | inr e ↦ absurd (h (subst (IsUnreadable kind) (sym is) (alone kind front back b never e)))
-      ];
-    }
-
 -- what holds of each element holds of all
 all_elements : {X : Type 0} (P : X → Type 0) (xs : List X) → ((x : X) → Contains xs x → P x) → AllByRecursion P xs
-all_elements P [] each = tt
-all_elements P (x ∷ xs) each = (each x (first_element x xs), all_elements P xs (λ y h. each y (later_element x y xs h)))
+all_elements P xs each = recursion_from_All P xs (All-weaker (Contains xs) P each xs (All-contains_itself xs))
 
 -- what is made of an element is among what is made of all
 made_element : {X Y : Type 0} (make : X → Y) (xs : List X) (x : X) → Contains xs x → Contains (map make xs) (make x)
@@ -223,15 +190,13 @@ made_element make xs x h = grind (arith, length-map, get_or-map)
 -- a point whose names lines can have, by its lists
 readable_point : (p : Point) → HasReadableNames p → ParsedPoint p
 readable_point p h =
-    let parsed : (kind : NameKind) (n : List ℕ) → Contains (names_of kind p) n → IsParsedName kind n =
-    λ kind n here. readable_is_parsed kind n (h kind n here) in
     record {
-      measurement = parsed a_measurement p.measurement (first_element p.measurement []);
+      measurement = h a_measurement p.measurement (first_element p.measurement []);
       tags = all_elements _ p.tags (λ t here. (
-        parsed a_tag_key t.key (made_element (λ t. t.key) p.tags t here),
-        parsed a_tag_value t.value (made_element (λ t. t.value) p.tags t here),
+        h a_tag_key t.key (made_element (λ t. t.key) p.tags t here),
+        h a_tag_value t.value (made_element (λ t. t.value) p.tags t here),
       ));
-      fields = all_elements _ p.fields (λ f here. parsed a_field_key f.key (made_element (λ f. f.key) p.fields f here));
+      fields = all_elements _ p.fields (λ f here. h a_field_key f.key (made_element (λ f. f.key) p.fields f here));
     }
 
 -- the line of a point among the items
@@ -247,12 +212,11 @@ line_of_item (Err fault ∷ answers) p h = elim (first_or_later (item_of (Err fa
   | inr later ↦ let more = line_of_item answers p later in (more.0, later_element (Err fault) (Ok more.0) answers more.1, more.2)
 ]
 
--- no item is a point with an unreadable name
+-- no item is a point with a name that no line has
 pub items_have_readable_names : ItemsHaveReadableNames
 items_have_readable_names dialect text items p h here kind n named =
     let found = line_of_item h.0 p (subst (λ xs. Contains xs (Ok p)) h.2 here) in
-    parsed_is_readable
-    (names_are_parsed dialect text h.0 found.0 kind n h.1 found.1 (subst (λ q. Contains (names_of kind q) n) (sym found.2) named))
+    names_are_parsed dialect text h.0 found.0 kind n h.1 found.1 (subst (λ q. Contains (names_of kind q) n) (sym found.2) named)
 
 -- the answers for the line of such a point, and for what follows it
 point_answered : (dialect : Dialect) (p : Point) (u : List ℕ) (answers : List (Result Line Fault)) → IsPoint p
