@@ -1,6 +1,5 @@
 use Rattle.lp_format.specs.format.Lines.{field, tag}
-use Rattle.lp_format.proofs.lemmas.names.Inversions.{count_is_of_the_most}
-use Rattle.lp_format.proofs.lemmas.meanings.JoinedMeaning.{the_most_is_read, the_next_has_the_fault, the_first_misses}
+use Rattle.lp_format.proofs.lemmas.meanings.JoinedMeaning.{the_most_is_read, the_next_has_the_fault, the_first_misses, count_is_of_the_most}
 use Rattle.lp_format.proofs.lemmas.meanings.ShorterRests.{tag_no_longer, field_no_longer}
 use Rattle.influxdb_line_protocol.proofs.laws.most_are_read.Goals as goal
 
