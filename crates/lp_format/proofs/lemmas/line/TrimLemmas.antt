@@ -3,10 +3,10 @@ use Rattle.std.proofs.Common.{◌≡◌, ◌≢◌, ℕ, ◌+◌, ◌<◌, ◌�
 use Rattle.std.proofs.Common.{◌∙◌, arith, inl, inr, one-add, suc, ◌++◌, subst, length-append, append_assoc, ◌==◌, if◌then◌else◌, All}
 use Rattle.std.proofs.Common.{eqb-true, ne_eqb}
 use Rattle.std.specs.List.{join_with_byte, slice_split}
-use Rattle.std.proofs.lemmas.Bool.{cases_Bool, or_right, eqb-false}
+use Rattle.std.proofs.lemmas.Bool.{cases_Bool, eqb-false}
 use Rattle.std.proofs.lemmas.Grind.{common_steps}
 use Rattle.std.proofs.lemmas.List.Splits.{join_with_byte-slice_split, length-slice_split}
-use Rattle.std.proofs.lemmas.List.{drop_all, drop_more}
+use Rattle.std.proofs.lemmas.List.{drop_more}
 use Rattle.lp_format.specs.format.{hash, is_one_of, newline, space, tab, is_comment_or_empty, trimmed, without_blanks, without_front}
 use Rattle.std.proofs.lemmas.List.Elements.{All-cons, All-nil}
 use Rattle.lp_format.specs.laws.Meanings.{IsBlankFront, IsLineEnd, empty, blank, comment}
@@ -77,32 +77,9 @@ unfolding trimmed
 trimmed_is text = (left_is text).outside
 
 -- one byte more
-pub left_newline : (in_comment : Bool) (text : List ℕ) (i : ℕ) → i < length text → slice_index text i ≡ newline
-    → left_of in_comment (drop i text) ≡ left_of false (drop (i + 1) text)
-left_newline in_comment text i lt e = rw (drop_more text i 0 lt, e) refl
-
--- a `#` begins a comment
-pub left_hash : (in_comment : Bool) (text : List ℕ) (i : ℕ) → i < length text → slice_index text i ≡ hash
-    → left_of in_comment (drop i text) ≡ left_of true (drop (i + 1) text)
-left_hash in_comment text i lt e = rw (drop_more text i 0 lt, e, or_right in_comment true refl) refl
-
--- a blank is skipped
-pub left_blank : (in_comment : Bool) (text : List ℕ) (i : ℕ) → i < length text
-    → is_blank (slice_index text i) ≡ true → left_of in_comment (drop i text) ≡ left_of in_comment (drop (i + 1) text)
-left_blank in_comment text i lt e = grind (arith, drop_more, ne_eqb)
-
--- what begins with another byte is kept
-pub left_kept : (text : List ℕ) (i : ℕ) → i < length text → slice_index text i ≢ newline → slice_index text i ≢ hash
-    → slice_index text i ≢ space → slice_index text i ≢ tab → left_of false (drop i text) ≡ drop i text
-left_kept text i lt a b c d = grind (arith, drop_more, ne_eqb)
-
--- nothing is left after the last byte
-pub left_end : (in_comment : Bool) (text : List ℕ) (i : ℕ) → length text ≤ i → left_of in_comment (drop i text) ≡ []
-left_end in_comment text i past = rw (drop_all i text past) refl
-
--- a space, a tab or a newline
-abbrev is_white : ℕ → Type 0
-is_white b = is_one_of (space ∷ tab ∷ newline ∷ []) b ≡ true
+pub left_step : (in_comment : Bool) (text : List ℕ) (i : ℕ) → i < length text
+    → left_of in_comment (drop i text) ≡ left_of in_comment (slice_index text i ∷ drop (i + 1) text)
+left_step in_comment text i lt = ap (left_of in_comment) (drop_more text i 0 lt)
 
 -- the text is a front of blanks and comments, and then this
 abbrev Outside : List ℕ → List ℕ → Type 0
@@ -116,7 +93,7 @@ Inside text after =
 
 module _ (b : ℕ) (text after : List ℕ) where
   -- a blank before such a front
-  front_blank : is_white b → Outside text after → Outside (b ∷ text) after
+  front_blank : is_one_of (space ∷ tab ∷ newline ∷ []) b ≡ true → Outside text after → Outside (b ∷ text) after
   front_blank h f = (b ∷ f.0, ap (λ t. b ∷ t) f.1, blank b f.0 after h f.2)
 
   -- a comment before such a front

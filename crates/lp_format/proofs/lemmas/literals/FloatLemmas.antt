@@ -7,7 +7,7 @@ use Rattle.std.proofs.Common.{get_or-append-add, get_or-take, take_at}
 use Rattle.std.specs.Char.{is_ascii_digit, digit_value}
 use Rattle.std.specs.Str.Parse.{AllDigits, IsNumeral}
 use Rattle.std.proofs.Math.Seq.{take-nil}
-use Rattle.std.proofs.lemmas.Bool.{both_ways, cases_lt, cases_Bool, and_parts, and_from, eqb-false}
+use Rattle.std.proofs.lemmas.Bool.{both_ways, cases_eq, cases_lt, cases_Bool, and_parts, and_from, eqb-false}
 use Rattle.std.proofs.lemmas.Bool.Decides.{nat_tests}
 use Rattle.std.proofs.lemmas.Grind.{common_steps}
 use Rattle.std.proofs.lemmas.List.{get_or_append_left, get_or_past}
@@ -49,10 +49,6 @@ marked_before marks part b x tail mark len some = rw (mark, len, lt-ltb 0 (lengt
 pub minus_no_digit : (d : ℕ) → is_ascii_digit d ≡ true → is_one_of (codes "-") d ≡ false
 minus_no_digit d h = grind (arith, common_steps)
 
--- a point is no digit
-point_no_digit : (d : ℕ) → is_one_of (codes ".") d ≡ true → is_ascii_digit d ≡ false
-point_no_digit d h = grind (arith, common_steps)
-
 -- the mark of an exponent is neither a digit nor a point
 mark_no_digit : (d : ℕ) → is_one_of (codes "eE") d ≡ true → (is_ascii_digit d ≡ false) × (is_one_of (codes ".") d ≡ false)
 mark_no_digit d h = (grind (arith, common_steps), grind (arith, common_steps))
@@ -72,9 +68,7 @@ float_len_after whole suffix w ends =
     let len : integer_len (whole ++ suffix) ≡ length whole = signed_before (codes "-") whole suffix minus_no_digit w
     ∙ rw ends (add-zero (length whole)) in
     let past : drop (length whole) (whole ++ suffix) ≡ suffix = drop_at whole suffix (length whole) refl in
-    let past_fraction = sym (drop-drop (fraction_len suffix) (length whole) (whole ++ suffix)) ∙ ap (drop (fraction_len suffix)) past in
-    let some : (length whole == 0) ≡ false = ne_eqb (length whole) 0 (λ e. absurd (omega (arith, signed_some (codes "-") whole w))) in
-    rw (len, past, past_fraction, some) (omega arith)
+    grind (arith, nat_tests, signed_some, drop-drop)
 
 -- an exponent takes its bytes at least
 exponent_at_least : (m : ℕ) (x rest : List ℕ) → IsMarked (codes "eE") (IsSigned (codes "+-")) (m ∷ x)
@@ -93,8 +87,7 @@ tail_at_least (p ∷ y) (m ∷ x) rest (point, digits) e =
     let after = m ∷ (x ++ rest) in
     let fraction : fraction_len (p ∷ (y ++ after)) ≡ suc (length y) =
     grind (arith, marked_before, digits_before, mark_no_digit, add-zero) in
-    let past : drop (suc (length y)) (p ∷ (y ++ after)) ≡ after = drop_at (p ∷ y) after (suc (length y)) refl in
-    rw (fraction, past) (omega (arith, exponent_at_least m x rest e))
+    rw (fraction, drop_at (p ∷ y) after (suc (length y)) refl) (omega (arith, exponent_at_least m x rest e))
 
 -- the parts of a float at the start of a text take no more than its longest float
 float_at_least : (whole fraction exponent rest : List ℕ) → IsSigned (codes "-") whole → IsMarked (codes ".") (IsNumeral 10) fraction
@@ -106,7 +99,7 @@ float_at_least whole [] (m ∷ x) rest w f e =
     let len = float_len_after whole (m ∷ (x ++ rest)) w (rw (mark_no_digit m e.0).0 refl) in
     omega (arith, len, tail_at_least [] (m ∷ x) rest f e)
 float_at_least whole (p ∷ y) exponent rest w f e =
-    let len = float_len_after whole (p ∷ (y ++ (exponent ++ rest))) w (rw (point_no_digit p f.0) refl) in
+    let len = float_len_after whole (p ∷ (y ++ (exponent ++ rest))) w (grind (arith, common_steps)) in
     omega (arith, len, tail_at_least (p ∷ y) exponent rest f e)
 
 -- no front that is a float is longer than the longest one
@@ -154,11 +147,11 @@ float_len_float t some =
     let suffix = drop w t in
     let f = fraction_len suffix in
     let after = drop (w + f) t in
-    elim (cases_Bool (w == 0)) [
-      | inl none ↦ let nothing : 0 < 0 = rw none at some in absurd (omega arith)
+    elim (cases_eq w 0) [
+      | inl none ↦ absurd (grind (arith, nat_tests))
       | inr whole ↦
-          let positive : 0 < w = omega (arith, eqb-false w 0 whole) in
-          let len : float_len t ≡ w + f + exponent_len after = rw whole refl in
+          let positive : 0 < w = omega arith in
+          let len : float_len t ≡ w + f + exponent_len after = rw (ne_eqb w 0 whole) refl in
           let spelled : take (float_len t) t ≡ take w t ++ (take f suffix ++ take (exponent_len after) after) =
           rw (len, take-add (w + f) (exponent_len after) t, take-add w f t)
           (append_assoc (take w t) (take f suffix) (take (exponent_len after) after)) in
@@ -215,20 +208,17 @@ marked_len_fits marks part t fits = grind (arith, length-drop)
 -- the longest float at the start of a text fits the text
 float_len_fits : (t : List ℕ) → float_len t ≤ length t
 float_len_fits t =
-    let w = integer_len t in
-    let f = fraction_len (drop w t) in
-    let fraction = marked_len_fits (codes ".") digits_len (drop w t) (prefix_len-le-length is_ascii_digit) in
-    let exponent = marked_len_fits (codes "eE") (number_len (codes "+-")) (drop (w + f) t) (number_len_fits (codes "+-")) in
+    let fraction = marked_len_fits (codes ".") digits_len (drop (integer_len t) t) (prefix_len-le-length is_ascii_digit) in
+    let exponent = λ (x : List ℕ). marked_len_fits (codes "eE") (number_len (codes "+-")) x (number_len_fits (codes "+-")) in
     grind (arith, nat_tests, integer_len_fits, length-drop)
 
 -- after the longest float a text may be cut
 pub float_boundary : (t : List ℕ) → IsUtf8 t → float_len t ≤ length t → IsCharBoundary t (float_len t)
 float_boundary t utf8 fits =
-    elim (cases_Bool (float_len t == 0)) [
-      | inl none ↦ rw (eqb-true (float_len t) 0 none) (IsCharBoundary-start t utf8)
+    elim (cases_eq (float_len t) 0) [
+      | inl none ↦ rw none (IsCharBoundary-start t utf8)
       | inr some ↦
-          let positive : 0 < float_len t = omega (arith, eqb-false (float_len t) 0 some) in
-          let ascii = float_ascii (take (float_len t) t) (float_len_float t positive) in
+          let ascii = float_ascii (take (float_len t) t) (float_len_float t (omega arith)) in
           IsCharBoundary-from_take t (float_len t) utf8 fits (IsUtf8-from_ascii (take (float_len t) t) ascii)
     ]
 
@@ -258,10 +248,6 @@ Ends rest = is_one_of (0 ∷ comma ∷ space ∷ []) (slice_index rest 0) ≡ tr
 no_float_byte : (b : ℕ) → is_one_of (0 ∷ comma ∷ space ∷ []) b ≡ true → (in_float b ≡ false) × (b ≢ letter_i) × (b ≢ letter_u)
 no_float_byte b e = (grind (arith, common_steps), (λ i. grind (arith, common_steps)), (λ i. grind (arith, common_steps)))
 
--- the byte after a front
-byte_after : (front after : List ℕ) → slice_index (front ++ after) (length front) ≡ slice_index after 0
-byte_after front after = rw add-zero at (get_or-append-add front after 0 0)
-
 -- the longest float at the start of a text ends where a float ends and no value can go on
 float_ends : (t rest : List ℕ) → IsFloat t → Ends rest → float_len (t ++ rest) ≡ length t
 float_ends t rest parts ends =
@@ -273,9 +259,8 @@ float_ends t rest parts ends =
       | inl longer ↦
           let fits = length-take-le (float_len text) text (float_len_fits text) in
           let byte = float_bytes (take (float_len text) text) (float_len_float text (omega arith)) (length t) 0 (omega arith) in
-          let same = get_or-take (float_len text) text (length t) 0 longer ∙ byte_after t rest in
-          let held : in_float (slice_index rest 0) ≡ true = rw same at byte in
-          absurd (both_ways (in_float (slice_index rest 0)) (no_float_byte (slice_index rest 0) ends).0 held)
+          let same = get_or-take (float_len text) text (length t) 0 longer ∙ rw add-zero at (get_or-append-add t rest 0 0) in
+          absurd (both_ways (in_float (slice_index rest 0)) (no_float_byte (slice_index rest 0) ends).0 (rw same at byte))
       | inr shorter ↦ omega arith
     ]
 
@@ -285,9 +270,8 @@ unmarked : (t rest : List ℕ) (n : ℕ) → IsFloat t → Ends rest → n ≤ l
 unmarked t rest n parts ends fits = elim (cases_lt n (length t)) [
   | inl within ↦
       let byte = float_bytes t parts n 0 within in
-      let same = get_or_append_left t rest 0 n within in
-      rw same ((λ i. grind (arith, common_steps)), (λ i. grind (arith, common_steps)))
-  | inr past ↦ grind (arith, no_float_byte, byte_after)
+      rw (get_or_append_left t rest 0 n within) (λ i. grind (arith, common_steps), λ i. grind (arith, common_steps))
+  | inr past ↦ let same = rw add-zero at (get_or-append-add t rest 0 0) in grind (arith, no_float_byte)
 ]
 
 -- a float at the start of a text: its whole part, after which no mark of an integer is, and what it is read as

@@ -93,13 +93,6 @@ logical_is_unique known _ _ (escape c s l is more) = rw is (ap (λ (xs : List �
 logical_is_unique known _ _ (other c s l is more) = rw is (ap (λ (xs : List ℕ). backslash ∷ c ∷ xs) (logical_is_unique known s l more))
 logical_is_unique known _ _ end = refl
 
--- what begins with a backslash and another byte, from what follows them
-logical_escaped : (known : List ℕ) (c : ℕ) (rest : List ℕ) → IsLogical known rest (without_escapes known rest)
-    → IsLogical known (backslash ∷ c ∷ rest) (without_escapes known (backslash ∷ c ∷ rest))
-unfolding without_escapes
-logical_escaped known c rest more =
-    elim (cases_Bool (is_one_of known c)) [ inl is ↦ rw is (escape c rest _ is more) | inr is ↦ rw is (other c rest _ is more) ]
-
 -- what begins with another byte, from what follows it
 logical_plain : (known : List ℕ) (b : ℕ) (rest : List ℕ) → b ≢ backslash → IsLogical known rest (without_escapes known rest)
     → IsLogical known (b ∷ rest) (without_escapes known (b ∷ rest))
@@ -117,7 +110,10 @@ has_logical known (b ∷ []) =
     ]
 has_logical known (b ∷ c ∷ rest) =
     elim (cases_Bool (b == backslash)) [
-      | inl e ↦ rw (eqb-true b backslash e) (logical_escaped known c rest (has_logical known rest))
+      | inl e ↦ rw (eqb-true b backslash e) (elim (cases_Bool (is_one_of known c)) [
+        | inl is ↦ rw is (escape c rest _ is (has_logical known rest))
+        | inr is ↦ rw is (other c rest _ is (has_logical known rest))
+      ])
       | inr e ↦ logical_plain known b (c ∷ rest) (eqb-false b backslash e) (has_logical known (c ∷ rest))
     ]
 

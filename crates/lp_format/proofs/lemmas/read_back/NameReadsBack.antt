@@ -7,7 +7,7 @@ use Rattle.std.proofs.lemmas.Grind.{common_steps}
 use Rattle.lp_format.specs.format.{backslash, hash, is_one_of, space, NameKind, a_measurement, a_tag_key, a_tag_value, a_field_key}
 use Rattle.lp_format.specs.format.{ends_in_backslash, escapable, is_escapable, is_stop, logical, read_text, Text, escaped, without_escapes}
 use Rattle.lp_format.specs.format.{is_admitted_name, never_in, spelling, Pair, Point, Tag, Field, built_tag, Value, integer, unsigned}
-use Rattle.lp_format.specs.format.{float, string, boolean, quotable, Line, point_of, logical_value, logical_tag, logical_field, some_tags}
+use Rattle.lp_format.specs.format.{float, string, boolean, quotable, Line, point_of, logical_tag, logical_field, some_tags}
 use Rattle.lp_format.proofs.lemmas.names.NameLemmas.{escapable_backslash, without_escapes_same, without_escapes_known}
 use Rattle.lp_format.proofs.lemmas.names.NameLemmas.{without_escapes_plain_byte}
 
@@ -98,28 +98,21 @@ read_line p =
       timestamp = p.timestamp;
     }
 
--- each part is what was written
-read_value_is : (v : Value (List ℕ)) → logical_value (read_value v) ≡ v
-read_value_is v = grind (arith, without_escapes_escaped)
-
 -- a tag by its texts
 read_tag_is : (t : Tag) → logical_tag (read_tag t) ≡ t
 read_tag_is t = rw (logical_spelling a_tag_key t.key, logical_spelling a_tag_value t.value) refl
 
 -- a field by its texts
 read_field_is : (f : Field) → logical_field (read_field f) ≡ f
-read_field_is f = rw (logical_spelling a_field_key f.key, read_value_is f.value) refl
+read_field_is f = grind (arith, logical_spelling, without_escapes_escaped)
 
 -- there and back again
 map_back : {A B : Type 0} (there : A → B) (back : B → A) → ((x : A) → back (there x) ≡ x) → (xs : List A) → map back (map there xs) ≡ xs
 map_back there back same [] = refl
 map_back there back same (x ∷ xs) = rw (same x, map_back there back same xs) refl
 
--- the tags, or none
-read_tags_are : (ts : List Tag) → map logical_tag (some_tags (read_tags ts)) ≡ ts
-read_tags_are ts = grind (arith, map_back, read_tag_is)
-
 -- the point of the line is this one
 pub read_line_is : (p : Point) → point_of (read_line p) ≡ p
 read_line_is p =
-    rw (logical_spelling a_measurement p.measurement, read_tags_are p.tags, map_back read_field logical_field read_field_is p.fields) refl
+    let tags : map logical_tag (some_tags (read_tags p.tags)) ≡ p.tags = grind (arith, map_back, read_tag_is) in
+    rw (logical_spelling a_measurement p.measurement, tags, map_back read_field logical_field read_field_is p.fields) refl

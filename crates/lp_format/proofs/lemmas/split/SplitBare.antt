@@ -1,7 +1,7 @@
 -- Bare bytes: what a backslash does to the byte after it, and the shape of a piece by its bare bytes, which determine the cut.
 use Rattle.std.proofs.Common.{◌≡◌, ◌≢◌, ℕ, Bool, true, false, cond, not, eqb, List, [], ◌∷◌, ◌++◌, sym, ◌∙◌, ap, refl, arith, append_assoc}
-use Rattle.std.proofs.Common.{append-nil, ◌⊎◌, inl, inr, subst, ◌&&◌, All, count_by, ne_eqb, lt-ltb, le-ltb, ◌==◌, if◌then◌else◌, nat_lt}
-use Rattle.std.proofs.lemmas.List.{reverse-append}
+use Rattle.std.proofs.Common.{append-nil, ◌⊎◌, inr, subst, ◌&&◌, All, count_by, ne_eqb, lt-ltb, le-ltb, ◌==◌, if◌then◌else◌, nat_lt, fold}
+use Rattle.std.proofs.lemmas.{List.reverse-append, List.Sums.fold-append}
 use Rattle.std.proofs.lemmas.Bool.{cases_eq, and_left, and_right}
 use Rattle.lp_format.specs.format.{is_escaped_after, bare_after, bare, IsBareAfter, backslash, newline, quote, space, comma, equals, IsHead}
 use Rattle.lp_format.specs.format.{HasMoreEquals, IsPlain, EndsPlain, EndsQuoted, Opens, IsQuoted, IsClosed, IsOpen}
@@ -54,10 +54,6 @@ is_escaped-push_backslash front h = is_escaped-push front backslash ∙ ap not h
 pub is_escaped-push_other : (front : List ℕ) (b : ℕ) → b ≢ backslash → is_escaped_after (front ++ b ∷ []) ≡ false
 is_escaped-push_other front b h = is_escaped-push front b ∙ ap (λ t. cond t (not (is_escaped_after front)) false) (ne_eqb b backslash h)
 
--- an escaped byte is not bare
-pub bare-push_escaped : (text : List ℕ) (b : ℕ) → is_escaped_after text ≡ true → bare (text ++ b ∷ []) ≡ bare text
-bare-push_escaped text b h = bare_after-push [] text b ∙ ap (λ f. bare text ++ cond f [] (b ∷ [])) h ∙ append-nil (bare text)
-
 -- a byte that is not escaped is bare
 pub bare-push_bare : (text : List ℕ) (b : ℕ) → is_escaped_after text ≡ false → bare (text ++ b ∷ []) ≡ bare text ++ b ∷ []
 bare-push_bare text b h = bare_after-push [] text b ∙ ap (λ f. bare text ++ cond f [] (b ∷ [])) h
@@ -94,7 +90,7 @@ nil_has_no_place (y ∷ before) c after e = cc
 
 -- an escaped byte leaves a head a head
 pub IsHead-escaped : (text : List ℕ) (b : ℕ) → IsHead text → is_escaped_after text ≡ true → IsHead (text ++ b ∷ [])
-IsHead-escaped text b h e = rw bare-push_escaped h
+IsHead-escaped text b h e = rw (bare_after-push, e, append-nil) h
 
 -- a bare byte that is no space and no newline leaves a head a head
 pub IsHead-bare : (text : List ℕ) (b : ℕ) → IsHead text → is_escaped_after text ≡ false → b ≢ space → b ≢ newline → IsHead (text ++ b ∷ [])
@@ -206,14 +202,11 @@ data State : Type 0 where
   in_plain in_quoted : List ℕ → State
   ended : State
 
--- more `=` than `,`
-abbrev more_equals : List ℕ → Bool
-more_equals counted = nat_lt (count_by (λ b. b == comma) counted) (count_by (λ b. b == equals) counted)
-
 -- a byte in a plain stretch
 abbrev plain_step : List ℕ → ℕ → State
 plain_step counted b =
-    if b == newline then ended else if b == quote && more_equals counted then in_quoted counted else in_plain (counted ++ b ∷ [])
+    let opens = b == quote && nat_lt (count_by (λ c. c == comma) counted) (count_by (λ c. c == equals) counted) in
+    if b == newline then ended else if opens then in_quoted counted else in_plain (counted ++ b ∷ [])
 
 abbrev step : State → ℕ → State
 step in_head b = if b == newline then ended else if b == space then plain_step [] b else in_head
@@ -222,13 +215,7 @@ step (in_quoted counted) b = if b == quote then in_plain counted else in_quoted 
 step ended b = ended
 
 abbrev run : State → List ℕ → State
-run s [] = s
-run s (b ∷ bs) = run (step s b) bs
-
--- the machine reads two texts one after the other
-run-append : (s : State) (xs ys : List ℕ) → run s (xs ++ ys) ≡ run (run s xs) ys
-run-append s [] ys = refl
-run-append s (x ∷ xs) ys = run-append (step s x) xs ys
+run s bs = fold step s bs
 
 -- a machine that has ended stays so
 run-ended : (xs : List ℕ) → run ended xs ≡ ended
@@ -243,7 +230,7 @@ bare-cons b text h =
 -- a front, a bare byte that is no backslash, and more
 run-around : (s : State) (front : List ℕ) (b : ℕ) (text : List ℕ) → IsBareAfter front → b ≢ backslash
     → run s (bare (front ++ b ∷ text)) ≡ run (step (run s (bare front)) b) (bare text)
-run-around s front b text i h = grind (arith, bare-append, bare-cons, run-append)
+run-around s front b text i h = grind (arith, bare-append, bare-cons, fold-append)
 
 -- bytes that are no spaces and no newlines leave the machine in the head
 run_head : (xs : List ℕ) → All (λ b. (b ≢ space) × (b ≢ newline)) xs → run in_head xs ≡ in_head
@@ -252,17 +239,14 @@ run_head (b ∷ xs) h =
     let here = All-head (λ c. (c ≢ space) × (c ≢ newline)) b xs h in
     rw (ne_eqb b newline here.1, ne_eqb b space here.0) (run_head xs (All-tail (λ c. (c ≢ space) × (c ≢ newline)) b xs h))
 
--- a byte that neither ends the piece nor opens a string is counted
-plain_step_is : (counted : List ℕ) (b : ℕ) → b ≢ newline → (b ≡ quote → ¬ HasMoreEquals counted)
-    → plain_step counted b ≡ in_plain (counted ++ b ∷ [])
-plain_step_is counted b n q = grind (arith, cases_eq, and_right, le-ltb, and_left, ne_eqb)
-
 -- bytes that neither end the piece nor open a string leave the machine in a plain stretch
 run_plain : (counted xs : List ℕ) → All (λ b. b ≢ newline) xs → NoOpening counted xs → run (in_plain counted) xs ≡ in_plain (counted ++ xs)
 run_plain counted [] n q = rw append-nil refl
 run_plain counted (b ∷ xs) n q =
     let opens_none : b ≡ quote → ¬ HasMoreEquals counted = λ e. rw append-nil at (q [] xs (ap (λ c. c ∷ xs) e)) in
-    ap (λ s. run s xs) (plain_step_is counted b (All-head (λ c. c ≢ newline) b xs n) opens_none)
+    let on = All-head (λ c. c ≢ newline) b xs n in
+    let counts : plain_step counted b ≡ in_plain (counted ++ b ∷ []) = grind (arith, cases_eq, and_right, le-ltb, and_left, ne_eqb) in
+    ap (λ s. run s xs) counts
     ∙ run_plain (counted ++ b ∷ []) xs (All-tail (λ c. c ≢ newline) b xs n)
     (λ before after e. rw append_assoc (q (b ∷ before) after (ap (λ t. b ∷ t) e))) ∙ ap in_plain (append_assoc counted (b ∷ []) xs)
 
@@ -297,6 +281,4 @@ cut_ends piece rest h i = grind (arith, run-around, run_head, run-ended, ends_pl
 -- a piece that ends before a newline is no beginning of a longer one
 pub cut_not_within : (piece rest : List ℕ) → IsClosed piece → IsBareAfter piece → IsClosed (piece ++ newline ∷ rest)
     ⊎ IsOpen (piece ++ newline ∷ rest) → ⊥
-cut_not_within piece rest c i (inl (inl h)) = let e = cut_ends piece rest c i in let f = run_head (bare (piece ++ newline ∷ rest)) h in cc
-cut_not_within piece rest c i (inl (inr h)) = let e = cut_ends piece rest c i in let f = ends_plain h.1 in cc
-cut_not_within piece rest c i (inr h) = let e = cut_ends piece rest c i in let f = ends_quoted h.1 in cc
+cut_not_within piece rest c i h = let e = cut_ends piece rest c i in grind (arith, run_head, ends_plain, ends_quoted)

@@ -1,12 +1,12 @@
 -- Each text has exactly one list of pieces, and the pieces of joined texts are joined.
-use Rattle.std.proofs.Common.{◌≡◌, ◌≢◌, ℕ, ◌+◌, ◌<◌, Bool, true, false, ◌&&◌, ◌||◌, ◌⊎◌, inl, inr, eqb, List, [], ◌∷◌, ◌++◌, length, get_or}
+use Rattle.std.proofs.Common.{◌≡◌, ◌≢◌, ℕ, ◌+◌, ◌<◌, true, false, ◌⊎◌, inl, inr, eqb, List, [], ◌∷◌, ◌++◌, length, get_or}
 use Rattle.std.proofs.Common.{take, drop, Option, Some, None, MatchOption, slice_range, sym, ◌∙◌, ap, refl, subst, arith, append_assoc}
-use Rattle.std.proofs.Common.{append-nil, All, count_by, take_at, take-append-drop}
-use Rattle.std.proofs.lemmas.List.{drop_more}
+use Rattle.std.proofs.Common.{append-nil, All, count_by, take_at, take-append-drop, length-append}
+use Rattle.std.proofs.lemmas.{Grind.common_steps, List.drop_more, List.get_or_at}
 use Rattle.std.proofs.lemmas.List.Elements.{All-head, All-tail, All-cons, All-push, All-take, All-append}
 use Rattle.std.proofs.lemmas.Bool.{cases_lt, cases_eq, cases_Bool, false≢true, both_ways}
-use Rattle.lp_format.specs.format.{Dialect, Crate, Strict, is_escaped_after, IsHead, EndsPlain, EndsQuoted, begins_comment, IsComment}
-use Rattle.lp_format.specs.format.{IsCutPiece, IsLastPiece, IsFirstCut, comma, equals, hash, newline, quote, space, tab}
+use Rattle.lp_format.specs.format.{Dialect, Crate, Strict, is_escaped_after, begins_comment, IsComment}
+use Rattle.lp_format.specs.format.{IsCutPiece, IsLastPiece, IsFirstCut, comma, equals, newline, quote, space}
 use Rattle.lp_format.specs.format.Pieces.{Pieces, Pieces.last, Pieces.cut}
 use Rattle.lp_format.proofs.lemmas.split.SplitBare.{IsHead-escaped, IsHead-bare, EndsPlain-escaped, EndsPlain-bare, EndsPlain-start}
 use Rattle.lp_format.proofs.lemmas.split.SplitBare.{EndsQuoted-escaped, EndsQuoted-bare, EndsQuoted-start, EndsQuoted-close}
@@ -16,9 +16,9 @@ use Rattle.lp_format.proofs.lemmas.split.SplitBare.{place_in_append, nil_has_no_
 abbrev GoesOn : Dialect → List ℕ → ℕ → Type 0
 GoesOn dialect front b = ((b ≡ newline) × IsCutPiece dialect front) ⊎ IsLastPiece dialect (front ++ b ∷ [])
 
--- a head and a byte are cut, or go on
-head_goes_on : (front : List ℕ) (b : ℕ) → IsHead front → GoesOn Crate front b
-head_goes_on front b h = elim (cases_Bool (is_escaped_after front)) [
+-- a piece that is open, and a byte, are cut or go on, in the crate's dialect: a head, what ends in a plain stretch, and what ends in a string
+crate_goes_on : (front : List ℕ) (b : ℕ) → IsLastPiece Crate front → GoesOn Crate front b
+crate_goes_on front b (inl (inl h)) = elim (cases_Bool (is_escaped_after front)) [
   | inl e ↦ inr (inl (inl (IsHead-escaped front b h e)))
   | inr e ↦ elim (cases_eq b newline) [
     | inl n ↦ inl (n, (inl h, e))
@@ -28,10 +28,7 @@ head_goes_on front b h = elim (cases_Bool (is_escaped_after front)) [
     ]
   ]
 ]
-
--- what ends in a plain stretch and a byte are cut, or go on
-plain_goes_on : (front counted : List ℕ) (b : ℕ) → EndsPlain front counted → GoesOn Crate front b
-plain_goes_on front counted b h = elim (cases_Bool (is_escaped_after front)) [
+crate_goes_on front b (inl (inr (counted, h))) = elim (cases_Bool (is_escaped_after front)) [
   | inl e ↦ inr (inl (inr (counted, EndsPlain-escaped b h e)))
   | inr e ↦ elim (cases_eq b newline) [
     | inl n ↦ inl (n, (inr (counted, h), e))
@@ -44,22 +41,13 @@ plain_goes_on front counted b h = elim (cases_Bool (is_escaped_after front)) [
     ]
   ]
 ]
-
--- what ends in a string and a byte go on
-quoted_goes_on : (front counted : List ℕ) (b : ℕ) → EndsQuoted front counted → GoesOn Crate front b
-quoted_goes_on front counted b h = elim (cases_Bool (is_escaped_after front)) [
+crate_goes_on front b (inr (counted, h)) = elim (cases_Bool (is_escaped_after front)) [
   | inl e ↦ inr (inr (counted, EndsQuoted-escaped b h e))
   | inr e ↦ elim (cases_eq b quote) [
     | inl q ↦ inr (inl (inr (counted, rw q (EndsQuoted-close h e))))
     | inr q ↦ inr (inr (counted, EndsQuoted-bare b h e q))
   ]
 ]
-
--- a piece that is open, and a byte, are cut or go on, in the crate's dialect
-crate_goes_on : (front : List ℕ) (b : ℕ) → IsLastPiece Crate front → GoesOn Crate front b
-crate_goes_on front b (inl (inl h)) = head_goes_on front b h
-crate_goes_on front b (inl (inr h)) = plain_goes_on front h.0 b h.1
-crate_goes_on front b (inr h) = quoted_goes_on front h.0 b h.1
 
 -- a comment is told by its bytes up to the `#`
 pub begins_comment-append : (front more : List ℕ) → begins_comment front ≡ true → begins_comment (front ++ more) ≡ true
@@ -70,37 +58,27 @@ begins_comment-append (b ∷ front) more e = grind (arith, begins_comment-append
 becomes_comment : (front : List ℕ) (b : ℕ) → begins_comment front ≡ false → begins_comment (front ++ b ∷ []) ≡ true
     → All (λ c. c ≢ newline) (front ++ b ∷ [])
 becomes_comment [] b e f = grind (arith, false≢true)
-becomes_comment (x ∷ front) b e f =
-    let w = go (eqb x hash) (eqb x space || eqb x tab) (begins_comment front) (begins_comment (front ++ b ∷ [])) e f in
-    grind (arith, All-cons, false≢true, becomes_comment front b w.0 w.1)
-  where
-    -- what becomes a comment by more bytes was none before
-    go : (h s p q : Bool) → (h || s && p) ≡ false → (h || s && q) ≡ true → (p ≡ false) × (q ≡ true)
-    go h s p q e f = (grind arith, grind arith)
+becomes_comment (x ∷ front) b e f = grind (arith, common_steps, All-cons, becomes_comment front b)
 
 -- a newline makes no comment
 begins_comment-newline : (front more : List ℕ) → begins_comment front ≡ false → begins_comment (front ++ newline ∷ more) ≡ false
 begins_comment-newline [] more e = refl
 begins_comment-newline (x ∷ front) more e = grind (arith, begins_comment-newline front more)
 
--- a piece that is open, and a byte, are cut or go on, in the strict dialect
-strict_goes_on : (front : List ℕ) (b : ℕ) → IsLastPiece Strict front → GoesOn Strict front b
-strict_goes_on front b (inl h) = elim (cases_eq b newline) [
+-- a piece that is open, and a byte, are cut or go on
+goes_on : (dialect : Dialect) (front : List ℕ) (b : ℕ) → IsLastPiece dialect front → GoesOn dialect front b
+goes_on Crate front b h = crate_goes_on front b h
+goes_on Strict front b (inl h) = elim (cases_eq b newline) [
   | inl n ↦ inl (n, inl h)
   | inr n ↦ inr (inl (begins_comment-append front (b ∷ []) h.0, All-push (λ c. c ≢ newline) front b h.1 n))
 ]
-strict_goes_on front b (inr h) = elim (cases_Bool (begins_comment (front ++ b ∷ []))) [
+goes_on Strict front b (inr h) = elim (cases_Bool (begins_comment (front ++ b ∷ []))) [
   | inl c ↦ inr (inl (c, becomes_comment front b h.0 c))
   | inr c ↦ elim (crate_goes_on front b h.1) [
     | inl w ↦ inl (w.0, inr (h.0, w.1.0, w.1.1))
     | inr w ↦ inr (inr (c, w))
   ]
 ]
-
--- a piece that is open, and a byte, are cut or go on
-goes_on : (dialect : Dialect) (front : List ℕ) (b : ℕ) → IsLastPiece dialect front → GoesOn dialect front b
-goes_on Crate front b h = crate_goes_on front b h
-goes_on Strict front b h = strict_goes_on front b h
 
 -- bytes without a newline cut nothing
 pub IsLastPiece-extend : (dialect : Dialect) (front more : List ℕ) → IsLastPiece dialect front → All (λ b. b ≢ newline) more
@@ -120,15 +98,11 @@ IsLastPiece-nil dialect = grind arith
 pub IsLastPiece-cut : (dialect : Dialect) (piece : List ℕ) → IsCutPiece dialect piece → IsLastPiece dialect piece
 IsLastPiece-cut dialect piece h = grind arith
 
--- a text with a newline in it is not free of newlines
-has_newline : (piece rest : List ℕ) → All (λ c. c ≢ newline) (piece ++ newline ∷ rest) → ⊥
-has_newline [] rest h = All-head (λ c. c ≢ newline) newline rest h refl
-has_newline (b ∷ piece) rest h = has_newline piece rest (All-tail (λ c. c ≢ newline) b (piece ++ newline ∷ rest) h)
-
 -- a cut is within no piece
 pub no_cut_within : (dialect : Dialect) (piece rest : List ℕ) → IsCutPiece dialect piece → IsLastPiece dialect (piece ++ newline ∷ rest) → ⊥
 no_cut_within Crate piece rest c h = cut_not_within piece rest c.0 c.1 h
-no_cut_within Strict piece rest (inl c) (inl h) = has_newline piece rest h.1
+no_cut_within Strict piece rest (inl c) (inl h) =
+    h.1 (length piece) 0 (omega (arith, length-append piece (newline ∷ rest))) (get_or_at piece newline rest 0 (length piece) refl)
 no_cut_within Strict piece rest (inl c) (inr h) = false≢true (sym h.0 ∙ begins_comment-append piece (newline ∷ rest) c.0)
 no_cut_within Strict piece rest (inr c) (inl h) = false≢true (sym (begins_comment-newline piece rest c.0) ∙ h.0)
 no_cut_within Strict piece rest (inr c) (inr h) = cut_not_within piece rest c.1 c.2 h.1
@@ -163,29 +137,23 @@ uncons : (dialect : Dialect) {text piece : List ℕ} {pieces : List (List ℕ)} 
     → ((pieces ≡ []) × (text ≡ piece) × IsLastPiece dialect piece) ⊎ Cuts dialect text piece pieces
 uncons dialect h = grind arith
 
--- two splits at newlines of one text are the same, or one is further on
-same_split : (p t q s : List ℕ) → p ++ newline ∷ t ≡ q ++ newline ∷ s → ((p ≡ q) × (t ≡ s))
-    ⊎ (((x : List ℕ) × (p ≡ q ++ newline ∷ x)) ⊎ ((x : List ℕ) × (q ≡ p ++ newline ∷ x)))
-same_split p t q s e = elim (place_in_append p (newline ∷ t) newline q s e) [ inl w ↦ inr (inl w) | inr w ↦ go w.0 w.1 w.2 ]
-  where
-    -- the second split is where the first is, or further on
-    go : (front : List ℕ) → q ≡ p ++ front → newline ∷ t ≡ front ++ newline ∷ s → ((p ≡ q) × (t ≡ s))
-        ⊎ (((x : List ℕ) × (p ≡ q ++ newline ∷ x)) ⊎ ((x : List ℕ) × (q ≡ p ++ newline ∷ x)))
-    go [] is at = inl (sym (is ∙ append-nil p), cc)
-    go (x ∷ front) is at = let h : x ≡ newline = cc in inr (inr (front, is ∙ ap (λ c. p ++ c ∷ front) h))
-
 -- a text has one list of pieces
 pub same_pieces : (dialect : Dialect) {t u : List ℕ} {ps qs : List (List ℕ)} → t ≡ u → Pieces dialect t ps → Pieces dialect u qs → ps ≡ qs
 same_pieces dialect e (last p h) (last q k) = ap (λ x. x ∷ []) e
 same_pieces dialect e (last p h) (cut q u qs c k) = absurd (no_cut_within dialect q u c (subst (IsLastPiece dialect) e h))
 same_pieces dialect e (cut p t ps c h) (last q k) = absurd (no_cut_within dialect p t c (subst (IsLastPiece dialect) (sym e) k))
-same_pieces dialect e (cut p t ps c h) (cut q u qs d k) = elim (same_split p t q u e) [
-  | inl w ↦ let i = same_pieces dialect w.1 h k in let j = w.0 in cc
-  | inr w ↦ elim w [
-    | inl v ↦ absurd (no_cut_within dialect q v.0 d (subst (IsLastPiece dialect) v.1 (IsLastPiece-cut dialect p c)))
-    | inr v ↦ absurd (no_cut_within dialect p v.0 c (subst (IsLastPiece dialect) v.1 (IsLastPiece-cut dialect q d)))
-  ]
+same_pieces dialect e (cut p t ps c h) (cut q u qs d k) = elim (place_in_append p (newline ∷ t) newline q u e) [
+  | inl w ↦ absurd (no_cut_within dialect q w.0 d (subst (IsLastPiece dialect) w.1 (IsLastPiece-cut dialect p c)))
+  | inr w ↦ go w.0 w.1 w.2 (λ f. same_pieces dialect f h k)
 ]
+  where
+    -- the second cut is where the first is, and not further on
+    go : (front : List ℕ) → q ≡ p ++ front → newline ∷ t ≡ front ++ newline ∷ u → (t ≡ u → ps ≡ qs) → p ∷ ps ≡ q ∷ qs
+    go [] is at same = let first = is ∙ append-nil p in let others = same (cc) in cc
+    go (x ∷ front) is at same =
+        let sign : x ≡ newline = cc in
+        let longer = is ∙ ap (λ b. p ++ b ∷ front) sign in
+        absurd (no_cut_within dialect p front c (subst (IsLastPiece dialect) longer (IsLastPiece-cut dialect q d)))
 
 -- the pieces of a text from one of them on, in whose place other pieces may stand
 record From (dialect : Dialect) (text : List ℕ) (before : List (List ℕ)) (piece : List ℕ) (after : List (List ℕ)) : Type 0 where

@@ -9,11 +9,10 @@ use Rattle.lp_format.specs.format.{quote, first_bare, is_bare_at, byte, read_tex
 use Rattle.lp_format.specs.format.{body_len, string, string_at, value, integer_at, unsigned_at, float_at, boolean_at, integer_len}
 use Rattle.lp_format.specs.format.{true_words, false_words, letter_i, letter_u, minus}
 use Rattle.lp_format.proofs.lemmas.values.ValueLemmas.{byte_at_drop, after_byte, boolean_misses, digits_no_more, digits_of_minus}
-use Rattle.lp_format.proofs.lemmas.values.ValueLemmas.{digits_of_plain, integer_misses, integer_unmarked, unsigned_reads}
+use Rattle.lp_format.proofs.lemmas.values.ValueLemmas.{digits_of_plain, integer_unmarked, unsigned_reads}
 use Rattle.lp_format.proofs.lemmas.values.ValueLemmas.{unsigned_overflows, unsigned_misses, unsigned_unmarked}
 use Rattle.std.specs.Char.{is_ascii_digit}
 use Rattle.std.proofs.lemmas.Grind.{common_steps}
-use Rattle.lp_format.proofs.lemmas.literals.FloatLemmas.{float_misses}
 use Rattle.std.proofs.lemmas.Bool.Decides.{nat_tests}
 
 -- if a byte misses, the text does not begin with it
@@ -53,7 +52,8 @@ string_reads text after rest e closed = grind (arith, common_steps, nat_tests, b
 
 -- if no integer is, no number is
 pub no_number : (text : List ℕ) → integer_len text ≡ 0 → (integer_at text otherwise unsigned_at text otherwise float_at text) ≡ miss
-no_number text none = grind (arith, eq-eqb, integer_misses, unsigned_misses, digits_no_more, float_misses)
+unfolding integer_at unsigned_at float_at
+no_number text none = grind (arith, eq-eqb, digits_no_more)
 
 -- digits and `u`, without `-`
 pub unsigned_is : (text : List ℕ) → 0 < integer_len text → slice_index text (integer_len text) ≢ letter_i

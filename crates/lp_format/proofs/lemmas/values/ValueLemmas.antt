@@ -69,19 +69,10 @@ front_numeral text some = grind (arith, length-take-le, prefix_len-le-length, al
 marked : (n b mark : ℕ) → 0 < n → b ≡ mark → (not (n == 0) && b == mark) ≡ true
 marked n b mark some e = grind (arith, nat_tests)
 
--- digits or none, and no mark
-unmarked : (n b mark : ℕ) → b ≢ mark → (not (n == 0) && b == mark) ≡ false
-unmarked n b mark other = grind (arith, nat_tests)
-
--- the outcomes of an integer
-pub integer_misses : (text : List ℕ) → integer_len text ≡ 0 → integer_at text ≡ miss
-unfolding integer_at
-integer_misses text e = rw (eq-eqb (integer_len text) 0 e) refl
-
--- digits without `i` are no integer
+-- the outcomes of an integer: digits without `i` are none
 pub integer_unmarked : (text : List ℕ) → slice_index text (integer_len text) ≢ letter_i → integer_at text ≡ miss
 unfolding integer_at
-integer_unmarked text other = rw (unmarked (integer_len text) _ letter_i other) refl
+integer_unmarked text other = grind (arith, nat_tests)
 
 -- digits in range and `i` are an integer
 pub integer_reads : (text : List ℕ) → 0 < integer_len text → slice_index text (integer_len text) ≡ letter_i
@@ -149,7 +140,7 @@ unsigned_misses text e = rw (eq-eqb (digits_len text) 0 e) refl
 -- digits without `u` are no unsigned integer
 pub unsigned_unmarked : (text : List ℕ) → slice_index text (digits_len text) ≢ letter_u → unsigned_at text ≡ miss
 unfolding unsigned_at
-unsigned_unmarked text other = rw (unmarked (digits_len text) _ letter_u other) refl
+unsigned_unmarked text other = grind (arith, nat_tests)
 
 -- digits in range and `u` are an unsigned integer
 pub unsigned_reads : (text : List ℕ) → 0 < digits_len text → slice_index text (digits_len text) ≡ letter_u
