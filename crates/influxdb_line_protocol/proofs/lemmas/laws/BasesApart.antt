@@ -8,7 +8,6 @@ use Rattle.std.proofs.lemmas.List.Sorted.{IsPermutation-sym, IsPermutation-trans
 use Rattle.lp_lines.specs.laws.BaseLaws.{OneBaseIsOneSeries, PlainSeriesAreClear, is_tag_delimited, is_tag_one_escape, spelled_tags}
 use Rattle.lp_lines.specs.laws.BaseLaws.{IsParsedSeries, SafeBasesTellSeries, SameSeriesAreSafeAlike, has_one_escape, is_delimited}
 use Rattle.lp_lines.specs.code.Bases.{base_text, based_tag, by_key, in_order, is_ambiguous_name, is_ambiguous_tag, is_base_safe}
-use Rattle.lp_lines.specs.code.Bases.{is_byte_alone}
 use Rattle.lp_format.specs.format.{backslash, comma, equals, is_one_of, without_escapes, tag, NameKind, a_measurement, a_tag_key}
 use Rattle.lp_format.specs.format.{a_tag_value, escapable, is_one_escape, is_stop, spelled, spelled_len, read_text, Pair, Text, reads}
 use Rattle.lp_format.specs.laws.Meanings.{SeparatedAfterComma}
@@ -116,11 +115,6 @@ no_stop : (kind : NameKind) (c : ℕ) (text : List ℕ) → is_stop kind c ≡ t
     → is_one_of (spelled kind text) c ≡ false
 no_stop kind c text hit none = grind (arith, first_bare_len, none_before)
 
--- and it is its own logical text
-plain_name : (kind : NameKind) (text : List ℕ) → is_one_of text backslash ≡ false
-    → without_escapes (escapable kind) (spelled kind text) ≡ spelled kind text
-plain_name kind text none = grind (arith, without_escapes_same, no_backslash, none_in_parts)
-
 -- a name that is spelled as no escape alone, and that does not hold the byte that divides
 abbrev IsClearName : NameKind → ℕ → List ℕ → Text → Type 0
 IsClearName kind divider text t = (is_one_escape (escapable kind) (spelled kind text) ≡ false) × (is_one_of t.bytes divider ≡ false)
@@ -171,7 +165,7 @@ series_clear Known shows raw m tags h first known =
 -- a name without a backslash is clear
 plain_is_clear : (kind : NameKind) (divider : ℕ) (text : List ℕ) (t : Text) → t ≡ read_text (escapable kind) (spelled kind text)
     → is_stop kind divider ≡ true → is_one_of text backslash ≡ false → IsClearName kind divider text t
-plain_is_clear kind divider text t is stop none = grind (arith, none_in_parts, plain_name, no_stop, or_parts)
+plain_is_clear kind divider text t is stop none = grind (arith, none_in_parts, without_escapes_same, no_backslash, no_stop, or_parts)
 
 -- tags without a backslash are clear
 plain_shows : ShowsClear (λ tags text. is_one_of text backslash ≡ false)
@@ -192,17 +186,12 @@ plain_series_are_clear raw m tags none h =
     series_clear (λ tags text. is_one_of text backslash ≡ false) plain_shows raw m tags h
     (plain_is_clear a_measurement comma raw m p.0 refl none) after
 
--- one known escape is read as its byte alone
-escape_reads_alone : (known spelling : List ℕ) → is_byte_alone known (without_escapes known spelling) ≡ false
-    → is_one_escape known spelling ≡ false
-unfolding without_escapes
-escape_reads_alone known spelling h = grind (arith, cases_Bool, false≢true)
-
 -- a name that is read and is not ambiguous: it is spelled as no escape alone, and does not hold the byte that divides
 name_apart : (kind : NameKind) (divider : ℕ) (text : List ℕ) (t : Text) → t ≡ read_text (escapable kind) (spelled kind text)
     → is_ambiguous_name (escapable kind) divider t.bytes ≡ false
     → IsClearName kind divider text t
-name_apart kind divider text t is clear = grind (arith, or_parts, escape_reads_alone)
+unfolding without_escapes
+name_apart kind divider text t is clear = grind (arith, or_parts, cases_Bool, false≢true)
 
 -- tags that are not ambiguous are clear
 apart_shows : ShowsClear (λ tags text. list_any is_ambiguous_tag tags ≡ false)

@@ -1,6 +1,6 @@
 -- Batches of points: those with admitted names read back, and no others do.
 use Rattle.std.proofs.Common.{◌≡◌, [], ◌∷◌, ◌++◌, refl, ap, subst, append_assoc, Ok, ℕ, ◌+◌, List, map, true, false, ◌&&◌, sym, ◌∙◌, arith}
-use Rattle.std.proofs.Common.{inl, inr, Err, Result, ◌<◌, length, Contains, flat_map, length-append}
+use Rattle.std.proofs.Common.{inl, inr, Err, Result, Contains, flat_map, length-append}
 use Rattle.lp_format.specs.format.{Dialect, Point, line_of, built_all, IsPoint, Tag, Field, IsValue, is_admitted_name, is_admitted_tag}
 use Rattle.lp_format.specs.format.{is_admitted_field, is_admitted_point, spelling, built, built_tag, built_field, built_fields, built_value}
 use Rattle.lp_format.specs.format.{built_timestamp, answers_of_piece, HasAnswers, item_of, answers_of, newline, equals, space, comma, Fault}
@@ -168,11 +168,6 @@ point_fails p h names bad =
     ] in
     subst Fails (sym (line_parts p)) parts
 
--- a text has one list of answers
-pub same_answers : (dialect : Dialect) (text : List ℕ) (answers others : List (Result Line Fault))
-    → HasAnswers dialect text answers → HasAnswers dialect text others → answers ≡ others
-same_answers dialect text answers others h k = h.answered ∙ ap (answers_of dialect) (same_pieces dialect refl h.are k.are) ∙ sym k.answered
-
 -- the items of lines and of what follows them
 items_of_lines : (lines : List Line) (answers : List (Result Line Fault))
     → map item_of (map Ok lines ++ answers) ≡ map Ok (map point_of lines) ++ map item_of answers
@@ -203,14 +198,15 @@ readable_point p h =
 line_of_item : (answers : List (Result Line Fault)) (p : Point) → Contains (map item_of answers) (Ok p) → (line : Line)
     × Contains answers (Ok line) × (point_of line ≡ p)
 line_of_item [] p h = absurd (nothing_in_nil _ h)
-line_of_item (Ok line ∷ answers) p h = elim (first_or_later (item_of (Ok line)) (Ok p) (map item_of answers) h) [
-  | inl same ↦ (line, first_element (Ok line) answers, cc)
-  | inr later ↦ let more = line_of_item answers p later in (more.0, later_element (Ok line) (Ok more.0) answers more.1, more.2)
+line_of_item (first ∷ answers) p h = elim (first_or_later (item_of first) (Ok p) (map item_of answers) h) [
+  | inl same ↦ here first same
+  | inr later ↦ let more = line_of_item answers p later in (more.0, later_element first (Ok more.0) answers more.1, more.2)
 ]
-line_of_item (Err fault ∷ answers) p h = elim (first_or_later (item_of (Err fault)) (Ok p) (map item_of answers) h) [
-  | inl same ↦ absurd (cc)
-  | inr later ↦ let more = line_of_item answers p later in (more.0, later_element (Err fault) (Ok more.0) answers more.1, more.2)
-]
+  where
+    -- an answer whose item is a point is a line
+    here : (first : Result Line Fault) → item_of first ≡ Ok p → (line : Line) × Contains (first ∷ answers) (Ok line) × (point_of line ≡ p)
+    here (Ok line) is = (line, first_element (Ok line) answers, cc)
+    here (Err fault) is = absurd (cc)
 
 -- no item is a point with a name that no line has
 pub items_have_readable_names : ItemsHaveReadableNames
@@ -238,8 +234,7 @@ other_points_end_with_backslash dialect before p after t answers ok is_point bad
     let batch = admitted_batches_read_back dialect before u more ok alone in
     let joined : built_all before ++ u ≡ built_all (before ++ p ∷ after) ++ t = grind (arith, flat_map-append, append_assoc) in
     let same : answers ≡ map Ok batch.0 ++ more =
-    same_answers dialect (built_all (before ++ p ∷ after) ++ t) answers (map Ok batch.0 ++ more) h
-    (subst (λ x. HasAnswers dialect x (map Ok batch.0 ++ more)) joined batch.2) in
+    h.answered ∙ ap (answers_of dialect) (same_pieces dialect (sym joined) h.are batch.2.are) ∙ sym batch.2.answered in
     let one =
     point_answered dialect p (built_all after ++ t) more is_point bad names
     (subst (λ x. HasAnswers dialect x more) (append_assoc (built p) (built_all after) t) alone) in
@@ -249,10 +244,7 @@ other_points_end_with_backslash dialect before p after t answers ok is_point bad
 admitted_before : (before : List Point) (p : Point) (after : List Point) → AllByRecursion IsPoint (before ++ p ∷ after)
     → list_all is_admitted_point before ≡ true → AllByRecursion IsAdmittedPoint before × IsPoint p
 admitted_before [] p after all pass = (tt, all.0)
-admitted_before (q ∷ before) p after all pass =
-    let parts = and_parts (is_admitted_point q) (list_all is_admitted_point before) pass in
-    let more = admitted_before before p after all.1 parts.1 in
-    ((record { is_point = all.0; names_are = parts.0 }, more.0), more.1)
+admitted_before (q ∷ before) p after all pass = grind (arith, and_parts, admitted_before before p after all.1)
 
 -- points before one that is answered with a fault are not all points
 not_all : (before : List Point) (p : Point) (after : List Point) (fault : Fault) (more others : List (Result Point Fault))

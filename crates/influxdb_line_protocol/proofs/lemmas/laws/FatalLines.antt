@@ -3,7 +3,7 @@ use Rattle.std.proofs.Common.{◌≡◌, ◌≢◌, ℕ, ◌<◌, List, [], ◌�
 use Rattle.std.proofs.Common.{inl, inr, append_assoc, append-nil, Err, Result, Bool, ◌&&◌, flat_map, ne_eqb, length-append}
 use Rattle.std.specs.List.{list_all, AllByRecursion}
 use Rattle.std.proofs.lemmas.Bool.{cases_Bool, false≢true, both_ways, and_from, and_right, and_parts}
-use Rattle.std.proofs.lemmas.Grind.{flat_map-append}
+use Rattle.std.proofs.lemmas.{Grind.flat_map-append, List.get_or_append_left}
 use Rattle.lp_format.specs.format.{Dialect, Crate, Strict, is_one_of, newline, comma, equals, space, backslash, escaped, Fault}
 use Rattle.lp_format.specs.format.{ends_with_backslash, fatal, Reading, reads, NameKind, a_measurement, a_tag_key, a_tag_value}
 use Rattle.lp_format.specs.format.{ends_in_backslash, name, IsClosed, never_in, is_admitted_name, spelling, Tag, is_admitted_tag, built_tag}
@@ -141,11 +141,6 @@ backslash_some : (text : List ℕ) → ends_in_backslash text ≡ true → 0 < l
 backslash_some [] h = absurd (false≢true h)
 backslash_some (b ∷ text) h = omega arith
 
--- the first byte of a longer text
-first_same : (text more : List ℕ) → 0 < length text → slice_index text 0 ≡ slice_index (text ++ more) 0
-first_same [] more h = absurd (omega (arith, h))
-first_same (b ∷ text) more h = refl
-
 -- a parsed name that is not admitted stops too early
 pub name_stops : (kind : NameKind) (n : List ℕ) → IsParsedName kind n → is_admitted_name kind n ≡ false → NameStops kind n
 name_stops kind n h bad =
@@ -164,7 +159,7 @@ name_stops kind n h bad =
         name = place.front;
         spelled = spelled;
         some = some;
-        first = first_same place.front (place.stop ∷ place.after) some ∙ ap (λ (xs : List ℕ). slice_index xs 0) (sym place.is);
+        first = sym (get_or_append_left place.front (place.stop ∷ place.after) 0 0 some) ∙ ap (λ (xs : List ℕ). slice_index xs 0) (sym place.is);
       };
       fails = λ rest stops. spelled_fatal spelled some ends rest (grind (arith, never_stops, never));
     }

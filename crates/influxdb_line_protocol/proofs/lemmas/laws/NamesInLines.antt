@@ -1,13 +1,13 @@
 -- Each parsed name is a name in some line, whose text is UTF-8 if the name is.
-use Rattle.std.proofs.Common.{◌≡◌, ℕ, ◌+◌, ◌<◌, List, [], ◌∷◌, ◌++◌, length, get_or, true, refl, sym, subst, arith, append_assoc}
+use Rattle.std.proofs.Common.{◌≡◌, ℕ, ◌+◌, ◌<◌, List, [], ◌∷◌, ◌++◌, length, get_or, refl, sym, subst, arith, append_assoc}
 use Rattle.std.proofs.Common.{length-append, ◌≢◌, slice_index, false, Some, None, Ok, IsUtf8, pos, take_at, drop_at, Contains}
 use Rattle.std.proofs.Math.Seq.{get_or-append_seam}
 use Rattle.std.proofs.lemmas.Str.Ascii.{IsAscii-cons}
 use Rattle.std.proofs.lemmas.Grind.{common_steps}
 use Rattle.std.proofs.lemmas.Str.{IsUtf8-append, IsUtf8-take, IsUtf8-drop, IsUtf8-from_ascii, IsCharBoundary-before_ascii}
 use Rattle.std.proofs.lemmas.Str.{IsCharBoundary-after_ascii, IsUtf8-nil}
-use Rattle.lp_format.specs.format.{backslash, is_one_of, comma, hash, space, NameKind, a_measurement, a_tag_key, a_tag_value, a_field_key}
-use Rattle.lp_format.specs.format.{is_escapable, ends_in_backslash, escapable, read_text, never_in, Pair, Dialect, Crate, Strict, Text}
+use Rattle.lp_format.specs.format.{backslash, comma, hash, space, NameKind, a_measurement, a_tag_key, a_tag_value, a_field_key}
+use Rattle.lp_format.specs.format.{ends_in_backslash, escapable, read_text, Pair, Dialect, Crate, Strict, Text}
 use Rattle.lp_format.specs.format.{reads, Value, integer, value, integer_at, IsLastPiece, begins_comment, Line, point_of, tag, field}
 use Rattle.lp_format.specs.format.{field_set, front_before, answer, HasAnswers, answers_of_piece}
 use Rattle.lp_format.specs.format.{Pieces.Pieces.last, Bytes.equals, Bytes.letter_i}
@@ -39,33 +39,21 @@ utf8_around front rest b u ascii =
 pub utf8_push : (b : ℕ) (text : List ℕ) → b < 128 → IsUtf8 text → IsUtf8 (b ∷ text)
 utf8_push b text h u = IsUtf8-append (b ∷ []) text (IsUtf8-from_ascii (b ∷ []) (IsAscii-cons b [] h (λ i. omega arith))) u
 
--- a byte that a backslash escapes is ASCII
-escapable_ascii : (kind : NameKind) (b : ℕ) → is_escapable kind b ≡ true → b < 128
-escapable_ascii kind b h = grind (arith, common_steps)
-
--- and so is one that no escape keeps
-never_ascii : (kind : NameKind) (b : ℕ) → is_one_of (never_in kind) b ≡ true → b < 128
-never_ascii kind b h = grind (arith, common_steps)
-
 -- a spelling after this front is UTF-8 if the name after that front is
 spelled_after : {kind : NameKind} {n s : List ℕ} → SpelledAs kind n s → (front : List ℕ) → IsUtf8 (front ++ n) → IsUtf8 (front ++ s)
 spelled_after {kind = kind} done front u = u
 spelled_after {kind = kind} (escape b n s known more) front u =
-    let ascii = escapable_ascii kind b known in
+    let ascii : b < 128 = grind (arith, common_steps) in
     let parts = utf8_around front n b u ascii in
     IsUtf8-append front (backslash ∷ b ∷ s) parts.0
     (utf8_push backslash (b ∷ s) (omega arith) (utf8_push b s ascii (spelled_after more [] parts.1)))
 spelled_after {kind = kind} (plain b n s other may more) front u = subst IsUtf8 (append_assoc front (b ∷ []) s)
     (spelled_after more (front ++ b ∷ []) (subst IsUtf8 (sym (append_assoc front (b ∷ []) n)) u))
 spelled_after {kind = kind} (pair c n s never more) front u =
-    let ascii = never_ascii kind c never in
+    let ascii : c < 128 = grind (arith, common_steps) in
     let parts = utf8_around front (c ∷ n) backslash u (omega arith) in
     IsUtf8-append front (backslash ∷ c ∷ s) parts.0
     (utf8_push backslash (c ∷ s) (omega arith) (utf8_push c s ascii (spelled_after more [] (utf8_around [] n c parts.1 ascii).1)))
-
--- a spelling is UTF-8 if its name is
-pub spelling_utf8 : {kind : NameKind} {n s : List ℕ} → SpelledAs kind n s → IsUtf8 n → IsUtf8 s
-spelling_utf8 h u = spelled_after h [] u
 
 -- a name that is not empty and does not end in a backslash, with a spelling
 record Spelled (kind : NameKind) (n s : List ℕ) : Type 0 where
@@ -128,15 +116,11 @@ tag_read {v = v} key value
       spelled_reads value.spelled value.some value.ends (space ∷ from_field f) refl,
     ) refl
 
--- its field
-field_read : {f n : List ℕ} → Spelled a_field_key n f → field (from_field f) ≡ reads (field_of f) []
-unfolding field value integer_at
-field_read h = rw (spelled_reads h.spelled h.some h.ends (equals ∷ 49 ∷ letter_i ∷ []) refl) refl
-
 -- and the set of its field
 fields_read : (dialect : Dialect) {f n : List ℕ} → Spelled a_field_key n f → field_set dialect (from_field f) ≡ reads (field_of f ∷ []) []
-fields_read Crate h = rw (field_read h) refl
-fields_read Strict h = rw (field_read h) refl
+unfolding field value integer_at
+fields_read Crate h = rw (spelled_reads h.spelled h.some h.ends (equals ∷ 49 ∷ letter_i ∷ []) refl) refl
+fields_read Strict h = rw (spelled_reads h.spelled h.some h.ends (equals ∷ 49 ∷ letter_i ∷ []) refl) refl
 
 -- a closed text that is no comment is a last piece
 last_piece : (dialect : Dialect) (t : List ℕ) → begins_comment t ≡ false → Reaches Plain 1 0 t → IsLastPiece dialect t
@@ -210,10 +194,6 @@ letter a_measurement = record { spelled = plain 120 [] [] refl refl done; some =
 letter a_tag_value = record { spelled = plain 120 [] [] refl refl done; some = omega arith; ends = refl }
 letter other = record { spelled = plain 120 [] [] refl refl done; some = omega arith; ends = refl }
 
--- a list of one element
-one_element : {X : Type 0} (y x : X) → y ≡ x → Contains (y ∷ []) x
-one_element y x e = (0, omega arith, e)
-
 -- the name of one letter is UTF-8
 x_utf8 : IsUtf8 (120 ∷ [])
 x_utf8 = utf8_push 120 [] (omega arith) IsUtf8-nil
@@ -223,16 +203,16 @@ pub parsed_names_are_in_lines : ParsedNamesAreInLines
 parsed_names_are_in_lines dialect a_measurement n h =
     let s = has_spelling a_measurement n h in
     in_line s.1 h.begins (letter a_tag_key) (letter a_tag_value) (letter a_field_key) dialect a_measurement n
-    (one_element _ n (spelled_logical s.1.spelled)) (λ u. (spelling_utf8 s.1.spelled u, x_utf8, x_utf8, x_utf8))
+    (0, omega arith, spelled_logical s.1.spelled) (λ u. (spelled_after s.1.spelled [] u, x_utf8, x_utf8, x_utf8))
 parsed_names_are_in_lines dialect a_tag_key n h =
     let s = has_spelling a_tag_key n h in
     in_line (letter a_measurement) (omega arith) s.1 (letter a_tag_value) (letter a_field_key) dialect a_tag_key n
-    (one_element _ n (spelled_logical s.1.spelled)) (λ u. (x_utf8, spelling_utf8 s.1.spelled u, x_utf8, x_utf8))
+    (0, omega arith, spelled_logical s.1.spelled) (λ u. (x_utf8, spelled_after s.1.spelled [] u, x_utf8, x_utf8))
 parsed_names_are_in_lines dialect a_tag_value n h =
     let s = has_spelling a_tag_value n h in
     in_line (letter a_measurement) (omega arith) (letter a_tag_key) s.1 (letter a_field_key) dialect a_tag_value n
-    (one_element _ n (spelled_logical s.1.spelled)) (λ u. (x_utf8, x_utf8, spelling_utf8 s.1.spelled u, x_utf8))
+    (0, omega arith, spelled_logical s.1.spelled) (λ u. (x_utf8, x_utf8, spelled_after s.1.spelled [] u, x_utf8))
 parsed_names_are_in_lines dialect a_field_key n h =
     let s = has_spelling a_field_key n h in
     in_line (letter a_measurement) (omega arith) (letter a_tag_key) (letter a_tag_value) s.1 dialect a_field_key n
-    (one_element _ n (spelled_logical s.1.spelled)) (λ u. (x_utf8, x_utf8, x_utf8, spelling_utf8 s.1.spelled u))
+    (0, omega arith, spelled_logical s.1.spelled) (λ u. (x_utf8, x_utf8, x_utf8, spelled_after s.1.spelled [] u))
