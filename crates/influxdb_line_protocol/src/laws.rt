@@ -82,7 +82,7 @@ pub fn all_events_come()
 /// between two texts joins their pieces exactly if it may end the last piece of the first, and
 /// there their answers are joined too. In the strict dialect, other bytes after the `#` of a
 /// comment change no other piece and no item.
-#[tactic(auto, using(lp_format::proofs::lemmas::pieces::Batches::piece_laws))]
+#[tactic(auto, using(lp_format::proofs::lemmas::split::SplitPieces::piece_laws))]
 pub fn pieces_join()
     ensures some { PiecesExist }
     ensures one { PiecesAreUnique }

@@ -3,7 +3,6 @@ pub mod lists
 pub mod literals
 pub mod meanings
 pub mod names
-pub mod pieces
 pub mod read_back
 pub mod split
 pub mod tokens

@@ -1,16 +1,20 @@
--- Each text has exactly one list of pieces, and the pieces of joined texts are joined.
+-- Each text has exactly one list of pieces, the pieces and the answers of joined texts are joined, and a comment changes none.
 use Rattle.std.proofs.Common.{◌≡◌, ◌≢◌, ℕ, ◌+◌, ◌<◌, true, false, ◌⊎◌, inl, inr, eqb, List, [], ◌∷◌, ◌++◌, length, get_or}
 use Rattle.std.proofs.Common.{take, drop, Option, Some, None, MatchOption, slice_range, sym, ◌∙◌, ap, refl, subst, arith, append_assoc}
-use Rattle.std.proofs.Common.{append-nil, All, count_by, take_at, take-append-drop, length-append}
-use Rattle.std.proofs.lemmas.{Grind.common_steps, List.drop_more, List.get_or_at}
+use Rattle.std.proofs.Common.{append-nil, All, count_by, take_at, take-append-drop, length-append, Result, ◌==◌, ne_eqb}
+use Rattle.std.proofs.lemmas.{Grind.common_steps, Grind.flat_map-append, List.drop_more, List.get_or_at}
 use Rattle.std.proofs.lemmas.List.Elements.{All-head, All-tail, All-cons, All-push, All-take, All-append}
 use Rattle.std.proofs.lemmas.Bool.{cases_lt, cases_eq, cases_Bool, false≢true, both_ways}
 use Rattle.lp_format.specs.format.{Dialect, Crate, Strict, is_escaped_after, begins_comment, IsComment}
-use Rattle.lp_format.specs.format.{IsCutPiece, IsLastPiece, IsFirstCut, comma, equals, newline, quote, space}
-use Rattle.lp_format.specs.format.Pieces.{Pieces, Pieces.last, Pieces.cut}
+use Rattle.lp_format.specs.format.{IsCutPiece, IsLastPiece, IsFirstCut, comma, equals, newline, quote, space, Fault, HasAnswers}
+use Rattle.lp_format.specs.format.{answers_of_piece, Line}
+use Rattle.lp_format.specs.format.{Pieces.Pieces, Pieces.Pieces.last, Pieces.Pieces.cut}
 use Rattle.lp_format.proofs.lemmas.split.SplitBare.{IsHead-escaped, IsHead-bare, EndsPlain-escaped, EndsPlain-bare, EndsPlain-start}
 use Rattle.lp_format.proofs.lemmas.split.SplitBare.{EndsQuoted-escaped, EndsQuoted-bare, EndsQuoted-start, EndsQuoted-close}
 use Rattle.lp_format.proofs.lemmas.split.SplitBare.{place_in_append, nil_has_no_place, cut_not_within}
+use Rattle.std.specs.List.{join_with_byte}
+use Rattle.lp_format.specs.laws.Laws.{CommentTextIsIgnored}
+use Rattle.lp_format.proofs.lemmas.line.TrimLemmas.{left_of, trimmed_is, skip_comment}
 
 -- a byte more is a cut, or lengthens the piece
 abbrev GoesOn : Dialect → List ℕ → ℕ → Type 0
@@ -256,3 +260,34 @@ Pieces-cut_at dialect bytes text piece rest i others same h p r left =
     let after : rest ≡ drop (i + 1) bytes = r ∙ ap (drop (i + 1)) (sym same) in
     let made = cut (take i bytes) (drop (i + 1) bytes) others h.2 (subst (λ t. Pieces dialect t others) after left) in
     grind (arith, split_at)
+
+-- pieces are the text that they are pieces of
+pub pieces_are_text : (dialect : Dialect) {text : List ℕ} {pieces : List (List ℕ)} → Pieces dialect text pieces
+    → join_with_byte newline pieces ≡ text
+pieces_are_text dialect (last piece h) = refl
+pieces_are_text dialect (cut piece text pieces c h) = grind (arith, Pieces-nil, pieces_are_text dialect h)
+
+-- the answers for two texts with a newline between them
+pub answers_join : (dialect : Dialect) (u t : List ℕ) (before : List (List ℕ)) (piece : List ℕ) (first others : List (Result Line Fault))
+    → Pieces dialect u (before ++ piece ∷ []) → IsCutPiece dialect piece
+    → HasAnswers dialect u first → HasAnswers dialect t others → HasAnswers dialect (u ++ newline ∷ t) (first ++ others)
+answers_join dialect u t before piece first others h c f o = grind (arith, same_pieces, append_assoc, join_from_cut, flat_map-append)
+
+-- nothing is left of a comment
+comment_left : (text : List ℕ) → begins_comment text ≡ true → All (λ b. b ≢ newline) text → left_of false text ≡ []
+comment_left [] e h = absurd (false≢true e)
+comment_left (b ∷ text) e h =
+    let on : (b == newline) ≡ false = ne_eqb b newline (All-head (λ c. c ≢ newline) b text h) in
+    let rest = All-tail (λ c. c ≢ newline) b text h in
+    let skipped : left_of true text ≡ [] = rw append-nil at (skip_comment text [] rest) in
+    grind (arith, common_steps, cases_Bool, comment_left text)
+
+-- other bytes after the `#` of a comment leave the other pieces and all answers as they are
+pub comment_text_is_ignored : CommentTextIsIgnored
+unfolding answers_of_piece
+comment_text_is_ignored front old new before after text answers f n h k =
+    let other = comment_replaced before front old new after text f n h in
+    grind (arith, piece_is_comment, begins_comment-append, same_pieces, trimmed_is, comment_left, flat_map-append)
+
+-- the laws of pieces
+pub ruleset piece_laws = (pieces_exist, same_pieces, pieces_are_text, cut_from_join, join_from_cut, answers_join)
