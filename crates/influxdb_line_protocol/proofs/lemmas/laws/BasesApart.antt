@@ -2,8 +2,7 @@
 use Rattle.std.proofs.Common.{◌≡◌, ℕ, ◌+◌, Bool, true, false, List, [], ◌∷◌, ◌++◌, ◌||◌, length, take, drop, refl, sym, ap, ◌∙◌, subst}
 use Rattle.std.proofs.Common.{append_assoc, arith, ◌==◌, flat_map, IsPermutation, take-append-drop, eq-eqb, ne_eqb}
 use Rattle.std.specs.List.{list_any}
-use Rattle.std.proofs.lemmas.List.Folds.{list_any-append}
-use Rattle.std.proofs.lemmas.Bool.{cases_Bool, false≢true, or_from, or_parts, not-true}
+use Rattle.std.proofs.lemmas.{List.Folds.list_any-append, Bool.cases_Bool, Bool.false≢true, Bool.or_from, Bool.or_parts, Bool.not-true}
 use Rattle.std.proofs.lemmas.List.Sorted.{IsPermutation-sym, IsPermutation-trans, list_any-IsPermutation}
 use Rattle.lp_lines.specs.laws.BaseLaws.{OneBaseIsOneSeries, PlainSeriesAreClear, is_tag_delimited, is_tag_one_escape, spelled_tags}
 use Rattle.lp_lines.specs.laws.BaseLaws.{IsParsedSeries, SafeBasesTellSeries, SameSeriesAreSafeAlike, has_one_escape, is_delimited}
@@ -131,22 +130,10 @@ tags_clear : (Known : List (Pair Text Text) → List ℕ → Type 0) → ShowsCl
     → (list_any is_tag_one_escape (spelled_tags (length tags) text) ≡ false) × (list_any is_tag_delimited tags ≡ false)
 tags_clear Known shows [] text h known = (refl, refl)
 tags_clear Known shows (t ∷ tags) text h known =
-    let suffix = h.0 in
-    let v = value_part suffix in
-    let s = shows t tags suffix h.1 (subst (Known (t ∷ tags)) h.2 known) h.3 in
+    let s = shows t tags h.0 h.1 (subst (Known (t ∷ tags)) h.2 known) h.3 in
     let more = tags_clear Known shows tags h.1 h.4 s.2 in
-    let escapes : is_tag_one_escape (spelled a_tag_key suffix, spelled a_tag_value v) ≡ false =
-    or_from (is_one_escape (escapable a_tag_key) (spelled a_tag_key suffix)) (is_one_escape (escapable a_tag_value) (spelled a_tag_value v))
-    s.0.0 s.1.0 in
-    let others : list_any is_tag_one_escape (spelled_tags (length tags) (drop (spelled_len a_tag_value v) v)) ≡ false =
-    ap (λ (r : List ℕ). list_any is_tag_one_escape (spelled_tags (length tags) r)) (sym (tag_parts suffix t h.1 h.3).rest_is) ∙ more.0 in
-    let all : list_any is_tag_one_escape (spelled_tags (length (t ∷ tags)) (comma ∷ suffix)) ≡ false =
-    or_from (is_tag_one_escape (spelled a_tag_key suffix, spelled a_tag_value v))
-    (list_any is_tag_one_escape (spelled_tags (length tags) (drop (spelled_len a_tag_value v) v))) escapes others in (
-      ap (λ (r : List ℕ). list_any is_tag_one_escape (spelled_tags (length (t ∷ tags)) r)) h.2 ∙ all,
-      or_from (is_tag_delimited t) (list_any is_tag_delimited tags)
-          (or_from (is_one_of t.key.bytes equals) (is_one_of t.value.bytes comma) s.0.1 s.1.1) more.1,
-    )
+    let p = tag_parts h.0 t h.1 h.3 in
+    grind (arith, or_from)
 
 -- a series is clear if its measurement and its tags are
 series_clear : (Known : List (Pair Text Text) → List ℕ → Type 0) → ShowsClear Known
@@ -155,12 +142,8 @@ series_clear : (Known : List (Pair Text Text) → List ℕ → Type 0) → Shows
     → (has_one_escape raw (length tags) ≡ false) × (is_delimited m tags ≡ false)
 series_clear Known shows raw m tags h first known =
     let p = name_parts a_measurement raw m h.after h.measurement_is in
-    let more = tags_clear Known shows tags h.after (tags_separated h) known in (
-      or_from (is_one_escape (escapable a_measurement) (spelled a_measurement raw))
-          (list_any is_tag_one_escape (spelled_tags (length tags) (drop (spelled_len a_measurement raw) raw)))
-          first.0 (ap (λ (r : List ℕ). list_any is_tag_one_escape (spelled_tags (length tags) r)) (sym p.1) ∙ more.0),
-      or_from (is_one_of m.bytes comma) (list_any is_tag_delimited tags) first.1 more.1,
-    )
+    let more = tags_clear Known shows tags h.after (tags_separated h) known in
+    grind (arith, or_from)
 
 -- a name without a backslash is clear
 plain_is_clear : (kind : NameKind) (divider : ℕ) (text : List ℕ) (t : Text) → t ≡ read_text (escapable kind) (spelled kind text)

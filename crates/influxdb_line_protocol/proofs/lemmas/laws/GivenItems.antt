@@ -1,14 +1,11 @@
 -- The items and the events that calls of `next` give are those of the text, one after another.
-use Rattle.std.proofs.Common.{◌≡◌, ℕ, ◌<◌, List, [], ◌∷◌, ◌++◌, length, map, refl, sym, subst, arith, append_assoc, append-nil}
-use Rattle.std.proofs.Common.{Some, Result, All, eq-eqb, ne_eqb}
+use Rattle.std.proofs.Common.{◌≡◌, ℕ, ◌<◌, List, [], ◌∷◌, ◌++◌, length, map, refl, sym, subst, arith, append_assoc, append-nil, Some}
+use Rattle.std.proofs.Common.{Result, All, eq-eqb, ne_eqb}
 use Rattle.std.specs.Iterator.{Yields}
-use Rattle.std.proofs.lemmas.Bool.{cases_Bool}
-use Rattle.std.proofs.lemmas.Grind.{flat_map-append}
-use Rattle.std.proofs.lemmas.List.Elements.{All-tail}
+use Rattle.std.proofs.lemmas.{Bool.cases_Bool, Grind.flat_map-append, List.Elements.All-tail}
 use Rattle.lp_format.specs.format.{Dialect, trimmed, Left, PiecesLeft, answers_of, answers_of_piece, answer}
 use Rattle.lp_values.specs.declared.error.Error.{Error}
-use Rattle.lp_lines.specs.declared.parsed.ParsedLine.{ParsedLine}
-use Rattle.lp_lines.specs.code.ParseSteps.{GivesItem}
+use Rattle.lp_lines.specs.{declared.parsed.ParsedLine.ParsedLine, code.ParseSteps.GivesItem}
 use Rattle.lp_events.specs.code.{LineSteps.IsBlankPiece, EventsLeft.HasEventsLeft, EventsLeft.told}
 use Rattle.influxdb_line_protocol.specs.laws.GivenItems.{trimmed_lines, AreItemsOf, AreAnswers, ItemsAreOfPieces, ItemsAreAnswers}
 use Rattle.influxdb_line_protocol.specs.laws.GivenItems.{GivenLinesWereRead, ItemsSoFar}

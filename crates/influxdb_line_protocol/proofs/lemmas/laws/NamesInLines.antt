@@ -1,23 +1,21 @@
 -- Each parsed name is a name in some line, whose text is UTF-8 if the name is.
-use Rattle.std.proofs.Common.{◌≡◌, ℕ, ◌+◌, ◌<◌, List, [], ◌∷◌, ◌++◌, length, get_or, refl, sym, subst, arith, append_assoc}
-use Rattle.std.proofs.Common.{length-append, ◌≢◌, slice_index, false, Some, None, Ok, IsUtf8, pos, take_at, drop_at, Contains}
+use Rattle.std.proofs.Common.{◌≡◌, ℕ, ◌+◌, ◌<◌, List, [], ◌∷◌, ◌++◌, length, get_or, refl, sym, subst, arith, append_assoc, length-append}
+use Rattle.std.proofs.Common.{◌≢◌, slice_index, false, Some, None, Ok, IsUtf8, pos, take_at, drop_at, Contains}
 use Rattle.std.proofs.Math.Seq.{get_or-append_seam}
-use Rattle.std.proofs.lemmas.Str.Ascii.{IsAscii-cons}
-use Rattle.std.proofs.lemmas.Grind.{common_steps}
+use Rattle.std.proofs.lemmas.{Str.Ascii.IsAscii-cons, Grind.common_steps}
 use Rattle.std.proofs.lemmas.Str.{IsUtf8-append, IsUtf8-take, IsUtf8-drop, IsUtf8-from_ascii, IsCharBoundary-before_ascii}
 use Rattle.std.proofs.lemmas.Str.{IsCharBoundary-after_ascii, IsUtf8-nil}
 use Rattle.lp_format.specs.format.{backslash, comma, hash, space, NameKind, a_measurement, a_tag_key, a_tag_value, a_field_key}
-use Rattle.lp_format.specs.format.{ends_in_backslash, escapable, read_text, Pair, Dialect, Crate, Strict, Text}
-use Rattle.lp_format.specs.format.{reads, Value, integer, value, integer_at, IsLastPiece, begins_comment, Line, point_of, tag, field}
-use Rattle.lp_format.specs.format.{field_set, front_before, answer, HasAnswers, answers_of_piece}
+use Rattle.lp_format.specs.format.{ends_in_backslash, escapable, read_text, Pair, Dialect, Crate, Strict, Text, reads, Value, integer}
+use Rattle.lp_format.specs.format.{value, integer_at, IsLastPiece, begins_comment, Line, point_of, tag, field, field_set, front_before}
+use Rattle.lp_format.specs.format.{answer, HasAnswers, answers_of_piece}
 use Rattle.lp_format.specs.format.{Pieces.Pieces.last, Bytes.equals, Bytes.letter_i}
 use Rattle.lp_lines.proofs.lemmas.names.Spellings.{SpelledAs, spelled_as, spelled_logical, spelled_reads, spelled_begins, spelled_spaces}
 use Rattle.lp_lines.proofs.lemmas.names.Spellings.{BeginsLine, line_no_comment, line_trimmed, line_some, reaches_head, reaches_other}
-use Rattle.lp_lines.proofs.lemmas.names.Spellings.{reaches_gap, reaches_field_key, Reaches, reaches_start, SpelledAs.done, SpelledAs.escape}
-use Rattle.lp_lines.proofs.lemmas.names.Spellings.{SpelledAs.plain, SpelledAs.pair}
+use Rattle.lp_lines.proofs.lemmas.names.Spellings.{reaches_gap, reaches_field_key, Reaches, reaches_start}
+use Rattle.lp_lines.proofs.lemmas.names.Spellings.SpelledAs.{done, escape, plain, pair}
 use Rattle.lp_lines.proofs.lemmas.names.KeptNames.{name_kept}
-use Rattle.lp_split.specs.code.{Plain}
-use Rattle.lp_split.proofs.lemmas.split.SplitWalk.{Plain-equals}
+use Rattle.lp_split.{specs.code.Plain, proofs.lemmas.split.SplitWalk.Plain-equals}
 use Rattle.lp_format.specs.laws.{NamesOfLines.IsParsedName, NamesOfLines.names_of, Laws.ParsedNamesAreInLines}
 use Rattle.lp_format.proofs.lemmas.split.SplitBare.{is_escaped-push_other}
 use Rattle.lp_lines.proofs.lemmas.read_back.{LinePieces.reaches_simple, LineReadsBack.answer_from_parts}

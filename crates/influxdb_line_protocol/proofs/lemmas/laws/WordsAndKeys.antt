@@ -1,19 +1,14 @@
 -- The word at the start of a text is the longest that is there; tags by their keys are the one list of them whose keys rise.
 use Rattle.std.proofs.Common.{◌≡◌, ◌⊎◌, ℕ, ◌≤◌, List, [], ◌∷◌, ◌++◌, length, take, drop, true, false, eqb, refl, sym, ap, ◌∙◌, subst, inl}
-use Rattle.std.proofs.Common.{inr, arith, Contains, fold, ltb-true, ltb-false, length-take-le, take-append-drop, take_at}
-use Rattle.std.proofs.Common.{IsPermutation, is_lt, nat_cmp}
-use Rattle.std.specs.List.{starts_with}
-use Rattle.std.proofs.lemmas.Bool.{cases_Bool, both_ways, and_from}
-use Rattle.std.proofs.lemmas.Bool.Decides.{Decides-eqb}
-use Rattle.std.proofs.lemmas.Slice.Eq.{starts_is}
-use Rattle.lp_format.specs.format.{longer_front}
-use Rattle.lp_format.specs.laws.Meanings.{WordFrontIsWord, WordFrontIsLongest}
-use Rattle.lp_lines.proofs.lemmas.names.ParsedNames.{nothing_in_nil}
+use Rattle.std.proofs.Common.{inr, arith, Contains, fold, ltb-true, ltb-false, length-take-le, take-append-drop, take_at, IsPermutation}
+use Rattle.std.proofs.Common.{is_lt, nat_cmp}
+use Rattle.std.specs.{List.starts_with, Cmp.Lexicographic.slice_cmp}
+use Rattle.std.proofs.lemmas.{Bool.cases_Bool, Bool.both_ways, Bool.and_from, Bool.Decides.Decides-eqb, Slice.Eq.starts_is}
+use Rattle.lp_format.specs.{format.longer_front, laws.Meanings.WordFrontIsWord, laws.Meanings.WordFrontIsLongest}
+use Rattle.lp_lines.{proofs.lemmas.names.ParsedNames.nothing_in_nil, specs.laws.BaseLaws.entry_keys, specs.laws.BaseLaws.TagsByKeyAreSorted}
 use Rattle.lp_format.proofs.lemmas.lists.Elements.{first_element, first_or_later, later_element}
-use Rattle.std.specs.Cmp.Lexicographic.{slice_cmp}
 use Rattle.std.proofs.lemmas.List.Sorted.{IsPermutation-sym, IsPermutation-trans}
 use Rattle.lp_lines.specs.code.Bases.{by_key, in_order, is_strictly_sorted}
-use Rattle.lp_lines.specs.laws.BaseLaws.{entry_keys, TagsByKeyAreSorted}
 use Rattle.lp_lines.proofs.lemmas.series.SortedTags.{Rise, by_key_permutes, by_key_rises, passes_rise, same_moved}
 use Rattle.lp_format.proofs.lemmas.line.TrimLemmas.{trimmed_is_after, trimmed_is_longest}
 

@@ -1,14 +1,12 @@
 -- The pieces that a stream gives, and their answers, are those of all that was pushed.
 use Rattle.std.proofs.Common.{◌≡◌, ℕ, List, [], ◌∷◌, ◌++◌, subst, sym, ◌∙◌, arith, append_assoc, length-append, append-nil, refl, ap}
 use Rattle.std.proofs.Common.{Result, All}
-use Rattle.std.proofs.lemmas.List.{get_or_append_left, take-append-le}
-use Rattle.std.proofs.lemmas.Str.{IsUtf8-append}
-use Rattle.lp_format.specs.format.{IsLastPiece, newline, Dialect, Fault, Line, HasAnswers, answers_of, answers_of_piece}
-use Rattle.lp_format.specs.format.Pieces.{Pieces, Pieces.cut, Pieces.last}
+use Rattle.std.proofs.lemmas.{List.get_or_append_left, List.take-append-le, Str.IsUtf8-append, Grind.flat_map-append}
+use Rattle.lp_format.specs.format.{IsLastPiece, newline, Dialect, Fault, Line, HasAnswers, answers_of}
+use Rattle.lp_format.specs.format.{Pieces.Pieces, Pieces.Pieces.cut, Pieces.Pieces.last}
 use Rattle.influxdb_line_protocol.specs.laws.StreamLaws.{FrontsKeepTheirCuts, TakenIsFirst, RunsGivePieces, RunsEnd, Utf8ByPieces}
-use Rattle.influxdb_line_protocol.specs.laws.StreamLaws.{Run.begun, Run.pushed, Run.taken, HaveAnswers, StreamsGiveAnswers}
-use Rattle.influxdb_line_protocol.specs.laws.StreamLaws.{StreamsAnswerAll, Run}
-use Rattle.std.proofs.lemmas.Grind.{flat_map-append}
+use Rattle.influxdb_line_protocol.specs.laws.StreamLaws.{HaveAnswers, StreamsGiveAnswers, StreamsAnswerAll, Run}
+use Rattle.influxdb_line_protocol.specs.laws.StreamLaws.Run.{begun, pushed, taken}
 use Rattle.std.proofs.lemmas.List.Elements.{All-head, All-nil, All-push, All-tail}
 use Rattle.lp_format.proofs.lemmas.split.SplitPieces.{IsLastPiece-cut, same_pieces}
 use Rattle.influxdb_line_protocol.proofs.lemmas.laws.NamesInLines.{utf8_around, utf8_push}
@@ -50,19 +48,14 @@ given_are_single dialect given pieces held (pushed g ps l part r) = given_are_si
 given_are_single dialect given pieces held (taken g ps piece l r c) =
     All-push (IsLastPiece dialect) ps piece (given_are_single dialect g ps (piece ++ newline ∷ l) r) (IsLastPiece-cut dialect piece c)
 
--- the answers of a text that is one piece
-single_answers : (dialect : Dialect) (text : List ℕ) (answers : List (Result Line Fault)) → IsLastPiece dialect text
-    → HasAnswers dialect text answers → answers ≡ answers_of_piece dialect text
-single_answers dialect text answers h k =
-    k.answered ∙ ap (answers_of dialect) (same_pieces dialect refl k.are (last text h)) ∙ append-nil (answers_of_piece dialect text)
-
--- the answers of such texts
+-- the answers of texts that are each one piece
 answers_alone : (dialect : Dialect) (texts : List (List ℕ)) (answers : List (Result Line Fault)) → All (IsLastPiece dialect) texts
     → HaveAnswers dialect texts answers → answers ≡ answers_of dialect texts
 answers_alone dialect [] answers h k = k
 answers_alone dialect (text ∷ texts) answers h k =
-    k.4 ∙ ap (λ xs. xs ++ k.1) (single_answers dialect text k.0 (All-head (IsLastPiece dialect) text texts h) k.2)
-    ∙ ap (λ xs. answers_of_piece dialect text ++ xs) (answers_alone dialect texts k.1 (All-tail (IsLastPiece dialect) text texts h) k.3)
+    let alone = same_pieces dialect refl k.2.are (last text (All-head (IsLastPiece dialect) text texts h)) in
+    let others = answers_alone dialect texts k.1 (All-tail (IsLastPiece dialect) text texts h) k.3 in
+    grind (arith, append-nil)
 
 -- the answers of the pieces, and of what is held and comes, are those of all
 pub streams_give_answers : StreamsGiveAnswers
