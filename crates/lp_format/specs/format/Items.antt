@@ -1,10 +1,6 @@
 -- The answers for a text, one for each piece that holds more than blanks and comments, and its items.
 use Rattle.std.specs.Prelude.{◌≡◌, ℕ, ◌==◌, List, [], ◌∷◌, length, map, if◌then◌else◌, Result, Ok, Err, flat_map}
-use Rattle.lp_format.specs.format.Dialects.{Dialect}
-use Rattle.lp_format.specs.format.Readings.{Fault}
-use Rattle.lp_format.specs.format.Points.{Point}
-use Rattle.lp_format.specs.format.Trimming.{trimmed}
-use Rattle.lp_format.specs.format.Pieces.{Pieces}
+use Rattle.lp_format.specs.format.{Dialects.Dialect, Readings.Fault, Points.Point, Trimming.trimmed, Pieces.Pieces}
 use Rattle.lp_format.specs.format.Lines.{Line, answer, point_of}
 
 -- the answer for a piece: none if nothing is left of it when it is trimmed

@@ -1,16 +1,13 @@
 -- The answer for a line.
 use Rattle.std.specs.Prelude.{ℕ, zero, suc, ℤ, ◌-◌, ◌==◌, ◌||◌, List, [], ◌∷◌, ◌++◌, length, take, drop, map, if◌then◌else◌, Option, Some}
 use Rattle.std.specs.Prelude.{None, Result, Ok, Err}
-use Rattle.std.specs.List.{prefix_len}
-use Rattle.std.specs.Str.Parse.{signed_digits_value}
-use Rattle.lp_format.specs.format.Dialects.{Dialect, Crate}
-use Rattle.lp_format.specs.format.Bytes.{space, comma, equals}
+use Rattle.std.specs.{List.prefix_len, Str.Parse.signed_digits_value}
+use Rattle.lp_format.specs.format.{Dialects.Dialect, Dialects.Crate, Bytes.space, Bytes.comma, Bytes.equals, Points.Pair, Points.Point}
 use Rattle.lp_format.specs.format.Readings.{Fault, measurement_value_invalid, field_set_missing, tag_set_malformed, take_while1}
 use Rattle.lp_format.specs.format.Readings.{timestamp_value_invalid, cannot_parse_entire_line, Text, Read, Reading, miss, fatal, reads}
 use Rattle.lp_format.specs.format.Readings.{◌>>=◌, or_fault}
 use Rattle.lp_format.specs.format.Names.{NameKind, a_measurement, a_tag_key, a_tag_value, a_field_key, name}
 use Rattle.lp_format.specs.format.Values.{Value, integer, unsigned, float, string, boolean, value, integer_len, fits_i64, side_of}
-use Rattle.lp_format.specs.format.Points.{Pair, Point}
 
 -- what was read of a line: `series` is the front that was read as measurement and tags
 pub record Line : Type 0 where

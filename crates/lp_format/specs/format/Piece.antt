@@ -1,8 +1,7 @@
 -- The shape of a piece: a head, and a tail of plain and quoted stretches by turns.
 -- A stretch begins with a bare space or comes after a quote, so no run of backslashes reaches into it.
 use Rattle.std.specs.Prelude.{◌≡◌, ◌≢◌, ℕ, ◌<◌, ◌⊎◌, List, [], ◌∷◌, ◌++◌, ◌==◌, All, count_by}
-use Rattle.lp_format.specs.format.Bytes.{newline, space, quote, comma, equals}
-use Rattle.lp_format.specs.format.Escapes.{bare, IsBareAfter}
+use Rattle.lp_format.specs.format.{Bytes.newline, Bytes.space, Bytes.quote, Bytes.comma, Bytes.equals, Escapes.bare, Escapes.IsBareAfter}
 
 -- a text without a bare space and without a bare newline
 abbrev pub IsHead : List ℕ → Type 0

@@ -2,10 +2,8 @@
 use Rattle.std.specs.Prelude.{◌≡◌, ◌≢◌, ℕ, ◌+◌, ◌<◌, ◌⊎◌, ◌||◌, ◌&&◌, Bool, false, IsTrue, List, [], ◌∷◌, ◌++◌, ◌==◌, length, take}
 use Rattle.std.specs.Prelude.{slice_index, Option, Some, None, MatchOption, All}
 use Rattle.std.specs.Borrow.{Bor}
-use Rattle.lp_format.specs.format.Dialects.{Dialect, Crate, Strict}
+use Rattle.lp_format.specs.format.{Dialects.Dialect, Dialects.Crate, Dialects.Strict, Escapes.IsBareAfter, Piece.IsClosed, Piece.IsOpen}
 use Rattle.lp_format.specs.format.Bytes.{tab, newline, space, hash}
-use Rattle.lp_format.specs.format.Escapes.{IsBareAfter}
-use Rattle.lp_format.specs.format.Piece.{IsClosed, IsOpen}
 
 -- spaces and tabs, and then `#`
 abbrev pub begins_comment : List ℕ → Bool

@@ -1,8 +1,7 @@
 -- Points, which of them are admitted, and the lines that the builder writes for them.
 use Rattle.std.specs.Prelude.{ℕ, ◌<◌, ℤ, ◌≡◌, ◌==◌, ◌&&◌, ◌^◌, Bool, true, false, not, List, [], ◌∷◌, ◌++◌, length, slice_index, codes}
 use Rattle.std.specs.Prelude.{Option, Some, None, decimal, IfSome, flat_map}
-use Rattle.std.specs.List.{list_all, AllByRecursion}
-use Rattle.std.specs.Fmt.{signed_decimal}
+use Rattle.std.specs.{List.list_all, List.AllByRecursion, Fmt.signed_decimal}
 use Rattle.lp_format.specs.format.Bytes.{nul, tab, newline, space, quote, hash, comma, equals, letter_i, letter_u, is_one_of}
 use Rattle.lp_format.specs.format.Escapes.{escaped}
 use Rattle.lp_format.specs.format.Names.{NameKind, a_measurement, a_tag_key, a_tag_value, a_field_key, escapable, ends_in_backslash}

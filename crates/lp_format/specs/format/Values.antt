@@ -1,14 +1,12 @@
 -- Values of fields.
 use Rattle.std.specs.Prelude.{◌≡◌, ◌⊎◌, ◌++◌, ℕ, ℤ, pos, negsuc, ◌+◌, ◌-◌, ◌^◌, ◌==◌, ◌&&◌, Bool, true, false, not, List, [], ◌∷◌, length}
 use Rattle.std.specs.Prelude.{take, drop, slice_index, codes, if◌then◌else◌, nat_lt, int_le, int_lt}
-use Rattle.std.specs.List.{fold, prefix_len, starts_with}
-use Rattle.std.specs.Char.{is_ascii_digit}
+use Rattle.std.specs.{List.fold, List.prefix_len, List.starts_with, Char.is_ascii_digit}
 use Rattle.std.specs.Str.Parse.{IsNumeral, digits_value, signed_digits_value}
 use Rattle.lp_format.specs.format.Bytes.{quote, minus, backslash, letter_i, letter_u, is_one_of}
-use Rattle.lp_format.specs.format.Escapes.{first_bare}
-use Rattle.lp_format.specs.format.Names.{read_text}
-use Rattle.lp_format.specs.format.Readings.{Side, above, below, integer_value_invalid, uinteger_value_invalid, Text, Reading}
-use Rattle.lp_format.specs.format.Readings.{miss, fatal, reads, ◌otherwise◌}
+use Rattle.lp_format.specs.format.{Escapes.first_bare, Names.read_text}
+use Rattle.lp_format.specs.format.Readings.{Side, above, below, integer_value_invalid, uinteger_value_invalid, Text, Reading, miss, fatal}
+use Rattle.lp_format.specs.format.Readings.{reads, ◌otherwise◌}
 
 -- a value whose strings are of this type, without where it lies in memory
 pub data Value (T : Type 0) : Type 0 where

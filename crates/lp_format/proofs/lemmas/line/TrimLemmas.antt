@@ -3,12 +3,9 @@ use Rattle.std.proofs.Common.{◌≡◌, ◌≢◌, ℕ, ◌+◌, ◌<◌, ◌�
 use Rattle.std.proofs.Common.{◌∙◌, arith, inl, inr, one-add, suc, ◌++◌, subst, length-append, append_assoc, ◌==◌, if◌then◌else◌, All}
 use Rattle.std.proofs.Common.{eqb-true, ne_eqb}
 use Rattle.std.specs.List.{join_with_byte, slice_split}
-use Rattle.std.proofs.lemmas.Bool.{cases_Bool, eqb-false}
-use Rattle.std.proofs.lemmas.Grind.{common_steps}
-use Rattle.std.proofs.lemmas.List.Splits.{join_with_byte-slice_split, length-slice_split}
-use Rattle.std.proofs.lemmas.List.{drop_more}
+use Rattle.std.proofs.lemmas.{Bool.cases_Bool, Bool.eqb-false, Grind.common_steps, List.drop_more}
+use Rattle.std.proofs.lemmas.List.{Splits.join_with_byte-slice_split, Splits.length-slice_split, Elements.All-cons, Elements.All-nil}
 use Rattle.lp_format.specs.format.{hash, is_one_of, newline, space, tab, is_comment_or_empty, trimmed, without_blanks, without_front}
-use Rattle.std.proofs.lemmas.List.Elements.{All-cons, All-nil}
 use Rattle.lp_format.specs.laws.Meanings.{IsBlankFront, IsLineEnd, empty, blank, comment}
 
 abbrev pub is_blank : ℕ → Bool

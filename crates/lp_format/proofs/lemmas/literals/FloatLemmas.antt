@@ -1,24 +1,18 @@
 -- Floats at the start of a text.
-use Rattle.std.proofs.Common.{◌≡◌, ◌≢◌, subst, if◌then◌else◌, ℕ, suc, ◌+◌, Bool, ◌<◌, ◌≤◌, List, [], ◌∷◌, ◌++◌, length, take, drop}
-use Rattle.std.proofs.Common.{slice_index, true, false, refl, sym, ap, ◌∙◌, arith, inl, inr, one-add, zero-add, add-zero, ◌==◌}
-use Rattle.std.proofs.Common.{◌||◌, codes, IsUtf8, IsCharBoundary, IsAscii, take-add, eqb-true, eq-eqb, ne_eqb, le-leb, lt-ltb, ltb-true}
-use Rattle.std.proofs.Common.{append_assoc, take_all, take-append-drop, drop_at, drop-drop, length-append, length-drop, length-take-le}
-use Rattle.std.proofs.Common.{get_or-append-add, get_or-take, take_at}
-use Rattle.std.specs.Char.{is_ascii_digit, digit_value}
-use Rattle.std.specs.Str.Parse.{AllDigits, IsNumeral}
+use Rattle.std.proofs.Common.{◌≡◌, ◌≢◌, subst, ℕ, suc, ◌+◌, Bool, ◌<◌, ◌≤◌, List, [], ◌∷◌, ◌++◌, length, take, drop}
+use Rattle.std.proofs.Common.{slice_index, true, false, refl, sym, ap, ◌∙◌, arith, inl, inr, one-add, zero-add, add-zero, ◌==◌, ◌||◌, codes}
+use Rattle.std.proofs.Common.{IsUtf8, IsCharBoundary, IsAscii, take-add, eqb-true, eq-eqb, ne_eqb, le-leb, lt-ltb, ltb-true, append_assoc}
+use Rattle.std.proofs.Common.{take_all, take-append-drop, drop_at, drop-drop, length-append, length-drop, length-take-le, get_or-append-add}
+use Rattle.std.proofs.Common.{get_or-take, take_at}
+use Rattle.std.specs.{Char.is_ascii_digit, Char.digit_value, Str.Parse.AllDigits, Str.Parse.IsNumeral, List.list_all, List.AllPass}
 use Rattle.std.proofs.Math.Seq.{take-nil}
 use Rattle.std.proofs.lemmas.Bool.{both_ways, cases_eq, cases_lt, cases_Bool, and_parts, and_from, eqb-false}
-use Rattle.std.proofs.lemmas.Bool.Decides.{nat_tests}
-use Rattle.std.proofs.lemmas.Grind.{common_steps}
-use Rattle.std.proofs.lemmas.List.{get_or_append_left, get_or_past}
-use Rattle.std.proofs.lemmas.List.Sums.{prefix_len-le-length, AllPass-from_list_all}
-use Rattle.std.proofs.lemmas.List.Folds.{list_all-append}
-use Rattle.std.specs.List.{list_all, AllPass}
+use Rattle.std.proofs.lemmas.{Bool.Decides.nat_tests, Grind.common_steps, List.get_or_append_left, List.get_or_past}
+use Rattle.std.proofs.lemmas.{Str.IsCharBoundary-start, Str.IsCharBoundary-from_take, Str.IsUtf8-from_ascii, Str.Parse.digit_from_value}
+use Rattle.std.proofs.lemmas.List.{Sums.prefix_len-le-length, Sums.AllPass-from_list_all, Folds.list_all-append}
 use Rattle.lp_format.specs.format.{comma, space, letter_i, letter_u, is_one_of, miss, reads, value, IsFloat, IsMarked, IsSigned, float}
 use Rattle.lp_format.specs.format.{float_at, digits_len, number_len, marked_len, integer_len, fraction_len, exponent_len, float_len}
 use Rattle.lp_format.specs.format.{unsigned_at}
-use Rattle.std.proofs.lemmas.Str.{IsCharBoundary-start, IsCharBoundary-from_take, IsUtf8-from_ascii}
-use Rattle.std.proofs.lemmas.Str.Parse.{digit_from_value}
 use Rattle.lp_format.proofs.lemmas.values.ValueLemmas.{front_numeral, digits_no_more, integer_unmarked, unsigned_unmarked}
 
 -- a digit passes the test
@@ -118,22 +112,18 @@ number_len_fits signs t = grind (arith, prefix_len-le-length, length-drop)
 pub signed_front : (signs t : List ℕ) → 0 < number_len signs t → IsSigned signs (take (number_len signs t) t)
 signed_front signs [] some = absurd (omega (arith, number_len_fits signs []))
 signed_front signs (b ∷ rest) some = elim (cases_Bool (is_one_of signs b)) [
-  | inl sign ↦
-      let h = some_digits 1 (digits_len rest) (rw sign at some) in
-      rw (sign, h.1, one-add) (inl (sign, front_numeral rest h.0))
-  | inr other ↦
-      let h = some_digits 0 (digits_len (b ∷ rest)) (rw other at some) in
-      let numeral = front_numeral (b ∷ rest) h.0 in
-      rw (other, h.1, zero-add)
-      (elim (cases_Bool (is_ascii_digit b)) [
-        | inl first ↦ rw (first, one-add) (inr (rw (first, one-add) at numeral))
-        | inr none ↦ absurd (h.0 (rw none refl))
-      ])
+  | inl sign ↦ elim (cases_eq (digits_len rest) 0) [
+    | inl none ↦ let nothing : 0 < 0 = rw (sign, eq-eqb (digits_len rest) 0 none) at some in absurd (omega arith)
+    | inr digits ↦ rw (sign, ne_eqb (digits_len rest) 0 digits, one-add) (inl (sign, front_numeral rest digits))
+  ]
+  | inr other ↦ elim (cases_Bool (is_ascii_digit b)) [
+    | inl first ↦
+        let numeral = front_numeral (b ∷ rest) (rw first (λ e. absurd (omega (arith, e)))) in
+        let some : (suc (digits_len rest) == 0) ≡ false = ne_eqb (suc (digits_len rest)) 0 (λ e. absurd (omega (arith, e))) in
+        rw (other, first, one-add, some, zero-add) (inr (rw (first, one-add) at numeral))
+    | inr none ↦ let nothing : 0 < 0 = rw (other, none) at some in absurd (omega arith)
+  ]
 ]
-  where
-    -- a number that takes bytes has digits, and takes them and its sign
-    some_digits : (sign n : ℕ) → 0 < (if n == 0 then 0 else sign + n) → (n ≢ 0) × ((if n == 0 then 0 else sign + n) ≡ sign + n)
-    some_digits sign n some = ((λ e. grind (arith, nat_tests)), grind (arith, nat_tests))
 
 -- a mark and a part at the start of a text, or nothing
 marked_front : (marks : List ℕ) (part : List ℕ → ℕ) (Part : List ℕ → Type 0) (t : List ℕ)
@@ -191,10 +181,7 @@ float_bytes t parts =
 
 -- a float is ASCII
 float_ascii : (t : List ℕ) → IsFloat t → IsAscii t
-float_ascii t parts i = elim (cases_lt i (length t)) [
-  | inl within ↦ let byte = float_bytes t parts i 0 within in grind (arith, common_steps)
-  | inr past ↦ omega (arith, get_or_past t i 0 past)
-]
+float_ascii t parts i = let byte = float_bytes t parts i 0 in grind (arith, common_steps, cases_lt, get_or_past)
 
 -- the integer at the start of a text fits the text
 pub integer_len_fits : (t : List ℕ) → integer_len t ≤ length t
@@ -268,9 +255,7 @@ float_ends t rest parts ends =
 unmarked : (t rest : List ℕ) (n : ℕ) → IsFloat t → Ends rest → n ≤ length t
     → (slice_index (t ++ rest) n ≢ letter_i) × (slice_index (t ++ rest) n ≢ letter_u)
 unmarked t rest n parts ends fits = elim (cases_lt n (length t)) [
-  | inl within ↦
-      let byte = float_bytes t parts n 0 within in
-      rw (get_or_append_left t rest 0 n within) (λ i. grind (arith, common_steps), λ i. grind (arith, common_steps))
+  | inl within ↦ let byte = float_bytes t parts n 0 within in grind (arith, common_steps, get_or_append_left)
   | inr past ↦ let same = rw add-zero at (get_or-append-add t rest 0 0) in grind (arith, no_float_byte)
 ]
 

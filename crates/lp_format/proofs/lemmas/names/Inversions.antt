@@ -1,8 +1,7 @@
 -- What a list that is read was read from, and what holds of all of it.
 use Rattle.std.proofs.Common.{◌≡◌, ℕ, ◌≤◌, List, [], ◌∷◌, ◌++◌, length, arith}
 use Rattle.std.specs.List.{AllByRecursion}
-use Rattle.lp_format.specs.format.{Reading, reads, prepend, separated_list}
-use Rattle.lp_format.specs.laws.Meanings.{SeparatedAfterComma}
+use Rattle.lp_format.specs.{format.Reading, format.reads, format.prepend, format.separated_list, laws.Meanings.SeparatedAfterComma}
 use Rattle.lp_format.proofs.lemmas.meanings.JoinedMeaning.{the_most_is_read}
 pub use Rattle.lp_format.proofs.lemmas.meanings.JoinedMeaning.{count_is_of_the_most}
 

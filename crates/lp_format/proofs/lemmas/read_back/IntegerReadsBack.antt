@@ -1,10 +1,8 @@
 -- An integer reads back as it was written.
 use Rattle.std.proofs.Common.{◌≡◌, ℕ, suc, ◌^◌, ◌<◌, List, [], ◌∷◌, ◌++◌, length, true, refl, sym, arith, inl, inr, ℤ, pos, negsuc, decimal}
 use Rattle.std.proofs.Common.{codes, ne_eqb, take_at, drop_at}
-use Rattle.std.specs.Fmt.{signed_decimal}
-use Rattle.std.specs.Str.Parse.{IsNumeral, digits_value, signed_digits_value}
-use Rattle.std.proofs.lemmas.Fmt.{decimal_is_IsNumeral}
-use Rattle.std.proofs.lemmas.Str.Parse.{digit_from_value}
+use Rattle.std.specs.{Fmt.signed_decimal, Str.Parse.IsNumeral, Str.Parse.digits_value, Str.Parse.signed_digits_value}
+use Rattle.std.proofs.lemmas.{Fmt.decimal_is_IsNumeral, Str.Parse.digit_from_value}
 use Rattle.lp_format.specs.format.{spaces, reads, digits_len, fits_i64, integer, integer_at, integer_len, letter_i, minus}
 use Rattle.lp_format.proofs.lemmas.values.ValueLemmas.{fits_from_test, integer_parsed}
 use Rattle.lp_format.proofs.lemmas.literals.FloatLemmas.{minus_no_digit, signed_before}

@@ -1,9 +1,8 @@
 -- A name that is admitted reads back as it was spelled, and the line of a point as that point.
-use Rattle.std.proofs.Common.{◌≡◌, ◌≢◌, ℕ, ◌<◌, List, [], ◌∷◌, length, slice_index, Bool, true, false, not, refl, arith, ◌++◌}
-use Rattle.std.proofs.Common.{map, Option, Some, None, flat_map}
+use Rattle.std.proofs.Common.{◌≡◌, ◌≢◌, ℕ, ◌<◌, List, [], ◌∷◌, length, slice_index, Bool, true, false, not, refl, arith, ◌++◌, map, Option}
+use Rattle.std.proofs.Common.{Some, None, flat_map}
 use Rattle.std.specs.List.{list_all}
-use Rattle.std.proofs.lemmas.Bool.{cases_Bool, and_parts, eqb-false, not-true}
-use Rattle.std.proofs.lemmas.Grind.{common_steps}
+use Rattle.std.proofs.lemmas.{Bool.cases_Bool, Bool.and_parts, Bool.eqb-false, Bool.not-true, Grind.common_steps}
 use Rattle.lp_format.specs.format.{backslash, hash, is_one_of, space, NameKind, a_measurement, a_tag_key, a_tag_value, a_field_key}
 use Rattle.lp_format.specs.format.{ends_in_backslash, escapable, is_escapable, is_stop, logical, read_text, Text, escaped, without_escapes}
 use Rattle.lp_format.specs.format.{is_admitted_name, never_in, spelling, Pair, Point, Tag, Field, built_tag, Value, integer, unsigned}

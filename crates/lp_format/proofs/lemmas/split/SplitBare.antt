@@ -1,8 +1,7 @@
 -- Bare bytes: what a backslash does to the byte after it, and the shape of a piece by its bare bytes, which determine the cut.
 use Rattle.std.proofs.Common.{◌≡◌, ◌≢◌, ℕ, Bool, true, false, cond, not, eqb, List, [], ◌∷◌, ◌++◌, sym, ◌∙◌, ap, refl, arith, append_assoc}
 use Rattle.std.proofs.Common.{append-nil, ◌⊎◌, inr, subst, ◌&&◌, All, count_by, ne_eqb, lt-ltb, le-ltb, ◌==◌, if◌then◌else◌, nat_lt, fold}
-use Rattle.std.proofs.lemmas.{List.reverse-append, List.Sums.fold-append}
-use Rattle.std.proofs.lemmas.Bool.{cases_eq, and_left, and_right}
+use Rattle.std.proofs.lemmas.{List.reverse-append, List.Sums.fold-append, Bool.cases_eq, Bool.and_left, Bool.and_right}
 use Rattle.lp_format.specs.format.{is_escaped_after, bare_after, bare, IsBareAfter, backslash, newline, quote, space, comma, equals, IsHead}
 use Rattle.lp_format.specs.format.{HasMoreEquals, IsPlain, EndsPlain, EndsQuoted, Opens, IsQuoted, IsClosed, IsOpen}
 use Rattle.lp_format.specs.format.Piece.{EndsPlain.first, EndsPlain.later, EndsQuoted.opened}
@@ -127,21 +126,17 @@ IsPlain-extend counted xs ys added h e n q =
 pub EndsPlain-same : {text more counted seen : List ℕ} → text ≡ more → counted ≡ seen → EndsPlain text counted → EndsPlain more seen
 EndsPlain-same {text} {more} {counted} e f h = subst (λ s. EndsPlain more s) f (subst (λ t. EndsPlain t counted) e h)
 
--- the place after the last stretch is bare in the piece if it is bare in the stretch
-pub last_place : (front text : List ℕ) (b : ℕ) → b ≢ backslash → is_escaped_after (front ++ b ∷ text) ≡ is_escaped_after text
-last_place front text b h = is_escaped-after_other front text b (ne_eqb b backslash h)
-
 -- what ends in a plain stretch still does if no byte after it ends the piece or opens a string
 EndsPlain-extend : {piece counted : List ℕ} (text added : List ℕ) → EndsPlain piece counted → bare_after piece text ≡ added
     → All (λ c. c ≢ newline) added → NoOpening counted added → EndsPlain (piece ++ text) (counted ++ added)
 EndsPlain-extend text added (first head plain h i p) e n q =
-    let same = last_place [] plain space (omega arith) ∙ sym (last_place head plain space (omega arith)) in
+    let same = is_escaped-after_other [] plain space refl ∙ sym (is_escaped-after_other head plain space refl) in
     let f = same_bare (space ∷ plain) (head ++ space ∷ plain) text same ∙ e in
     EndsPlain-same (sym (append_assoc head (space ∷ plain) text))
     (bare_after-append [] (space ∷ plain) text ∙ ap (λ t. bare (space ∷ plain) ++ t) f)
     (first head (plain ++ text) h i (IsPlain-extend [] (space ∷ plain) text added p f n q))
 EndsPlain-extend text added (later piece counted quoted plain h o k i p) e n q =
-    let same = sym (last_place (piece ++ quote ∷ quoted) plain quote (omega arith)) in
+    let same = sym (is_escaped-after_other (piece ++ quote ∷ quoted) plain quote refl) in
     let f = same_bare plain ((piece ++ quote ∷ quoted) ++ quote ∷ plain) text same ∙ e in
     EndsPlain-same (sym (append_assoc (piece ++ quote ∷ quoted) (quote ∷ plain) text))
     (ap (λ t. counted ++ t) (bare_after-append [] plain text ∙ ap (λ t. bare plain ++ t) f) ∙ sym (append_assoc counted (bare plain) added))
@@ -170,7 +165,7 @@ EndsPlain-start head h i =
 EndsQuoted-extend : {text counted : List ℕ} (more : List ℕ) → EndsQuoted text counted → All (λ c. c ≢ quote) (bare_after text more)
     → EndsQuoted (text ++ more) counted
 EndsQuoted-extend more (opened piece counted quoted h o q) n =
-    let same = same_bare (piece ++ quote ∷ quoted) quoted more (last_place piece quoted quote (omega arith)) in
+    let same = same_bare (piece ++ quote ∷ quoted) quoted more (is_escaped-after_other piece quoted quote refl) in
     let all = subst (All (λ c. c ≢ quote)) same n in
     let quotes = All-append (λ c. c ≢ quote) (bare quoted) (bare_after quoted more) q all in
     subst (λ t. EndsQuoted t counted) (sym (append_assoc piece (quote ∷ quoted) more))

@@ -1,12 +1,9 @@
 -- Escaped places from left to right, as a scan meets them.
-use Rattle.std.proofs.Common.{◌≡◌, ℕ, ◌+◌, ◌<◌, ◌≤◌, List, [], ◌∷◌, ◌++◌, length, take, slice_index, Bool, true, false, not, ◌&&◌}
-use Rattle.std.proofs.Common.{◌∙◌, zero-add, arith, ◌==◌, get_or-take, length-take, eq-eqb}
-use Rattle.std.specs.List.{range_with_len}
-use Rattle.std.proofs.lemmas.List.{take_more}
-use Rattle.std.proofs.lemmas.List.Folds.{list_any_at}
+use Rattle.std.proofs.Common.{◌≡◌, ℕ, ◌+◌, ◌<◌, ◌≤◌, List, [], ◌∷◌, ◌++◌, length, take, slice_index, Bool, true, false, not, ◌&&◌, ◌∙◌}
+use Rattle.std.proofs.Common.{zero-add, arith, ◌==◌, get_or-take, length-take, eq-eqb}
+use Rattle.std.{specs.List.range_with_len, proofs.lemmas.List.take_more}
+use Rattle.std.proofs.lemmas.List.{Folds.list_any_at, FromFn.length-range_with_len, FromFn.get_or-range_with_len, Sums.position_or_len_is}
 use Rattle.lp_format.proofs.lemmas.split.SplitBare.{is_escaped-push}
-use Rattle.std.proofs.lemmas.List.FromFn.{length-range_with_len, get_or-range_with_len}
-use Rattle.std.proofs.lemmas.List.Sums.{position_or_len_is}
 use Rattle.lp_format.specs.format.{backslash, is_one_of, is_escaped_after, is_bare_at, first_bare}
 
 -- one byte more

@@ -1,7 +1,6 @@
 -- Worked lines: what each text is read as, and what is written for a point. Each row computes.
 use Rattle.std.proofs.Common.{◌≡◌, List, [], ◌∷◌, map, refl, Ok, Err, Option, Some, None, true, false, codes, ℤ, pos, negsuc}
-use Rattle.std.specs.Prelude.{⊤}
-use Rattle.std.specs.Fmt.{digits}
+use Rattle.std.specs.{Prelude.⊤, Fmt.digits}
 use Prim.Native.String.{String}
 use Rattle.lp_format.specs.format.{Crate, Strict, Text, measurement_value_invalid, cannot_parse_entire_line, timestamp_value_invalid}
 use Rattle.lp_format.specs.format.{take_while1, ends_with_backslash, integer_value_invalid, uinteger_value_invalid, reads, fatal, miss}
