@@ -100,9 +100,7 @@ float_at_least whole (p ∷ y) exponent rest w f e =
 pub float_len_longest : (t : List ℕ) (n : ℕ) → n ≤ length t → IsFloat (take n t) → n ≤ float_len t
 float_len_longest t n fits (whole, fraction, exponent, is, w, f, e) =
     let text : whole ++ (fraction ++ (exponent ++ drop n t)) ≡ t = grind (arith, append_assoc, take-append-drop) in
-    let size : n ≡ length whole + length fraction + length exponent =
-    omega (arith, length-take-le n t fits, ap length is, length-append {A = ℕ}) in
-    omega (arith, size, float_at_least whole fraction exponent (drop n t) w f e, ap float_len text)
+    omega (arith, length-take-le n t fits, ap length is, length-append {A = ℕ}, float_at_least whole fraction exponent (drop n t) w f e, ap float_len text)
 
 -- a number takes no more than there is
 number_len_fits : (signs t : List ℕ) → number_len signs t ≤ length t
@@ -143,8 +141,7 @@ float_len_float t some =
           let positive : 0 < w = omega arith in
           let len : float_len t ≡ w + f + exponent_len after = rw (ne_eqb w 0 whole) refl in
           let spelled : take (float_len t) t ≡ take w t ++ (take f suffix ++ take (exponent_len after) after) =
-          rw (len, take-add (w + f) (exponent_len after) t, take-add w f t)
-          (append_assoc (take w t) (take f suffix) (take (exponent_len after) after)) in
+          rw (len, take-add (w + f) (exponent_len after) t, take-add w f t, append_assoc) refl in
           let fraction = marked_front (codes ".") digits_len (IsNumeral 10) suffix (λ x h. front_numeral x (λ e. absurd (omega arith))) in
           let exponent = marked_front (codes "eE") (number_len (codes "+-")) (IsSigned (codes "+-")) after (signed_front (codes "+-")) in
           (take w t, take f suffix, take (exponent_len after) after, spelled, signed_front (codes "-") t positive, fraction, exponent)

@@ -50,15 +50,11 @@ unfolding without_escapes
 logical_ends kind [] = refl
 logical_ends kind (b ∷ []) = refl
 logical_ends kind (b ∷ c ∷ rest) =
-    elim (cases_Bool (b == backslash)) [
-      | inl e ↦
-          elim (cases_Bool (is_escapable kind c)) [
-            | inl k ↦ rw (e, k) (logical_ends_cons kind c rest (logical_ends kind rest) ∙ sym (ends_cons b (c ∷ rest) (omega arith)))
-            | inr k ↦ rw (e, k) (ends_cons b (c ∷ logical kind rest) (omega arith)
-                ∙ logical_ends_cons kind c rest (logical_ends kind rest) ∙ sym (ends_cons b (c ∷ rest) (omega arith)))
-          ]
-      | inr e ↦ rw e (logical_ends_cons kind b (c ∷ rest) (logical_ends kind (c ∷ rest)))
-    ]
+    let shorter = logical_ends_cons kind c rest (logical_ends kind rest) in
+    let longer = logical_ends_cons kind b (c ∷ rest) (logical_ends kind (c ∷ rest)) in
+    let ends = ends_cons b (c ∷ rest) (omega arith) in
+    let other = ends_cons b (c ∷ logical kind rest) (omega arith) in
+    grind (arith, cases_Bool)
 
 -- a text without a backslash, by its test
 pub no_backslash : (text : List ℕ) → is_one_of text backslash ≡ false → HasNoBackslash text

@@ -1,5 +1,5 @@
 -- An integer reads back as it was written.
-use Rattle.std.proofs.Common.{◌≡◌, ℕ, suc, ◌^◌, ◌<◌, List, [], ◌∷◌, ◌++◌, length, true, refl, sym, arith, inl, inr, ℤ, pos, negsuc, decimal}
+use Rattle.std.proofs.Common.{◌≡◌, ℕ, suc, ◌^◌, ◌<◌, List, [], ◌∷◌, ◌++◌, length, true, refl, sym, arith, inr, ℤ, pos, negsuc, decimal}
 use Rattle.std.proofs.Common.{codes, ne_eqb, take_at, drop_at}
 use Rattle.std.specs.{Fmt.signed_decimal, Str.Parse.IsNumeral, Str.Parse.digits_value, Str.Parse.signed_digits_value}
 use Rattle.std.proofs.lemmas.{Fmt.decimal_is_IsNumeral, Str.Parse.digit_from_value}
@@ -34,13 +34,8 @@ integer_written (pos n) fits = grind (arith, fits_from_test, decimal_is_IsNumera
 integer_written (negsuc n) fits =
     let small : n < 2 ^ 63 = (fits_from_test (negsuc n) fits).sfits in
     let written = decimal_is_IsNumeral (suc n) (omega arith) in
-    record {
-      some = omega arith;
-      len = λ tail ends.
-          omega (arith, signed_before (codes "-") (minus ∷ decimal (suc n)) tail minus_no_digit (inl (refl, written.0)), ends);
-      value = rw written.1 refl;
-      no_space = refl;
-    }
+    let len = signed_before (codes "-") (minus ∷ decimal (suc n)) in
+    grind (arith, minus_no_digit)
 
 -- an integer and its mark
 pub integer_reads_back : (z : ℤ) (rest : List ℕ) → fits_i64 z ≡ true → integer_at (signed_decimal z ++ letter_i ∷ rest) ≡ reads (integer z) rest

@@ -60,9 +60,7 @@ bare-push_bare text b h = bare_after-push [] text b ∙ ap (λ f. bare text ++ c
 -- of what comes before, only whether it escapes matters
 same_bare : (front other text : List ℕ) → is_escaped_after front ≡ is_escaped_after other → bare_after front text ≡ bare_after other text
 same_bare front other [] e = refl
-same_bare front other (b ∷ text) e =
-    let f = is_escaped-push front b ∙ ap (λ t. cond (eqb b backslash) (not t) false) e ∙ sym (is_escaped-push other b) in
-    grind (arith, same_bare (front ++ b ∷ []) (other ++ b ∷ []) text f)
+same_bare front other (b ∷ text) e = grind (arith, is_escaped-push, same_bare (front ++ b ∷ []) (other ++ b ∷ []) text)
 
 -- the bare bytes of two texts are those of the first and those of the second after it
 bare_after-append : (front xs ys : List ℕ) → bare_after front (xs ++ ys) ≡ bare_after front xs ++ bare_after (front ++ xs) ys

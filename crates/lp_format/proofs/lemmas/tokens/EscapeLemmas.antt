@@ -20,10 +20,9 @@ pub first_bare_is : (passes : ℕ → Bool) (text : List ℕ) (n : ℕ) → n �
     → (n < length text → is_bare_at passes text n ≡ true) → first_bare passes text ≡ n
 unfolding first_bare
 first_bare_is passes text n fits none found =
-    let len : length (range_with_len 0 (length text)) ≡ length text = length-range_with_len 0 (length text) in
-    position_or_len_is (is_bare_at passes text) (range_with_len 0 (length text)) n 0 (omega arith)
-    (λ k h. rw (get_or-range_with_len 0 (length text) k 0 (omega arith), zero-add k) (none k h))
-    (λ h. rw (get_or-range_with_len 0 (length text) n 0 (omega arith), zero-add n) (found (omega arith)))
+    position_or_len_is (is_bare_at passes text) (range_with_len 0 (length text)) n 0 (omega (arith, length-range_with_len 0 (length text)))
+    (λ k h. grind (arith, get_or-range_with_len, zero-add))
+    (λ h. grind (arith, get_or-range_with_len, length-range_with_len, zero-add))
 
 -- a front that reaches past a byte holds it
 pub is_one_of_front : (text : List ℕ) (i n b : ℕ) → i < n → i < length text → slice_index text i ≡ b → is_one_of (take n text) b ≡ true

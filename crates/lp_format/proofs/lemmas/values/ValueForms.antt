@@ -1,10 +1,10 @@
 -- The first bytes of a value decide its form; strings at the start of a text.
-use Rattle.std.proofs.Common.{◌≡◌, ◌≢◌, ℕ, ◌<◌, List, [], ◌∷◌, length, take, drop, get_or, slice_index, true, false, refl, ap, arith}
+use Rattle.std.proofs.Common.{◌≡◌, ◌≢◌, ℕ, ◌<◌, List, [], ◌∷◌, length, take, drop, slice_index, true, false, refl, ap, arith}
 use Rattle.std.proofs.Common.{zero-add, ◌⊎◌, ◌==◌, nat_lt, ◌||◌, eq-eqb, eqb-true, ne_eqb, lt-ltb, ltb-true, length-drop}
 use Rattle.std.proofs.lemmas.Bool.{and_parts, cases_lt, false_from_ne_true, cases_eq, eqb-false, or_parts}
-use Rattle.std.specs.{List.range_with_len, Char.is_ascii_digit}
+use Rattle.std.specs.{Char.is_ascii_digit}
 use Rattle.std.proofs.lemmas.List.{FromFn.length-range_with_len, FromFn.get_or-range_with_len, Sums.passes_at_first}
-use Rattle.lp_format.specs.format.{quote, first_bare, is_bare_at, byte, read_text, miss, reads, ◌otherwise◌, quotable, body_len, string}
+use Rattle.lp_format.specs.format.{quote, first_bare, byte, read_text, miss, reads, ◌otherwise◌, quotable, body_len, string}
 use Rattle.lp_format.specs.format.{string_at, value, integer_at, unsigned_at, float_at, boolean_at, integer_len, true_words, false_words}
 use Rattle.lp_format.specs.format.{letter_i, letter_u, minus}
 use Rattle.lp_format.proofs.lemmas.values.ValueLemmas.{byte_at_drop, after_byte, boolean_misses, digits_no_more, digits_of_minus}
@@ -25,12 +25,9 @@ string_misses text other = grind (arith, ne_eqb)
 closing_quote : (after : List ℕ) → body_len after < length after → slice_index after (body_len after) ≡ quote
 unfolding first_bare
 closing_quote after closes =
-    let len : length (range_with_len 0 (length after)) ≡ length after = length-range_with_len 0 (length after) in
-    let bare : is_bare_at (λ b. b == quote) after (get_or (range_with_len 0 (length after)) (body_len after) 0) ≡ true =
-    grind (arith, passes_at_first) in
-    let here : get_or (range_with_len 0 (length after)) (body_len after) 0 ≡ body_len after =
-    grind (arith, get_or-range_with_len, zero-add) in
-    eqb-true (slice_index after (body_len after)) quote (and_parts _ _ (rw here at bare)).0
+    let len = length-range_with_len 0 (length after) in
+    let at = get_or-range_with_len 0 (length after) (body_len after) 0 (omega arith) in
+    grind (arith, passes_at_first, zero-add, eqb-true, and_parts)
 
 -- a string that no quote closes is not there
 pub string_open : (text after : List ℕ) → text ≡ quote ∷ after
