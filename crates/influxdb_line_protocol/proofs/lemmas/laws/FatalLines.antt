@@ -64,10 +64,6 @@ front_is_piece : (dialect : Dialect) (line : List ℕ) (f : Fails line) → IsLa
 front_is_piece Crate line f = inl f.reached
 front_is_piece Strict line f = inr (line_no_comment f.front (subst BeginsLine (append-nil f.front) (f.fails [] tt).0), inl f.reached)
 
--- what comes after it in the piece
-stops_here : (stop : ℕ) (y t after : List ℕ) → y ++ newline ∷ t ≡ stop ∷ after → StopsWith stop y
-stops_here stop y t after e = grind arith
-
 -- the first answer for such a line is a fault
 pub first_fails : (dialect : Dialect) (line : List ℕ) (f : Fails line) (after : List ℕ) {text : List ℕ}
     {pieces : List (List ℕ)} → text ≡ f.front ++ f.stop ∷ after → Pieces dialect text pieces
@@ -77,7 +73,7 @@ first_fails dialect line f after e (last piece h) =
 first_fails dialect line f after e (cut piece t more c h) = elim (place_in_append f.front (f.stop ∷ after) newline piece t (sym e)) [
   | inl w ↦ absurd (no_cut_within dialect piece w.0 c (subst (IsLastPiece dialect) w.1 (front_is_piece dialect line f)))
   | inr w ↦
-      let stops = stops_here f.stop w.0 t after (sym w.2) in (
+      let stops : StopsWith f.stop w.0 = grind arith in (
         answers_of dialect more,
         ap (λ xs. answers_of_piece dialect xs ++ answers_of dialect more) w.1
             ∙ ap (λ xs. xs ++ answers_of dialect more) (piece_fails dialect line f w.0 stops),

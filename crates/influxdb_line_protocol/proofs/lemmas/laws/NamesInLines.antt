@@ -7,7 +7,7 @@ use Rattle.std.proofs.lemmas.Str.{IsUtf8-append, IsUtf8-take, IsUtf8-drop, IsUtf
 use Rattle.std.proofs.lemmas.Str.{IsCharBoundary-after_ascii, IsUtf8-nil}
 use Rattle.lp_format.specs.format.{backslash, comma, hash, space, NameKind, a_measurement, a_tag_key, a_tag_value, a_field_key}
 use Rattle.lp_format.specs.format.{ends_in_backslash, escapable, read_text, Pair, Dialect, Crate, Strict, Text, reads, Value, integer}
-use Rattle.lp_format.specs.format.{value, integer_at, IsLastPiece, begins_comment, Line, point_of, tag, field, field_set, front_before}
+use Rattle.lp_format.specs.format.{value, integer_at, Line, point_of, tag, field, field_set, front_before}
 use Rattle.lp_format.specs.format.{answer, HasAnswers, answers_of_piece}
 use Rattle.lp_format.specs.format.{Pieces.Pieces.last, Bytes.equals, Bytes.letter_i}
 use Rattle.lp_lines.proofs.lemmas.names.Spellings.{SpelledAs, spelled_as, spelled_logical, spelled_reads, spelled_begins, spelled_spaces}
@@ -120,10 +120,6 @@ unfolding field value integer_at
 fields_read Crate h = rw (spelled_reads h.spelled h.some h.ends (equals ∷ 49 ∷ letter_i ∷ []) refl) refl
 fields_read Strict h = rw (spelled_reads h.spelled h.some h.ends (equals ∷ 49 ∷ letter_i ∷ []) refl) refl
 
--- a closed text that is no comment is a last piece
-last_piece : (dialect : Dialect) (t : List ℕ) → begins_comment t ≡ false → Reaches Plain 1 0 t → IsLastPiece dialect t
-last_piece dialect t none r = grind (arith, common_steps)
-
 -- a line has this name, and its text is UTF-8 if the name is
 abbrev InLine : Dialect → NameKind → List ℕ → Type 0
 InLine dialect kind n =
@@ -174,9 +170,11 @@ module _ {m k v f m' k' v' f' : List ℕ} (first : Spelled a_measurement m' m) (
   only_answer : (dialect : Dialect) → HasAnswers dialect (whole m k v f) (Ok (line_of m k v f) ∷ [])
   unfolding answers_of_piece
   only_answer dialect =
+      let none = line_no_comment (whole m k v f) begins in
+      let closed = reaches_end in
       record {
         pieces = whole m k v f ∷ [];
-        are = last (whole m k v f) (last_piece dialect (whole m k v f) (line_no_comment (whole m k v f) begins) reaches_end);
+        are = last (whole m k v f) (grind (arith, common_steps));
         answered = rw (line_trimmed (whole m k v f) begins, line_some (whole m k v f) begins, answered dialect) refl;
       }
 

@@ -1,8 +1,7 @@
 -- The word at the start of a text is the longest that is there; tags by their keys are the one list of them whose keys rise.
 use Rattle.std.proofs.Common.{◌≡◌, ◌⊎◌, ℕ, ◌≤◌, List, [], ◌∷◌, ◌++◌, length, take, drop, true, false, eqb, refl, sym, ap, ◌∙◌, subst, inl}
 use Rattle.std.proofs.Common.{inr, arith, Contains, fold, ltb-true, ltb-false, length-take-le, take-append-drop, take_at, IsPermutation}
-use Rattle.std.proofs.Common.{is_lt, nat_cmp}
-use Rattle.std.specs.{List.starts_with, Cmp.Lexicographic.slice_cmp}
+use Rattle.std.specs.{List.starts_with}
 use Rattle.std.proofs.lemmas.{Bool.cases_Bool, Bool.both_ways, Bool.and_from, Bool.Decides.Decides-eqb, Slice.Eq.starts_is}
 use Rattle.lp_format.specs.{format.longer_front, laws.Meanings.WordFrontIsWord, laws.Meanings.WordFrontIsLongest}
 use Rattle.lp_lines.{proofs.lemmas.names.ParsedNames.nothing_in_nil, specs.laws.BaseLaws.entry_keys, specs.laws.BaseLaws.TagsByKeyAreSorted}
@@ -44,10 +43,8 @@ record Longest (text : List ℕ) (n : ℕ) (words : List (List ℕ)) (len : ℕ)
 longest_is : (text : List ℕ) (n : ℕ) (words : List (List ℕ)) → Longest text n words (fold (λ n word. longer_front text n word) n words)
 longest_is text n [] = record { more = omega arith; front = λ k fits h. absurd (nothing_in_nil (take k text) h); one = inl refl }
 longest_is text n (word ∷ words) =
-    let m = longer_front text n word in
     let s = step_is text n word in
-    let more = longest_is text m words in
-    let len = fold (λ n word. longer_front text n word) m words in
+    let more = longest_is text (longer_front text n word) words in
     record {
       more = let a = s.more in let b = more.more in omega arith;
       front = λ k fits h. elim (first_or_later word (take k text) words h) [
@@ -69,8 +66,7 @@ word_front_is_longest words text n fits here = (longest_is text 0 words).front n
 rise_passes : (es : List (List ℕ × List ℕ)) → Rise es → is_strictly_sorted (entry_keys es) ≡ true
 rise_passes [] h = refl
 rise_passes (e ∷ []) h = refl
-rise_passes (e ∷ f ∷ es) h =
-    and_from (is_lt (slice_cmp nat_cmp e.0 f.0)) (is_strictly_sorted (entry_keys (f ∷ es))) (ap is_lt h.0.0) (rise_passes (f ∷ es) h.1)
+rise_passes (e ∷ f ∷ es) h = grind (arith, and_from, rise_passes (f ∷ es))
 
 -- the tags by their keys, and no other list
 pub tags_by_key_are_sorted : TagsByKeyAreSorted
