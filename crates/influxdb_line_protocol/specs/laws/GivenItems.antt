@@ -1,6 +1,6 @@
 -- The items that calls of `next` on a `ParseLines` give, one after another.
 use Rattle.std.specs.Prelude.{ℕ, ◌==◌, if◌then◌else◌, List, [], ◌∷◌, ◌++◌, length, Some, Result, Ok, flat_map}
-use Rattle.std.specs.Iterator.{Drains, Yields}
+use Rattle.std.specs.{Iterator.Drains, Iterator.Yields, List.AllZip}
 use Rattle.lp_format.specs.format.{Dialect, Fault, trimmed, Left, PiecesLeft, Line, HasAnswers, Pieces.Pieces}
 use Rattle.lp_values.specs.declared.error.Error.{Error}
 use Rattle.lp_lines.specs.declared.parsed.ParsedLine.{ParsedLine}
@@ -16,15 +16,11 @@ trimmed_lines pieces = flat_map trimmed_line pieces
 
 -- the items are those of these trimmed texts, one for each, in order
 abbrev pub AreItemsOf : Dialect → List (List ℕ) → List (Result ParsedLine Error) → Type 0
-AreItemsOf dialect [] [] = Unit {0}
-AreItemsOf dialect (line ∷ lines) (item ∷ items) = IsItemOf dialect line item × AreItemsOf dialect lines items
-AreItemsOf dialect lines items = ⊥
+AreItemsOf dialect lines items = AllZip (IsItemOf dialect) lines items
 
 -- the items are these answers, one for each, in order, but `OutOfMemory` may be in the place of each
 abbrev pub AreAnswers : List (Result ParsedLine Error) → List (Result Line Fault) → Type 0
-AreAnswers [] [] = Unit {0}
-AreAnswers (item ∷ items) (answer ∷ answers) = Answers item answer × AreAnswers items answers
-AreAnswers items answers = ⊥
+AreAnswers items answers = AllZip Answers items answers
 
 -- From the first call for a text to the one that gives `None`, the items are those of its pieces, trimmed: one for each
 -- piece of which something is left, in order.

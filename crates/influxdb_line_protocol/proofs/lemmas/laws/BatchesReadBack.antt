@@ -2,7 +2,7 @@
 use Rattle.std.proofs.Common.{◌≡◌, [], ◌∷◌, ◌++◌, refl, ap, subst, append_assoc, Ok, ℕ, ◌+◌, List, map, true, false, ◌&&◌, sym, ◌∙◌, arith}
 use Rattle.std.proofs.Common.{inl, inr, Err, Result, Contains, flat_map, length-append}
 use Rattle.lp_format.specs.format.{Dialect, Point, line_of, built_all, IsPoint, Tag, Field, IsValue, is_admitted_name, is_admitted_tag}
-use Rattle.lp_format.specs.format.{is_admitted_field, is_admitted_point, spelling, built, built_tag, built_field, built_fields, built_value}
+use Rattle.lp_format.specs.format.{is_admitted_field, is_admitted_point, spelling, built_tag, built_field, built_fields, built_value}
 use Rattle.lp_format.specs.format.{built_timestamp, answers_of_piece, HasAnswers, item_of, answers_of, newline, equals, space, comma, Fault}
 use Rattle.lp_format.specs.format.{ends_with_backslash, a_measurement, a_field_key, a_tag_key, a_tag_value}
 use Rattle.lp_format.specs.format.{EndsPlain, Line, point_of, field, spaces, answer, Pieces.Pieces, Pieces.Pieces.cut}
@@ -214,16 +214,6 @@ items_have_readable_names dialect text items p h here kind n named =
     let found = line_of_item h.0 p (subst (λ xs. Contains xs (Ok p)) h.2 here) in
     names_are_parsed dialect text h.0 found.0 kind n h.1 found.1 (subst (λ q. Contains (names_of kind q) n) (sym found.2) named)
 
--- the answers for the line of such a point, and for what follows it
-point_answered : (dialect : Dialect) (p : Point) (u : List ℕ) (answers : List (Result Line Fault)) → IsPoint p
-    → is_admitted_point p ≡ false → HasReadableNames p
-    → HasAnswers dialect (built p ++ u) answers → (others : List (Result Line Fault)) × (answers ≡ Err ends_with_backslash ∷ others)
-point_answered dialect p u answers is_point bad names h =
-    let f = point_fails p is_point (readable_point p names) bad in
-    let is : built p ++ u ≡ f.front ++ f.stop ∷ (f.after ++ newline ∷ u) = grind (arith, append_assoc, f.is) in
-    let fails = first_fails dialect (line_of p) f (f.after ++ newline ∷ u) is h.are in
-    (fails.0, h.answered ∙ fails.1)
-
 -- the first point that is not admitted is answered in its place
 pub other_points_end_with_backslash : OtherPointsEndWithBackslash
 other_points_end_with_backslash dialect before p after t answers ok is_point bad names h =
@@ -235,9 +225,9 @@ other_points_end_with_backslash dialect before p after t answers ok is_point bad
     let joined : built_all before ++ u ≡ built_all (before ++ p ∷ after) ++ t = grind (arith, flat_map-append, append_assoc) in
     let same : answers ≡ map Ok batch.0 ++ more =
     h.answered ∙ ap (answers_of dialect) (same_pieces dialect (sym joined) h.are batch.2.are) ∙ sym batch.2.answered in
-    let one =
-    point_answered dialect p (built_all after ++ t) more is_point bad names
-    (subst (λ x. HasAnswers dialect x more) (append_assoc (built p) (built_all after) t) alone) in
+    let f = point_fails p is_point (readable_point p names) bad in
+    let is : u ≡ f.front ++ f.stop ∷ (f.after ++ newline ∷ (built_all after ++ t)) = grind (arith, append_assoc, f.is) in
+    let one = first_fails dialect (line_of p) f (f.after ++ newline ∷ (built_all after ++ t)) is suffix.1 in
     (batch.0, one.0, batch.1, same ∙ ap (λ xs. map Ok batch.0 ++ xs) one.1)
 
 -- points before one that is not admitted, which all are
@@ -264,5 +254,4 @@ other_batches_do_not dialect points t items others all bad h k e =
     let has = subst (λ ps. HasAnswers dialect (built_all ps ++ t) h.0) f.is h.1 in
     let w = other_points_end_with_backslash dialect f.front f.stop f.after t h.0 points_are.0 points_are.1 f.fails names has in
     not_all f.front f.stop f.after ends_with_backslash (map item_of w.1) others
-    (ap (λ ps. map Ok ps ++ Err ends_with_backslash ∷ map item_of w.1) (sym w.2)
-    ∙ sym (items_of_lines w.0 (Err ends_with_backslash ∷ w.1)) ∙ ap (map item_of) (sym w.3) ∙ sym h.2 ∙ are)
+    (grind (arith, items_of_lines))
