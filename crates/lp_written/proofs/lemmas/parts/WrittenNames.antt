@@ -1,7 +1,7 @@
 -- Names and strings that are spelled as the builder spells them.
 use Rattle.std.proofs.Common.{◌≡◌, ℕ, ◌&&◌, Bool, true, false, not, List, [], ◌∷◌, length, take, drop, slice_index, refl, sym, ap, subst}
 use Rattle.std.proofs.Common.{◌∙◌, arith, ◌≢◌, Option, Some, None, ◌==◌, MatchOption, Bor, ne_eqb, eqb-true, drop_at, take_at}
-use Rattle.std.proofs.Common.{take-append-drop}
+use Rattle.std.proofs.Common.{append_assoc, take-append-drop}
 use Rattle.std.specs.List.{list_all}
 use Rattle.std.proofs.lemmas.Bool.{cases_Bool, false≢true}
 use Rattle.std.proofs.lemmas.Grind.{common_steps}
@@ -68,18 +68,18 @@ name_found kind text ok =
     (front.spelled ∙ sym (take-append-drop (name_len kind text) text))) in
     let may : list_all (may_hold kind) front.name ≡ true = sym (all_same kind front.name) ∙ front.holds in
     record {
-      name = front.name;
-      admitted = sym (spelling_tells kind front.name may) ∙ ap (is_admitted_spelling kind) (sym same) ∙ ok;
+      thing = front.name;
+      is = sym (spelling_tells kind front.name may) ∙ ap (is_admitted_spelling kind) (sym same) ∙ ok;
       written = front.spelled;
     }
 
 -- the spelling of a name is what is passed
 name_passed : (kind : NameKind) (text rest : List ℕ) (w : IsWrittenName kind text rest) → EndsName kind rest
-    → name_len kind text ≡ length (spelling kind w.name)
+    → name_len kind text ≡ length (spelling kind w.thing)
 name_passed kind text rest w ends =
-    let may = all_same kind w.name ∙ (admitted_parts kind w.name w.admitted).may in
-    subst (λ xs. name_len kind xs ≡ length (spelling kind w.name)) w.written
-    (written_spelling (escapable kind) (is_stop kind) w.name rest (escapable_backslash kind) may ends)
+    let may = all_same kind w.thing ∙ (admitted_parts kind w.thing w.is).may in
+    subst (λ xs. name_len kind xs ≡ length (spelling kind w.thing)) w.written
+    (written_spelling (escapable kind) (is_stop kind) w.thing rest (escapable_backslash kind) may ends)
 
 -- no other rest follows a name
 pub name_only : (kind : NameKind) (text rest : List ℕ) → IsWrittenName kind text rest → EndsName kind rest
@@ -109,12 +109,17 @@ pub string_found : (text opened rest : List ℕ) → text ≡ quote ∷ opened �
     → IsWrittenString text rest
 string_found text opened rest e closed =
     let front = written_spelled quotable is_quote opened in
-    record { body = front.name; written = ap (λ (xs : List ℕ). quote ∷ xs) (rw closed at front.spelled) ∙ sym e }
+    record {
+      thing = front.name;
+      is = tt;
+      written = append_assoc (quote ∷ escaped quotable front.name) (quote ∷ []) rest
+          ∙ ap (λ (xs : List ℕ). quote ∷ xs) (rw closed at front.spelled) ∙ sym e;
+    }
 
 -- and no other rest follows a string
 pub string_only : (text opened rest : List ℕ) → text ≡ quote ∷ opened → IsWrittenString text rest
     → drop (written_len quotable is_quote opened) opened ≡ quote ∷ rest
-string_only text opened rest e w = grind (arith, written_spelling, holds_any, drop_at, written_stops)
+string_only text opened rest e w = grind (arith, append_assoc, written_spelling, holds_any, drop_at, written_stops)
 
 -- what is left of a text if a byte reads comes after that byte
 pub byte_left : (b : ℕ) (text rest : List ℕ) → byte b text ≡ reads b rest → text ≡ b ∷ rest

@@ -113,7 +113,7 @@ shape_of (boolean false) rest fits ends = a_word false refl refl
 
 -- and so has each text that the builder writes for a value and a rest that ends it
 pub shape : (text rest : List ℕ) → IsWrittenValue text rest → EndsValue rest → Shape text rest
-shape text rest w ends = subst (λ xs. Shape xs rest) w.written (shape_of w.value rest w.fits ends)
+shape text rest w ends = subst (λ xs. Shape xs rest) w.written (shape_of w.thing rest w.is ends)
 
 -- digits if no sign is
 pub unsigned_numeral : (number : List ℕ) → IsSigned (codes "-") number → (slice_index number 0 == minus) ≡ false → IsNumeral 10 number
@@ -226,8 +226,8 @@ float_found text t rest read = go (cases_Bool (float_len text == 0)) read
         let same : take (float_len text) text ≡ t = cc in
         let left : drop (float_len text) text ≡ rest = cc in
         record {
-          value = float t;
-          fits = subst IsFloat same (float_len_float text (omega arith));
+          thing = float t;
+          is = subst IsFloat same (float_len_float text (omega arith));
           written = rw (← same, ← left) (take-append-drop (float_len text) text);
         }
 
@@ -252,12 +252,7 @@ float_same text t u rest left read again = let both : reads (float t) rest ≡ r
 
 -- a string is a value
 pub string_value : (text rest : List ℕ) → IsWrittenString text rest → IsWrittenValue text rest
-string_value text rest w =
-    record {
-      value = string w.body;
-      fits = tt;
-      written = ap (λ (xs : List ℕ). quote ∷ xs) (append_assoc (escaped quotable w.body) (quote ∷ []) rest) ∙ w.written;
-    }
+string_value text rest w = record { thing = string w.thing; is = tt; written = w.written }
 
 -- and after a quote the builder writes no other
 pub value_string : (text rest : List ℕ) → integer_len text ≡ 0 → slice_index text 0 ≡ quote → IsWrittenValue text rest → EndsValue rest
@@ -277,7 +272,7 @@ value_word text rest whole first w ends = elim (shape text rest w ends) [
 
 -- a word before a rest is a value
 word_value : (text rest : List ℕ) (b : Bool) → text ≡ built_value (boolean b) ++ rest → IsWrittenValue text rest
-word_value text rest b e = record { value = boolean b; fits = tt; written = sym e }
+word_value text rest b e = record { thing = boolean b; is = tt; written = sym e }
 
 -- two words at the start of a text are the same, and so is what follows them
 word_same : (a b : Bool) (rest left : List ℕ) → built_value (boolean a) ++ rest ≡ built_value (boolean b) ++ left → rest ≡ left
