@@ -1,7 +1,7 @@
 -- The parts of a text that are as the builder writes them.
 use Rattle.std.specs.Prelude.{◌≡◌, ◌&&◌, ◌||◌, ◌==◌, ◌+◌, ◌^◌, ℕ, ℤ, Bool, true, false, not, nat_lt, Option, List, [], ◌∷◌, ◌++◌, length}
-use Rattle.std.specs.Prelude.{IfSome, MatchOption, flat_map, if◌then◌else◌, slice_index}
-use Rattle.std.specs.{Borrow.Bor, List.AllByRecursion}
+use Rattle.std.specs.Prelude.{IfSome, MatchOption, if◌then◌else◌, slice_index}
+use Rattle.std.specs.Borrow.{Bor}
 use Rattle.std.specs.Str.Parse.{digits_value, signed_digits_value}
 use Rattle.lp_format.specs.format.{backslash, comma, equals, hash, is_one_of, minus, space, NameKind, a_measurement, a_tag_key}
 use Rattle.lp_format.specs.format.{a_tag_value, a_field_key, ends_in_backslash, escapable, is_stop, Pair, fits_i64, string, IsValue}
@@ -91,13 +91,14 @@ pub record IsFollowed (Front : List ℕ → List ℕ → Type 0) (After : List �
   pub front : Front text rest
   pub after : After rest
 
--- things of this form, each after a comma, are written at the start of the text, and the rest is of that form
-abbrev pub AreWritten : {X : Type 0} → (X → List ℕ) → (X → Type 0) → (List ℕ → Type 0) → List ℕ → Type 0
-AreWritten print Is = IsFollowed (IsWritten (flat_map (λ x. comma ∷ print x)) (AllByRecursion Is))
+-- items, each after a comma, are at the start of the text, and the rest is of this form
+pub data AreItems (Item : List ℕ → List ℕ → Type 0) (After : List ℕ → Type 0) : List ℕ → Type 0 where
+  no_item : {text : List ℕ} → After text → AreItems Item After text
+  an_item : {text : List ℕ} (after rest : List ℕ) → text ≡ comma ∷ after → Item after rest → AreItems Item After rest → AreItems Item After text
 
 -- the builder writes the text after a field: for the fields that follow, and a timestamp
 abbrev pub IsWrittenAfterField : List ℕ → Type 0
-IsWrittenAfterField = AreWritten (pair_text a_field_key built_value) (IsPair a_field_key IsValue) IsWrittenTimestamp
+IsWrittenAfterField = AreItems IsWrittenField IsWrittenTimestamp
 
 -- the builder writes the text for a field, and for what comes after it
 abbrev pub AreWrittenFields : List ℕ → Type 0
@@ -109,7 +110,7 @@ IsWrittenAfterTags = IsFollowed (λ text rest. text ≡ space ∷ rest) AreWritt
 
 -- the builder writes the text after a measurement: for tags, at least one field, and a timestamp
 abbrev pub IsWrittenAfterName : List ℕ → Type 0
-IsWrittenAfterName = AreWritten (pair_text a_tag_key (spelling a_tag_value)) (IsPair a_tag_key (IsName a_tag_value)) IsWrittenAfterTags
+IsWrittenAfterName = AreItems IsWrittenTag IsWrittenAfterTags
 
 -- what is left of a text is the rest that follows such a front, and no other rest that ends it does; or none does
 abbrev pub IsOnlyRest : (List ℕ → Type 0) → (List ℕ → Type 0) → Option (Bor (List ℕ)) → Type 0

@@ -11,7 +11,7 @@ use Rattle.lp_format.specs.format.{built_tag, built_timestamp, built_value, is_a
 use Rattle.lp_format.proofs.lemmas.literals.FloatLemmas.{signed_front}
 use Rattle.lp_format.proofs.lemmas.read_back.IntegerReadsBack.{integer_written}
 use Rattle.lp_format.proofs.lemmas.values.ValueForms.{byte_missing}
-use Rattle.lp_written.specs.code.AsWritten.{AreWritten, AreWrittenFields, EndsName, EndsValue, IsFollowed, IsName, IsOnlyRest, IsPair}
+use Rattle.lp_written.specs.code.AsWritten.{AreItems, no_item, an_item, AreWrittenFields, EndsName, EndsValue, IsFollowed, IsName, IsOnlyRest, IsPair}
 use Rattle.lp_written.specs.code.AsWritten.{IsWritten, IsWrittenAfterField, IsWrittenAfterName, IsWrittenAfterTags, IsWrittenField}
 use Rattle.lp_written.specs.code.AsWritten.{IsWrittenName, IsWrittenTag, IsWrittenTimestamp, is_written_integer, pair_text}
 use Rattle.lp_written.proofs.lemmas.parts.WrittenNames.{byte_left, stop_ends}
@@ -25,11 +25,7 @@ module _ {V : Type 0} (kind : NameKind) (stops : is_stop kind equals ≡ true) (
 
   -- the key of a pair is written before its sign
   key_of : (text rest : List ℕ) (w : Pairs text rest) → IsWrittenName kind text (equals ∷ (print w.thing.value ++ rest))
-  key_of text rest w = record {
-    thing = w.thing.key;
-    is = w.is.0;
-    written = sym (append_assoc (spelling kind w.thing.key) (equals ∷ print w.thing.value) rest) ∙ w.written;
-  }
+  key_of text rest w = grind (arith, append_assoc)
 
   -- the sign after a key ends the key
   sign_ends : (after : List ℕ) → EndsName kind (equals ∷ after)
@@ -97,72 +93,31 @@ followed_step front after e ends whole text parts (Some r) only = (
   λ w. let f = parts.0 w in subst after (only.1 f.rest f.front (ends f.rest f.after)) f.after,
 )
 
-module _ {X : Type 0} (print : X → List ℕ) (Is : X → Type 0) (After Ends : List ℕ → Type 0) (comma_ends : (after : List ℕ) → Ends (comma ∷ after))
+module _ (Item : List ℕ → List ℕ → Type 0) (After Ends : List ℕ → Type 0) (comma_ends : (after : List ℕ) → Ends (comma ∷ after))
     (after_ends : (text : List ℕ) → After text → Ends text) (no_comma : (after : List ℕ) → After (comma ∷ after) → ⊥) where
-  -- the texts of such things, each after a comma
-  abbrev texts : List X → List ℕ
-  texts xs = flat_map (λ x. comma ∷ print x) xs
+  -- items end the item before them
+  items_end : (text : List ℕ) → AreItems Item After text → Ends text
+  items_end text more = grind (arith)
 
-  -- they end the thing before them
-  things_end : (text : List ℕ) → AreWritten print Is After text → Ends text
-  things_end text w = go w.front.thing w.front.written
+  -- after a comma an item comes, and then items
+  after_comma : (left text : List ℕ) → left ≡ comma ∷ text → AreItems Item After left → IsFollowed Item (AreItems Item After) text
+  after_comma left text e more = grind (arith)
+
+  -- a step of a reader of items: after a comma
+  items_step : (left text : List ℕ) (o : Option (Bor (List ℕ))) → byte comma left ≡ reads comma text → IsOnlyRest (Item text) Ends o
+      → MatchOption o (AreItems Item After left → ⊥) (λ r. AreItems Item After r.now ↔ AreItems Item After left)
+  items_step left text o read =
+      let e = byte_left comma left text read in
+      followed_step Item (AreItems Item After) Ends items_end (AreItems Item After left) text
+      (after_comma left text e, λ f. an_item text f.rest e f.front f.after) o
+
+  -- if no comma is, what comes after items is there
+  items_last : (left : List ℕ) → byte comma left ≡ miss → After left ↔ AreItems Item After left
+  items_last left missed = (λ w. no_item w, last)
     where
-      -- by the things
-      go : (xs : List X) → texts xs ++ w.rest ≡ text → Ends text
-      go [] e = subst Ends e (after_ends w.rest w.after)
-      go (x ∷ xs) e = subst Ends e (comma_ends ((print x ++ texts xs) ++ w.rest))
-
-  -- after a comma comes the first of them
-  after_comma : (left text : List ℕ) → left ≡ comma ∷ text
-      → AreWritten print Is After left ↔ IsFollowed (IsWritten print Is) (AreWritten print Is After) text
-  after_comma left text e = (λ w. go w w.front.thing w.front.is w.front.written, back)
-    where
-      -- by the things
-      go : (w : AreWritten print Is After left) (xs : List X) → AllByRecursion Is xs → texts xs ++ w.rest ≡ left
-          → IsFollowed (IsWritten print Is) (AreWritten print Is After) text
-      go w [] all same = absurd (no_comma text (subst After (same ∙ e) w.after))
-      go w (x ∷ xs) all same = record {
-        rest = texts xs ++ w.rest;
-        front = record {
-          thing = x;
-          is = all.0;
-          written = sym (append_assoc (print x) (texts xs) w.rest) ∙ ap (λ (ys : List ℕ). drop 1 ys) (same ∙ e);
-        };
-        after = record { rest = w.rest; front = record { thing = xs; is = all.1; written = refl }; after = w.after };
-      }
-
-      -- a thing and those after it
-      back : IsFollowed (IsWritten print Is) (AreWritten print Is After) text → AreWritten print Is After left
-      back f =
-          let x = f.front.thing in
-          let xs = f.after.front.thing in
-          record {
-            rest = f.after.rest;
-            front = record {
-              thing = x ∷ xs;
-              is = (f.front.is, f.after.front.is);
-              written = append_assoc (comma ∷ print x) (texts xs) f.after.rest ∙ rw (f.after.front.written, f.front.written) (sym e);
-            };
-            after = f.after.after;
-          }
-
-  -- a step of a reader of such things: after a comma
-  things_step : (left text : List ℕ) (o : Option (Bor (List ℕ))) → byte comma left ≡ reads comma text → IsOnlyRest (IsWritten print Is text) Ends o
-      → MatchOption o (AreWritten print Is After left → ⊥) (λ r. AreWritten print Is After r.now ↔ AreWritten print Is After left)
-  things_step left text o read = followed_step (IsWritten print Is) (AreWritten print Is After) Ends things_end
-      (AreWritten print Is After left) text (after_comma left text (byte_left comma left text read)) o
-
-  -- if no comma is, what comes after them is there
-  things_last : (left : List ℕ) → byte comma left ≡ miss → After left ↔ AreWritten print Is After left
-  things_last left missed = (
-    λ a. record { rest = left; front = record { thing = []; is = tt; written = refl }; after = a },
-    λ w. go w w.front.thing w.front.written,
-  )
-    where
-      -- no thing is there
-      go : (w : AreWritten print Is After left) (xs : List X) → texts xs ++ w.rest ≡ left → After left
-      go w [] e = subst After e w.after
-      go w (x ∷ xs) e = absurd (byte_missing comma left missed _ (sym e))
+      -- no item is there
+      last : AreItems Item After left → After left
+      last more = grind (arith, byte_missing)
 
 -- a timestamp ends a value
 stamp_ends : (text : List ℕ) → IsWrittenTimestamp text → EndsValue text
@@ -174,20 +129,17 @@ stamp_no_comma after w = grind (arith)
 
 -- fields after the first end the field before them
 fields_end : (text : List ℕ) → IsWrittenAfterField text → EndsValue text
-fields_end = things_end (pair_text a_field_key built_value) (IsPair a_field_key IsValue) IsWrittenTimestamp EndsValue (λ after. refl)
-    stamp_ends stamp_no_comma
+fields_end = items_end IsWrittenField IsWrittenTimestamp EndsValue (λ after. refl) stamp_ends stamp_no_comma
 
 -- a step of the fields: after a comma
 pub field_step : (left text : List ℕ) (o : Option (Bor (List ℕ))) → byte comma left ≡ reads comma text
     → IsOnlyRest (IsWrittenField text) EndsValue o
     → MatchOption o (IsWrittenAfterField left → ⊥) (λ r. IsWrittenAfterField r.now ↔ IsWrittenAfterField left)
-field_step = things_step (pair_text a_field_key built_value) (IsPair a_field_key IsValue) IsWrittenTimestamp EndsValue (λ after. refl)
-    stamp_ends stamp_no_comma
+field_step = items_step IsWrittenField IsWrittenTimestamp EndsValue (λ after. refl) stamp_ends stamp_no_comma
 
 -- if no comma is, a timestamp is after a field, or nothing
 pub only_timestamp : (text : List ℕ) → byte comma text ≡ miss → IsWrittenTimestamp text ↔ IsWrittenAfterField text
-only_timestamp = things_last (pair_text a_field_key built_value) (IsPair a_field_key IsValue) IsWrittenTimestamp EndsValue (λ after. refl)
-    stamp_ends stamp_no_comma
+only_timestamp = items_last IsWrittenField IsWrittenTimestamp EndsValue (λ after. refl) stamp_ends stamp_no_comma
 
 -- the first field, and what comes after it
 pub first_step : (text : List ℕ) (o : Option (Bor (List ℕ))) → IsOnlyRest (IsWrittenField text) EndsValue o
@@ -210,13 +162,11 @@ comma_ends kind stops after = stop_ends kind comma after stops (λ e. omega (ari
 pub tag_step : (left text : List ℕ) (o : Option (Bor (List ℕ))) → byte comma left ≡ reads comma text
     → IsOnlyRest (IsWrittenTag text) (EndsName a_tag_value) o
     → MatchOption o (IsWrittenAfterName left → ⊥) (λ r. IsWrittenAfterName r.now ↔ IsWrittenAfterName left)
-tag_step = things_step (pair_text a_tag_key (spelling a_tag_value)) (IsPair a_tag_key (IsName a_tag_value)) IsWrittenAfterTags
-    (EndsName a_tag_value) (comma_ends a_tag_value refl) (gap_ends a_tag_value refl) gap_no_comma
+tag_step = items_step IsWrittenTag IsWrittenAfterTags (EndsName a_tag_value) (comma_ends a_tag_value refl) (gap_ends a_tag_value refl) gap_no_comma
 
 -- if no comma is, the fields are after a name
 only_gap : (text : List ℕ) → byte comma text ≡ miss → IsWrittenAfterTags text ↔ IsWrittenAfterName text
-only_gap = things_last (pair_text a_tag_key (spelling a_tag_value)) (IsPair a_tag_key (IsName a_tag_value)) IsWrittenAfterTags
-    (EndsName a_tag_value) (comma_ends a_tag_value refl) (gap_ends a_tag_value refl) gap_no_comma
+only_gap = items_last IsWrittenTag IsWrittenAfterTags (EndsName a_tag_value) (comma_ends a_tag_value refl) (gap_ends a_tag_value refl) gap_no_comma
 
 -- if neither a comma nor a space is, nothing is after a name
 pub no_gap : (text : List ℕ) → byte comma text ≡ miss → byte space text ≡ miss → IsWrittenAfterName text → ⊥
@@ -256,6 +206,32 @@ timestamp_tells text number read =
           (Some t.0, t.1, ap (λ (xs : List ℕ). space ∷ xs) t.2)),
     )
 
+module _ {X : Type 0} (print : X → List ℕ) (Is : X → Type 0) (After : List ℕ → Type 0) where
+  -- the texts of such things, each after a comma
+  abbrev texts : List X → List ℕ
+  texts xs = flat_map (λ x. comma ∷ print x) xs
+
+  -- are items
+  items_of : (xs : List X) (rest : List ℕ) → AllByRecursion Is xs → After rest → AreItems (IsWritten print Is) After (texts xs ++ rest)
+  items_of [] rest all after = no_item after
+  items_of (x ∷ xs) rest all after = an_item _ (texts xs ++ rest) (append_assoc (comma ∷ print x) (texts xs) rest)
+      (record { thing = x; is = all.0; written = refl }) (items_of xs rest all.1 after)
+
+  -- and items are such texts
+  listed : (text : List ℕ) → AreItems (IsWritten print Is) After text → IsFollowed (IsWritten texts (AllByRecursion Is)) After text
+  listed text (no_item after) = record { rest = text; front = record { thing = []; is = tt; written = refl }; after = after }
+  listed text (an_item after rest e item more) =
+      let m = listed rest more in
+      record {
+        rest = m.rest;
+        front = record {
+          thing = item.thing ∷ m.front.thing;
+          is = (item.is, m.front.is);
+          written = append_assoc (comma ∷ print item.thing) (texts m.front.thing) m.rest ∙ rw (m.front.written, item.written) (sym e);
+        };
+        after = m.after;
+      }
+
 -- the fields after the first, each after a comma
 commas : (fs : List Field) → built_fields comma fs ≡ flat_map (λ f. comma ∷ built_field f) fs
 commas [] = refl
@@ -271,11 +247,7 @@ after_tags (f ∷ fs) t some all fits = record {
   after = record {
     rest = built_fields comma fs ++ built_timestamp t;
     front = record { thing = f; is = all.0; written = refl };
-    after = record {
-      rest = built_timestamp t;
-      front = record { thing = fs; is = all.1; written = rw (commas fs) refl };
-      after = (t, fits, refl);
-    };
+    after = rw (commas fs) (items_of built_field AdmittedField IsWrittenTimestamp fs (built_timestamp t) all.1 (t, fits, refl));
   };
 }
 
@@ -304,25 +276,24 @@ line_is line = (there, back)
         record {
           rest = flat_map built_tag p.tags ++ after;
           front = record { thing = p.measurement; is = ok.measurement; written = sym (line_parts p) ∙ w.written };
-          after = record {
-            rest = after;
-            front = record { thing = p.tags; is = ok.tags; written = refl };
-            after = after_tags p.fields p.timestamp ok.some_field ok.fields ok.timestamp;
-          };
+          after = items_of (pair_text a_tag_key (spelling a_tag_value)) AdmittedTag IsWrittenAfterTags p.tags after ok.tags
+              (after_tags p.fields p.timestamp ok.some_field ok.fields ok.timestamp);
         }
 
     -- the point of these parts
     back : IsFollowed (IsWrittenName a_measurement) IsWrittenAfterName line → IsAsWritten line
     back w =
-        let tags = w.after.front in
-        let gap = w.after.after in
+        let named = listed (pair_text a_tag_key (spelling a_tag_value)) AdmittedTag IsWrittenAfterTags w.rest w.after in
+        let tags = named.front in
+        let gap = named.after in
         let f = gap.after.front in
-        let fs = gap.after.after.front in
-        let t = gap.after.after.after in
+        let more = listed built_field AdmittedField IsWrittenTimestamp gap.after.rest gap.after.after in
+        let fs = more.front in
+        let t = more.after in
         let p : Point = record { measurement = w.front.thing; tags = tags.thing; fields = f.thing ∷ fs.thing; timestamp = t.0 } in
         let tagged = all_pass is_admitted_tag AdmittedTag (λ t ok. and_from _ _ ok.0 ok.1) tags.thing tags.is in
         let fielded = all_pass is_admitted_field AdmittedField (λ f ok. ok.0) fs.thing fs.is in
-        let fields : built_fields space p.fields ++ built_timestamp p.timestamp ≡ w.after.rest =
+        let fields : built_fields space p.fields ++ built_timestamp p.timestamp ≡ named.rest =
         append_assoc (space ∷ built_field f.thing) (built_fields comma fs.thing) (built_timestamp t.0)
         ∙ rw (commas fs.thing, t.2, fs.written, f.written) (sym gap.front) in
         record {
@@ -336,8 +307,7 @@ line_is line = (there, back)
 pub line_step : (line : List ℕ) (o : Option (Bor (List ℕ))) → IsOnlyRest (IsWrittenName a_measurement line) (EndsName a_measurement) o
     → MatchOption o (IsAsWritten line → ⊥) (λ r. IsWrittenAfterName r.now ↔ IsAsWritten line)
 line_step line = followed_step (IsWrittenName a_measurement) IsWrittenAfterName (EndsName a_measurement)
-    (things_end (pair_text a_tag_key (spelling a_tag_value)) (IsPair a_tag_key (IsName a_tag_value)) IsWrittenAfterTags
-    (EndsName a_measurement) (comma_ends a_measurement refl) (gap_ends a_measurement refl) gap_no_comma) (IsAsWritten line) line (line_is line)
+    (items_end IsWrittenTag IsWrittenAfterTags (EndsName a_measurement) (comma_ends a_measurement refl) (gap_ends a_measurement refl) gap_no_comma) (IsAsWritten line) line (line_is line)
 
 -- the steps of a reader of tags
 pub ruleset tag_steps = (tag_less, no_gap, fields_after)
