@@ -1,10 +1,10 @@
 -- Tags, fields, timestamps and lines as the builder writes them.
-use Rattle.std.proofs.Common.{◌≡◌, ℕ, ◌<◌, ◌≤◌, Bool, true, List, [], ◌∷◌, ◌++◌, length, drop, slice_index, refl, sym, ap, subst, ◌∙◌}
+use Rattle.std.proofs.Common.{◌≡◌, ℕ, ◌<◌, ◌≤◌, Bool, true, false, List, [], ◌∷◌, ◌++◌, length, drop, slice_index, refl, sym, ap, subst, ◌∙◌}
 use Rattle.std.proofs.Common.{arith, append_assoc, append-nil, length-append, Option, Some, None, ◌↔◌, ℤ, IfSome, MatchOption, codes, Bor}
 use Rattle.std.proofs.Common.{flat_map, take_all}
 use Rattle.std.specs.Fmt.{signed_decimal}
 use Rattle.std.specs.List.{AllByRecursion, list_all}
-use Rattle.std.proofs.lemmas.Bool.{and_from}
+use Rattle.std.proofs.lemmas.Bool.{and_from, false≢true}
 use Rattle.lp_format.specs.format.{comma, equals, space, NameKind, a_measurement, a_tag_key, a_tag_value, a_field_key, is_stop, byte, miss}
 use Rattle.lp_format.specs.format.{reads, IsSigned, integer_len, fits_i64, Field, Point, IsAsWritten, IsValue, built_field, built_fields}
 use Rattle.lp_format.specs.format.{built_tag, built_timestamp, built_value, is_admitted_field, is_admitted_point, is_admitted_tag, spelling}
@@ -32,15 +32,16 @@ module _ {V : Type 0} (kind : NameKind) (stops : is_stop kind equals ≡ true) (
   sign_ends after = stop_ends kind equals after stops (λ e. omega (arith, e))
 
   -- no pair is read if no key is
-  pub pair_no_key : (text : List ℕ) → ((rest : List ℕ) → IsWrittenName kind text rest → EndsName kind rest → ⊥)
-      → (rest : List ℕ) → Pairs text rest → Ends rest → ⊥
-  pair_no_key text none rest w ends = none _ (key_of text rest w) (sign_ends _)
+  pub pair_no_key : (text : List ℕ) (o : Option (Bor (List ℕ))) → o ≡ None
+      → ((rest : List ℕ) → IsWrittenName kind text rest → EndsName kind rest → ⊥) → IsOnlyRest (Pairs text) Ends o
+  pair_no_key text o e none = rw e (λ rest w ends. none _ (key_of text rest w) (sign_ends _))
 
   -- nor if no sign follows the key
-  pub pair_no_sign : (text key_end : List ℕ) → ((rest : List ℕ) → IsWrittenName kind text rest → EndsName kind rest → rest ≡ key_end)
-      → byte equals key_end ≡ miss → (rest : List ℕ) → Pairs text rest → Ends rest → ⊥
-  pair_no_sign text key_end only missed rest w ends =
-      byte_missing equals key_end missed _ (sym (only _ (key_of text rest w) (sign_ends _)))
+  pub pair_no_sign : (text key_end : List ℕ) (o : Option (Bor (List ℕ))) → o ≡ None
+      → ((rest : List ℕ) → IsWrittenName kind text rest → EndsName kind rest → rest ≡ key_end) → byte equals key_end ≡ miss
+      → IsOnlyRest (Pairs text) Ends o
+  pair_no_sign text key_end o e only missed =
+      rw e (λ rest w ends. byte_missing equals key_end missed _ (sym (only _ (key_of text rest w) (sign_ends _))))
 
   -- what follows a key, a sign and a value is the only rest of a pair
   pub pair_answer : (text key_end after : List ℕ) (o : Option (Bor (List ℕ)))
@@ -93,6 +94,18 @@ followed_step front after e ends whole text parts (Some r) only = (
   λ w. let f = parts.0 w in subst after (only.1 f.rest f.front (ends f.rest f.after)) f.after,
 )
 
+module _ (Item : List ℕ → List ℕ → Type 0) (After Ends : List ℕ → Type 0) where
+  -- what a reader of items keeps, if an item and this rest are after a comma
+  abbrev Kept : Type 0
+  Kept = (whole left text : List ℕ) (r : Bor (List ℕ)) → AreItems Item After left ↔ AreItems Item After whole
+      → byte comma left ≡ reads comma text → Item text r.now × ((rest : List ℕ) → Item text rest → Ends rest → rest ≡ r.now)
+      → AreItems Item After r.now ↔ AreItems Item After whole
+
+  -- what it answers if no item is there
+  abbrev NoItem : Type 0
+  NoItem = (whole left text : List ℕ) → AreItems Item After left ↔ AreItems Item After whole
+      → byte comma left ≡ reads comma text → ((rest : List ℕ) → Item text rest → Ends rest → ⊥) → (false ≡ true) ↔ AreItems Item After whole
+
 module _ (Item : List ℕ → List ℕ → Type 0) (After Ends : List ℕ → Type 0) (comma_ends : (after : List ℕ) → Ends (comma ∷ after))
     (after_ends : (text : List ℕ) → After text → Ends text) (no_comma : (after : List ℕ) → After (comma ∷ after) → ⊥) where
   -- items end the item before them
@@ -110,6 +123,15 @@ module _ (Item : List ℕ → List ℕ → Type 0) (After Ends : List ℕ → Ty
       let e = byte_left comma left text read in
       followed_step Item (AreItems Item After) Ends items_end (AreItems Item After left) text
       (after_comma left text e, λ f. an_item text f.rest e f.front f.after) o
+
+  -- what is left is items if the whole is, after an item too
+  items_kept : Kept Item After Ends
+  items_kept whole left text r same read only =
+      let step = items_step left text (Some r) read only in (λ w. same.0 (step.0 w), λ w. step.1 (same.1 w))
+
+  -- and the whole is not, if no item is after a comma
+  items_none : NoItem Item After Ends
+  items_none whole left text same read none = (λ h. absurd (false≢true h), λ w. absurd (items_step left text None read none (same.1 w)))
 
   -- if no comma is, what comes after items is there
   items_last : (left : List ℕ) → byte comma left ≡ miss → After left ↔ AreItems Item After left
@@ -131,11 +153,13 @@ stamp_no_comma after w = grind (arith)
 fields_end : (text : List ℕ) → IsWrittenAfterField text → EndsValue text
 fields_end = items_end IsWrittenField IsWrittenTimestamp EndsValue (λ after. refl) stamp_ends stamp_no_comma
 
--- a step of the fields: after a comma
-pub field_step : (left text : List ℕ) (o : Option (Bor (List ℕ))) → byte comma left ≡ reads comma text
-    → IsOnlyRest (IsWrittenField text) EndsValue o
-    → MatchOption o (IsWrittenAfterField left → ⊥) (λ r. IsWrittenAfterField r.now ↔ IsWrittenAfterField left)
-field_step = items_step IsWrittenField IsWrittenTimestamp EndsValue (λ after. refl) stamp_ends stamp_no_comma
+-- a field after the first
+pub field_kept : Kept IsWrittenField IsWrittenTimestamp EndsValue
+field_kept = items_kept IsWrittenField IsWrittenTimestamp EndsValue (λ after. refl) stamp_ends stamp_no_comma
+
+-- or none after its comma
+pub no_field : NoItem IsWrittenField IsWrittenTimestamp EndsValue
+no_field = items_none IsWrittenField IsWrittenTimestamp EndsValue (λ after. refl) stamp_ends stamp_no_comma
 
 -- if no comma is, a timestamp is after a field, or nothing
 pub only_timestamp : (text : List ℕ) → byte comma text ≡ miss → IsWrittenTimestamp text ↔ IsWrittenAfterField text
@@ -158,11 +182,13 @@ gap_no_comma after w = omega (arith, ap (λ (xs : List ℕ). slice_index xs 0) w
 comma_ends : (kind : NameKind) → is_stop kind comma ≡ true → (after : List ℕ) → EndsName kind (comma ∷ after)
 comma_ends kind stops after = stop_ends kind comma after stops (λ e. omega (arith, e))
 
--- a step of the tags: after a comma
-pub tag_step : (left text : List ℕ) (o : Option (Bor (List ℕ))) → byte comma left ≡ reads comma text
-    → IsOnlyRest (IsWrittenTag text) (EndsName a_tag_value) o
-    → MatchOption o (IsWrittenAfterName left → ⊥) (λ r. IsWrittenAfterName r.now ↔ IsWrittenAfterName left)
-tag_step = items_step IsWrittenTag IsWrittenAfterTags (EndsName a_tag_value) (comma_ends a_tag_value refl) (gap_ends a_tag_value refl) gap_no_comma
+-- a tag
+pub tag_kept : Kept IsWrittenTag IsWrittenAfterTags (EndsName a_tag_value)
+tag_kept = items_kept IsWrittenTag IsWrittenAfterTags (EndsName a_tag_value) (comma_ends a_tag_value refl) (gap_ends a_tag_value refl) gap_no_comma
+
+-- or none after its comma
+pub no_tag : NoItem IsWrittenTag IsWrittenAfterTags (EndsName a_tag_value)
+no_tag = items_none IsWrittenTag IsWrittenAfterTags (EndsName a_tag_value) (comma_ends a_tag_value refl) (gap_ends a_tag_value refl) gap_no_comma
 
 -- if no comma is, the fields are after a name
 only_gap : (text : List ℕ) → byte comma text ≡ miss → IsWrittenAfterTags text ↔ IsWrittenAfterName text
@@ -310,4 +336,13 @@ line_step line = followed_step (IsWrittenName a_measurement) IsWrittenAfterName 
     (items_end IsWrittenTag IsWrittenAfterTags (EndsName a_measurement) (comma_ends a_measurement refl) (gap_ends a_measurement refl) gap_no_comma) (IsAsWritten line) line (line_is line)
 
 -- the steps of a reader of tags
-pub ruleset tag_steps = (tag_less, no_gap, fields_after)
+pub ruleset tag_steps = (tag_less, no_gap, fields_after, tag_kept, no_tag)
+
+-- the steps of a reader of a pair
+pub ruleset pair_steps = (pair_no_key, pair_no_sign, pair_answer)
+
+-- the steps of a reader of a timestamp
+pub ruleset stamp_steps = (whole_number, timestamp_tells)
+
+-- the steps of a reader of fields
+pub ruleset field_steps = (field_less, field_kept, no_field, only_timestamp)
