@@ -15,7 +15,7 @@ use Rattle.std.proofs.lemmas.Bool.{cases_Bool, cases_lt, and_parts, eqb-false, o
 use Rattle.std.proofs.lemmas.Fmt.{decimal_is_IsNumeral, decimal-digits_value, decimal_digit, first_decimal}
 use Rattle.std.proofs.lemmas.Int.Digits.{digits_value-lt}
 use Rattle.std.proofs.lemmas.Str.Parse.{digit_from_value, numerals_by_value, tells_digits}
-use Rattle.lp_format.proofs.lemmas.literals.FloatLemmas.{float_len_float, signed_front, FloatFront, float_front}
+use Rattle.lp_format.proofs.lemmas.literals.FloatLemmas.{float_len_float, float_misses, float_reads, signed_front, FloatFront, float_front}
 use Rattle.lp_format.proofs.lemmas.read_back.IntegerReadsBack.{integer_written, unsigned_len}
 use Rattle.lp_format.proofs.lemmas.values.ValueLemmas.{byte_at_drop, fits_from_test, test_from_fits}
 use Rattle.lp_format.proofs.lemmas.values.ValueForms.{byte_missing}
@@ -213,42 +213,45 @@ unsigned_answer text number r some front after = marked_answer text r.now (is_wr
     ]
 
 -- what is read as a float is one that the builder writes
-pub float_found : (text t rest : List ℕ) → float_at text ≡ reads (float t) rest → IsWrittenValue text rest
-unfolding float_at
-float_found text t rest read = go (cases_Bool (float_len text == 0)) read
-  where
-    -- by whether a float is there
-    go : ((float_len text == 0) ≡ true) ⊎ ((float_len text == 0) ≡ false) → float_at text ≡ reads (float t) rest → IsWrittenValue text rest
-    go (inl none) read = let missed : miss ≡ reads (float t) rest = rw none at read in absurd (cc)
-    go (inr some) read =
-        let found : reads (float (take (float_len text) text)) (drop (float_len text) text) ≡ reads (float t) rest = rw some at read in
-        let more : float_len text ≢ 0 = eqb-false (float_len text) 0 some in
-        let same : take (float_len text) text ≡ t = cc in
-        let left : drop (float_len text) text ≡ rest = cc in
-        record {
-          thing = float t;
-          is = subst IsFloat same (float_len_float text (omega arith));
-          written = rw (← same, ← left) (take-append-drop (float_len text) text);
-        }
-
--- and if neither mark of an integer is, the builder writes no other
-pub float_only : (text rest : List ℕ) → 0 < integer_len text → byte letter_i (drop (integer_len text) text) ≡ miss
-    → byte letter_u (drop (integer_len text) text) ≡ miss → IsWrittenValue text rest → EndsValue rest → (t : List ℕ) × (float_at text ≡ reads (float t) rest)
-float_only text rest some no_i no_u w ends = elim (shape text rest w ends) [
-  | an_integer z fits t ↦ absurd (byte_missing letter_i (drop (integer_len text) text) no_i rest t.after)
-  | an_unsigned n fits t ↦ absurd (byte_missing letter_u (drop (integer_len text) text) no_u rest t.after)
-  | a_float x front ↦ (x, front.reads_it)
-  | a_string none quote x ↦ absurd (omega (arith, some, none))
-  | a_word b none word ↦ absurd (omega (arith, some, none))
+float_found : (text t rest : List ℕ) → float_at text ≡ reads (float t) rest → IsWrittenValue text rest
+float_found text t rest read = elim (cases_Bool (float_len text == 0)) [
+  | inl none ↦ let missed = float_misses text (eqb-true (float_len text) 0 none) in absurd (cc (missed, read))
+  | inr some ↦
+      let more : 0 < float_len text = omega (arith, eqb-false (float_len text) 0 some) in
+      let found : reads (float (take (float_len text) text)) (drop (float_len text) text) ≡ reads (float t) rest =
+      sym (float_reads text more) ∙ read in
+      let same : take (float_len text) text ≡ t = cc in
+      let left : drop (float_len text) text ≡ rest = cc in
+      record {
+        thing = float t;
+        is = subst IsFloat same (float_len_float text more);
+        written = rw (← same, ← left) (take-append-drop (float_len text) text);
+      }
 ]
 
--- a text in which a float reads does not miss
-pub float_misses : (text rest t : List ℕ) → float_at text ≡ reads (float t) rest → float_at text ≡ miss → ⊥
-float_misses text rest t read missed = let both : miss ≡ reads (float t) rest = sym missed ∙ read in cc
+module _ (text : List ℕ) (whole : ℕ) (len : whole ≡ integer_len text) (some : 0 < whole) (no_i : byte letter_i (drop whole text) ≡ miss)
+    (no_u : byte letter_u (drop whole text) ≡ miss) where
+  -- if no mark of an integer is, the builder writes no value but a float
+  float_only : (rest : List ℕ) → IsWrittenValue text rest → EndsValue rest → (t : List ℕ) × (float_at text ≡ reads (float t) rest)
+  float_only rest w ends = elim (shape text rest w ends) [
+    | an_integer z fits t ↦ absurd (byte_missing letter_i (drop whole text) no_i rest (rw len t.after))
+    | an_unsigned n fits t ↦ absurd (byte_missing letter_u (drop whole text) no_u rest (rw len t.after))
+    | a_float x front ↦ (x, front.reads_it)
+    | a_string none quote x ↦ absurd (omega (arith, len, some, none))
+    | a_word b none word ↦ absurd (omega (arith, len, some, none))
+  ]
 
--- and one rest is left of it
-pub float_same : (text t u rest left : List ℕ) → float_at text ≡ reads (float t) rest → float_at text ≡ reads (float u) left → rest ≡ left
-float_same text t u rest left read again = let both : reads (float t) rest ≡ reads (float u) left = sym read ∙ again in cc
+  -- none, if no float is read
+  pub no_float : (o : Option (Bor (List ℕ))) → o ≡ None → float_at text ≡ miss → IsOnlyRest (IsWrittenValue text) EndsValue o
+  no_float o e missed = rw e (λ rest w ends. let x = float_only rest w ends in absurd (cc (missed, x.1)))
+
+  -- and else what follows the float is the only rest
+  pub float_answer : (t left : List ℕ) → float_at text ≡ reads (float t) left
+      → IsWrittenValue text left × ((rest : List ℕ) → IsWrittenValue text rest → EndsValue rest → rest ≡ left)
+  float_answer t left read = (float_found text t left read, λ rest w ends. let x = float_only rest w ends in cc (read, x.1))
+
+-- the steps of a reader of a float
+pub ruleset float_steps = (no_float, float_answer)
 
 -- a string is a value
 pub string_value : (text rest : List ℕ) → IsWrittenString text rest → IsWrittenValue text rest
@@ -279,23 +282,21 @@ word_same : (a b : Bool) (rest left : List ℕ) → built_value (boolean a) ++ r
 word_same x0 x1 rest left e = grind (arith)
 
 -- what follows a word is the only rest of a value
-pub word_answer : (b : Bool) (text left : List ℕ) → integer_len text ≡ 0 → slice_index text 0 ≢ quote → text ≡ built_value (boolean b) ++ left
+pub word_answer : (b : Bool) (text left : List ℕ) → integer_len text ≡ 0 → slice_index text 0 ≢ quote
+    → StripsPrefix (FindsTextPrefix (built_value (boolean b))) text left
     → IsWrittenValue text left × ((rest : List ℕ) → IsWrittenValue text rest → EndsValue rest → rest ≡ left)
-word_answer b text left whole first e = (
-  word_value text left b e,
-  λ rest w ends. let x = value_word text rest whole first w ends in word_same x.0 b rest left (sym x.1 ∙ e),
-)
+word_answer b text left whole first s =
+    let e : text ≡ built_value (boolean b) ++ left = s.1.1 ∙ ap (λ (xs : List ℕ). built_value (boolean b) ++ xs) (sym s.2) in (
+      word_value text left b e,
+      λ rest w ends. let x = value_word text rest whole first w ends in word_same x.0 b rest left (sym x.1 ∙ e),
+    )
 
--- what is left of a text after a word
-pub stripped : (word text left : List ℕ) → StripsPrefix (FindsTextPrefix word) text left → text ≡ word ++ left
-stripped word text left s = s.1.1 ∙ ap (λ (xs : List ℕ). word ++ xs) (sym s.2)
-
--- if the word for true is not there, what is left after that for false is the only rest of a value
+-- if the word for true is not there, what follows that for false is the only rest of a value
 pub last_word : (text : List ℕ) (o : Option (Bor (List ℕ))) → integer_len text ≡ 0 → slice_index text 0 ≢ quote
     → LacksTextAt (codes "true") text 0
     → MatchOption o (LacksTextAt (codes "false") text 0) (λ r. StripsPrefix (FindsTextPrefix (codes "false")) text r.now)
     → IsOnlyRest (IsWrittenValue text) EndsValue o
-last_word text (Some r) whole first no_true found = word_answer false text r.now whole first (stripped (codes "false") text r.now found)
+last_word text (Some r) whole first no_true found = word_answer false text r.now whole first found
 last_word text None whole first no_true no_false = λ rest w ends. let x = value_word text rest whole first w ends in go rest x.0 x.1
   where
     -- by the word
