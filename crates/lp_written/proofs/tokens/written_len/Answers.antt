@@ -1,5 +1,5 @@
 use Rattle.std.proofs.Common.{◌+◌, ◌∙◌, sym, arith}
-use Rattle.lp_written.proofs.lemmas.parts.WrittenTokens.{escape_passed, run_mark, run_passed}
+use Rattle.lp_written.proofs.lemmas.parts.WrittenNames.{escape_passed, run_mark, run_passed}
 use Rattle.lp_written.proofs.tokens.written_len.Goals as goal
 
 pub loop-end-init : goal.loop-end-init
