@@ -24,6 +24,7 @@ fn has_extra_zero(number: &[u8]) -> bool
 }
 
 // Whether the builder writes `number`, at the start of `text`, so as an integer.
+#[tactic(auto, using(crate::proofs::lemmas::parts::WrittenNumbers::short_written))]
 #[inline(always)]
 pub(crate) fn is_written_integer(number: &str, text: &str) -> bool
     requires signed { IsSigned (codes "-") number.now }

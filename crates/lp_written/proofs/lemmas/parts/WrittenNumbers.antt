@@ -73,8 +73,13 @@ integer_again (b ∷ ds) (inl signed) plain fits = grind (arith, eqb-true, or_on
 integer_again (b ∷ ds) (inr numeral) plain fits = grind (arith, plain_value, fits_from_test, unsigned_again)
 
 -- an integer of less than 19 bytes fits an i64
-pub short_fits : (number : List ℕ) → IsSigned (codes "-") number → length number < 19 → fits_i64 (signed_digits_value 10 number) ≡ true
+short_fits : (number : List ℕ) → IsSigned (codes "-") number → length number < 19 → fits_i64 (signed_digits_value 10 number) ≡ true
 short_fits ds never short = grind (arith, eqb-true, or_one, plain_value, test_from_fits, pow-le-pow_right, digits_value-lt)
+
+-- so whether it is written so is told by its zeros
+pub short_written : (number : List ℕ) → IsSigned (codes "-") number → not (has_extra_zero number) ≡ true → length number < 19
+    → nat_lt (length number) 19 ≡ is_written_integer number
+short_written number signed plain short = rw (plain, short_fits number signed short) (lt-ltb _ 19 short)
 
 -- a number and its mark, at the start of a text
 pub record NumberText (text number rest : List ℕ) (mark : ℕ) : Type 0 where
@@ -313,5 +318,12 @@ string_only_value text (Some left) whole first only = (
   λ rest w ends. only.1 rest (value_string text rest whole first w ends) tt,
 )
 
+-- the same as the code finds it
+pub integer_found : (text number after : List ℕ) (whole : ℕ) (ok : Bool) (r : Bor (List ℕ)) (o : Option (Bor (List ℕ)))
+    → whole ≡ integer_len text → 0 < whole → number ≡ take whole text → after ≡ drop whole text → byte letter_i after ≡ reads letter_i r.now
+    → ok ≡ is_written_integer number → o ≡ then_some ok r → IsOnlyRest (IsWrittenValue text) EndsValue o
+integer_found text number after whole ok r o len some front back read tells is =
+    rw (is, tells) (integer_answer text number r (omega (arith, len, some)) (rw len at front) (at_mark letter_i text after r.now whole len back read))
+
 -- the steps of a reader of a number
-pub ruleset number_steps = (signed_number, at_mark, unsigned_answer)
+pub ruleset number_steps = (signed_number, at_mark, integer_found, unsigned_answer)
