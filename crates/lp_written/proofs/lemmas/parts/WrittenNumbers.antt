@@ -160,62 +160,68 @@ marked_answer : (text left : List ℕ) (ok : Bool) → (ok ≡ true → IsWritte
     → (r : Bor (List ℕ)) → r.now ≡ left → IsOnlyRest (IsWrittenValue text) EndsValue (then_some ok r)
 marked_answer text left x2 found only r e = grind (arith, false≢true)
 
--- the integer at the start of a text has a sign or none, and digits
-pub signed_number : (text number : List ℕ) (whole : ℕ) → whole ≡ integer_len text → 0 < whole → number ≡ take whole text → IsSigned (codes "-") number
-signed_number text number whole len some front = rw (front, len) (signed_front (codes "-") text (omega (arith, len, some)))
+-- a number at the start of a text, as the code finds it
+module _ (text number : List ℕ) (whole : ℕ) (len : whole ≡ integer_len text) (some : 0 < whole) (front : number ≡ take whole text) where
+  -- it has a sign or none, and digits
+  pub signed_number : IsSigned (codes "-") number
+  signed_number = rw (front, len) (signed_front (codes "-") text (omega (arith, len, some)))
 
--- a mark that is read after it
-pub at_mark : (mark : ℕ) (text after left : List ℕ) (whole : ℕ) → whole ≡ integer_len text → after ≡ drop whole text
-    → byte mark after ≡ reads mark left → drop (integer_len text) text ≡ mark ∷ left
-at_mark mark text after left whole len back read = rw (← len, ← back) (byte_left mark after left read)
+  -- what follows it and its mark
+  module _ (after : List ℕ) (ok : Bool) (r : Bor (List ℕ)) (o : Option (Bor (List ℕ))) (back : after ≡ drop whole text)
+      (is : o ≡ then_some ok r) where
+    -- the front of the text
+    number_is : number ≡ take (integer_len text) text
+    number_is = rw len at front
 
--- if `i` follows an integer
-pub integer_answer : (text number : List ℕ) (r : Bor (List ℕ)) → 0 < integer_len text → number ≡ take (integer_len text) text
-    → drop (integer_len text) text ≡ letter_i ∷ r.now
-    → IsOnlyRest (IsWrittenValue text) EndsValue (then_some (is_written_integer number) r)
-integer_answer text number r some front after = marked_answer text r.now (is_written_integer number) found only r refl
-  where
-    -- the number is signed
-    signed : IsSigned (codes "-") number
-    signed = rw front (signed_front (codes "-") text some)
+    -- a mark that is read after it
+    at_mark : (mark : ℕ) → byte mark after ≡ reads mark r.now → drop (integer_len text) text ≡ mark ∷ r.now
+    at_mark mark read = rw (← len, ← back) (byte_left mark after r.now read)
 
-    -- it is found
-    found : is_written_integer number ≡ true → IsWrittenValue text r.now
-    found ok =
-        let t = integer_told number signed ok in
-        marked_found (integer t.0) text number r.now 105 (integer_len text) t.1 (ap (λ (xs : List ℕ). xs ++ letter_i ∷ []) t.2) front after
+    -- is the only rest after `i`, if the builder writes the integer so
+    pub integer_answer : byte letter_i after ≡ reads letter_i r.now → ok ≡ is_written_integer number → IsOnlyRest (IsWrittenValue text) EndsValue o
+    integer_answer read tells = rw (is, tells) (marked_answer text r.now (is_written_integer number) found only r refl)
+      where
+        -- the integer is found
+        found : is_written_integer number ≡ true → IsWrittenValue text r.now
+        found ok =
+            let t = integer_told number signed_number ok in
+            marked_found (integer t.0) text number r.now letter_i (integer_len text) t.1 (ap (λ (xs : List ℕ). xs ++ letter_i ∷ []) t.2)
+            number_is (at_mark letter_i read)
 
-    -- and the builder writes no other there
-    only : (rest : List ℕ) → IsWrittenValue text rest → EndsValue rest → (is_written_integer number ≡ true) × (rest ≡ r.now)
-    only rest w ends = elim (shape text rest w ends) [
-      | an_integer z fits t ↦ grind (arith, front, integer_tells, after)
-      | an_unsigned n fits t ↦ absurd (omega (arith, ap (λ (xs : List ℕ). slice_index xs 0) (sym after ∙ t.after)))
-      | a_float x front ↦ absurd (front.no_i (byte_at_drop text r.now (integer_len text) letter_i after).0)
-      | a_string none quote x ↦ absurd (omega (arith, some, none))
-      | a_word b none word ↦ absurd (omega (arith, some, none))
-    ]
+        -- and the builder writes no other there
+        only : (rest : List ℕ) → IsWrittenValue text rest → EndsValue rest → (is_written_integer number ≡ true) × (rest ≡ r.now)
+        only rest w ends = elim (shape text rest w ends) [
+          | an_integer z fits t ↦ grind (arith, number_is, integer_tells, at_mark letter_i read)
+          | an_unsigned n fits t ↦ absurd (omega (arith, ap (λ (xs : List ℕ). slice_index xs 0) (sym (at_mark letter_i read) ∙ t.after)))
+          | a_float x f ↦ absurd (f.no_i (byte_at_drop text r.now (integer_len text) letter_i (at_mark letter_i read)).0)
+          | a_string none quote x ↦ absurd (omega (arith, len, some, none))
+          | a_word b none word ↦ absurd (omega (arith, len, some, none))
+        ]
 
--- if `u` does
-pub unsigned_answer : (text number : List ℕ) (r : Bor (List ℕ)) → 0 < integer_len text → number ≡ take (integer_len text) text
-    → drop (integer_len text) text ≡ letter_u ∷ r.now
-    → IsOnlyRest (IsWrittenValue text) EndsValue (then_some (is_written_unsigned number) r)
-unsigned_answer text number r some front after = marked_answer text r.now (is_written_unsigned number) found only r refl
-  where
-    -- the number is found
-    found : is_written_unsigned number ≡ true → IsWrittenValue text r.now
-    found ok =
-        let t = unsigned_told number (rw front (signed_front (codes "-") text some)) ok in
-        marked_found (unsigned t.0) text number r.now 117 (integer_len text) t.1 (ap (λ (xs : List ℕ). xs ++ letter_u ∷ []) t.2) front after
+    -- and after `u`, if it writes the unsigned number so
+    pub unsigned_answer : byte letter_u after ≡ reads letter_u r.now → ok ≡ is_written_unsigned number
+        → IsOnlyRest (IsWrittenValue text) EndsValue o
+    unsigned_answer read tells = rw (is, tells) (marked_answer text r.now (is_written_unsigned number) found only r refl)
+      where
+        -- the number is found
+        found : is_written_unsigned number ≡ true → IsWrittenValue text r.now
+        found ok =
+            let t = unsigned_told number signed_number ok in
+            marked_found (unsigned t.0) text number r.now letter_u (integer_len text) t.1 (ap (λ (xs : List ℕ). xs ++ letter_u ∷ []) t.2)
+            number_is (at_mark letter_u read)
 
-    -- and the builder writes no other there
-    only : (rest : List ℕ) → IsWrittenValue text rest → EndsValue rest → (is_written_unsigned number ≡ true) × (rest ≡ r.now)
-    only rest w ends = elim (shape text rest w ends) [
-      | an_integer z fits t ↦ absurd (omega (arith, ap (λ (xs : List ℕ). slice_index xs 0) (sym after ∙ t.after)))
-      | an_unsigned n fits t ↦ grind (arith, front, after, decimal_is_IsNumeral, no_minus, decimal_zero, lt-ltb)
-      | a_float x front ↦ absurd (front.no_u (byte_at_drop text r.now (integer_len text) letter_u after).0)
-      | a_string none quote x ↦ absurd (omega (arith, some, none))
-      | a_word b none word ↦ absurd (omega (arith, some, none))
-    ]
+        -- and the builder writes no other there
+        only : (rest : List ℕ) → IsWrittenValue text rest → EndsValue rest → (is_written_unsigned number ≡ true) × (rest ≡ r.now)
+        only rest w ends = elim (shape text rest w ends) [
+          | an_integer z fits t ↦ absurd (omega (arith, ap (λ (xs : List ℕ). slice_index xs 0) (sym (at_mark letter_u read) ∙ t.after)))
+          | an_unsigned n fits t ↦ grind (arith, number_is, at_mark letter_u read, decimal_is_IsNumeral, no_minus, decimal_zero, lt-ltb)
+          | a_float x f ↦ absurd (f.no_u (byte_at_drop text r.now (integer_len text) letter_u (at_mark letter_u read)).0)
+          | a_string none quote x ↦ absurd (omega (arith, len, some, none))
+          | a_word b none word ↦ absurd (omega (arith, len, some, none))
+        ]
+
+-- the steps of a reader of a number
+pub ruleset number_steps = (signed_number, integer_answer, unsigned_answer)
 
 -- what is read as a float is one that the builder writes
 float_found : (text t rest : List ℕ) → float_at text ≡ reads (float t) rest → IsWrittenValue text rest
@@ -317,13 +323,3 @@ string_only_value text (Some left) whole first only = (
   string_value text left.now only.0,
   λ rest w ends. only.1 rest (value_string text rest whole first w ends) tt,
 )
-
--- the same as the code finds it
-pub integer_found : (text number after : List ℕ) (whole : ℕ) (ok : Bool) (r : Bor (List ℕ)) (o : Option (Bor (List ℕ)))
-    → whole ≡ integer_len text → 0 < whole → number ≡ take whole text → after ≡ drop whole text → byte letter_i after ≡ reads letter_i r.now
-    → ok ≡ is_written_integer number → o ≡ then_some ok r → IsOnlyRest (IsWrittenValue text) EndsValue o
-integer_found text number after whole ok r o len some front back read tells is =
-    rw (is, tells) (integer_answer text number r (omega (arith, len, some)) (rw len at front) (at_mark letter_i text after r.now whole len back read))
-
--- the steps of a reader of a number
-pub ruleset number_steps = (signed_number, at_mark, integer_found, unsigned_answer)
