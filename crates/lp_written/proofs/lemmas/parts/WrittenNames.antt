@@ -132,7 +132,7 @@ written_spelled known stops (b ∷ c ∷ text) = elim (cases_Bool (stops b || is
 ]
 
 -- the token goes on after a run of bytes that are no marks
-pub run_passed : (kind : TokenKind) (bytes : List ℕ) (at end : ℕ) → IsRunAt (λ b. not (is_mark kind b)) bytes at end
+run_passed : (kind : TokenKind) (bytes : List ℕ) (at end : ℕ) → IsRunAt (λ b. not (is_mark kind b)) bytes at end
     → written_len (known_of kind) (stops_of kind) (drop at bytes)
     ≡ end - at + written_len (known_of kind) (stops_of kind) (drop end bytes)
 run_passed kind bytes at end run =
@@ -144,17 +144,34 @@ run_passed kind bytes at end run =
     passed ∙ ap (λ (xs : List ℕ). n + written_len (known_of kind) (stops_of kind) xs)
     (drop-drop n at bytes ∙ ap (λ k. drop k bytes) place)
 
+-- it goes on after a backslash and a byte that gets one
+escape_passed : (kind : TokenKind) (bytes : List ℕ) (at : ℕ) → at + 1 < length bytes → slice_index bytes at ≡ backslash
+    → is_one_of (known_of kind) (slice_index bytes (at + 1)) ≡ true
+    → written_len (known_of kind) (stops_of kind) (drop at bytes)
+    ≡ 2 + written_len (known_of kind) (stops_of kind) (drop (at + 2) bytes)
+escape_passed kind bytes at inside here found = grind (arith, drop_more, written_escape)
+
 -- a run ends at a mark
 pub run_mark : (kind : TokenKind) (bytes : List ℕ) (at end : ℕ) → IsRunAt (λ b. not (is_mark kind b)) bytes at end
     → end < length bytes → is_mark kind (slice_index bytes end) ≡ true
 run_mark kind bytes at end run inside = not-false (is_mark kind (slice_index bytes end)) (run.stops inside)
 
--- and it goes on after a backslash and a byte that gets one
-pub escape_passed : (kind : TokenKind) (bytes : List ℕ) (at : ℕ) → at + 1 < length bytes → slice_index bytes at ≡ backslash
-    → is_one_of (known_of kind) (slice_index bytes (at + 1)) ≡ true
-    → written_len (known_of kind) (stops_of kind) (drop at bytes)
-    ≡ 2 + written_len (known_of kind) (stops_of kind) (drop (at + 2) bytes)
-escape_passed kind bytes at inside here found = grind (arith, drop_more, written_escape)
+-- the token goes on after the first run
+pub first_run : (kind : TokenKind) (bytes : List ℕ) (end : ℕ) → IsRunAt (λ b. not (is_mark kind b)) bytes 0 end
+    → end + written_len (known_of kind) (stops_of kind) (drop end bytes) ≡ written_len (known_of kind) (stops_of kind) bytes
+first_run kind bytes end run = let passed = run_passed kind bytes 0 end run in omega (arith, passed)
+
+-- and after a backslash, a byte that gets one and the run after them
+pub next_run : (kind : TokenKind) (bytes : List ℕ) (at end : ℕ) (found : Bool) → IsRunAt (λ b. not (is_mark kind b)) bytes (at + 2) end
+    → at + written_len (known_of kind) (stops_of kind) (drop at bytes) ≡ written_len (known_of kind) (stops_of kind) bytes
+    → at + 1 < length bytes → slice_index bytes at ≡ backslash → found ≡ is_one_of (known_of kind) (slice_index bytes (at + 1)) → found ≡ true
+    → end + written_len (known_of kind) (stops_of kind) (drop end bytes) ≡ written_len (known_of kind) (stops_of kind) bytes
+next_run kind bytes at end found run so_far inside here is accepted =
+    let escape : written_len (known_of kind) (stops_of kind) (drop at bytes)
+    ≡ 2 + written_len (known_of kind) (stops_of kind) (drop (at + 2) bytes) =
+    escape_passed kind bytes at inside here (sym is ∙ accepted) in
+    let passed = run_passed kind bytes (at + 2) end run in
+    omega (arith, escape, passed, run.ordered, so_far)
 
 -- it ends at any other mark, and at the end of the text
 pub ends_here : (kind : TokenKind) (bytes : List ℕ) (at : ℕ) → at ≤ length bytes
@@ -162,6 +179,9 @@ pub ends_here : (kind : TokenKind) (bytes : List ℕ) (at : ℕ) → at ≤ leng
     → (at + 1 < length bytes → slice_index bytes at ≡ backslash → is_one_of (known_of kind) (slice_index bytes (at + 1)) ≡ true → ⊥)
     → written_len (known_of kind) (stops_of kind) (drop at bytes) ≡ 0
 ends_here kind bytes at within mark other = grind (arith, common_steps, written_ends, get_or-drop, length-drop)
+
+-- the steps of a reader of tokens
+pub ruleset token_steps = (run_mark, first_run, next_run, ends_here)
 
 -- what may be in a name is what its token can hold
 holds_same : (kind : NameKind) (b : ℕ) → can_hold (escapable kind) (is_stop kind) b ≡ may_hold kind b
