@@ -4,13 +4,10 @@ use Rattle.std.proofs.Common.{◌≡◌, ℕ, suc, zero, ◌+◌, ◌<◌, Bool,
 use Rattle.std.proofs.Common.{refl, ◌-◌, add-one, length-drop, length-append, ◌∙◌, ◌≤◌, ◌^◌, ◌*◌, ◌/◌, take_all, decimal, not, pow-suc, ◌%◌}
 use Rattle.std.proofs.Common.{eqb, map, eq-eqb, ne_eqb}
 use Rattle.std.proofs.Math.Nat.{one-le-pow}
-use Rattle.std.proofs.lemmas.Fmt.{decimal_step, decimal_digit}
-use Rattle.std.proofs.lemmas.Bool.{not-false, not-true, cases_eq}
+use Rattle.std.proofs.lemmas.{Fmt.decimal_step, Fmt.decimal_digit, Bool.not-false, Bool.not-true, Bool.cases_eq}
+use Rattle.std.proofs.lemmas.{List.Sums.list_all-from_AllPass, List.Elements.All-from_get_or, List.Folds.list_all_at}
 use Rattle.lp_format.specs.format.{backslash, is_one_of, escaped}
 use Rattle.lp_scan.specs.code.{IsRunAt, mask_of}
-use Rattle.std.proofs.lemmas.List.Sums.{list_all-from_AllPass}
-use Rattle.std.proofs.lemmas.List.Elements.{All-from_get_or}
-use Rattle.std.proofs.lemmas.List.Folds.{list_all_at}
 use Rattle.std.specs.List.{list_all}
 use lib.Lanes.{chunk, mask_l, top}
 use Rattle.lp_scan.proofs.lemmas.lanes.LaneLemmas.{Compared, either, is_in, lanes_in, mask_in, one, same_tests}

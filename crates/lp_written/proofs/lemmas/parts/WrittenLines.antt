@@ -1,18 +1,16 @@
 -- Tags, fields, timestamps and lines as the builder writes them.
-use Rattle.std.proofs.Common.{◌≡◌, ℕ, ◌<◌, ◌≤◌, Bool, true, false, List, [], ◌∷◌, ◌++◌, length, drop, slice_index, refl, sym, ap, subst, ◌∙◌}
-use Rattle.std.proofs.Common.{arith, append_assoc, append-nil, length-append, Option, Some, None, ◌↔◌, ℤ, IfSome, MatchOption, codes, Bor}
-use Rattle.std.proofs.Common.{flat_map, take_all}
-use Rattle.std.specs.Fmt.{signed_decimal}
-use Rattle.std.specs.List.{AllByRecursion, list_all}
+use Rattle.std.proofs.Common.{◌≡◌, ℕ, ◌<◌, ◌≤◌, Bool, true, false, List, [], ◌∷◌, ◌++◌, length, drop, slice_index, refl, sym, ap, subst}
+use Rattle.std.proofs.Common.{◌∙◌, arith, append_assoc, append-nil, length-append, Option, Some, None, ◌↔◌, ℤ, IfSome, MatchOption, codes}
+use Rattle.std.proofs.Common.{Bor, flat_map, take_all}
+use Rattle.std.specs.{Fmt.signed_decimal, List.AllByRecursion, List.list_all}
 use Rattle.std.proofs.lemmas.Bool.{and_from, false≢true}
-use Rattle.lp_format.specs.format.{comma, equals, space, NameKind, a_measurement, a_tag_key, a_tag_value, a_field_key, is_stop, byte, miss}
-use Rattle.lp_format.specs.format.{reads, IsSigned, integer_len, fits_i64, Field, Point, IsAsWritten, IsValue, built_field, built_fields}
-use Rattle.lp_format.specs.format.{built_tag, built_timestamp, built_value, is_admitted_field, is_admitted_point, is_admitted_tag, spelling}
-use Rattle.lp_format.proofs.lemmas.literals.FloatLemmas.{signed_front}
-use Rattle.lp_format.proofs.lemmas.read_back.IntegerReadsBack.{integer_written}
-use Rattle.lp_format.proofs.lemmas.values.ValueForms.{byte_missing}
-use Rattle.lp_written.specs.code.AsWritten.{AreItems, no_item, an_item, AreWrittenFields, EndsName, EndsValue, IsFollowed, IsName, IsOnlyRest, IsPair}
-use Rattle.lp_written.specs.code.AsWritten.{IsWritten, IsWrittenAfterField, IsWrittenAfterName, IsWrittenAfterTags, IsWrittenField}
+use Rattle.lp_format.specs.format.{comma, equals, space, NameKind, a_measurement, a_tag_key, a_tag_value, is_stop, byte, miss, reads}
+use Rattle.lp_format.specs.format.{IsSigned, integer_len, fits_i64, Field, Point, IsAsWritten, IsValue, built_field, built_fields}
+use Rattle.lp_format.specs.format.{built_tag, built_timestamp, is_admitted_field, is_admitted_point, is_admitted_tag, spelling}
+use Rattle.lp_format.proofs.lemmas.{literals.FloatLemmas.signed_front, read_back.IntegerReadsBack.integer_written}
+use Rattle.lp_format.proofs.lemmas.{values.ValueForms.byte_missing}
+use Rattle.lp_written.specs.code.AsWritten.{AreItems, no_item, an_item, AreWrittenFields, EndsName, EndsValue, IsFollowed, IsOnlyRest}
+use Rattle.lp_written.specs.code.AsWritten.{IsPair, IsWritten, IsWrittenAfterField, IsWrittenAfterName, IsWrittenAfterTags, IsWrittenField}
 use Rattle.lp_written.specs.code.AsWritten.{IsWrittenName, IsWrittenTag, IsWrittenTimestamp, is_written_integer, pair_text}
 use Rattle.lp_written.proofs.lemmas.parts.WrittenNames.{byte_left, stop_ends}
 use Rattle.lp_written.proofs.lemmas.parts.WrittenNumbers.{integer_tells, integer_told}

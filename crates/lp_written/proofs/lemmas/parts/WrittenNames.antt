@@ -5,13 +5,11 @@ use Rattle.std.proofs.Common.{take-append-drop, suc, zero, ◌+◌, ◌-◌, ◌
 use Rattle.std.proofs.Common.{get_or-drop, length-drop}
 use Rattle.std.specs.List.{list_all}
 use Rattle.std.proofs.lemmas.Bool.{cases_Bool, false≢true, and_parts, and_from, or_parts, not-true, not-false}
-use Rattle.std.proofs.lemmas.Grind.{common_steps}
-use Rattle.std.proofs.lemmas.List.{append_cancel_right, drop_more}
+use Rattle.std.proofs.lemmas.{Grind.common_steps, List.append_cancel_right, List.drop_more}
 use Rattle.lp_format.specs.format.{backslash, hash, quote, escaped, NameKind, a_measurement, ends_in_backslash, escapable, is_stop}
 use Rattle.lp_format.specs.format.{quotable, is_admitted_name, spelling, byte, miss, reads, is_one_of}
-use Rattle.lp_format.proofs.lemmas.names.NameLemmas.{escapable_backslash, logical_ends}
 use Rattle.lp_format.proofs.lemmas.read_back.NameReadsBack.{admitted_parts, escaped_found, escaped_plain, logical_spelling, may_hold}
-use Rattle.lp_format.proofs.lemmas.values.ValueForms.{byte_missing}
+use Rattle.lp_format.proofs.lemmas.{names.NameLemmas.escapable_backslash, names.NameLemmas.logical_ends, values.ValueForms.byte_missing}
 use Rattle.lp_written.specs.code.AsWritten.{written_len, EndsName, IsOnlyRest, IsWrittenName, IsWrittenString, is_admitted_spelling}
 use Rattle.lp_scan.specs.declared.sets.TokenKind.{TokenKind}
 use Rattle.lp_scan.specs.code.{is_mark, known_of, stops_of, IsRunAt}

@@ -1,20 +1,17 @@
 -- Numbers as the builder writes them.
-use Rattle.std.proofs.Common.{◌≡◌, ◌≢◌, ◌⊎◌, ℕ, ◌^◌, ◌<◌, ◌&&◌, ◌||◌, Bool, true, false, not, List, [], ◌∷◌, ◌++◌, length, take, drop}
+use Rattle.std.proofs.Common.{◌≡◌, ◌≢◌, ℕ, ◌^◌, ◌<◌, ◌&&◌, ◌||◌, Bool, true, false, not, List, [], ◌∷◌, ◌++◌, length, take, drop}
 use Rattle.std.proofs.Common.{slice_index, get_or, refl, sym, ap, subst, ◌∙◌, arith, inl, inr, append_assoc, Option, Some, None, ◌==◌, ℤ}
 use Rattle.std.proofs.Common.{pos, decimal, codes, nat_lt, neg_ℤ, MatchOption, Bor, eqb-true, ne_eqb, lt-ltb, ltb-true, take_at, drop_at}
 use Rattle.std.proofs.Common.{take-append-drop}
-use Rattle.std.specs.Fmt.{signed_decimal}
 use Rattle.std.specs.Str.Parse.{AllDigits, IsNumeral, digits_value, signed_digits_value}
+use Rattle.std.specs.{Fmt.signed_decimal, Bool.then_some, Str.Pattern.FindsTextPrefix, Str.Pattern.LacksTextAt, Str.Pattern.StripsPrefix}
 use Rattle.std.proofs.Math.Nat.{pow-le-pow_right}
-use Rattle.std.specs.Bool.{then_some}
-use Rattle.std.specs.Str.Pattern.{FindsTextPrefix, LacksTextAt, StripsPrefix}
-use Rattle.lp_format.specs.format.{escaped, quotable, IsSigned, IsFloat, Value, integer, unsigned, float, string, boolean, integer_len}
-use Rattle.lp_format.specs.format.{fits_i64, float_at, float_len, minus, miss, reads, IsValue, built_value, byte}
+use Rattle.lp_format.specs.format.{IsSigned, IsFloat, Value, integer, unsigned, float, string, boolean, integer_len, fits_i64, float_at}
+use Rattle.lp_format.specs.format.{float_len, minus, miss, reads, IsValue, built_value, byte}
 use Rattle.lp_format.specs.format.Bytes.{letter_i, letter_u, quote}
 use Rattle.std.proofs.lemmas.Bool.{cases_Bool, cases_lt, and_parts, eqb-false, or_parts, false≢true, not-true}
 use Rattle.std.proofs.lemmas.Fmt.{decimal_is_IsNumeral, decimal-digits_value, decimal_digit, first_decimal}
-use Rattle.std.proofs.lemmas.Int.Digits.{digits_value-lt}
-use Rattle.std.proofs.lemmas.Str.Parse.{digit_from_value, numerals_by_value, tells_digits}
+use Rattle.std.proofs.lemmas.{Int.Digits.digits_value-lt, Str.Parse.digit_from_value, Str.Parse.numerals_by_value, Str.Parse.tells_digits}
 use Rattle.lp_format.proofs.lemmas.literals.FloatLemmas.{float_len_float, float_misses, float_reads, signed_front, FloatFront, float_front}
 use Rattle.lp_format.proofs.lemmas.read_back.IntegerReadsBack.{integer_written, unsigned_len}
 use Rattle.lp_format.proofs.lemmas.values.ValueLemmas.{byte_at_drop, fits_from_test, test_from_fits}

@@ -3,21 +3,17 @@
 use Rattle.std.proofs.Common.{◌≡◌, ◌≢◌, ℕ, ◌<◌, List, [], length, take, drop, Bool, true, false, cond, subst, arith, Option, Some, None, Ok}
 use Rattle.std.proofs.Common.{Err, Result, ◌==◌, ℤ, IfSome, ◌∷◌, ◌++◌, ap}
 use Rattle.std.specs.List.{AllByRecursion}
-use Rattle.std.proofs.lemmas.Bool.{eqb-false}
-use Rattle.std.proofs.lemmas.Bool.Decides.{nat_tests}
-use Rattle.std.proofs.lemmas.List.{length-map, append_cancel_right}
+use Rattle.std.proofs.lemmas.{Bool.eqb-false, Bool.Decides.nat_tests, List.length-map, List.append_cancel_right}
 use Rattle.lp_format.specs.format.{Dialect, Fault, Text, Read, Reading, miss, reads, ◌otherwise◌, Value, float, float_len, fits_i64}
 use Rattle.lp_format.specs.format.{integer_at, unsigned_at, float_at, string_at, boolean_at, value, Pair, IsValue, logical_field}
 use Rattle.lp_format.specs.format.{logical_value, field, separated_list, field_set, without_comma, spaces, timestamp, newline, line_of}
 use Rattle.lp_format.specs.format.{answer, point_of}
 use Rattle.lp_format.specs.laws.PointsOfLines.{LinesArePoints, LinesThatStayAreWritten, WrittenLinesStay}
-use Rattle.lp_format.proofs.lemmas.literals.FloatLemmas.{float_len_float}
-use Rattle.lp_format.proofs.lemmas.names.Inversions.{joined_of}
-use Rattle.lp_format.proofs.lemmas.meanings.ShorterRests.{field_no_longer}
+use Rattle.lp_format.proofs.lemmas.{literals.FloatLemmas.float_len_float, names.Inversions.joined_of, meanings.ShorterRests.field_no_longer}
+use Rattle.lp_format.proofs.lemmas.{read_back.NameReadsBack.read_line, read_back.NameReadsBack.read_line_is}
 use Rattle.lp_values.proofs.lemmas.fields.ReadingLemmas.{bind_reads, pair_parts}
 use Rattle.lp_lines.proofs.lemmas.names.ParsedNames.{all_made, answer_parts, ok_same}
 use Rattle.lp_lines.proofs.lemmas.line.AnsweredLines.{joined_some}
-use Rattle.lp_format.proofs.lemmas.read_back.NameReadsBack.{read_line, read_line_is}
 use Rattle.lp_lines.proofs.lemmas.read_back.{LinePieces.admitted_point, LineReadsBack.line_reads_back}
 
 -- a value that was read is one of its type
