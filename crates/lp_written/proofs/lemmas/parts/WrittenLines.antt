@@ -70,17 +70,9 @@ module _ {V : Type 0} (kind : NameKind) (stops : is_stop kind equals ≡ true) (
       )
 
 -- what follows a thing is no longer than the text
-written_less : {X : Type 0} (print : X → List ℕ) (Is : X → Type 0) (text rest : List ℕ) → IsWritten print Is text rest
+pub written_less : {X : Type 0} (print : X → List ℕ) (Is : X → Type 0) (text rest : List ℕ) → IsWritten print Is text rest
     → length rest ≤ length text
 written_less print is text rest w = omega (arith, ap length w.written, length-append (print w.thing) rest)
-
--- nor what follows a tag
-pub tag_less : (text rest : List ℕ) → IsWrittenTag text rest → length rest ≤ length text
-tag_less text rest w = written_less _ _ text rest w
-
--- nor what follows a field
-pub field_less : (text rest : List ℕ) → IsWrittenField text rest → length rest ≤ length text
-field_less text rest w = written_less _ _ text rest w
 
 -- if the only rest of the front is known, the whole is of its form if the rest is
 followed_step : (Front : List ℕ → List ℕ → Type 0) (After Ends : List ℕ → Type 0) → ((text : List ℕ) → After text → Ends text)
@@ -334,7 +326,7 @@ line_step line = followed_step (IsWrittenName a_measurement) IsWrittenAfterName 
     (items_end IsWrittenTag IsWrittenAfterTags (EndsName a_measurement) (comma_ends a_measurement refl) (gap_ends a_measurement refl) gap_no_comma) (IsAsWritten line) line (line_is line)
 
 -- the steps of a reader of tags
-pub ruleset tag_steps = (tag_less, no_gap, fields_after, tag_kept, no_tag)
+pub ruleset tag_steps = (written_less, no_gap, fields_after, tag_kept, no_tag)
 
 -- the steps of a reader of a pair
 pub ruleset pair_steps = (pair_no_key, pair_no_sign, pair_answer)
@@ -343,4 +335,4 @@ pub ruleset pair_steps = (pair_no_key, pair_no_sign, pair_answer)
 pub ruleset stamp_steps = (whole_number, timestamp_tells)
 
 -- the steps of a reader of fields
-pub ruleset field_steps = (field_less, field_kept, no_field, only_timestamp)
+pub ruleset field_steps = (written_less, field_kept, no_field, only_timestamp)
