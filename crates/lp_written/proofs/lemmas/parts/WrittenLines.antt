@@ -323,7 +323,8 @@ line_is line = (there, back)
 pub line_step : (line : List ℕ) (o : Option (Bor (List ℕ))) → IsOnlyRest (IsWrittenName a_measurement line) (EndsName a_measurement) o
     → MatchOption o (IsAsWritten line → ⊥) (λ r. IsWrittenAfterName r.now ↔ IsAsWritten line)
 line_step line = followed_step (IsWrittenName a_measurement) IsWrittenAfterName (EndsName a_measurement)
-    (items_end IsWrittenTag IsWrittenAfterTags (EndsName a_measurement) (comma_ends a_measurement refl) (gap_ends a_measurement refl) gap_no_comma) (IsAsWritten line) line (line_is line)
+    (items_end IsWrittenTag IsWrittenAfterTags (EndsName a_measurement) (comma_ends a_measurement refl) (gap_ends a_measurement refl) gap_no_comma)
+    (IsAsWritten line) line (line_is line)
 
 -- the steps of a reader of tags
 pub ruleset tag_steps = (written_less, no_gap, fields_after, tag_kept, no_tag)
