@@ -51,7 +51,7 @@ pub fn lines_are_points()
 
 /// A text that [`builder::is_as_written`](crate::builder::is_as_written) is read in each dialect, and what the builder writes for the
 /// point of that line, whose names are all admitted, is the text and a newline. No other text is read so.
-#[tactic(auto, using(lp_written::proofs::lemmas::points::WrittenLinesStay::stay_laws))]
+#[tactic(auto, using(lp_written::proofs::lemmas::points::LinesArePoints::stay_laws))]
 pub fn written_lines_stay()
     ensures stay { WrittenLinesStay }
     ensures written { LinesThatStayAreWritten }

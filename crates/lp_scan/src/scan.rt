@@ -54,7 +54,7 @@ pub fn escapes_next(backslashes: u64) -> usize
 
 /// How many of the lowest `n` bits are set.
 #[inline(always)]
-#[tactic(auto, using(crate::proofs::lemmas::scan::MaskBits::below_is))]
+#[tactic(auto, using(crate::proofs::lemmas::scan::MaskLemmas::below_is))]
 pub fn ones_below(mask: u64, n: usize) -> usize
     requires { n ≤ WIDE }
     ensures { result ≡ count_ones (mask % 2 ^ n) }

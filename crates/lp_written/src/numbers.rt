@@ -24,6 +24,7 @@ fn has_extra_zero(number: &[u8]) -> bool
 }
 
 // Whether the builder writes `number`, at the start of `text`, so as an integer.
+#[tactic(auto, using(crate::proofs::lemmas::parts::WrittenNumbers::short_written))]
 #[inline(always)]
 pub(crate) fn is_written_integer(number: &str, text: &str) -> bool
     requires signed { IsSigned (codes "-") number.now }
@@ -46,6 +47,7 @@ fn is_written_unsigned(number: &str, text: &str) -> bool
 }
 
 // What follows the longest float at the start of `text`, where an integer takes `whole` bytes, and no mark of it follows.
+#[tactic(auto, using(crate::proofs::lemmas::parts::WrittenNumbers::float_steps))]
 #[inline(always)]
 fn after_float(text: &str, whole: usize) -> Option<&str>
     requires whole { whole ≡ integer_len text.now }
@@ -78,6 +80,7 @@ fn after_number(text: &str, whole: usize) -> Option<&str>
 }
 
 // What follows the word for a Boolean at the start of `text`, if neither a number nor a string is.
+#[tactic(auto, using(crate::proofs::lemmas::parts::WrittenNumbers::last_word))]
 #[inline(always)]
 fn after_word(text: &str) -> Option<&str>
     requires no_number { integer_len text.now ≡ 0 }

@@ -42,7 +42,7 @@ fn unmarked_end(kind: TokenKind, bytes: &[u8], at: usize) -> usize
 }
 
 // How many bytes at the start are those of a token as the builder spells it.
-#[tactic(auto, using(crate::proofs::lemmas::parts::WrittenTokens::ends_here))]
+#[tactic(auto, using(crate::proofs::lemmas::parts::WrittenNames::token_steps))]
 #[inline(always)]
 fn written_len(kind: TokenKind, bytes: &[u8]) -> usize
     ensures value { result ≡ written_len (known_of kind) (stops_of kind) bytes.now }

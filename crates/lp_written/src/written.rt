@@ -12,6 +12,7 @@ use lp_values::literals::integer_len;
 use lp_values::names::NameKind;
 
 // What follows the tag at the start of `text`, if that is as the builder writes it.
+#[tactic(auto, using(crate::proofs::lemmas::parts::WrittenLines::pair_steps))]
 #[inline(always)]
 fn after_tag(text: &str) -> Option<&str>
     ensures { IsOnlyRest (IsWrittenTag text.now) (EndsName a_tag_value) result }
@@ -22,6 +23,7 @@ fn after_tag(text: &str) -> Option<&str>
 }
 
 // What follows the field at the start of `text`, if that is as the builder writes it.
+#[tactic(auto, using(crate::proofs::lemmas::parts::WrittenLines::pair_steps))]
 #[inline(always)]
 fn after_field(text: &str) -> Option<&str>
     ensures { IsOnlyRest (IsWrittenField text.now) EndsValue result }
@@ -32,7 +34,7 @@ fn after_field(text: &str) -> Option<&str>
 }
 
 // Whether the builder writes `text` for a timestamp, or for none.
-#[tactic(auto, using(crate::proofs::lemmas::parts::WrittenLines::whole_number))]
+#[tactic(auto, using(crate::proofs::lemmas::parts::WrittenLines::stamp_steps))]
 #[inline(always)]
 fn is_timestamp(text: &str) -> bool
     ensures { (result ≡ true) ↔ IsWrittenTimestamp text.now }
@@ -54,7 +56,7 @@ fn is_timestamp(text: &str) -> bool
 }
 
 // Whether the builder writes `text` after a field.
-#[tactic(auto, using(crate::proofs::lemmas::parts::WrittenLines::field_less))]
+#[tactic(auto, using(crate::proofs::lemmas::parts::WrittenLines::field_steps))]
 #[inline(always)]
 fn is_after_field(text: &str) -> bool
     ensures { (result ≡ true) ↔ IsWrittenAfterField text.now }

@@ -1,3 +1,2 @@
 pub mod BuilderLemmas
-pub mod MarkLemmas
 pub mod WrittenAgainLemmas

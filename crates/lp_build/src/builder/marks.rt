@@ -73,7 +73,7 @@ pub(crate) fn before_first(marks: [u8; 4], text: &[u8]) -> usize
 }
 
 // Whether the text holds no mark.
-#[tactic(auto, using(crate::proofs::lemmas::builder::MarkLemmas::first_decides))]
+#[tactic(auto, using(crate::proofs::lemmas::builder::BuilderLemmas::first_decides))]
 #[inline(always)]
 pub(crate) fn is_free_of(marks: [u8; 4], text: &[u8]) -> bool
     ensures { result ≡ list_all (λ b. not (is_one_of marks b)) text.now }

@@ -21,6 +21,7 @@ fn marks(kind: TokenKind) -> [u8; 4]
 }
 
 // The first byte of `text` that gets a backslash: what comes before it, the byte, and what follows.
+#[tactic(auto, using(crate::proofs::lemmas::builder::BuilderLemmas::escaped_first))]
 #[inline(always)]
 fn next_escape(kind: TokenKind, text: &[u8]) -> Option<(&[u8], u8, &[u8])>
     ensures some { IfSome result (λ p. escaped (known_of kind) text.now

@@ -1,4 +1,2 @@
 pub mod BareMasks
-pub mod EscapedMasks
-pub mod MaskBits
 pub mod MaskLemmas

@@ -1,4 +1,3 @@
-pub mod WrittenTokens
 pub mod WrittenNames
 pub mod WrittenNumbers
 pub mod WrittenLines

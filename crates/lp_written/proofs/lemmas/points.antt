@@ -1,2 +1,1 @@
 pub mod LinesArePoints
-pub mod WrittenLinesStay

@@ -1,12 +1,11 @@
 -- The parts of a text that are as the builder writes them.
 use Rattle.std.specs.Prelude.{◌≡◌, ◌&&◌, ◌||◌, ◌==◌, ◌+◌, ◌^◌, ℕ, ℤ, Bool, true, false, not, nat_lt, Option, List, [], ◌∷◌, ◌++◌, length}
-use Rattle.std.specs.Prelude.{MatchOption, if◌then◌else◌, slice_index}
+use Rattle.std.specs.Prelude.{IfSome, MatchOption, if◌then◌else◌, slice_index}
 use Rattle.std.specs.Borrow.{Bor}
-use Rattle.std.specs.Fmt.{signed_decimal}
 use Rattle.std.specs.Str.Parse.{digits_value, signed_digits_value}
-use Rattle.lp_format.specs.format.{backslash, comma, equals, hash, is_one_of, minus, quote, space, escaped, NameKind, a_measurement}
-use Rattle.lp_format.specs.format.{a_tag_key, a_tag_value, a_field_key, ends_in_backslash, escapable, is_stop, Value, fits_i64, quotable}
-use Rattle.lp_format.specs.format.{IsValue, built_value, is_admitted_name, spelling}
+use Rattle.lp_format.specs.format.{backslash, comma, equals, hash, is_one_of, minus, space, NameKind, a_measurement, a_tag_key}
+use Rattle.lp_format.specs.format.{a_tag_value, a_field_key, ends_in_backslash, escapable, is_stop, Pair, fits_i64, string, IsValue}
+use Rattle.lp_format.specs.format.{built_timestamp, built_value, is_admitted_name, spelling}
 
 -- how many bytes at the start of a text are those of a token as the builder spells it: up to the first byte that ends it or
 -- that has a backslash in it, unless that is a backslash before such a byte
@@ -17,11 +16,19 @@ written_len known stops (b ∷ c ∷ rest) = if stops b || is_one_of known b
     then if b == backslash && is_one_of known c then 2 + written_len known stops rest else 0
     else 1 + written_len known stops (c ∷ rest)
 
+-- a thing of this form is written at the start of the text, and this rest follows
+pub record IsWritten {X : Type 0} (print : X → List ℕ) (Is : X → Type 0) (text rest : List ℕ) : Type 0 where
+  pub thing : X
+  pub is : Is thing
+  pub written : print thing ++ rest ≡ text
+
+-- a name of this kind is admitted
+abbrev pub IsName : NameKind → List ℕ → Type 0
+IsName kind name = is_admitted_name kind name ≡ true
+
 -- the builder writes the text for an admitted name of this kind and this rest
-pub record IsWrittenName (kind : NameKind) (text rest : List ℕ) : Type 0 where
-  pub name : List ℕ
-  pub admitted : is_admitted_name kind name ≡ true
-  pub written : spelling kind name ++ rest ≡ text
+abbrev pub IsWrittenName : NameKind → List ℕ → List ℕ → Type 0
+IsWrittenName kind = IsWritten (spelling kind) (IsName kind)
 
 -- whether the names of this kind that are spelled so are admitted, as far as their first and last bytes tell
 abbrev pub is_admitted_spelling : NameKind → List ℕ → Bool
@@ -34,15 +41,12 @@ abbrev pub EndsName : NameKind → List ℕ → Type 0
 EndsName kind rest = written_len (escapable kind) (is_stop kind) rest ≡ 0
 
 -- the builder writes the text for a string and this rest
-pub record IsWrittenString (text rest : List ℕ) : Type 0 where
-  pub body : List ℕ
-  pub written : quote ∷ (escaped quotable body ++ quote ∷ rest) ≡ text
+abbrev pub IsWrittenString : List ℕ → List ℕ → Type 0
+IsWrittenString = IsWritten (λ body. built_value (string body)) (λ body. Unit)
 
 -- the builder writes the text for a value and this rest
-pub record IsWrittenValue (text rest : List ℕ) : Type 0 where
-  pub value : Value (List ℕ)
-  pub fits : IsValue value
-  pub written : built_value value ++ rest ≡ text
+abbrev pub IsWrittenValue : List ℕ → List ℕ → Type 0
+IsWrittenValue = IsWritten built_value IsValue
 
 -- whether a number begins with a zero that the builder does not write: after `-`, or before more digits
 abbrev pub has_extra_zero : List ℕ → Bool
@@ -61,24 +65,25 @@ is_written_unsigned number = not (slice_index number 0 == minus) && not (has_ext
 abbrev pub EndsValue : List ℕ → Type 0
 EndsValue rest = is_one_of (0 ∷ comma ∷ space ∷ []) (slice_index rest 0) ≡ true
 
--- an admitted name of this kind, the sign after it and such a value are at the start of the text, and this rest follows
-pub record IsWrittenPair (kind : NameKind) (Value : List ℕ → List ℕ → Type 0) (text rest : List ℕ) : Type 0 where
-  pub after : List ℕ
-  pub key : IsWrittenName kind text (equals ∷ after)
-  pub value : Value after rest
+-- the text of a tag or a field, without the byte before it
+abbrev pub pair_text : {V : Type 0} → NameKind → (V → List ℕ) → Pair (List ℕ) V → List ℕ
+pair_text kind print p = spelling kind p.key ++ equals ∷ print p.value
+
+-- its key is admitted, and its value is of this form
+abbrev pub IsPair : {V : Type 0} → NameKind → (V → Type 0) → Pair (List ℕ) V → Type 0
+IsPair kind Is p = IsName kind p.key × Is p.value
 
 -- the builder writes the text for an admitted tag, without the comma before it, and this rest
 abbrev pub IsWrittenTag : List ℕ → List ℕ → Type 0
-IsWrittenTag text rest = IsWrittenPair a_tag_key (IsWrittenName a_tag_value) text rest
+IsWrittenTag = IsWritten (pair_text a_tag_key (spelling a_tag_value)) (IsPair a_tag_key (IsName a_tag_value))
 
 -- the builder writes the text for a field whose key is admitted, and this rest
 abbrev pub IsWrittenField : List ℕ → List ℕ → Type 0
-IsWrittenField text rest = IsWrittenPair a_field_key IsWrittenValue text rest
+IsWrittenField = IsWritten (pair_text a_field_key built_value) (IsPair a_field_key IsValue)
 
 -- the builder writes the text for a timestamp, or for none
-pub data IsWrittenTimestamp (text : List ℕ) : Type 0 where
-  absent : text ≡ [] → IsWrittenTimestamp text
-  present : (z : ℤ) → fits_i64 z ≡ true → text ≡ space ∷ signed_decimal z → IsWrittenTimestamp text
+abbrev pub IsWrittenTimestamp : List ℕ → Type 0
+IsWrittenTimestamp text = (t : Option ℤ) × IfSome t (λ z. fits_i64 z ≡ true) × (built_timestamp t ≡ text)
 
 -- such a front is at the start of the text, and the rest is of this form
 pub record IsFollowed (Front : List ℕ → List ℕ → Type 0) (After : List ℕ → Type 0) (text : List ℕ) : Type 0 where
@@ -93,19 +98,19 @@ pub data AreItems (Item : List ℕ → List ℕ → Type 0) (After : List ℕ �
 
 -- the builder writes the text after a field: for the fields that follow, and a timestamp
 abbrev pub IsWrittenAfterField : List ℕ → Type 0
-IsWrittenAfterField text = AreItems IsWrittenField IsWrittenTimestamp text
+IsWrittenAfterField = AreItems IsWrittenField IsWrittenTimestamp
 
 -- the builder writes the text for a field, and for what comes after it
 abbrev pub AreWrittenFields : List ℕ → Type 0
-AreWrittenFields text = IsFollowed IsWrittenField IsWrittenAfterField text
+AreWrittenFields = IsFollowed IsWrittenField IsWrittenAfterField
 
 -- the text is a space and such fields
 abbrev pub IsWrittenAfterTags : List ℕ → Type 0
-IsWrittenAfterTags text = IsFollowed (λ text rest. text ≡ space ∷ rest) AreWrittenFields text
+IsWrittenAfterTags = IsFollowed (λ text rest. text ≡ space ∷ rest) AreWrittenFields
 
 -- the builder writes the text after a measurement: for tags, at least one field, and a timestamp
 abbrev pub IsWrittenAfterName : List ℕ → Type 0
-IsWrittenAfterName text = AreItems IsWrittenTag IsWrittenAfterTags text
+IsWrittenAfterName = AreItems IsWrittenTag IsWrittenAfterTags
 
 -- what is left of a text is the rest that follows such a front, and no other rest that ends it does; or none does
 abbrev pub IsOnlyRest : (List ℕ → Type 0) → (List ℕ → Type 0) → Option (Bor (List ℕ)) → Type 0

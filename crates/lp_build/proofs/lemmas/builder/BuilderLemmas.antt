@@ -1,13 +1,44 @@
--- Escaped texts: how long they are, and what comes before and after the first byte with a backslash.
--- And how many digits a number has.
-use Rattle.std.proofs.Common.{◌≡◌, ℕ, suc, zero, ◌+◌, ◌<◌, Bool, true, false, List, [], ◌∷◌, ◌++◌, length, take, drop, get_or, arith}
-use Rattle.std.proofs.Common.{ap, refl, ◌-◌, add-one, length-drop, length-append, ◌∙◌, ◌≤◌, ◌^◌, ◌*◌, ◌/◌, take_all, decimal}
-use Rattle.std.proofs.Common.{not, pow-suc}
+-- Escaped texts: the first byte with a backslash, by the mask of a load, and what comes before and after it. And how many digits
+-- a number has.
+use Rattle.std.proofs.Common.{◌≡◌, ℕ, suc, zero, ◌+◌, ◌<◌, Bool, true, false, List, [], ◌∷◌, ◌++◌, length, take, drop, get_or, arith, ap}
+use Rattle.std.proofs.Common.{refl, ◌-◌, add-one, length-drop, length-append, ◌∙◌, ◌≤◌, ◌^◌, ◌*◌, ◌/◌, take_all, decimal, not, pow-suc, ◌%◌}
+use Rattle.std.proofs.Common.{eqb, map, eq-eqb, ne_eqb}
 use Rattle.std.proofs.Math.Nat.{one-le-pow}
-use Rattle.std.proofs.lemmas.Fmt.{decimal_step, decimal_digit}
-use Rattle.std.proofs.lemmas.Bool.{not-false, not-true}
+use Rattle.std.proofs.lemmas.{Fmt.decimal_step, Fmt.decimal_digit, Bool.not-false, Bool.not-true, Bool.cases_eq}
+use Rattle.std.proofs.lemmas.{List.Sums.list_all-from_AllPass, List.Elements.All-from_get_or, List.Folds.list_all_at}
 use Rattle.lp_format.specs.format.{backslash, is_one_of, escaped}
-use Rattle.lp_scan.specs.code.{IsRunAt}
+use Rattle.lp_scan.specs.code.{IsRunAt, mask_of}
+use Rattle.std.specs.List.{list_all}
+use lib.Lanes.{chunk, mask_l, top}
+use Rattle.lp_scan.proofs.lemmas.lanes.LaneLemmas.{Compared, either, is_in, lanes_in, mask_in, one, same_tests}
+
+-- two numbers are equal in either order
+eqb_swap : (a b : ℕ) → eqb a b ≡ eqb b a
+eqb_swap a b = grind (arith, cases_eq, eq-eqb, ne_eqb)
+
+-- what the lanes of a load are compared with: four marks
+abbrev pub compared : List ℕ → Compared
+compared marks = either (either (one (get_or marks 0 0)) (one (get_or marks 1 0))) (either (one (get_or marks 2 0)) (one (get_or marks 3 0)))
+
+-- a byte is a mark if it is one of those
+is_mark : (marks : List ℕ) → length marks ≡ 4 → (b : ℕ) → is_in (compared marks) b ≡ is_one_of marks b
+is_mark (m0 ∷ m1 ∷ m2 ∷ m3 ∷ []) four b = grind (arith, eqb_swap)
+is_mark marks four b = absurd (omega arith)
+
+-- the mask of the lanes of a load is that of its bytes
+pub mask_of_load : (marks d : List ℕ) (i n : ℕ) → length marks ≡ 4 → i + n ≤ length d → n ≤ 64
+    → mask_l (map (top 7) (lanes_in (compared marks) n (chunk i n d))) % 2 ^ 64 ≡ mask_of (is_one_of marks) d i n
+mask_of_load marks d i n four room few =
+    mask_in (compared marks) d i n room few
+    ∙ ap mask_l (same_tests (is_in (compared marks)) (is_one_of marks) (is_mark marks four) (chunk i n d))
+
+-- a text in which each byte passes the test
+free_whole : (q : ℕ → Bool) (d : List ℕ) → ((k : ℕ) → k < length d → q (get_or d k 0) ≡ true) → list_all q d ≡ true
+free_whole q d all = list_all-from_AllPass q d (All-from_get_or (λ b. q b ≡ true) d 0 all)
+
+-- the place of the first byte that fails a test decides whether all pass it
+pub first_decides : (q : ℕ → Bool) (d : List ℕ) (r : ℕ) → IsRunAt q d 0 r → eqb r (length d) ≡ list_all q d
+first_decides q d r run = grind (arith, cases_eq, eq-eqb, free_whole, ne_eqb, list_all_at)
 
 -- a text without a byte that gets a backslash stays
 pub escaped_same : (bytes text : List ℕ)
@@ -35,17 +66,17 @@ rest_of : (text : List ℕ) (n : ℕ) → take (length text - n) (drop n text) �
 rest_of text n = take_all (length text - n) (drop n text) (omega (arith, length-drop n text))
 
 -- the same, as the code finds the byte and slices after it
-pub escaped_first : (bytes text : List ℕ) (mark : ℕ → Bool) (at : ℕ)
-    → ((b : ℕ) → mark b ≡ is_one_of bytes b) → IsRunAt (λ b. not (mark b)) text 0 at → at < length text
+pub escaped_first : (bytes text marks : List ℕ) (at : ℕ)
+    → ((b : ℕ) → is_one_of marks b ≡ is_one_of bytes b) → IsRunAt (λ b. not (is_one_of marks b)) text 0 at → at < length text
     → escaped bytes text
     ≡ take at text ++ backslash ∷ get_or text at 0 ∷ escaped bytes (take (length text - (at + 1)) (drop (at + 1) text))
-escaped_first bytes text mark at same run within = grind (arith, not-true, not-false, rest_of, add-one, escaped_at)
+escaped_first bytes text marks at same run within = grind (arith, not-true, not-false, rest_of, add-one, escaped_at)
 
 -- if no byte is found, the text stays
-pub escaped_none : (bytes text : List ℕ) (mark : ℕ → Bool) (at : ℕ)
-    → ((b : ℕ) → mark b ≡ is_one_of bytes b) → IsRunAt (λ b. not (mark b)) text 0 at → at ≡ length text
+pub escaped_none : (bytes text marks : List ℕ) (at : ℕ)
+    → ((b : ℕ) → is_one_of marks b ≡ is_one_of bytes b) → IsRunAt (λ b. not (is_one_of marks b)) text 0 at → at ≡ length text
     → escaped bytes text ≡ text
-escaped_none bytes text mark at same run all = grind (arith, not-true, escaped_same)
+escaped_none bytes text marks at same run all = grind (arith, not-true, escaped_same)
 
 -- the length of a number that lies between two powers of ten
 pub length_decimal : (n k : ℕ)

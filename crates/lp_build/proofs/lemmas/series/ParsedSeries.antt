@@ -1,15 +1,13 @@
 -- The series of each line that is read is a parsed one.
-use Rattle.std.proofs.Common.{◌≡◌, ℕ, zero, suc, ◌≤◌, List, [], ◌∷◌, ◌++◌, length, drop, refl, sym, ap, ◌∙◌, subst, arith}
-use Rattle.std.proofs.Common.{append_assoc, Option, Some, None, Ok, take-append-drop}
-use Rattle.std.proofs.lemmas.Bool.{cases_Bool}
-use Rattle.std.proofs.lemmas.List.{append_cancel_left}
+use Rattle.std.proofs.Common.{◌≡◌, ℕ, zero, suc, ◌≤◌, List, [], ◌∷◌, ◌++◌, length, drop, refl, sym, ap, ◌∙◌, subst, arith, append_assoc}
+use Rattle.std.proofs.Common.{Option, Some, None, Ok, take-append-drop}
+use Rattle.std.proofs.lemmas.{Bool.cases_Bool, List.append_cancel_left}
 use Rattle.lp_lines.specs.laws.BaseLaws.{IsParsedSeries, ReadSeriesAreParsed}
 use Rattle.lp_format.specs.format.{after_comma, many, some_tags, tag, tag_set, NameKind, a_measurement, a_tag_key, a_tag_value, name}
 use Rattle.lp_format.specs.format.{spelled, spelled_len, Pair, Reading, Text, reads, comma, equals}
 use Rattle.lp_format.specs.laws.Meanings.{SeparatedAfterComma}
 use Rattle.lp_events.proofs.lemmas.fields.ManyLemmas.{set_separated}
-use Rattle.lp_lines.proofs.lemmas.read_back.LineReadsBack.{front_is}
-use Rattle.lp_lines.proofs.lemmas.names.ParsedNames.{answer_parts}
+use Rattle.lp_lines.proofs.lemmas.{read_back.LineReadsBack.front_is, names.ParsedNames.answer_parts}
 use Rattle.lp_values.proofs.lemmas.fields.ReadingLemmas.{name_parts, pair_parts, reads_parts}
 use Rattle.lp_format.proofs.lemmas.meanings.ShorterRests.{tag_no_longer}
 use Rattle.lp_split.proofs.lemmas.split.StopMeaning.{before_stop}

@@ -1,5 +1,5 @@
 use Rattle.std.proofs.Common.{refl}
-use Rattle.lp_scan.proofs.lemmas.scan.EscapedMasks.{tells_escaped}
+use Rattle.lp_scan.proofs.lemmas.scan.BareMasks.{tells_escaped}
 use Rattle.lp_scan.proofs.scan.escaped.Goals as goal
 
 pub returns-then-backslashes-eq0 : goal.returns-then-backslashes-eq0

@@ -13,7 +13,7 @@ use Rattle.lp_format.proofs.lemmas.names.NameLemmas.{without_escapes_plain_byte}
 use Rattle.lp_format.proofs.lemmas.split.SplitBare.{is_escaped-nil, is_escaped-append, is_escaped-after_other, flag_after}
 use Rattle.lp_scan.proofs.lemmas.scan.BareMasks.{at_most_one, escaped_is_not_bare, lowest_within, mask_next, next_bare, one_escaped}
 use Rattle.lp_scan.proofs.lemmas.scan.BareMasks.{ones_low, to_next, to_stop}
-use Rattle.lp_scan.proofs.lemmas.scan.{EscapedMasks.of_places, MaskBits.and_of_maps}
+use Rattle.lp_scan.proofs.lemmas.scan.{BareMasks.of_places, MaskLemmas.and_of_maps}
 
 -- whether a text ends in an escape, by a walk from its first byte
 escaped_is_flag : (text : List ℕ) → is_escaped_after text ≡ flag_after false text

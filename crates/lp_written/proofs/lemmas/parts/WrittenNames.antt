@@ -1,18 +1,185 @@
--- Names and strings that are spelled as the builder spells them.
+-- Names and strings that are spelled as the builder spells them, and how far such a token goes.
 use Rattle.std.proofs.Common.{◌≡◌, ℕ, ◌&&◌, Bool, true, false, not, List, [], ◌∷◌, length, take, drop, slice_index, refl, sym, ap, subst}
-use Rattle.std.proofs.Common.{◌∙◌, arith, ◌≢◌, Option, Some, None, ◌==◌, MatchOption, Bor, ne_eqb, eqb-true, drop_at, take_at}
-use Rattle.std.proofs.Common.{take-append-drop}
+use Rattle.std.proofs.Common.{◌∙◌, arith, ◌≢◌, Option, Some, None, ◌==◌, MatchOption, Bor, ne_eqb, eqb-true, drop_at, take_at, append_assoc}
+use Rattle.std.proofs.Common.{take-append-drop, suc, zero, ◌+◌, ◌-◌, ◌<◌, ◌≤◌, ◌||◌, ◌++◌, inl, inr, one-add, zero-add, drop-drop}
+use Rattle.std.proofs.Common.{get_or-drop, length-drop}
 use Rattle.std.specs.List.{list_all}
-use Rattle.std.proofs.lemmas.Bool.{cases_Bool, false≢true}
-use Rattle.std.proofs.lemmas.Grind.{common_steps}
-use Rattle.std.proofs.lemmas.List.{append_cancel_right}
+use Rattle.std.proofs.lemmas.Bool.{cases_Bool, false≢true, and_parts, and_from, or_parts, not-true, not-false}
+use Rattle.std.proofs.lemmas.{Grind.common_steps, List.append_cancel_right, List.drop_more}
 use Rattle.lp_format.specs.format.{backslash, hash, quote, escaped, NameKind, a_measurement, ends_in_backslash, escapable, is_stop}
-use Rattle.lp_format.specs.format.{quotable, is_admitted_name, spelling, byte, miss, reads}
-use Rattle.lp_format.proofs.lemmas.names.NameLemmas.{escapable_backslash, logical_ends}
+use Rattle.lp_format.specs.format.{quotable, is_admitted_name, spelling, byte, miss, reads, is_one_of}
 use Rattle.lp_format.proofs.lemmas.read_back.NameReadsBack.{admitted_parts, escaped_found, escaped_plain, logical_spelling, may_hold}
-use Rattle.lp_format.proofs.lemmas.values.ValueForms.{byte_missing}
+use Rattle.lp_format.proofs.lemmas.{names.NameLemmas.escapable_backslash, names.NameLemmas.logical_ends, values.ValueForms.byte_missing}
 use Rattle.lp_written.specs.code.AsWritten.{written_len, EndsName, IsOnlyRest, IsWrittenName, IsWrittenString, is_admitted_spelling}
-use Rattle.lp_written.proofs.lemmas.parts.WrittenTokens.{can_hold, written_spelled, written_spelling, written_stops}
+use Rattle.lp_scan.specs.declared.sets.TokenKind.{TokenKind}
+use Rattle.lp_scan.specs.code.{is_mark, known_of, stops_of, IsRunAt}
+
+-- a byte that is no mark is one of the token
+pub written_unmarked : (known : List ℕ) (stops : ℕ → Bool) (b : ℕ) (text : List ℕ) → (stops b || is_one_of known b) ≡ false
+    → written_len known stops (b ∷ text) ≡ 1 + written_len known stops text
+unfolding written_len
+written_unmarked known stops b text plain = grind (arith)
+
+-- a mark that is no backslash ends it
+pub written_stops : (known : List ℕ) (stops : ℕ → Bool) (b : ℕ) (text : List ℕ) → (stops b || is_one_of known b) ≡ true → b ≢ backslash
+    → written_len known stops (b ∷ text) ≡ 0
+unfolding written_len
+written_stops known stops b text mark other = grind (arith, ne_eqb)
+
+-- a backslash before a byte that gets one is two bytes of it
+pub written_escape : (known : List ℕ) (stops : ℕ → Bool) (c : ℕ) (text : List ℕ) → (stops backslash || is_one_of known backslash) ≡ true
+    → is_one_of known c ≡ true → written_len known stops (backslash ∷ c ∷ text) ≡ 2 + written_len known stops text
+unfolding written_len
+written_escape known stops c text mark found = rw (mark, found) refl
+
+-- it ends at a mark that is not such a backslash
+pub written_ends : (known : List ℕ) (stops : ℕ → Bool) (text : List ℕ)
+    → (0 < length text → (stops (slice_index text 0) || is_one_of known (slice_index text 0)) ≡ true)
+    → (1 < length text → slice_index text 0 ≡ backslash → is_one_of known (slice_index text 1) ≡ true → ⊥)
+    → written_len known stops text ≡ 0
+unfolding written_len
+written_ends known stops text mark other = grind (arith, cases_Bool, and_parts, eqb-true)
+
+-- bytes that are no marks are passed
+pub written_run : (known : List ℕ) (stops : ℕ → Bool) (n : ℕ) (text : List ℕ) → n ≤ length text
+    → ((k : ℕ) → k < n → (stops (slice_index text k) || is_one_of known (slice_index text k)) ≡ false)
+    → written_len known stops text ≡ n + written_len known stops (drop n text)
+written_run known stops zero text within plain = sym (zero-add (written_len known stops text))
+written_run known stops (suc n) [] within plain = absurd (omega arith)
+written_run known stops (suc n) (b ∷ text) within plain =
+    let first = written_unmarked known stops b text (plain 0 (omega arith)) in
+    let more = written_run known stops n text (omega arith) (λ k less. plain (suc k) (omega arith)) in
+    omega (arith, first, more)
+
+-- a byte that may be in a token, with a backslash or without
+abbrev pub can_hold : List ℕ → (ℕ → Bool) → ℕ → Bool
+can_hold known stops b = not (stops b) || is_one_of known b
+
+-- what the builder spells ends where no token goes on
+pub written_spelling : (known : List ℕ) (stops : ℕ → Bool) (n rest : List ℕ) → is_one_of known backslash ≡ true
+    → list_all (can_hold known stops) n ≡ true → written_len known stops rest ≡ 0
+    → written_len known stops (escaped known n ++ rest) ≡ length (escaped known n)
+unfolding escaped
+written_spelling known stops [] rest closed all ends = ends
+written_spelling known stops (b ∷ n) rest closed all ends =
+    let parts = and_parts (can_hold known stops b) (list_all (can_hold known stops) n) all in
+    let more = written_spelling known stops n rest closed parts.1 ends in
+    elim (cases_Bool (is_one_of known b)) [
+      | inl found ↦
+          let mark : (stops backslash || is_one_of known backslash) ≡ true = grind (arith, common_steps) in
+          rw (escaped_found known n b found, written_escape known stops b (escaped known n ++ rest) mark found, more) (omega arith)
+      | inr plain ↦
+          let unmarked : (stops b || is_one_of known b) ≡ false = grind (arith, common_steps) in
+          rw (escaped_plain known n b plain, written_unmarked known stops b (escaped known n ++ rest) unmarked, more) (omega arith)
+    ]
+
+-- a front of a text as the builder spells it, by the text that it spells
+pub record Spelled (known : List ℕ) (stops : ℕ → Bool) (text : List ℕ) : Type 0 where
+  pub name : List ℕ
+  pub holds : list_all (can_hold known stops) name ≡ true
+  pub spelled : escaped known name ++ drop (written_len known stops text) text ≡ text
+
+-- no byte is passed
+spelled_none : (known : List ℕ) (stops : ℕ → Bool) (text : List ℕ) → written_len known stops text ≡ 0 → Spelled known stops text
+unfolding escaped
+spelled_none known stops text none = record { name = []; holds = refl; spelled = rw none refl }
+
+-- a byte that is no mark is passed
+spelled_plain : (known : List ℕ) (stops : ℕ → Bool) (b : ℕ) (text : List ℕ) → (stops b || is_one_of known b) ≡ false
+    → Spelled known stops text → Spelled known stops (b ∷ text)
+spelled_plain known stops b text plain more =
+    let parts = or_parts (stops b) (is_one_of known b) plain in
+    let holds : can_hold known stops b ≡ true = rw parts.0 refl in
+    let len : written_len known stops (b ∷ text) ≡ suc (written_len known stops text) =
+    written_unmarked known stops b text plain ∙ one-add (written_len known stops text) in
+    record {
+      name = b ∷ more.name;
+      holds = and_from _ _ holds more.holds;
+      spelled = rw (len, escaped_plain known more.name b parts.1) (ap (λ (xs : List ℕ). b ∷ xs) more.spelled);
+    }
+
+-- a backslash and a byte that gets one are passed
+spelled_escape : (known : List ℕ) (stops : ℕ → Bool) (c : ℕ) (text : List ℕ) → (stops backslash || is_one_of known backslash) ≡ true
+    → is_one_of known c ≡ true → Spelled known stops text → Spelled known stops (backslash ∷ c ∷ text)
+spelled_escape known stops c text mark found more =
+    let holds : can_hold known stops c ≡ true = grind (arith, common_steps) in
+    let len : written_len known stops (backslash ∷ c ∷ text) ≡ suc (suc (written_len known stops text)) =
+    written_escape known stops c text mark found ∙ omega arith in
+    record {
+      name = c ∷ more.name;
+      holds = and_from _ _ holds more.holds;
+      spelled = rw (len, escaped_found known more.name c found) (ap (λ (xs : List ℕ). backslash ∷ c ∷ xs) more.spelled);
+    }
+
+-- what is passed is such a front
+pub written_spelled : (known : List ℕ) (stops : ℕ → Bool) (text : List ℕ) → Spelled known stops text
+unfolding written_len
+written_spelled known stops [] = spelled_none known stops [] refl
+written_spelled known stops (b ∷ []) = grind (arith, cases_Bool, spelled_none, spelled_plain)
+written_spelled known stops (b ∷ c ∷ text) = elim (cases_Bool (stops b || is_one_of known b)) [
+  | inl mark ↦ elim (cases_Bool (b == backslash && is_one_of known c)) [
+    | inl escape ↦
+        let parts = and_parts (b == backslash) (is_one_of known c) escape in
+        let same : b ≡ backslash = eqb-true b backslash parts.0 in
+        subst (λ x. Spelled known stops (x ∷ c ∷ text)) (sym same)
+        (spelled_escape known stops c text (subst (λ x. (stops x || is_one_of known x) ≡ true) same mark) parts.1
+        (written_spelled known stops text))
+    | inr other ↦ spelled_none known stops (b ∷ c ∷ text) (rw (mark, other) refl)
+  ]
+  | inr plain ↦ spelled_plain known stops b (c ∷ text) plain (written_spelled known stops (c ∷ text))
+]
+
+-- the token goes on after a run of bytes that are no marks
+run_passed : (kind : TokenKind) (bytes : List ℕ) (at end : ℕ) → IsRunAt (λ b. not (is_mark kind b)) bytes at end
+    → written_len (known_of kind) (stops_of kind) (drop at bytes)
+    ≡ end - at + written_len (known_of kind) (stops_of kind) (drop end bytes)
+run_passed kind bytes at end run =
+    let n = end - at in
+    let place : at + n ≡ end = omega (arith, run.ordered) in
+    let plain : (k : ℕ) → k < n → is_mark kind (slice_index (drop at bytes) k) ≡ false = λ k less.
+    rw (get_or-drop at bytes k 0) (not-true (is_mark kind (slice_index bytes (at + k))) (run.passes (at + k) (omega arith) (omega arith))) in
+    let passed = written_run (known_of kind) (stops_of kind) n (drop at bytes) (omega (arith, length-drop at bytes, run.within)) plain in
+    passed ∙ ap (λ (xs : List ℕ). n + written_len (known_of kind) (stops_of kind) xs)
+    (drop-drop n at bytes ∙ ap (λ k. drop k bytes) place)
+
+-- it goes on after a backslash and a byte that gets one
+escape_passed : (kind : TokenKind) (bytes : List ℕ) (at : ℕ) → at + 1 < length bytes → slice_index bytes at ≡ backslash
+    → is_one_of (known_of kind) (slice_index bytes (at + 1)) ≡ true
+    → written_len (known_of kind) (stops_of kind) (drop at bytes)
+    ≡ 2 + written_len (known_of kind) (stops_of kind) (drop (at + 2) bytes)
+escape_passed kind bytes at inside here found = grind (arith, drop_more, written_escape)
+
+-- a run ends at a mark
+pub run_mark : (kind : TokenKind) (bytes : List ℕ) (at end : ℕ) → IsRunAt (λ b. not (is_mark kind b)) bytes at end
+    → end < length bytes → is_mark kind (slice_index bytes end) ≡ true
+run_mark kind bytes at end run inside = not-false (is_mark kind (slice_index bytes end)) (run.stops inside)
+
+-- the token goes on after the first run
+pub first_run : (kind : TokenKind) (bytes : List ℕ) (end : ℕ) → IsRunAt (λ b. not (is_mark kind b)) bytes 0 end
+    → end + written_len (known_of kind) (stops_of kind) (drop end bytes) ≡ written_len (known_of kind) (stops_of kind) bytes
+first_run kind bytes end run = let passed = run_passed kind bytes 0 end run in omega (arith, passed)
+
+-- and after a backslash, a byte that gets one and the run after them
+pub next_run : (kind : TokenKind) (bytes : List ℕ) (at end : ℕ) (found : Bool) → IsRunAt (λ b. not (is_mark kind b)) bytes (at + 2) end
+    → at + written_len (known_of kind) (stops_of kind) (drop at bytes) ≡ written_len (known_of kind) (stops_of kind) bytes
+    → at + 1 < length bytes → slice_index bytes at ≡ backslash → found ≡ is_one_of (known_of kind) (slice_index bytes (at + 1)) → found ≡ true
+    → end + written_len (known_of kind) (stops_of kind) (drop end bytes) ≡ written_len (known_of kind) (stops_of kind) bytes
+next_run kind bytes at end found run so_far inside here is accepted =
+    let escape : written_len (known_of kind) (stops_of kind) (drop at bytes)
+    ≡ 2 + written_len (known_of kind) (stops_of kind) (drop (at + 2) bytes) =
+    escape_passed kind bytes at inside here (sym is ∙ accepted) in
+    let passed = run_passed kind bytes (at + 2) end run in
+    omega (arith, escape, passed, run.ordered, so_far)
+
+-- it ends at any other mark, and at the end of the text
+pub ends_here : (kind : TokenKind) (bytes : List ℕ) (at : ℕ) → at ≤ length bytes
+    → (at < length bytes → is_mark kind (slice_index bytes at) ≡ true)
+    → (at + 1 < length bytes → slice_index bytes at ≡ backslash → is_one_of (known_of kind) (slice_index bytes (at + 1)) ≡ true → ⊥)
+    → written_len (known_of kind) (stops_of kind) (drop at bytes) ≡ 0
+ends_here kind bytes at within mark other = grind (arith, common_steps, written_ends, get_or-drop, length-drop)
+
+-- the steps of a reader of tokens
+pub ruleset token_steps = (run_mark, first_run, next_run, ends_here)
 
 -- what may be in a name is what its token can hold
 holds_same : (kind : NameKind) (b : ℕ) → can_hold (escapable kind) (is_stop kind) b ≡ may_hold kind b
@@ -68,18 +235,18 @@ name_found kind text ok =
     (front.spelled ∙ sym (take-append-drop (name_len kind text) text))) in
     let may : list_all (may_hold kind) front.name ≡ true = sym (all_same kind front.name) ∙ front.holds in
     record {
-      name = front.name;
-      admitted = sym (spelling_tells kind front.name may) ∙ ap (is_admitted_spelling kind) (sym same) ∙ ok;
+      thing = front.name;
+      is = sym (spelling_tells kind front.name may) ∙ ap (is_admitted_spelling kind) (sym same) ∙ ok;
       written = front.spelled;
     }
 
 -- the spelling of a name is what is passed
 name_passed : (kind : NameKind) (text rest : List ℕ) (w : IsWrittenName kind text rest) → EndsName kind rest
-    → name_len kind text ≡ length (spelling kind w.name)
+    → name_len kind text ≡ length (spelling kind w.thing)
 name_passed kind text rest w ends =
-    let may = all_same kind w.name ∙ (admitted_parts kind w.name w.admitted).may in
-    subst (λ xs. name_len kind xs ≡ length (spelling kind w.name)) w.written
-    (written_spelling (escapable kind) (is_stop kind) w.name rest (escapable_backslash kind) may ends)
+    let may = all_same kind w.thing ∙ (admitted_parts kind w.thing w.is).may in
+    subst (λ xs. name_len kind xs ≡ length (spelling kind w.thing)) w.written
+    (written_spelling (escapable kind) (is_stop kind) w.thing rest (escapable_backslash kind) may ends)
 
 -- no other rest follows a name
 pub name_only : (kind : NameKind) (text rest : List ℕ) → IsWrittenName kind text rest → EndsName kind rest
@@ -109,12 +276,17 @@ pub string_found : (text opened rest : List ℕ) → text ≡ quote ∷ opened �
     → IsWrittenString text rest
 string_found text opened rest e closed =
     let front = written_spelled quotable is_quote opened in
-    record { body = front.name; written = ap (λ (xs : List ℕ). quote ∷ xs) (rw closed at front.spelled) ∙ sym e }
+    record {
+      thing = front.name;
+      is = tt;
+      written = append_assoc (quote ∷ escaped quotable front.name) (quote ∷ []) rest
+          ∙ ap (λ (xs : List ℕ). quote ∷ xs) (rw closed at front.spelled) ∙ sym e;
+    }
 
 -- and no other rest follows a string
 pub string_only : (text opened rest : List ℕ) → text ≡ quote ∷ opened → IsWrittenString text rest
     → drop (written_len quotable is_quote opened) opened ≡ quote ∷ rest
-string_only text opened rest e w = grind (arith, written_spelling, holds_any, drop_at, written_stops)
+string_only text opened rest e w = grind (arith, append_assoc, written_spelling, holds_any, drop_at, written_stops)
 
 -- what is left of a text if a byte reads comes after that byte
 pub byte_left : (b : ℕ) (text rest : List ℕ) → byte b text ≡ reads b rest → text ≡ b ∷ rest

@@ -1,21 +1,18 @@
 -- Numbers as the builder writes them.
-use Rattle.std.proofs.Common.{◌≡◌, ◌≢◌, ◌⊎◌, ℕ, ◌^◌, ◌<◌, ◌&&◌, ◌||◌, Bool, true, false, not, List, [], ◌∷◌, ◌++◌, length, take, drop}
+use Rattle.std.proofs.Common.{◌≡◌, ◌≢◌, ℕ, ◌^◌, ◌<◌, ◌&&◌, ◌||◌, Bool, true, false, not, List, [], ◌∷◌, ◌++◌, length, take, drop}
 use Rattle.std.proofs.Common.{slice_index, get_or, refl, sym, ap, subst, ◌∙◌, arith, inl, inr, append_assoc, Option, Some, None, ◌==◌, ℤ}
 use Rattle.std.proofs.Common.{pos, decimal, codes, nat_lt, neg_ℤ, MatchOption, Bor, eqb-true, ne_eqb, lt-ltb, ltb-true, take_at, drop_at}
 use Rattle.std.proofs.Common.{take-append-drop}
-use Rattle.std.specs.Fmt.{signed_decimal}
 use Rattle.std.specs.Str.Parse.{AllDigits, IsNumeral, digits_value, signed_digits_value}
+use Rattle.std.specs.{Fmt.signed_decimal, Bool.then_some, Str.Pattern.FindsTextPrefix, Str.Pattern.LacksTextAt, Str.Pattern.StripsPrefix}
 use Rattle.std.proofs.Math.Nat.{pow-le-pow_right}
-use Rattle.std.specs.Bool.{then_some}
-use Rattle.std.specs.Str.Pattern.{FindsTextPrefix, LacksTextAt, StripsPrefix}
-use Rattle.lp_format.specs.format.{escaped, quotable, IsSigned, IsFloat, Value, integer, unsigned, float, string, boolean, integer_len}
-use Rattle.lp_format.specs.format.{fits_i64, float_at, float_len, minus, miss, reads, IsValue, built_value, byte}
+use Rattle.lp_format.specs.format.{IsSigned, IsFloat, Value, integer, unsigned, float, string, boolean, integer_len, fits_i64, float_at}
+use Rattle.lp_format.specs.format.{float_len, minus, miss, reads, IsValue, built_value, byte}
 use Rattle.lp_format.specs.format.Bytes.{letter_i, letter_u, quote}
 use Rattle.std.proofs.lemmas.Bool.{cases_Bool, cases_lt, and_parts, eqb-false, or_parts, false≢true, not-true}
 use Rattle.std.proofs.lemmas.Fmt.{decimal_is_IsNumeral, decimal-digits_value, decimal_digit, first_decimal}
-use Rattle.std.proofs.lemmas.Int.Digits.{digits_value-lt}
-use Rattle.std.proofs.lemmas.Str.Parse.{digit_from_value, numerals_by_value, tells_digits}
-use Rattle.lp_format.proofs.lemmas.literals.FloatLemmas.{float_len_float, signed_front, FloatFront, float_front}
+use Rattle.std.proofs.lemmas.{Int.Digits.digits_value-lt, Str.Parse.digit_from_value, Str.Parse.numerals_by_value, Str.Parse.tells_digits}
+use Rattle.lp_format.proofs.lemmas.literals.FloatLemmas.{float_len_float, float_misses, float_reads, signed_front, FloatFront, float_front}
 use Rattle.lp_format.proofs.lemmas.read_back.IntegerReadsBack.{integer_written, unsigned_len}
 use Rattle.lp_format.proofs.lemmas.values.ValueLemmas.{byte_at_drop, fits_from_test, test_from_fits}
 use Rattle.lp_format.proofs.lemmas.values.ValueForms.{byte_missing}
@@ -73,8 +70,13 @@ integer_again (b ∷ ds) (inl signed) plain fits = grind (arith, eqb-true, or_on
 integer_again (b ∷ ds) (inr numeral) plain fits = grind (arith, plain_value, fits_from_test, unsigned_again)
 
 -- an integer of less than 19 bytes fits an i64
-pub short_fits : (number : List ℕ) → IsSigned (codes "-") number → length number < 19 → fits_i64 (signed_digits_value 10 number) ≡ true
+short_fits : (number : List ℕ) → IsSigned (codes "-") number → length number < 19 → fits_i64 (signed_digits_value 10 number) ≡ true
 short_fits ds never short = grind (arith, eqb-true, or_one, plain_value, test_from_fits, pow-le-pow_right, digits_value-lt)
+
+-- so whether it is written so is told by its zeros
+pub short_written : (number : List ℕ) → IsSigned (codes "-") number → not (has_extra_zero number) ≡ true → length number < 19
+    → nat_lt (length number) 19 ≡ is_written_integer number
+short_written number signed plain short = rw (plain, short_fits number signed short) (lt-ltb _ 19 short)
 
 -- a number and its mark, at the start of a text
 pub record NumberText (text number rest : List ℕ) (mark : ℕ) : Type 0 where
@@ -113,7 +115,7 @@ shape_of (boolean false) rest fits ends = a_word false refl refl
 
 -- and so has each text that the builder writes for a value and a rest that ends it
 pub shape : (text rest : List ℕ) → IsWrittenValue text rest → EndsValue rest → Shape text rest
-shape text rest w ends = subst (λ xs. Shape xs rest) w.written (shape_of w.value rest w.fits ends)
+shape text rest w ends = subst (λ xs. Shape xs rest) w.written (shape_of w.thing rest w.is ends)
 
 -- digits if no sign is
 pub unsigned_numeral : (number : List ℕ) → IsSigned (codes "-") number → (slice_index number 0 == minus) ≡ false → IsNumeral 10 number
@@ -155,109 +157,113 @@ marked_answer : (text left : List ℕ) (ok : Bool) → (ok ≡ true → IsWritte
     → (r : Bor (List ℕ)) → r.now ≡ left → IsOnlyRest (IsWrittenValue text) EndsValue (then_some ok r)
 marked_answer text left x2 found only r e = grind (arith, false≢true)
 
--- the integer at the start of a text has a sign or none, and digits
-pub signed_number : (text number : List ℕ) (whole : ℕ) → whole ≡ integer_len text → 0 < whole → number ≡ take whole text → IsSigned (codes "-") number
-signed_number text number whole len some front = rw (front, len) (signed_front (codes "-") text (omega (arith, len, some)))
+-- a number at the start of a text, as the code finds it
+module _ (text number : List ℕ) (whole : ℕ) (len : whole ≡ integer_len text) (some : 0 < whole) (front : number ≡ take whole text) where
+  -- it has a sign or none, and digits
+  pub signed_number : IsSigned (codes "-") number
+  signed_number = rw (front, len) (signed_front (codes "-") text (omega (arith, len, some)))
 
--- a mark that is read after it
-pub at_mark : (mark : ℕ) (text after left : List ℕ) (whole : ℕ) → whole ≡ integer_len text → after ≡ drop whole text
-    → byte mark after ≡ reads mark left → drop (integer_len text) text ≡ mark ∷ left
-at_mark mark text after left whole len back read = rw (← len, ← back) (byte_left mark after left read)
+  -- what follows it and its mark
+  module _ (after : List ℕ) (ok : Bool) (r : Bor (List ℕ)) (o : Option (Bor (List ℕ))) (back : after ≡ drop whole text)
+      (is : o ≡ then_some ok r) where
+    -- the front of the text
+    number_is : number ≡ take (integer_len text) text
+    number_is = rw len at front
 
--- if `i` follows an integer
-pub integer_answer : (text number : List ℕ) (r : Bor (List ℕ)) → 0 < integer_len text → number ≡ take (integer_len text) text
-    → drop (integer_len text) text ≡ letter_i ∷ r.now
-    → IsOnlyRest (IsWrittenValue text) EndsValue (then_some (is_written_integer number) r)
-integer_answer text number r some front after = marked_answer text r.now (is_written_integer number) found only r refl
-  where
-    -- the number is signed
-    signed : IsSigned (codes "-") number
-    signed = rw front (signed_front (codes "-") text some)
+    -- a mark that is read after it
+    at_mark : (mark : ℕ) → byte mark after ≡ reads mark r.now → drop (integer_len text) text ≡ mark ∷ r.now
+    at_mark mark read = rw (← len, ← back) (byte_left mark after r.now read)
 
-    -- it is found
-    found : is_written_integer number ≡ true → IsWrittenValue text r.now
-    found ok =
-        let t = integer_told number signed ok in
-        marked_found (integer t.0) text number r.now 105 (integer_len text) t.1 (ap (λ (xs : List ℕ). xs ++ letter_i ∷ []) t.2) front after
+    -- is the only rest after `i`, if the builder writes the integer so
+    pub integer_answer : byte letter_i after ≡ reads letter_i r.now → ok ≡ is_written_integer number → IsOnlyRest (IsWrittenValue text) EndsValue o
+    integer_answer read tells = rw (is, tells) (marked_answer text r.now (is_written_integer number) found only r refl)
+      where
+        -- the integer is found
+        found : is_written_integer number ≡ true → IsWrittenValue text r.now
+        found ok =
+            let t = integer_told number signed_number ok in
+            marked_found (integer t.0) text number r.now letter_i (integer_len text) t.1 (ap (λ (xs : List ℕ). xs ++ letter_i ∷ []) t.2)
+            number_is (at_mark letter_i read)
 
-    -- and the builder writes no other there
-    only : (rest : List ℕ) → IsWrittenValue text rest → EndsValue rest → (is_written_integer number ≡ true) × (rest ≡ r.now)
-    only rest w ends = elim (shape text rest w ends) [
-      | an_integer z fits t ↦ grind (arith, front, integer_tells, after)
-      | an_unsigned n fits t ↦ absurd (omega (arith, ap (λ (xs : List ℕ). slice_index xs 0) (sym after ∙ t.after)))
-      | a_float x front ↦ absurd (front.no_i (byte_at_drop text r.now (integer_len text) letter_i after).0)
-      | a_string none quote x ↦ absurd (omega (arith, some, none))
-      | a_word b none word ↦ absurd (omega (arith, some, none))
-    ]
+        -- and the builder writes no other there
+        only : (rest : List ℕ) → IsWrittenValue text rest → EndsValue rest → (is_written_integer number ≡ true) × (rest ≡ r.now)
+        only rest w ends = elim (shape text rest w ends) [
+          | an_integer z fits t ↦ grind (arith, number_is, integer_tells, at_mark letter_i read)
+          | an_unsigned n fits t ↦ absurd (omega (arith, ap (λ (xs : List ℕ). slice_index xs 0) (sym (at_mark letter_i read) ∙ t.after)))
+          | a_float x f ↦ absurd (f.no_i (byte_at_drop text r.now (integer_len text) letter_i (at_mark letter_i read)).0)
+          | a_string none quote x ↦ absurd (omega (arith, len, some, none))
+          | a_word b none word ↦ absurd (omega (arith, len, some, none))
+        ]
 
--- if `u` does
-pub unsigned_answer : (text number : List ℕ) (r : Bor (List ℕ)) → 0 < integer_len text → number ≡ take (integer_len text) text
-    → drop (integer_len text) text ≡ letter_u ∷ r.now
-    → IsOnlyRest (IsWrittenValue text) EndsValue (then_some (is_written_unsigned number) r)
-unsigned_answer text number r some front after = marked_answer text r.now (is_written_unsigned number) found only r refl
-  where
-    -- the number is found
-    found : is_written_unsigned number ≡ true → IsWrittenValue text r.now
-    found ok =
-        let t = unsigned_told number (rw front (signed_front (codes "-") text some)) ok in
-        marked_found (unsigned t.0) text number r.now 117 (integer_len text) t.1 (ap (λ (xs : List ℕ). xs ++ letter_u ∷ []) t.2) front after
+    -- and after `u`, if it writes the unsigned number so
+    pub unsigned_answer : byte letter_u after ≡ reads letter_u r.now → ok ≡ is_written_unsigned number
+        → IsOnlyRest (IsWrittenValue text) EndsValue o
+    unsigned_answer read tells = rw (is, tells) (marked_answer text r.now (is_written_unsigned number) found only r refl)
+      where
+        -- the number is found
+        found : is_written_unsigned number ≡ true → IsWrittenValue text r.now
+        found ok =
+            let t = unsigned_told number signed_number ok in
+            marked_found (unsigned t.0) text number r.now letter_u (integer_len text) t.1 (ap (λ (xs : List ℕ). xs ++ letter_u ∷ []) t.2)
+            number_is (at_mark letter_u read)
 
-    -- and the builder writes no other there
-    only : (rest : List ℕ) → IsWrittenValue text rest → EndsValue rest → (is_written_unsigned number ≡ true) × (rest ≡ r.now)
-    only rest w ends = elim (shape text rest w ends) [
-      | an_integer z fits t ↦ absurd (omega (arith, ap (λ (xs : List ℕ). slice_index xs 0) (sym after ∙ t.after)))
-      | an_unsigned n fits t ↦ grind (arith, front, after, decimal_is_IsNumeral, no_minus, decimal_zero, lt-ltb)
-      | a_float x front ↦ absurd (front.no_u (byte_at_drop text r.now (integer_len text) letter_u after).0)
-      | a_string none quote x ↦ absurd (omega (arith, some, none))
-      | a_word b none word ↦ absurd (omega (arith, some, none))
-    ]
+        -- and the builder writes no other there
+        only : (rest : List ℕ) → IsWrittenValue text rest → EndsValue rest → (is_written_unsigned number ≡ true) × (rest ≡ r.now)
+        only rest w ends = elim (shape text rest w ends) [
+          | an_integer z fits t ↦ absurd (omega (arith, ap (λ (xs : List ℕ). slice_index xs 0) (sym (at_mark letter_u read) ∙ t.after)))
+          | an_unsigned n fits t ↦ grind (arith, number_is, at_mark letter_u read, decimal_is_IsNumeral, no_minus, decimal_zero, lt-ltb)
+          | a_float x f ↦ absurd (f.no_u (byte_at_drop text r.now (integer_len text) letter_u (at_mark letter_u read)).0)
+          | a_string none quote x ↦ absurd (omega (arith, len, some, none))
+          | a_word b none word ↦ absurd (omega (arith, len, some, none))
+        ]
+
+-- the steps of a reader of a number
+pub ruleset number_steps = (signed_number, integer_answer, unsigned_answer)
 
 -- what is read as a float is one that the builder writes
-pub float_found : (text t rest : List ℕ) → float_at text ≡ reads (float t) rest → IsWrittenValue text rest
-unfolding float_at
-float_found text t rest read = go (cases_Bool (float_len text == 0)) read
-  where
-    -- by whether a float is there
-    go : ((float_len text == 0) ≡ true) ⊎ ((float_len text == 0) ≡ false) → float_at text ≡ reads (float t) rest → IsWrittenValue text rest
-    go (inl none) read = let missed : miss ≡ reads (float t) rest = rw none at read in absurd (cc)
-    go (inr some) read =
-        let found : reads (float (take (float_len text) text)) (drop (float_len text) text) ≡ reads (float t) rest = rw some at read in
-        let more : float_len text ≢ 0 = eqb-false (float_len text) 0 some in
-        let same : take (float_len text) text ≡ t = cc in
-        let left : drop (float_len text) text ≡ rest = cc in
-        record {
-          value = float t;
-          fits = subst IsFloat same (float_len_float text (omega arith));
-          written = rw (← same, ← left) (take-append-drop (float_len text) text);
-        }
-
--- and if neither mark of an integer is, the builder writes no other
-pub float_only : (text rest : List ℕ) → 0 < integer_len text → byte letter_i (drop (integer_len text) text) ≡ miss
-    → byte letter_u (drop (integer_len text) text) ≡ miss → IsWrittenValue text rest → EndsValue rest → (t : List ℕ) × (float_at text ≡ reads (float t) rest)
-float_only text rest some no_i no_u w ends = elim (shape text rest w ends) [
-  | an_integer z fits t ↦ absurd (byte_missing letter_i (drop (integer_len text) text) no_i rest t.after)
-  | an_unsigned n fits t ↦ absurd (byte_missing letter_u (drop (integer_len text) text) no_u rest t.after)
-  | a_float x front ↦ (x, front.reads_it)
-  | a_string none quote x ↦ absurd (omega (arith, some, none))
-  | a_word b none word ↦ absurd (omega (arith, some, none))
+float_found : (text t rest : List ℕ) → float_at text ≡ reads (float t) rest → IsWrittenValue text rest
+float_found text t rest read = elim (cases_Bool (float_len text == 0)) [
+  | inl none ↦ let missed = float_misses text (eqb-true (float_len text) 0 none) in absurd (cc (missed, read))
+  | inr some ↦
+      let more : 0 < float_len text = omega (arith, eqb-false (float_len text) 0 some) in
+      let found : reads (float (take (float_len text) text)) (drop (float_len text) text) ≡ reads (float t) rest =
+      sym (float_reads text more) ∙ read in
+      let same : take (float_len text) text ≡ t = cc in
+      let left : drop (float_len text) text ≡ rest = cc in
+      record {
+        thing = float t;
+        is = subst IsFloat same (float_len_float text more);
+        written = rw (← same, ← left) (take-append-drop (float_len text) text);
+      }
 ]
 
--- a text in which a float reads does not miss
-pub float_misses : (text rest t : List ℕ) → float_at text ≡ reads (float t) rest → float_at text ≡ miss → ⊥
-float_misses text rest t read missed = let both : miss ≡ reads (float t) rest = sym missed ∙ read in cc
+module _ (text : List ℕ) (whole : ℕ) (len : whole ≡ integer_len text) (some : 0 < whole) (no_i : byte letter_i (drop whole text) ≡ miss)
+    (no_u : byte letter_u (drop whole text) ≡ miss) where
+  -- if no mark of an integer is, the builder writes no value but a float
+  float_only : (rest : List ℕ) → IsWrittenValue text rest → EndsValue rest → (t : List ℕ) × (float_at text ≡ reads (float t) rest)
+  float_only rest w ends = elim (shape text rest w ends) [
+    | an_integer z fits t ↦ absurd (byte_missing letter_i (drop whole text) no_i rest (rw len t.after))
+    | an_unsigned n fits t ↦ absurd (byte_missing letter_u (drop whole text) no_u rest (rw len t.after))
+    | a_float x front ↦ (x, front.reads_it)
+    | a_string none quote x ↦ absurd (omega (arith, len, some, none))
+    | a_word b none word ↦ absurd (omega (arith, len, some, none))
+  ]
 
--- and one rest is left of it
-pub float_same : (text t u rest left : List ℕ) → float_at text ≡ reads (float t) rest → float_at text ≡ reads (float u) left → rest ≡ left
-float_same text t u rest left read again = let both : reads (float t) rest ≡ reads (float u) left = sym read ∙ again in cc
+  -- none, if no float is read
+  pub no_float : (o : Option (Bor (List ℕ))) → o ≡ None → float_at text ≡ miss → IsOnlyRest (IsWrittenValue text) EndsValue o
+  no_float o e missed = rw e (λ rest w ends. let x = float_only rest w ends in absurd (cc (missed, x.1)))
+
+  -- and else what follows the float is the only rest
+  pub float_answer : (t left : List ℕ) → float_at text ≡ reads (float t) left
+      → IsWrittenValue text left × ((rest : List ℕ) → IsWrittenValue text rest → EndsValue rest → rest ≡ left)
+  float_answer t left read = (float_found text t left read, λ rest w ends. let x = float_only rest w ends in cc (read, x.1))
+
+-- the steps of a reader of a float
+pub ruleset float_steps = (no_float, float_answer)
 
 -- a string is a value
 pub string_value : (text rest : List ℕ) → IsWrittenString text rest → IsWrittenValue text rest
-string_value text rest w =
-    record {
-      value = string w.body;
-      fits = tt;
-      written = ap (λ (xs : List ℕ). quote ∷ xs) (append_assoc (escaped quotable w.body) (quote ∷ []) rest) ∙ w.written;
-    }
+string_value text rest w = record { thing = string w.thing; is = tt; written = w.written }
 
 -- and after a quote the builder writes no other
 pub value_string : (text rest : List ℕ) → integer_len text ≡ 0 → slice_index text 0 ≡ quote → IsWrittenValue text rest → EndsValue rest
@@ -277,30 +283,28 @@ value_word text rest whole first w ends = elim (shape text rest w ends) [
 
 -- a word before a rest is a value
 word_value : (text rest : List ℕ) (b : Bool) → text ≡ built_value (boolean b) ++ rest → IsWrittenValue text rest
-word_value text rest b e = record { value = boolean b; fits = tt; written = sym e }
+word_value text rest b e = record { thing = boolean b; is = tt; written = sym e }
 
 -- two words at the start of a text are the same, and so is what follows them
 word_same : (a b : Bool) (rest left : List ℕ) → built_value (boolean a) ++ rest ≡ built_value (boolean b) ++ left → rest ≡ left
 word_same x0 x1 rest left e = grind (arith)
 
 -- what follows a word is the only rest of a value
-pub word_answer : (b : Bool) (text left : List ℕ) → integer_len text ≡ 0 → slice_index text 0 ≢ quote → text ≡ built_value (boolean b) ++ left
+pub word_answer : (b : Bool) (text left : List ℕ) → integer_len text ≡ 0 → slice_index text 0 ≢ quote
+    → StripsPrefix (FindsTextPrefix (built_value (boolean b))) text left
     → IsWrittenValue text left × ((rest : List ℕ) → IsWrittenValue text rest → EndsValue rest → rest ≡ left)
-word_answer b text left whole first e = (
-  word_value text left b e,
-  λ rest w ends. let x = value_word text rest whole first w ends in word_same x.0 b rest left (sym x.1 ∙ e),
-)
+word_answer b text left whole first s =
+    let e : text ≡ built_value (boolean b) ++ left = s.1.1 ∙ ap (λ (xs : List ℕ). built_value (boolean b) ++ xs) (sym s.2) in (
+      word_value text left b e,
+      λ rest w ends. let x = value_word text rest whole first w ends in word_same x.0 b rest left (sym x.1 ∙ e),
+    )
 
--- what is left of a text after a word
-pub stripped : (word text left : List ℕ) → StripsPrefix (FindsTextPrefix word) text left → text ≡ word ++ left
-stripped word text left s = s.1.1 ∙ ap (λ (xs : List ℕ). word ++ xs) (sym s.2)
-
--- if the word for true is not there, what is left after that for false is the only rest of a value
+-- if the word for true is not there, what follows that for false is the only rest of a value
 pub last_word : (text : List ℕ) (o : Option (Bor (List ℕ))) → integer_len text ≡ 0 → slice_index text 0 ≢ quote
     → LacksTextAt (codes "true") text 0
     → MatchOption o (LacksTextAt (codes "false") text 0) (λ r. StripsPrefix (FindsTextPrefix (codes "false")) text r.now)
     → IsOnlyRest (IsWrittenValue text) EndsValue o
-last_word text (Some r) whole first no_true found = word_answer false text r.now whole first (stripped (codes "false") text r.now found)
+last_word text (Some r) whole first no_true found = word_answer false text r.now whole first found
 last_word text None whole first no_true no_false = λ rest w ends. let x = value_word text rest whole first w ends in go rest x.0 x.1
   where
     -- by the word
@@ -316,6 +320,3 @@ string_only_value text (Some left) whole first only = (
   string_value text left.now only.0,
   λ rest w ends. only.1 rest (value_string text rest whole first w ends) tt,
 )
-
--- the steps of a reader of a number
-pub ruleset number_steps = (signed_number, at_mark, unsigned_answer)

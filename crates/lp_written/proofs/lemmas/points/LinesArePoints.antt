@@ -1,20 +1,20 @@
--- The logical texts of each line that is answered are a point: it has a field, and its values and its timestamp fit.
+-- The logical texts of each line that is answered are a point: it has a field, and its values and its timestamp fit. And the lines
+-- that are as the builder writes them are those that it writes again.
 use Rattle.std.proofs.Common.{◌≡◌, ◌≢◌, ℕ, ◌<◌, List, [], length, take, drop, Bool, true, false, cond, subst, arith, Option, Some, None, Ok}
-use Rattle.std.proofs.Common.{Err, Result, ◌==◌, ℤ, IfSome}
+use Rattle.std.proofs.Common.{Err, Result, ◌==◌, ℤ, IfSome, ◌∷◌, ◌++◌, ap}
 use Rattle.std.specs.List.{AllByRecursion}
-use Rattle.std.proofs.lemmas.Bool.{eqb-false}
-use Rattle.std.proofs.lemmas.Bool.Decides.{nat_tests}
-use Rattle.std.proofs.lemmas.List.{length-map}
+use Rattle.std.proofs.lemmas.{Bool.eqb-false, Bool.Decides.nat_tests, List.length-map, List.append_cancel_right}
 use Rattle.lp_format.specs.format.{Dialect, Fault, Text, Read, Reading, miss, reads, ◌otherwise◌, Value, float, float_len, fits_i64}
 use Rattle.lp_format.specs.format.{integer_at, unsigned_at, float_at, string_at, boolean_at, value, Pair, IsValue, logical_field}
-use Rattle.lp_format.specs.format.{logical_value, field, separated_list, field_set, without_comma, spaces, timestamp}
-use Rattle.lp_format.specs.laws.PointsOfLines.{LinesArePoints}
-use Rattle.lp_format.proofs.lemmas.literals.FloatLemmas.{float_len_float}
-use Rattle.lp_format.proofs.lemmas.names.Inversions.{joined_of}
-use Rattle.lp_format.proofs.lemmas.meanings.ShorterRests.{field_no_longer}
+use Rattle.lp_format.specs.format.{logical_value, field, separated_list, field_set, without_comma, spaces, timestamp, newline, line_of}
+use Rattle.lp_format.specs.format.{answer, point_of}
+use Rattle.lp_format.specs.laws.PointsOfLines.{LinesArePoints, LinesThatStayAreWritten, WrittenLinesStay}
+use Rattle.lp_format.proofs.lemmas.{literals.FloatLemmas.float_len_float, names.Inversions.joined_of, meanings.ShorterRests.field_no_longer}
+use Rattle.lp_format.proofs.lemmas.{read_back.NameReadsBack.read_line, read_back.NameReadsBack.read_line_is}
 use Rattle.lp_values.proofs.lemmas.fields.ReadingLemmas.{bind_reads, pair_parts}
 use Rattle.lp_lines.proofs.lemmas.names.ParsedNames.{all_made, answer_parts, ok_same}
 use Rattle.lp_lines.proofs.lemmas.line.AnsweredLines.{joined_some}
+use Rattle.lp_lines.proofs.lemmas.read_back.{LinePieces.admitted_point, LineReadsBack.line_reads_back}
 
 -- a value that was read is one of its type
 abbrev pub Fits : Value Text → Type 0
@@ -112,3 +112,26 @@ lines_are_points dialect text line h =
       values = all_made FieldFits (λ f. IsValue f.value) logical_field (λ f h. h) line.fields fields.fit;
       timestamp = stamp_fits parts.fields_rest [] line.timestamp parts.stamp;
     }
+
+-- a text that is as written is read as a line that the builder writes so
+pub written_lines_stay : WrittenLinesStay
+written_lines_stay dialect text w =
+    let p = w.point in
+    let same = read_line_is p in (
+      read_line p,
+      subst (λ xs. answer dialect xs ≡ Ok (read_line p)) w.written (line_reads_back dialect p (admitted_point p w.is_point w.admitted)),
+      (rw same w.admitted, rw same (ap (λ (xs : List ℕ). xs ++ newline ∷ []) w.written)),
+    )
+
+-- a text that the builder writes for the line that it is read as is as written
+pub stayed_lines_are_written : LinesThatStayAreWritten
+stayed_lines_are_written dialect text line read again =
+    record {
+      point = point_of line;
+      is_point = lines_are_points dialect text line read;
+      admitted = again.0;
+      written = append_cancel_right (line_of (point_of line)) text (newline ∷ []) again.1;
+    }
+
+-- both laws of lines that are written again as they are
+pub ruleset stay_laws = (written_lines_stay, stayed_lines_are_written)

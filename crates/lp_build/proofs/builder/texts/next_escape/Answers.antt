@@ -1,15 +1,8 @@
 use Rattle.std.proofs.Common.{arith}
-use Rattle.lp_format.specs.format.Bytes.{is_one_of}
 use Rattle.lp_scan.specs.code.Tokens.{known_of}
-use Rattle.lp_build.proofs.lemmas.builder.BuilderLemmas.{escaped_first, escaped_none}
+use Rattle.lp_build.proofs.lemmas.builder.BuilderLemmas.{escaped_none}
 use Rattle.lp_build.proofs.builder.texts.next_escape.Goals as goal
 
 pub returns-then-at-text-clause-none : goal.returns-then-at-text-clause-none
 returns-then-at-text-clause-none c =
-    escaped_none (known_of c.args.kind) c.args.text.now (is_one_of c.marks.result) _ c.marks.ensures
-    c.before_first-at.ensures (omega arith)
-
-pub returns-clause-some : goal.returns-clause-some
-returns-clause-some c =
-    escaped_first (known_of c.args.kind) c.args.text.now (is_one_of c.marks.result) _ c.marks.ensures
-    c.before_first-at.ensures (omega arith)
+    escaped_none (known_of c.args.kind) c.args.text.now c.marks.result _ c.marks.ensures c.before_first-at.ensures (omega arith)
