@@ -1,4 +1,3 @@
 pub mod events
 pub mod fields
 pub mod lines
-pub mod pull
