@@ -1,6 +1,6 @@
 -- What loads and searches tell: the first bare byte that passes a test, how many bytes pass it, and which end a stretch.
 use Rattle.std.proofs.Common.{◌≡◌, ◌≢◌, ℕ, zero, suc, ◌+◌, ◌<◌, ◌≤◌, List, length, take, drop, slice_index, Bool, true, false, ◌||◌, Some}
-use Rattle.std.proofs.Common.{None, length-drop, refl, sym, ap, ◌∙◌, subst, inl, inr, arith, take-append-drop, ◌%◌, ◌^◌, map, cond}
+use Rattle.std.proofs.Common.{None, length-drop, refl, ap, ◌∙◌, subst, inl, inr, arith, ◌%◌, ◌^◌, map}
 use Rattle.std.proofs.Common.{count_ones, ◌==◌, eqb-true, get_or-drop, count_by, take-add}
 use Rattle.std.proofs.lemmas.Bool.{and_right, cases_Bool, eqb-false}
 use Rattle.std.proofs.lemmas.List.{length-map}
@@ -87,10 +87,6 @@ module _ (stops : Stops) (fails : is_stop stops backslash ≡ false) {text rest 
   search_ends none =
       let to : at + length rest ≡ length text = omega (arith, ap length same, length-drop at text, p.within) in
       subst (IsBarePassed (is_stop stops) text) to (searched (length rest) (omega arith) none)
-
--- the bytes that pass of a whole text
-pub count_whole : (p : ℕ → Bool) (text : List ℕ) (at : ℕ) → count_by p (take at text) + count_by p (drop at text) ≡ count_by p text
-count_whole p text at = sym (sum_by-append (λ x. cond (p x) 1 0) (take at text) (drop at text)) ∙ ap (count_by p) (take-append-drop at text)
 
 -- one load
 module _ (p : ℕ → Bool) (text : List ℕ) (at m : ℕ) (room : at + 64 ≤ length text) (is : m ≡ mask_of p text at 64) where

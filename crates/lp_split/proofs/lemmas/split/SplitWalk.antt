@@ -35,16 +35,6 @@ pub IsIn-escaped : (part : Part) (e c : ℕ) (piece : List ℕ) (b : ℕ) → is
     → IsIn part e c piece → IsIn part e c (piece ++ b ∷ [])
 IsIn-escaped part e c piece b h k = grind (arith, IsHead-escaped, EndsPlain-escaped, EndsQuoted-escaped)
 
--- a bare backslash changes no part and no count
-pub IsIn-backslash : (part : Part) (e c : ℕ) (piece : List ℕ) → IsBareAfter piece → IsIn part e c piece → IsIn part e c (piece ++ backslash ∷ [])
-IsIn-backslash Head e c piece f h = (IsHead-bare piece backslash h.0 f (omega arith) (omega arith), h.1)
-IsIn-backslash Plain e c piece f h = (
-  h.0 ++ backslash ∷ [],
-  EndsPlain-bare backslash h.1 f (omega arith) (λ q. absurd (omega arith)),
-  IsCountOf-other h.0 e c backslash h.2 (omega arith) (omega arith),
-)
-IsIn-backslash Quoted e c piece f h = (h.0, EndsQuoted-bare backslash h.1 f (omega arith), h.2)
-
 -- a bare space ends a head
 pub Head-space : (e c : ℕ) (piece : List ℕ) → IsBareAfter piece → IsIn Head e c piece → IsIn Plain e c (piece ++ space ∷ [])
 Head-space e c piece f h = (space ∷ [], EndsPlain-start piece h.0 f, IsCountOf-other [] e c space h.1 (omega arith) (omega arith))
@@ -91,6 +81,12 @@ Quoted-closes e c piece f h = (h.0, EndsQuoted-close h.1 f, h.2)
 pub Quoted-other : (e c : ℕ) (piece : List ℕ) (b : ℕ) → IsBareAfter piece → b ≢ quote → IsIn Quoted e c piece
     → IsIn Quoted e c (piece ++ b ∷ [])
 Quoted-other e c piece b f n h = (h.0, EndsQuoted-bare b h.1 f n, h.2)
+
+-- a bare backslash changes no part and no count
+pub IsIn-backslash : (part : Part) (e c : ℕ) (piece : List ℕ) → IsBareAfter piece → IsIn part e c piece → IsIn part e c (piece ++ backslash ∷ [])
+IsIn-backslash Head e c piece f h = Head-other e c piece backslash f (omega arith) (omega arith) h
+IsIn-backslash Plain e c piece f h = Plain-other e c piece backslash f (omega arith) (omega arith) (omega arith) (λ q. absurd (omega arith)) h
+IsIn-backslash Quoted e c piece f h = Quoted-other e c piece backslash f (omega arith) h
 
 -- a bare byte escapes the next one if it is a backslash
 pub escapes_next : (bytes : List ℕ) (b : ℕ) → IsBareAfter bytes → is_escaped_after (bytes ++ b ∷ []) ≡ (b == backslash)
