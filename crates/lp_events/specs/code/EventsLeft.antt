@@ -1,8 +1,7 @@
 -- The events that are left of a text, from a place in one of its lines on.
 use Rattle.std.specs.Prelude.{◌≡◌, ℕ, ◌+◌, List, [], ◌∷◌, ◌++◌, length, Option, Some, None, Result, Ok, Err}
 use Rattle.lp_format.specs.format.{answers_of, answer, Left, PiecesLeft, most_pieces, Pair, Text, Value}
-use Rattle.lp_values.specs.code.SpelledParts.{spelled_fault, spelled_text}
-use Rattle.lp_values.specs.declared.spelled.SpelledFault.{SpelledFault}
+use Rattle.lp_values.specs.{code.SpelledParts.spelled_fault, code.SpelledParts.spelled_text, declared.spelled.SpelledFault.SpelledFault}
 use Rattle.lp_events.specs.code.Events.{AreEventsOf, AreEventsOfAll, Event, ended, failed, front_events, named, spelled_field, spelled_tag}
 use Rattle.lp_events.specs.code.Events.{tagged, valued}
 use Rattle.lp_events.specs.code.PartsRead.{AreFields, AreNames}

@@ -4,8 +4,7 @@ use Rattle.std.proofs.Common.{length-append, Option, Some, None, Bor, All}
 use Rattle.std.proofs.lemmas.List.Elements.{All-push}
 use Rattle.lp_format.specs.format.{newline, Dialect, Left, PiecesLeft, most_pieces, trimmed}
 use Rattle.lp_format.specs.format.Pieces.{Pieces, Pieces.last, Pieces.cut}
-use Rattle.lp_format.proofs.lemmas.line.TrimLemmas.{trimmed_is_after}
-use Rattle.lp_format.proofs.lemmas.split.SplitPieces.{pieces_exist}
+use Rattle.lp_format.proofs.lemmas.{line.TrimLemmas.trimmed_is_after, split.SplitPieces.pieces_exist}
 use Rattle.lp_events.specs.code.LineSteps.{GivesLine, IsBlankPiece, most_items}
 
 -- blank pieces were left before these

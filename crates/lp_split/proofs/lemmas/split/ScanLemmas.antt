@@ -7,8 +7,7 @@ use Rattle.std.proofs.lemmas.List.{FromFn.length-range_with_len, Sums.prefix_len
 use Rattle.std.proofs.Math.Seq.{get_or-append_seam, take-append_seam}
 use Rattle.lp_format.specs.format.{backslash, bare_after, first_bare, is_bare_at, is_escaped_after}
 use Rattle.lp_format.specs.laws.Meanings.{IsAtStop, IsBeforeStop}
-use Rattle.lp_format.proofs.lemmas.split.SplitBare.{is_escaped-nil}
-use Rattle.lp_format.proofs.lemmas.tokens.EscapeLemmas.{is_escaped_push}
+use Rattle.lp_format.proofs.lemmas.{split.SplitBare.is_escaped-nil, tokens.EscapeLemmas.is_escaped_push}
 
 -- how far the first bare byte is that passes, from whether the place before the text is escaped
 abbrev pub bare_len : (ℕ → Bool) → Bool → List ℕ → ℕ

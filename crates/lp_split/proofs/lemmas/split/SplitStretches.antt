@@ -2,15 +2,11 @@
 use Rattle.std.proofs.Common.{◌≡◌, ◌≢◌, ℕ, zero, suc, ◌+◌, ◌-◌, ◌/◌, ◌%◌, ◌^◌, ◌<◌, ◌≤◌, Bool, true, false, cond, not, ◌&&◌, List, [], ◌∷◌}
 use Rattle.std.proofs.Common.{◌++◌, length, take, drop, map, slice_index, Some, count_ones, sym, ap, ap₂, ◌∙◌, subst, refl, inl, inr}
 use Rattle.std.proofs.Common.{arith, length-append, ◌==◌, ◌||◌, w64, count_by, ne_eqb, get_or-drop, take-add}
-use Rattle.std.specs.Int.{trailing_zeros}
-use Rattle.std.specs.List.{range_with_len}
-use Rattle.std.proofs.lemmas.Bool.{and_parts, cases_Bool, cases_lt, not-true}
-use Rattle.std.proofs.lemmas.Bool.Decides.{nat_tests}
-use Rattle.std.proofs.lemmas.List.{take_more, take_rest}
-use Rattle.std.proofs.lemmas.List.Elements.{All-nil}
-use Rattle.std.proofs.lemmas.List.FromFn.{length-map-range_with_len, length-range_with_len}
-use Rattle.std.proofs.lemmas.List.Sums.{count_by-le-length, sum_by-cons}
-use Rattle.std.proofs.lemmas.Simd.{mask_l-mod, ones-mask_l}
+use Rattle.std.specs.{Int.trailing_zeros, List.range_with_len}
+use Rattle.std.proofs.lemmas.{Bool.and_parts, Bool.cases_Bool, Bool.cases_lt, Bool.not-true, Bool.Decides.nat_tests, List.take_more}
+use Rattle.std.proofs.lemmas.{List.take_rest, List.Elements.All-nil, List.FromFn.length-map-range_with_len}
+use Rattle.std.proofs.lemmas.{List.FromFn.length-range_with_len, List.Sums.count_by-le-length, List.Sums.sum_by-cons, Simd.mask_l-mod}
+use Rattle.std.proofs.lemmas.{Simd.ones-mask_l}
 use Rattle.std.proofs.Math.Seq.{drop-append_seam, take-append-add, take-append_seam}
 use Rattle.lp_format.specs.format.{backslash, comma, newline, quote, space, Crate, is_bare_at, is_escaped_after, IsBareAfter, IsHead}
 use Rattle.lp_format.specs.format.{EndsQuoted, IsFirstCut}

@@ -1,8 +1,7 @@
 -- What a walk knows of a piece, a byte further.
 use Rattle.std.proofs.Common.{◌≡◌, ◌≢◌, ℕ, ◌+◌, ◌<◌, ◌≤◌, Bool, true, false, cond, eqb, List, [], ◌∷◌, ◌++◌, ◌∙◌, ap, arith, add-zero, ◌&&◌}
 use Rattle.std.proofs.Common.{not, count_by, ne_eqb, ◌==◌, ◌||◌}
-use Rattle.std.proofs.lemmas.List.Sums.{sum_by-append}
-use Rattle.std.proofs.lemmas.Bool.Decides.{nat_tests}
+use Rattle.std.proofs.lemmas.{List.Sums.sum_by-append, Bool.Decides.nat_tests}
 use Rattle.lp_split.specs.code.{IsCountOf, Part}
 use Rattle.lp_format.specs.format.{is_escaped_after, IsBareAfter, HasMoreEquals, newline, quote, backslash}
 use Rattle.lp_format.proofs.lemmas.split.SplitBare.{IsHead-escaped, IsHead-bare, EndsPlain-escaped, EndsPlain-bare, EndsPlain-start}

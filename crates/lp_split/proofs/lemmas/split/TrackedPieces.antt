@@ -6,9 +6,8 @@ use Rattle.lp_format.specs.format.{Dialect, Strict, Crate, begins_comment, IsLas
 use Rattle.lp_format.specs.format.{IsClosed, IsOpen}
 use Rattle.lp_split.specs.code.{CutsOrTracks, most_counted, NeverComment, EndsIn, IsPlace, IsTrackOf, Leads, LeadsTo, Steps, TracksOn, Part, Head}
 use Rattle.lp_split.specs.code.{Track, Place, Comment, Blanks, Line}
-use Rattle.lp_format.proofs.lemmas.split.SplitPieces.{begins_comment-append}
+use Rattle.lp_format.proofs.lemmas.{split.SplitPieces.begins_comment-append, split.SplitBare.is_escaped-nil}
 use Rattle.std.proofs.lemmas.List.Elements.{All-head, All-nil, All-tail, All-push, All-weaker}
-use Rattle.lp_format.proofs.lemmas.split.SplitBare.{is_escaped-nil}
 use Rattle.lp_split.proofs.lemmas.split.SplitStretches.{bare_joined}
 use Rattle.lp_format.specs.format.Bytes.{hash, space, tab}
 
