@@ -3,13 +3,14 @@ use Rattle.std.specs.Prelude.{ℕ, ◌+◌, ◌≤◌, List, length, take, drop,
 use Rattle.lp_format.specs.format.{Dialect, IsFirstCut, IsLastPiece}
 use Rattle.lp_split.specs.declared.split.Mark.{Mark}
 use Rattle.lp_split.specs.declared.split.resumed.Search.{Search}
-use Rattle.lp_split.specs.declared.split.resumed.Search.TheVariants.{Begins, Within}
+use Rattle.lp_split.specs.declared.split.resumed.Search.TheVariants.{Begins, Quiet, Within}
 use Rattle.lp_split.specs.code.Ahead.{AreSeen}
 use Rattle.lp_split.specs.code.Tracks.{IsTrackOf, most_counted, Track}
 
--- what a search knows of a text: the marks that were seen at its start, or the track of its first bytes
+-- what a search knows of a text: the marks that were seen at its start, that its first bytes hold no cut, or their track
 abbrev pub IsKnown : Dialect → List ℕ → Search → Type 0
 IsKnown dialect text (Begins seen) = AreSeen text seen
+IsKnown dialect text (Quiet n) = (n ≤ length text) × IsLastPiece dialect (take n text)
 IsKnown dialect text (Within at track) = (at ≤ length text) × (most_counted track ≤ at) × IsTrackOf dialect (take at text) track
 
 -- what is known of a buffer: where the bytes begin that are held, and what a search for a cut knows of them

@@ -1,7 +1,8 @@
 //! A search for the first cut that goes on as bytes come.
 //!
-//! At first the splitter's own search looks for the cut. If the text is one piece, its bytes are tracked, and the track goes
-//! on over the bytes that come. So however they come, each is searched twice at most.
+//! At first the splitter's own search looks for the cut. If the text is one piece, the cut waits for a newline: once one
+//! has come, that search looks again, and if it finds no cut, the bytes are tracked, and the track is kept. So however the
+//! bytes come, each is searched a few times at most.
 
 ghost use Rattle.std.specs.Prelude.{◌≤◌, Some, length, take};
 ghost use Rattle.lp_format.specs.format.{IsBareAfter, IsFirstCut};
@@ -9,7 +10,7 @@ ghost use Rattle.lp_format.specs.format.Dialects as dialects;
 ghost use Rattle.lp_split.specs.code.{rules_of, CutsOrTracks, EndsIn, IsKnown, SearchesOn, IsTrackOf, most_counted};
 
 use super::tracked::Place;
-use super::{Dialect, Mark, Track, first_cut, track_on};
+use super::{Dialect, Mark, Track, first_cut, first_newline, late_cut, track_on};
 
 /// A part of a piece, by what ends its stretches.
 #[derive(Clone, Copy)]
@@ -27,6 +28,8 @@ pub enum Part {
 pub(crate) enum Search {
     /// It begins, and these newlines, quotes and backslashes were seen.
     Begins(u64),
+    /// So many of its first bytes hold no cut.
+    Quiet(usize),
     /// Its bytes up to this place have this track.
     Within { at: usize, track: Track },
 }
@@ -90,7 +93,15 @@ pub(crate) fn search_on(dialect: Dialect, text: &[u8], known: Search) -> Result<
     ensures { SearchesOn (rules_of dialect) text.now result }
 {
     match known {
-        Search::Begins(_) => cut_from(text, 0, Track::new(dialect)),
         Search::Within { at, track } => cut_from(text, at, track),
+        Search::Begins(seen) => match first_cut(dialect, text, seen) {
+            Some(cut) => Ok(cut),
+            None => Err(Search::Quiet(text.len())),
+        },
+        Search::Quiet(n) if first_newline(&text[n..]).is_none() => Err(Search::Quiet(text.len())),
+        Search::Quiet(_) => match late_cut(dialect, text) {
+            Some(at) => Ok(Mark { at, later: 0 }),
+            None => cut_from(text, 0, Track::new(dialect)),
+        },
     }
 }

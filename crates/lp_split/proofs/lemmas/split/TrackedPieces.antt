@@ -1,17 +1,29 @@
--- The track of a piece, by the rules of both dialects.
-use Rattle.std.proofs.Common.{◌≡◌, ◌≢◌, ℕ, false, List, [], length, take, drop, Err, sym, ap, ◌∙◌, arith, append-nil}
+-- The track of a piece, and what a search knows of a text, by the rules of both dialects.
+use Rattle.std.proofs.Common.{◌≡◌, ◌≢◌, ℕ, false, List, [], length, take, drop, Err, sym, ap, ◌∙◌, subst, arith, append-nil}
 use Rattle.std.proofs.Common.{take-append-drop, ◌⊎◌, inl, inr, eqb, ◌∷◌, ◌++◌, refl, append_assoc, Some, None, Ok, ◌+◌, ◌≤◌, length-drop}
-use Rattle.std.proofs.Common.{All, get_or-drop, take-add, ne_eqb, Result}
+use Rattle.std.proofs.Common.{All, take_all, get_or-drop, take-add, ne_eqb, Result}
 use Rattle.lp_format.specs.format.{Dialect, Strict, Crate, begins_comment, IsLastPiece, IsCutPiece, IsFirstCut, newline, IsBareAfter}
 use Rattle.lp_format.specs.format.{IsClosed, IsOpen}
-use Rattle.lp_split.specs.code.{CutsOrTracks, most_counted, NeverComment, EndsIn, IsPlace, IsTrackOf, Leads, LeadsTo, Steps, TracksOn, Part, Head}
+use Rattle.lp_split.specs.declared.split.resumed.Search.TheVariants.{Quiet}
+use Rattle.lp_split.specs.code.{SearchesOn, CutsOrTracks, most_counted, NeverComment, EndsIn, IsPlace, IsTrackOf, Leads, LeadsTo, Steps, TracksOn, Part, Head}
 use Rattle.lp_split.specs.code.{Track, Place, Comment, Blanks, Line}
-use Rattle.lp_format.proofs.lemmas.{split.SplitPieces.begins_comment-append, split.SplitBare.is_escaped-nil}
+use Rattle.lp_format.proofs.lemmas.split.{SplitPieces.IsLastPiece-extend, SplitPieces.begins_comment-append, SplitBare.is_escaped-nil}
 use Rattle.std.proofs.lemmas.List.Elements.{All-head, All-nil, All-tail, All-push, All-weaker}
 use Rattle.lp_split.proofs.lemmas.split.SplitStretches.{bare_joined}
 use Rattle.lp_format.specs.format.Bytes.{hash, space, tab}
 
--- a text that never begins a comment begins none
+-- a text without a cut up to a place, and without a newline after it, is one piece
+pub still_last : (dialect : Dialect) (text after : List ℕ) (quiet : ℕ) → IsLastPiece dialect (take quiet text)
+    → after ≡ drop quiet text → All (λ b. b ≢ newline) after → IsLastPiece dialect text
+still_last dialect text after quiet h e n =
+    subst (IsLastPiece dialect) (take-append-drop quiet text)
+    (IsLastPiece-extend dialect (take quiet text) (drop quiet text) h (subst (All (λ b. b ≢ newline)) e n))
+
+-- that is known of all of it
+pub all_quiet : (dialect : Dialect) (text : List ℕ) → IsLastPiece dialect text → SearchesOn dialect text (Err (Quiet (length text)))
+all_quiet dialect text h = grind (arith, take_all)
+
+-- such a text begins no comment
 pub no_comment : (text : List ℕ) → NeverComment Strict text → begins_comment text ≡ false
 no_comment text never = ap begins_comment (sym (append-nil text)) ∙ never []
 
