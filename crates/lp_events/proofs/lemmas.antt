@@ -1,3 +1,4 @@
 pub mod events
 pub mod fields
 pub mod lines
+pub mod pull

@@ -1,4 +1,3 @@
 pub mod LineSteps
 pub mod Events
-pub mod PartsRead
 pub mod EventsLeft

@@ -1,16 +1,13 @@
 //! Lines, told to a sink part by part, with no memory.
 
-ghost use Rattle.std.specs.Prelude.{◌≡◌, ◌<◌, ◌++◌, ◌==◌, ℕ, [], List, length, slice_index, IfOk, IfSome};
-ghost use Rattle.lp_format.specs.format.{space, answer, field, front_before, tag, without_comma, Pair, Text, Value};
-ghost use Rattle.lp_format.specs.format.Dialects as rules;
+ghost use Rattle.std.specs.Prelude.{◌≡◌, ◌<◌, ◌++◌, ℕ, List, length, slice_index, IfOk, IfSome};
+ghost use Rattle.lp_format.specs.format.{space, answer, field, field_set, front_before, separated_list, tag, tag_set};
 ghost use Rattle.lp_split.specs.code.{rules_of};
 ghost use Rattle.lp_values.specs.code.SpelledParts.{GivesSpelled, spelled_fault, spelled_text};
-ghost use Rattle.lp_events.specs.code.Events.{AreEventsOf, AreEventsOfText, AreToldBefore, Event, WasTold, ended, failed, named};
-ghost use Rattle.lp_events.specs.code.Events.{spelled_field, spelled_tag, tagged, valued};
-ghost use Rattle.lp_events.specs.code.PartsRead.{AreNames, GivesEnd, GivesField, GivesFirstField, GivesTag, IsNext};
+ghost use Rattle.lp_events.specs.code.Events.{AreCounted, AreEventsOf, AreEventsOfText, AreFields, AreTags, AreToldBefore, Event};
+ghost use Rattle.lp_events.specs.code.Events.{WasTold, WasToldParts, ended, failed, named, spelled_field, spelled_tag, tagged, valued};
 
 use crate::lines::next_line;
-use crate::place::{Fields, Names};
 use lp_scan::trim::{strip_byte, trim_start_spaces};
 use lp_split::Dialect;
 use lp_split::split::split_lines_in;
@@ -92,9 +89,88 @@ pub(crate) fn field<'a>(text: &'a str) -> Front<'a, (Spelled<'a>, SpelledValue<'
     Ok(Some(((key, value), rest)))
 }
 
+// Tells the tags at the start of `text`, joined by commas, and gives their number and the rest.
+#[inline(always)]
+fn tags<'a, S: EventSink<'a>>(text: &'a str, sink: &mut S) -> Front<'a, usize>
+    ensures { WasToldParts S.takes tagged sink.old sink.new (AreCounted result (separated_list tag text.now)) }
+{
+    let mut count = 0;
+    let mut rest = text;
+    let mut place = text;
+    while let Some(((key, value), after)) = tag(place)? {
+        sink.tag(key, value);
+        count += 1;
+        rest = after;
+        match strip_byte(b',', rest) {
+            Some(suffix) => place = suffix,
+            None => return Ok(Some((count, rest))),
+        }
+    }
+    if count == 0 {
+        return Ok(None);
+    }
+    Ok(Some((count, rest)))
+}
+
+// Tells the fields at the start of `text`, joined by commas, and gives their number and the rest.
+#[inline(always)]
+fn fields<'a, S: EventSink<'a>>(text: &'a str, sink: &mut S) -> Front<'a, usize>
+    ensures { WasToldParts S.takes valued sink.old sink.new (AreCounted result (separated_list field text.now)) }
+{
+    let mut count = 0;
+    let mut rest = text;
+    let mut place = text;
+    while let Some(((key, value), after)) = field(place)? {
+        sink.field(key, value);
+        count += 1;
+        rest = after;
+        match strip_byte(b',', rest) {
+            Some(suffix) => place = suffix,
+            None => return Ok(Some((count, rest))),
+        }
+    }
+    if count == 0 {
+        return Ok(None);
+    }
+    Ok(Some((count, rest)))
+}
+
+// Tells the tags after the comma at the start of `text`, and gives the rest. If no comma is there, there are none.
+#[inline(always)]
+fn tag_set<'a, S: EventSink<'a>>(text: &'a str, sink: &mut S) -> Result<&'a str, SpelledFault<'a>>
+    ensures { WasToldParts S.takes tagged sink.old sink.new (AreTags result (tag_set text.now)) }
+{
+    let Some(rest) = strip_byte(b',', text) else {
+        return Ok(text);
+    };
+    let Some((_, rest)) = tags(rest, sink)? else {
+        return Err(SpelledFault::TagSetMalformed);
+    };
+    Ok(rest)
+}
+
+// Tells the fields at the start of `text`, joined by commas, and gives the rest: in the crate's dialect without the comma
+// after a first field that is the only one. `None` if no field is there.
+#[inline(always)]
+fn field_set<'a, S: EventSink<'a>>(
+    dialect: Dialect,
+    text: &'a str,
+    sink: &mut S,
+) -> Result<Option<&'a str>, SpelledFault<'a>>
+    ensures { WasToldParts S.takes valued sink.old sink.new (AreFields result (field_set (rules_of dialect) text.now)) }
+{
+    let Some((count, rest)) = fields(text, sink)? else {
+        return Ok(None);
+    };
+    match dialect {
+        Dialect::Crate if count == 1 => Ok(Some(strip_byte(b',', rest).unwrap_or(rest))),
+        _ => Ok(Some(rest)),
+    }
+}
+
 // What comes before `rest`, which ends `line` and begins with a space.
 #[inline(always)]
-fn front_before<'a>(line: &'a str, rest: &str) -> &'a str
+pub(crate) fn front_before<'a>(line: &'a str, rest: &str) -> &'a str
     requires ends { (front : List ℕ) × (line.now ≡ front ++ rest.now) }
     requires space { slice_index rest.now 0 ≡ space }
     ensures { result.now ≡ front_before line.now rest.now }
@@ -102,126 +178,8 @@ fn front_before<'a>(line: &'a str, rest: &str) -> &'a str
     &line[..line.len() - rest.len()]
 }
 
-// The measurement of the trimmed text `line`, and where it ends.
-#[tactic(auto, using(crate::proofs::lemmas::fields::ManyLemmas::part_steps), unfolding(lp_format::specs::format::Lines::answer))]
-#[inline(always)]
-pub(crate) fn begin<'a>(line: &'a str) -> Result<(Spelled<'a>, Names<'a>), SpelledFault<'a>>
-    ensures gives { (dialect : rules.Dialect) → IsNext dialect line.now result (λ p. (p.1.line ≡ line.entry) × AreNames p.1 (spelled_text p.0) []) }
-    ensures less { IfOk result (λ p. length p.1.rest.now < length line.now) }
-{
-    let Some((name, rest)) = spelled_parts::name(NameKind::Measurement, line)? else {
-        return Err(SpelledFault::MeasurementValueInvalid);
-    };
-    let names = Names {
-        line,
-        rest,
-        is_first: true,
-    };
-    Ok((name, names))
-}
-
-// The next tag of a line, and where it ends; `None` if it has no more.
-#[tactic(auto, using(crate::proofs::lemmas::fields::ManyLemmas::part_steps))]
-#[inline(always)]
-pub(crate) fn next_tag<'a>(
-    names: Names<'a>,
-) -> Result<Option<((Spelled<'a>, Spelled<'a>), Names<'a>)>, SpelledFault<'a>>
-    ensures gives { (dialect : rules.Dialect) → GivesTag dialect names.entry result }
-    ensures less { IfOk result (λ o. IfSome o (λ p. length p.1.rest.now < length names.entry.rest.now)) }
-{
-    let Some(place) = strip_byte(b',', names.rest) else {
-        return Ok(None);
-    };
-    let Some((part, rest)) = tag(place)? else {
-        if names.is_first {
-            return Err(SpelledFault::TagSetMalformed);
-        }
-        return Ok(None);
-    };
-    let next = Names {
-        line: names.line,
-        rest,
-        is_first: false,
-    };
-    Ok(Some((part, next)))
-}
-
-// The first field of a line, after its tags and spaces, and where it ends.
-#[tactic(auto, using(crate::proofs::lemmas::fields::ManyLemmas::part_steps), unfolding(lp_format::specs::format::Lines::answer))]
-#[inline(always)]
-pub(crate) fn first_field<'a>(
-    names: Names<'a>,
-) -> Result<((Spelled<'a>, SpelledValue<'a>), Fields<'a>), SpelledFault<'a>>
-    ensures gives { (dialect : rules.Dialect) → GivesFirstField dialect names.entry result }
-    ensures less { IfOk result (λ p. length p.1.rest.now < length names.entry.rest.now) }
-{
-    let Some(_after_space) = strip_byte(b' ', names.rest) else {
-        return Err(SpelledFault::GenericParsingError {
-            kind: ErrorKind::TakeWhile1,
-        });
-    };
-    let series = front_before(names.line, names.rest);
-    let Some((part, rest)) = field(trim_start_spaces(names.rest))? else {
-        return Err(SpelledFault::FieldSetMissing);
-    };
-    let fields = Fields {
-        series,
-        rest,
-        is_first: true,
-    };
-    Ok((part, fields))
-}
-
-// The next field of a line, and where it ends; `None` if it has no more.
-#[tactic(auto, using(crate::proofs::lemmas::fields::ManyLemmas::part_steps))]
-#[inline(always)]
-pub(crate) fn next_field<'a>(
-    fields: Fields<'a>,
-) -> Result<Option<((Spelled<'a>, SpelledValue<'a>), Fields<'a>)>, SpelledFault<'a>>
-    ensures gives { (dialect : rules.Dialect) → GivesField dialect fields.entry result }
-    ensures less { IfOk result (λ o. IfSome o (λ p. length p.1.rest.now < length fields.entry.rest.now)) }
-{
-    let Some(place) = strip_byte(b',', fields.rest) else {
-        return Ok(None);
-    };
-    let Some((part, rest)) = field(place)? else {
-        return Ok(None);
-    };
-    let next = Fields {
-        series: fields.series,
-        rest,
-        is_first: false,
-    };
-    Ok(Some((part, next)))
-}
-
-// What is left after the last field: in the crate's dialect without the comma after a first field that is the only one.
-#[inline(always)]
-fn rest_after<'a>(dialect: Dialect, fields: Fields<'a>) -> &'a str
-    ensures { (all : List (Pair Text (Value Text))) → fields.entry.is_first ≡ (length all == 1)
-        → result.now ≡ without_comma (rules_of dialect) all fields.entry.rest.now }
-{
-    match dialect {
-        Dialect::Crate if fields.is_first => strip_byte(b',', fields.rest).unwrap_or(fields.rest),
-        _ => fields.rest,
-    }
-}
-
-// The timestamp after the last field of a line, with which it ends.
-#[inline(always)]
-pub(crate) fn end<'a>(dialect: Dialect, fields: Fields<'a>) -> Result<Option<i64>, SpelledFault<'a>>
-    ensures { GivesEnd (rules_of dialect) fields.entry result }
-{
-    let (timestamp, rest) = spelled_parts::timestamp(rest_after(dialect, fields))?;
-    if !rest.is_empty() {
-        return Err(SpelledFault::CannotParseEntireLine {
-            trailing_content: rest,
-        });
-    }
-    Ok(timestamp)
-}
-
 // Tells what the trimmed text `line` says, but for its fault.
+#[tactic(auto, unfolding(lp_format::specs::format::Lines::answer))]
 #[inline(always)]
 fn parts<'a, S: EventSink<'a>>(
     dialect: Dialect,
@@ -230,20 +188,27 @@ fn parts<'a, S: EventSink<'a>>(
 ) -> Result<(), SpelledFault<'a>>
     ensures { WasTold S.takes sink.old sink.new (AreToldBefore result (answer (rules_of dialect) line.now)) }
 {
-    let (measurement, mut names) = begin(line)?;
+    let Some((measurement, rest)) = spelled_parts::name(NameKind::Measurement, line)? else {
+        return Err(SpelledFault::MeasurementValueInvalid);
+    };
     sink.measurement(measurement);
-    while let Some(((key, value), next)) = next_tag(names)? {
-        sink.tag(key, value);
-        names = next;
+    let rest = tag_set(rest, sink)?;
+    let Some(_after_space) = strip_byte(b' ', rest) else {
+        return Err(SpelledFault::GenericParsingError {
+            kind: ErrorKind::TakeWhile1,
+        });
+    };
+    let series = front_before(line, rest);
+    let Some(rest) = field_set(dialect, trim_start_spaces(rest), sink)? else {
+        return Err(SpelledFault::FieldSetMissing);
+    };
+    let (timestamp, rest) = spelled_parts::timestamp(rest)?;
+    if !rest.is_empty() {
+        return Err(SpelledFault::CannotParseEntireLine {
+            trailing_content: rest,
+        });
     }
-    let ((key, value), mut fields) = first_field(names)?;
-    sink.field(key, value);
-    while let Some(((key, value), next)) = next_field(fields)? {
-        sink.field(key, value);
-        fields = next;
-    }
-    let timestamp = end(dialect, fields)?;
-    sink.end(fields.series, timestamp);
+    sink.end(series, timestamp);
     Ok(())
 }
 

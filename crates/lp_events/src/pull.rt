@@ -1,19 +1,23 @@
 //! The parts of lines, given one after another, with no memory.
 
-ghost use Rattle.std.specs.Prelude.{◌≡◌, ◌<◌, ◌+◌, ◌↔◌, [], List, None, length, IfOk, IfSome, MatchOption, MatchResult};
+ghost use Rattle.std.specs.Prelude.{◌≡◌, ◌<◌, ◌+◌, ◌==◌, ◌↔◌, [], List, None, length, IfOk, IfSome, MatchOption, MatchResult};
 ghost use Rattle.std.specs.Iterator.{at_most};
-ghost use Rattle.lp_format.specs.format.{Crate, most_pieces};
+ghost use Rattle.lp_format.specs.format.{Crate, after_comma, field, tag, without_comma, most_pieces, Pair, Text, Value};
 ghost use Rattle.lp_split.specs.code.{rules_of};
-ghost use Rattle.lp_events.specs.code.Events.{AreEventsOfText, Event as Told, WasTold};
-ghost use Rattle.lp_events.specs.code.EventsLeft.{AreLeftFrom, Completes, GivesEvent, HasEventsLeft, Steps, most_events, most_of_line};
-ghost use Rattle.lp_events.specs.code.EventsLeft.{told};
+ghost use Rattle.lp_values.specs.code.SpelledParts.{GivesSpelled};
+ghost use Rattle.lp_events.specs.code.Events.{AreEventsOfText, Event as Told, WasTold, spelled_field, spelled_tag};
+ghost use Rattle.lp_events.specs.code.EventsLeft.{AreLeftAfterSeries, AreLeftFrom, Completes, GivesEvent, HasEventsLeft, Steps};
+ghost use Rattle.lp_events.specs.code.EventsLeft.{most_events, most_of_line, told};
 
-use crate::events::{self, EventSink, end, first_field, next_field, next_tag};
+use crate::events::{self, EventSink, front_before};
 use crate::lines::next_line;
 use crate::place::{Fields, Names, Place};
+use lp_scan::trim::{strip_byte, trim_start_spaces};
 use lp_split::Dialect;
 use lp_split::split::{SplitLines, dialect_of, split_lines_in};
-use lp_values::{Spelled, SpelledFault, SpelledValue};
+use lp_values::names::NameKind;
+use lp_values::spelled_parts::{self, Front};
+use lp_values::{ErrorKind, Spelled, SpelledFault, SpelledValue};
 
 /// A part of a line, as a reader comes to it; where the line ends; or its fault.
 ///
@@ -64,14 +68,70 @@ impl<'a> Event<'a> {
 // The next event of a line and where its part ends, or the fault of the line.
 type Step<'a> = Result<(Event<'a>, Place<'a>), SpelledFault<'a>>;
 
+// A tag after a comma at the start of `text`, and the rest.
+#[inline(always)]
+fn next_tag<'a>(text: &'a str) -> Front<'a, (Spelled<'a>, Spelled<'a>)>
+    ensures value { GivesSpelled spelled_tag result (after_comma tag text.now) }
+    ensures less { IfOk result (λ o. IfSome o (λ p. length p.1.now < length text.now)) }
+{
+    match strip_byte(b',', text) {
+        Some(place) => events::tag(place),
+        None => Ok(None),
+    }
+}
+
+// A field after a comma at the start of `text`, and the rest.
+#[inline(always)]
+fn next_field<'a>(text: &'a str) -> Front<'a, (Spelled<'a>, SpelledValue<'a>)>
+    ensures value { GivesSpelled spelled_field result (after_comma field text.now) }
+    ensures less { IfOk result (λ o. IfSome o (λ p. length p.1.now < length text.now)) }
+{
+    match strip_byte(b',', text) {
+        Some(place) => events::field(place),
+        None => Ok(None),
+    }
+}
+
 // The measurement of a trimmed text.
+#[tactic(auto, using(crate::proofs::lemmas::pull::EventSteps::first_steps), unfolding(lp_format::specs::format::Lines::answer))]
 #[inline(always)]
 fn begin<'a>(line: &'a str) -> Step<'a>
     ensures steps { Steps (Completes line.now []) result }
     ensures less { IfOk result (λ p. most_of_line p.1 < length line.now + 1) }
 {
-    let (name, names) = events::begin(line)?;
+    let Some((name, rest)) = spelled_parts::name(NameKind::Measurement, line)? else {
+        return Err(SpelledFault::MeasurementValueInvalid);
+    };
+    let names = Names {
+        line,
+        rest,
+        is_first: true,
+    };
     Ok((Event::Measurement(name), Place::Names(names)))
+}
+
+// The first field of a line, after its tags and spaces.
+#[tactic(auto, using(crate::proofs::lemmas::pull::EventSteps::first_steps), unfolding(lp_format::specs::format::Lines::answer))]
+#[inline(always)]
+fn first_field<'a>(names: Names<'a>) -> Step<'a>
+    ensures steps { Steps (AreLeftAfterSeries names.entry.line.now names.entry.rest.now) result }
+    ensures less { IfOk result (λ p. most_of_line p.1 < length names.entry.rest.now + 1) }
+{
+    let Some(_after_space) = strip_byte(b' ', names.rest) else {
+        return Err(SpelledFault::GenericParsingError {
+            kind: ErrorKind::TakeWhile1,
+        });
+    };
+    let series = front_before(names.line, names.rest);
+    let Some(((key, value), rest)) = events::field(trim_start_spaces(names.rest))? else {
+        return Err(SpelledFault::FieldSetMissing);
+    };
+    let fields = Fields {
+        series,
+        rest,
+        is_first: true,
+    };
+    Ok((Event::Field(key, value), Place::Fields(fields)))
 }
 
 // The next tag of a line, or its first field.
@@ -80,11 +140,30 @@ fn after_name<'a>(names: Names<'a>) -> Step<'a>
     ensures steps { Steps (AreLeftFrom (Place.Names names.entry)) result }
     ensures less { IfOk result (λ p. most_of_line p.1 < length names.entry.rest.now + 1) }
 {
-    if let Some(((key, value), next)) = next_tag(names)? {
-        return Ok((Event::Tag(key, value), Place::Names(next)));
+    let Some(((key, value), rest)) = next_tag(names.rest)? else {
+        if names.is_first && strip_byte(b',', names.rest).is_some() {
+            return Err(SpelledFault::TagSetMalformed);
+        }
+        return first_field(names);
+    };
+    let names = Names {
+        line: names.line,
+        rest,
+        is_first: false,
+    };
+    Ok((Event::Tag(key, value), Place::Names(names)))
+}
+
+// What is left after the last field: in the crate's dialect without the comma after a first field that is the only one.
+#[inline(always)]
+fn rest_after<'a>(dialect: Dialect, fields: Fields<'a>) -> &'a str
+    ensures { (all : List (Pair Text (Value Text))) → fields.entry.is_first ≡ (length all == 1)
+        → result.now ≡ without_comma (rules_of dialect) all fields.entry.rest.now }
+{
+    match dialect {
+        Dialect::Crate if fields.is_first => strip_byte(b',', fields.rest).unwrap_or(fields.rest),
+        _ => fields.rest,
     }
-    let ((key, value), fields) = first_field(names)?;
-    Ok((Event::Field(key, value), Place::Fields(fields)))
 }
 
 // The next field of a line, or its end.
@@ -93,10 +172,20 @@ fn after_field<'a>(dialect: Dialect, fields: Fields<'a>) -> Step<'a>
     ensures steps { Steps (λ left events. left.dialect ≡ rules_of dialect → AreLeftFrom (Place.Fields fields.entry) left events) result }
     ensures less { IfOk result (λ p. most_of_line p.1 < length fields.entry.rest.now + 1) }
 {
-    if let Some(((key, value), next)) = next_field(fields)? {
-        return Ok((Event::Field(key, value), Place::Fields(next)));
+    if let Some(((key, value), rest)) = next_field(fields.rest)? {
+        let fields = Fields {
+            series: fields.series,
+            rest,
+            is_first: false,
+        };
+        return Ok((Event::Field(key, value), Place::Fields(fields)));
     }
-    let timestamp = end(dialect, fields)?;
+    let (timestamp, rest) = spelled_parts::timestamp(rest_after(dialect, fields))?;
+    if !rest.is_empty() {
+        return Err(SpelledFault::CannotParseEntireLine {
+            trailing_content: rest,
+        });
+    }
     let end = Event::End {
         series: fields.series,
         timestamp,

@@ -1,6 +1,7 @@
 -- What a reader of lines tells a sink.
-use Rattle.std.specs.Prelude.{◌≡◌, ◌⊎◌, ◌++◌, ℕ, ℤ, List, [], ◌∷◌, map, Option, Result, Ok, Err}
-use Rattle.lp_format.specs.format.{Dialect, HasAnswers, Line, some_tags, Pair, Fault, Text, Value}
+use Rattle.std.specs.Prelude.{◌≡◌, ◌⊎◌, ◌++◌, ℕ, ℤ, List, [], ◌∷◌, map, length, Option, Some, None, Result, Ok, Err}
+use Rattle.std.specs.Borrow.{Bor}
+use Rattle.lp_format.specs.format.{Dialect, HasAnswers, Line, some_tags, Pair, Fault, Read, Reading, Text, miss, fatal, reads, Value}
 use Rattle.lp_values.specs.declared.{spelled.Spelled.Spelled, spelled.SpelledFault.SpelledFault, spelled.SpelledValue.SpelledValue}
 use Rattle.lp_values.specs.code.SpelledParts.{spelled_fault, spelled_text, spelled_value}
 
@@ -55,6 +56,13 @@ pub record WasTold {S : Type 0} (takes : S → Event → S → Type 0) (before a
   pub told : TakesAll takes before events after
   pub are : Are events
 
+-- the sink was told these parts, each by such an event, and this holds of them
+pub record WasToldParts {S A : Type 0} (takes : S → Event → S → Type 0) (event : A → Event) (before after : S)
+    (Are : List A → Type 0) : Type 0 where
+  pub parts : List A
+  pub told : TakesAll takes before (map event parts) after
+  pub are : Are parts
+
 -- a tag as it is spelled, and what it is read as
 abbrev pub spelled_tag : Spelled × Spelled → Pair Text Text
 spelled_tag t = record { key = spelled_text t.0; value = spelled_text t.1 }
@@ -62,6 +70,24 @@ spelled_tag t = record { key = spelled_text t.0; value = spelled_text t.1 }
 -- a field as it is spelled, and what it is read as
 abbrev pub spelled_field : Spelled × SpelledValue → Pair Text (Value Text)
 spelled_field f = record { key = spelled_text f.0; value = spelled_value f.1 }
+
+-- with their number and the rest that the code returned, these are what reading gives, or the fault is that one
+abbrev pub AreCounted : {A : Type 0} → Result (Option (ℕ × Bor (List ℕ))) SpelledFault → Reading (List A) → List A → Type 0
+AreCounted (Ok None) reading parts = reading ≡ miss
+AreCounted (Ok (Some p)) reading parts = (p.0 ≡ length parts) × (reading ≡ reads parts p.1.now)
+AreCounted (Err e) reading parts = reading ≡ fatal (spelled_fault e)
+
+-- with the rest that the code returned these are the fields to be read, or the fault is that one
+abbrev pub AreFields : {A : Type 0} → Result (Option (Bor (List ℕ))) SpelledFault → Reading (List A) → List A → Type 0
+AreFields (Ok None) reading parts = reading ≡ miss
+AreFields (Ok (Some rest)) reading parts = reading ≡ reads parts rest.now
+AreFields (Err e) reading parts = reading ≡ fatal (spelled_fault e)
+
+-- with the rest that the code returned these are the tags to be read, or the fault is that one
+abbrev pub AreTags : {A : Type 0} → Result (Bor (List ℕ)) SpelledFault → Result (Read (Option (List A))) Fault → List A → Type 0
+AreTags {A} (Ok rest) wanted parts =
+    (set : Option (List A)) × (wanted ≡ Ok (record { value = set; rest = rest.now })) × (some_tags set ≡ parts)
+AreTags (Err e) wanted parts = wanted ≡ Err (spelled_fault e)
 
 -- these are the events of the line that is the answer; or parts of a line, if the code returned the fault
 abbrev pub AreToldBefore : {X : Type 0} → Result X SpelledFault → Result Line Fault → List Event → Type 0

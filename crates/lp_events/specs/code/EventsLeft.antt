@@ -1,10 +1,13 @@
 -- The events that are left of a text, from a place in one of its lines on.
-use Rattle.std.specs.Prelude.{◌≡◌, ℕ, ◌+◌, List, [], ◌∷◌, ◌++◌, length, Option, Some, None, Result, Ok, Err}
-use Rattle.lp_format.specs.format.{answers_of, answer, Left, PiecesLeft, most_pieces, Pair, Text, Value}
-use Rattle.lp_values.specs.{code.SpelledParts.spelled_fault, code.SpelledParts.spelled_text, declared.spelled.SpelledFault.SpelledFault}
+use Rattle.std.specs.Prelude.{◌≡◌, ℕ, ◌+◌, ◌<◌, ◌≤◌, ◌==◌, Bool, true, false, List, [], ◌∷◌, ◌++◌, drop, length, Option, Some, None, Result}
+use Rattle.std.specs.Prelude.{Ok, Err}
+use Rattle.lp_format.specs.format.{comma, space, answers_of, after_comma, answer, byte, field, front_before, many, prepend, separated_list}
+use Rattle.lp_format.specs.format.{some_tags, spaces, tag, tag_set, a_measurement, name, Left, PiecesLeft, most_pieces, Pair, Reading, Text}
+use Rattle.lp_format.specs.format.{reads, Value}
+use Rattle.lp_values.specs.code.SpelledParts.{spelled_fault, spelled_text}
+use Rattle.lp_values.specs.declared.spelled.SpelledFault.{SpelledFault}
 use Rattle.lp_events.specs.code.Events.{AreEventsOf, AreEventsOfAll, Event, ended, failed, front_events, named, spelled_field, spelled_tag}
 use Rattle.lp_events.specs.code.Events.{tagged, valued}
-use Rattle.lp_events.specs.code.PartsRead.{AreFields, AreNames}
 use Rattle.lp_events.specs.declared.pull.Event.TheVariants.{Measurement, Tag, Field, End, Fault}
 use Rattle.lp_events.specs.declared.{place.Place.Place, place.Place.TheVariants.Between, place.Place.TheVariants.Names}
 use Rattle.lp_events.specs.declared.{place.Place.TheVariants.Fields, pull.ParseEvents.ParseEvents}
@@ -17,6 +20,40 @@ told (Tag key value) = tagged (spelled_tag (key, value))
 told (Field key value) = valued (spelled_field (key, value))
 told (End series timestamp) = ended series.now timestamp
 told (Fault fault) = failed (spelled_fault fault)
+
+-- what is read of a text whose front was read: `done` was read, `rest` is left, and the whole is done and as many as
+-- are at the start of the rest
+pub record SoFar {A : Type 0} (one : List ℕ → Reading A) (text : List ℕ) (done : List A) (rest : List ℕ) : Type 0 where
+  pub fuel : ℕ
+  pub enough : length rest ≤ fuel
+  pub is : separated_list one text ≡ prepend done (many (after_comma one) fuel rest)
+
+-- the measurement and these tags of a line were read, and this is left; tags may follow
+abbrev pub NamesRead : List ℕ → Text → List (Pair Text Text) → List ℕ → Bool → Type 0
+NamesRead line measurement tags rest true = (name a_measurement line ≡ reads measurement rest) × (tags ≡ [])
+NamesRead line measurement tags rest false =
+    (start place : List ℕ) × (name a_measurement line ≡ reads measurement start) × (byte comma start ≡ reads comma place)
+    × SoFar tag place tags rest
+
+-- the measurement and all tags of a line are these, and this is left
+pub record SeriesRead (line : List ℕ) (measurement : Text) (tags : List (Pair Text Text)) (rest : List ℕ) : Type 0 where
+  pub start : List ℕ
+  pub set : Option (List (Pair Text Text))
+  pub name_is : name a_measurement line ≡ reads measurement start
+  pub set_is : tag_set start ≡ Ok (record { value = set; rest = rest })
+  pub tags_are : some_tags set ≡ tags
+
+-- the series of a line and these fields were read, and this is left; fields may follow, and there is one alone if it is the first
+pub record FieldsRead (line series : List ℕ) (measurement : Text) (tags : List (Pair Text Text)) (fields : List (Pair Text (Value Text)))
+    (rest : List ℕ) (is_first : Bool) : Type 0 where
+  pub after : List ℕ
+  pub gap : List ℕ
+  pub series_read : SeriesRead line measurement tags after
+  pub series_is : series ≡ front_before line after
+  pub gap_is : byte space after ≡ reads space gap
+  pub so_far : SoFar field (drop (spaces after) after) fields rest
+  pub some : 0 < length fields
+  pub first_is : is_first ≡ (length fields == 1)
 
 -- the events of the pieces that are left
 pub record AreEventsLeft (left : Left) (events : List Event) : Type 0 where
@@ -32,15 +69,21 @@ pub record Completes (line : List ℕ) (front : List Event) (left : Left) (event
   pub line_is : AreEventsOf (front ++ first) (answer left.dialect line)
   pub others_are : AreEventsLeft left others
 
+-- these events are left after the tags of a line, whichever they are
+abbrev pub AreLeftAfterSeries : List ℕ → List ℕ → Left → List Event → Type 0
+AreLeftAfterSeries line rest left events =
+    (measurement : Text) (tags : List (Pair Text Text)) → SeriesRead line measurement tags rest
+    → Completes line (front_events measurement tags []) left events
+
 -- these events are left from a place on, whatever was read of its line
 abbrev pub AreLeftFrom : Place → Left → List Event → Type 0
 AreLeftFrom Between left events = AreEventsLeft left events
 AreLeftFrom (Names p) left events =
-    (measurement : Text) (tags : List (Pair Text Text)) → AreNames p measurement tags
+    (measurement : Text) (tags : List (Pair Text Text)) → NamesRead p.line.now measurement tags p.rest.now p.is_first
     → Completes p.line.now (front_events measurement tags []) left events
 AreLeftFrom (Fields p) left events =
     (line : List ℕ) (measurement : Text) (tags : List (Pair Text Text)) (fields : List (Pair Text (Value Text)))
-    → AreFields line p measurement tags fields
+    → FieldsRead line p.series.now measurement tags fields p.rest.now p.is_first
     → Completes line (front_events measurement tags fields) left events
 
 -- a step gives the first of the events that are left, and leaves the others; a fault is the last event of its line

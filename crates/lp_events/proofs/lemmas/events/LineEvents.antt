@@ -1,15 +1,16 @@
--- The events of a line and of the lines of a text: what a sink was told, and what is left.
-use Rattle.std.proofs.Common.{◌≡◌, ℕ, ◌+◌, ◌<◌, ◌≤◌, List, [], ◌∷◌, ◌++◌, length, refl, ap, subst, arith, true, append_assoc}
-use Rattle.std.proofs.Common.{Some, Err, Result, ◌==◌, Bor, All, eq-eqb, ne_eqb, IfOk, MatchResult}
-use Rattle.std.proofs.lemmas.List.Elements.{All-head, All-tail}
-use Rattle.lp_format.specs.format.{Fault, Text, answer, Dialect, answers_of, answers_of_piece, Left, Pair, trimmed, Value}
+-- What a sink was told of a line, one event after another, and of the lines of a text.
+use Rattle.std.proofs.Common.{◌≡◌, ℕ, ◌+◌, ◌<◌, List, [], ◌∷◌, ◌++◌, length, length-append, map, refl, arith, inl, inr, true}
+use Rattle.std.proofs.Common.{append_assoc, Some, Ok, ℤ, ◌==◌, Option, Err, Bor, append-nil, All, eq-eqb, ne_eqb}
+use Rattle.std.proofs.lemmas.{List.map_push, List.Elements.All-head, List.Elements.All-tail}
+use Rattle.lp_format.specs.format.{comma, Fault, Reading, fatal, miss, reads, Text, cannot_parse_entire_line, byte, separated_list, Line}
+use Rattle.lp_format.specs.format.{answer, some_tags, complete, Dialect, answers_of, answers_of_piece, Left, Pair, trimmed, Value}
 use Rattle.lp_values.specs.declared.spelled.SpelledFault.{SpelledFault}
-use Rattle.lp_events.specs.declared.{place.Place.Place, place.Fields.Fields, place.Names.Names}
-use Rattle.lp_events.specs.declared.pull.Event as given
-use Rattle.lp_events.specs.code.Events.{Event, TakesAll, AreEventsOf, AreEventsOfAll, AreFrontEvents, WasTold, failed, front_events}
-use Rattle.lp_events.specs.code.EventsLeft.{AreEventsLeft, Completes, Steps, most_of_line}
+use Rattle.lp_values.specs.code.SpelledParts.{spelled_fault}
+use Rattle.lp_events.specs.code.Events.{AreCounted, Event, TakesAll, WasToldParts, AreEventsOf, AreEventsOfAll, AreToldBefore, WasTold}
+use Rattle.lp_events.specs.code.Events.{ended, front_events, named, tagged, valued}
+use Rattle.lp_events.specs.code.EventsLeft.{AreEventsLeft, Completes, SoFar}
 use Rattle.lp_events.specs.code.LineSteps.{GivesLine, IsBlankPiece}
-use Rattle.lp_events.specs.code.PartsRead.{AreFields, AreNames}
+use Rattle.lp_events.proofs.lemmas.fields.ManyLemmas.{Reached, last_read, reached_all, reached_fatal, reached_more}
 
 -- some events and then others
 pub takes_append : {S : Type 0} (takes : S → Event → S → Type 0) (before mid after : S) (events others : List Event)
@@ -18,36 +19,109 @@ takes_append takes before mid after [] others same told = rw same told
 takes_append takes before mid after (event ∷ events) others (next, first, more) told =
     (next, first, takes_append takes next mid after events others more told)
 
-module _ {S : Type 0} (takes : S → Event → S → Type 0) (before : S) {Are Then : List Event → Type 0} where
-  -- what was told is such too
-  pub told_as : {after : S} → WasTold takes before after Are → ((events : List Event) → Are events → Then events)
-      → WasTold takes before after Then
-  told_as was on = record { events = was.events; told = was.told; are = on was.events was.are }
+-- one event more
+pub takes_more : {S : Type 0} (takes : S → Event → S → Type 0) (before mid after : S) (events : List Event) (event : Event)
+    → TakesAll takes before events mid → takes mid event after → TakesAll takes before (events ++ event ∷ []) after
+takes_more takes before mid after events event told one = grind (arith, takes_append)
 
-  -- one event more was told
-  pub told_more : {mid after : S} (event : Event) → WasTold takes before mid Are → takes mid event after
-      → ((events : List Event) → Are events → Then (events ++ event ∷ [])) → WasTold takes before after Then
-  told_more {mid} {after} event was one on =
+-- the parts that were told are so many, and all that was read so far; the next one may be at the place
+abbrev pub ToldSoFar : {S A : Type 0} → (S → Event → S → Type 0) → (A → Event) → (List ℕ → Reading A)
+    → S → S → List ℕ → ℕ → List ℕ → List ℕ → Type 0
+ToldSoFar takes event one before after text count rest place =
+    WasToldParts takes event before after (λ parts. (count ≡ length parts) × Reached one text parts rest place)
+
+module _ {S A : Type 0} (takes : S → Event → S → Type 0) (event : A → Event) (one : List ℕ → Reading A) where
+  -- nothing was told yet
+  pub told_none : (before : S) (text : List ℕ) → ToldSoFar takes event one before before text 0 text text
+  told_none before text = record { parts = []; told = refl; are = (refl, inl (refl, refl)) }
+
+  -- one part more was told
+  pub told_more : (before mid after : S) (text : List ℕ) (count : ℕ) (rest place : List ℕ) (x : A) (end : List ℕ)
+      → ToldSoFar takes event one before mid text count rest place → one place ≡ reads x end → length end < length place
+      → takes mid (event x) after
+      → WasToldParts takes event before after (λ parts. (count + 1 ≡ length parts) × SoFar one text parts end)
+  told_more before mid after text count rest place x end so_far is less told =
+      let parts = so_far.parts in
       record {
-        events = was.events ++ event ∷ [];
-        told = takes_append takes before mid after was.events (event ∷ []) was.told (after, one, refl);
-        are = on was.events was.are;
+        parts = parts ++ x ∷ [];
+        told = rw (map_push event parts x) (takes_more takes before mid after (map event parts) (event x) so_far.told told);
+        are = (
+          (let count = so_far.are.0 in omega (arith, count, length-append parts (x ∷ []))),
+          reached_more one end x so_far.are.1 is less,
+        );
       }
 
--- the measurement and the tags that were read up to a place
-pub record NamesTold (names : Names) (events : List Event) : Type 0 where
-  pub measurement : Text
-  pub tags : List (Pair Text Text)
-  pub read : AreNames names measurement tags
-  pub are : events ≡ front_events measurement tags []
+  -- one part more was told, and a comma comes after it
+  pub told_next : (before mid after : S) (text : List ℕ) (count : ℕ) (rest place : List ℕ) (x : A) (end next : List ℕ)
+      → ToldSoFar takes event one before mid text count rest place → one place ≡ reads x end → length end < length place
+      → takes mid (event x) after → byte comma end ≡ reads comma next → ToldSoFar takes event one before after text (count + 1) end next
+  told_next before mid after text count rest place x end next so_far is less told mark =
+      let more = told_more before mid after text count rest place x end so_far is less told in
+      record {
+        parts = more.parts;
+        told = more.told;
+        are = (more.are.0, inr (record { so_far = more.are.1; mark = mark; some = (let count = more.are.0 in omega arith) }));
+      }
 
--- and the fields too
-pub record FieldsTold (line : List ℕ) (fields : Fields) (events : List Event) : Type 0 where
-  pub measurement : Text
-  pub tags : List (Pair Text Text)
-  pub values : List (Pair Text (Value Text))
-  pub read : AreFields line fields measurement tags values
-  pub are : events ≡ front_events measurement tags values
+  -- one part more was told, and no comma comes after it
+  pub told_last : (before mid after : S) (text : List ℕ) (count : ℕ) (rest place : List ℕ) (x : A) (end : Bor (List ℕ))
+      → ToldSoFar takes event one before mid text count rest place → one place ≡ reads x end.now → length end.now < length place
+      → takes mid (event x) after → byte comma end.now ≡ miss
+      → WasToldParts takes event before after (AreCounted (Ok (Some (count + 1, end))) (separated_list one text))
+  told_last before mid after text count rest place x end so_far is less told none =
+      let more = told_more before mid after text count rest place x end.now so_far is less told in
+      record { parts = more.parts; told = more.told; are = (more.are.0, last_read one more.are.1 none) }
+
+  -- no part reads at the place: these were all
+  pub told_all : (before after : S) (text : List ℕ) (count : ℕ) (rest : Bor (List ℕ)) (place : List ℕ)
+      → ToldSoFar takes event one before after text count rest.now place → one place ≡ miss → 0 < count
+      → WasToldParts takes event before after (AreCounted (Ok (Some (count, rest))) (separated_list one text))
+  told_all before after text count rest place so_far none some =
+      record {
+        parts = so_far.parts;
+        told = so_far.told;
+        are = (so_far.are.0, reached_all one so_far.are.1 none (let count = so_far.are.0 in omega arith));
+      }
+
+  -- what is at the place is fatal
+  pub told_fatal : (before after : S) (text : List ℕ) (count : ℕ) (rest place : List ℕ) (fault : Fault)
+      → ToldSoFar takes event one before after text count rest place → one place ≡ fatal fault
+      → WasToldParts takes event before after (λ parts. separated_list one text ≡ fatal fault)
+  told_fatal before after text count rest place fault so_far is =
+      record { parts = so_far.parts; told = so_far.told; are = reached_fatal one fault so_far.are.1 is }
+
+-- a line is complete if nothing is left
+pub complete_none : (l : Line) (rest : List ℕ) → length rest ≡ 0 → complete l rest ≡ Ok l
+complete_none l rest none = grind (arith)
+
+-- what is left is its fault
+pub complete_some : (l : Line) (rest : List ℕ) → 0 < length rest → complete l rest ≡ Err (cannot_parse_entire_line rest)
+complete_some l rest some = grind (arith)
+
+-- the measurement of a line was told, and then these tags and fields
+module _ {S : Type 0} (takes : S → Event → S → Type 0) (before begun mid after : S) (m : Text) (tags : List (Pair Text Text))
+    (fields : List (Pair Text (Value Text))) (first : takes before (named m) begun) (tags_told : TakesAll takes begun (map tagged tags) mid)
+    (fields_told : TakesAll takes mid (map valued fields) after) where
+  -- they are a front of events
+  front_told : TakesAll takes before (front_events m tags fields) after
+  front_told = takes_append takes before mid after (named m ∷ map tagged tags) (map valued fields) (begun, first, tags_told) fields_told
+
+  -- the line is at fault after them
+  pub fault_told : (dialect : Dialect) (line : List ℕ) (fault : SpelledFault) → answer dialect line ≡ Err (spelled_fault fault)
+      → WasTold takes before after (AreToldBefore {X = Unit {0}} (Err fault) (answer dialect line))
+  fault_told dialect line fault is = record { events = front_events m tags fields; told = front_told; are = (is, inr (m, tags, fields, refl)) }
+
+  -- the line ends after them
+  pub line_told : (last : S) (set : Option (List (Pair Text Text))) (series : List ℕ) (time : Option ℤ) (dialect : Dialect) (line : List ℕ)
+      → some_tags set ≡ tags → takes after (ended series time) last
+      → answer dialect line ≡ Ok (record { series = series; measurement = m; tags = set; fields = fields; timestamp = time })
+      → WasTold takes before last (AreToldBefore {X = Unit {0}} (Ok (tt {0})) (answer dialect line))
+  line_told last set series time dialect line tags_are done is =
+      record {
+        events = front_events m tags fields ++ ended series time ∷ [];
+        told = takes_more takes before after last (front_events m tags fields) (ended series time) front_told done;
+        are = (record { series = series; measurement = m; tags = set; fields = fields; timestamp = time }, is, rw tags_are refl);
+      }
 
 -- blank pieces have no events
 pub blank_events : (dialect : Dialect) (skipped : List (List ℕ)) → All IsBlankPiece skipped → AreEventsOfAll [] (answers_of dialect skipped)
@@ -72,56 +146,41 @@ pub line_left : (before after : Left) (line : Bor (List ℕ)) (events : List Eve
     → Completes line.now [] after events → AreEventsLeft before events
 line_left before after line events found h = grind (arith, line_first)
 
--- a line that is completed after one event more is completed with that event
-pub completes_more : {line : List ℕ} {front : List Event} {event : Event} {left : Left} {others : List Event}
-    → Completes line (front ++ event ∷ []) left others → Completes line front left (event ∷ others)
-completes_more {line} {front} {event} {left} h =
-    record {
-      first = event ∷ h.first;
-      others = h.others;
-      events_are = ap (λ (es : List Event). event ∷ es) h.events_are;
-      line_is = subst (λ es. AreEventsOf es (answer left.dialect line)) (append_assoc front (event ∷ []) h.first) h.line_is;
-      others_are = h.others_are;
-    }
-
--- a fault completes its line
-pub completes_fault : {line : List ℕ} {front : List Event} {fault : Fault} {left : Left} {others : List Event} → AreFrontEvents front
-    → answer left.dialect line ≡ Err fault → AreEventsLeft left others → Completes line front left (failed fault ∷ others)
-completes_fault {front = front} {fault = fault} {others = others} is_front is h =
-    record {
-      first = failed fault ∷ [];
-      others = others;
-      events_are = refl;
-      line_is = rw is (front, is_front, refl);
-      others_are = h;
-    }
-
--- what a step gives of some events it gives of those that they are left for
-pub steps_from : (Are Wanted : Left → List Event → Type 0) (result : Result (given.Event × Place) SpelledFault)
-    → ((left : Left) (events : List Event) → Are left events → Wanted left events) → Steps Are result → Steps Wanted result
-steps_from re anted fault on h = grind (arith)
-
--- after a step that leaves fewer events of a line, fewer are left
-pub step_less : (result : Result (given.Event × Place) SpelledFault) (line after before : ℕ) → IfOk result (λ p. most_of_line p.1 < line + 1)
-    → line + 1 + after ≤ before → MatchResult result (λ p. most_of_line p.1 + after < before) (λ fault. after < before)
-step_less fault line after before less fits = grind (arith)
-
 -- a sink was told of events, and with those that are left now they were left before
 abbrev pub ToldTo : {S : Type 0} → (S → Event → S → Type 0) → S → S → (List Event → Type 0) → (List Event → Type 0) → Type 0
 ToldTo takes before after WereLeft AreLeft =
     WasTold takes before after (λ events. (others : List Event) → AreLeft others → WereLeft (events ++ others))
 
--- it was told of a line that was found
-pub told_line : {S : Type 0} (takes : S → Event → S → Type 0) {before mid after : S} (WereLeft : List Event → Type 0) (dialect : Dialect)
-    (found left : Left) (line : Bor (List ℕ)) → ToldTo takes before mid WereLeft (AreEventsLeft found) → found.dialect ≡ dialect
-    → GivesLine found (Some line) left → WasTold takes mid after (λ events. AreEventsOf events (answer dialect line.now))
-    → ToldTo takes before after WereLeft (AreEventsLeft left)
-told_line takes {before} {mid} {after} WereLeft dialect found left line so_far same given was =
-    record {
-      events = so_far.events ++ was.events;
-      told = takes_append takes before mid after so_far.events was.events so_far.told was.told;
-      are = λ others later.
-          rw append_assoc
-          (so_far.are (was.events ++ others) (line_left found left line (was.events ++ others) given
-          (record { first = was.events; others = others; events_are = refl; line_is = rw (given.0, same) was.are; others_are = later })));
-    }
+module _ {S : Type 0} (takes : S → Event → S → Type 0) (before mid after : S) where
+  -- it was told of more
+  pub told_then : (First Then Last : List Event → Type 0) → ToldTo takes before mid First Then → ToldTo takes mid after Then Last
+      → ToldTo takes before after First Last
+  told_then First Then Last so_far more =
+      record {
+        events = so_far.events ++ more.events;
+        told = takes_append takes before mid after so_far.events more.events so_far.told more.told;
+        are = λ others left. rw append_assoc (so_far.are (more.events ++ others) (more.are others left));
+      }
+
+  -- it was told of one event
+  pub told_one : (event : Event) (WereLeft AreLeft : List Event → Type 0) → takes mid event after
+      → ((others : List Event) → AreLeft others → WereLeft (event ∷ others)) → ToldTo takes mid after WereLeft AreLeft
+  told_one event WereLeft AreLeft one given = record { events = event ∷ []; told = (after, one, refl); are = given }
+
+  -- it was told of a line that was found
+  pub told_line : (dialect : Dialect) (found left : Left) (line : Bor (List ℕ)) → found.dialect ≡ dialect → GivesLine found (Some line) left
+      → WasTold takes mid after (λ events. AreEventsOf events (answer dialect line.now))
+      → ToldTo takes mid after (AreEventsLeft found) (AreEventsLeft left)
+  told_line dialect found left line same given was =
+      record {
+        events = was.events;
+        told = was.told;
+        are = λ others later. line_left found left line (was.events ++ others) given
+            (record { first = was.events; others = others; events_are = refl; line_is = rw (given.0, same) was.are; others_are = later });
+      }
+
+-- if nothing is left, it was told of all
+pub told_to_end : {S : Type 0} (takes : S → Event → S → Type 0) (before after : S) (WereLeft AreLeft : List Event → Type 0)
+    → ToldTo takes before after WereLeft AreLeft → AreLeft [] → WasTold takes before after WereLeft
+told_to_end takes before after WereLeft AreLeft so_far none =
+    record { events = so_far.events; told = so_far.told; are = rw append-nil at (so_far.are [] none) }

@@ -1,18 +1,14 @@
--- Values that commas join are read one after another, and so are the parts of a line; and what a tag set was read from.
-use Rattle.std.proofs.Common.{◌≡◌, ℕ, zero, suc, ◌+◌, ◌-◌, ◌<◌, ◌≤◌, ◌==◌, List, [], ◌∷◌, ◌++◌, length, length-append, refl, ap, ◌∙◌, arith, inl, inr}
-use Rattle.std.proofs.Common.{append_assoc, append-nil, subst, sym, drop, length-drop, length-take, ◌⊎◌, Bool, true, false, Option, Some, None}
-use Rattle.std.proofs.Common.{Result, Ok, Err, ℤ, ne_eqb}
-use Rattle.std.proofs.Math.Seq.{take-append_seam}
-use Rattle.std.proofs.lemmas.{Bool.cases_Bool, Bool.Decides.nat_tests, Grind.common_steps, List.map_push, Result.err_from_is_err_and}
-use Rattle.lp_format.specs.format.{comma, space, Dialect, Fault, Line, NameKind, Text, Read, Reading, miss, fatal, reads, name, a_measurement, Pair, Value}
-use Rattle.lp_format.specs.format.{after_comma, answer, byte, complete, cannot_parse_entire_line, field, field_set, front_before, many, prepend}
-use Rattle.lp_format.specs.format.{separated_list, some_tags, spaces, tag, tag_set, tag_set_malformed, timestamp, without_comma}
+-- Values that commas join are read one after another; and what a tag set was read from.
+use Rattle.std.proofs.Common.{◌≡◌, ℕ, zero, suc, ◌<◌, ◌≤◌, List, [], ◌∷◌, ◌++◌, length, length-append, refl, ap, ◌∙◌, arith, inl, inr}
+use Rattle.std.proofs.Common.{append_assoc, subst, ◌⊎◌, Option, Some, None, Result, Ok, append-nil}
+use Rattle.std.proofs.lemmas.Bool.{cases_Bool}
+use Rattle.lp_format.specs.format.{comma, Dialect, Fault, Text, Read, Reading, miss, fatal, reads, name, a_measurement, Pair, Value}
+use Rattle.lp_format.specs.format.{after_comma, byte, field, field_set, many, prepend, separated_list, some_tags, tag, tag_set}
 use Rattle.lp_format.specs.laws.Meanings.{SeparatedBy, SeparatedAfterComma}
 use Rattle.lp_format.proofs.lemmas.meanings.{JoinedMeaning.the_most_is_read, ShorterRests.tag_no_longer}
-use Rattle.lp_values.proofs.lemmas.fields.ReadingLemmas.{EndsIn, EndsIn-end, EndsIn-self, bind_reads, byte_parts, name_ends}
-use Rattle.lp_values.proofs.lemmas.fields.ReadingLemmas.{name_parts, tag_ends}
-use Rattle.lp_events.specs.code.Events.{ended, events_of_line, front_events, tagged, valued}
-use Rattle.lp_events.specs.code.PartsRead.{FieldsRead, NamesRead, SeriesRead, SoFar}
+use Rattle.lp_values.proofs.lemmas.fields.ReadingLemmas.{EndsIn, EndsIn-end, EndsIn-self, bind_reads, byte_ends, byte_parts, name_ends}
+use Rattle.lp_values.proofs.lemmas.fields.ReadingLemmas.{tag_ends}
+use Rattle.lp_events.specs.code.EventsLeft.{SoFar}
 
 -- those that are read after others
 prepend-prepend : {A : Type 0} (xs ys : List A) (r : Reading (List A)) → prepend xs (prepend ys r) ≡ prepend (xs ++ ys) r
@@ -21,6 +17,16 @@ prepend-prepend xs ys rest = grind (arith, append_assoc)
 -- if no element is, none are read
 many_miss : {A : Type 0} (one : List ℕ → Reading A) (n : ℕ) (rest : List ℕ) → one rest ≡ miss → many one n rest ≡ reads [] rest
 many_miss one n rest e = grind (arith)
+
+-- some were read, and a comma after them: the next one may come after it
+pub record AtNext {A : Type 0} (one : List ℕ → Reading A) (text : List ℕ) (done : List A) (rest place : List ℕ) : Type 0 where
+  pub so_far : SoFar one text done rest
+  pub mark : byte comma rest ≡ reads comma place
+  pub some : 0 < length done
+
+-- where the next one may be: at the start of all, or after those that were read and a comma
+abbrev pub Reached : {A : Type 0} → (List ℕ → Reading A) → List ℕ → List A → List ℕ → List ℕ → Type 0
+Reached one text done rest place = ((done ≡ []) × (place ≡ text)) ⊎ AtNext one text done rest place
 
 module _ {A : Type 0} (one : List ℕ → Reading A) where
   -- after the first element the list has it alone
@@ -53,6 +59,35 @@ module _ {A : Type 0} (one : List ℕ → Reading A) where
   pub so_far_fatal : (text : List ℕ) (done : List A) (rest : List ℕ) (e : Fault) → SoFar one text done rest
       → after_comma one rest ≡ fatal e → separated_list one text ≡ fatal e
   so_far_fatal text done rest e so_far found = grind (arith)
+
+  -- what is read after a comma is read where the next one may be
+  next_is : (rest place : List ℕ) → byte comma rest ≡ reads comma place → after_comma one rest ≡ one place
+  next_is rest place mark = rw mark refl
+
+  -- one more is read if it may be
+  pub reached_more : {text : List ℕ} {done : List A} {rest place : List ℕ} (after : List ℕ) (y : A)
+      → Reached one text done rest place → one place ≡ reads y after
+      → length after < length place → SoFar one text (done ++ y ∷ []) after
+  reached_more {text} {done} {rest} {place} after y (inl first) e less = rw first.0 (so_far_start y text after (rw first.1 at e))
+  reached_more {text} {done} {rest} {place} after y (inr more) e less = grind (arith, byte_ends, so_far_more, next_is, length-append)
+
+  -- what is fatal where the next one may be is fatal for all
+  pub reached_fatal : {text : List ℕ} {done : List A} {rest place : List ℕ} (e : Fault)
+      → Reached one text done rest place → one place ≡ fatal e → separated_list one text ≡ fatal e
+  reached_fatal {text} {done} {rest} {place} e (inl first) found = rw (rw first.1 at found) refl
+  reached_fatal {text} {done} {rest} {place} e (inr more) found =
+      so_far_fatal text done rest e more.so_far (next_is rest place more.mark ∙ found)
+
+  -- nothing is read where the next one may be: these are all
+  pub reached_all : {text : List ℕ} {done : List A} {rest place : List ℕ} → Reached one text done rest place
+      → one place ≡ miss → 0 < length done → separated_list one text ≡ reads done rest
+  reached_all {text} {done} {rest} {place} (inl first) e some = absurd (let none = ap length first.0 in omega arith)
+  reached_all {text} {done} {rest} {place} (inr more) e some = so_far_end text done rest more.so_far (next_is rest place more.mark ∙ e)
+
+  -- if no comma comes after them, these are all
+  pub last_read : {text : List ℕ} {done : List A} {rest : List ℕ} → SoFar one text done rest
+      → byte comma rest ≡ miss → separated_list one text ≡ reads done rest
+  last_read {text} {done} {rest} so_far none = so_far_end text done rest so_far (rw none refl)
 
 -- a text begins with a comma, or does not
 pub comma_cases : (text : List ℕ) → (byte comma text ≡ miss) ⊎ ((place : List ℕ) × (byte comma text ≡ reads comma place))
@@ -126,124 +161,3 @@ fields_joined dialect text rest fs e = grind (arith, bind_reads)
 pub series_ends : (line : List ℕ) (m : Text) (rest : List ℕ) (tags : Read (Option (List (Pair Text Text))))
     → name a_measurement line ≡ reads m rest → tag_set rest ≡ Ok tags → EndsIn line tags.rest
 series_ends line m rest tags e t = EndsIn-end line rest tags.rest (name_ends a_measurement line m rest e) (tag_set_ends rest tags t)
-
--- a number that is not 0
-not_none : (n : ℕ) → (n == 0) ≡ false → 0 < n
-not_none n some = grind (arith, nat_tests)
-
--- what is left after a name is shorter than the text
-pub name_shorter : (kind : NameKind) (text : List ℕ) (t : Text) (rest : List ℕ) → name kind text ≡ reads t rest → length rest < length text
-unfolding name
-name_shorter kind text t rest e = grind (arith, cases_Bool, name_parts, not_none, length-drop, length-take)
-
--- the front before the end of a line is what comes before it
-pub front_is : (line rest : List ℕ) → EndsIn line rest → front_before line rest ++ rest ≡ line
-front_is line rest h =
-    let n : length (h.front ++ rest) - length rest ≡ length h.front = omega (arith, length-append h.front rest) in
-    let front : front_before (h.front ++ rest) rest ≡ h.front = rw n (take-append_seam h.front rest) in
-    subst (λ l. front_before l rest ++ rest ≡ l) (sym h.is) (ap (λ (x : List ℕ). x ++ rest) front)
-
-module _ (line : List ℕ) (m : Text) (tags : List (Pair Text Text)) (rest : List ℕ) where
-  -- one tag more is read after a comma
-  pub names_more : (is_first : Bool) (t : Pair Text Text) (after : List ℕ) → NamesRead line m tags rest is_first
-      → after_comma tag rest ≡ reads t after → length after < length rest → NamesRead line m (tags ++ t ∷ []) after false
-  names_more x0 t after so_far is less = grind (arith, bind_reads, byte_parts, so_far_start, so_far_more)
-
-  -- what is fatal after a comma is the fault of the line
-  pub names_fatal : (dialect : Dialect) (is_first : Bool) (fault : Fault) → NamesRead line m tags rest is_first
-      → after_comma tag rest ≡ fatal fault → answer dialect line ≡ Err fault
-  unfolding answer
-  names_fatal dialect true fault (e, none) is = grind (arith, comma_cases)
-  names_fatal dialect false fault (start, place, e, mark, so_far) is =
-      rw (e, mark, so_far_fatal tag place tags rest fault so_far is) refl
-
-  -- a comma after the measurement with no tag is malformed
-  pub names_malformed : (dialect : Dialect) (is_first : Bool) (place : List ℕ) → NamesRead line m tags rest is_first → is_first ≡ true
-      → byte comma rest ≡ reads comma place → after_comma tag rest ≡ miss → answer dialect line ≡ Err tag_set_malformed
-  unfolding answer
-  names_malformed dialect x1 place h first mark is = grind (arith)
-
-  -- if no tag follows, all were read
-  pub names_end : (is_first : Bool) → NamesRead line m tags rest is_first → (is_first ≡ true → byte comma rest ≡ miss)
-      → after_comma tag rest ≡ miss → SeriesRead line m tags rest
-  names_end true (e, none) bare is = grind (arith)
-  names_end false (start, place, e, mark, so_far) bare is =
-      record { start = start; set = Some tags; name_is = e; set_is = rw (mark, so_far_end tag place tags rest so_far is) refl; tags_are = refl }
-
--- a line is complete if nothing is left
-complete_none : (l : Line) (rest : List ℕ) → length rest ≡ 0 → complete l rest ≡ Ok l
-complete_none l rest none = grind (arith)
-
--- what is left is its fault
-complete_some : (l : Line) (rest : List ℕ) → 0 < length rest → complete l rest ≡ Err (cannot_parse_entire_line rest)
-complete_some l rest some = grind (arith)
-
--- the first field after the tags
-pub first_read : {line : List ℕ} {m : Text} {tags : List (Pair Text Text)} {rest : List ℕ} → SeriesRead line m tags rest
-    → (gap : List ℕ) (x : Pair Text (Value Text)) (after : List ℕ) → byte space rest ≡ reads space gap
-    → field (drop (spaces rest) rest) ≡ reads x after
-    → FieldsRead line (front_before line rest) m tags (x ∷ []) after true
-first_read {rest = rest} h gap x after s f = grind (arith, so_far_start)
-
-module _ {line series : List ℕ} {m : Text} {tags : List (Pair Text Text)} {fields : List (Pair Text (Value Text))} {rest : List ℕ}
-    {is_first : Bool} (h : FieldsRead line series m tags fields rest is_first) where
-  -- one field more
-  pub fields_more : (x : Pair Text (Value Text)) (after : List ℕ) → after_comma field rest ≡ reads x after
-      → length after < length rest → FieldsRead line series m tags (fields ++ x ∷ []) after false
-  fields_more x after is less = grind (arith, length-append, so_far_more, ne_eqb)
-
-  -- a field that is fatal
-  pub fields_fatal : (dialect : Dialect) (fault : Fault) → after_comma field rest ≡ fatal fault → answer dialect line ≡ Err fault
-  unfolding answer
-  fields_fatal dialect fault is =
-      let f = so_far_fatal field (drop (spaces h.after) h.after) fields rest fault h.so_far is in
-      rw (h.series_read.name_is, h.series_read.set_is, h.gap_is, f) refl
-
-  -- no field follows
-  module _ (dialect : Dialect) (none : after_comma field rest ≡ miss) where
-    -- so these are all
-    all_fields : field_set dialect (drop (spaces h.after) h.after) ≡ reads fields (without_comma dialect fields rest)
-    all_fields = rw (so_far_end field (drop (spaces h.after) h.after) fields rest h.so_far none) refl
-
-    -- the timestamp is at fault
-    pub time_fault : (fault : Fault) → timestamp (without_comma dialect fields rest) ≡ Err fault → answer dialect line ≡ Err fault
-    unfolding answer
-    time_fault fault t = rw (h.series_read.name_is, h.series_read.set_is, h.gap_is, all_fields, t) refl
-
-    -- what is left after it decides
-    time_read : (time : Option ℤ) (more : List ℕ)
-        → timestamp (without_comma dialect fields rest) ≡ Ok (record { value = time; rest = more })
-        → answer dialect line ≡ complete (record {
-          series = series;
-          measurement = m;
-          tags = h.series_read.set;
-          fields = fields;
-          timestamp = time;
-        }) more
-    unfolding answer
-    time_read time more t = rw (h.series_read.name_is, h.series_read.set_is, h.gap_is, all_fields, t, h.series_is) refl
-
-    -- something is left
-    pub left_fault : (time : Option ℤ) (more : List ℕ)
-        → timestamp (without_comma dialect fields rest) ≡ Ok (record { value = time; rest = more }) → 0 < length more
-        → answer dialect line ≡ Err (cannot_parse_entire_line more)
-    left_fault time more t some = time_read time more t ∙ complete_some _ more some
-
-    -- nothing is left: the line ends
-    pub line_ends : (time : Option ℤ) (more : List ℕ)
-        → timestamp (without_comma dialect fields rest) ≡ Ok (record { value = time; rest = more }) → length more ≡ 0
-        → (read : Line) × (answer dialect line ≡ Ok read) × (front_events m tags fields ++ ended series time ∷ [] ≡ events_of_line read)
-    line_ends time more t empty = (_, time_read time more t ∙ complete_none _ more empty, rw h.series_read.tags_are refl)
-
--- a tag after those of a front
-pub tag_after : (m : Text) (tags : List (Pair Text Text)) (t : Pair Text Text)
-    → front_events m (tags ++ t ∷ []) [] ≡ front_events m tags [] ++ tagged t ∷ []
-tag_after m tags t = grind (arith, append-nil, map_push)
-
--- a field after those of a front
-pub field_after : (m : Text) (tags : List (Pair Text Text)) (fields : List (Pair Text (Value Text))) (x : Pair Text (Value Text))
-    → front_events m tags (fields ++ x ∷ []) ≡ front_events m tags fields ++ valued x ∷ []
-field_after m tags fields x = simp (append_assoc, map_push)
-
--- what shows that the parts of a line are read
-pub ruleset part_steps = (common_steps, err_from_is_err_and, front_is, name_ends, name_shorter, names_more, names_fatal, names_malformed, names_end, first_read, fields_more, fields_fatal)

@@ -1,10 +1,11 @@
 -- The pieces that a call of `next_line` skips, and how many bytes, pieces and items are left after it.
-use Rattle.std.proofs.Common.{◌≡◌, ℕ, ◌+◌, ◌<◌, ◌≤◌, List, [], ◌∷◌, ◌++◌, length, ap, refl, sym, arith, append_assoc}
-use Rattle.std.proofs.Common.{length-append, Option, Some, None, Bor, All}
+use Rattle.std.proofs.Common.{◌≡◌, ℕ, ◌+◌, ◌<◌, ◌≤◌, List, [], ◌∷◌, ◌++◌, length, Bool, true, false, ap, refl, sym, arith, append_assoc}
+use Rattle.std.proofs.Common.{cond, length-append, Option, Some, None, Bor, All}
 use Rattle.std.proofs.lemmas.List.Elements.{All-push}
 use Rattle.lp_format.specs.format.{newline, Dialect, Left, PiecesLeft, most_pieces, trimmed}
 use Rattle.lp_format.specs.format.Pieces.{Pieces, Pieces.last, Pieces.cut}
-use Rattle.lp_format.proofs.lemmas.{line.TrimLemmas.trimmed_is_after, split.SplitPieces.pieces_exist}
+use Rattle.lp_format.proofs.lemmas.line.TrimLemmas.{left_of, trimmed_is}
+use Rattle.lp_format.proofs.lemmas.split.SplitPieces.{pieces_exist}
 use Rattle.lp_events.specs.code.LineSteps.{GivesLine, IsBlankPiece, most_items}
 
 -- blank pieces were left before these
@@ -61,9 +62,18 @@ pieces_less : (before after : Left) (skipped : List (List ℕ)) (piece : List �
     → PiecesLeft before (skipped ++ piece ∷ others) → PiecesLeft after others → length piece + 1 + most_pieces after.text ≤ most_pieces before.text
 pieces_less before after skipped piece others h k = grind (arith, left_total, total_after)
 
+-- either of two texts
+either_fits : (b : Bool) (xs ys : List ℕ) (n : ℕ) → length xs ≤ n → length ys ≤ n → length (cond b xs ys) ≤ n
+either_fits x0 xs ys n h k = grind (arith)
+
+-- what is left of a text when it is trimmed is no longer than the text
+left_fits : (in_comment : Bool) (text : List ℕ) → length (left_of in_comment text) ≤ length text
+left_fits in_comment [] = omega arith
+left_fits in_comment (b ∷ rest) = grind (arith, left_fits false rest, left_fits true rest, either_fits)
+
 -- a piece is no shorter than what is left of it when it is trimmed
 trimmed_fits : (piece : List ℕ) → length (trimmed piece) ≤ length piece
-trimmed_fits piece = let after = trimmed_is_after piece in omega (arith, ap length after.1, length-append after.0 (trimmed piece))
+trimmed_fits piece = rw (trimmed_is piece) (left_fits false piece)
 
 -- the bytes of a line that was found are no longer left
 pub line_less : (before after : Left) (line : Bor (List ℕ)) → GivesLine before (Some line) after

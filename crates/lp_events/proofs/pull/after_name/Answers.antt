@@ -1,34 +1,56 @@
-use Rattle.std.proofs.Common.{[], ◌∷◌, ◌++◌, refl, inr}
-use Rattle.std.proofs.lemmas.Result.{err_from_is_err_and}
-use Rattle.lp_events.specs.code.Events.{spelled_field, spelled_tag}
-use Rattle.lp_events.proofs.lemmas.events.LineEvents.{completes_fault, completes_more}
-use Rattle.lp_events.proofs.lemmas.fields.ManyLemmas.{field_after, tag_after}
+use Rattle.std.proofs.Common.{◌≡◌, [], ◌∷◌, ◌++◌, true, refl, sym, ◌∙◌, inr, arith}
+use Rattle.std.proofs.lemmas.{Grind.common_steps, Result.err_from_is_err_and}
+use Rattle.lp_format.specs.format.{comma, byte, tag, miss}
+use Rattle.lp_values.proofs.lemmas.fields.ReadingLemmas.{EndsIn, EndsIn-end, after_comma_ends, tag_ends}
+use Rattle.lp_events.specs.code.{Events.spelled_tag, EventsLeft.AreLeftAfterSeries, EventsLeft.AreLeftFrom}
+use Rattle.lp_events.specs.declared.place.Place.TheVariants.{Names}
+use Rattle.lp_events.proofs.lemmas.pull.EventSteps.{completes_fault, completes_more, front_is, names_end, names_fatal, names_malformed}
+use Rattle.lp_events.proofs.lemmas.pull.EventSteps.{names_more, not_stripped, steps_from, stripped, tag_after}
 use Rattle.lp_events.proofs.pull.after_name.Goals as goal
+use Rattle.lp_events.proofs.pull.after_name.Goals.{else-names-via-then-names+else-is_some, else-names-via-else-names}
 
 pub returns-in_err-key-clause-steps : goal.returns-in_err-key-clause-steps
 returns-in_err-key-clause-steps c =
     let p = err_from_is_err_and c.from_residual.result c.from_residual.ensures.1 in
     rw (p.1, p.2)
-    (λ left others later m tags h. completes_fault (inr (m, tags, [], refl)) (c.in_err-key.ensures.gives left.dialect m tags h) later)
-
-pub returns-in-Some-clause-steps : goal.returns-in-Some-clause-steps
-returns-in-Some-clause-steps c = λ left others later m tags h.
-    let t = spelled_tag (c.in-Some.key, c.in-Some.value) in
-    let read = (rw c.in-Some.is at c.in_ok-key.ensures.gives) left.dialect m tags h in
-    completes_more (rw (← read.0, ← tag_after m tags t) (later m (tags ++ t ∷ []) read.1))
-
-pub returns-in_err-key-2-clause-steps : goal.returns-in_err-key-2-clause-steps
-returns-in_err-key-2-clause-steps c =
-    let p = err_from_is_err_and c.from_residual-in_err-key-2.result c.from_residual-in_err-key-2.ensures.1 in
-    let all = rw c.in_default.is at c.in_ok-key.ensures.gives in
-    rw (p.1, p.2)
     (λ left others later m tags h.
-    completes_fault (inr (m, tags, [], refl)) (c.in_err-key-2.ensures.gives left.dialect m tags (all left.dialect m tags h)) later)
+    completes_fault (inr (m, tags, [], refl))
+    (names_fatal _ m tags c.args.names.rest.now left.dialect c.args.names.is_first _ h c.in_err-key.ensures.value) later)
+
+pub returns-then-is_some-clause-steps : goal.returns-then-is_some-clause-steps
+returns-then-is_some-clause-steps c = λ left others later m tags h.
+    let names = c.args.names in
+    let mark = stripped c.strip_byte.result names.rest.now c.strip_byte.ensures.value (sym c.is_some.ensures ∙ c.if-is_some.true) in
+    let no_tag = rw c.in_default.is at c.in_ok-key.ensures.value in
+    completes_fault (inr (m, tags, [], refl))
+    (names_malformed _ m tags names.rest.now left.dialect names.is_first mark.0 h c.if-names.true mark.1 no_tag) later
+
+pub returns-in_default-clause-steps : goal.returns-in_default-clause-steps
+returns-in_default-clause-steps c =
+    let names = c.args.names in
+    let bare : names.is_first ≡ true → byte comma names.rest.now ≡ miss = elim c.else-names.branch [
+      | else-names-via-then-names+else-is_some w ↦ grind (arith, common_steps, not_stripped)
+      | else-names-via-else-names w ↦ λ first. absurd (cc)
+    ] in
+    let no_tag = rw c.in_default.is at c.in_ok-key.ensures.value in
+    steps_from (AreLeftAfterSeries names.line.now names.rest.now) (AreLeftFrom (Names names)) c.first_field.result
+    (λ left events after m tags h. after m tags (names_end _ m tags names.rest.now names.is_first h bare no_tag)) c.first_field.ensures.steps
+
+pub invariant_of-names : goal.invariant_of-names
+invariant_of-names c =
+    let is = rw c.in-Some.is at c.in_ok-key.ensures.value in
+    let names = c.args.names in
+    let near : EndsIn names.line.now names.rest.now = record { front = _; is = sym names.ends } in
+    record {
+      ends = front_is names.line.now c.in-Some.rest.now
+          (EndsIn-end names.line.now names.rest.now c.in-Some.rest.now near (after_comma_ends tag tag_ends names.rest.now _ _ is));
+    }
 
 pub returns-clause-steps : goal.returns-clause-steps
 returns-clause-steps c = λ left others later m tags h.
-    let x = spelled_field (c.in_ok-key-2.key, c.in_ok-key-2.value) in
-    let all = rw c.in_default.is at c.in_ok-key.ensures.gives in
+    let t = spelled_tag (c.in-Some.key, c.in-Some.value) in
     completes_more
-    (rw (← field_after m tags [] x)
-    (later c.args.names.line.now m tags (x ∷ []) (c.in_ok-key-2.ensures.gives left.dialect m tags (all left.dialect m tags h))))
+    (rw (← tag_after m tags t)
+    (later m (tags ++ t ∷ [])
+    (names_more _ m tags c.args.names.rest.now c.args.names.is_first t c.in-Some.rest.now h
+    (rw c.in-Some.is at c.in_ok-key.ensures.value) (rw c.in-Some.is at c.in_ok-key.ensures.less))))

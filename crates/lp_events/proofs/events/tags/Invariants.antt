@@ -1,0 +1,18 @@
+use Rattle.std.proofs.Common.{◌+◌, ◌≤◌, length}
+use denote.Text.{Utf8}
+use denote.Shadow.{shadow}
+use Rattle.lp_format.specs.format.Lines.{tag}
+use Rattle.lp_events.specs.code.Events.{tagged}
+use Rattle.lp_events.proofs.lemmas.events.LineEvents.{ToldSoFar}
+use Rattle.lp_events.proofs.events.tags.Given as goal
+
+abbrev pub invariant-loop-key : goal.invariant-loop-key
+invariant-loop-key g l = record {
+  utf8_rest : shadow (Utf8 l.rest);
+  utf8_place : shadow (Utf8 l.place);
+  told : ToldSoFar g.S.EventSink.takes tagged tag l.fn.sink l.sink l.text l.count l.rest l.place;
+  room : l.count + length l.place ≤ length l.text;
+}
+
+abbrev pub decreases-loop-key : goal.decreases-loop-key
+decreases-loop-key g l = length l.place

@@ -1,0 +1,184 @@
+-- What one step of a reader means for the events that are left.
+use Rattle.std.proofs.Common.{◌≡◌, ℕ, ◌-◌, ◌<◌, List, [], ◌∷◌, ◌++◌, length, drop, Bool, true, false, refl, sym, ◌∙◌, ap, subst, arith}
+use Rattle.std.proofs.Common.{append_assoc, length-append, length-drop, length-take, ◌+◌, ◌≤◌, ℤ, ◌==◌, MatchOption, Option, Some}
+use Rattle.std.proofs.Common.{Result, Ok, Err, is_some, IfOk, MatchResult, Bor, ne_eqb, append-nil}
+use Rattle.std.proofs.Math.Seq.{take-append_seam}
+use Rattle.std.proofs.lemmas.{Bool.cases_Bool, Bool.Decides.nat_tests, Grind.common_steps, List.map_push, Result.err_from_is_err_and}
+use Rattle.lp_events.specs.declared.pull.Event as given
+use Rattle.lp_format.specs.format.{comma, space, Dialect, after_comma, answer, byte, field, field_set, front_before, spaces, tag, timestamp}
+use Rattle.lp_format.specs.format.{without_comma, complete, NameKind, name, Left, Pair, Fault, Text, cannot_parse_entire_line, fatal, miss}
+use Rattle.lp_format.specs.format.{reads, tag_set_malformed, Value}
+use Rattle.lp_values.proofs.lemmas.fields.ReadingLemmas.{EndsIn, bind_reads, byte_parts, name_ends, name_parts}
+use Rattle.lp_values.specs.declared.spelled.SpelledFault.{SpelledFault}
+use Rattle.lp_events.specs.code.Events.{AreEventsOf, AreFrontEvents, Event, ended, failed, front_events, tagged, valued}
+use Rattle.lp_events.specs.code.EventsLeft.{AreEventsLeft, Completes, FieldsRead, NamesRead, SeriesRead, Steps}
+use Rattle.lp_events.specs.code.EventsLeft.{most_of_line}
+use Rattle.lp_events.specs.declared.{place.Place.Place}
+use Rattle.lp_events.proofs.lemmas.fields.ManyLemmas.{so_far_end, so_far_fatal, so_far_more, so_far_start, comma_cases}
+use Rattle.lp_events.proofs.lemmas.events.LineEvents.{complete_none, complete_some}
+
+-- a line that is completed after one event more is completed with that event
+pub completes_more : {line : List ℕ} {front : List Event} {event : Event} {left : Left} {others : List Event}
+    → Completes line (front ++ event ∷ []) left others → Completes line front left (event ∷ others)
+completes_more {line} {front} {event} {left} h =
+    record {
+      first = event ∷ h.first;
+      others = h.others;
+      events_are = ap (λ (es : List Event). event ∷ es) h.events_are;
+      line_is = subst (λ es. AreEventsOf es (answer left.dialect line)) (append_assoc front (event ∷ []) h.first) h.line_is;
+      others_are = h.others_are;
+    }
+
+-- a fault completes its line
+pub completes_fault : {line : List ℕ} {front : List Event} {fault : Fault} {left : Left} {others : List Event} → AreFrontEvents front
+    → answer left.dialect line ≡ Err fault → AreEventsLeft left others → Completes line front left (failed fault ∷ others)
+completes_fault {front = front} {fault = fault} {others = others} is_front is h =
+    record {
+      first = failed fault ∷ [];
+      others = others;
+      events_are = refl;
+      line_is = rw is (front, is_front, refl);
+      others_are = h;
+    }
+
+-- a number that is not 0
+not_none : (n : ℕ) → (n == 0) ≡ false → 0 < n
+not_none n some = grind (arith, nat_tests)
+
+-- what is left after a name is shorter than the text
+pub name_shorter : (kind : NameKind) (text : List ℕ) (t : Text) (rest : List ℕ) → name kind text ≡ reads t rest → length rest < length text
+unfolding name
+name_shorter kind text t rest e = grind (arith, cases_Bool, name_parts, not_none, length-drop, length-take)
+
+-- the front before the end of a line is what comes before it
+pub front_is : (line rest : List ℕ) → EndsIn line rest → front_before line rest ++ rest ≡ line
+front_is line rest h =
+    let n : length (h.front ++ rest) - length rest ≡ length h.front = omega (arith, length-append h.front rest) in
+    let front : front_before (h.front ++ rest) rest ≡ h.front = rw n (take-append_seam h.front rest) in
+    subst (λ l. front_before l rest ++ rest ≡ l) (sym h.is) (ap (λ (x : List ℕ). x ++ rest) front)
+
+-- what was stripped of a text, if it begins with a comma
+pub stripped : (result : Option (Bor (List ℕ))) (text : List ℕ)
+    → MatchOption result (byte comma text ≡ miss) (λ rest. byte comma text ≡ reads comma rest.now) → is_some result ≡ true
+    → (place : List ℕ) × (byte comma text ≡ reads comma place)
+stripped place text is some = grind (arith)
+
+-- it does not begin with a comma, if nothing was stripped
+pub not_stripped : (result : Option (Bor (List ℕ))) (text : List ℕ)
+    → MatchOption result (byte comma text ≡ miss) (λ rest. byte comma text ≡ reads comma rest.now) → is_some result ≡ false
+    → byte comma text ≡ miss
+not_stripped place text is none = grind (arith)
+
+-- what a step gives of some events it gives of those that they are left for
+pub steps_from : (Are Wanted : Left → List Event → Type 0) (result : Result (given.Event × Place) SpelledFault)
+    → ((left : Left) (events : List Event) → Are left events → Wanted left events) → Steps Are result → Steps Wanted result
+steps_from re anted fault on h = grind (arith)
+
+module _ (line : List ℕ) (m : Text) (tags : List (Pair Text Text)) (rest : List ℕ) where
+  -- one tag more is read after a comma
+  pub names_more : (is_first : Bool) (t : Pair Text Text) (after : List ℕ) → NamesRead line m tags rest is_first
+      → after_comma tag rest ≡ reads t after → length after < length rest → NamesRead line m (tags ++ t ∷ []) after false
+  names_more x0 t after so_far is less = grind (arith, bind_reads, byte_parts, so_far_start, so_far_more)
+
+  -- what is fatal after a comma is the fault of the line
+  pub names_fatal : (dialect : Dialect) (is_first : Bool) (fault : Fault) → NamesRead line m tags rest is_first
+      → after_comma tag rest ≡ fatal fault → answer dialect line ≡ Err fault
+  unfolding answer
+  names_fatal dialect true fault (e, none) is = grind (arith, comma_cases)
+  names_fatal dialect false fault (start, place, e, mark, so_far) is =
+      rw (e, mark, so_far_fatal tag place tags rest fault so_far is) refl
+
+  -- a comma after the measurement with no tag is malformed
+  pub names_malformed : (dialect : Dialect) (is_first : Bool) (place : List ℕ) → NamesRead line m tags rest is_first → is_first ≡ true
+      → byte comma rest ≡ reads comma place → after_comma tag rest ≡ miss → answer dialect line ≡ Err tag_set_malformed
+  unfolding answer
+  names_malformed dialect x1 place h first mark is = grind (arith)
+
+  -- if no tag follows, all were read
+  pub names_end : (is_first : Bool) → NamesRead line m tags rest is_first → (is_first ≡ true → byte comma rest ≡ miss)
+      → after_comma tag rest ≡ miss → SeriesRead line m tags rest
+  names_end true (e, none) bare is = grind (arith)
+  names_end false (start, place, e, mark, so_far) bare is =
+      record { start = start; set = Some tags; name_is = e; set_is = rw (mark, so_far_end tag place tags rest so_far is) refl; tags_are = refl }
+
+-- the first field after the tags
+pub first_read : {line : List ℕ} {m : Text} {tags : List (Pair Text Text)} {rest : List ℕ} → SeriesRead line m tags rest
+    → (gap : List ℕ) (x : Pair Text (Value Text)) (after : List ℕ) → byte space rest ≡ reads space gap
+    → field (drop (spaces rest) rest) ≡ reads x after
+    → FieldsRead line (front_before line rest) m tags (x ∷ []) after true
+first_read {rest = rest} h gap x after s f = grind (arith, so_far_start)
+
+module _ {line series : List ℕ} {m : Text} {tags : List (Pair Text Text)} {fields : List (Pair Text (Value Text))} {rest : List ℕ}
+    {is_first : Bool} (h : FieldsRead line series m tags fields rest is_first) where
+  -- one field more
+  pub fields_more : (x : Pair Text (Value Text)) (after : List ℕ) → after_comma field rest ≡ reads x after
+      → length after < length rest → FieldsRead line series m tags (fields ++ x ∷ []) after false
+  fields_more x after is less = grind (arith, length-append, so_far_more, ne_eqb)
+
+  -- a field that is fatal
+  pub fields_fatal : (dialect : Dialect) (fault : Fault) → after_comma field rest ≡ fatal fault → answer dialect line ≡ Err fault
+  unfolding answer
+  fields_fatal dialect fault is =
+      let f = so_far_fatal field (drop (spaces h.after) h.after) fields rest fault h.so_far is in
+      rw (h.series_read.name_is, h.series_read.set_is, h.gap_is, f) refl
+
+  -- no field follows
+  module _ (dialect : Dialect) (none : after_comma field rest ≡ miss) where
+    -- so these are all
+    all_fields : field_set dialect (drop (spaces h.after) h.after) ≡ reads fields (without_comma dialect fields rest)
+    all_fields = rw (so_far_end field (drop (spaces h.after) h.after) fields rest h.so_far none) refl
+
+    -- the timestamp is at fault
+    pub time_fault : (fault : Fault) → timestamp (without_comma dialect fields rest) ≡ Err fault → answer dialect line ≡ Err fault
+    unfolding answer
+    time_fault fault t = rw (h.series_read.name_is, h.series_read.set_is, h.gap_is, all_fields, t) refl
+
+    -- what is left after it decides
+    time_read : (time : Option ℤ) (more : List ℕ)
+        → timestamp (without_comma dialect fields rest) ≡ Ok (record { value = time; rest = more })
+        → answer dialect line ≡ complete (record {
+          series = series;
+          measurement = m;
+          tags = h.series_read.set;
+          fields = fields;
+          timestamp = time;
+        }) more
+    unfolding answer
+    time_read time more t = rw (h.series_read.name_is, h.series_read.set_is, h.gap_is, all_fields, t, h.series_is) refl
+
+    -- something is left
+    pub left_fault : (time : Option ℤ) (more : List ℕ)
+        → timestamp (without_comma dialect fields rest) ≡ Ok (record { value = time; rest = more }) → 0 < length more
+        → answer dialect line ≡ Err (cannot_parse_entire_line more)
+    left_fault time more t some = time_read time more t ∙ complete_some _ more some
+
+    -- nothing is left: the end completes the line
+    pub completes_end : (left : Left) (others : List Event) (time : Option ℤ) (more : List ℕ) → left.dialect ≡ dialect
+        → timestamp (without_comma dialect fields rest) ≡ Ok (record { value = time; rest = more }) → length more ≡ 0
+        → AreEventsLeft left others → Completes line (front_events m tags fields) left (ended series time ∷ others)
+    completes_end left others time more d t empty later =
+        record {
+          first = ended series time ∷ [];
+          others = others;
+          events_are = refl;
+          line_is = rw (d, time_read time more t ∙ complete_none _ more empty, h.series_read.tags_are) refl;
+          others_are = later;
+        }
+
+-- a tag after those of a front
+pub tag_after : (m : Text) (tags : List (Pair Text Text)) (t : Pair Text Text)
+    → front_events m (tags ++ t ∷ []) [] ≡ front_events m tags [] ++ tagged t ∷ []
+tag_after m tags t = grind (arith, append-nil, map_push)
+
+-- a field after those of a front
+pub field_after : (m : Text) (tags : List (Pair Text Text)) (fields : List (Pair Text (Value Text))) (x : Pair Text (Value Text))
+    → front_events m tags (fields ++ x ∷ []) ≡ front_events m tags fields ++ valued x ∷ []
+field_after m tags fields x = simp (append_assoc, map_push)
+
+-- after a step that leaves fewer events of a line, fewer are left
+pub step_less : (result : Result (given.Event × Place) SpelledFault) (line after before : ℕ) → IfOk result (λ p. most_of_line p.1 < line + 1)
+    → line + 1 + after ≤ before → MatchResult result (λ p. most_of_line p.1 + after < before) (λ fault. after < before)
+step_less fault line after before less fits = grind (arith)
+
+-- what shows that the first steps of a line are right
+pub ruleset first_steps = (common_steps, err_from_is_err_and, completes_fault, front_is, name_ends, name_shorter)
