@@ -153,7 +153,7 @@ pub fn longest_blank_front_is_trimmed()
 /// A name is spelled by all of a text before the first byte that ends such a name and that no
 /// backslash escapes, or by all of it if there is none. So is the body of a string before the
 /// quote that closes it.
-#[tactic(auto, using(lp_split::proofs::lemmas::split::StopMeaning::before_stop))]
+#[tactic(auto, using(lp_split::proofs::lemmas::split::ScanLemmas::before_stop))]
 pub fn first_bare_stop_ends()
     ensures name { NameEndsBeforeStop }
     ensures body { BodyEndsBeforeQuote }

@@ -184,6 +184,7 @@ fn seen_past(ahead: Ahead, run: usize) -> Ahead
 
 // A bare place up to which a quoted stretch goes that begins at another: that of its first bare quote, if it has any; and what
 // was seen after it.
+#[tactic(auto, using(crate::proofs::lemmas::split::SplitStretches::quoted_ends))]
 #[inline(always)]
 fn quoted_end(text: &[u8], at: usize, ahead: Ahead) -> (usize, Ahead)
     requires within { at ≤ length text.now }

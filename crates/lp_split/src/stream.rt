@@ -3,7 +3,7 @@
 ghost use Rattle.std.specs.Prelude.{◌≡◌, ◌++◌, ◌-◌, ◌≤◌, [], drop, length, vec_len, IsUtf8, MatchResult, OnOk, OnErr, Some};
 ghost use Rattle.std.specs.Borrow.{sem};
 ghost use Rattle.lp_format.specs.format.{Crate, IsLastPiece};
-ghost use Rattle.lp_split.specs.code.{rules_of, FindsCut};
+ghost use Rattle.lp_split.specs.code.{rules_of, FindsCut, GivesCut, GivesCutText, GivesLast, GivesLastText};
 
 use crate::split::{Dialect, Mark, Search, first_cut, search_on};
 use simdutf8::basic;
@@ -76,7 +76,7 @@ impl Model for LineStream {
 }
 
 impl LineStream {
-    ghost use Rattle.lp_split.specs.code.Lending.{EndsAsCut, EndsAsCutText, EndsAsLast, EndsAsLastText};
+    ghost use Rattle.lp_split.specs.code.Lending.{EndsBy};
 
     /// A stream that holds nothing, by the rules of the crate. No memory is taken.
     pub fn new(alloc: Global) -> LineStream
@@ -148,7 +148,7 @@ impl LineStream {
     fn take(&mut self, cut: Mark) -> &[u8]
         requires { FindsCut self.old.dialect self.old.bytes (Some cut) }
         ensures len { length result.now ≡ cut.at }
-        ensures* after { sem 𝓛 (EndsAsCut self.entry (Some result)) }
+        ensures* after { sem 𝓛 (EndsBy self.entry (λ before held. GivesCut before (Some result) held)) }
     {
         let from = self.start;
         self.start = from + cut.at + 1;
@@ -159,7 +159,7 @@ impl LineStream {
     /// The first piece that a newline ends, or `None` until that newline has come.
     #[inline(always)]
     pub fn next(&mut self) -> Option<&[u8]>
-        ensures* after { sem 𝓛 (EndsAsCut self.entry result) }
+        ensures* after { sem 𝓛 (EndsBy self.entry (λ before held. GivesCut before result held)) }
     {
         let cut = self.cut()?;
         Some(self.take(cut))
@@ -167,7 +167,7 @@ impl LineStream {
 
     /// The first piece that a newline ends, as text, or an error if it is not UTF-8. Such a piece is taken all the same.
     pub fn next_text(&mut self) -> Option<Result<&str, Utf8Error>>
-        ensures* after { sem 𝓛 (EndsAsCutText self.entry result) }
+        ensures* after { sem 𝓛 (EndsBy self.entry (λ before held. GivesCutText before result held)) }
     {
         let piece = self.next()?;
         Some(read_text(piece))
@@ -177,14 +177,14 @@ impl LineStream {
     /// is held, and the parts of another text can be given.
     pub fn finish(&mut self) -> &[u8]
         requires { IsLastPiece self.old.dialect self.old.bytes }
-        ensures* after { sem 𝓛 (EndsAsLast self.entry result) }
+        ensures* after { sem 𝓛 (EndsBy self.entry (λ before held. GivesLast before result.now held)) }
     {
         self.take_all()
     }
 
     // Takes all that is held.
     fn take_all(&mut self) -> &[u8]
-        ensures* after { sem 𝓛 (EndsAsLast self.entry result) }
+        ensures* after { sem 𝓛 (EndsBy self.entry (λ before held. GivesLast before result.now held)) }
     {
         let from = self.start;
         self.start = self.buffer.len();
@@ -209,7 +209,7 @@ impl LineStream {
     /// The last piece as text, or an error if it is not UTF-8. Such a piece is taken all the same.
     pub fn finish_text(&mut self) -> Result<&str, Utf8Error>
         requires { IsLastPiece self.old.dialect self.old.bytes }
-        ensures* after { sem 𝓛 (EndsAsLastText self.entry result) }
+        ensures* after { sem 𝓛 (EndsBy self.entry (λ before held. GivesLastText before result held)) }
     {
         read_text(self.finish())
     }

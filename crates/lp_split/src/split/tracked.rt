@@ -92,6 +92,7 @@ fn after(track: Track, byte: u8) -> Option<Track>
 
 impl Track {
     /// The track of no bytes.
+    #[tactic(auto, using(crate::proofs::lemmas::split::TrackedPieces::first_tracks))]
     pub(crate) fn new(dialect: Dialect) -> Track
         ensures track { IsTrackOf (rules_of dialect) [] result }
         ensures few { most_counted result ≡ 0 }

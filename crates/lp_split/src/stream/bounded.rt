@@ -2,7 +2,7 @@
 
 ghost use Rattle.std.specs.Prelude.{◌≡◌, ◌+◌, ◌++◌, ◌<◌, ◌≤◌, ℕ, List, [], length, IfSome, None, Err, OnOk, OnErr};
 ghost use Rattle.std.specs.Borrow.{sem};
-ghost use Rattle.lp_split.specs.code.{rules_of, FindsWithin, GivesLastWithin, Holds, kept, KeepsRules};
+ghost use Rattle.lp_split.specs.code.{rules_of, FindsWithin, GivesLastWithin, GivesWithin, Holds, kept, KeepsRules};
 ghost use Rattle.lp_split.specs.declared.stream.bounded.Skipped.{Skipped};
 ghost use Rattle.lp_format.specs.format.{IsLastPiece};
 
@@ -50,7 +50,7 @@ impl Model for BoundedLineStream {
 }
 
 impl BoundedLineStream {
-    ghost use Rattle.lp_split.specs.code.Lending.{EndsWithin, EndsLastWithin};
+    ghost use Rattle.lp_split.specs.code.Lending.{EndsWithinBy};
 
     /// A stream that holds nothing, by the rules of a dialect, whose pieces have so many bytes at most. A limit of
     /// `usize::MAX` is none: no piece is too long. No memory is taken.
@@ -144,7 +144,7 @@ impl BoundedLineStream {
     /// The first piece that a newline ends, or a fault in its place if it is too long, or `None` until that newline has
     /// come.
     pub fn next(&mut self) -> Option<Result<&[u8], PieceTooLong>>
-        ensures* after { sem 𝓛 (EndsWithin self.entry result) }
+        ensures* after { sem 𝓛 (EndsWithinBy self.entry (λ before held. GivesWithin before result held)) }
     {
         match self.first()? {
             Ok(cut) => Some(Ok(self.stream.take(cut))),
@@ -171,7 +171,7 @@ impl BoundedLineStream {
     /// The last piece, or a fault in its place if it is too long, once [`next`](Self::next) has given `None` and no more
     /// parts come. Then nothing is held, and the parts of another text can be given.
     pub fn finish(&mut self) -> Result<&[u8], PieceTooLong>
-        ensures* after { sem 𝓛 (EndsLastWithin self.entry result) }
+        ensures* after { sem 𝓛 (EndsWithinBy self.entry (λ before held. GivesLastWithin before result held)) }
     {
         match self.drops_last() {
             Some(fault) => Err(fault),

@@ -10,7 +10,7 @@ use Rattle.lp_events.proofs.lemmas.fields.ManyLemmas.{set_separated}
 use Rattle.lp_lines.proofs.lemmas.{read_back.LineReadsBack.front_is, names.ParsedNames.answer_parts}
 use Rattle.lp_values.proofs.lemmas.fields.ReadingLemmas.{name_parts, pair_parts, reads_parts}
 use Rattle.lp_format.proofs.lemmas.meanings.ShorterRests.{tag_no_longer}
-use Rattle.lp_split.proofs.lemmas.split.StopMeaning.{before_stop}
+use Rattle.lp_split.proofs.lemmas.split.ScanLemmas.{before_stop}
 
 -- a front of the text was read, and it reads the same wherever the text after it is cut
 record ReadsCut {A : Type 0} (one : List ℕ → Reading A) (text : List ℕ) (x : A) (rest : List ℕ) : Type 0 where

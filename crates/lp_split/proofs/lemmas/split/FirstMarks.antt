@@ -1,25 +1,19 @@
 -- The first newline, quote or backslash of a text, as loads and searches find it, and the cut that it tells.
 use Rattle.std.proofs.Common.{◌≡◌, ℕ, ◌+◌, ◌-◌, ◌/◌, ◌^◌, ◌<◌, ◌≤◌, Bool, true, cond, not, List, length, drop, slice_index, Some, sym, ap}
 use Rattle.std.proofs.Common.{subst, ◌∙◌, inl, inr, refl, length-drop, arith, None, ◌≢◌, zero, suc, take, w64, ne_eqb, get_or-drop}
-use Rattle.std.proofs.Common.{take_all, All}
+use Rattle.std.proofs.Common.{take_all, All, length-append, length-take, get_or-take, [], ◌∷◌, ◌++◌}
 use Rattle.std.specs.Int.{trailing_zeros}
-use Rattle.std.proofs.lemmas.Bool.{cases_lt, not-true, not-false, false≢true}
-use Rattle.std.proofs.lemmas.List.{length-map}
-use Rattle.std.proofs.lemmas.Simd.{length-chunk, mask_l-lt}
+use Rattle.std.proofs.lemmas.{Bool.cases_lt, Bool.not-true, Bool.not-false, Bool.false≢true, List.length-map, Simd.length-chunk}
+use Rattle.std.proofs.lemmas.{Simd.mask_l-lt, List.Elements.All-from_get_or, List.Elements.All-get_or, List.Elements.All-weaker}
 use Rattle.memchr.specs.Find.{IsFirstByte, is_byte3, Nowhere, Passes}
 use Rattle.lp_scan.specs.code.{AllPassBetween, IsRunIn, first_set, mask_of}
 use Rattle.lp_split.specs.code.{AreSeen}
 use Rattle.lp_scan.proofs.lemmas.scan.MaskLemmas.{run_is, shifted, tz_below}
-use Rattle.lp_format.specs.format.{backslash, quote, Dialect, IsFirstCut}
-use Rattle.std.proofs.lemmas.List.Elements.{All-from_get_or, All-get_or, All-weaker}
-use Rattle.std.proofs.Common.{length-append, length-take, get_or-take, [], ◌∷◌, ◌++◌}
-use Rattle.lp_format.specs.format.{IsLastPiece, IsBareAfter, EndsQuoted}
-use Rattle.lp_format.specs.format.Piece.{EndsQuoted.opened}
-use Rattle.lp_format.proofs.lemmas.split.SplitBare.{is_escaped-nil}
-use Rattle.lp_format.proofs.lemmas.split.SplitPieces.{IsLastPiece-extend, IsLastPiece-nil}
+use Rattle.lp_format.specs.format.{backslash, quote, Dialect, IsFirstCut, IsLastPiece, IsBareAfter, EndsQuoted}
+use Rattle.lp_format.specs.format.{Piece.EndsQuoted.opened, Bytes.newline}
+use Rattle.lp_format.proofs.lemmas.{split.SplitBare.is_escaped-nil, split.SplitPieces.IsLastPiece-extend, split.SplitPieces.IsLastPiece-nil}
 use Rattle.lp_split.proofs.lemmas.split.SplitStretches.{bare_past}
 use Rattle.std.proofs.Math.Seq.{get_or-append_seam}
-use Rattle.lp_format.specs.format.Bytes.{newline}
 
 module _ (test : ℕ → Bool) (text : List ℕ) (at n m r : ℕ) (room : at + n ≤ length text) (few : n ≤ 64)
     (is : m ≡ mask_of test text at n) (some : 0 < m) (lowest : r ≡ trailing_zeros w64 m) where

@@ -1,12 +1,13 @@
--- The first bare byte, found from left to right.
-use Rattle.std.proofs.Common.{◌≡◌, ℕ, suc, ◌+◌, List, [], ◌∷◌, ◌++◌, length, Bool, false, not, ◌&&◌, cond, refl, ap, ◌∙◌, inl, inr, ◌==◌}
-use Rattle.std.proofs.Common.{append_assoc, length-append, arith}
+-- The first bare byte that passes a test, found from left to right, and the front before it.
+use Rattle.std.proofs.Common.{◌≡◌, ◌↔◌, ℕ, suc, ◌+◌, ◌≤◌, List, [], ◌∷◌, ◌++◌, length, take, Bool, true, false, not, ◌&&◌, cond, refl, sym, ap}
+use Rattle.std.proofs.Common.{◌∙◌, subst, inl, inr, ◌==◌, append_assoc, append-nil, length-append, length-take, All, arith}
 use Rattle.std.specs.List.{position_or_len, range_with_len}
-use Rattle.std.proofs.lemmas.Bool.{cases_Bool}
+use Rattle.std.proofs.lemmas.Bool.{cases_Bool, and_parts, and_right, not-true}
+use Rattle.std.proofs.lemmas.List.{FromFn.length-range_with_len, Sums.prefix_len-le-length}
 use Rattle.std.proofs.Math.Seq.{get_or-append_seam, take-append_seam}
-use Rattle.lp_format.specs.format.{backslash, is_escaped_after, is_bare_at, first_bare}
-use Rattle.lp_format.proofs.lemmas.split.SplitBare.{is_escaped-nil}
-use Rattle.lp_format.proofs.lemmas.tokens.EscapeLemmas.{is_escaped_push}
+use Rattle.lp_format.specs.format.{backslash, bare_after, first_bare, is_bare_at, is_escaped_after}
+use Rattle.lp_format.specs.laws.Meanings.{IsAtStop, IsBeforeStop}
+use Rattle.lp_format.proofs.lemmas.{split.SplitBare.is_escaped-nil, tokens.EscapeLemmas.is_escaped_push}
 
 -- how far the first bare byte is that passes, from whether the place before the text is escaped
 abbrev pub bare_len : (ℕ → Bool) → Bool → List ℕ → ℕ
@@ -33,3 +34,64 @@ module _ (passes : ℕ → Bool) where
   pub first_bare_len : (text : List ℕ) → first_bare passes text ≡ bare_len passes false text
   unfolding first_bare
   first_bare_len text = after_front [] text ∙ ap (λ (e : Bool). bare_len passes e text) is_escaped-nil
+
+  -- none of the bytes passes
+  abbrev AllFail : List ℕ → Type 0
+  AllFail bytes = All (λ b. passes b ≡ false) bytes
+
+  -- a byte that is escaped or does not pass, and the others
+  first_fails : (e : Bool) (b : ℕ) (rest : List ℕ) → AllFail (cond e [] (b ∷ []) ++ rest) → (passes b && not e) ≡ false
+  first_fails e b rest h = grind (arith, and_right)
+
+  -- the others
+  others_fail : (e : Bool) (b : ℕ) (rest : List ℕ) → AllFail (cond e [] (b ∷ []) ++ rest) → AllFail rest
+  others_fail true b rest h = h
+  others_fail false b rest h = λ k d l. h (suc k) d (omega arith)
+
+  -- one byte before the stop
+  len_more : (p : List ℕ) (b : ℕ) (rest : List ℕ) → (passes b && not (is_escaped_after p)) ≡ false
+      → bare_len passes (is_escaped_after p) (b ∷ rest) ≡ suc (bare_len passes (is_escaped_after (p ++ b ∷ [])) rest)
+  len_more p b rest h = rw h (ap (λ (e : Bool). suc (bare_len passes e rest)) (sym (is_escaped_push p b)))
+
+  -- the front before the stop is as long as the bytes before it
+  stop_len : (p front after : List ℕ) → AllFail (bare_after p front) → IsAtStop passes (p ++ front) after
+      → bare_len passes (is_escaped_after p) (front ++ after) ≡ length front
+  stop_len p [] [] none at = refl
+  stop_len p [] (b ∷ after) none at = grind (arith, append-nil)
+  stop_len p (b ∷ front) after none at =
+      let here = first_fails (is_escaped_after p) b (bare_after (p ++ b ∷ []) front) none in
+      let others = others_fail (is_escaped_after p) b (bare_after (p ++ b ∷ []) front) none in
+      let there = subst (λ (t : List ℕ). IsAtStop passes t after) (sym (append_assoc p (b ∷ []) front)) at in
+      len_more p b (front ++ after) here ∙ ap suc (stop_len (p ++ b ∷ []) front after others there)
+
+  -- and the other way round
+  before_by : (p front after : List ℕ) → bare_len passes (is_escaped_after p) (front ++ after) ≡ length front
+      → AllFail (bare_after p front) × IsAtStop passes (p ++ front) after
+  before_by p [] [] h = grind (arith, append-nil)
+  before_by p [] (b ∷ after) h = grind (arith, append-nil, cases_Bool, and_parts, not-true)
+  before_by p (b ∷ front) after h =
+      let rest = before_by (p ++ b ∷ []) front after in
+      grind (arith, cases_Bool, append_assoc, len_more)
+
+  -- the length of the front, by what it is
+  first_len : (text : List ℕ) → first_bare passes text ≡ bare_len passes (is_escaped_after []) text
+  first_len text = first_bare_len text ∙ ap (λ (e : Bool). bare_len passes e text) (sym is_escaped-nil)
+
+  -- the first stop is in the text or at its end
+  first_fits : (text : List ℕ) → first_bare passes text ≤ length text
+  unfolding first_bare
+  first_fits text = grind (arith, prefix_len-le-length, length-range_with_len)
+
+  -- the front before the first stop
+  pub before_stop : (front after : List ℕ) → (take (first_bare passes (front ++ after)) (front ++ after) ≡ front)
+      ↔ IsBeforeStop passes front after
+  before_stop front after = (
+    (λ h.
+        let fits = first_fits (front ++ after) in
+        let len : first_bare passes (front ++ after) ≡ length front = grind (arith, length-take) in
+        let b = before_by [] front after (sym (first_len (front ++ after)) ∙ len) in
+        record { none = b.0; at_stop = b.1 }),
+    (λ h.
+        ap (λ (n : ℕ). take n (front ++ after)) (first_len (front ++ after) ∙ stop_len [] front after h.none h.at_stop)
+        ∙ take-append_seam front after),
+  )

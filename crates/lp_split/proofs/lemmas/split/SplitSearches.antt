@@ -1,25 +1,18 @@
 -- What loads and searches tell: the first bare byte that passes a test, how many bytes pass it, and which end a stretch.
 use Rattle.std.proofs.Common.{◌≡◌, ◌≢◌, ℕ, zero, suc, ◌+◌, ◌<◌, ◌≤◌, List, length, take, drop, slice_index, Bool, true, false, ◌||◌, Some}
-use Rattle.std.proofs.Common.{None, length-drop, refl, sym, ap, ◌∙◌, subst, inl, inr, arith, take-append-drop, ◌%◌, ◌^◌, map, cond}
+use Rattle.std.proofs.Common.{None, length-drop, refl, ap, ◌∙◌, subst, inl, inr, arith, ◌%◌, ◌^◌, map}
 use Rattle.std.proofs.Common.{count_ones, ◌==◌, eqb-true, get_or-drop, count_by, take-add}
-use Rattle.std.proofs.lemmas.Bool.{and_right, cases_Bool, eqb-false}
-use Rattle.std.proofs.lemmas.List.{length-map}
-use Rattle.memchr.specs.Find.{Nowhere, Passes, IsFirstByte}
+use Rattle.std.proofs.lemmas.{Bool.and_right, Bool.cases_Bool, Bool.eqb-false, List.length-map, List.Sums.count_by-le-length}
+use Rattle.std.proofs.lemmas.{List.Sums.sum_by-append, Simd.length-chunk, Simd.mask_l-mod}
+use Rattle.memchr.specs.Find.{Nowhere, Passes, IsFirstByte, is_byte3}
 use Rattle.lp_format.specs.format.{backslash, is_escaped_after, is_bare_at, IsPassed}
-use Rattle.lp_format.proofs.lemmas.tokens.EscapeLemmas.{is_escaped_more}
-use Rattle.lp_format.proofs.lemmas.split.SplitBare.{is_escaped-nil}
-use Rattle.lp_split.specs.code.{IsBarePassed}
+use Rattle.lp_format.proofs.lemmas.{tokens.EscapeLemmas.is_escaped_more, split.SplitBare.is_escaped-nil}
+use Rattle.lp_split.specs.declared.split.Stops.{Stops}
+use Rattle.lp_split.specs.code.{IsBarePassed, is_stop}
 use Rattle.lp_split.proofs.lemmas.split.SplitStretches.{bare_past}
-use Rattle.std.proofs.lemmas.List.Sums.{count_by-le-length, sum_by-append}
-use Rattle.std.proofs.lemmas.Simd.{length-chunk, mask_l-mod}
 use lib.Lanes.{chunk}
 use Rattle.lp_scan.specs.code.{mask_of}
 use Rattle.lp_scan.proofs.lemmas.scan.MaskLemmas.{ones}
-
--- a search looks for backslashes and for the bytes that pass
-pub record LooksFor (test passes : ℕ → Bool) : Type 0 where
-  pub others : (b : ℕ) → test b ≡ false → (b ≢ backslash) × (passes b ≡ false)
-  pub escapes : passes backslash ≡ false
 
 module _ (passes : ℕ → Bool) (text : List ℕ) where
   -- before the first byte
@@ -54,48 +47,43 @@ module _ (passes : ℕ → Bool) (text : List ℕ) where
       let next : (at + 1) + 1 ≡ at + 2 = omega arith in
       grind (arith, is_escaped_more, passed_more)
 
--- what a search after `at` gives
-module _ (test passes : ℕ → Bool) (search : LooksFor test passes) (text rest : List ℕ) (at : ℕ)
-    (same : rest ≡ drop at text) (p : IsBarePassed passes text at) where
-  -- a byte of what is left
-  there : (k : ℕ) → slice_index rest k ≡ slice_index text (at + k)
-  there k = ap (λ (t : List ℕ). slice_index t k) same ∙ get_or-drop at text k 0
+-- a byte that a search for the backslash and two more does not find
+not_found : (c d b : ℕ) → (b == backslash || b == c || b == d) ≡ false → (b ≢ backslash) × ((b == c || b == d) ≡ false)
+not_found c d b h = grind arith
 
+-- what a search after a place gives for the backslash and the bytes that end a stretch
+module _ (stops : Stops) (fails : is_stop stops backslash ≡ false) {text rest : List ℕ} {at : ℕ} (same : rest ≡ drop at text)
+    (p : IsBarePassed (is_stop stops) text at) where
   -- the bytes before the first that it finds are passed
-  searched : (n : ℕ) → at + n ≤ length text → Nowhere (Passes test rest) 0 n → IsBarePassed passes text (at + n)
+  searched : (n : ℕ) → at + n ≤ length text → Nowhere (Passes (is_byte3 backslash stops.0 stops.1) rest) 0 n
+      → IsBarePassed (is_stop stops) text (at + n)
   searched n h none =
-      passed_bytes passes text at n h
-      (λ k l. elim (cases_Bool (test (slice_index rest k))) [
+      let there : (k : ℕ) → slice_index rest k ≡ slice_index text (at + k) = λ k.
+      ap (λ (t : List ℕ). slice_index t k) same ∙ get_or-drop at text k 0 in
+      passed_bytes (is_stop stops) text at n h
+      (λ k l. elim (cases_Bool (is_byte3 backslash stops.0 stops.1 (slice_index rest k))) [
         | inl found ↦ absurd (none k (omega arith) l found)
-        | inr other ↦ search.others (slice_index text (at + k)) (subst (λ (b : ℕ). test b ≡ false) (there k) other)
+        | inr other ↦ not_found stops.0 stops.1 _ (rw there at other)
       ])
       p
 
   -- the bytes before a place that it finds are passed
-  pub found_after : (n : ℕ) → IsFirstByte test rest (Some n) → IsBarePassed passes text (at + n) × (at + n < length text)
+  pub found_after : (n : ℕ) → IsFirstByte (is_byte3 backslash stops.0 stops.1) rest (Some n)
+      → IsBarePassed (is_stop stops) text (at + n) × (at + n < length text)
   found_after n found =
       let fits : at + n < length text = omega (arith, found.0.high, ap length same, length-drop at text, p.within) in
       (searched n (omega arith) found.0.before, fits)
 
   -- it finds another backslash
-  pub search_goes_on : (n : ℕ) → IsFirstByte test rest (Some n) → slice_index text (at + n) ≡ backslash → at + n + 1 < length text
-      → IsBarePassed passes text (at + n + 2)
-  search_goes_on n found here h = passed_escape passes text (at + n) h here search.escapes (found_after n found).0
+  pub search_goes_on : (n : ℕ) → IsFirstByte (is_byte3 backslash stops.0 stops.1) rest (Some n) → slice_index text (at + n) ≡ backslash
+      → at + n + 1 < length text → IsBarePassed (is_stop stops) text (at + n + 2)
+  search_goes_on n found here h = passed_escape (is_stop stops) text (at + n) h here fails (found_after n found).0
 
   -- it finds nothing
-  pub search_ends : IsFirstByte test rest None → IsBarePassed passes text (length text)
+  pub search_ends : IsFirstByte (is_byte3 backslash stops.0 stops.1) rest None → IsBarePassed (is_stop stops) text (length text)
   search_ends none =
       let to : at + length rest ≡ length text = omega (arith, ap length same, length-drop at text, p.within) in
-      subst (IsBarePassed passes text) to (searched (length rest) (omega arith) none)
-
--- the search for the backslash and two bytes more
-pub looks_for_two : (c d : ℕ) → (backslash == c || backslash == d) ≡ false
-    → LooksFor (λ b. b == backslash || b == c || b == d) (λ b. b == c || b == d)
-looks_for_two c d other = grind arith
-
--- the bytes that pass of a whole text
-pub count_whole : (p : ℕ → Bool) (text : List ℕ) (at : ℕ) → count_by p (take at text) + count_by p (drop at text) ≡ count_by p text
-count_whole p text at = sym (sum_by-append (λ x. cond (p x) 1 0) (take at text) (drop at text)) ∙ ap (count_by p) (take-append-drop at text)
+      subst (IsBarePassed (is_stop stops) text) to (searched (length rest) (omega arith) none)
 
 -- one load
 module _ (p : ℕ → Bool) (text : List ℕ) (at m : ℕ) (room : at + 64 ≤ length text) (is : m ≡ mask_of p text at 64) where

@@ -2,15 +2,11 @@
 use Rattle.std.proofs.Common.{◌≡◌, ◌≢◌, ℕ, zero, suc, ◌+◌, ◌-◌, ◌/◌, ◌%◌, ◌^◌, ◌<◌, ◌≤◌, Bool, true, false, cond, not, ◌&&◌, List, [], ◌∷◌}
 use Rattle.std.proofs.Common.{◌++◌, length, take, drop, map, slice_index, Some, count_ones, sym, ap, ap₂, ◌∙◌, subst, refl, inl, inr}
 use Rattle.std.proofs.Common.{arith, length-append, ◌==◌, ◌||◌, w64, count_by, ne_eqb, get_or-drop, take-add}
-use Rattle.std.specs.Int.{trailing_zeros}
-use Rattle.std.specs.List.{range_with_len}
-use Rattle.std.proofs.lemmas.Bool.{and_parts, cases_Bool, cases_lt, not-true}
-use Rattle.std.proofs.lemmas.Bool.Decides.{nat_tests}
-use Rattle.std.proofs.lemmas.List.{take_more}
-use Rattle.std.proofs.lemmas.List.Elements.{All-nil}
-use Rattle.std.proofs.lemmas.List.FromFn.{length-map-range_with_len, length-range_with_len}
-use Rattle.std.proofs.lemmas.List.Sums.{count_by-le-length, sum_by-cons}
-use Rattle.std.proofs.lemmas.Simd.{mask_l-mod, ones-mask_l}
+use Rattle.std.specs.{Int.trailing_zeros, List.range_with_len}
+use Rattle.std.proofs.lemmas.{Bool.and_parts, Bool.cases_Bool, Bool.cases_lt, Bool.not-true, Bool.Decides.nat_tests, List.take_more}
+use Rattle.std.proofs.lemmas.{List.take_rest, List.Elements.All-nil, List.FromFn.length-map-range_with_len}
+use Rattle.std.proofs.lemmas.{List.FromFn.length-range_with_len, List.Sums.count_by-le-length, List.Sums.sum_by-cons, Simd.mask_l-mod}
+use Rattle.std.proofs.lemmas.{Simd.ones-mask_l}
 use Rattle.std.proofs.Math.Seq.{drop-append_seam, take-append-add, take-append_seam}
 use Rattle.lp_format.specs.format.{backslash, comma, newline, quote, space, Crate, is_bare_at, is_escaped_after, IsBareAfter, IsHead}
 use Rattle.lp_format.specs.format.{EndsQuoted, IsFirstCut}
@@ -225,7 +221,7 @@ load_shows text at s e c last room is_bare s_is e_is c_is last_is =
     }
 
 -- by what was seen
-module _ (text : List ℕ) (at : ℕ) (a : Ahead) (are : IsAhead text at a) where
+module _ {text : List ℕ} {at : ℕ} {a : Ahead} (are : IsAhead text at a) where
   -- a test of the bare bytes among those
   abbrev bare_at : (ℕ → Bool) → ℕ → Bool
   bare_at p = is_bare_at p text
@@ -244,7 +240,7 @@ module _ (text : List ℕ) (at : ℕ) (a : Ahead) (are : IsAhead text at a) wher
       ∙ ones-mask_l (bare_at p) places
 
   -- no end was seen: all that was seen, and what it escapes, is of the plain stretch
-  module _ (x y : ℕ) (x_is : x ≡ count_ones (a.equals % 2 ^ 64)) (y_is : y ≡ count_ones (a.commas % 2 ^ 64)) where
+  module _ {x y : ℕ} (x_is : x ≡ count_ones (a.equals % 2 ^ 64)) (y_is : y ≡ count_ones (a.commas % 2 ^ 64)) where
     -- no more bytes are counted than were seen
     pub few_past : (x ≤ a.end - at) × (y ≤ a.end - at)
     few_past =
@@ -274,7 +270,7 @@ module _ (text : List ℕ) (at : ℕ) (a : Ahead) (are : IsAhead text at a) wher
         ]
 
   -- the first of the ends
-  module _ (run : ℕ) (some : 0 < a.stops) (lowest : run ≡ trailing_zeros w64 a.stops) where
+  module _ {run : ℕ} (some : 0 < a.stops) (lowest : run ≡ trailing_zeros w64 a.stops) where
     -- it is the lowest bit
     found : run ≡ first_set (mask_at (bare_at ends_plain) at are.count) are.count
     found = grind (arith, ne_eqb)
@@ -304,7 +300,7 @@ module _ (text : List ℕ) (at : ℕ) (a : Ahead) (are : IsAhead text at a) wher
     pub bare_after : IsBareAfter (take (at + run + 1) text)
     bare_after = let ends = at_end.0 in bare_past text (at + run) stop_within (grind (arith, nat_tests))
 
-    module _ (x y : ℕ) (x_is : x ≡ count_ones (a.equals % 2 ^ run)) (y_is : y ≡ count_ones (a.commas % 2 ^ run)) where
+    module _ {x y : ℕ} (x_is : x ≡ count_ones (a.equals % 2 ^ run)) (y_is : y ≡ count_ones (a.commas % 2 ^ run)) where
       -- no more bytes are counted than come before it
       pub few_to : (x ≤ run) × (y ≤ run)
       few_to = (
@@ -337,7 +333,7 @@ module _ (text : List ℕ) (at : ℕ) (a : Ahead) (are : IsAhead text at a) wher
     -- a newline there cuts
     pub plain_cut : (e c : ℕ) → IsIn Plain e c (take at text) → slice_index text (at + run) ≡ newline
         → IsFirstCut Crate text (Some (at + run))
-    plain_cut e c h here = let plain = plain_to _ _ refl refl e c h in (stop_within, here, (inr (plain.0, plain.1), not-true _ at_end.1))
+    plain_cut e c h here = let plain = plain_to refl refl e c h in (stop_within, here, (inr (plain.0, plain.1), not-true _ at_end.1))
 
     -- a quoted stretch goes on up to it
     pub quoted_past : (e c : ℕ) → IsIn Quoted e c (take at text) → IsIn Quoted e c (take (at + run) text)
@@ -380,13 +376,16 @@ module _ (bytes text : List ℕ) (is_bare : IsBareAfter bytes) (a : Ahead) (are 
   pub plain_bytes_past : a.stops ≡ 0 → x ≡ count_ones (a.equals % 2 ^ 64) → y ≡ count_ones (a.commas % 2 ^ 64)
       → IsIn Plain (e + x) (c + y) (bytes ++ take a.end text)
   plain_bytes_past clear x_is y_is = subst (IsIn Plain (e + x) (c + y)) (take-append-add bytes text a.end)
-      (plain_past (bytes ++ text) (length bytes) _ (shown_in_both bytes text is_bare a are) x y x_is y_is e c clear front_of_both)
+      (plain_past (shown_in_both bytes text is_bare a are) x_is y_is e c clear front_of_both)
 
   -- those before the first end
   pub plain_bytes_to : (run : ℕ) → 0 < a.stops → run ≡ trailing_zeros w64 a.stops → x ≡ count_ones (a.equals % 2 ^ run)
       → y ≡ count_ones (a.commas % 2 ^ run) → IsIn Plain (e + x) (c + y) (bytes ++ take run text)
   plain_bytes_to run some lowest x_is y_is = subst (IsIn Plain (e + x) (c + y)) (take-append-add bytes text run)
-      (plain_to (bytes ++ text) (length bytes) _ (shown_in_both bytes text is_bare a are) run some lowest x y x_is y_is e c front_of_both)
+      (plain_to (shown_in_both bytes text is_bare a are) some lowest x_is y_is e c front_of_both)
 
 -- what a head ends in, and what was seen after a place
 pub ruleset stretches = (head_to, head_cut, head_space, bare_past, nothing_ahead, seen_after)
+
+-- where a quoted stretch ends, and what was seen after it
+pub ruleset quoted_ends = (seen_after, bare_on, nothing_ahead, bare_past, take_rest)

@@ -1,8 +1,7 @@
 -- What a walk knows of a piece, a byte further.
 use Rattle.std.proofs.Common.{◌≡◌, ◌≢◌, ℕ, ◌+◌, ◌<◌, ◌≤◌, Bool, true, false, cond, eqb, List, [], ◌∷◌, ◌++◌, ◌∙◌, ap, arith, add-zero, ◌&&◌}
 use Rattle.std.proofs.Common.{not, count_by, ne_eqb, ◌==◌, ◌||◌}
-use Rattle.std.proofs.lemmas.List.Sums.{sum_by-append}
-use Rattle.std.proofs.lemmas.Bool.Decides.{nat_tests}
+use Rattle.std.proofs.lemmas.{List.Sums.sum_by-append, Bool.Decides.nat_tests}
 use Rattle.lp_split.specs.code.{IsCountOf, Part}
 use Rattle.lp_format.specs.format.{is_escaped_after, IsBareAfter, HasMoreEquals, newline, quote, backslash}
 use Rattle.lp_format.proofs.lemmas.split.SplitBare.{IsHead-escaped, IsHead-bare, EndsPlain-escaped, EndsPlain-bare, EndsPlain-start}
@@ -34,16 +33,6 @@ not_more counted e c h l m = omega (arith, h.equals_is, h.commas_is)
 pub IsIn-escaped : (part : Part) (e c : ℕ) (piece : List ℕ) (b : ℕ) → is_escaped_after piece ≡ true
     → IsIn part e c piece → IsIn part e c (piece ++ b ∷ [])
 IsIn-escaped part e c piece b h k = grind (arith, IsHead-escaped, EndsPlain-escaped, EndsQuoted-escaped)
-
--- a bare backslash changes no part and no count
-pub IsIn-backslash : (part : Part) (e c : ℕ) (piece : List ℕ) → IsBareAfter piece → IsIn part e c piece → IsIn part e c (piece ++ backslash ∷ [])
-IsIn-backslash Head e c piece f h = (IsHead-bare piece backslash h.0 f (omega arith) (omega arith), h.1)
-IsIn-backslash Plain e c piece f h = (
-  h.0 ++ backslash ∷ [],
-  EndsPlain-bare backslash h.1 f (omega arith) (λ q. absurd (omega arith)),
-  IsCountOf-other h.0 e c backslash h.2 (omega arith) (omega arith),
-)
-IsIn-backslash Quoted e c piece f h = (h.0, EndsQuoted-bare backslash h.1 f (omega arith), h.2)
 
 -- a bare space ends a head
 pub Head-space : (e c : ℕ) (piece : List ℕ) → IsBareAfter piece → IsIn Head e c piece → IsIn Plain e c (piece ++ space ∷ [])
@@ -91,6 +80,12 @@ Quoted-closes e c piece f h = (h.0, EndsQuoted-close h.1 f, h.2)
 pub Quoted-other : (e c : ℕ) (piece : List ℕ) (b : ℕ) → IsBareAfter piece → b ≢ quote → IsIn Quoted e c piece
     → IsIn Quoted e c (piece ++ b ∷ [])
 Quoted-other e c piece b f n h = (h.0, EndsQuoted-bare b h.1 f n, h.2)
+
+-- a bare backslash changes no part and no count
+pub IsIn-backslash : (part : Part) (e c : ℕ) (piece : List ℕ) → IsBareAfter piece → IsIn part e c piece → IsIn part e c (piece ++ backslash ∷ [])
+IsIn-backslash Head e c piece f h = Head-other e c piece backslash f (omega arith) (omega arith) h
+IsIn-backslash Plain e c piece f h = Plain-other e c piece backslash f (omega arith) (omega arith) (omega arith) (λ q. absurd (omega arith)) h
+IsIn-backslash Quoted e c piece f h = Quoted-other e c piece backslash f (omega arith) h
 
 -- a bare byte escapes the next one if it is a backslash
 pub escapes_next : (bytes : List ℕ) (b : ℕ) → IsBareAfter bytes → is_escaped_after (bytes ++ b ∷ []) ≡ (b == backslash)

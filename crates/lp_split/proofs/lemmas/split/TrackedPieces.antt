@@ -7,9 +7,8 @@ use Rattle.lp_format.specs.format.{IsClosed, IsOpen}
 use Rattle.lp_split.specs.declared.split.resumed.Search.TheVariants.{Quiet}
 use Rattle.lp_split.specs.code.{SearchesOn, CutsOrTracks, most_counted, NeverComment, EndsIn, IsPlace, IsTrackOf, Leads, LeadsTo, Steps, TracksOn, Part, Head}
 use Rattle.lp_split.specs.code.{Track, Place, Comment, Blanks, Line}
-use Rattle.lp_format.proofs.lemmas.split.SplitPieces.{IsLastPiece-extend, begins_comment-append}
-use Rattle.std.proofs.lemmas.List.Elements.{All-head, All-tail, All-push, All-weaker}
-use Rattle.lp_format.proofs.lemmas.split.SplitBare.{is_escaped-nil}
+use Rattle.lp_format.proofs.lemmas.split.{SplitPieces.IsLastPiece-extend, SplitPieces.begins_comment-append, SplitBare.is_escaped-nil}
+use Rattle.std.proofs.lemmas.List.Elements.{All-head, All-nil, All-tail, All-push, All-weaker}
 use Rattle.lp_split.proofs.lemmas.split.SplitStretches.{bare_joined}
 use Rattle.lp_format.specs.format.Bytes.{hash, space, tab}
 
@@ -130,3 +129,6 @@ pub tracks_all : (dialect : Dialect) (text : List ℕ) (first : Track) (result :
     → most_counted first ≡ 0 → TracksOn text first result → CutsOrTracks dialect text result
 tracks_all dialect text first (Ok i) begins none h = (h.0, h.1, h.2 dialect [] begins)
 tracks_all dialect text first (Err track) begins none h = (h.1 dialect [] begins, omega (arith, h.0, none))
+
+-- the tracks of no bytes
+pub ruleset first_tracks = (first_place, All-nil)

@@ -7,72 +7,62 @@ use Rattle.lp_split.proofs.split.cut_by_stretches.Goals as goal
 
 pub cut_after-requires-then-text-at-le-WIDE-clause-few : goal.cut_after-requires-then-text-at-le-WIDE-clause-few
 cut_after-requires-then-text-at-le-WIDE-clause-few c =
-    let l = c.loop-ahead in
-    let from = l.invariant.seen.within in
-    let few = few_past c.args.text.now l.at l.ahead l.invariant.seen _ _ c.ones_below-equals.ensures c.ones_below-commas.ensures in
-    (omega (arith, few.0, l.invariant.counts.0), omega (arith, few.1, l.invariant.counts.1))
+    let was = c.loop-ahead.invariant in
+    let from = was.seen.within in
+    let few = few_past was.seen c.ones_below-equals.ensures c.ones_below-commas.ensures in
+    (omega (arith, few.0, was.counts.0), omega (arith, few.1, was.counts.1))
 
 pub cut_after-requires-then-text-at-le-WIDE-clause-ends_in : goal.cut_after-requires-then-text-at-le-WIDE-clause-ends_in
 cut_after-requires-then-text-at-le-WIDE-clause-ends_in c =
-    let l = c.loop-ahead in
-    plain_past c.args.text.now l.at l.ahead l.invariant.seen _ _ c.ones_below-equals.ensures c.ones_below-commas.ensures l.equals l.commas
-    c.if-ahead-eq0.true l.invariant.plain
+    let was = c.loop-ahead.invariant in
+    plain_past was.seen c.ones_below-equals.ensures c.ones_below-commas.ensures _ _ c.if-ahead-eq0.true was.plain
 
 pub loop-ahead-preserved-then-ahead-eq0 : goal.loop-ahead-preserved-then-ahead-eq0
 loop-ahead-preserved-then-ahead-eq0 c =
-    let l = c.loop-ahead in
-    let seen = l.invariant.seen in
-    let from = seen.within in
-    let few = few_past c.args.text.now l.at l.ahead seen _ _ c.ones_below-equals.ensures c.ones_below-commas.ensures in
+    let was = c.loop-ahead.invariant in
+    let from = was.seen.within in
+    let few = few_past was.seen c.ones_below-equals.ensures c.ones_below-commas.ensures in
     record {
-      within = seen.fits;
-      is_bare = seen.is_bare;
-      plain = plain_past c.args.text.now l.at l.ahead seen _ _ c.ones_below-equals.ensures c.ones_below-commas.ensures l.equals l.commas
-          c.if-ahead-eq0.true l.invariant.plain;
+      within = was.seen.fits;
+      is_bare = was.seen.is_bare;
+      plain = plain_past was.seen c.ones_below-equals.ensures c.ones_below-commas.ensures _ _ c.if-ahead-eq0.true was.plain;
       seen = c.load_ahead-ahead.ensures.seen;
-      counts = (omega (arith, few.0, l.invariant.counts.0), omega (arith, few.1, l.invariant.counts.1));
+      counts = (omega (arith, few.0, was.counts.0), omega (arith, few.1, was.counts.1));
     }
 
 pub bounds-text-end : goal.bounds-text-end
-bounds-text-end c = let l = c.loop-ahead in stop_within c.args.text.now l.at l.ahead l.invariant.seen _ (omega arith) refl
+bounds-text-end c = stop_within c.loop-ahead.invariant.seen (omega arith) refl
 
 pub returns-then-text-end-eq10 : goal.returns-then-text-end-eq10
 returns-then-text-end-eq10 c =
-    let l = c.loop-ahead in
-    plain_cut c.args.text.now l.at l.ahead l.invariant.seen _ (omega arith) refl l.equals l.commas l.invariant.plain c.if-text-end-eq10.true
+    plain_cut c.loop-ahead.invariant.seen (omega arith) refl _ _ c.loop-ahead.invariant.plain c.if-text-end-eq10.true
 
 pub quoted_end-requires-clause-within : goal.quoted_end-requires-clause-within
-quoted_end-requires-clause-within c =
-    let l = c.loop-ahead in
-    omega (arith, stop_within c.args.text.now l.at l.ahead l.invariant.seen _ (omega arith) refl)
+quoted_end-requires-clause-within c = omega (arith, stop_within c.loop-ahead.invariant.seen (omega arith) refl)
 
 pub quoted_end-requires-clause-is_bare : goal.quoted_end-requires-clause-is_bare
-quoted_end-requires-clause-is_bare c =
-    let l = c.loop-ahead in
-    bare_after c.args.text.now l.at l.ahead l.invariant.seen _ (omega arith) refl
+quoted_end-requires-clause-is_bare c = bare_after c.loop-ahead.invariant.seen (omega arith) refl
 
 pub cut_after-requires-in_default-get-clause-few : goal.cut_after-requires-in_default-get-clause-few
 cut_after-requires-in_default-get-clause-few c =
-    let l = c.loop-ahead in
-    let few = few_to c.args.text.now l.at l.ahead l.invariant.seen _ (omega arith) refl _ _ c.ones_below-equals-in-loop-ahead.ensures
-    c.ones_below-commas-in-loop-ahead.ensures in
+    let was = c.loop-ahead.invariant in
+    let few = few_to was.seen (omega arith) refl c.ones_below-equals-in-loop-ahead.ensures c.ones_below-commas-in-loop-ahead.ensures in
     let past = c.quoted_end.ensures.ordered.0 in
-    (omega (arith, few.0, l.invariant.counts.0), omega (arith, few.1, l.invariant.counts.1))
+    (omega (arith, few.0, was.counts.0), omega (arith, few.1, was.counts.1))
 
 pub cut_after-requires-in_default-get-clause-ends_in : goal.cut_after-requires-in_default-get-clause-ends_in
 cut_after-requires-in_default-get-clause-ends_in c =
-    let l = c.loop-ahead in
+    let was = c.loop-ahead.invariant in
     c.quoted_end.ensures.stays _ _
-    (quote_opens c.args.text.now l.at l.ahead l.invariant.seen _ (omega arith) refl _ _ c.ones_below-equals-in-loop-ahead.ensures
-    c.ones_below-commas-in-loop-ahead.ensures l.equals l.commas l.invariant.plain c.if-text-end-eq10.false c.if-commas-equals.true)
+    (quote_opens was.seen (omega arith) refl c.ones_below-equals-in-loop-ahead.ensures c.ones_below-commas-in-loop-ahead.ensures _ _ was.plain
+    c.if-text-end-eq10.false c.if-commas-equals.true)
 
 pub loop-ahead-preserved-then-commas-equals : goal.loop-ahead-preserved-then-commas-equals
 loop-ahead-preserved-then-commas-equals c =
     let text = c.args.text.now in
-    let l = c.loop-ahead in
+    let was = c.loop-ahead.invariant in
     let end = c.quoted_end.result.0 in
-    let few = few_to text l.at l.ahead l.invariant.seen _ (omega arith) refl _ _ c.ones_below-equals-in-loop-ahead.ensures
-    c.ones_below-commas-in-loop-ahead.ensures in
+    let few = few_to was.seen (omega arith) refl c.ones_below-equals-in-loop-ahead.ensures c.ones_below-commas-in-loop-ahead.ensures in
     let past = c.quoted_end.ensures.ordered.0 in
     let inside : end < length text = grind (arith, common_steps) in
     let here : slice_index text end ≡ quote = grind (arith, common_steps) in
@@ -81,24 +71,21 @@ loop-ahead-preserved-then-commas-equals c =
       is_bare = bare_past text end inside (omega (arith, here));
       plain = quoted_closes text end _ _ inside c.quoted_end.ensures.bare here
           (c.quoted_end.ensures.stays _ _
-          (quote_opens text l.at l.ahead l.invariant.seen _ (omega arith) refl _ _ c.ones_below-equals-in-loop-ahead.ensures
-          c.ones_below-commas-in-loop-ahead.ensures l.equals l.commas l.invariant.plain c.if-text-end-eq10.false c.if-commas-equals.true));
+          (quote_opens was.seen (omega arith) refl c.ones_below-equals-in-loop-ahead.ensures c.ones_below-commas-in-loop-ahead.ensures
+          c.loop-ahead.equals c.loop-ahead.commas was.plain c.if-text-end-eq10.false c.if-commas-equals.true));
       seen = c.quoted_end.ensures.later inside here;
-      counts = (omega (arith, few.0, l.invariant.counts.0), omega (arith, few.1, l.invariant.counts.1));
+      counts = (omega (arith, few.0, was.counts.0), omega (arith, few.1, was.counts.1));
     }
 
 pub loop-ahead-preserved : goal.loop-ahead-preserved
 loop-ahead-preserved c =
-    let text = c.args.text.now in
-    let l = c.loop-ahead in
-    let seen = l.invariant.seen in
-    let few = few_to text l.at l.ahead seen _ (omega arith) refl _ _ c.ones_below-equals-in-loop-ahead.ensures
-    c.ones_below-commas-in-loop-ahead.ensures in
+    let was = c.loop-ahead.invariant in
+    let few = few_to was.seen (omega arith) refl c.ones_below-equals-in-loop-ahead.ensures c.ones_below-commas-in-loop-ahead.ensures in
     record {
-      within = omega (arith, stop_within text l.at l.ahead seen _ (omega arith) refl);
-      is_bare = bare_after text l.at l.ahead seen _ (omega arith) refl;
-      plain = quote_stays text l.at l.ahead seen _ (omega arith) refl _ _ c.ones_below-equals-in-loop-ahead.ensures
-          c.ones_below-commas-in-loop-ahead.ensures l.equals l.commas l.invariant.plain c.if-text-end-eq10.false c.if-commas-equals.false;
-      seen = rw c.seen_past-ahead.ensures (seen_after text l.at l.ahead seen _ (omega arith) refl);
-      counts = (omega (arith, few.0, l.invariant.counts.0), omega (arith, few.1, l.invariant.counts.1));
+      within = omega (arith, stop_within was.seen (omega arith) refl);
+      is_bare = bare_after was.seen (omega arith) refl;
+      plain = quote_stays was.seen (omega arith) refl c.ones_below-equals-in-loop-ahead.ensures c.ones_below-commas-in-loop-ahead.ensures _ _
+          was.plain c.if-text-end-eq10.false c.if-commas-equals.false;
+      seen = rw c.seen_past-ahead.ensures (seen_after was.seen (omega arith) refl);
+      counts = (omega (arith, few.0, was.counts.0), omega (arith, few.1, was.counts.1));
     }

@@ -1,7 +1,7 @@
 use Rattle.std.proofs.Common.{◌==◌, ◌∙◌, ℕ, ◌+◌, ap₂, sym, arith}
-use Rattle.std.proofs.lemmas.List.{take_rest}
+use Rattle.std.proofs.lemmas.List.{take_rest, Sums.sum_by-take-drop}
 use Rattle.lp_format.specs.format.{newline}
-use Rattle.lp_split.proofs.lemmas.split.SplitSearches.{count_load, count_whole, load_at_most}
+use Rattle.lp_split.proofs.lemmas.split.SplitSearches.{count_load, load_at_most}
 use Rattle.lp_split.proofs.split.newlines_in.Goals as goal
 
 pub loop-at-preserved : goal.loop-at-preserved
@@ -17,4 +17,4 @@ loop-at-preserved c =
     )
 
 pub returns-clause-value : goal.returns-clause-value
-returns-clause-value c = grind (arith, take_rest, count_whole)
+returns-clause-value c = grind (arith, take_rest, sum_by-take-drop)

@@ -21,7 +21,7 @@ returns-then-ahead-eq0-clause-leads c =
 
 pub returns-then-ahead-eq0-clause-few : goal.returns-then-ahead-eq0-clause-few
 returns-then-ahead-eq0-clause-few c =
-    let few = few_past c.args.text.now 0 c.load_ahead-ahead.result c.load_ahead-ahead.ensures.seen _ _ c.ones_below.ensures
+    let few = few_past c.load_ahead-ahead.ensures.seen c.ones_below.ensures
     c.ones_below-then-ahead-eq0.ensures in
     (omega (arith, few.0), omega (arith, few.1))
 
@@ -31,7 +31,7 @@ returns-clause-leads c =
     let text = c.args.text.now in
     let a = c.load_ahead-ahead.result in
     let seen = c.load_ahead-ahead.ensures.seen in
-    let run_bare = bare_to text 0 a seen _ (omega arith) refl in
+    let run_bare = bare_to seen (omega arith) refl in
     line_goes_on p _ Plain (take _ text) c.requires.plain c.requires.plain c.requires.is_bare c.requires.is_bare
     (subst (λ (k : ℕ). IsBareAfter (take k text)) (omega arith) run_bare)
     (λ bytes is_bare h. plain_bytes_to bytes text is_bare a seen p.equals p.commas _ _ h _ (omega arith) refl c.ones_below-2.ensures
@@ -39,6 +39,6 @@ returns-clause-leads c =
 
 pub returns-clause-few : goal.returns-clause-few
 returns-clause-few c =
-    let few = few_to c.args.text.now 0 c.load_ahead-ahead.result c.load_ahead-ahead.ensures.seen _ (omega arith) refl _ _
+    let few = few_to c.load_ahead-ahead.ensures.seen (omega arith) refl
     c.ones_below-2.ensures c.ones_below-3.ensures in
     (omega (arith, few.0), omega (arith, few.1))
