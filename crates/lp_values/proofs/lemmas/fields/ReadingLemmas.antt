@@ -1,13 +1,13 @@
 -- What comes after a reading ends the text.
 use Rattle.std.proofs.lemmas.{Grind.common_steps, Grind.merely, Bool.eqb-false, Str.IsCharBoundary-after_ascii}
 use Rattle.std.proofs.Common.{to_z-of_z, ◌<◌, ◌-◌, ◌+◌, length, codes, slice_index, IsCharBoundary, IsUtf8, length-take}
-use Rattle.lp_format.proofs.lemmas.literals.FloatLemmas.{signed_front}
+use Rattle.lp_format.proofs.lemmas.literals.FloatLemmas.{float_fills, float_whole, signed_front}
 use Rattle.lp_format.proofs.lemmas.values.ValueLemmas.{fits_from_test, integer_overflows, integer_reads, letter_boundary, boolean_reads}
 use Rattle.lp_format.proofs.lemmas.values.ValueForms.{no_number, float_is, unsigned_is, number_form, string_form, boolean_form}
 use Rattle.lp_format.proofs.lemmas.values.ValueLemmas.{integer_decides, front_numeral, unsigned_overflows, unsigned_reads, boolean_misses}
 use Rattle.lp_format.proofs.lemmas.literals.FloatLemmas.{integer_len_fits, float_misses, float_reads, float_len_float}
 use Rattle.std.proofs.Common.{◌≡◌, ℕ, List, [], ◌∷◌, ◌++◌, take, drop, sym, ◌∙◌, ap, refl, append_assoc, arith, eqb-true, take-append-drop, rules}
-use Rattle.std.proofs.lemmas.Bool.{cases_Bool}
+use Rattle.std.proofs.lemmas.{Bool.cases_Bool, Str.IsCharBoundary-start}
 use Rattle.lp_format.specs.format.{comma, equals, Text, Read, Reading, reads, ◌>>=◌, NameKind, name, a_tag_key, a_tag_value, escapable}
 use Rattle.lp_format.specs.format.{spelled, spelled_len, read_text, Pair, byte, key_value, tag, after_comma, IsSigned, integer_len}
 
@@ -122,7 +122,10 @@ pub ruleset boolean_steps = (common_steps, boolean_misses, boolean_reads, IsChar
 pub ruleset value_forms = (common_steps, number_form, string_form, boolean_form)
 
 -- how long a float at the start of a text is
-pub ruleset float_len_steps = (common_steps, integer_len_fits, rules)
+pub ruleset float_len_steps = (common_steps, integer_len_fits, IsCharBoundary-start, rules)
 
 -- what a float at the start of a text reads
 pub ruleset float_steps = (common_steps, merely, float_misses, float_reads, float_len_float)
+
+-- whether a whole text is a float
+pub ruleset whole_float_steps = (common_steps, merely, float_fills, float_whole)
