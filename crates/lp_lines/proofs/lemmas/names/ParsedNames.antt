@@ -3,6 +3,7 @@ use Rattle.std.proofs.Common.{◌≡◌, ◌≢◌, ℕ, List, [], ◌∷◌, dr
 use Rattle.std.proofs.Common.{inr, Option, Ok, Result, ℤ, Contains, eqb-true}
 use Rattle.std.specs.List.{AllByRecursion}
 use Rattle.std.proofs.lemmas.{Bool.cases_Bool, Bool.or_parts, Bool.eqb-false, List.Elements.Contains-append_cases}
+use Rattle.std.proofs.lemmas.List.Elements.{All-contains, All-from_recursion}
 use Rattle.lp_format.specs.format.{Dialect, Strict, Fault, Text, reads, NameKind, a_measurement, a_tag_key, a_tag_value, a_field_key, name}
 use Rattle.lp_format.specs.format.{Value, Pair, Point, Tag, Line, point_of, logical_tag, logical_field, some_tags, tag, field}
 use Rattle.lp_format.specs.format.{tag_set, field_set, spaces, timestamp, front_before, answer, HasAnswers, answers_of_piece, answers_of}
@@ -113,11 +114,6 @@ left_begins in_comment (b ∷ rest) = grind (arith, cases_Bool, or_parts, eqb-fa
 pub nothing_in_nil : {X : Type 0} (x : X) → Contains [] x → ⊥
 nothing_in_nil x h = omega (arith, h.1)
 
--- what holds of all holds of each
-all_of : {X : Type 0} (P : X → Type 0) (xs : List X) (x : X) → AllByRecursion P xs → Contains xs x → P x
-all_of P [] x all h = absurd (nothing_in_nil x h)
-all_of P (y ∷ xs) x all h = elim (first_or_later y x xs h) [ inl same ↦ subst P same all.0 | inr later ↦ all_of P xs x all.1 later ]
-
 -- what each made element has from what it is made of
 pub all_made : {X Y : Type 0} (P : X → Type 0) (Q : Y → Type 0) (make : X → Y) → ((x : X) → P x → Q (make x)) → (xs : List X)
     → AllByRecursion P xs → AllByRecursion Q (map make xs)
@@ -187,5 +183,7 @@ answers_parsed dialect text answers line has here =
 
 -- and its names
 pub names_are_parsed : NamesAreParsed
-names_are_parsed dialect text answers line kind n has here named = all_of (IsParsedName kind) (names_of kind (point_of line)) n
-    (point_names kind (point_of line) (answers_parsed dialect text answers line has here)) named
+names_are_parsed dialect text answers line kind n has here named =
+    let names = names_of kind (point_of line) in
+    let all = point_names kind (point_of line) (answers_parsed dialect text answers line has here) in
+    All-contains (IsParsedName kind) names n (All-from_recursion (IsParsedName kind) names all) named

@@ -1,16 +1,19 @@
 -- The line of an admitted point is a piece that a newline ends.
-use Rattle.std.proofs.Common.{◌≡◌, ◌≢◌, ℕ, ◌+◌, ◌^◌, ◌<◌, ◌≤◌, List, [], ◌∷◌, ◌++◌, length, Bool, true, false, refl, sym, ap, ◌∙◌, subst}
-use Rattle.std.proofs.Common.{arith, inl, inr, append_assoc, Option, Some, None, ℤ, not, codes, decimal, IfSome, flat_map, eqb-true}
-use Rattle.std.specs.{List.AllByRecursion, List.list_all, Fmt.signed_decimal, Str.Parse.AllDigits, Str.Parse.IsNumeral}
-use Rattle.std.proofs.lemmas.Bool.{cases_Bool, and_parts, and_from, or_cases, false≢true}
-use Rattle.std.proofs.lemmas.{Grind.common_steps, Fmt.decimal_is_IsNumeral, Str.Parse.digit_from_value, List.Folds.list_all-append}
+use Rattle.std.proofs.Common.{◌≡◌, ◌≢◌, ℕ, ◌+◌, ◌^◌, ◌<◌, List, [], ◌∷◌, ◌++◌, length, Bool, true, false, refl, sym, ap, ◌∙◌, subst}
+use Rattle.std.proofs.Common.{get_or, arith, inl, inr, append_assoc, Option, Some, None, ℤ, not, codes, decimal, IfSome, flat_map}
+use Rattle.std.specs.{List.AllByRecursion, List.list_all, Fmt.signed_decimal}
+use Rattle.std.proofs.lemmas.Bool.{cases_Bool, and_parts, and_from}
+use Rattle.std.proofs.lemmas.List.Sums.{AllPass-from_list_all, list_all-from_AllPass}
+use Rattle.std.specs.List.{AllPass}
+use Rattle.std.proofs.lemmas.{Grind.common_steps, Fmt.decimal_is_IsNumeral, List.Folds.list_all-append}
 use Rattle.lp_split.specs.code.{Head, Plain, Quoted}
 use Rattle.lp_split.proofs.lemmas.split.SplitWalk.{Plain-equals, Plain-comma, Plain-opens, Plain-other, Quoted-closes, Quoted-other}
 use Rattle.lp_format.specs.format.{Dialect, backslash, is_one_of, newline, quote, escaped, a_measurement, a_tag_key, a_tag_value}
-use Rattle.lp_format.specs.format.{a_field_key, Value, integer, unsigned, float, string, boolean, quotable, fits_i64, IsSigned, IsMarked}
-use Rattle.lp_format.specs.format.{IsFloat, Point, IsPoint, Tag, Field, IsValue, is_admitted_tag, is_admitted_field, is_admitted_point}
+use Rattle.lp_format.specs.format.{a_field_key, Value, integer, unsigned, float, string, boolean, quotable, fits_i64}
+use Rattle.lp_format.specs.format.{Point, IsPoint, Tag, Field, IsValue, is_admitted_tag, is_admitted_field, is_admitted_point}
 use Rattle.lp_format.specs.format.{line_of, built_tag, built_field, built_fields, built_timestamp, built_value, spelling, is_admitted_name}
 use Rattle.lp_format.specs.format.{IsCutPiece, begins_comment, Bytes.comma, Bytes.equals, Bytes.letter_i, Bytes.letter_u, Bytes.space}
+use Rattle.lp_format.proofs.lemmas.{literals.FloatLemmas.digits_float, literals.FloatLemmas.float_bytes, literals.FloatLemmas.in_float}
 use Rattle.lp_format.proofs.lemmas.values.ValueLemmas.{fits_from_test}
 use Rattle.lp_lines.proofs.lemmas.names.Spellings.{Leads, leads_by_none, leads_then, turns, reaches_gap, reaches_other, Reaches}
 use Rattle.lp_lines.proofs.lemmas.names.Spellings.{reaches_start, ChangesNothing, reaches_byte, reaches_pair, admitted_spelled}
@@ -43,45 +46,22 @@ reaches_simple e c (b ∷ text) piece all r =
     leads_then (Reaches Plain e c) (b ∷ []) text (reaches_byte Plain e c b (simple_same e c b parts.0))
     (λ q h. reaches_simple e c text q parts.1 h) piece r
 
--- numbers are simple
-simple_digit : (b : ℕ) → 48 ≤ b → b ≤ 57 → is_simple b ≡ true
-simple_digit b least most = grind (arith, common_steps)
-
--- so are digits
-simple_digits : (ds : List ℕ) → AllDigits 10 ds → IsSimple ds
-simple_digits [] all = refl
-simple_digits (d ∷ ds) all = grind (arith, digit_from_value, and_from, simple_digit, simple_digits ds)
+-- a text of bytes that a float can hold is simple
+simple_number : (text : List ℕ) → AllPass in_float text → IsSimple text
+simple_number text all = list_all-from_AllPass is_simple text (λ i d within. simple_byte (get_or text i d) (all i d within))
+  where
+    -- such a byte is simple
+    simple_byte : (b : ℕ) → in_float b ≡ true → is_simple b ≡ true
+    simple_byte b held = grind (arith, common_steps)
 
 -- the decimal text of a number
 simple_decimal : (n : ℕ) → n < 2 ^ 64 → IsSimple (decimal n)
-simple_decimal n fits = simple_digits (decimal n) (decimal_is_IsNumeral n fits).0.1
+simple_decimal n fits =
+    simple_number (decimal n) (AllPass-from_list_all in_float (decimal n) (digits_float (decimal n) (decimal_is_IsNumeral n fits).0.1))
 
 -- and that of a signed one
 simple_signed : (z : ℤ) → fits_i64 z ≡ true → IsSimple (signed_decimal z)
 simple_signed n fits = grind (arith, fits_from_test, simple_decimal, and_from)
-
--- a byte of a simple text
-simple_one : (text : List ℕ) (b : ℕ) → IsSimple text → is_one_of text b ≡ true → is_simple b ≡ true
-simple_one [] b all h = absurd (false≢true h)
-simple_one (c ∷ text) b all h = grind (arith, and_parts, or_cases, eqb-true, simple_one text b)
-
--- a sign or none, and digits
-simple_sign : (signs : List ℕ) (ds : List ℕ) → IsSimple signs → IsSigned signs ds → IsSimple ds
-simple_sign signs ds of never = grind (arith, and_from, simple_one, simple_digits)
-
--- a mark and a part, or nothing
-simple_mark : (marks : List ℕ) (Part : List ℕ → Type 0) (text : List ℕ) → IsSimple marks
-    → ((x : List ℕ) → Part x → IsSimple x) → IsMarked marks Part text → IsSimple text
-simple_mark marks p x of part marked = grind (arith, and_from, simple_one)
-
--- and floats
-simple_float : (t : List ℕ) → IsFloat t → IsSimple t
-simple_float t parts = subst IsSimple (sym parts.3)
-    (IsSimple-append parts.0 (parts.1 ++ parts.2) (simple_sign (codes "-") parts.0 refl parts.4)
-    (IsSimple-append parts.1 parts.2
-    (simple_mark (codes ".") (IsNumeral 10) parts.1 refl (λ x numeral. simple_digits x numeral.1) parts.5)
-    (simple_mark (codes "eE") (IsSigned (codes "+-")) parts.2 refl
-    (λ x signed. simple_sign (codes "+-") x refl signed) parts.6)))
 
 -- a byte of a string, with a backslash or without
 reaches_quotable : (e c : ℕ) (s : List ℕ) → Leads (Reaches Quoted e c) (Reaches Quoted e c) (escaped quotable s)
@@ -115,7 +95,7 @@ reaches_value m (integer z) piece fits r =
     reaches_simple (m + 1) m (built_value (integer z)) piece (IsSimple-append (signed_decimal z) (letter_i ∷ []) (simple_signed z fits) refl) r
 reaches_value m (unsigned n) piece fits r =
     reaches_simple (m + 1) m (built_value (unsigned n)) piece (IsSimple-append (decimal n) (letter_u ∷ []) (simple_decimal n fits) refl) r
-reaches_value m (float t) piece ok r = reaches_simple (m + 1) m t piece (simple_float t ok) r
+reaches_value m (float t) piece ok r = reaches_simple (m + 1) m t piece (simple_number t (float_bytes t ok)) r
 reaches_value m (string s) piece ok r = reaches_string m s piece r
 reaches_value m (boolean true) piece ok r = reaches_simple (m + 1) m (codes "true") piece refl r
 reaches_value m (boolean false) piece ok r = reaches_simple (m + 1) m (codes "false") piece refl r
