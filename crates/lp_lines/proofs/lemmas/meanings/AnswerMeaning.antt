@@ -124,22 +124,18 @@ module _ (dialect : Dialect) (text : List ℕ) where
   SomeRow = (a : Result Line Fault) × IsAnswer dialect text a
 
   -- once all fields are read
-  by_stamp : (line : Option ℤ → Line) (rest : List ℕ) → ((t : Option ℤ) → ReadsFields dialect text (line t) rest)
-      → ((t : Option ℤ) → (line t).timestamp ≡ t)
-      → (r : Result (Read (Option ℤ)) Fault) → timestamp rest ≡ r → SomeRow
-  by_stamp line rest h same (Err e) stamp =
+  by_stamp : (series : List ℕ) (m : Text) (tags : Option (List (Pair Text Text))) (fields : List (Pair Text (Value Text))) (rest : List ℕ)
+      → (let line : Option ℤ → Line = λ t. record { series = series; measurement = m; tags = tags; fields = fields; timestamp = t } in
+      ((t : Option ℤ) → ReadsFields dialect text (line t) rest) → (r : Result (Read (Option ℤ)) Fault) → timestamp rest ≡ r → SomeRow)
+  by_stamp series m tags fields rest h (Err e) stamp =
       let f = stamp_fault rest e stamp in
-      (Err (timestamp_value_invalid f.0 f.1), fatal_timestamp (line None) rest f.0 f.1 (h None) (stamp ∙ ap Err f.2))
-  by_stamp line rest h same (Ok r) stamp = whole r.value r.rest stamp
+      (Err (timestamp_value_invalid f.0 f.1), fatal_timestamp _ rest f.0 f.1 (h None) (stamp ∙ ap Err f.2))
+  by_stamp series m tags fields rest h (Ok r) stamp = whole r.value r.rest stamp
     where
       -- a line with each of its parts has a row in the table of answers
       whole : (t : Option ℤ) (last : List ℕ) → timestamp rest ≡ Ok (record { value = t; rest = last }) → SomeRow
-      whole t [] e =
-          (Ok (line t), all_read (line t) rest (h t) (e ∙ ap (λ (u : Option ℤ). Ok (record { value = u; rest = [] })) (sym (same t))))
-      whole t (b ∷ more) e = (
-        Err (cannot_parse_entire_line (b ∷ more)),
-        left (line t) rest b more (h t) (e ∙ ap (λ (u : Option ℤ). Ok (record { value = u; rest = b ∷ more })) (sym (same t))),
-      )
+      whole t [] e = (Ok _, all_read _ rest (h t) e)
+      whole t (b ∷ more) e = (Err (cannot_parse_entire_line (b ∷ more)), left _ rest b more (h t) e)
 
   -- once a series is read and a space follows it
   by_fields : (series : List ℕ) (m : Text) (tags : Option (List (Pair Text Text))) (after : List ℕ) → text ≡ series ++ after
@@ -154,8 +150,7 @@ module _ (dialect : Dialect) (text : List ℕ) where
       (Err d, fatal_field m tags after f.0 f.1 d h gap f.2 f.3)
   by_fields series m tags after is h gap (reads fields last) e =
       let rest = without_comma dialect fields last in
-      by_stamp (λ t. record { series = series; measurement = m; tags = tags; fields = fields; timestamp = t }) rest
-      (λ t. record {
+      by_stamp series m tags fields rest (λ t. record {
         after_series = after;
         series_is = is;
         series_reads = h;
@@ -163,8 +158,7 @@ module _ (dialect : Dialect) (text : List ℕ) where
         after_fields = last;
         fields_read = (the_most_is_read field (λ t. (field_no_longer t).holds) (after_spaces after) fields last).0 e;
         rest_is = refl;
-      })
-      (λ t. refl) (timestamp rest) refl
+      }) (timestamp rest) refl
 
   -- once a series is read
   by_series : (m : Text) (tags : Option (List (Pair Text Text))) (after : List ℕ) → ReadsSeries text m tags after → SomeRow

@@ -21,16 +21,16 @@ use Rattle.lp_lines.proofs.lemmas.read_back.LineReadsBack.{front_is}
 use Rattle.lp_values.proofs.lemmas.fields.ReadingLemmas.{pair_parts}
 use Rattle.lp_format.proofs.lemmas.lists.Elements.{first_or_later}
 
--- the names of a tag, and that of a field
-abbrev ParsedTag : Pair Text Text → Type 0
-ParsedTag t = IsParsedName a_tag_key t.key.bytes × IsParsedName a_tag_value t.value.bytes
+-- both names of a tag are parsed names
+abbrev pub HasParsedNames : Tag → Type 0
+HasParsedNames t = IsParsedName a_tag_key t.key × IsParsedName a_tag_value t.value
 
 -- the key of a field is a parsed name
 abbrev ParsedField : Pair Text (Value Text) → Type 0
 ParsedField f = IsParsedName a_field_key f.key.bytes
 
 -- the names of each tag that is read
-tag_parsed : (line : List ℕ) (t : Pair Text Text) (rest : List ℕ) → tag line ≡ reads t rest → ParsedTag t
+tag_parsed : (line : List ℕ) (t : Pair Text Text) (rest : List ℕ) → tag line ≡ reads t rest → HasParsedNames (logical_tag t)
 unfolding tag
 tag_parsed line t rest h = grind (arith, pair_parts, name_parsed)
 
@@ -45,8 +45,8 @@ ok_same x y h = cc
 
 -- the tags of a set
 tag_set_parsed : (line rest : List ℕ) (ts : Option (List (Pair Text Text)))
-    → tag_set line ≡ Ok (record { value = ts; rest = rest }) → AllByRecursion ParsedTag (some_tags ts)
-tag_set_parsed line rest ts h = after_all ParsedTag tag tag_parsed (some_tags ts) line rest (set_separated line rest ts h)
+    → tag_set line ≡ Ok (record { value = ts; rest = rest }) → AllByRecursion (λ t. HasParsedNames (logical_tag t)) (some_tags ts)
+tag_set_parsed line rest ts h = after_all (λ t. HasParsedNames (logical_tag t)) tag tag_parsed (some_tags ts) line rest (set_separated line rest ts h)
 
 -- the fields
 field_set_parsed : (dialect : Dialect) (line rest : List ℕ) (fs : List (Pair Text (Value Text)))
@@ -120,14 +120,10 @@ pub all_made : {X Y : Type 0} (P : X → Type 0) (Q : Y → Type 0) (make : X �
 all_made P Q make part [] all = tt
 all_made P Q make part (x ∷ xs) all = (part x all.0, all_made P Q make part xs all.1)
 
--- both names of a tag are parsed names
-abbrev HasParsedNames : Tag → Type 0
-HasParsedNames t = IsParsedName a_tag_key t.key × IsParsedName a_tag_value t.value
-
 -- a point whose names are all parsed names
 pub record ParsedPoint (p : Point) : Type 0 where
   pub measurement : IsParsedName a_measurement p.measurement
-  pub tags : AllByRecursion (λ t. IsParsedName a_tag_key t.key × IsParsedName a_tag_value t.value) p.tags
+  pub tags : AllByRecursion HasParsedNames p.tags
   pub fields : AllByRecursion (λ f. IsParsedName a_field_key f.key) p.fields
 
 -- the point of each line that is answered
@@ -137,7 +133,7 @@ line_parsed dialect text line begins h =
     let parts = answer_parts dialect text line h in
     record {
       measurement = name_parsed a_measurement text parts.measurement_rest line.measurement parts.measurement begins;
-      tags = all_made ParsedTag HasParsedNames logical_tag (λ t h. h) (some_tags line.tags)
+      tags = all_made (λ t. HasParsedNames (logical_tag t)) HasParsedNames logical_tag (λ t h. h) (some_tags line.tags)
           (tag_set_parsed parts.measurement_rest parts.tags_rest line.tags parts.tags);
       fields = all_made ParsedField (λ f. IsParsedName a_field_key f.key) logical_field (λ f h. h) line.fields
           (field_set_parsed dialect (drop (spaces parts.tags_rest) parts.tags_rest) parts.fields_rest line.fields parts.fields);

@@ -1,7 +1,8 @@
 -- Names by any of their spellings: a reader reads each back, and a splitter that is within a stretch stays within it.
 use Rattle.std.proofs.Common.{◌≡◌, ◌≢◌, ℕ, List, [], ◌∷◌, ◌++◌, true, false, refl, ap, subst, append_assoc, ◌<◌, length, drop, slice_index}
-use Rattle.std.proofs.Common.{Bool, ◌||◌, sym, ◌∙◌, arith, inl, inr, append-nil, ◌==◌, eqb-true, ne_eqb, take_at, drop_at}
+use Rattle.std.proofs.Common.{◌||◌, sym, ◌∙◌, arith, inl, inr, append-nil, ◌==◌, eqb-true, ne_eqb, take_at, drop_at}
 use Rattle.std.proofs.lemmas.{List.Elements.All-nil, Bool.cases_Bool, Bool.false≢true, Bool.and_parts, Bool.and_right, Grind.common_steps}
+use Rattle.std.proofs.Math.Bool.{or-false}
 use Rattle.std.specs.List.{list_all}
 use Rattle.lp_format.specs.format.{IsBareAfter, escaped, without_escapes, NameKind, a_measurement, a_field_key}
 use Rattle.lp_format.specs.format.{is_escapable, ends_in_backslash, escapable, is_stop, logical, name, read_text, spelled, spelled_len}
@@ -99,10 +100,6 @@ never_stops kind c h = grind (arith, common_steps)
 never_backslash : (kind : NameKind) (c : ℕ) → is_one_of (never_in kind) c ≡ true → (c == backslash) ≡ false
 never_backslash kind c h = grind (arith, ne_eqb, false≢true, never_unescapable, escapable_backslash)
 
--- the test of a byte with nothing before it
-may_alone : (m : Bool) → (m || false) ≡ true → m ≡ true
-may_alone x0 h = grind (arith, false≢true)
-
 -- a name with a byte at the start that may be bare
 spelled_more : (kind : NameKind) (b : ℕ) (n : List ℕ) → may_hold kind b ≡ true → (s : List ℕ) × SpelledAs kind n s
     → (s : List ℕ) × SpelledAs kind (b ∷ n) s
@@ -114,10 +111,10 @@ spelled_more kind b n may more = elim (cases_Bool (is_escapable kind b)) [
 -- each parsed name has a spelling
 pub spelled_as : (kind : NameKind) (n : List ℕ) → is_kept kind false n ≡ true → (s : List ℕ) × SpelledAs kind n s
 spelled_as kind [] h = ([], done)
-spelled_as kind (b ∷ []) h = spelled_more kind b [] (may_alone (may_hold kind b) (and_parts (may_hold kind b || false) true h).0) ([], done)
+spelled_as kind (b ∷ []) h = spelled_more kind b [] (rw or-false at ((and_parts (may_hold kind b || false) true h).0)) ([], done)
 spelled_as kind (b ∷ c ∷ n) h =
     let parts = and_parts (may_hold kind b || false) (is_kept kind (b == backslash) (c ∷ n)) h in
-    let may = may_alone (may_hold kind b) parts.0 in
+    let may : may_hold kind b ≡ true = rw or-false at parts.0 in
     elim (cases_Bool (b == backslash)) [
       | inl e ↦
           let after = and_parts (may_hold kind c || (b == backslash)) (is_kept kind (c == backslash) n) parts.1 in
@@ -267,9 +264,8 @@ reaches_head {kind = kind} h = reaches_spelled Head 0 0 (λ b may other.
     (no_backslash kind b other, λ q f i. Head-other 0 0 q b f (no_space kind b other) (no_newline kind b may) i)) h
 
 -- a name in the head
-pub reaches_name : (kind : NameKind) (n piece : List ℕ) → is_admitted_name kind n ≡ true → Reaches Head 0 0 piece
-    → Reaches Head 0 0 (piece ++ spelling kind n)
-reaches_name kind n piece ok r = reaches_head (admitted_spelled kind n ok) piece r
+pub reaches_name : (kind : NameKind) (n : List ℕ) → is_admitted_name kind n ≡ true → Leads (Reaches Head 0 0) (Reaches Head 0 0) (spelling kind n)
+reaches_name kind n ok = reaches_head (admitted_spelled kind n ok)
 
 -- a byte that means nothing there
 pub reaches_other : (b : ℕ) → b ≢ backslash → b ≢ space → b ≢ newline → Leads (Reaches Head 0 0) (Reaches Head 0 0) (b ∷ [])
@@ -284,13 +280,9 @@ reaches_gap = turns Head 0 0 Plain 0 0 space (omega arith) (Head-space 0 0)
 pub reaches_field_key : (m : ℕ) {n s : List ℕ} → SpelledAs a_field_key n s → Leads (Reaches Plain m m) (Reaches Plain m m) s
 reaches_field_key m h = reaches_spelled Plain m m (λ b may other. (
   no_backslash a_field_key b other,
-  λ q f i. Plain-other m m q b f (no_equals b other) (no_comma b other) (no_newline a_field_key b may) (λ _. omega arith) i,
+  λ q f i. Plain-other m m q b f (apart b equals other refl) (apart b comma other refl) (no_newline a_field_key b may) (λ _. omega arith) i,
 )) h
   where
-    -- a byte that a field key does not escape is no `=`
-    no_equals : (b : ℕ) → is_escapable a_field_key b ≡ false → b ≢ equals
-    no_equals b other = λ e. let h : is_escapable a_field_key b ≡ true = ap (is_escapable a_field_key) e in cc
-
-    -- a byte that a field key does not escape is no `,`
-    no_comma : (b : ℕ) → is_escapable a_field_key b ≡ false → b ≢ comma
-    no_comma b other = λ e. let h : is_escapable a_field_key b ≡ true = ap (is_escapable a_field_key) e in cc
+    -- a byte that a field key does not escape is none that it does
+    apart : (b k : ℕ) → is_escapable a_field_key b ≡ false → is_escapable a_field_key k ≡ true → b ≢ k
+    apart b k other known = λ e. cc (other, known, ap (is_escapable a_field_key) e)
