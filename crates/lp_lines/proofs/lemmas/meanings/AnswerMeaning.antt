@@ -27,18 +27,10 @@ name_fault : (kind : NameKind) (text : List ℕ) → FailsByBackslash (name kind
 unfolding name
 name_fault kind text e h = grind (arith, cases_Bool)
 
--- a byte has none
-byte_fault : (b : ℕ) (text : List ℕ) → FailsByBackslash (byte b text)
-byte_fault b rest e m = grind (arith, cases_Bool)
-
--- nor what is read
-reads_fault : {A : Type 0} (x : A) (rest : List ℕ) → FailsByBackslash (reads x rest)
-reads_fault x rest e m = absurd (cc)
-
 -- of a tag
 tag_fault : (text : List ℕ) → FailsByBackslash (tag text)
 unfolding tag
-tag_fault text = grind (arith, name_fault, byte_fault, reads_fault)
+tag_fault text = grind (arith, cases_Bool, name_fault)
 
 -- so of the next tag
 next_tag_fault : (tags : List (Pair Text Text)) (rest : List ℕ) (e : Fault) → NextHasFault tag tags rest e → e ≡ ends_with_backslash

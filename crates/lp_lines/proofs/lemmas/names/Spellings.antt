@@ -63,13 +63,9 @@ ChangesNothing part e c b = (b ≢ backslash) × ((q : List ℕ) → IsBareAfter
 pub reaches_byte : (part : Part) (e c b : ℕ) → ChangesNothing part e c b → Leads (Reaches part e c) (Reaches part e c) (b ∷ [])
 reaches_byte part e c b same = turns part e c part e c b same.0 same.1
 
--- a name holds no newline, and its spaces and backslashes are escaped
-newline_never : (kind : NameKind) → may_hold kind newline ≡ false
-newline_never kind = grind (arith, common_steps)
-
--- so its bare bytes are none of these
+-- a byte that a name may hold bare is no newline
 pub no_newline : (kind : NameKind) (b : ℕ) → may_hold kind b ≡ true → b ≢ newline
-no_newline kind b may = λ e. cc (may, newline_never kind, ap (may_hold kind) e)
+no_newline kind b may = grind (arith, common_steps)
 
 -- nor is one a backslash
 pub no_backslash : (kind : NameKind) (b : ℕ) → is_escapable kind b ≡ false → b ≢ backslash
@@ -145,14 +141,10 @@ abbrev pub Stops : NameKind → List ℕ → Type 0
 Stops kind [] = Unit {0}
 Stops kind (c ∷ rest) = is_stop kind c ≡ true
 
--- no byte of it belongs to the name
-stops_here : (kind : NameKind) (rest : List ℕ) → Stops kind rest → bare_len (is_stop kind) false rest ≡ 0
-stops_here kind rest ends = grind (arith)
-
 -- a spelling ends before it
 spelled_to : {kind : NameKind} {n s : List ℕ} → SpelledAs kind n s → (rest : List ℕ) → Stops kind rest
     → bare_len (is_stop kind) false (s ++ rest) ≡ length s
-spelled_to {kind = kind} done rest ends = stops_here kind rest ends
+spelled_to done rest ends = grind arith
 spelled_to {kind = kind} (escape b n s known more) rest ends = grind (arith, backslash_no_stop, spelled_to more rest ends)
 spelled_to {kind = kind} (plain b n s other may more) rest ends = grind (arith, stop_escapable, ne_eqb, no_backslash, spelled_to more rest ends)
 spelled_to {kind = kind} (pair c n s never more) rest
@@ -221,17 +213,12 @@ abbrev pub BeginsLine : List ℕ → Type 0
 BeginsLine [] = ⊥
 BeginsLine (b ∷ text) = is_one_of (hash ∷ space ∷ tab ∷ newline ∷ []) b ≡ false
 
--- the first byte of a measurement that may are there
-begins_plain : (b : ℕ) → is_escapable a_measurement b ≡ false → may_hold a_measurement b ≡ true → b ≢ hash
-    → is_one_of (hash ∷ space ∷ tab ∷ newline ∷ []) b ≡ false
-begins_plain b other may no_hash = grind (arith, common_steps)
-
 -- a measurement that begins with no `#` begins a line so
 pub spelled_begins : {n s : List ℕ} → SpelledAs a_measurement n s → 0 < length n → slice_index n 0 ≢ hash
     → (rest : List ℕ) → BeginsLine (s ++ rest)
 spelled_begins done some no_hash rest = absurd (omega (arith, some))
 spelled_begins (escape b n s known more) some no_hash rest = refl
-spelled_begins (plain b n s other may more) some no_hash rest = begins_plain b other may no_hash
+spelled_begins (plain b n s other may more) some no_hash rest = grind (arith, common_steps)
 spelled_begins (pair c n s never more) some no_hash rest = refl
 
 -- so does an admitted one
