@@ -40,10 +40,6 @@ number_before m k (d ∷ ds) = grind (arith, mul_assoc, pow-succ', number_before
 pub digits_after : (n : ℕ) (ds : List ℕ) → digits_value_after 10 n ds ≡ n * 10 ^ length ds + digits_value 10 ds
 digits_after n ds = rw add-zero at (number_before n 0 ds)
 
--- the value of a digit, from its byte
-pub digit_is : (d : ℕ) → digit_value d < 10 → digit_value d ≡ d - 48
-digit_is d small = let range = digit_from_value d small in omega (arith, digit_value_digit d range)
-
 -- the number with four digits more
 abbrev pub with_four : ℕ → List ℕ → ℕ
 with_four n ds = n * 10000 + (((get_or ds 0 0 - 48) * 10 + (get_or ds 1 0 - 48)) * 100 + ((get_or ds 2 0 - 48) * 10 + (get_or ds 3 0 - 48)))
@@ -56,7 +52,7 @@ four_more n [] some digits = absurd (omega arith)
 four_more n (a ∷ []) some digits = absurd (omega arith)
 four_more n (a ∷ (b ∷ [])) some digits = absurd (omega arith)
 four_more n (a ∷ (b ∷ (c ∷ []))) some digits = absurd (omega arith)
-four_more n (a ∷ (b ∷ (c ∷ (d ∷ ds)))) some (va, (vb, (vc, (vd, rest)))) = grind (arith, digit_is, digit_from_value)
+four_more n (a ∷ (b ∷ (c ∷ (d ∷ ds)))) some (va, (vb, (vc, (vd, rest)))) = grind (arith, digit_from_value, digit_value_digit)
 
 -- so the number so far is no greater than the whole one
 pub four_fit : (n : ℕ) (ds : List ℕ) → 4 ≤ length ds → AllDigits 10 ds → with_four n ds ≤ digits_value_after 10 n ds
