@@ -4,7 +4,7 @@ use Rattle.std.proofs.Common.{◌≡◌, ℕ, ◌<◌, List, [], ◌∷◌, leng
 use Rattle.std.proofs.Common.{length-append, length-drop, true, IfSome, le-leb, leb-true}
 use Rattle.std.proofs.lemmas.{Bool.and_parts, List.length-map}
 use Rattle.lp_format.specs.format.{Dialect, Fault, Text, Reading, miss, fatal, reads, Pair, Line, tag, separated_list, tag_set, answer}
-use Rattle.lp_format.specs.format.{field, field_set, some_tags, spaces, byte, comma, space, a_measurement, Value, Left}
+use Rattle.lp_format.specs.format.{field, some_tags, spaces, byte, comma, space, a_measurement, Left}
 use Rattle.lp_format.proofs.lemmas.names.Inversions.{prepend_parts, count_is_of_the_most}
 use Rattle.lp_format.specs.laws.Meanings.{SeparatedBy, SeparatedAfterComma}
 use Rattle.lp_format.proofs.lemmas.meanings.{JoinedMeaning.the_most_is_read, ShorterRests.tag_no_longer, ShorterRests.field_no_longer}
@@ -52,14 +52,6 @@ module _ {A : Type 0} (one : List ℕ → Reading A)
   room_of : (xs : List A) (text rest : List ℕ) → SeparatedBy one xs text rest → length xs ≤ length text + 1
   room_of xs text rest h = grind (arith, room_after)
 
--- the fields of a text
-field_room : (dialect : Dialect) (text rest : List ℕ) (fs : List (Pair Text (Value Text))) → field_set dialect text ≡ reads fs rest
-    → length fs ≤ length text + 1
-field_room dialect text rest fs h =
-    let joined = fields_joined dialect text rest fs h in
-    let full = (the_most_is_read field (λ t. (field_no_longer t).holds) text fs joined.0).0 joined.1 in
-    room_of field (λ t. (field_no_longer t).holds) fs text joined.0 full.longest.separated
-
 -- the tags and the fields of a line
 pub line_room : (dialect : Dialect) (text : List ℕ) (l : Line) → answer dialect text ≡ Ok l
     → length (some_tags l.tags) + length l.fields ≤ length text + 1
@@ -68,7 +60,10 @@ line_room dialect text l h =
     let front = name_ends a_measurement text l.measurement parts.measurement_rest parts.measurement in
     let separated = set_separated parts.measurement_rest parts.tags_rest l.tags parts.tags in
     let tags = room_after tag (λ t. (tag_no_longer t).holds) (some_tags l.tags) parts.measurement_rest parts.tags_rest separated in
-    let fields = field_room dialect (drop (spaces parts.tags_rest) parts.tags_rest) parts.fields_rest l.fields parts.fields in
+    let suffix = drop (spaces parts.tags_rest) parts.tags_rest in
+    let joined = fields_joined dialect suffix parts.fields_rest l.fields parts.fields in
+    let full = (the_most_is_read field (λ t. (field_no_longer t).holds) suffix l.fields joined.0).0 joined.1 in
+    let fields = room_of field (λ t. (field_no_longer t).holds) l.fields suffix joined.0 full.longest.separated in
     let after = length-drop (spaces parts.tags_rest) parts.tags_rest in
     omega (arith, ap length front.is, length-append front.front parts.measurement_rest, after)
 

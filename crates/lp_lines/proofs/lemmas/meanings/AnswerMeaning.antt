@@ -6,7 +6,7 @@ use Rattle.lp_format.specs.format.{Dialect, comma, space, Side, Fault, measureme
 use Rattle.lp_format.specs.format.{tag_set_malformed, take_while1, timestamp_value_invalid, cannot_parse_entire_line, Text, Read, Reading}
 use Rattle.lp_format.specs.format.{miss, fatal, reads, NameKind, a_measurement, name, Value, Pair, Line, byte, tag, field}
 use Rattle.lp_format.specs.format.{separated_list, tag_set, without_comma, timestamp, answer}
-use Rattle.lp_format.specs.laws.Meanings.{WholeList, NextHasFault}
+use Rattle.lp_format.specs.laws.Meanings.{WholeList}
 use Rattle.lp_format.specs.laws.MeaningsOfAnswers.{BeginsWith, after_spaces, ReadsSeries, ReadsSeries.alone, ReadsSeries.tagged}
 use Rattle.lp_format.specs.laws.MeaningsOfAnswers.{ReadsFields, IsAnswer, IsAnswer.fatal_measurement, IsAnswer.no_measurement}
 use Rattle.lp_format.specs.laws.MeaningsOfAnswers.{IsAnswer.fatal_tag, IsAnswer.no_tag, IsAnswer.no_space, IsAnswer.fatal_field}
@@ -31,10 +31,6 @@ name_fault kind text e h = grind (arith, cases_Bool)
 tag_fault : (text : List ℕ) → FailsByBackslash (tag text)
 unfolding tag
 tag_fault text = grind (arith, cases_Bool, name_fault)
-
--- so of the next tag
-next_tag_fault : (tags : List (Pair Text Text)) (rest : List ℕ) (e : Fault) → NextHasFault tag tags rest e → e ≡ ends_with_backslash
-next_tag_fault tags rest e h = grind (arith, tag_fault)
 
 -- the fault of a timestamp is that it is out of range
 stamp_fault : (text : List ℕ) (e : Fault) → timestamp text ≡ Err e → (side : Side) × (number : List ℕ)
@@ -87,7 +83,8 @@ module _ (dialect : Dialect) (text : List ℕ) where
   row_answers (no_measurement h) = rw h refl
   row_answers (fatal_tag m after tags rest e named most next) =
       let fault = (the_next_has_the_fault tag (λ t. (tag_no_longer t).holds) after e).1 (tags, rest, most, next) in
-      rw (named, fault) (ap Err (next_tag_fault tags rest e next))
+      let over : e ≡ ends_with_backslash = grind (arith, tag_fault) in
+      rw (named, fault) (ap Err over)
   row_answers (no_tag m after named h) = rw (named, h) refl
   row_answers (no_space m tags rest series gap) = let s = series_parts series in rw (s.named, s.set, no_byte space rest gap) refl
   row_answers (fatal_field m tags after fields rest e series gap most next) =

@@ -43,18 +43,6 @@ field_parsed line f rest h = grind (arith, pair_parts, name_parsed)
 pub ok_same : {A : Type 0} (x y : A) → (let f : Result A Fault = Ok x in f) ≡ Ok y → x ≡ y
 ok_same x y h = cc
 
--- the tags of a set
-tag_set_parsed : (line rest : List ℕ) (ts : Option (List (Pair Text Text)))
-    → tag_set line ≡ Ok (record { value = ts; rest = rest }) → AllByRecursion (λ t. HasParsedNames (logical_tag t)) (some_tags ts)
-tag_set_parsed line rest ts h = after_all (λ t. HasParsedNames (logical_tag t)) tag tag_parsed (some_tags ts) line rest (set_separated line rest ts h)
-
--- the fields
-field_set_parsed : (dialect : Dialect) (line rest : List ℕ) (fs : List (Pair Text (Value Text)))
-    → field_set dialect line ≡ reads fs rest → AllByRecursion ParsedField fs
-field_set_parsed dialect line rest fs h =
-    let joined = fields_joined dialect line rest fs h in
-    joined_of ParsedField field field_parsed (λ t. (field_no_longer t).holds) line joined.0 fs joined.1
-
 -- what the parts of an answer were read from
 pub record Parts (dialect : Dialect) (line : List ℕ) (l : Line) : Type 0 where
   pub measurement_rest : List ℕ
@@ -131,12 +119,15 @@ pub line_parsed : (dialect : Dialect) (text : List ℕ) (line : Line) → slice_
     → answer dialect text ≡ Ok line → ParsedPoint (point_of line)
 line_parsed dialect text line begins h =
     let parts = answer_parts dialect text line h in
+    let after = drop (spaces parts.tags_rest) parts.tags_rest in
+    let joined = fields_joined dialect after parts.fields_rest line.fields parts.fields in
     record {
       measurement = name_parsed a_measurement text parts.measurement_rest line.measurement parts.measurement begins;
       tags = all_made (λ t. HasParsedNames (logical_tag t)) HasParsedNames logical_tag (λ t h. h) (some_tags line.tags)
-          (tag_set_parsed parts.measurement_rest parts.tags_rest line.tags parts.tags);
+          (after_all (λ t. HasParsedNames (logical_tag t)) tag tag_parsed (some_tags line.tags) parts.measurement_rest parts.tags_rest
+          (set_separated parts.measurement_rest parts.tags_rest line.tags parts.tags));
       fields = all_made ParsedField (λ f. IsParsedName a_field_key f.key) logical_field (λ f h. h) line.fields
-          (field_set_parsed dialect (drop (spaces parts.tags_rest) parts.tags_rest) parts.fields_rest line.fields parts.fields);
+          (joined_of ParsedField field field_parsed (λ t. (field_no_longer t).holds) after joined.0 line.fields joined.1);
     }
 
 -- the names of such a point

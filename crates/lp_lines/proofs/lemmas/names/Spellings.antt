@@ -1,7 +1,7 @@
 -- Names by any of their spellings: a reader reads each back, and a splitter that is within a stretch stays within it.
 use Rattle.std.proofs.Common.{◌≡◌, ◌≢◌, ℕ, List, [], ◌∷◌, ◌++◌, true, false, refl, ap, subst, append_assoc, ◌<◌, length, drop, slice_index}
 use Rattle.std.proofs.Common.{◌||◌, sym, ◌∙◌, arith, inl, inr, append-nil, ◌==◌, eqb-true, ne_eqb, take_at, drop_at}
-use Rattle.std.proofs.lemmas.{List.Elements.All-nil, Bool.cases_Bool, Bool.false≢true, Bool.and_parts, Bool.and_right, Grind.common_steps}
+use Rattle.std.proofs.lemmas.{List.Elements.All-nil, Bool.cases_Bool, Bool.and_parts, Bool.and_right, Grind.common_steps}
 use Rattle.std.proofs.Math.Bool.{or-false}
 use Rattle.std.specs.List.{list_all}
 use Rattle.lp_format.specs.format.{IsBareAfter, escaped, without_escapes, NameKind, a_measurement, a_field_key}
@@ -92,10 +92,6 @@ never_unescapable kind c h = grind (arith, common_steps)
 pub never_stops : (kind : NameKind) (c : ℕ) → is_one_of (never_in kind) c ≡ true → is_stop kind c ≡ true
 never_stops kind c h = grind (arith, common_steps)
 
--- nor is it a backslash
-never_backslash : (kind : NameKind) (c : ℕ) → is_one_of (never_in kind) c ≡ true → (c == backslash) ≡ false
-never_backslash kind c h = grind (arith, ne_eqb, false≢true, never_unescapable, escapable_backslash)
-
 -- a name with a byte at the start that may be bare
 spelled_more : (kind : NameKind) (b : ℕ) (n : List ℕ) → may_hold kind b ≡ true → (s : List ℕ) × SpelledAs kind n s
     → (s : List ℕ) × SpelledAs kind (b ∷ n) s
@@ -116,7 +112,8 @@ spelled_as kind (b ∷ c ∷ n) h =
           let after = and_parts (may_hold kind c || (b == backslash)) (is_kept kind (c == backslash) n) parts.1 in
           elim (cases_Bool (is_one_of (never_in kind) c)) [
             | inl never ↦
-                let more = spelled_as kind n (rw (never_backslash kind c never) at after.1) in (
+                let other : (c == backslash) ≡ false = ne_eqb c backslash (no_backslash kind c (never_unescapable kind c never)) in
+                let more = spelled_as kind n (rw other at after.1) in (
                   backslash ∷ c ∷ more.0,
                   subst (λ x. SpelledAs kind (x ∷ c ∷ n) (backslash ∷ c ∷ more.0)) (sym (eqb-true b backslash e))
                       (pair c n more.0 never more.1),
