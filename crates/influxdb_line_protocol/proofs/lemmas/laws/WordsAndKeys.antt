@@ -75,8 +75,8 @@ rise_passes : (es : List (List ℕ × List ℕ)) → Rise es → is_strictly_sor
 rise_passes [] h = refl
 rise_passes (e ∷ []) h = refl
 rise_passes (e ∷ f ∷ es) h =
-    and_from (is_lt (slice_cmp nat_cmp e.0 f.0)) (is_strictly_sorted (entry_keys (f ∷ es))) (ap is_lt (All-head (λ g. slice_cmp nat_cmp e.0 g.0 ≡ Less) f es h.0))
-    (rise_passes (f ∷ es) h.1)
+    let first = ap is_lt (All-head (λ g. slice_cmp nat_cmp e.0 g.0 ≡ Less) f es h.0) in
+    and_from (is_lt (slice_cmp nat_cmp e.0 f.0)) (is_strictly_sorted (entry_keys (f ∷ es))) first (rise_passes (f ∷ es) h.1)
 
 -- the tags by their keys, and no other list
 pub tags_by_key_are_sorted : TagsByKeyAreSorted

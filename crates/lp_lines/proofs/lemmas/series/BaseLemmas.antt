@@ -6,9 +6,11 @@ use borrow.Author.Count.{below_more}
 use Rattle.std.proofs.lemmas.Grind.{common_steps}
 use Rattle.std.proofs.Math.Bool.{and-false}
 use Rattle.std.specs.{BTreeMap.UpdatesBy, BTreeMap.get_by, BTreeMap.insert_entry, Cmp.Lexicographic.slice_cmp}
-use Rattle.std.specs.{Cmp.Lexicographic.nat_list_eq_equiv, List.list_all, List.list_any, List.range_with_len, List.IsAllAdjacentAnswer, Ordering.match_ordering}
+use Rattle.std.specs.{Cmp.Lexicographic.nat_list_eq_equiv, List.list_all, List.list_any, List.range_with_len}
+use Rattle.std.specs.{List.IsAllAdjacentAnswer, Ordering.match_ordering}
 use Rattle.std.proofs.lemmas.List.FromFn.{length-range_with_len, get_or-range_with_len}
-use Rattle.std.proofs.lemmas.{List.map_more, List.length-map, List.get_or-map, List.Folds.list_all-map, List.Folds.list_any_more, List.Sums.fold_push}
+use Rattle.std.proofs.lemmas.{List.map_more, List.length-map, List.get_or-map, List.Folds.list_all-map}
+use Rattle.std.proofs.lemmas.{List.Folds.list_any_more, List.Sums.fold_push}
 use Rattle.std.proofs.lemmas.{List.Sums.position_or_len_is, Map.Text.btree_map_updates_str}
 use Rattle.lp_values.specs.declared.escaped.EscapedStr.{EscapedStr}
 use Rattle.lp_lines.specs.code.Bases.{by_key, entry_bytes, first_repeated, is_repeated_at, is_ambiguous_tag, keys_of, is_strictly_sorted}
@@ -36,7 +38,8 @@ keys_rise_is (t ∷ u ∷ tags) false (suc k, l, falls) =
 -- the key at a place is the text of the tag there
 pub key_is : (tags : List (EscapedStr × EscapedStr)) (i : ℕ) (t : EscapedStr × EscapedStr) → i < length tags → t ≡ get_or tags i t
     → get_or (keys_of (map tag_of tags)) i [] ≡ text_of t.0
-key_is tags i t within is = get_or-map (λ (t : Pair Text Text). t.key.bytes) (map tag_of tags) i (tag_of t) [] (omega (arith, length-map tags tag_of))
+key_is tags i t within is =
+    get_or-map (λ (t : Pair Text Text). t.key.bytes) (map tag_of tags) i (tag_of t) [] (omega (arith, length-map tags tag_of))
     ∙ ap (λ (t : Pair Text Text). t.key.bytes) (get_or-map tag_of tags i t (tag_of t) within)
     ∙ ap (λ (t : EscapedStr × EscapedStr). text_of t.0) (sym is)
 
