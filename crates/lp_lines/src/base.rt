@@ -140,12 +140,7 @@ fn base<'a>(
 fn keys_rise<'a>(tags: &[(EscapedStr<'a>, EscapedStr<'a>)]) -> bool
     ensures { result ≡ is_strictly_sorted (keys_of (map tag_of tags.now)) }
 {
-    for at in 1..tags.len() {
-        if tags[at - 1].0 >= tags[at].0 {
-            return false;
-        }
-    }
-    true
+    tags.is_sorted_by(|(before, _), (key, _)| before < key)
 }
 
 // Whether the text is a part of the input.
@@ -214,6 +209,7 @@ fn base_in_order<'a>(
 }
 
 // The tags as a map, or the first repeated key.
+#[tactic(auto, using(crate::proofs::lemmas::series::BaseLemmas::map_steps))]
 fn tag_map<'t, 'a>(
     alloc: Global,
     tags: &'t [(EscapedStr<'a>, EscapedStr<'a>)],

@@ -1,4 +1,3 @@
 pub mod tokens
 pub mod digits
 pub mod fields
-pub mod shown

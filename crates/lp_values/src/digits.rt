@@ -72,6 +72,7 @@ pub(crate) fn digits_len(bytes: &[u8]) -> usize
 }
 
 // The number that at most three `digits` write after the digits of `before`.
+#[tactic(auto, using(crate::proofs::lemmas::digits::DigitLemmas::digits_after))]
 #[inline(always)]
 fn value_after(before: u64, digits: &[u8]) -> u64
     requires digits { AllDigits 10 digits.now }
@@ -132,6 +133,7 @@ fn moved_to_end(lanes: u8x16, len: usize) -> u8x16
 }
 
 // The number of 16 digits: each four by two sums of products, then two and two of those.
+#[tactic(auto, using(crate::proofs::lemmas::digits::DigitLemmas::lanes_steps))]
 #[inline(always)]
 fn lanes_number(digits: u8x16) -> u64
     requires whole { length digits ≡ LANES }

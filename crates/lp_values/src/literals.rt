@@ -100,6 +100,7 @@ impl<'a> FloatText<'a> {
     ghost use Rattle.lp_values.specs.code.Texts.{literal_of};
 
     /// A float of this text: `Some` exactly if the whole text is one.
+    #[tactic(auto, using(crate::proofs::lemmas::fields::ReadingLemmas::whole_float_steps))]
     pub fn new(text: &'a str) -> Option<Self>
         ensures { MatchOption result (¬ IsFloat text.now) (λ f. IsFloat text.now × (literal_of f ≡ text.now)) }
     {

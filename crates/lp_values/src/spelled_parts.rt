@@ -47,6 +47,7 @@ fn side_of(number: &str) -> OutOfRange
 }
 
 // An integer and `i` at the start of `text`, and the rest, where the integer takes `whole` bytes.
+#[tactic(auto, using(crate::proofs::lemmas::fields::ReadingLemmas::integer_steps))]
 #[inline(always)]
 fn integer<'a>(text: &'a str, whole: usize) -> Front<'a, SpelledValue<'a>>
     requires whole { whole ≡ integer_len text.now }
@@ -156,6 +157,7 @@ pub fn value<'a>(text: &'a str) -> Front<'a, SpelledValue<'a>>
 }
 
 /// The timestamp at the start of `text`, if spaces and a number are there, and the rest, without the spaces after the number.
+#[tactic(auto, using(crate::proofs::lemmas::fields::ReadingLemmas::integer_steps))]
 #[inline(always)]
 pub fn timestamp<'a>(text: &'a str) -> Result<(Option<i64>, &'a str), SpelledFault<'a>>
     ensures { GivesSpelledRead (λ t. t) result (timestamp text.now) }

@@ -13,7 +13,7 @@ use Rattle.lp_format.specs.laws.Meanings.{SeparatedAfterComma}
 use Rattle.lp_format.proofs.lemmas.names.NameLemmas.{without_escapes_same, no_backslash}
 use Rattle.lp_values.proofs.lemmas.fields.ReadingLemmas.{name_parts}
 use Rattle.lp_split.proofs.lemmas.split.ScanLemmas.{bare_len, first_bare_len}
-use Rattle.lp_lines.proofs.lemmas.series.SortedTags.{by_key_permutes}
+use Rattle.lp_lines.proofs.lemmas.series.SortedTags.{by_key_placed}
 use Rattle.lp_lines.proofs.lemmas.series.BasesTellSeries.{base_is, tag_parts, tags_separated, value_part, same_series_have_one_base}
 
 -- nothing, or a text that begins with this byte
@@ -84,8 +84,8 @@ pub one_base_is_one_series : OneBaseIsOneSeries
 one_base_is_one_series raw text m other tags others h k p q same =
     let left = or_parts (is_one_of m.bytes comma) (list_any is_tag_delimited tags) p in
     let right = or_parts (is_one_of other.bytes comma) (list_any is_tag_delimited others) q in
-    let one = by_key_permutes tags h.repeats_none in
-    let two = by_key_permutes others k.repeats_none in
+    let one = (by_key_placed tags h.repeats_none).0 in
+    let two = (by_key_placed others k.repeats_none).0 in
     let bases = sym (base_is raw m tags h) ∙ same ∙ base_is text other others k in
     let parts = same_parts m.bytes other.bytes (by_key tags) (by_key others) left.0 right.0
     (sym (list_any-IsPermutation is_parted (in_order tags) (by_key tags) one) ∙ same_test is_parted tags ∙ left.1)

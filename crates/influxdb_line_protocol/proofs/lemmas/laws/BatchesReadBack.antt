@@ -59,7 +59,7 @@ tags_line_fails : (m : List ℕ) (ts : List Tag) (more : List ℕ) → is_admitt
 unfolding answer
 tags_line_fails m ts more named f =
     let first = spelling a_measurement m in
-    let sign = reaches_other comma (omega arith) (omega arith) (omega arith) first (reaches_name a_measurement m [] named reaches_start) in
+    let sign = reaches_other comma (omega arith) (omega arith) (omega arith) first (reaches_name a_measurement m named [] reaches_start) in
     subst Fails (ap (λ (xs : List ℕ). first ++ (xs ++ more)) (sym f.1))
     (and_before first comma
     (λ front r. inl (subst (Reaches Head 0 0) (append_assoc first (comma ∷ []) front) (r (first ++ comma ∷ []) sign)).1.0)
@@ -96,7 +96,7 @@ later_field_fails f fs ok g =
       text ++ comma ∷ g.0,
       (λ c. ap (λ (xs : List ℕ). c ∷ (text ++ xs)) (g.1 comma)),
       and_before text comma (λ front r m piece h.
-          let first = reaches_field m f piece ok h in
+          let first = reaches_field m f ok piece h in
           let sign : Reaches Plain (m + 1) (m + 1) ((piece ++ text) ++ comma ∷ []) =
           (is_escaped-push_other (piece ++ text) comma (omega arith), Plain-comma (m + 1) m (piece ++ text) first.0 first.1) in
           subst InPlain (append_assoc (piece ++ text) (comma ∷ []) front ∙ append_assoc piece text (comma ∷ front))
@@ -128,7 +128,7 @@ unfolding answer
 fields_line_fails m ts fs more named tagged f =
     let first = spelling a_measurement m in
     let tags = flat_map built_tag ts in
-    let head = reaches_tags ts first tagged (reaches_name a_measurement m [] named reaches_start) in
+    let head = reaches_tags ts tagged first (reaches_name a_measurement m named [] reaches_start) in
     let regrouped : (first ++ tags) ++ space ∷ (f.0 ++ more) ≡ first ++ (tags ++ (built_fields space fs ++ more)) =
     append_assoc first tags (space ∷ (f.0 ++ more)) ∙ ap (λ (xs : List ℕ). first ++ (tags ++ (xs ++ more))) (sym (f.1 space)) in
     subst Fails regrouped

@@ -213,7 +213,7 @@ tag_fails t names bad =
           let refused = second_fails (is_admitted_name a_tag_key t.key) (is_admitted_name a_tag_value t.value) bad ok in
           and_before key equals
           (λ front r. reaches_after key equals front (omega arith) (omega arith) (omega arith)
-          (λ piece h. reaches_name a_tag_key t.key piece ok h) (λ piece h. reaches_head r.spelled piece h))
+          (reaches_name a_tag_key t.key ok) (λ piece h. reaches_head r.spelled piece h))
           (λ front rest r e. value_fatal t.key (front ++ rest) ok e)
           (name_stops a_tag_value t.value names.1 refused)
       | inr refused ↦ and_more (equals ∷ spelling a_tag_value t.value)
@@ -231,7 +231,7 @@ later_tag_fails t ts ok f =
     let text = tag_text t in
     let here : ReachesHead text =
     reaches_after (spelling a_tag_key t.key) equals (spelling a_tag_value t.value) (omega arith) (omega arith) (omega arith)
-    (λ piece h. reaches_name a_tag_key t.key piece ok.0 h) (λ piece h. reaches_name a_tag_value t.value piece ok.1 h) in (
+    (reaches_name a_tag_key t.key ok.0) (reaches_name a_tag_value t.value ok.1) in (
       text ++ comma ∷ f.0,
       ap (λ (xs : List ℕ). comma ∷ (text ++ xs)) f.1,
       and_before text comma (λ front r. reaches_after text comma front (omega arith) (omega arith) (omega arith) here r) (λ front rest r e.

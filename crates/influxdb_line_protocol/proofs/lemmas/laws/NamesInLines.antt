@@ -154,7 +154,7 @@ module _ {m k v f m' k' v' f' : List ℕ} (first : Spelled a_measurement m' m) (
       let text = (series ++ space ∷ []) ++ f in
       let sign : Reaches Plain 1 0
       (text ++ equals ∷ []) = (is_escaped-push_other text equals (omega arith), Plain-equals 0 0 text named.0 named.1) in
-      subst (Reaches Plain 1 0) (simp append_assoc) (reaches_simple 1 0 (49 ∷ letter_i ∷ []) (text ++ equals ∷ []) refl sign)
+      subst (Reaches Plain 1 0) (simp append_assoc) (reaches_simple 1 0 (49 ∷ letter_i ∷ []) refl (text ++ equals ∷ []) sign)
 
   -- its answer is the line
   answered : (dialect : Dialect) → answer dialect (whole m k v f) ≡ Ok (line_of m k v f)

@@ -1,14 +1,15 @@
 -- The word at the start of a text is the longest that is there; tags by their keys are the one list of them whose keys rise.
 use Rattle.std.proofs.Common.{◌≡◌, ◌⊎◌, ℕ, ◌≤◌, List, [], ◌∷◌, ◌++◌, length, take, drop, true, false, eqb, refl, sym, ap, ◌∙◌, subst, inl}
 use Rattle.std.proofs.Common.{inr, arith, Contains, fold, ltb-true, ltb-false, length-take-le, take-append-drop, take_at, IsPermutation}
-use Rattle.std.specs.{List.starts_with}
+use Rattle.std.proofs.Common.{is_lt, nat_cmp, Less}
+use Rattle.std.specs.{List.starts_with, Cmp.Lexicographic.slice_cmp}
 use Rattle.std.proofs.lemmas.{Bool.cases_Bool, Bool.both_ways, Bool.and_from, Bool.Decides.Decides-eqb, Slice.Eq.starts_is}
+use Rattle.std.proofs.lemmas.List.{Elements.All-head, Sorted.IsPermutation-sym, Sorted.IsPermutation-trans}
 use Rattle.lp_format.specs.{format.longer_front, laws.Meanings.WordFrontIsWord, laws.Meanings.WordFrontIsLongest}
 use Rattle.lp_lines.{proofs.lemmas.names.ParsedNames.nothing_in_nil, specs.laws.BaseLaws.entry_keys, specs.laws.BaseLaws.TagsByKeyAreSorted}
 use Rattle.lp_format.proofs.lemmas.lists.Elements.{first_element, first_or_later, later_element}
-use Rattle.std.proofs.lemmas.List.Sorted.{IsPermutation-sym, IsPermutation-trans}
 use Rattle.lp_lines.specs.code.Bases.{by_key, in_order, is_strictly_sorted}
-use Rattle.lp_lines.proofs.lemmas.series.SortedTags.{Rise, by_key_permutes, by_key_rises, passes_rise, same_moved}
+use Rattle.lp_lines.proofs.lemmas.series.SortedTags.{Rise, by_key_placed, passes_rise, same_moved}
 use Rattle.lp_format.proofs.lemmas.line.TrimLemmas.{trimmed_is_after, trimmed_is_longest}
 
 -- what is known of the longer of a front and a word
@@ -66,21 +67,21 @@ word_front_is_longest words text n fits here = (longest_is text 0 words).front n
 rise_passes : (es : List (List ℕ × List ℕ)) → Rise es → is_strictly_sorted (entry_keys es) ≡ true
 rise_passes [] h = refl
 rise_passes (e ∷ []) h = refl
-rise_passes (e ∷ f ∷ es) h = grind (arith, and_from, rise_passes (f ∷ es))
+rise_passes (e ∷ f ∷ es) h =
+    let first = ap is_lt (All-head (λ g. slice_cmp nat_cmp e.0 g.0 ≡ Less) f es h.0) in
+    and_from (is_lt (slice_cmp nat_cmp e.0 f.0)) (is_strictly_sorted (entry_keys (f ∷ es))) first (rise_passes (f ∷ es) h.1)
 
 -- the tags by their keys, and no other list
 pub tags_by_key_are_sorted : TagsByKeyAreSorted
-tags_by_key_are_sorted tags entries once = (
-  (λ e. (
-    ap (λ es. is_strictly_sorted (entry_keys es)) e ∙ rise_passes (by_key tags) (by_key_rises tags),
-    subst (IsPermutation (in_order tags)) (sym e) (by_key_permutes tags once),
-  )),
-  (λ h.
-      let moves =
-      IsPermutation-trans entries (in_order tags) (by_key tags) (IsPermutation-sym (in_order tags) entries h.1)
-      (by_key_permutes tags once) in
-      same_moved entries (by_key tags) (passes_rise entries h.0) (by_key_rises tags) moves),
-)
+tags_by_key_are_sorted tags entries once =
+    let placed = by_key_placed tags once in (
+      (λ e. (
+        ap (λ es. is_strictly_sorted (entry_keys es)) e ∙ rise_passes (by_key tags) placed.1,
+        subst (IsPermutation (in_order tags)) (sym e) placed.0,
+      )),
+      (λ h. same_moved entries (by_key tags) (passes_rise entries h.0) placed.1 (IsPermutation-trans entries (in_order tags) (by_key tags)
+          (IsPermutation-sym (in_order tags) entries h.1) placed.0)),
+    )
 
 -- the laws of what is read by its longest front
 pub ruleset word_laws = (word_front_is_word, word_front_is_longest, trimmed_is_after, trimmed_is_longest)

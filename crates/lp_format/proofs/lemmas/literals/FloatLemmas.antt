@@ -148,11 +148,11 @@ float_len_float t some =
     ]
 
 -- a byte that a float can hold
-abbrev in_float : ℕ → Bool
+abbrev pub in_float : ℕ → Bool
 in_float b = is_ascii_digit b || is_one_of (codes "+-.eE") b
 
 -- a float can hold digits
-digits_float : (ds : List ℕ) → AllDigits 10 ds → list_all in_float ds ≡ true
+pub digits_float : (ds : List ℕ) → AllDigits 10 ds → list_all in_float ds ≡ true
 digits_float [] all = refl
 digits_float (d ∷ ds) all = rw (digit_passes d all.0, digits_float ds all.1) refl
 
@@ -167,7 +167,7 @@ marked_float : (marks : List ℕ) (Part : List ℕ → Type 0) (text : List ℕ)
 marked_float marks Part text mark of_part marked = grind arith
 
 -- each byte of a float is such a byte
-float_bytes : (t : List ℕ) → IsFloat t → AllPass in_float t
+pub float_bytes : (t : List ℕ) → IsFloat t → AllPass in_float t
 float_bytes t parts =
     let whole = signed_float (codes "-") parts.0 (λ d h. grind (arith, common_steps)) parts.4 in
     let fraction = marked_float (codes ".") (IsNumeral 10) parts.1 (λ d h. grind (arith, common_steps))

@@ -1,25 +1,24 @@
 -- What a line that is answered has: a tag in its tag set, no more columns than bytes, and no need of memory if it is light; and the
 -- item of a line that was given.
 use Rattle.std.proofs.Common.{◌≡◌, ℕ, ◌<◌, List, [], ◌∷◌, length, refl, ap, arith, Option, Ok, Err, Result, ◌+◌, ◌≤◌, ◌^◌, drop}
-use Rattle.std.proofs.Common.{length-append, length-drop, true, IfSome, option_map, le-leb, leb-true}
+use Rattle.std.proofs.Common.{length-append, length-drop, true, IfSome, le-leb, leb-true}
 use Rattle.std.proofs.lemmas.{Bool.and_parts, List.length-map}
-use Rattle.smallvec.specs.SmallVec.{SmallVec}
 use Rattle.lp_format.specs.format.{Dialect, Fault, Text, Reading, miss, fatal, reads, Pair, Line, tag, separated_list, tag_set, answer}
-use Rattle.lp_format.specs.format.{field, field_set, some_tags, spaces, byte, comma, space, a_measurement, Value, Left}
+use Rattle.lp_format.specs.format.{field, some_tags, spaces, byte, comma, space, a_measurement, Left}
 use Rattle.lp_format.proofs.lemmas.names.Inversions.{prepend_parts, count_is_of_the_most}
 use Rattle.lp_format.specs.laws.Meanings.{SeparatedBy, SeparatedAfterComma}
 use Rattle.lp_format.proofs.lemmas.meanings.{JoinedMeaning.the_most_is_read, ShorterRests.tag_no_longer, ShorterRests.field_no_longer}
 use Rattle.lp_format.specs.code.Light.{carries_no_text, count_after, fields_in, is_light_answer, is_light_in, is_single_line, read_count}
 use Rattle.lp_format.specs.code.Light.{tags_in, is_light}
-use Rattle.lp_values.specs.declared.{error.Error.Error, escaped.EscapedStr.EscapedStr}
+use Rattle.lp_values.specs.declared.{error.Error.Error}
 use Rattle.lp_values.proofs.lemmas.fields.ReadingLemmas.{bind_reads, name_ends}
 use Rattle.lp_values.specs.code.Outcomes.{IsNotOutOfMemory}
 use Rattle.lp_events.specs.code.LineSteps.{GaveLine}
 use Rattle.lp_events.proofs.lemmas.fields.ManyLemmas.{TagSetRead, fields_joined, set_separated, tag_set_read, TagSetRead.no_set}
 use Rattle.lp_events.proofs.lemmas.fields.ManyLemmas.{TagSetRead.some_set}
 use Rattle.lp_lines.specs.declared.parsed.ParsedLine.{ParsedLine}
-use Rattle.lp_lines.specs.code.Parsed.{Answers, FillsLine, line_read, tags_of, field_of}
-use Rattle.lp_lines.specs.code.{ParseSteps.HasNoEmptyTagSet, ParseSteps.CanCountColumns, ParseSteps.GaveItem, Lookups.some_items}
+use Rattle.lp_lines.specs.code.Parsed.{Answers, FillsLine, line_read}
+use Rattle.lp_lines.specs.code.{ParseSteps.HasNoEmptyTagSet, ParseSteps.CanCountColumns, ParseSteps.GaveItem}
 use Rattle.lp_lines.specs.code.{ReadInto.item_in}
 use Rattle.lp_lines.proofs.lemmas.names.ParsedNames.{answer_parts, Parts}
 
@@ -32,25 +31,14 @@ joined_some one line rest xs h = grind (arith, bind_reads, prepend_parts)
 abbrev pub HasSome : {T : Type 0} → Option (List T) → Type 0
 HasSome o = IfSome o (λ ts. 0 < length ts)
 
--- a tag set that is read holds at least one tag
-tag_set_some : (line rest : List ℕ) (ts : Option (List (Pair Text Text))) → tag_set line ≡ Ok (record { value = ts; rest = rest })
-    → HasSome ts
-tag_set_some line rest ts h = grind (arith, tag_set_read, joined_some)
-
--- so does that of each line that is answered
+-- the tag set of each line that is answered holds at least one tag
 pub line_some_tags : (dialect : Dialect) (text : List ℕ) (l : Line) → answer dialect text ≡ Ok l → HasSome l.tags
-line_some_tags dialect text l h = let parts =
-    answer_parts dialect text l h in tag_set_some parts.measurement_rest parts.tags_rest l.tags parts.tags
-
--- the tags of the code's set, seen as they were read
-code_tags_some : (o : Option (SmallVec (EscapedStr × EscapedStr))) → HasSome (option_map tags_of o)
-    → IfSome o (λ tags. 0 < length tags.items)
-code_tags_some tags h = grind (arith, length-map)
+line_some_tags dialect text l h = let parts = answer_parts dialect text l h in grind (arith, tag_set_read, joined_some)
 
 -- the tag set of an item is not empty
 pub item_has_tags : (dialect : Dialect) (line : List ℕ) (item : Result ParsedLine Error) → Answers item (answer dialect line)
     → HasNoEmptyTagSet item
-item_has_tags dialect line (Ok parsed) h = code_tags_some parsed.series.tag_set (line_some_tags dialect line (line_read parsed) h)
+item_has_tags dialect line (Ok parsed) h = let some = line_some_tags dialect line (line_read parsed) h in grind (arith, length-map)
 item_has_tags dialect line (Err e) h = tt
 
 module _ {A : Type 0} (one : List ℕ → Reading A)
@@ -64,14 +52,6 @@ module _ {A : Type 0} (one : List ℕ → Reading A)
   room_of : (xs : List A) (text rest : List ℕ) → SeparatedBy one xs text rest → length xs ≤ length text + 1
   room_of xs text rest h = grind (arith, room_after)
 
--- the fields of a text
-field_room : (dialect : Dialect) (text rest : List ℕ) (fs : List (Pair Text (Value Text))) → field_set dialect text ≡ reads fs rest
-    → length fs ≤ length text + 1
-field_room dialect text rest fs h =
-    let joined = fields_joined dialect text rest fs h in
-    let full = (the_most_is_read field (λ t. (field_no_longer t).holds) text fs joined.0).0 joined.1 in
-    room_of field (λ t. (field_no_longer t).holds) fs text joined.0 full.longest.separated
-
 -- the tags and the fields of a line
 pub line_room : (dialect : Dialect) (text : List ℕ) (l : Line) → answer dialect text ≡ Ok l
     → length (some_tags l.tags) + length l.fields ≤ length text + 1
@@ -80,20 +60,19 @@ line_room dialect text l h =
     let front = name_ends a_measurement text l.measurement parts.measurement_rest parts.measurement in
     let separated = set_separated parts.measurement_rest parts.tags_rest l.tags parts.tags in
     let tags = room_after tag (λ t. (tag_no_longer t).holds) (some_tags l.tags) parts.measurement_rest parts.tags_rest separated in
-    let fields = field_room dialect (drop (spaces parts.tags_rest) parts.tags_rest) parts.fields_rest l.fields parts.fields in
+    let suffix = drop (spaces parts.tags_rest) parts.tags_rest in
+    let joined = fields_joined dialect suffix parts.fields_rest l.fields parts.fields in
+    let full = (the_most_is_read field (λ t. (field_no_longer t).holds) suffix l.fields joined.0).0 joined.1 in
+    let fields = room_of field (λ t. (field_no_longer t).holds) l.fields suffix joined.0 full.longest.separated in
     let after = length-drop (spaces parts.tags_rest) parts.tags_rest in
     omega (arith, ap length front.is, length-append front.front parts.measurement_rest, after)
-
--- as many tags as were read
-tags_as_read : (o : Option (SmallVec (EscapedStr × EscapedStr))) → length (some_tags (option_map tags_of o)) ≡ length (some_items o)
-tags_as_read tags = grind (arith, length-map)
 
 -- the columns of an item can be counted
 pub item_columns_fit : (dialect : Dialect) (line : List ℕ) (item : Result ParsedLine Error) → length line < 2 ^ 63
     → Answers item (answer dialect line) → CanCountColumns item
 item_columns_fit dialect line (Ok parsed) short h =
     let room = line_room dialect line (line_read parsed) h in
-    omega (arith, room, tags_as_read parsed.series.tag_set, length-map parsed.field_set.items field_of)
+    grind (arith, length-map)
 item_columns_fit dialect line (Err e) short h = tt
 
 -- as many are counted as commas join

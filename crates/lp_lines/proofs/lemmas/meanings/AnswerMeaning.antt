@@ -6,7 +6,7 @@ use Rattle.lp_format.specs.format.{Dialect, comma, space, Side, Fault, measureme
 use Rattle.lp_format.specs.format.{tag_set_malformed, take_while1, timestamp_value_invalid, cannot_parse_entire_line, Text, Read, Reading}
 use Rattle.lp_format.specs.format.{miss, fatal, reads, NameKind, a_measurement, name, Value, Pair, Line, byte, tag, field}
 use Rattle.lp_format.specs.format.{separated_list, tag_set, without_comma, timestamp, answer}
-use Rattle.lp_format.specs.laws.Meanings.{WholeList, NextHasFault}
+use Rattle.lp_format.specs.laws.Meanings.{WholeList}
 use Rattle.lp_format.specs.laws.MeaningsOfAnswers.{BeginsWith, after_spaces, ReadsSeries, ReadsSeries.alone, ReadsSeries.tagged}
 use Rattle.lp_format.specs.laws.MeaningsOfAnswers.{ReadsFields, IsAnswer, IsAnswer.fatal_measurement, IsAnswer.no_measurement}
 use Rattle.lp_format.specs.laws.MeaningsOfAnswers.{IsAnswer.fatal_tag, IsAnswer.no_tag, IsAnswer.no_space, IsAnswer.fatal_field}
@@ -27,22 +27,10 @@ name_fault : (kind : NameKind) (text : List ℕ) → FailsByBackslash (name kind
 unfolding name
 name_fault kind text e h = grind (arith, cases_Bool)
 
--- a byte has none
-byte_fault : (b : ℕ) (text : List ℕ) → FailsByBackslash (byte b text)
-byte_fault b rest e m = grind (arith, cases_Bool)
-
--- nor what is read
-reads_fault : {A : Type 0} (x : A) (rest : List ℕ) → FailsByBackslash (reads x rest)
-reads_fault x rest e m = absurd (cc)
-
 -- of a tag
 tag_fault : (text : List ℕ) → FailsByBackslash (tag text)
 unfolding tag
-tag_fault text = grind (arith, name_fault, byte_fault, reads_fault)
-
--- so of the next tag
-next_tag_fault : (tags : List (Pair Text Text)) (rest : List ℕ) (e : Fault) → NextHasFault tag tags rest e → e ≡ ends_with_backslash
-next_tag_fault tags rest e h = grind (arith, tag_fault)
+tag_fault text = grind (arith, cases_Bool, name_fault)
 
 -- the fault of a timestamp is that it is out of range
 stamp_fault : (text : List ℕ) (e : Fault) → timestamp text ≡ Err e → (side : Side) × (number : List ℕ)
@@ -95,7 +83,8 @@ module _ (dialect : Dialect) (text : List ℕ) where
   row_answers (no_measurement h) = rw h refl
   row_answers (fatal_tag m after tags rest e named most next) =
       let fault = (the_next_has_the_fault tag (λ t. (tag_no_longer t).holds) after e).1 (tags, rest, most, next) in
-      rw (named, fault) (ap Err (next_tag_fault tags rest e next))
+      let over : e ≡ ends_with_backslash = grind (arith, tag_fault) in
+      rw (named, fault) (ap Err over)
   row_answers (no_tag m after named h) = rw (named, h) refl
   row_answers (no_space m tags rest series gap) = let s = series_parts series in rw (s.named, s.set, no_byte space rest gap) refl
   row_answers (fatal_field m tags after fields rest e series gap most next) =
@@ -124,22 +113,18 @@ module _ (dialect : Dialect) (text : List ℕ) where
   SomeRow = (a : Result Line Fault) × IsAnswer dialect text a
 
   -- once all fields are read
-  by_stamp : (line : Option ℤ → Line) (rest : List ℕ) → ((t : Option ℤ) → ReadsFields dialect text (line t) rest)
-      → ((t : Option ℤ) → (line t).timestamp ≡ t)
-      → (r : Result (Read (Option ℤ)) Fault) → timestamp rest ≡ r → SomeRow
-  by_stamp line rest h same (Err e) stamp =
+  by_stamp : (series : List ℕ) (m : Text) (tags : Option (List (Pair Text Text))) (fields : List (Pair Text (Value Text))) (rest : List ℕ)
+      → (let line : Option ℤ → Line = λ t. record { series = series; measurement = m; tags = tags; fields = fields; timestamp = t } in
+      ((t : Option ℤ) → ReadsFields dialect text (line t) rest) → (r : Result (Read (Option ℤ)) Fault) → timestamp rest ≡ r → SomeRow)
+  by_stamp series m tags fields rest h (Err e) stamp =
       let f = stamp_fault rest e stamp in
-      (Err (timestamp_value_invalid f.0 f.1), fatal_timestamp (line None) rest f.0 f.1 (h None) (stamp ∙ ap Err f.2))
-  by_stamp line rest h same (Ok r) stamp = whole r.value r.rest stamp
+      (Err (timestamp_value_invalid f.0 f.1), fatal_timestamp _ rest f.0 f.1 (h None) (stamp ∙ ap Err f.2))
+  by_stamp series m tags fields rest h (Ok r) stamp = whole r.value r.rest stamp
     where
       -- a line with each of its parts has a row in the table of answers
       whole : (t : Option ℤ) (last : List ℕ) → timestamp rest ≡ Ok (record { value = t; rest = last }) → SomeRow
-      whole t [] e =
-          (Ok (line t), all_read (line t) rest (h t) (e ∙ ap (λ (u : Option ℤ). Ok (record { value = u; rest = [] })) (sym (same t))))
-      whole t (b ∷ more) e = (
-        Err (cannot_parse_entire_line (b ∷ more)),
-        left (line t) rest b more (h t) (e ∙ ap (λ (u : Option ℤ). Ok (record { value = u; rest = b ∷ more })) (sym (same t))),
-      )
+      whole t [] e = (Ok _, all_read _ rest (h t) e)
+      whole t (b ∷ more) e = (Err (cannot_parse_entire_line (b ∷ more)), left _ rest b more (h t) e)
 
   -- once a series is read and a space follows it
   by_fields : (series : List ℕ) (m : Text) (tags : Option (List (Pair Text Text))) (after : List ℕ) → text ≡ series ++ after
@@ -154,8 +139,7 @@ module _ (dialect : Dialect) (text : List ℕ) where
       (Err d, fatal_field m tags after f.0 f.1 d h gap f.2 f.3)
   by_fields series m tags after is h gap (reads fields last) e =
       let rest = without_comma dialect fields last in
-      by_stamp (λ t. record { series = series; measurement = m; tags = tags; fields = fields; timestamp = t }) rest
-      (λ t. record {
+      by_stamp series m tags fields rest (λ t. record {
         after_series = after;
         series_is = is;
         series_reads = h;
@@ -163,8 +147,7 @@ module _ (dialect : Dialect) (text : List ℕ) where
         after_fields = last;
         fields_read = (the_most_is_read field (λ t. (field_no_longer t).holds) (after_spaces after) fields last).0 e;
         rest_is = refl;
-      })
-      (λ t. refl) (timestamp rest) refl
+      }) (timestamp rest) refl
 
   -- once a series is read
   by_series : (m : Text) (tags : Option (List (Pair Text Text))) (after : List ℕ) → ReadsSeries text m tags after → SomeRow

@@ -29,10 +29,6 @@ unstopped_may kind b h = grind (arith, common_steps)
 pub escapable_may : (kind : NameKind) (b : ℕ) → is_escapable kind b ≡ true → may_hold kind b ≡ true
 escapable_may kind b h = grind (arith, common_steps)
 
--- a byte that is no bare stop
-no_bare_stop : (s e : Bool) → (s && not e) ≡ false → (not s || e) ≡ true
-no_bare_stop x0 e h = grind (arith, false≢true)
-
 -- the same of a byte at a place that is not escaped
 no_stop : (s : Bool) → (not s || false) ≡ true → s ≡ false
 no_stop x0 h = grind (arith, false≢true)
@@ -41,7 +37,7 @@ no_stop x0 h = grind (arith, false≢true)
 before_stop_closed : (kind : NameKind) (escaped : Bool) (text : List ℕ)
     → is_closed kind escaped (take (bare_len (is_stop kind) escaped text) text) ≡ true
 before_stop_closed kind escaped [] = refl
-before_stop_closed kind escaped (b ∷ text) = grind (arith, cases_Bool, no_bare_stop, and_from, before_stop_closed kind (not escaped && b == backslash) text)
+before_stop_closed kind escaped (b ∷ text) = grind (arith, cases_Bool, and_from, before_stop_closed kind (not escaped && b == backslash) text)
 
 -- the bytes of the logical text of a spelling are kept
 logical_kept : (kind : NameKind) (after : Bool) (text : List ℕ) → is_closed kind false text ≡ true
@@ -109,14 +105,10 @@ kept_from kind after (b ∷ n) h =
 pub name_kept : (kind : NameKind) (n : List ℕ) → IsParsedName kind n → is_kept kind false n ≡ true
 name_kept kind n h = kept_from kind false n (λ front back b e never. ends_from_start front ∙ h.after_backslash front back b e never)
 
--- no escape makes a `#`
-hash_unescapable : (b : ℕ) → is_escapable a_measurement b ≡ true → b ≢ hash
-hash_unescapable b h = grind (arith, false≢true)
-
 -- a measurement begins with `#` only if its spelling does
 logical_begins : (text : List ℕ) → slice_index text 0 ≢ hash → slice_index (logical a_measurement text) 0 ≢ hash
 unfolding without_escapes
-logical_begins rest h = grind (arith, cases_Bool, hash_unescapable)
+logical_begins rest h = grind (arith, common_steps, cases_Bool, false≢true)
 
 -- if the text does not begin with `#`, neither does its measurement
 name_begins : (kind : NameKind) (text : List ℕ) → BeginsNoComment kind text → BeginsNoComment kind (logical kind (spelled kind text))

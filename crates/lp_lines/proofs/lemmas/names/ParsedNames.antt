@@ -3,6 +3,7 @@ use Rattle.std.proofs.Common.{◌≡◌, ◌≢◌, ℕ, List, [], ◌∷◌, dr
 use Rattle.std.proofs.Common.{inr, Option, Ok, Result, ℤ, Contains, eqb-true}
 use Rattle.std.specs.List.{AllByRecursion}
 use Rattle.std.proofs.lemmas.{Bool.cases_Bool, Bool.or_parts, Bool.eqb-false, List.Elements.Contains-append_cases}
+use Rattle.std.proofs.lemmas.List.Elements.{All-contains, All-from_recursion}
 use Rattle.lp_format.specs.format.{Dialect, Strict, Fault, Text, reads, NameKind, a_measurement, a_tag_key, a_tag_value, a_field_key, name}
 use Rattle.lp_format.specs.format.{Value, Pair, Point, Tag, Line, point_of, logical_tag, logical_field, some_tags, tag, field}
 use Rattle.lp_format.specs.format.{tag_set, field_set, spaces, timestamp, front_before, answer, HasAnswers, answers_of_piece, answers_of}
@@ -20,16 +21,16 @@ use Rattle.lp_lines.proofs.lemmas.read_back.LineReadsBack.{front_is}
 use Rattle.lp_values.proofs.lemmas.fields.ReadingLemmas.{pair_parts}
 use Rattle.lp_format.proofs.lemmas.lists.Elements.{first_or_later}
 
--- the names of a tag, and that of a field
-abbrev ParsedTag : Pair Text Text → Type 0
-ParsedTag t = IsParsedName a_tag_key t.key.bytes × IsParsedName a_tag_value t.value.bytes
+-- both names of a tag are parsed names
+abbrev pub HasParsedNames : Tag → Type 0
+HasParsedNames t = IsParsedName a_tag_key t.key × IsParsedName a_tag_value t.value
 
 -- the key of a field is a parsed name
 abbrev ParsedField : Pair Text (Value Text) → Type 0
 ParsedField f = IsParsedName a_field_key f.key.bytes
 
 -- the names of each tag that is read
-tag_parsed : (line : List ℕ) (t : Pair Text Text) (rest : List ℕ) → tag line ≡ reads t rest → ParsedTag t
+tag_parsed : (line : List ℕ) (t : Pair Text Text) (rest : List ℕ) → tag line ≡ reads t rest → HasParsedNames (logical_tag t)
 unfolding tag
 tag_parsed line t rest h = grind (arith, pair_parts, name_parsed)
 
@@ -41,18 +42,6 @@ field_parsed line f rest h = grind (arith, pair_parts, name_parsed)
 -- two parts that are read are the same if their results are
 pub ok_same : {A : Type 0} (x y : A) → (let f : Result A Fault = Ok x in f) ≡ Ok y → x ≡ y
 ok_same x y h = cc
-
--- the tags of a set
-tag_set_parsed : (line rest : List ℕ) (ts : Option (List (Pair Text Text)))
-    → tag_set line ≡ Ok (record { value = ts; rest = rest }) → AllByRecursion ParsedTag (some_tags ts)
-tag_set_parsed line rest ts h = after_all ParsedTag tag tag_parsed (some_tags ts) line rest (set_separated line rest ts h)
-
--- the fields
-field_set_parsed : (dialect : Dialect) (line rest : List ℕ) (fs : List (Pair Text (Value Text)))
-    → field_set dialect line ≡ reads fs rest → AllByRecursion ParsedField fs
-field_set_parsed dialect line rest fs h =
-    let joined = fields_joined dialect line rest fs h in
-    joined_of ParsedField field field_parsed (λ t. (field_no_longer t).holds) line joined.0 fs joined.1
 
 -- what the parts of an answer were read from
 pub record Parts (dialect : Dialect) (line : List ℕ) (l : Line) : Type 0 where
@@ -113,25 +102,16 @@ left_begins in_comment (b ∷ rest) = grind (arith, cases_Bool, or_parts, eqb-fa
 pub nothing_in_nil : {X : Type 0} (x : X) → Contains [] x → ⊥
 nothing_in_nil x h = omega (arith, h.1)
 
--- what holds of all holds of each
-all_of : {X : Type 0} (P : X → Type 0) (xs : List X) (x : X) → AllByRecursion P xs → Contains xs x → P x
-all_of P [] x all h = absurd (nothing_in_nil x h)
-all_of P (y ∷ xs) x all h = elim (first_or_later y x xs h) [ inl same ↦ subst P same all.0 | inr later ↦ all_of P xs x all.1 later ]
-
 -- what each made element has from what it is made of
 pub all_made : {X Y : Type 0} (P : X → Type 0) (Q : Y → Type 0) (make : X → Y) → ((x : X) → P x → Q (make x)) → (xs : List X)
     → AllByRecursion P xs → AllByRecursion Q (map make xs)
 all_made P Q make part [] all = tt
 all_made P Q make part (x ∷ xs) all = (part x all.0, all_made P Q make part xs all.1)
 
--- both names of a tag are parsed names
-abbrev HasParsedNames : Tag → Type 0
-HasParsedNames t = IsParsedName a_tag_key t.key × IsParsedName a_tag_value t.value
-
 -- a point whose names are all parsed names
 pub record ParsedPoint (p : Point) : Type 0 where
   pub measurement : IsParsedName a_measurement p.measurement
-  pub tags : AllByRecursion (λ t. IsParsedName a_tag_key t.key × IsParsedName a_tag_value t.value) p.tags
+  pub tags : AllByRecursion HasParsedNames p.tags
   pub fields : AllByRecursion (λ f. IsParsedName a_field_key f.key) p.fields
 
 -- the point of each line that is answered
@@ -139,12 +119,15 @@ pub line_parsed : (dialect : Dialect) (text : List ℕ) (line : Line) → slice_
     → answer dialect text ≡ Ok line → ParsedPoint (point_of line)
 line_parsed dialect text line begins h =
     let parts = answer_parts dialect text line h in
+    let after = drop (spaces parts.tags_rest) parts.tags_rest in
+    let joined = fields_joined dialect after parts.fields_rest line.fields parts.fields in
     record {
       measurement = name_parsed a_measurement text parts.measurement_rest line.measurement parts.measurement begins;
-      tags = all_made ParsedTag HasParsedNames logical_tag (λ t h. h) (some_tags line.tags)
-          (tag_set_parsed parts.measurement_rest parts.tags_rest line.tags parts.tags);
+      tags = all_made (λ t. HasParsedNames (logical_tag t)) HasParsedNames logical_tag (λ t h. h) (some_tags line.tags)
+          (after_all (λ t. HasParsedNames (logical_tag t)) tag tag_parsed (some_tags line.tags) parts.measurement_rest parts.tags_rest
+          (set_separated parts.measurement_rest parts.tags_rest line.tags parts.tags));
       fields = all_made ParsedField (λ f. IsParsedName a_field_key f.key) logical_field (λ f h. h) line.fields
-          (field_set_parsed dialect (drop (spaces parts.tags_rest) parts.tags_rest) parts.fields_rest line.fields parts.fields);
+          (joined_of ParsedField field field_parsed (λ t. (field_no_longer t).holds) after joined.0 line.fields joined.1);
     }
 
 -- the names of such a point
@@ -187,5 +170,7 @@ answers_parsed dialect text answers line has here =
 
 -- and its names
 pub names_are_parsed : NamesAreParsed
-names_are_parsed dialect text answers line kind n has here named = all_of (IsParsedName kind) (names_of kind (point_of line)) n
-    (point_names kind (point_of line) (answers_parsed dialect text answers line has here)) named
+names_are_parsed dialect text answers line kind n has here named =
+    let names = names_of kind (point_of line) in
+    let all = point_names kind (point_of line) (answers_parsed dialect text answers line has here) in
+    All-contains (IsParsedName kind) names n (All-from_recursion (IsParsedName kind) names all) named

@@ -1,7 +1,8 @@
 -- Names by any of their spellings: a reader reads each back, and a splitter that is within a stretch stays within it.
 use Rattle.std.proofs.Common.{◌≡◌, ◌≢◌, ℕ, List, [], ◌∷◌, ◌++◌, true, false, refl, ap, subst, append_assoc, ◌<◌, length, drop, slice_index}
-use Rattle.std.proofs.Common.{Bool, ◌||◌, sym, ◌∙◌, arith, inl, inr, append-nil, ◌==◌, eqb-true, ne_eqb, take_at, drop_at}
-use Rattle.std.proofs.lemmas.{List.Elements.All-nil, Bool.cases_Bool, Bool.false≢true, Bool.and_parts, Bool.and_right, Grind.common_steps}
+use Rattle.std.proofs.Common.{◌||◌, sym, ◌∙◌, arith, inl, inr, append-nil, ◌==◌, eqb-true, ne_eqb, take_at, drop_at}
+use Rattle.std.proofs.lemmas.{List.Elements.All-nil, Bool.cases_Bool, Bool.and_parts, Bool.and_right, Grind.common_steps}
+use Rattle.std.proofs.Math.Bool.{or-false}
 use Rattle.std.specs.List.{list_all}
 use Rattle.lp_format.specs.format.{IsBareAfter, escaped, without_escapes, NameKind, a_measurement, a_field_key}
 use Rattle.lp_format.specs.format.{is_escapable, ends_in_backslash, escapable, is_stop, logical, name, read_text, spelled, spelled_len}
@@ -62,13 +63,9 @@ ChangesNothing part e c b = (b ≢ backslash) × ((q : List ℕ) → IsBareAfter
 pub reaches_byte : (part : Part) (e c b : ℕ) → ChangesNothing part e c b → Leads (Reaches part e c) (Reaches part e c) (b ∷ [])
 reaches_byte part e c b same = turns part e c part e c b same.0 same.1
 
--- a name holds no newline, and its spaces and backslashes are escaped
-newline_never : (kind : NameKind) → may_hold kind newline ≡ false
-newline_never kind = grind (arith, common_steps)
-
--- so its bare bytes are none of these
+-- a byte that a name may hold bare is no newline
 pub no_newline : (kind : NameKind) (b : ℕ) → may_hold kind b ≡ true → b ≢ newline
-no_newline kind b may = λ e. cc (may, newline_never kind, ap (may_hold kind) e)
+no_newline kind b may = grind (arith, common_steps)
 
 -- nor is one a backslash
 pub no_backslash : (kind : NameKind) (b : ℕ) → is_escapable kind b ≡ false → b ≢ backslash
@@ -95,14 +92,6 @@ never_unescapable kind c h = grind (arith, common_steps)
 pub never_stops : (kind : NameKind) (c : ℕ) → is_one_of (never_in kind) c ≡ true → is_stop kind c ≡ true
 never_stops kind c h = grind (arith, common_steps)
 
--- nor is it a backslash
-never_backslash : (kind : NameKind) (c : ℕ) → is_one_of (never_in kind) c ≡ true → (c == backslash) ≡ false
-never_backslash kind c h = grind (arith, ne_eqb, false≢true, never_unescapable, escapable_backslash)
-
--- the test of a byte with nothing before it
-may_alone : (m : Bool) → (m || false) ≡ true → m ≡ true
-may_alone x0 h = grind (arith, false≢true)
-
 -- a name with a byte at the start that may be bare
 spelled_more : (kind : NameKind) (b : ℕ) (n : List ℕ) → may_hold kind b ≡ true → (s : List ℕ) × SpelledAs kind n s
     → (s : List ℕ) × SpelledAs kind (b ∷ n) s
@@ -114,16 +103,17 @@ spelled_more kind b n may more = elim (cases_Bool (is_escapable kind b)) [
 -- each parsed name has a spelling
 pub spelled_as : (kind : NameKind) (n : List ℕ) → is_kept kind false n ≡ true → (s : List ℕ) × SpelledAs kind n s
 spelled_as kind [] h = ([], done)
-spelled_as kind (b ∷ []) h = spelled_more kind b [] (may_alone (may_hold kind b) (and_parts (may_hold kind b || false) true h).0) ([], done)
+spelled_as kind (b ∷ []) h = spelled_more kind b [] (rw or-false at ((and_parts (may_hold kind b || false) true h).0)) ([], done)
 spelled_as kind (b ∷ c ∷ n) h =
     let parts = and_parts (may_hold kind b || false) (is_kept kind (b == backslash) (c ∷ n)) h in
-    let may = may_alone (may_hold kind b) parts.0 in
+    let may : may_hold kind b ≡ true = rw or-false at parts.0 in
     elim (cases_Bool (b == backslash)) [
       | inl e ↦
           let after = and_parts (may_hold kind c || (b == backslash)) (is_kept kind (c == backslash) n) parts.1 in
           elim (cases_Bool (is_one_of (never_in kind) c)) [
             | inl never ↦
-                let more = spelled_as kind n (rw (never_backslash kind c never) at after.1) in (
+                let other : (c == backslash) ≡ false = ne_eqb c backslash (no_backslash kind c (never_unescapable kind c never)) in
+                let more = spelled_as kind n (rw other at after.1) in (
                   backslash ∷ c ∷ more.0,
                   subst (λ x. SpelledAs kind (x ∷ c ∷ n) (backslash ∷ c ∷ more.0)) (sym (eqb-true b backslash e))
                       (pair c n more.0 never more.1),
@@ -148,14 +138,10 @@ abbrev pub Stops : NameKind → List ℕ → Type 0
 Stops kind [] = Unit {0}
 Stops kind (c ∷ rest) = is_stop kind c ≡ true
 
--- no byte of it belongs to the name
-stops_here : (kind : NameKind) (rest : List ℕ) → Stops kind rest → bare_len (is_stop kind) false rest ≡ 0
-stops_here kind rest ends = grind (arith)
-
 -- a spelling ends before it
 spelled_to : {kind : NameKind} {n s : List ℕ} → SpelledAs kind n s → (rest : List ℕ) → Stops kind rest
     → bare_len (is_stop kind) false (s ++ rest) ≡ length s
-spelled_to {kind = kind} done rest ends = stops_here kind rest ends
+spelled_to done rest ends = grind arith
 spelled_to {kind = kind} (escape b n s known more) rest ends = grind (arith, backslash_no_stop, spelled_to more rest ends)
 spelled_to {kind = kind} (plain b n s other may more) rest ends = grind (arith, stop_escapable, ne_eqb, no_backslash, spelled_to more rest ends)
 spelled_to {kind = kind} (pair c n s never more) rest
@@ -224,17 +210,12 @@ abbrev pub BeginsLine : List ℕ → Type 0
 BeginsLine [] = ⊥
 BeginsLine (b ∷ text) = is_one_of (hash ∷ space ∷ tab ∷ newline ∷ []) b ≡ false
 
--- the first byte of a measurement that may are there
-begins_plain : (b : ℕ) → is_escapable a_measurement b ≡ false → may_hold a_measurement b ≡ true → b ≢ hash
-    → is_one_of (hash ∷ space ∷ tab ∷ newline ∷ []) b ≡ false
-begins_plain b other may no_hash = grind (arith, common_steps)
-
 -- a measurement that begins with no `#` begins a line so
 pub spelled_begins : {n s : List ℕ} → SpelledAs a_measurement n s → 0 < length n → slice_index n 0 ≢ hash
     → (rest : List ℕ) → BeginsLine (s ++ rest)
 spelled_begins done some no_hash rest = absurd (omega (arith, some))
 spelled_begins (escape b n s known more) some no_hash rest = refl
-spelled_begins (plain b n s other may more) some no_hash rest = begins_plain b other may no_hash
+spelled_begins (plain b n s other may more) some no_hash rest = grind (arith, common_steps)
 spelled_begins (pair c n s never more) some no_hash rest = refl
 
 -- so does an admitted one
@@ -267,9 +248,8 @@ reaches_head {kind = kind} h = reaches_spelled Head 0 0 (λ b may other.
     (no_backslash kind b other, λ q f i. Head-other 0 0 q b f (no_space kind b other) (no_newline kind b may) i)) h
 
 -- a name in the head
-pub reaches_name : (kind : NameKind) (n piece : List ℕ) → is_admitted_name kind n ≡ true → Reaches Head 0 0 piece
-    → Reaches Head 0 0 (piece ++ spelling kind n)
-reaches_name kind n piece ok r = reaches_head (admitted_spelled kind n ok) piece r
+pub reaches_name : (kind : NameKind) (n : List ℕ) → is_admitted_name kind n ≡ true → Leads (Reaches Head 0 0) (Reaches Head 0 0) (spelling kind n)
+reaches_name kind n ok = reaches_head (admitted_spelled kind n ok)
 
 -- a byte that means nothing there
 pub reaches_other : (b : ℕ) → b ≢ backslash → b ≢ space → b ≢ newline → Leads (Reaches Head 0 0) (Reaches Head 0 0) (b ∷ [])
@@ -284,13 +264,9 @@ reaches_gap = turns Head 0 0 Plain 0 0 space (omega arith) (Head-space 0 0)
 pub reaches_field_key : (m : ℕ) {n s : List ℕ} → SpelledAs a_field_key n s → Leads (Reaches Plain m m) (Reaches Plain m m) s
 reaches_field_key m h = reaches_spelled Plain m m (λ b may other. (
   no_backslash a_field_key b other,
-  λ q f i. Plain-other m m q b f (no_equals b other) (no_comma b other) (no_newline a_field_key b may) (λ _. omega arith) i,
+  λ q f i. Plain-other m m q b f (apart b equals other refl) (apart b comma other refl) (no_newline a_field_key b may) (λ _. omega arith) i,
 )) h
   where
-    -- a byte that a field key does not escape is no `=`
-    no_equals : (b : ℕ) → is_escapable a_field_key b ≡ false → b ≢ equals
-    no_equals b other = λ e. let h : is_escapable a_field_key b ≡ true = ap (is_escapable a_field_key) e in cc
-
-    -- a byte that a field key does not escape is no `,`
-    no_comma : (b : ℕ) → is_escapable a_field_key b ≡ false → b ≢ comma
-    no_comma b other = λ e. let h : is_escapable a_field_key b ≡ true = ap (is_escapable a_field_key) e in cc
+    -- a byte that a field key does not escape is none that it does
+    apart : (b k : ℕ) → is_escapable a_field_key b ≡ false → is_escapable a_field_key k ≡ true → b ≢ k
+    apart b k other known = λ e. cc (other, known, ap (is_escapable a_field_key) e)

@@ -1,16 +1,19 @@
 -- The line of an admitted point is a piece that a newline ends.
-use Rattle.std.proofs.Common.{◌≡◌, ◌≢◌, ℕ, ◌+◌, ◌^◌, ◌<◌, ◌≤◌, List, [], ◌∷◌, ◌++◌, length, Bool, true, false, refl, sym, ap, ◌∙◌, subst}
-use Rattle.std.proofs.Common.{arith, inl, inr, append_assoc, Option, Some, None, ℤ, not, codes, decimal, IfSome, flat_map, eqb-true}
-use Rattle.std.specs.{List.AllByRecursion, List.list_all, Fmt.signed_decimal, Str.Parse.AllDigits, Str.Parse.IsNumeral}
-use Rattle.std.proofs.lemmas.Bool.{cases_Bool, and_parts, and_from, or_cases, false≢true}
-use Rattle.std.proofs.lemmas.{Grind.common_steps, Fmt.decimal_is_IsNumeral, Str.Parse.digit_from_value, List.Folds.list_all-append}
+use Rattle.std.proofs.Common.{◌≡◌, ◌≢◌, ℕ, ◌+◌, ◌^◌, ◌<◌, List, [], ◌∷◌, ◌++◌, length, Bool, true, false, refl, sym, ap, ◌∙◌, subst}
+use Rattle.std.proofs.Common.{get_or, arith, inl, inr, append_assoc, Option, Some, None, ℤ, not, codes, decimal, IfSome, flat_map}
+use Rattle.std.specs.{List.AllByRecursion, List.list_all, Fmt.signed_decimal}
+use Rattle.std.proofs.lemmas.Bool.{cases_Bool, and_parts, and_from}
+use Rattle.std.proofs.lemmas.List.Sums.{AllPass-from_list_all, list_all-from_AllPass}
+use Rattle.std.specs.List.{AllPass}
+use Rattle.std.proofs.lemmas.{Grind.common_steps, Fmt.decimal_is_IsNumeral, List.Folds.list_all-append}
 use Rattle.lp_split.specs.code.{Head, Plain, Quoted}
 use Rattle.lp_split.proofs.lemmas.split.SplitWalk.{Plain-equals, Plain-comma, Plain-opens, Plain-other, Quoted-closes, Quoted-other}
 use Rattle.lp_format.specs.format.{Dialect, backslash, is_one_of, newline, quote, escaped, a_measurement, a_tag_key, a_tag_value}
-use Rattle.lp_format.specs.format.{a_field_key, Value, integer, unsigned, float, string, boolean, quotable, fits_i64, IsSigned, IsMarked}
-use Rattle.lp_format.specs.format.{IsFloat, Point, IsPoint, Tag, Field, IsValue, is_admitted_tag, is_admitted_field, is_admitted_point}
+use Rattle.lp_format.specs.format.{a_field_key, Value, integer, unsigned, float, string, boolean, quotable, fits_i64}
+use Rattle.lp_format.specs.format.{Point, IsPoint, Tag, Field, IsValue, is_admitted_tag, is_admitted_field, is_admitted_point}
 use Rattle.lp_format.specs.format.{line_of, built_tag, built_field, built_fields, built_timestamp, built_value, spelling, is_admitted_name}
 use Rattle.lp_format.specs.format.{IsCutPiece, begins_comment, Bytes.comma, Bytes.equals, Bytes.letter_i, Bytes.letter_u, Bytes.space}
+use Rattle.lp_format.proofs.lemmas.{literals.FloatLemmas.digits_float, literals.FloatLemmas.float_bytes, literals.FloatLemmas.in_float}
 use Rattle.lp_format.proofs.lemmas.values.ValueLemmas.{fits_from_test}
 use Rattle.lp_lines.proofs.lemmas.names.Spellings.{Leads, leads_by_none, leads_then, turns, reaches_gap, reaches_other, Reaches}
 use Rattle.lp_lines.proofs.lemmas.names.Spellings.{reaches_start, ChangesNothing, reaches_byte, reaches_pair, admitted_spelled}
@@ -36,52 +39,28 @@ IsSimple-append : (xs ys : List ℕ) → IsSimple xs → IsSimple ys → IsSimpl
 IsSimple-append xs ys h k = list_all-append is_simple xs ys ∙ and_from _ _ h k
 
 -- nor does a text of such bytes
-pub reaches_simple : (e c : ℕ) (text piece : List ℕ) → IsSimple text → Reaches Plain e c piece → Reaches Plain e c (piece ++ text)
-reaches_simple e c [] piece all r = leads_by_none (Reaches Plain e c) piece r
-reaches_simple e c (b ∷ text) piece all r =
+pub reaches_simple : (e c : ℕ) (text : List ℕ) → IsSimple text → Leads (Reaches Plain e c) (Reaches Plain e c) text
+reaches_simple e c [] all = leads_by_none (Reaches Plain e c)
+reaches_simple e c (b ∷ text) all =
     let parts = and_parts (is_simple b) (list_all is_simple text) all in
-    leads_then (Reaches Plain e c) (b ∷ []) text (reaches_byte Plain e c b (simple_same e c b parts.0))
-    (λ q h. reaches_simple e c text q parts.1 h) piece r
+    leads_then (Reaches Plain e c) (b ∷ []) text (reaches_byte Plain e c b (simple_same e c b parts.0)) (reaches_simple e c text parts.1)
 
--- numbers are simple
-simple_digit : (b : ℕ) → 48 ≤ b → b ≤ 57 → is_simple b ≡ true
-simple_digit b least most = grind (arith, common_steps)
-
--- so are digits
-simple_digits : (ds : List ℕ) → AllDigits 10 ds → IsSimple ds
-simple_digits [] all = refl
-simple_digits (d ∷ ds) all = grind (arith, digit_from_value, and_from, simple_digit, simple_digits ds)
+-- a text of bytes that a float can hold is simple
+simple_number : (text : List ℕ) → AllPass in_float text → IsSimple text
+simple_number text all = list_all-from_AllPass is_simple text (λ i d within. simple_byte (get_or text i d) (all i d within))
+  where
+    -- such a byte is simple
+    simple_byte : (b : ℕ) → in_float b ≡ true → is_simple b ≡ true
+    simple_byte b held = grind (arith, common_steps)
 
 -- the decimal text of a number
 simple_decimal : (n : ℕ) → n < 2 ^ 64 → IsSimple (decimal n)
-simple_decimal n fits = simple_digits (decimal n) (decimal_is_IsNumeral n fits).0.1
+simple_decimal n fits =
+    simple_number (decimal n) (AllPass-from_list_all in_float (decimal n) (digits_float (decimal n) (decimal_is_IsNumeral n fits).0.1))
 
 -- and that of a signed one
 simple_signed : (z : ℤ) → fits_i64 z ≡ true → IsSimple (signed_decimal z)
 simple_signed n fits = grind (arith, fits_from_test, simple_decimal, and_from)
-
--- a byte of a simple text
-simple_one : (text : List ℕ) (b : ℕ) → IsSimple text → is_one_of text b ≡ true → is_simple b ≡ true
-simple_one [] b all h = absurd (false≢true h)
-simple_one (c ∷ text) b all h = grind (arith, and_parts, or_cases, eqb-true, simple_one text b)
-
--- a sign or none, and digits
-simple_sign : (signs : List ℕ) (ds : List ℕ) → IsSimple signs → IsSigned signs ds → IsSimple ds
-simple_sign signs ds of never = grind (arith, and_from, simple_one, simple_digits)
-
--- a mark and a part, or nothing
-simple_mark : (marks : List ℕ) (Part : List ℕ → Type 0) (text : List ℕ) → IsSimple marks
-    → ((x : List ℕ) → Part x → IsSimple x) → IsMarked marks Part text → IsSimple text
-simple_mark marks p x of part marked = grind (arith, and_from, simple_one)
-
--- and floats
-simple_float : (t : List ℕ) → IsFloat t → IsSimple t
-simple_float t parts = subst IsSimple (sym parts.3)
-    (IsSimple-append parts.0 (parts.1 ++ parts.2) (simple_sign (codes "-") parts.0 refl parts.4)
-    (IsSimple-append parts.1 parts.2
-    (simple_mark (codes ".") (IsNumeral 10) parts.1 refl (λ x numeral. simple_digits x numeral.1) parts.5)
-    (simple_mark (codes "eE") (IsSigned (codes "+-")) parts.2 refl
-    (λ x signed. simple_sign (codes "+-") x refl signed) parts.6)))
 
 -- a byte of a string, with a backslash or without
 reaches_quotable : (e c : ℕ) (s : List ℕ) → Leads (Reaches Quoted e c) (Reaches Quoted e c) (escaped quotable s)
@@ -109,16 +88,13 @@ reaches_string m s = leads_then (Reaches Plain (m + 1) m) (quote ∷ []) _
     (turns Quoted (m + 1) m Plain (m + 1) m quote (omega arith) (Quoted-closes (m + 1) m)))
 
 -- a value, after its `=`
-reaches_value : (m : ℕ) (v : Value (List ℕ)) (piece : List ℕ) → IsValue v → Reaches Plain (m + 1) m piece
-    → Reaches Plain (m + 1) m (piece ++ built_value v)
-reaches_value m (integer z) piece fits r =
-    reaches_simple (m + 1) m (built_value (integer z)) piece (IsSimple-append (signed_decimal z) (letter_i ∷ []) (simple_signed z fits) refl) r
-reaches_value m (unsigned n) piece fits r =
-    reaches_simple (m + 1) m (built_value (unsigned n)) piece (IsSimple-append (decimal n) (letter_u ∷ []) (simple_decimal n fits) refl) r
-reaches_value m (float t) piece ok r = reaches_simple (m + 1) m t piece (simple_float t ok) r
-reaches_value m (string s) piece ok r = reaches_string m s piece r
-reaches_value m (boolean true) piece ok r = reaches_simple (m + 1) m (codes "true") piece refl r
-reaches_value m (boolean false) piece ok r = reaches_simple (m + 1) m (codes "false") piece refl r
+reaches_value : (m : ℕ) (v : Value (List ℕ)) → IsValue v → Leads (Reaches Plain (m + 1) m) (Reaches Plain (m + 1) m) (built_value v)
+reaches_value m (integer z) fits = reaches_simple (m + 1) m _ (IsSimple-append (signed_decimal z) (letter_i ∷ []) (simple_signed z fits) refl)
+reaches_value m (unsigned n) fits = reaches_simple (m + 1) m _ (IsSimple-append (decimal n) (letter_u ∷ []) (simple_decimal n fits) refl)
+reaches_value m (float t) ok = reaches_simple (m + 1) m t (simple_number t (float_bytes t ok))
+reaches_value m (string s) ok = reaches_string m s
+reaches_value m (boolean true) ok = reaches_simple (m + 1) m (codes "true") refl
+reaches_value m (boolean false) ok = reaches_simple (m + 1) m (codes "false") refl
 
 abbrev pub AdmittedTag : Tag → Type 0
 AdmittedTag t = (is_admitted_name a_tag_key t.key ≡ true) × (is_admitted_name a_tag_value t.value ≡ true)
@@ -127,12 +103,11 @@ abbrev pub AdmittedField : Field → Type 0
 AdmittedField f = (is_admitted_name a_field_key f.key ≡ true) × IsValue f.value
 
 -- a field if as many `=` as `,` were counted
-pub reaches_field : (m : ℕ) (f : Field) (piece : List ℕ) → AdmittedField f → Reaches Plain m m piece
-    → Reaches Plain (m + 1) m (piece ++ built_field f)
-reaches_field m f piece ok r =
+pub reaches_field : (m : ℕ) (f : Field) → AdmittedField f → Leads (Reaches Plain m m) (Reaches Plain (m + 1) m) (built_field f)
+reaches_field m f ok =
     leads_then (Reaches Plain (m + 1) m) (spelling a_field_key f.key) _ (reaches_field_key m (admitted_spelled a_field_key f.key ok.0))
     (leads_then (Reaches Plain (m + 1) m) (equals ∷ []) _ (turns Plain m m Plain (m + 1) m equals (omega arith) (Plain-equals m m))
-    (λ q h. reaches_value m f.value q ok.1 h)) piece r
+    (reaches_value m f.value ok.1))
 
 -- the fields after the first
 abbrev pub AfterFields : List ℕ → Type 0
@@ -144,42 +119,23 @@ reaches_fields [] all = leads_by_none AfterFields
 reaches_fields (f ∷ fs) all = leads_then AfterFields (comma ∷ built_field f) _ (λ q h.
     let m = h.0 + 1 in
     let turn = turns Plain m h.0 Plain m m comma (omega arith) (Plain-comma m h.0) in
-    (m, leads_then (Reaches Plain (m + 1) m) (comma ∷ []) _ turn (λ p k. reaches_field m f p all.0 k) q h.1))
+    (m, leads_then (Reaches Plain (m + 1) m) (comma ∷ []) _ turn (reaches_field m f all.0) q h.1))
     (reaches_fields fs all.1)
 
 -- the timestamp
-reaches_timestamp : (t : Option ℤ) (piece : List ℕ) → IfSome t (λ z. fits_i64 z ≡ true) → AfterFields piece
-    → AfterFields (piece ++ built_timestamp t)
-reaches_timestamp None piece ok r = leads_by_none AfterFields piece r
-reaches_timestamp (Some z) piece ok r = (
-  r.0,
-  reaches_simple (r.0 + 1) r.0 (space ∷ signed_decimal z) piece
-      (and_from (is_simple space) (list_all is_simple (signed_decimal z)) refl (simple_signed z ok)) r.1,
-)
+reaches_timestamp : (t : Option ℤ) → IfSome t (λ z. fits_i64 z ≡ true) → Leads AfterFields AfterFields (built_timestamp t)
+reaches_timestamp None ok = leads_by_none AfterFields
+reaches_timestamp (Some z) ok = λ piece r. (r.0, reaches_simple (r.0 + 1) r.0 (space ∷ signed_decimal z) (simple_signed z ok) piece r.1)
 
 -- the tags
-pub reaches_tags : (ts : List Tag) (piece : List ℕ) → AllByRecursion AdmittedTag ts → Reaches Head 0 0 piece
-    → Reaches Head 0 0 (piece ++ flat_map built_tag ts)
-reaches_tags [] piece all r = leads_by_none (Reaches Head 0 0) piece r
-reaches_tags (t ∷ ts) piece all r = leads_then (Reaches Head 0 0) (comma ∷ []) _ (reaches_other comma (omega arith) (omega arith) (omega arith))
+pub reaches_tags : (ts : List Tag) → AllByRecursion AdmittedTag ts → Leads (Reaches Head 0 0) (Reaches Head 0 0) (flat_map built_tag ts)
+reaches_tags [] all = leads_by_none (Reaches Head 0 0)
+reaches_tags (t ∷ ts) all = leads_then (Reaches Head 0 0) (comma ∷ []) _ (reaches_other comma (omega arith) (omega arith) (omega arith))
     (leads_then (Reaches Head 0 0) (spelling a_tag_key t.key ++ equals ∷ spelling a_tag_value t.value) _
-    (leads_then (Reaches Head 0 0) (spelling a_tag_key t.key) _ (λ q h. reaches_name a_tag_key t.key q all.0.0 h)
+    (leads_then (Reaches Head 0 0) (spelling a_tag_key t.key) _ (reaches_name a_tag_key t.key all.0.0)
     (leads_then (Reaches Head 0 0) (equals ∷ []) _ (reaches_other equals (omega arith) (omega arith) (omega arith))
-    (λ q h. reaches_name a_tag_value t.value q all.0.1 h)))
-    (λ q h. reaches_tags ts q all.1 h)) piece r
-
--- the line
-pub reaches_line : (n : List ℕ) (ts : List Tag) (f : Field) (fs : List Field) (t : Option ℤ)
-    → is_admitted_name a_measurement n ≡ true → AllByRecursion AdmittedTag ts → AdmittedField f
-    → AllByRecursion AdmittedField fs → IfSome t (λ z. fits_i64 z ≡ true)
-    → AfterFields (spelling a_measurement n ++ (flat_map built_tag ts ++ (built_fields space (f ∷ fs) ++ built_timestamp t)))
-reaches_line n ts f fs t named tagged first more stamped =
-    leads_then AfterFields (spelling a_measurement n) _ (λ q h. reaches_name a_measurement n q named h)
-    (leads_then AfterFields (flat_map built_tag ts) _ (λ q h. reaches_tags ts q tagged h)
-    (leads_then AfterFields (built_fields space (f ∷ fs)) _
-    (leads_then AfterFields (space ∷ []) _ reaches_gap
-    (leads_then AfterFields (built_field f) _ (λ q h. (0, reaches_field 0 f q first h)) (reaches_fields fs more)))
-    (λ q h. reaches_timestamp t q stamped h))) [] reaches_start
+    (reaches_name a_tag_value t.value all.0.1)))
+    (reaches_tags ts all.1))
 
 -- what a newline may end, in both dialects
 is_cut_piece : (dialect : Dialect) (text : List ℕ) → begins_comment text ≡ false → AfterFields text → IsCutPiece dialect text
@@ -227,7 +183,12 @@ line_is_cut_piece dialect p ok = subst (IsCutPiece dialect) (sym (line_parts p))
         → IsCutPiece dialect (spelling a_measurement n ++ (flat_map built_tag ts ++ (built_fields space fs ++ built_timestamp t)))
     whole n ts [] t named tagged fielded some stamped = absurd (omega arith)
     whole n ts (f ∷ fs) t named tagged fielded some stamped = is_cut_piece dialect _ (line_no_comment _ (measurement_begins n _ named))
-        (reaches_line n ts f fs t named tagged fielded.0 fielded.1 stamped)
+        (leads_then AfterFields (spelling a_measurement n) _ (reaches_name a_measurement n named)
+        (leads_then AfterFields (flat_map built_tag ts) _ (reaches_tags ts tagged)
+        (leads_then AfterFields (built_fields space (f ∷ fs)) _
+        (leads_then AfterFields (space ∷ []) _ reaches_gap
+        (leads_then AfterFields (built_field f) _ (λ q h. (0, reaches_field 0 f fielded.0 q h)) (reaches_fields fs fielded.1)))
+        (reaches_timestamp t stamped))) [] reaches_start)
 
 -- the line of an admitted point begins with no blank, no newline and no `#`
 pub line_begins : (p : Point) → IsAdmitted p → BeginsLine (line_of p)

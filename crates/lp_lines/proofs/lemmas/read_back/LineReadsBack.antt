@@ -135,16 +135,11 @@ fields_end : (fs : List Field) (rest : List ℕ) → Ends rest → Ends (built_f
 fields_end [] rest ends = ends
 fields_end (f ∷ fs) rest ends = refl
 
--- no comma is taken before a timestamp or at the end
-no_comma : (dialect : Dialect) (fs : List (Pair Text (Value Text))) (t : Option ℤ)
-    → without_comma dialect fs (built_timestamp t) ≡ built_timestamp t
-no_comma dialect fs t = grind (arith)
-
 -- what ends the fields of a built line is no comma
 timestamp_ends : (dialect : Dialect) (fs : List (Pair Text (Value Text))) (t : Option ℤ)
     → (byte comma (built_timestamp t) ≡ miss) × Ends (built_timestamp t)
     × (without_comma dialect fs (built_timestamp t) ≡ built_timestamp t)
-timestamp_ends dialect fs z = grind (arith, no_comma)
+timestamp_ends dialect fs z = grind arith
 
 -- the fields of a line read back before its timestamp
 pub field_set_reads_back : (dialect : Dialect) (f : Field) (fs : List Field) (t : Option ℤ) → AdmittedField f

@@ -2,10 +2,15 @@
 use Rattle.std.proofs.Common.{◌≡◌, ℕ, suc, zero, ◌+◌, ◌<◌, ◌≤◌, Bool, true, false, not, cond, ◌&&◌, ◌||◌, List, [], ◌∷◌, length, take, drop}
 use Rattle.std.proofs.Common.{get_or, map, Some, Option, refl, ap, sym, ◌∙◌, arith, zero-add, length-drop, Bor, Ordering, BTreeMap, is_some}
 use Rattle.std.proofs.Common.{is_lt, is_ge, nat_cmp, bytes_eq}
+use borrow.Author.Count.{below_more}
+use Rattle.std.proofs.lemmas.Grind.{common_steps}
+use Rattle.std.proofs.Math.Bool.{and-false}
 use Rattle.std.specs.{BTreeMap.UpdatesBy, BTreeMap.get_by, BTreeMap.insert_entry, Cmp.Lexicographic.slice_cmp}
-use Rattle.std.specs.{Cmp.Lexicographic.nat_list_eq_equiv, List.list_all, List.list_any, List.range_with_len, Ordering.match_ordering}
+use Rattle.std.specs.{Cmp.Lexicographic.nat_list_eq_equiv, List.list_all, List.list_any, List.range_with_len}
+use Rattle.std.specs.{List.IsAllAdjacentAnswer, Ordering.match_ordering}
 use Rattle.std.proofs.lemmas.List.FromFn.{length-range_with_len, get_or-range_with_len}
-use Rattle.std.proofs.lemmas.{List.map_more, List.length-map, List.Folds.list_all-map, List.Folds.list_any_more, List.Sums.fold_push}
+use Rattle.std.proofs.lemmas.{List.map_more, List.length-map, List.get_or-map, List.Folds.list_all-map}
+use Rattle.std.proofs.lemmas.{List.Folds.list_any_more, List.Sums.fold_push}
 use Rattle.std.proofs.lemmas.{List.Sums.position_or_len_is, Map.Text.btree_map_updates_str}
 use Rattle.lp_values.specs.declared.escaped.EscapedStr.{EscapedStr}
 use Rattle.lp_lines.specs.code.Bases.{by_key, entry_bytes, first_repeated, is_repeated_at, is_ambiguous_tag, keys_of, is_strictly_sorted}
@@ -14,47 +19,33 @@ use Rattle.lp_format.specs.code.Light.{is_single_tag}
 use Rattle.lp_format.specs.format.{Pair, Text}
 use Rattle.lp_values.specs.code.Texts.{text_of}
 
--- keys that rise from a place on
-rise_from : (keys : List (List ℕ)) (i : ℕ) → suc i < length keys
-    → is_strictly_sorted (drop i keys) ≡ (is_lt (slice_cmp nat_cmp (get_or keys i []) (get_or keys (suc i) [])) &&
-    is_strictly_sorted (drop (suc i) keys))
-rise_from [] i h = absurd (omega arith)
-rise_from (k ∷ []) i h = absurd (omega arith)
-rise_from (k ∷ l ∷ keys) zero h = refl
-rise_from (k ∷ l ∷ keys) (suc i) h = rise_from (l ∷ keys) i (omega arith)
-
--- a key alone rises
-short_rises : (keys : List (List ℕ)) → length keys ≤ 1 → is_strictly_sorted keys ≡ true
-short_rises [] h = refl
-short_rises (k ∷ []) h = refl
-short_rises (k ∷ l ∷ keys) h = absurd (omega arith)
-
--- the key of a tag
-pub key_at : (tags : List (EscapedStr × EscapedStr)) (i : ℕ) (d : EscapedStr × EscapedStr) → i < length tags
-    → get_or (keys_of (map tag_of tags)) i [] ≡ text_of (get_or tags i d).0
-key_at (t ∷ tags) zero d h = refl
-key_at (t ∷ tags) (suc i) d h = key_at tags i d (omega arith)
-key_at [] i d h = absurd (omega arith)
+-- keys rise if each is greater than the one before it
+pub keys_rise_is : (tags : List (EscapedStr × EscapedStr)) (r : Bool)
+    → IsAllAdjacentAnswer (λ x y b. b ≡ is_lt (slice_cmp nat_cmp (text_of x.0) (text_of y.0))) tags r
+    → r ≡ is_strictly_sorted (keys_of (map tag_of tags))
+keys_rise_is [] true h = refl
+keys_rise_is [] false h = let l = h.1 in absurd (omega arith)
+keys_rise_is (t ∷ []) true h = refl
+keys_rise_is (t ∷ []) false h = let l = h.1 in absurd (omega arith)
+keys_rise_is (t ∷ u ∷ tags) true h = rw (← h 0 t (omega arith)) (keys_rise_is (u ∷ tags) true (λ k d l.
+    let next : suc k + 1 ≡ suc (k + 1) = omega arith in rw next at (h (suc k) d (omega arith))))
+keys_rise_is (t ∷ u ∷ tags) false (zero, l, falls) = rw (← falls t) refl
+keys_rise_is (t ∷ u ∷ tags) false (suc k, l, falls) =
+    let next : suc k + 1 ≡ suc (k + 1) = omega arith in
+    rw (← keys_rise_is (u ∷ tags) false (k, omega arith, λ d. rw next at (falls d)))
+    (sym (and-false (is_lt (slice_cmp nat_cmp (text_of t.0) (text_of u.0)))))
 
 -- the key at a place is the text of the tag there
 pub key_is : (tags : List (EscapedStr × EscapedStr)) (i : ℕ) (t : EscapedStr × EscapedStr) → i < length tags → t ≡ get_or tags i t
     → get_or (keys_of (map tag_of tags)) i [] ≡ text_of t.0
-key_is tags i t within is = key_at tags i t within ∙ ap (λ (t : EscapedStr × EscapedStr). text_of t.0) (sym is)
+key_is tags i t within is =
+    get_or-map (λ (t : Pair Text Text). t.key.bytes) (map tag_of tags) i (tag_of t) [] (omega (arith, length-map tags tag_of))
+    ∙ ap (λ (t : Pair Text Text). t.key.bytes) (get_or-map tag_of tags i t (tag_of t) within)
+    ∙ ap (λ (t : EscapedStr × EscapedStr). text_of t.0) (sym is)
 
 -- how many keys
 pub length_keys : (tags : List (EscapedStr × EscapedStr)) → length (keys_of (map tag_of tags)) ≡ length tags
 length_keys tags = length-map (map tag_of tags) _ ∙ length-map tags tag_of
-
--- two keys, one after the other, that are compared
-pub rise_at : (tags : List (EscapedStr × EscapedStr)) (i at : ℕ) (d e : EscapedStr × EscapedStr) (b : Bool) → suc i ≡ at → at < length tags
-    → b ≡ is_ge (slice_cmp nat_cmp (text_of (get_or tags i d).0) (text_of (get_or tags at e).0))
-    → is_strictly_sorted (drop i (keys_of (map tag_of tags))) ≡ (not b && is_strictly_sorted (drop at (keys_of (map tag_of tags))))
-rise_at tags i at d e b next within test = grind (arith, rise_from, length_keys, key_at)
-
--- at the end
-pub rise_end : (tags : List (EscapedStr × EscapedStr)) (i : ℕ) → length tags ≤ suc i
-    → is_strictly_sorted (drop i (keys_of (map tag_of tags))) ≡ true
-rise_end tags i h = grind (arith, short_rises, length-drop, length_keys)
 
 -- what fixes the first repeated key
 pub first_repeated_is : (keys : List (List ℕ)) (n : ℕ) → n ≤ length keys → ((k : ℕ) → k < n → is_repeated_at keys k ≡ false)
@@ -130,3 +121,6 @@ pub any_ambiguous : (tags : List (EscapedStr × EscapedStr))
     → list_any is_ambiguous_tag (map tag_of tags) ≡ list_any (λ t. is_ambiguous_tag (tag_of t)) tags
 any_ambiguous [] = refl
 any_ambiguous (t ∷ tags) = ap (λ (b : Bool). is_ambiguous_tag (tag_of t) || b) (any_ambiguous tags)
+
+-- the map of tags, with one tag more
+pub ruleset map_steps = (common_steps, by_key_nil, entries_more, first_repeated_is, has_more, key_is, length_keys, below_more)

@@ -8,7 +8,7 @@ use Rattle.lp_lines.specs.laws.BaseLaws.{is_tag_one_escape, spelled_tags}
 use Rattle.lp_lines.specs.code.Bases.{base_by_key, base_of, base_text, based_tag, by_key, first_repeated, in_order, keys_of}
 use Rattle.lp_lines.specs.code.Bases.{is_strictly_sorted}
 use Rattle.lp_format.specs.code.Light.{is_single_tag}
-use Rattle.lp_format.specs.format.{comma, equals, tag, NameKind, a_measurement, a_tag_key, a_tag_value, escapable}
+use Rattle.lp_format.specs.format.{equals, tag, NameKind, a_measurement, a_tag_key, a_tag_value, escapable}
 use Rattle.lp_format.specs.format.{is_one_escape, name, read_text, spelled, spelled_len, Pair, Text, reads}
 use Rattle.lp_format.specs.laws.Meanings.{SeparatedAfterComma}
 use Rattle.lp_format.proofs.lemmas.names.NameLemmas.{without_escapes_same, no_backslash}
@@ -48,11 +48,6 @@ tag_parts text x rest e =
       text_is = rw past (sym (take-append-drop (spelled_len a_tag_key text) text) ∙ ap (λ (r : List ℕ). spelled a_tag_key text ++ r) there);
     }
 
--- a tag with what is after it
-one_tag : (text suffix key v value after flat shown read : List ℕ) → text ≡ comma ∷ suffix → suffix ≡ key ++ equals ∷ v → v ≡ value ++ after
-    → after ≡ flat → shown ≡ key → read ≡ value → text ≡ (comma ∷ shown ++ equals ∷ read) ++ flat
-one_tag text suffix key v value after flat shown read a b c d e f = grind (arith, append_assoc)
-
 -- tags that are parts of the text, none of their names an escape alone, are spelled as they are
 spells : (tags : List (Pair Text Text)) (text : List ℕ) → SeparatedAfterComma tag tags text []
     → list_any is_tag_one_escape (spelled_tags (length tags) text) ≡ false → list_all is_single_tag tags ≡ true
@@ -73,9 +68,10 @@ spells (t ∷ tags) text h apart single =
     (ap (λ (r : List ℕ). list_any is_tag_one_escape (spelled_tags (length tags) r)) p.rest_is ∙ escapes.1) singles.1 in
     let split : v ≡ spelled a_tag_value v ++ h.1 = sym (take-append-drop (spelled_len a_tag_value v) v)
     ∙ ap (λ (r : List ℕ). spelled a_tag_value v ++ r) (sym p.rest_is) in
-    one_tag text after (spelled a_tag_key after) v (spelled a_tag_value v) h.1 (flat_map based_tag (in_order tags))
-    t.key.bytes t.value.bytes
-    h.2 p.text_is split more (single_same a_tag_key after t.key p.key_is alone.0 both.0) value
+    let key = single_same a_tag_key after t.key p.key_is alone.0 both.0 in
+    let is = h.2 in
+    let whole = p.text_is in
+    grind (arith, append_assoc)
 
 -- the tags of a parsed series come after its measurement
 pub tags_separated : {raw : List ℕ} {m : Text} {tags : List (Pair Text Text)} (h : IsParsedSeries raw m tags)

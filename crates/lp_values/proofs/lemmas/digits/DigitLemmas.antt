@@ -36,13 +36,9 @@ pub number_before : (m k : ℕ) (ds : List ℕ) → digits_value_after 10 (m + k
 number_before m k [] = omega arith
 number_before m k (d ∷ ds) = grind (arith, mul_assoc, pow-succ', number_before (m * 10) (k * 10 + digit_value d) ds)
 
--- so a number with digits after it is no less than it with a zero for each of them
-pub zeros_fit : (n k : ℕ) (ds : List ℕ) → length ds ≡ k → n * 10 ^ k ≤ digits_value_after 10 n ds
-zeros_fit n k ds long = let whole = rw (add-zero n) at (number_before n 0 ds) in rw (← long) (omega (arith, whole))
-
--- the value of a digit, from its byte
-pub digit_is : (d : ℕ) → digit_value d < 10 → digit_value d ≡ d - 48
-digit_is d small = let range = digit_from_value d small in omega (arith, digit_value_digit d range)
+-- a number with digits after it
+pub digits_after : (n : ℕ) (ds : List ℕ) → digits_value_after 10 n ds ≡ n * 10 ^ length ds + digits_value 10 ds
+digits_after n ds = rw add-zero at (number_before n 0 ds)
 
 -- the number with four digits more
 abbrev pub with_four : ℕ → List ℕ → ℕ
@@ -56,7 +52,7 @@ four_more n [] some digits = absurd (omega arith)
 four_more n (a ∷ []) some digits = absurd (omega arith)
 four_more n (a ∷ (b ∷ [])) some digits = absurd (omega arith)
 four_more n (a ∷ (b ∷ (c ∷ []))) some digits = absurd (omega arith)
-four_more n (a ∷ (b ∷ (c ∷ (d ∷ ds)))) some (va, (vb, (vc, (vd, rest)))) = grind (arith, digit_is, digit_from_value)
+four_more n (a ∷ (b ∷ (c ∷ (d ∷ ds)))) some (va, (vb, (vc, (vd, rest)))) = grind (arith, digit_from_value, digit_value_digit)
 
 -- so the number so far is no greater than the whole one
 pub four_fit : (n : ℕ) (ds : List ℕ) → 4 ≤ length ds → AllDigits 10 ds → with_four n ds ≤ digits_value_after 10 n ds
@@ -131,10 +127,12 @@ two_and_two (a ∷ (b ∷ (c ∷ (d ∷ [])))) e = omega arith
 two_and_two (a ∷ (b ∷ (c ∷ (d ∷ (f ∷ gs))))) e = absurd (omega (arith, e))
 
 -- the number of 16 digits, by those of each four, and how large it is
-pub by_groups : (ds : List ℕ) → AreGroups 4 ds
-    → ((get_or (groups ds) 0 0 * 10000 + get_or (groups ds) 1 0) * 100000000 + (get_or (groups ds) 2 0 * 10000 + get_or (groups ds) 3 0)
-    ≡ number_from_digits 10 ds) × (number_from_digits 10 ds < 10 ^ 16)
-by_groups ds are = grind (arith, number_lt, two_and_two)
+pub by_groups : (ds : List ℕ) → length ds ≡ 16 → AllBelowBase 10 ds
+    → (let sums = zip2 {C = ℕ} (λ a b. (a + b) % 2 ^ 32) (zip2 {C = ℕ} (λ a b. (a * 2 ^ b) % 2 ^ 32) (dots ds (firsts 4)) (replicate 4 3))
+    (dots ds (others 4)) in
+    ((get_or sums 0 0 * 10000 + get_or sums 1 0) * 100000000 + (get_or sums 2 0 * 10000 + get_or sums 3 0) ≡ number_from_digits 10 ds)
+    × (number_from_digits 10 ds < 10 ^ 16))
+by_groups ds whole small = let are = are_groups 4 ds whole small in rw are.sums (grind (arith, number_lt, two_and_two))
 
 -- zeros before the digits change no number
 zeros_before : (k : ℕ) (ds : List ℕ) → number_from_digits 10 (replicate k 0 ++ ds) ≡ number_from_digits 10 ds
@@ -247,6 +245,9 @@ window_moves n lanes fits long =
 
 -- a number by its digits, four at a time
 pub ruleset four_steps = (common_steps, take_rest, few_fit, four_fit, four_more)
+
+-- the number of 16 lanes, by the sums of each four
+pub ruleset lanes_steps = (common_steps, by_groups)
 
 -- the window of the table that moves lanes
 pub ruleset window_steps = (window_fits, window_moves)

@@ -1,12 +1,15 @@
 -- What comes after a reading ends the text.
-use Rattle.std.proofs.lemmas.{Grind.common_steps, Grind.merely, Bool.eqb-false}
+use Rattle.std.proofs.lemmas.{Grind.common_steps, Grind.merely, Bool.eqb-false, Str.IsCharBoundary-after_ascii}
+use Rattle.std.proofs.Common.{to_z-of_z, ◌<◌, ◌-◌, ◌+◌, length, codes, slice_index, IsCharBoundary, IsUtf8, length-take}
+use Rattle.lp_format.proofs.lemmas.literals.FloatLemmas.{float_fills, float_whole, signed_front}
+use Rattle.lp_format.proofs.lemmas.values.ValueLemmas.{fits_from_test, integer_overflows, integer_reads, letter_boundary, boolean_reads}
 use Rattle.lp_format.proofs.lemmas.values.ValueForms.{no_number, float_is, unsigned_is, number_form, string_form, boolean_form}
 use Rattle.lp_format.proofs.lemmas.values.ValueLemmas.{integer_decides, front_numeral, unsigned_overflows, unsigned_reads, boolean_misses}
 use Rattle.lp_format.proofs.lemmas.literals.FloatLemmas.{integer_len_fits, float_misses, float_reads, float_len_float}
 use Rattle.std.proofs.Common.{◌≡◌, ℕ, List, [], ◌∷◌, ◌++◌, take, drop, sym, ◌∙◌, ap, refl, append_assoc, arith, eqb-true, take-append-drop, rules}
-use Rattle.std.proofs.lemmas.Bool.{cases_Bool}
+use Rattle.std.proofs.lemmas.{Bool.cases_Bool, Str.IsCharBoundary-start}
 use Rattle.lp_format.specs.format.{comma, equals, Text, Read, Reading, reads, ◌>>=◌, NameKind, name, a_tag_key, a_tag_value, escapable}
-use Rattle.lp_format.specs.format.{spelled, spelled_len, read_text, Pair, byte, key_value, tag, after_comma}
+use Rattle.lp_format.specs.format.{spelled, spelled_len, read_text, Pair, byte, key_value, tag, after_comma, IsSigned, integer_len}
 
 -- the rest is the end of the text
 pub record EndsIn (text rest : List ℕ) : Type 0 where
@@ -95,17 +98,34 @@ after_comma_ends one ends text x rest e =
 -- what tells which number a text begins with
 pub ruleset which_number = (common_steps, eqb-false, eqb-true, no_number, integer_decides, unsigned_is, float_is)
 
+-- an integer at the start of a text is signed
+pub signed_is : (number text : List ℕ) (n : ℕ) → number ≡ take n text → n ≡ integer_len text → 0 < length number
+    → IsSigned (codes "-") number
+signed_is number text n front len some =
+    let taken : 0 < integer_len text = omega (arith, ap length front, length-take n text) in
+    rw (front, len) (signed_front (codes "-") text taken)
+
+-- after a byte of ASCII that is not zero a text may be cut
+pub mark_boundary : (text : List ℕ) (n : ℕ) → IsUtf8 text → 0 < slice_index text n → slice_index text n < 128 → IsCharBoundary text (n + 1)
+mark_boundary text n utf8 some small = letter_boundary text n (slice_index text n - 1) utf8 (omega arith) (omega arith)
+
+-- what an integer at the start of a text reads
+pub ruleset integer_steps = (common_steps, integer_reads, integer_overflows, to_z-of_z, fits_from_test, mark_boundary, signed_is)
+
 -- what an unsigned number at the start of a text reads
-pub ruleset unsigned_steps = (common_steps, front_numeral, unsigned_overflows, unsigned_reads)
+pub ruleset unsigned_steps = (common_steps, front_numeral, unsigned_overflows, unsigned_reads, mark_boundary)
 
 -- what the word for a Boolean at the start of a text reads
-pub ruleset boolean_steps = (common_steps, boolean_misses, rules)
+pub ruleset boolean_steps = (common_steps, boolean_misses, boolean_reads, IsCharBoundary-after_ascii, rules)
 
 -- what the first byte of a value tells of its kind
 pub ruleset value_forms = (common_steps, number_form, string_form, boolean_form)
 
 -- how long a float at the start of a text is
-pub ruleset float_len_steps = (common_steps, integer_len_fits, rules)
+pub ruleset float_len_steps = (common_steps, integer_len_fits, IsCharBoundary-start, rules)
 
 -- what a float at the start of a text reads
 pub ruleset float_steps = (common_steps, merely, float_misses, float_reads, float_len_float)
+
+-- whether a whole text is a float
+pub ruleset whole_float_steps = (common_steps, merely, float_fills, float_whole)

@@ -1,11 +1,8 @@
 use Rattle.std.proofs.Common.{◌≡◌, ◌≤◌, ◌+◌, length, arith}
-use Rattle.std.proofs.lemmas.{Grind.common_steps, Str.IsCharBoundary-start}
+use Rattle.std.proofs.lemmas.{Grind.common_steps}
 use Rattle.lp_format.specs.format.Values.{float_len}
 use Rattle.lp_format.proofs.lemmas.literals.FloatLemmas.{float_boundary, integer_len_fits}
 use Rattle.lp_values.proofs.literals.float_len.Goals as goal
-
-pub returns-then-whole-eq0-clause-boundary : goal.returns-then-whole-eq0-clause-boundary
-returns-then-whole-eq0-clause-boundary c = IsCharBoundary-start c.args.text.now c.utf8.text
 
 pub returns-clause-boundary : goal.returns-clause-boundary
 returns-clause-boundary c =

@@ -1,13 +1,49 @@
-use Rattle.std.proofs.Common.{◌≡◌, ◌-◌, ◌<◌, true, [], ◌∷◌, ◌++◌, length, get_or, take, drop, rules, arith, append_assoc}
-use Rattle.std.proofs.Output.{has_written_append, has_written_of_eq}
-use Rattle.std.proofs.lemmas.{Grind.common_steps, Str.IsCharBoundary-start, Str.IsCharBoundary-before_ascii}
-use Rattle.lp_format.specs.format.Bytes.{backslash, is_one_of}
-use Rattle.lp_scan.specs.code.Tokens.{known_of}
+use Rattle.std.proofs.Common.{◌≡◌, ℕ, ◌+◌, ◌-◌, ◌<◌, ◌≤◌, true, false, List, [], ◌∷◌, ◌++◌, length, get_or, slice_index, take, drop, refl}
+use Rattle.std.proofs.Common.{rules, arith, append_assoc, append-nil, length-drop}
+use Rattle.std.proofs.{Math.Nat.sub_self, Output.has_written_append, Output.has_written_of_eq}
+use Rattle.std.proofs.lemmas.{Grind.common_steps, Grind.flat_map-append, List.take_more}
+use Rattle.std.proofs.lemmas.Str.{IsCharBoundary-start, IsCharBoundary-before_ascii}
+use Rattle.lp_format.specs.format.{backslash, is_one_of, escaped, escaped_byte}
+use Rattle.lp_scan.specs.{code.known_of, declared.sets.TokenKind.TokenKind}
 use Rattle.lp_format.specs.code.Shown.{shown_escapes}
-use Rattle.lp_values.proofs.lemmas.shown.ShownLemmas.{escaped_nil, keep_byte, escape_byte, shown_ascii}
 use Rattle.lp_values.proofs.shown.show_escaped.Goals as goal
 use Rattle.lp_values.proofs.shown.show_escaped.Goals.{then-bytes-at-ne92+then-is_known+in_ok-write_str+in_ok-write_str-2}
 use Rattle.lp_values.proofs.shown.show_escaped.Goals.{else-bytes-at-ne92}
+
+-- an empty text
+escaped_nil : (bytes : List ℕ) → [] ≡ escaped bytes []
+unfolding escaped
+escaped_nil bytes = refl
+
+-- one byte more
+escaped_more : (bytes text : List ℕ) (i : ℕ) → i < length text
+    → escaped bytes (take (i + 1) text) ≡ escaped bytes (take i text) ++ escaped_byte bytes (slice_index text i)
+unfolding escaped
+escaped_more bytes text i h = grind (arith, common_steps, take_more, flat_map-append, append-nil)
+
+-- the run that is not yet written, with one byte more
+run_more : (text : List ℕ) (start at : ℕ) → start ≤ at → at < length text
+    → take (at + 1 - start) (drop start text) ≡ take (at - start) (drop start text) ++ slice_index text at ∷ []
+run_more text start at low within =
+    let n : at + 1 - start ≡ (at - start) + 1 = omega arith in
+    let here : get_or (drop start text) (at - start) 0 ≡ get_or text at 0 = grind (arith, common_steps) in
+    rw (n, take_more (drop start text) (at - start) 0 (omega (arith, length-drop start text)), here) refl
+
+-- a byte without a backslash goes to the run
+keep_byte : (bytes text done : List ℕ) (start at : ℕ) → start ≤ at → at < length text → is_one_of bytes (slice_index text at) ≡ false
+    → done ++ take (at - start) (drop start text) ≡ escaped bytes (take at text)
+    → done ++ take (at + 1 - start) (drop start text) ≡ escaped bytes (take (at + 1) text)
+keep_byte bytes text done start at low within plain whole = grind (arith, run_more, escaped_more, append_assoc)
+
+-- a byte with a backslash begins a new run, after the old one and the backslash
+escape_byte : (bytes text done : List ℕ) (start at : ℕ) → at < length text → is_one_of bytes (slice_index text at) ≡ true
+    → done ++ take (at - start) (drop start text) ≡ escaped bytes (take at text)
+    → (done ++ (take (at - start) (drop start text) ++ backslash ∷ [])) ++ take (at + 1 - at) (drop at text) ≡ escaped bytes (take (at + 1) text)
+escape_byte bytes text done start at within special whole = grind (arith, sub_self, run_more, escaped_more, append_assoc)
+
+-- bytes that are shown with a backslash are ASCII
+shown_ascii : (kind : TokenKind) (b : ℕ) → is_one_of (shown_escapes (known_of kind)) b ≡ true → b < 128
+shown_ascii kind b h = grind arith
 
 pub loop-at-init : goal.loop-at-init
 loop-at-init g c = (omega arith, IsCharBoundary-start c.args.text.now c.utf8.text, [], escaped_nil _, search rules)
