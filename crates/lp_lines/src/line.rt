@@ -11,6 +11,7 @@ ghost use Rattle.lp_events.specs.code.LineSteps.{GivesLine, most_items};
 ghost use Rattle.lp_lines.specs.code.ReadInto.{IsEmptyLine, KeepsTagRoom};
 
 use crate::filling::{Filling, tell_line};
+use crate::freeing::{forget_line, free_line};
 use crate::{FieldSet, ParsedLine, Series, TagSet};
 use lp_events::lines;
 use lp_split::Dialect;
@@ -145,13 +146,18 @@ fn empty(parsed: &mut ParsedLine<'_>)
     parsed.timestamp = None;
 }
 
-// Makes the item of a line that is at fault. What was read of the line is dropped here, and nowhere else.
+// Makes the item of a line that is at fault. What was read of the line is freed here, and nowhere else: to drop the line would visit
+// each place of its sets.
 #[cold]
 #[inline(never)]
-fn refuse(item: &mut Result<ParsedLine<'_>>, fault: Error)
+fn refuse(alloc: Global, item: &mut Result<ParsedLine<'_>>, fault: Error)
     ensures { item.new ≡ Err fault }
 {
-    *item = Err(fault);
+    let read = mem::replace(item, Err(fault));
+    if let Ok(mut parsed) = read {
+        free_line(alloc, &mut parsed);
+        forget_line(parsed);
+    }
 }
 
 /// Reads a trimmed text into a line that is used again: the line is then what the text says, or empty if that is at fault.
@@ -327,7 +333,7 @@ impl<'a> Iterator for ParseLines<'a> {
         };
         if let Ok(parsed) = &mut item {
             if let Err(fault) = fill(self.alloc, dialect_of(&self.lines), line, parsed, None) {
-                refuse(&mut item, fault);
+                refuse(self.alloc, &mut item, fault);
             }
         }
         Some(item)
