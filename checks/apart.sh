@@ -138,7 +138,7 @@ for parts in "" 0 04 -1 +4 4.0 1e2 1000 18446744073709551620 x; do
 done
 wanted 2 "" "apart: with the options (--wrong) the status of * is 2" "$apart" "$file" 4 --wrong
 wanted 2 "" "apart: the options (--help) are not *" "$apart" "$file" 4 --help
-for words in "--output again" "--strict -o again" "again" "--lines -" "--max-line 7 7"; do
+for words in "--output again" "--strict -o again" "--refused again" "again" "--lines -" "--max-line 7 7"; do
     # shellcheck disable=SC2086
     wanted 2 "" "apart: the options ($words) name a file" "$apart" "$file" 4 $words
 done

@@ -75,7 +75,7 @@ crate=lp_relay
 program=$relay
 usage="usage: lp_relay [--strict] [--verbatim | --canonical] [--faults line|raw] [--max-line BYTES]
                 [--first-item N | [--lines] [--first-line N]] [--progress] [--summary]
-                [--check | --output FILE] [FILE..]
+                [--check | --output FILE] [--refused FILE] [FILE..]
        lp_relay [--strict] --cut PARTS [FILE..]
        lp_relay --help | --version$newline"
 wanted_of_both "$usage"
@@ -255,6 +255,14 @@ if [ -n "$program" ]; then
         wanted 2 "" "$usage" --lines --check --strict "$option" x
         wanted 2 "" "$usage" --cut 2 "$option" x
     done
+    wanted 2 "" "$usage" --refused
+    wanted 2 "" "$usage" x --refused y
+    wanted 2 "" "$usage" --refused x --refused y
+    wanted 2 "" "$usage" --refused --lines
+    wanted 2 "" "$usage" --refused -
+    wanted 2 "" "$usage" --refused ""
+    wanted 2 "" "$usage" --refused=x
+    wanted 2 "" "$usage" --refused x --cut 2
     wanted 2 "" "$usage" --output=x
     wanted 2 "" "$usage" -ox
     wanted 2 "" "$usage" --out x
@@ -505,6 +513,37 @@ given 2 '' "${unwritten}/dev/null: it is no regular file\n" -o /dev/null a
 given 2 '' "${unwritten}none/x: $none\n" -o none/x a
 given 2 '' "${unwritten}a/x: Not a directory (os error 20)\n" -o a/x a
 [ -c /dev/null ]
+# The refused pieces, each as it came, with its newline, and nothing of a line that is too long; `kept STATUS REFUSED FAULTS WORD..`.
+kept() {
+    local wanted=$2
+    given "$1" "$lines" "$3" --refused refused "${@:4}"
+    printf '%b' "$wanted" | cmp refused -
+}
+printf 'm a=1i\n  x \n# c\n\nw\\\t a=1i\r\nm a=\377\nm  a=2i\nm a=123456789i\ny' >bad
+printf 'old\n' >refused
+names >"$work/names"
+begun="item 2: $x\nitem 3: a name cannot be written again\nitem 4: the line is not UTF-8\n"
+pieces='  x \nw\\\t a=1i\r\nm a=\377\n'
+lines=''
+kept 2 'old\n' "${unread}none: $none\n" none
+kept 1 "${pieces}y\n" "${begun}item 7: $x\n" --check bad
+lines='m a=1i\nm a=2i\nm a=123456789i\n'
+kept 1 "${pieces}y\n" "${begun}item 7: $x\n" bad
+lines='m a=1i\nm a=2i\n'
+kept 1 "${pieces}y\n" "${begun}item 6: the line is too long\nitem 7: $x\n" --max-line 12 bad
+lines='m a=1i\nm a=123456789i\n'
+kept 1 "${pieces}m  a=2i\ny\n" "${begun}item 5: not as written: the spaces\nitem 7: $x\n" --canonical bad
+lines='m a=1i\n'
+kept 0 '' '' a
+rm bad refused
+names >"$work/names"
+# The file of the refused pieces may be neither an input nor the output, by whatever name.
+given 2 '' "${unwritten}d: it is no regular file\n" --refused d a
+one="lp_relay: the file of --refused is "
+given 2 '' "${one}an input too: a\n" --refused ./a a
+given 2 '' "${one}an input too: standard input\n" --refused std
+given 2 '' "${one}the output too: d/../out\n" -o out --refused d/../out a
+given 2 '' "${unwritten}./new: it is the output too\n" -o new --refused ./new a
 # An output that is an input.
 too="lp_relay: the output is an input too: "
 for name in a link hard ./a d/../a "$work/files/a"; do

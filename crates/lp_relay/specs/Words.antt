@@ -38,6 +38,7 @@ nothing_given = record {
   check = false;
   faults = None;
   output = None;
+  refused = None;
 }
 
 -- how many bytes a line may have if no option says it: 16 MiB
@@ -62,6 +63,7 @@ given_settings given = record {
     numbering = if names_lines given then named.Lines else named.Items;
     first = unwrap_or given.first_item (unwrap_or given.first_line 1);
     faults = unwrap_or given.faults OneLine;
+    puts_refused = is_some given.refused;
   };
   progress = given.progress;
   summary = given.summary;
@@ -101,7 +103,8 @@ are_at_odds given =
 abbrev pub request_of : Given → List (Bor (List ℕ)) → Option Request
 request_of given words =
     if are_inputs words && not (are_at_odds given)
-    then Some (record { settings = given_settings given; output = given.output; inputs = length words }) else None
+    then Some (record { settings = given_settings given; output = given.output; refused = given.refused; inputs = length words })
+    else None
 
 -- the options with the one that a word names, if that was not given before and takes no word after it
 abbrev pub with_flag : Given → List ℕ → Option Given
@@ -135,7 +138,9 @@ with_value given word value =
     else (if bytes_eq word (codes "--faults") && is_none given.faults
     then option_map (λ form. record given { faults = Some form }) (faults_form value.now)
     else (if asks_output word && is_none given.output && names_file value.now
-    then Some (record given { output = Some value }) else None))))
+    then Some (record given { output = Some value })
+    else (if bytes_eq word (codes "--refused") && is_none given.refused && names_file value.now
+    then Some (record given { refused = Some value }) else None)))))
 
 -- the relay that words ask for after the options given: each option is one that was not given before it, and inputs come last
 abbrev mutual

@@ -12,8 +12,8 @@ pub(crate) const STANDARD_INPUT: &[&str] = &["-"];
 // Where the system has standard input.
 const STDIN: &str = "/proc/self/fd/0";
 
-// Where the system has standard output.
-const STDOUT: &str = "/proc/self/fd/1";
+/// Where the system has standard output.
+pub(crate) const STDOUT: &str = "/proc/self/fd/1";
 
 // Where the system has standard error.
 const STDERR: &str = "/proc/self/fd/2";
@@ -166,6 +166,14 @@ pub(crate) fn input_written_to<'a>(
         }
     }
     None
+}
+
+/// Whether two paths lead to one regular file.
+pub(crate) fn are_one_file(rt: &HostRuntime, one: &str, other: &str) -> bool {
+    match file_at(rt, one) {
+        Some(file) => file_at(rt, other) == Some(file),
+        None => false,
+    }
 }
 
 /// How many bytes all inputs have, if each is a regular file.

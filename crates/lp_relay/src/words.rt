@@ -13,7 +13,7 @@ use lp_relay_core::{Faults, Lines, Numbering, Relayed};
 pub const USAGE: &str =
     "usage: lp_relay [--strict] [--verbatim | --canonical] [--faults line|raw] [--max-line BYTES]
                 [--first-item N | [--lines] [--first-line N]] [--progress] [--summary]
-                [--check | --output FILE] [FILE..]
+                [--check | --output FILE] [--refused FILE] [FILE..]
        lp_relay [--strict] --cut PARTS [FILE..]
        lp_relay --help | --version";
 
@@ -46,6 +46,8 @@ it refuses. A FILE that is - is standard input; ./-x names a file -x.
                      there were: `N items: C carried, R refused`
   --check            writes no line, but the faults and the status are as ever
   --output FILE, -o  writes the lines to FILE, which is there, and whole, once the status is 0 or 1
+  --refused FILE     writes each piece that is refused to FILE as it came, with its newline; FILE is
+                     there as that of --output is, and has nothing of a line that is too long
   --cut PARTS        prints where the input, which is held whole, can be cut into so many parts of
                      about one length, 1000000 at most, to be relayed apart: the end of each, in
                      bytes, a line each
@@ -57,7 +59,7 @@ and --output, not both --verbatim and --canonical, nor --first-item with --lines
 --cut PARTS comes first, or after --strict.
 
 Status 0: every item was carried; 1: some item was not; 2: the input could not be read, memory
-ran out, the output could not be written, it is an input too, or the arguments are wrong; 141:
+ran out, an output could not be written, or is an input too, or the arguments are wrong; 141:
 nothing reads the output, which is said by no message.";
 
 /// The greatest length of a line, in bytes, if the words give none: 16 MiB.
@@ -87,6 +89,8 @@ pub struct Request<'a> {
     pub settings: Settings,
     /// The file that the lines go to, or none: standard output. A check has none.
     pub output: Option<&'a str>,
+    /// The file that the refused pieces go to, if they go out.
+    pub refused: Option<&'a str>,
     /// How many words name inputs: so many of the last. 0: standard input.
     pub inputs: usize,
 }
@@ -119,6 +123,7 @@ pub(crate) struct Given<'a> {
     check: bool,
     faults: Option<Faults>,
     output: Option<&'a str>,
+    refused: Option<&'a str>,
 }
 
 impl<'a> Given<'a> {
@@ -138,6 +143,7 @@ impl<'a> Given<'a> {
             check: false,
             faults: None,
             output: None,
+            refused: None,
         }
     }
 
@@ -181,6 +187,7 @@ impl<'a> Given<'a> {
             numbering,
             first: self.first_item.unwrap_or(self.first_line.unwrap_or(1)),
             faults: self.faults.unwrap_or(Faults::OneLine),
+            puts_refused: self.refused.is_some(),
         };
         Settings {
             relay,
@@ -249,6 +256,10 @@ impl<'a> Given<'a> {
             let output = Some(value);
             return Some(Given { output, ..self });
         }
+        if word == "--refused" && self.refused.is_none() && is_file(value) {
+            let refused = Some(value);
+            return Some(Given { refused, ..self });
+        }
         None
     }
 
@@ -272,6 +283,7 @@ impl<'a> Given<'a> {
         Some(Request {
             settings: self.settings(),
             output: self.output,
+            refused: self.refused,
             inputs: words.len(),
         })
     }
@@ -406,6 +418,7 @@ fn cut_of<'a>(words: &[&str]) -> Option<Task<'a>>
 /// task_of(&["a", "-o", "b"])            gives  None
 /// task_of(&["--check", "a"])            gives  a relay of the file `a` that writes no line
 /// task_of(&["--check", "-o", "b"])      gives  None
+/// task_of(&["--refused", "b", "a"])     gives  a relay of the file `a` whose refused pieces go to the file `b`
 /// task_of(&["--canonical"])             gives  a relay that lets out only lines that are as they would be written
 /// task_of(&["--strict", "--strict"])    gives  None
 /// task_of(&["--max-line", "+80"])       gives  None

@@ -22,6 +22,7 @@ use Rattle.lp_rebuild.specs.Rebuilding.{RebuildsIn, batch_of, carried_of, carrie
 use Rattle.lp_rebuild.specs.Running.{AppendsFront}
 use Rattle.lp_relay_core.specs.Relaying.{Item, answered, first_of, is_too_long, limit_of, items_of, items_batch, item_faults}
 use Rattle.lp_relay_core.specs.Relaying.{carried_items, refused_items}
+use Rattle.lp_relay_core.specs.Writers.{Known}
 use Rattle.lp_relay_core.specs.Relays.{IfRebuilt, named_faults, RelaysAll, RelaysFronts, RelaysRebuilt, RelaysRebuiltFronts}
 use Rattle.lp_relay_core.specs.declared.taking.Lines.TheVariants as going
 use Rattle.lp_relay_core.specs.declared.taking.Numbering.TheVariants as named
@@ -113,31 +114,31 @@ faults_of_rebuilt s pieces answers same named one raw =
 
 -- what was written of all items is what the rebuild gives
 pub all_rebuilt : Utf8ByPieces → PiecesAreUnique → (s : Settings) (text : List ℕ) (counts : Relayed)
-    (out out_after err err_after : Option (List ℕ)) → s.lines ≡ going.Rebuilt → RelaysAll s text counts out out_after err err_after
-    → IfRebuilt (rules_of s.dialect) (limit_of s.limit) text (λ r. RelaysRebuilt s r counts out out_after err err_after)
-all_rebuilt law unique s text counts out out_after err err_after again all =
-    if_rebuilt unique (rules_of s.dialect) (limit_of s.limit) text all.pieces (λ r. RelaysRebuilt s r counts out out_after err err_after) all.are
+    (before after : Known) → s.lines ≡ going.Rebuilt → RelaysAll s text counts before after
+    → IfRebuilt (rules_of s.dialect) (limit_of s.limit) text (λ r. RelaysRebuilt s r counts before after)
+all_rebuilt law unique s text counts before after again all =
+    if_rebuilt unique (rules_of s.dialect) (limit_of s.limit) text all.pieces (λ r. RelaysRebuilt s r counts before after) all.are
     (λ fit u r h.
     let same = items_of_rebuilt law unique s text all.pieces again all.are fit u r h in
     record {
-      batch = subst (Appends out out_after)
+      batch = subst (Appends before.out after.out)
           (ap items_batch same ∙ lines_of_answers h.answers ∙ sym h.batch) all.batch;
-      faults = λ named one raw. subst (Appends err err_after)
+      faults = λ named one raw. subst (Appends before.err after.err)
           (faults_of_rebuilt s all.pieces h.answers same named one raw ∙ sym h.faults) all.faults;
       carried = all.carried ∙ ap carried_items same ∙ carried_of_answers h.answers ∙ sym h.carried;
       refused = all.refused ∙ ap refused_items same ∙ refused_of_answers h.answers ∙ sym h.refused;
     })
 
 -- and a beginning is a beginning of that
-pub fronts_rebuilt : Utf8ByPieces → PiecesAreUnique → (s : Settings) (text : List ℕ) (out out_after err err_after : Option (List ℕ))
-    → s.lines ≡ going.Rebuilt → RelaysFronts s text out out_after err err_after
-    → IfRebuilt (rules_of s.dialect) (limit_of s.limit) text (λ r. RelaysRebuiltFronts s r out out_after err err_after)
-fronts_rebuilt law unique s text out out_after err err_after again some =
-    if_rebuilt unique (rules_of s.dialect) (limit_of s.limit) text some.pieces (λ r. RelaysRebuiltFronts s r out out_after err err_after) some.are
+pub fronts_rebuilt : Utf8ByPieces → PiecesAreUnique → (s : Settings) (text : List ℕ) (before after : Known)
+    → s.lines ≡ going.Rebuilt → RelaysFronts s text before after
+    → IfRebuilt (rules_of s.dialect) (limit_of s.limit) text (λ r. RelaysRebuiltFronts s r before after)
+fronts_rebuilt law unique s text before after again some =
+    if_rebuilt unique (rules_of s.dialect) (limit_of s.limit) text some.pieces (λ r. RelaysRebuiltFronts s r before after) some.are
     (λ fit u r h.
     let same = items_of_rebuilt law unique s text some.pieces again some.are fit u r h in (
-      subst (AppendsFront out out_after)
+      subst (AppendsFront before.out after.out)
           (ap items_batch same ∙ lines_of_answers h.answers ∙ sym h.batch) some.batch,
-      λ named one raw. subst (AppendsFront err err_after)
+      λ named one raw. subst (AppendsFront before.err after.err)
           (faults_of_rebuilt s some.pieces h.answers same named one raw ∙ sym h.faults) some.faults,
     ))

@@ -8,3 +8,4 @@ pub mod Relays
 pub mod TakenBack
 pub mod Told
 pub mod Verdicts
+pub mod Writers

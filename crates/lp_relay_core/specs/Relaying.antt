@@ -105,6 +105,21 @@ abbrev pub item_faults : Faults → ℕ → List Item → List ℕ
 item_faults form number [] = []
 item_faults form number (item ∷ items) = told form (item_fault number item) ++ item_faults form (number + 1) items
 
+-- the refused lines of a piece with these items, if refused pieces go out: for each item that is not carried, the piece as it came
+-- and a newline
+abbrev pub refused_lines : Bool → List ℕ → List Item → List ℕ
+refused_lines goes_out piece items =
+    if goes_out then flat_map (λ item. if is_carried_item item then [] else piece ++ newline ∷ []) items else []
+
+-- what goes out of a piece as refused: nothing, if it is too long
+unfoldable pub refused_piece : Settings → List ℕ → List ℕ
+refused_piece s piece =
+    if is_too_long (limit_of s.limit) piece then [] else refused_lines s.puts_refused piece (items_of_piece s piece)
+
+-- what goes out of pieces as refused, in order
+abbrev pub refused_pieces : Settings → List (List ℕ) → List ℕ
+refused_pieces s pieces = flat_map (refused_piece s) pieces
+
 -- how many items are carried
 abbrev pub carried_items : List Item → ℕ
 carried_items items = count_by is_carried_item items

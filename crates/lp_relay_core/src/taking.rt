@@ -1,10 +1,11 @@
 //! What a relay takes of a piece of its input.
-ghost use Rattle.std.specs.Prelude.{◌≡◌, ◌+◌, ◌<◌, ◌≤◌, ◌∷◌, [], length, IfOk, IsUtf8, MatchResult, OnOk};
+ghost use Rattle.std.specs.Prelude.{◌≡◌, ◌+◌, ◌<◌, ◌≤◌, ◌∷◌, ◌++◌, [], false, length, string_bytes, take, IfOk, IsUtf8, MatchResult};
+ghost use Rattle.std.specs.Prelude.{Ok, OnOk};
 ghost use Rattle.influxdb_line_protocol.specs.code.Rules.{rules_of};
-ghost use Rattle.influxdb_line_protocol.specs.format.Bytes.{newlines_in};
+ghost use Rattle.influxdb_line_protocol.specs.format.Bytes.{newline, newlines_in};
 ghost use Rattle.lp_relay_core.specs.Relaying.{as_it_came, items_of_bytes};
-ghost use Rattle.lp_relay_core.specs.RelaySteps.{HoldsLess, TakesItems, items_before, items_given, made, made_of_none};
-ghost use Rattle.lp_relay_core.specs.RelaySteps.{newlines_given, line_after};
+ghost use Rattle.lp_relay_core.specs.RelaySteps.{EndsPiece, HoldsLess, TakesItems, TakesGiven, items_before, items_given, line_after};
+ghost use Rattle.lp_relay_core.specs.RelaySteps.{made, newlines_given, unwritten_of, unwritten_of_none};
 ghost use Rattle.lp_relay_core.specs.TakenBack.{TakesBack};
 
 use crate::differing::{Part, differing_part, part_text};
@@ -62,6 +63,8 @@ pub struct Settings {
     pub first: usize,
     /// How fault lines are told.
     pub faults: Faults,
+    /// Whether each piece that is refused goes out too, to a writer of its own.
+    pub puts_refused: bool,
 }
 
 impl Default for Settings {
@@ -73,6 +76,7 @@ impl Default for Settings {
           lines = Lines.Rebuilt;
           first = 1;
           faults = Faults.Raw;
+          puts_refused = false;
         } }
     {
         Settings {
@@ -82,8 +86,18 @@ impl Default for Settings {
             lines: Lines::Rebuilt,
             first: 1,
             faults: Faults::Raw,
+            puts_refused: false,
         }
     }
+}
+
+/// What a relay made and has not written yet.
+#[derive(Drop)]
+pub(crate) struct Pending {
+    /// The lines and the fault lines, with the counts of all items so far.
+    pub(crate) so_far: Progress,
+    /// The refused pieces that go out, each with a newline.
+    pub(crate) pieces: Vec<u8>,
 }
 
 // What is wrong with a piece that is no text.
@@ -103,11 +117,11 @@ pub(crate) fn items_before(settings: Settings) -> usize
 }
 
 // Before the first item. It takes no memory.
-pub(crate) fn nothing_made(alloc: Global, settings: Settings) -> Progress
-    ensures made { made result ≡ made_of_none settings }
-    ensures fits { result.carried + result.refused ≤ usize.MAX }
+pub(crate) fn nothing_made(alloc: Global, settings: Settings) -> Pending
+    ensures made { unwritten_of result ≡ unwritten_of_none settings }
+    ensures fits { result.so_far.carried + result.so_far.refused ≤ usize.MAX }
 {
-    Progress {
+    let so_far = Progress {
         batch: Vec::new(alloc),
         faults: String::new(alloc),
         carried: items_before(settings),
@@ -116,7 +130,9 @@ pub(crate) fn nothing_made(alloc: Global, settings: Settings) -> Progress
             Numbering::Items => None,
             Numbering::Lines => Some(settings.first.max(1)),
         },
-    }
+    };
+    let pieces = Vec::new(alloc);
+    Pending { so_far, pieces }
 }
 
 // Takes a text that holds a line as it came.
@@ -340,25 +356,66 @@ fn line_after(
     Ok(Some(end.checked_add(1).ok_or(AllocError)?))
 }
 
+// Adds a piece that was refused, as it came, and a newline.
+#[cold]
+#[inline(never)]
+fn put_refused(pieces: &mut Vec<u8>, piece: &[u8]) -> Result<(), AllocError>
+    ensures { OnOk result (pieces.new.items ≡ pieces.old.items ++ (piece.now ++ newline ∷ [])) }
+{
+    pieces.reserve(piece.len() + 1)?;
+    pieces.extend_from_slice(piece)?;
+    pieces.push(b'\n')?;
+    Ok(())
+}
+
+// Ends a piece that was taken after so many bytes of fault lines and so many refused items: if its item was refused, its fault line
+// is told, and the piece goes out, if refused pieces do.
+#[inline(always)]
+fn end_piece(
+    settings: Settings,
+    pending: &mut Pending,
+    from: usize,
+    refused: usize,
+    piece: Result<&[u8], PieceTooLong>,
+) -> Result<(), AllocError>
+    requires front { IsUtf8 (take from (string_bytes pending.old.so_far.faults)) }
+    requires within { from ≤ length (string_bytes pending.old.so_far.faults) }
+    ensures ends { OnOk result (EndsPiece settings from refused piece.entry pending.old pending.new) }
+    ensures counted { OnOk result ((pending.new.so_far.carried ≡ pending.old.so_far.carried)
+        × (pending.new.so_far.refused ≡ pending.old.so_far.refused)) }
+{
+    if pending.so_far.refused == refused {
+        return Ok(());
+    }
+    tell(settings.faults, &mut pending.so_far, from)?;
+    let Ok(bytes) = piece else {
+        return Ok(());
+    };
+    if !settings.puts_refused {
+        return Ok(());
+    }
+    put_refused(&mut pending.pieces, bytes)
+}
+
 // Takes a piece. It is refused if its number, or the line after it, would not fit.
 pub(crate) fn take_piece(
     alloc: Global,
     settings: Settings,
-    so_far: &mut Progress,
+    pending: &mut Pending,
     piece: Result<&[u8], PieceTooLong>,
 ) -> Result<(), AllocError>
-    requires fits { so_far.old.carried + so_far.old.refused ≤ usize.MAX }
-    requires few { HoldsLess BLOCK so_far.old }
-    ensures taken { OnOk result
-        (TakesItems settings.faults (made so_far.old) (items_given settings.lines (rules_of settings.dialect) piece.entry) (made so_far.new)) }
-    ensures line { OnOk result (so_far.new.line ≡ line_after so_far.old.line (newlines_given piece.entry)) }
-    ensures fits { OnOk result (so_far.new.carried + so_far.new.refused ≤ usize.MAX) }
+    requires fits { pending.old.so_far.carried + pending.old.so_far.refused ≤ usize.MAX }
+    requires few { HoldsLess BLOCK pending.old }
+    ensures taken { OnOk result (TakesGiven settings (unwritten_of pending.old) piece.entry (unwritten_of pending.new)) }
+    ensures line { OnOk result (pending.new.so_far.line ≡ line_after pending.old.so_far.line (newlines_given piece.entry)) }
+    ensures fits { OnOk result (pending.new.so_far.carried + pending.new.so_far.refused ≤ usize.MAX) }
 {
-    let next = line_after(so_far, piece)?;
-    let told = so_far.faults.len();
-    take_given(alloc, settings, so_far, piece)?;
-    tell(settings.faults, so_far, told)?;
-    so_far.line = next;
+    let next = line_after(&pending.so_far, piece)?;
+    let from = pending.so_far.faults.len();
+    let refused = pending.so_far.refused;
+    take_given(alloc, settings, &mut pending.so_far, piece)?;
+    end_piece(settings, pending, from, refused, piece)?;
+    pending.so_far.line = next;
     Ok(())
 }
 
@@ -367,22 +424,23 @@ pub(crate) fn take_piece(
 pub(crate) fn take_text_piece<'a>(
     alloc: Global,
     settings: Settings,
-    so_far: &mut Progress,
+    pending: &mut Pending,
     piece: &'a str,
     line: &mut ParsedLine<'a>,
     spare: &mut Option<TagSet<'a>>,
 ) -> Result<(), AllocError>
-    requires fits { so_far.old.carried + so_far.old.refused ≤ usize.MAX }
-    requires few { HoldsLess BLOCK so_far.old }
-    ensures taken { OnOk result
-        (TakesItems settings.faults (made so_far.old) (items_of_bytes settings.lines (rules_of settings.dialect) piece.now) (made so_far.new)) }
-    ensures line { OnOk result (so_far.new.line ≡ line_after so_far.old.line (newlines_in piece.now)) }
-    ensures fits { OnOk result (so_far.new.carried + so_far.new.refused ≤ usize.MAX) }
+    requires fits { pending.old.so_far.carried + pending.old.so_far.refused ≤ usize.MAX }
+    requires few { HoldsLess BLOCK pending.old }
+    ensures taken { OnOk result (TakesGiven settings (unwritten_of pending.old) (Ok piece.entry) (unwritten_of pending.new)) }
+    ensures line { OnOk result (pending.new.so_far.line ≡ line_after pending.old.so_far.line (newlines_in piece.now)) }
+    ensures fits { OnOk result (pending.new.so_far.carried + pending.new.so_far.refused ≤ usize.MAX) }
 {
-    let next = line_after(so_far, Ok(piece.as_bytes()))?;
-    let told = so_far.faults.len();
-    take_text(alloc, settings, so_far, piece, line, spare)?;
-    tell(settings.faults, so_far, told)?;
-    so_far.line = next;
+    let given = Ok(piece.as_bytes());
+    let next = line_after(&pending.so_far, given)?;
+    let from = pending.so_far.faults.len();
+    let refused = pending.so_far.refused;
+    take_text(alloc, settings, &mut pending.so_far, piece, line, spare)?;
+    end_piece(settings, pending, from, refused, given)?;
+    pending.so_far.line = next;
     Ok(())
 }
