@@ -50,10 +50,10 @@ faults_from_push s line number ps p = grind (arith, faults_from_append, append-n
 -- the fault line of an item that names its number
 fault_by_number : (number : ℕ) (item : Item)
     → cond (is_carried_item item) [] (fault_line_at None number (item_text item)) ≡ item_fault number item
-fault_by_number number (answered (Ok line)) = refl
-fault_by_number number (answered (Err fault)) = refl
+fault_by_number number (answered front (Ok line)) = refl
+fault_by_number number (answered front (Err fault)) = refl
 fault_by_number number (as_it_came piece) = refl
-fault_by_number number (not_as_written wrong) = refl
+fault_by_number number (not_as_written front wrong) = refl
 fault_by_number number not_utf8 = refl
 fault_by_number number too_long = refl
 
