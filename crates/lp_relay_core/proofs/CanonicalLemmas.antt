@@ -31,13 +31,13 @@ as_it_is front text line admitted writes =
     rw (admitted, (bytes_eq-Decides (built (point_of line)) (text ++ newline ∷ [])).1 writes) refl
 
 -- a line whose names are all admitted, and that the builder writes otherwise
-otherwise : (front text : List ℕ) (line : Line) → is_admitted_point (point_of line) ≡ true
+pub otherwise : (front text : List ℕ) (line : Line) → is_admitted_point (point_of line) ≡ true
     → bytes_eq (built (point_of line)) (text ++ newline ∷ []) ≡ false
     → canonical_item front text line ≡ not_as_written front (part_text (differing_part at_start text (built (point_of line))))
 otherwise front text line admitted other = rw (admitted, other) refl
 
 -- a line with a name that is not admitted
-not_admitted : (front text : List ℕ) (line : Line) → is_admitted_point (point_of line) ≡ false
+pub not_admitted : (front text : List ℕ) (line : Line) → is_admitted_point (point_of line) ≡ false
     → canonical_item front text line ≡ answered front (Ok line)
 not_admitted front text line not = rw not refl
 

@@ -21,7 +21,7 @@ use Rattle.lp_rebuild.specs.Rebuilding.{RebuildsIn, batch_of, carried_of, carrie
 use Rattle.lp_rebuild.specs.Running.{AppendsFront}
 use Rattle.lp_relay_core.specs.Relaying.{Item, answered, first_of, front_of, is_too_long, item_of, limit_of, items_of, items_of_piece, items_batch, item_faults}
 use Rattle.lp_relay_core.specs.Relaying.{carried_items, refused_items}
-use Rattle.lp_relay_core.specs.Relays.{IfRebuilt, named_faults, RelaysAll, RelaysFronts, RelaysRebuilt, RelaysRebuiltFronts}
+use Rattle.lp_relay_core.specs.Relays.{IfRebuilt, named_faults, told_faults, RelaysAll, RelaysFronts, RelaysRebuilt, RelaysRebuiltFronts}
 use Rattle.lp_relay_core.specs.declared.taking.Lines.TheVariants as going
 use Rattle.lp_relay_core.specs.declared.taking.Numbering.TheVariants as named
 use Rattle.lp_relay_core.specs.declared.taking.Settings.{Settings}
@@ -139,9 +139,9 @@ if_rebuilt unique dialect limit text pieces x5 are f = grind (arith, no_limit, s
 
 -- the fault lines of a rebuild, if they name items from 1 on, and are told as they are
 faults_of_rebuilt : (s : Settings) (pieces : List (List ℕ)) (answers : List (Result Line Fault)) → AreAnswers (items_of s pieces) answers
-    → s.numbering ≡ named.Items → first_of s.first ≡ 1 → s.faults ≡ Raw → named_faults s.numbering s pieces ≡ faults_from 1 answers
+    → s.numbering ≡ named.Items → first_of s.first ≡ 1 → s.faults ≡ Raw → told_faults s.faults s pieces ≡ faults_from 1 answers
 faults_of_rebuilt s pieces answers same named one raw =
-    ap (λ n. named_faults n s pieces) named ∙ ap (λ n. item_faults s.faults n (items_of s pieces)) one
+    ap (λ f. told_faults f s pieces) raw ∙ ap (λ n. named_faults n s pieces) named ∙ ap (λ n. item_faults s.faults n (items_of s pieces)) one
     ∙ ap (λ f. item_faults f 1 (items_of s pieces)) raw ∙ faults_of_answers 1 (items_of s pieces) answers same
 
 -- what was written of all items is what the rebuild gives

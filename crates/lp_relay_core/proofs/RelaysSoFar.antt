@@ -34,7 +34,7 @@ pub record RelaysSoFar (s : Settings) (reader reader_after : Option (List ℕ))
   pub last : IsLastPiece (rules_of s.dialect) held
   pub consumed : Consumes reader reader_after given
   pub run : Run (rules_of s.dialect) given pieces held
-  pub line_is : now.line ≡ line_past (first_line s.numbering s.first) pieces
+  pub line_is : now.line ≡ line_past (first_line s.faults s.numbering s.first) pieces
   pub relays : RelaysItems (made_of_none s) now out out_after err err_after (items_of s pieces)
       (faults_past s (made_of_none s) pieces)
 
@@ -93,7 +93,7 @@ so_far_more s r m t part stream after now new a b c e f g h read q =
       run = run_on (rules_of s.dialect) (h.given ++ part) (h.held ++ part) p.0.rest h.pieces more.pieces
           (pushed h.given h.pieces h.held part h.run) more.taken;
       line_is =
-          more.line ∙ ap (λ q. line_past q more.pieces) h.line_is ∙ sym (line_append (first_line s.numbering s.first) h.pieces more.pieces);
+          more.line ∙ ap (λ q. line_past q more.pieces) h.line_is ∙ sym (line_append (first_line s.faults s.numbering s.first) h.pieces more.pieces);
       relays = relays_same (made_of_none s) new a c e g _ _ _ _
           (sym (items_append s h.pieces more.pieces))
           (faults_then s (made_of_none s) now a b e f h.pieces more.pieces _ h.relays h.line_is)
@@ -119,10 +119,10 @@ fronts_of exist give s (Some x) (Some y) given pieces held a c e g read run p =
       batch = passes_some a c (items_batch xs) p.batch_left (items_batch ys) _ p.batch
           (ap items_batch (items_append s pieces others.0) ∙ batch_append xs ys);
       faults = passes_some e g (faults_past s (made_of_none s) pieces) p.faults_left
-          (faults_from s (line_past (first_line s.numbering s.first) pieces)
+          (faults_from s (line_past (first_line s.faults s.numbering s.first) pieces)
           (items_before s.numbering s.first + 0 + 1 + length xs) others.0) _ p.faults
           (sym (faults_named s (pieces ++ others.0))
-          ∙ faults_from_append s (first_line s.numbering s.first) (items_before s.numbering s.first + 0 + 1) pieces others.0);
+          ∙ faults_from_append s (first_line s.faults s.numbering s.first) (items_before s.numbering s.first + 0 + 1) pieces others.0);
     }
 
 -- so it is between two steps

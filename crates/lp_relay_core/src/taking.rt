@@ -3,12 +3,14 @@ ghost use Rattle.std.specs.Prelude.{◌≡◌, ◌+◌, ◌<◌, ◌≤◌, ◌�
 ghost use Rattle.influxdb_line_protocol.specs.code.Rules.{rules_of};
 ghost use Rattle.influxdb_line_protocol.specs.format.Bytes.{newlines_in};
 ghost use Rattle.lp_relay_core.specs.Relaying.{as_it_came, items_of_bytes};
-ghost use Rattle.lp_relay_core.specs.RelaySteps.{HoldsLess, TakesItems, items_before, items_given, made, made_of_none};
-ghost use Rattle.lp_relay_core.specs.RelaySteps.{newlines_given, line_after};
+ghost use Rattle.lp_relay_core.specs.RelaySteps.{HoldsLess, Made, TakesItems, TakesRaw, items_before, items_given, made, made_of_none};
+ghost use Rattle.lp_relay_core.specs.RelaySteps.{first_line, newlines_given, line_after};
 ghost use Rattle.lp_relay_core.specs.TakenBack.{TakesBack};
 
 use crate::differing::{Part, differing_part, part_text};
-use crate::telling::{Faults, tell};
+use crate::objects::tell_as_object;
+use crate::telling::{Faults, tell_on_one_line};
+use crate::texts::{newlines_in, text_of};
 use crate::verdict::is_line;
 use influxdb_line_protocol::{
     Dialect, EscapedStr, FieldSet, ParsedLine, PieceTooLong, Series, TagSet, is_as_written, laws,
@@ -17,9 +19,7 @@ use lp_lines::freeing::{forget_line, free_line};
 use lp_rebuild::batch::{self, Progress, refuse};
 use lp_rebuild::program::BLOCK;
 use lp_scan::trim::trimmed;
-use simdutf8::basic::{self, Utf8Error};
 use std::alloc::{AllocError, Global};
-use std::str;
 
 /// How the lines of a relay go out.
 #[derive(Clone, Copy, Debug, PartialEq, Eq)]
@@ -102,6 +102,17 @@ pub(crate) fn items_before(settings: Settings) -> usize
     }
 }
 
+// The line on which the first piece begins, if lines are named.
+fn first_line(settings: Settings) -> Option<usize>
+    ensures { result ≡ first_line settings.faults settings.numbering settings.first }
+{
+    match (settings.faults, settings.numbering) {
+        (Faults::Json { first_line }, _) => Some(first_line.max(1)),
+        (_, Numbering::Items) => None,
+        (_, Numbering::Lines) => Some(settings.first.max(1)),
+    }
+}
+
 // Before the first item. It takes no memory.
 pub(crate) fn nothing_made(alloc: Global, settings: Settings) -> Progress
     ensures made { made result ≡ made_of_none settings }
@@ -112,10 +123,7 @@ pub(crate) fn nothing_made(alloc: Global, settings: Settings) -> Progress
         faults: String::new(alloc),
         carried: items_before(settings),
         refused: 0,
-        line: match settings.numbering {
-            Numbering::Items => None,
-            Numbering::Lines => Some(settings.first.max(1)),
-        },
+        line: first_line(settings),
     }
 }
 
@@ -125,6 +133,7 @@ fn take_as_it_came(so_far: &mut Progress, piece: &str) -> Result<(), AllocError>
     ensures taken { OnOk result (TakesItems Faults.Raw (made so_far.old) (as_it_came piece.now ∷ []) (made so_far.new)) }
     ensures counted { OnOk result
         (so_far.new.carried + so_far.new.refused ≡ so_far.old.carried + so_far.old.refused + 1) }
+    ensures line { so_far.new.line ≡ so_far.old.line }
 {
     so_far.batch.reserve(piece.len() + 1)?;
     so_far.batch.extend_from_slice(piece.as_bytes())?;
@@ -148,6 +157,7 @@ fn take_verbatim<'a>(
         (TakesItems Faults.Raw (made so_far.old) (items_of_bytes Lines.Verbatim (rules_of dialect) piece.now) (made so_far.new)) }
     ensures counted { OnOk result
         (so_far.new.carried + so_far.new.refused ≤ so_far.old.carried + so_far.old.refused + 1) }
+    ensures line { so_far.new.line ≡ so_far.old.line }
 {
     let text = trimmed(piece);
     if text.is_empty() {
@@ -168,7 +178,8 @@ fn take_back(
 ) -> Result<(), AllocError>
     requires some { 0 < so_far.old.carried }
     requires room { so_far.old.carried + so_far.old.refused ≤ usize.MAX }
-    ensures { OnOk result (TakesBack so_far.old start part so_far.new) }
+    ensures back { OnOk result (TakesBack so_far.old start part so_far.new) }
+    ensures line { so_far.new.line ≡ so_far.old.line }
 {
     so_far.batch.truncate(start);
     so_far.carried -= 1;
@@ -192,6 +203,7 @@ fn take_canonical<'a>(
         (TakesItems Faults.Raw (made so_far.old) (items_of_bytes Lines.Canonical (rules_of dialect) piece.now) (made so_far.new)) }
     ensures counted { OnOk result
         (so_far.new.carried + so_far.new.refused ≤ so_far.old.carried + so_far.old.refused + 1) }
+    ensures line { so_far.new.line ≡ so_far.old.line }
 {
     laws::written_lines_stay();
     let text = trimmed(piece);
@@ -226,6 +238,7 @@ fn take_text<'a>(
         (TakesItems Faults.Raw (made so_far.old) (items_of_bytes settings.lines (rules_of settings.dialect) piece.now) (made so_far.new)) }
     ensures counted { OnOk result
         (so_far.new.carried + so_far.new.refused ≤ so_far.old.carried + so_far.old.refused + 1) }
+    ensures line { so_far.new.line ≡ so_far.old.line }
 {
     match settings.lines {
         Lines::Rebuilt => batch::take_piece(alloc, settings.dialect, so_far, piece, line, spare),
@@ -247,6 +260,7 @@ fn take_alone(
         (TakesItems Faults.Raw (made so_far.old) (items_of_bytes settings.lines (rules_of settings.dialect) piece.now) (made so_far.new)) }
     ensures counted { OnOk result
         (so_far.new.carried + so_far.new.refused ≤ so_far.old.carried + so_far.old.refused + 1) }
+    ensures line { so_far.new.line ≡ so_far.old.line }
 {
     let mut line = ParsedLine {
         series: Series {
@@ -263,20 +277,6 @@ fn take_alone(
     taken
 }
 
-// From this length on `simdutf8` tests bytes. It is several times as fast as std if they are not ASCII; if they are, it
-// takes longer below this length.
-const LONG: usize = 128;
-
-// The text of bytes, if they are UTF-8.
-pub(crate) fn text_of(bytes: &[u8]) -> Result<&str, Utf8Error>
-    ensures cases { MatchResult result (λ text. (text.now ≡ bytes.now) × IsUtf8 bytes.now) (λ _. ¬ (IsUtf8 bytes.now)) }
-{
-    if bytes.len() < LONG {
-        return str::from_utf8(bytes).map_err(|_| Utf8Error);
-    }
-    basic::from_utf8(bytes)
-}
-
 // Takes what the stream gave: its text, or a fault if it is not UTF-8 or too long. An empty piece, which has no item, needs no
 // line.
 fn take_given(
@@ -290,6 +290,7 @@ fn take_given(
         (TakesItems Faults.Raw (made so_far.old) (items_given settings.lines (rules_of settings.dialect) piece.entry) (made so_far.new)) }
     ensures counted { OnOk result
         (so_far.new.carried + so_far.new.refused ≤ so_far.old.carried + so_far.old.refused + 1) }
+    ensures line { so_far.new.line ≡ so_far.old.line }
 {
     let Ok(bytes) = piece else {
         return refuse(so_far, TOO_LONG);
@@ -301,20 +302,6 @@ fn take_given(
         Ok(text) => take_alone(alloc, settings, so_far, text),
         Err(_) => refuse(so_far, NOT_UTF8),
     }
-}
-
-/// How many newlines there are. It goes over the bytes once, and takes no memory.
-pub fn newlines_in(bytes: &[u8]) -> usize
-    ensures few { result ≤ length bytes.now }
-    ensures value { result ≡ newlines_in bytes.now }
-{
-    let mut count = 0;
-    for at in 0..bytes.len() {
-        if bytes[at] == b'\n' {
-            count += 1;
-        }
-    }
-    count
 }
 
 // The line of the next piece, if fault lines name lines. It is refused if it, or the number of an item more, would not fit.
@@ -340,6 +327,31 @@ fn line_after(
     Ok(Some(end.checked_add(1).ok_or(AllocError)?))
 }
 
+// Tells as the settings say the fault line of a piece, which follows these first bytes if there is one.
+#[inline(always)]
+fn tell(
+    alloc: Global,
+    settings: Settings,
+    so_far: &mut Progress,
+    from: usize,
+    piece: Result<&[u8], PieceTooLong>,
+) -> Result<(), AllocError>
+    requires taken { (before : Made) × TakesRaw settings piece from before (made so_far.old) }
+    requires fits { so_far.old.carried + so_far.old.refused ≤ usize.MAX }
+    ensures told { OnOk result ((before : Made) → TakesRaw settings piece.entry from before (made so_far.old)
+        → TakesItems settings.faults before (items_given settings.lines (rules_of settings.dialect) piece.entry) (made so_far.new)) }
+    ensures counts { (so_far.new.carried ≡ so_far.old.carried) × (so_far.new.refused ≡ so_far.old.refused) }
+{
+    if from == so_far.faults.len() {
+        return Ok(());
+    }
+    match settings.faults {
+        Faults::Raw => Ok(()),
+        Faults::OneLine => tell_on_one_line(&mut so_far.faults, from),
+        Faults::Json { .. } => tell_as_object(alloc, settings.dialect, so_far, from, piece),
+    }
+}
+
 // Takes a piece. It is refused if its number, or the line after it, would not fit.
 pub(crate) fn take_piece(
     alloc: Global,
@@ -357,7 +369,7 @@ pub(crate) fn take_piece(
     let next = line_after(so_far, piece)?;
     let told = so_far.faults.len();
     take_given(alloc, settings, so_far, piece)?;
-    tell(settings.faults, so_far, told)?;
+    tell(alloc, settings, so_far, told, piece)?;
     so_far.line = next;
     Ok(())
 }
@@ -382,7 +394,7 @@ pub(crate) fn take_text_piece<'a>(
     let next = line_after(so_far, Ok(piece.as_bytes()))?;
     let told = so_far.faults.len();
     take_text(alloc, settings, so_far, piece, line, spare)?;
-    tell(settings.faults, so_far, told)?;
+    tell(alloc, settings, so_far, told, Ok(piece.as_bytes()))?;
     so_far.line = next;
     Ok(())
 }

@@ -1,20 +1,34 @@
-use Rattle.std.proofs.Common.{◌≡◌, ap, length, string_bytes, arith}
+use Rattle.std.proofs.Common.{arith, subst, sym}
 use Rattle.std.proofs.lemmas.Str.{IsUtf8-string_bytes}
 use Rattle.influxdb_line_protocol.specs.code.Rules.{rules_of}
-use Rattle.lp_relay_core.specs.RelaySteps.{made}
-use Rattle.lp_relay_core.proofs.ToldLemmas.{few_items, front_is_text, takes_told}
+use Rattle.lp_relay_core.specs.Relaying.{items_of_bytes}
+use Rattle.lp_relay_core.specs.declared.telling.Faults.TheVariants.{Raw}
+use Rattle.lp_relay_core.specs.RelaySteps.{TakesItems, made}
 use Rattle.lp_relay_core.proofs.taking.take_text_piece.Goals as goal
 
-pub tell-requires-clause-front : goal.tell-requires-clause-front
-tell-requires-clause-front c =
-    let old = c.args.so_far.now.faults in
-    let len : c.len-told.result ≡ length (string_bytes old) = omega (arith, c.len-told.ensures) in
-    front_is_text (string_bytes old) _ _ c.len-told.result len c.in_ok-take_text.ensures.taken.faults (IsUtf8-string_bytes old)
+pub tell-requires-clause-taken : goal.tell-requires-clause-taken
+tell-requires-clause-taken c = (
+  made c.args.so_far.now,
+  record {
+    from_is = omega (arith, c.len-told.ensures);
+    text = IsUtf8-string_bytes c.args.so_far.now.faults;
+    line = c.take_text.ensures.line;
+    takes = subst (λ p. TakesItems Raw (made c.args.so_far.now) (items_of_bytes c.args.settings.lines (rules_of c.args.settings.dialect) p) (made c.take_text.new.so_far))
+        (sym c.as_bytes-2.ensures.value) c.in_ok-take_text.ensures.taken;
+  },
+)
 
 pub returns-clause-taken : goal.returns-clause-taken
 returns-clause-taken c =
-    let others = c.in_ok-tell.ensures.others in
-    let len : c.len-told.result ≡ length (string_bytes c.args.so_far.now.faults) = omega (arith, c.len-told.ensures) in
-    takes_told c.args.settings.faults (made c.args.so_far.now) (made c.take_text.new.so_far) _ _ c.len-told.result len
-    (few_items c.args.settings.lines (rules_of c.args.settings.dialect) c.args.piece.now) c.in_ok-take_text.ensures.taken
-    (ap (λ v. v.items) others.0) c.in_ok-tell.ensures.faults others.2 others.3
+    let old = made c.args.so_far.now in
+    let lines = c.args.settings.lines in
+    let dialect = rules_of c.args.settings.dialect in
+    let t = subst (λ p. TakesItems c.args.settings.faults old (items_of_bytes lines dialect p) (made c.tell.new.so_far)) c.as_bytes-2.ensures.value
+    (c.in_ok-tell.ensures.told old (record {
+      from_is = omega (arith, c.len-told.ensures);
+      text = IsUtf8-string_bytes c.args.so_far.now.faults;
+      line = c.take_text.ensures.line;
+      takes = subst (λ p. TakesItems Raw old (items_of_bytes lines dialect p) (made c.take_text.new.so_far)) (sym c.as_bytes-2.ensures.value)
+          c.in_ok-take_text.ensures.taken;
+    })) in
+    record { batch = t.batch; faults = t.faults; carried = t.carried; refused = t.refused }
