@@ -73,9 +73,9 @@ wanted_of_both "usage: lp_rebuild [--strict]$newline"
 
 crate=lp_relay
 program=$relay
-usage="usage: lp_relay [--strict] [--verbatim | --canonical] [--faults line|raw] [--max-line BYTES]
-                [--first-item N | [--lines] [--first-line N]] [--progress] [--summary]
-                [--check | --output FILE] [--refused FILE] [FILE..]
+usage="usage: lp_relay [--strict] [--verbatim | --canonical] [--faults line|raw|json]
+                [--max-line BYTES] [--first-item N | [--lines] [--first-line N]] [--progress]
+                [--summary] [--check | --output FILE] [--refused FILE] [FILE..]
        lp_relay [--strict] --cut PARTS [FILE..]
        lp_relay --help | --version$newline"
 wanted_of_both "$usage"
@@ -150,6 +150,13 @@ if [ -n "$program" ]; then
     wanted 1 "" "line 7: ${told#item 1: }$newline" --first-line 7
     wanted 1 "" "$raw$newline" --faults raw
     wanted 1 "" "line 7: ${raw#item 1: }$newline" --faults raw --first-line 7
+    object='{"item":1,"line":1,"kind":"cannot_parse_entire_line","text":"'"$found"' \"x\u000a\u0009item 9: \\ ü\"'"'"'"}'
+    wanted 1 "" "$object$newline" --faults json
+    wanted 1 "" "${object/\"line\":1/\"line\":7}$newline" --faults json --first-line 7 --strict
+    wanted 1 "" "${object/\"item\":1/\"item\":5}$newline" --first-item 5 --faults json --lines
+    object=${object/\"item\":1/\"item\":5}
+    wanted 1 "" "${object/\"line\":1/\"line\":7}$newline" --first-item 5 --first-line 7 --faults json
+    wanted 2 "" "$usage" --first-item 5 --first-line 7 --faults raw
     told="item 1: $found "
     long=$(printf '%*s' "$((200 - ${#told} - 1))" "" | tr ' ' y)
     text="m a=1 $long\n"
@@ -630,6 +637,11 @@ printf 'm a=,\n' >"$work/last"
 feed
 "$relay" --progress <"$work/fifo" >"$work/out" 2>"$work/err" && status=0 || status=$?
 shown 1 "standard error is a file" "item 2: No fields were provided\n"
+if python3 -c '' 2>/dev/null; then
+    "$top/checks/objects.py" "$relay"
+else
+    left_out "objects of faults" "there is no python3, for checks/arguments.sh"
+fi
 if ! command -v script >/dev/null; then
     left_out "progress on a terminal" "there is no script, for checks/arguments.sh"
     exit 0

@@ -324,8 +324,9 @@ completed() {
 }
 complete_all() {
     completed "--strict" lp_rebuild ""
-    completed "line raw" lp_relay --strict --faults ""
+    completed "line raw json" lp_relay --strict --faults ""
     completed "raw" lp_relay --faults r
+    completed "json" lp_relay --faults j
     completed "--strict" lp_rebuild --s
     completed "" lp_rebuild --strict ""
     completed "--strict --faults --max-line --progress --summary --refused --verbatim --canonical --lines --first-line --first-item --check --output --cut --help --version" lp_relay ""
@@ -336,6 +337,7 @@ complete_all() {
     completed "--strict --faults --max-line --progress --summary --refused --verbatim --canonical --check --output" lp_relay --first-item 7 --
     completed "--strict --faults --max-line --progress --summary --refused --verbatim --canonical --lines --first-line --first-item" lp_relay -o x --
     completed "--strict --faults --max-line --progress --summary --refused --lines --first-line --first-item --check --output" lp_relay --canonical --
+    completed "--strict --max-line --progress --summary --refused --verbatim --canonical --lines --first-line --check --output" lp_relay --faults json --first-item 7 --
     completed "" lp_relay --first-item ""
     completed "--max-line" lp_relay --m
     completed "" lp_relay --max-line ""

@@ -1,7 +1,7 @@
 //! What the words after the program's name ask for, and its exit status.
 ghost use Rattle.std.specs.Prelude.{◌≡◌};
 ghost use Rattle.lp_relay.specs.Words.{are_at_odds, are_inputs, asked_cut, asked_request, asked_task, asks_output, cut_task, decimal, fault_status, faults_form};
-ghost use Rattle.lp_relay.specs.Words.{first_number, given_settings, lines_form, names_file, names_input, names_lines};
+ghost use Rattle.lp_relay.specs.Words.{first_named, first_number, given_settings, is_json, lines_form, names_file, names_input, names_lines, told_form};
 ghost use Rattle.lp_relay.specs.Words.{nothing_given, relay_status, request_of};
 ghost use Rattle.lp_relay.specs.Words.{with_flag, with_value};
 
@@ -11,9 +11,9 @@ use lp_relay_core::{Faults, Lines, Numbering, Relayed};
 
 /// How the program is called: the lines that it prints if its words ask for nothing, without the last newline.
 pub const USAGE: &str =
-    "usage: lp_relay [--strict] [--verbatim | --canonical] [--faults line|raw] [--max-line BYTES]
-                [--first-item N | [--lines] [--first-line N]] [--progress] [--summary]
-                [--check | --output FILE] [--refused FILE] [FILE..]
+    "usage: lp_relay [--strict] [--verbatim | --canonical] [--faults line|raw|json]
+                [--max-line BYTES] [--first-item N | [--lines] [--first-line N]] [--progress]
+                [--summary] [--check | --output FILE] [--refused FILE] [FILE..]
        lp_relay [--strict] --cut PARTS [FILE..]
        lp_relay --help | --version";
 
@@ -37,7 +37,8 @@ it refuses. A FILE that is - is standard input; ./-x names a file -x.
   --first-line N     the number of the first line, in faults, which name lines then
   --faults FORM      line, as if it is not given: each fault on one line, with \\n, \\t, \\r, \\\\ and
                      \\x.. for what ASCII does not print, cut after 200 bytes; raw: as lp_rebuild
-                     writes it, with newlines within
+                     writes it, with newlines within; json: each as an object on one line, which
+                     names the item, the line, the kind of the fault and what is wrong
   --max-line BYTES   a longer line is passed over, and is a fault: 16777216 if it is not given
   --progress         shows on standard error, if that is a terminal, how far the relay is: bytes
                      read, percent if all inputs are files, lines written, faults, and MB/s,
@@ -55,7 +56,8 @@ it refuses. A FILE that is - is standard input; ./-x names a file -x.
   --version          prints the version
 
 The options of a relay come in any order, each at most once, before the files; not both --check
-and --output, not both --verbatim and --canonical, nor --first-item with --lines or --first-line.
+and --output, not both --verbatim and --canonical, nor --first-item with --lines or --first-line,
+but with --faults json, which names items and lines.
 --cut PARTS comes first, or after --strict.
 
 Status 0: every item was carried; 1: some item was not; 2: the input could not be read, memory
@@ -147,11 +149,33 @@ impl<'a> Given<'a> {
         }
     }
 
-    // Whether fault lines name lines of the input.
+    // Whether fault lines name lines of the input, and no items: objects name both.
     fn names_lines(self) -> bool
         ensures { result ≡ names_lines self.entry }
     {
-        self.lines || self.first_line.is_some()
+        (self.lines || self.first_line.is_some()) && !is_json(self.faults)
+    }
+
+    // How faults are told, with the number of the first line that objects name.
+    fn told_form(self) -> Faults
+        ensures { result ≡ told_form self.entry }
+    {
+        if is_json(self.faults) {
+            let first_line = self.first_line.unwrap_or(1);
+            return Faults::Json { first_line };
+        }
+        self.faults.unwrap_or(Faults::OneLine)
+    }
+
+    // The number of what fault lines name first.
+    fn first_named(self) -> usize
+        ensures { result ≡ first_named self.entry }
+    {
+        if self.names_lines() {
+            self.first_line.unwrap_or(1)
+        } else {
+            self.first_item.unwrap_or(1)
+        }
     }
 
     // How lines go out.
@@ -185,8 +209,8 @@ impl<'a> Given<'a> {
             limit: self.max_line.unwrap_or(DEFAULT_MAX_LINE),
             lines: self.lines_form(),
             numbering,
-            first: self.first_item.unwrap_or(self.first_line.unwrap_or(1)),
-            faults: self.faults.unwrap_or(Faults::OneLine),
+            first: self.first_named(),
+            faults: self.told_form(),
             puts_refused: self.refused.is_some(),
         };
         Settings {
@@ -309,13 +333,21 @@ fn first_number_of(word: &str) -> Option<usize>
     }
 }
 
-// How fault lines are told, as a word says.
+// Whether faults are told as objects.
+fn is_json(faults: Option<Faults>) -> bool
+    ensures { result ≡ is_json faults }
+{
+    matches!(faults, Some(Faults::Json { .. }))
+}
+
+// How faults are told, as a word says.
 fn faults_form_of(word: &str) -> Option<Faults>
     ensures { result ≡ faults_form word.now }
 {
     match word {
         "line" => Some(Faults::OneLine),
         "raw" => Some(Faults::Raw),
+        "json" => Some(Faults::Json { first_line: 1 }),
         _ => None,
     }
 }
@@ -404,8 +436,8 @@ fn cut_of<'a>(words: &[&str]) -> Option<Task<'a>>
 /// What the words after the program's name ask for, or `None` if they are not as [`USAGE`] says.
 ///
 /// The options of a relay come in any order, each at most once, but not both `--check` and `--output`, not both
-/// `--verbatim` and `--canonical`, nor `--first-item` with `--lines` or `--first-line`, whose numbers are at least 1; `--cut` and
-/// a number, [`MOST_PARTS`] at most, come first or after `--strict`. The words after these name inputs. `--help`, `-h` or `--version` comes alone. A number, as after
+/// `--verbatim` and `--canonical`, nor `--first-item` with `--lines` or `--first-line`, whose numbers are at least 1, but with
+/// `--faults json`; `--cut` and a number, [`MOST_PARTS`] at most, come first or after `--strict`. The words after these name inputs. `--help`, `-h` or `--version` comes alone. A number, as after
 /// `--max-line`, is a decimal one that a `usize` holds: digits alone, of which the first may be zeros. A word with no byte, or
 /// that begins with `-`, names no file, and `-` alone names standard input. It takes no memory.
 ///
@@ -425,6 +457,7 @@ fn cut_of<'a>(words: &[&str]) -> Option<Task<'a>>
 /// task_of(&["--first-line", "5"])       gives  a relay whose fault lines name lines, of which the first is 5
 /// task_of(&["--first-item", "0"])       gives  None
 /// task_of(&["--faults", "raw"])         gives  a relay whose fault lines are as lp_rebuild writes them
+/// task_of(&["--faults", "json"])        gives  a relay whose faults are objects, which name items and lines from 1 on
 /// task_of(&["--faults", "none"])        gives  None
 /// task_of(&["--cut", "4"])              gives  the ends of 4 parts of the input
 /// task_of(&["--cut", "1000001"])        gives  None

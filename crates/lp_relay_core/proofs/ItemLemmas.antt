@@ -100,33 +100,6 @@ pub refused_long : (s : Settings) (piece : List ℕ) → IsTooLong s.limit piece
 unfolding refused_piece
 refused_long s piece h = grind (arith, nat_lt)
 
--- an item that is carried has no refused line
-pub refused_none : (goes_out : Bool) (piece : List ℕ) (items : List Item) → refused_items items ≡ 0
-    → refused_lines goes_out piece items ≡ []
-refused_none false piece items none = refl
-refused_none true piece [] none = refl
-refused_none true piece (item ∷ items) none =
-    let count = refused_first item items in
-    elim (cases_Bool (is_carried_item item)) [
-      | inl good ↦ rw good (refused_none true piece items (omega (arith, none, count)))
-      | inr bad ↦
-          let one : cond {A = ℕ} (not (is_carried_item item)) 1 0 ≡ 1 = ap (λ (b : Bool). cond {A = ℕ} (not b) 1 0) bad in
-          absurd (omega (arith, none, count, one))
-    ]
-
--- an item that is not has the piece
-pub refused_one : (piece : List ℕ) (items : List Item) → length items ≤ 1 → 0 < refused_items items
-    → refused_lines true piece items ≡ piece ++ newline ∷ []
-refused_one piece [] few some = absurd (omega (arith, some))
-refused_one piece (item ∷ []) few some =
-    elim (cases_Bool (is_carried_item item)) [
-      | inl good ↦
-          let zero : cond {A = ℕ} (not (is_carried_item item)) 1 0 ≡ 0 = ap (λ (b : Bool). cond {A = ℕ} (not b) 1 0) good in
-          absurd (omega (arith, some, zero, refused_first item []))
-      | inr bad ↦ rw bad (append-nil (piece ++ newline ∷ []))
-    ]
-refused_one piece (item ∷ other ∷ items) few some = absurd (omega (arith, few))
-
 -- the items of pieces and one more
 pub items_push : (s : Settings) (pieces : List (List ℕ)) (piece : List ℕ)
     → items_of s (pieces ++ piece ∷ []) ≡ items_of s pieces ++ items_of_piece s piece

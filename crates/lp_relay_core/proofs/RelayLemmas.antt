@@ -20,7 +20,7 @@ use Rattle.lp_rebuild.specs.RebuildSteps.{Refuses, Takes}
 use Rattle.lp_rebuild.specs.Running.{AppendsFront}
 use Rattle.lp_relay_core.specs.declared.taking.Lines.{Lines}
 use Rattle.lp_relay_core.specs.declared.taking.Lines.TheVariants.{Rebuilt, Verbatim}
-use Rattle.lp_relay_core.specs.Relaying.{Item, answered, as_it_came, item_of, not_utf8, too_long, items_of_bytes, items_batch}
+use Rattle.lp_relay_core.specs.Relaying.{Item, answered, as_it_came, front_of, item_of, not_utf8, too_long, items_of_bytes, items_batch}
 use Rattle.lp_relay_core.specs.declared.telling.Faults.{Faults}
 use Rattle.lp_relay_core.specs.declared.telling.Faults.TheVariants.{Raw}
 use Rattle.influxdb_line_protocol.specs.code.Rules.{rules_of}
@@ -40,9 +40,9 @@ takes_nothing : (old : Made) → TakesItems Raw old [] old
 takes_nothing old = grind (arith, append-nil)
 
 -- an answer is one item
-pub takes_answer : (old : Progress) (answer : Result Line Fault) (new : Progress) → Takes old answer new
-    → TakesItems Raw (made old) (answered answer ∷ []) (made new)
-takes_answer old answer new t = grind (arith, append-nil, string_bytes, add_where, add_elsewhere)
+pub takes_answer : (front : List ℕ) (old : Progress) (answer : Result Line Fault) (new : Progress) → Takes old answer new
+    → TakesItems Raw (made old) (answered front answer ∷ []) (made new)
+takes_answer front old answer new t = grind (arith, append-nil, string_bytes, add_where, add_elsewhere)
 
 -- a piece that is not UTF-8 is one item
 takes_no_text : (old new : Progress) → Refuses old (codes "the line is not UTF-8") new
@@ -84,7 +84,7 @@ takes_text dialect piece old new u blank some =
           (takes_blank Rebuilt dialect piece (made old) u none)
       | inr more ↦
           subst (λ (l : List Item). TakesItems Raw (made old) l (made new)) (sym (text_item Rebuilt dialect piece u more))
-          (takes_answer old (answer dialect (trimmed piece)) new (some more))
+          (takes_answer (front_of piece) old (answer dialect (trimmed piece)) new (some more))
     ]
 
 -- a piece was taken as it came
@@ -108,7 +108,7 @@ piece_of_line piece (Ok line) is = refl
 piece_of_line piece (Err fault) is = absurd (cc)
 
 -- the item of a text that would go out as it came, if it is at fault
-answer_of_fault : (piece : List ℕ) (answer : Result Line Fault) → is_ok answer ≡ false → item_of Verbatim piece answer ≡ answered answer
+answer_of_fault : (piece : List ℕ) (answer : Result Line Fault) → is_ok answer ≡ false → item_of Verbatim piece answer ≡ answered (front_of piece) answer
 answer_of_fault piece (Ok line) is = absurd (cc)
 answer_of_fault piece (Err fault) is = refl
 
@@ -142,7 +142,7 @@ takes_fault dialect piece text test verdict old new is u tests fails says wrong 
     subst (λ (l : List Item). TakesItems Raw (made old) l (made new))
     (sym (text_item Verbatim dialect piece u (not_blank text piece test is tests fails)
     ∙ ap (λ (i : Item). i ∷ []) (answer_of_fault piece (answer dialect (trimmed piece)) fault)))
-    (takes_answer old (answer dialect (trimmed piece)) new (subst (λ (l : List ℕ). Takes old (answer dialect l) new) is takes))
+    (takes_answer (front_of piece) old (answer dialect (trimmed piece)) new (subst (λ (l : List ℕ). Takes old (answer dialect l) new) is takes))
 
 -- an empty piece has no item
 no_items : (lines : Lines) (dialect : Dialect) → items_of_bytes lines dialect [] ≡ []

@@ -35,7 +35,7 @@ pub record RelaysSoFar (s : Settings) (reader reader_after : Option (List ℕ)) 
   pub last : IsLastPiece (rules_of s.dialect) held
   pub consumed : Consumes reader reader_after given
   pub run : Run (rules_of s.dialect) given pieces held
-  pub line_is : now.made.line ≡ line_past (first_line s.numbering s.first) pieces
+  pub line_is : now.made.line ≡ line_past (first_line s.faults s.numbering s.first) pieces
   pub relays : RelaysItems (unwritten_of_none s) now before after (items_of s pieces) (faults_past s (made_of_none s) pieces)
       (refused_pieces s pieces)
 
@@ -92,7 +92,7 @@ so_far_more s r m t part stream after now new a b c h read q =
       run = run_on (rules_of s.dialect) (h.given ++ part) (h.held ++ part) p.0.rest h.pieces more.pieces
           (pushed h.given h.pieces h.held part h.run) more.taken;
       line_is =
-          more.line ∙ ap (λ q. line_past q more.pieces) h.line_is ∙ sym (line_append (first_line s.numbering s.first) h.pieces more.pieces);
+          more.line ∙ ap (λ q. line_past q more.pieces) h.line_is ∙ sym (line_append (first_line s.faults s.numbering s.first) h.pieces more.pieces);
       relays = relays_same (unwritten_of_none s) new a c _ _ _ _ _ _
           (sym (items_append s h.pieces more.pieces))
           (faults_then s (unwritten_of_none s) now a b h.pieces more.pieces _ _ h.relays h.line_is)
@@ -119,10 +119,10 @@ fronts_of exist give s (Some x) (Some y) given pieces held a c read run p =
       batch = passes_some a.out c.out (items_batch xs) p.batch_left (items_batch ys) _ p.batch
           (ap items_batch (items_append s pieces others.0) ∙ batch_append xs ys);
       faults = passes_some a.err c.err (faults_past s (made_of_none s) pieces) p.faults_left
-          (faults_from s (line_past (first_line s.numbering s.first) pieces)
+          (faults_from s (line_past (first_line s.faults s.numbering s.first) pieces)
           (items_before s.numbering s.first + 0 + 1 + length xs) others.0) _ p.faults
           (sym (faults_named s (pieces ++ others.0))
-          ∙ faults_from_append s (first_line s.numbering s.first) (items_before s.numbering s.first + 0 + 1) pieces others.0);
+          ∙ faults_from_append s (first_line s.faults s.numbering s.first) (items_before s.numbering s.first + 0 + 1) pieces others.0);
       put = passes_some a.refused c.refused (refused_pieces s pieces) p.pieces_left (refused_pieces s others.0) _ p.pieces
           (sym (put_append s pieces others.0));
     }

@@ -2,6 +2,7 @@ pub mod Cuts
 pub mod CutSteps
 pub mod Differing
 pub mod LineFaults
+pub mod Objects
 pub mod Relaying
 pub mod RelaySteps
 pub mod Relays

@@ -1,8 +1,9 @@
 -- What each step of a relay takes of the stream, and what it writes or holds of it.
 use Rattle.std.specs.Prelude.{◌≡◌, ◌⊎◌, ◌<◌, ℕ, ◌+◌, ◌-◌, ◌++◌, List, [], ◌∷◌, length, drop, string_bytes, Option, Some, None}
-use Rattle.std.specs.Prelude.{Result, Ok, Err, if◌then◌else◌}
+use Rattle.std.specs.Prelude.{Result, Ok, Err, unwrap_or, if◌then◌else◌}
 use Rattle.std.specs.Borrow.{Bor}
 use Rattle.std.specs.Io.KnownBytes.{Appends}
+use Rattle.std.specs.Str.{IsUtf8}
 use Rattle.influxdb_line_protocol.specs.format.Dialects.{Dialect}
 use Rattle.influxdb_line_protocol.specs.format.Bytes.{newlines_in}
 use Rattle.influxdb_line_protocol.specs.format.Pieces.{IsLastPiece}
@@ -17,12 +18,13 @@ use Rattle.lp_relay_core.specs.declared.taking.Numbering.{Numbering}
 use Rattle.lp_relay_core.specs.declared.taking.Numbering.TheVariants as named
 use Rattle.lp_relay_core.specs.declared.taking.Settings.{Settings}
 use Rattle.lp_relay_core.specs.declared.telling.Faults.{Faults}
-use Rattle.lp_relay_core.specs.declared.telling.Faults.TheVariants.{Raw}
+use Rattle.lp_relay_core.specs.declared.telling.Faults.TheVariants.{Raw, OneLine, Json}
 use Rattle.lp_relay_core.specs.Told.{told}
 use Rattle.lp_rebuild.specs.declared.program.RunFault.{RunFault}
 use Rattle.lp_rebuild.specs.declared.program.RunFault.TheVariants.{Read, NotUtf8, OutOfMemory, Write}
 use Rattle.lp_rebuild.specs.RebuildSteps.{fault_line_at}
 use Rattle.lp_relay_core.specs.LineFaults.{item_text}
+use Rattle.lp_relay_core.specs.Objects.{front_given, item_object, kind_given, object}
 use Rattle.lp_relay_core.specs.Relaying.{Item, first_of, too_long, is_carried_item, items_of_bytes, items_of_piece, items_of, items_batch, carried_items}
 use Rattle.lp_relay_core.specs.Relaying.{refused_items, refused_lines, refused_piece, refused_pieces}
 use Rattle.lp_relay_core.specs.Writers.{Known, Writers}
@@ -57,9 +59,15 @@ pub record Made : Type 0 where
   pub line : Option ℕ
 
 -- the line that the fault line of the first item names, if it names a line
-abbrev pub first_line : Numbering → ℕ → Option ℕ
-first_line named.Items first = None
-first_line named.Lines first = Some (first_of first)
+abbrev pub first_named : Numbering → ℕ → Option ℕ
+first_named named.Items first = None
+first_named named.Lines first = Some (first_of first)
+
+-- the line that the fault line of the first item names, if it names a line; an object always does
+abbrev pub first_line : Faults → Numbering → ℕ → Option ℕ
+first_line Raw numbering first = first_named numbering first
+first_line OneLine numbering first = first_named numbering first
+first_line (Json line) numbering first = Some (first_of line)
 
 -- how many items are counted before the first item, so that the next number is that of the first item
 abbrev pub items_before : Numbering → ℕ → ℕ
@@ -73,7 +81,7 @@ made_of_none s = record {
   faults = [];
   carried = items_before s.numbering s.first;
   refused = 0;
-  line = first_line s.numbering s.first;
+  line = first_line s.faults s.numbering s.first;
 }
 
 -- what a relay has made so far
@@ -120,11 +128,25 @@ abbrev pub line_past : Option ℕ → List (List ℕ) → Option ℕ
 line_past line [] = line
 line_past line (piece ∷ pieces) = line_past (line_after line (newlines_in piece)) pieces
 
+-- the fault line of an item at a place, which has this number, as a rebuild writes it: none if it is carried
+abbrev pub raw_fault : Option ℕ → ℕ → Item → List ℕ
+raw_fault line number item = if is_carried_item item then [] else fault_line_at line number (item_text item)
+
+-- the line that is named, or 0 if none is
+abbrev pub line_or_none : Option ℕ → ℕ
+line_or_none line = unwrap_or line 0
+
+-- what is told of an item at a place, which has this number
+abbrev pub told_item : Faults → Option ℕ → ℕ → Item → List ℕ
+told_item Raw line number item = raw_fault line number item
+told_item OneLine line number item = told OneLine (raw_fault line number item)
+told_item (Json first_line) line number item = item_object number (line_or_none line) item
+
 -- the fault lines of items of one piece that are not carried, at this line, where the first item has this number
 abbrev pub faults_at : Faults → Option ℕ → ℕ → List Item → List ℕ
 faults_at form line number [] = []
 faults_at form line number (item ∷ items) =
-    told form (if is_carried_item item then [] else fault_line_at line number (item_text item)) ++ faults_at form line (number + 1) items
+    told_item form line number item ++ faults_at form line (number + 1) items
 
 -- the fault lines of the items of pieces that are not carried, where the first piece is at this line, and the first item has
 -- this number
@@ -155,13 +177,23 @@ pub record TakesGiven (s : Settings) (old : Unwritten) (result : Result (Bor (Li
   pub items : TakesItems s.faults old.made (items_given s.lines (rules_of s.dialect) result) new.made
   pub pieces : new.pieces ≡ old.pieces ++ refused_given s result
 
--- if a call gave this, and its items were taken after so many bytes of fault lines and so many refused items, the piece is taken once
--- it ended so
-abbrev pub EndsPiece : Settings → (from refused : ℕ) → Result (Bor (List ℕ)) PieceTooLong → (mid new : Pending) → Type 0
-EndsPiece s from refused result mid new =
-    (old : Made) → from ≡ length old.faults → refused ≡ old.refused
-    → TakesItems Raw old (items_given s.lines (rules_of s.dialect) result) (made mid.so_far)
-    → TakesGiven s (record { made = old; pieces = mid.pieces.items }) result (unwritten_of new)
+-- what a call gave was taken, and its fault line, if it has one, comes after these first bytes, as a rebuild writes it
+pub record TakesRaw (s : Settings) (given : Result (Bor (List ℕ)) PieceTooLong) (from : ℕ) (old new : Made) : Type 0 where
+  pub from_is : from ≡ length old.faults
+  pub text : IsUtf8 old.faults
+  pub line : new.line ≡ old.line
+  pub takes : TakesItems Raw old (items_given s.lines (rules_of s.dialect) given) new
+
+-- if what a call gave was taken so, the piece is taken once it ended so
+abbrev pub EndsPiece : Settings → (from : ℕ) → Result (Bor (List ℕ)) PieceTooLong → (mid new : Pending) → Type 0
+EndsPiece s from given mid new =
+    (old : Made) → TakesRaw s given from old (made mid.so_far)
+    → TakesGiven s (record { made = old; pieces = mid.pieces.items }) given (unwritten_of new)
+
+-- the object of what a call gave, which is refused for this text
+abbrev pub object_given : Dialect → Option ℕ → ℕ → Result (Bor (List ℕ)) PieceTooLong → List ℕ → List ℕ
+object_given dialect line number given text =
+    object number (line_or_none line + newlines_in (front_given given)) (kind_given dialect given text) text
 
 -- a writer gained all that was held and that was made, but for what is left
 abbrev pub Passes : Option (List ℕ) → Option (List ℕ) → (held added left : List ℕ) → Type 0

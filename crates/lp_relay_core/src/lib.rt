@@ -11,13 +11,16 @@
 mod cuts;
 mod differing;
 mod nowhere;
+mod objects;
 mod relaying;
 mod taking;
 mod telling;
+mod texts;
 mod verdict;
 
 pub use cuts::part_ends;
 pub use nowhere::Nowhere;
 pub use relaying::{Relayed, relay};
-pub use taking::{Lines, Numbering, Settings, newlines_in};
+pub use taking::{Lines, Numbering, Settings};
 pub use telling::Faults;
+pub use texts::newlines_in;

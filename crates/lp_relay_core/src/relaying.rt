@@ -11,9 +11,8 @@ ghost use Rattle.lp_relay_core.specs.Relays.{Relays};
 ghost use Rattle.lp_relay_core.specs.Writers.{of_writers};
 ghost use Rattle.lp_rebuild.specs.Running.{reader_told, writer_told};
 
-use crate::taking::{
-    Pending, Settings, items_before, nothing_made, take_piece, take_text_piece, text_of,
-};
+use crate::taking::{Pending, Settings, items_before, nothing_made, take_piece, take_text_piece};
+use crate::texts::text_of;
 use influxdb_line_protocol::{BoundedLineStream, ParsedLine, laws, split_lines_in};
 use lp_rebuild::program::{BLOCK, read_block, write_bytes};
 use lp_rebuild::{RunFault, Sink, Source};
@@ -381,7 +380,7 @@ fn finish<W: Sink, E: Sink, P: Sink>(
 ///
 /// * `Read` if `reader` failed, and only there.
 /// * `OutOfMemory` if memory was refused, or if no `usize` holds the number of the next item, how many newlines, equal signs
-///   or commas a line has that is too long, or, if fault lines name lines, the line on which the next piece would begin.
+///   or commas a line has that is too long, or, if faults name lines, the line on which the next piece would begin.
 /// * `Write` if `out`, `err` or `refused` failed, and only there.
 pub fn relay<R: Source, W: Sink, E: Sink, P: Sink>(
     alloc: Global,

@@ -4,12 +4,14 @@ ghost use Rattle.std.specs.Prelude.{Ok, OnOk};
 ghost use Rattle.influxdb_line_protocol.specs.code.Rules.{rules_of};
 ghost use Rattle.influxdb_line_protocol.specs.format.Bytes.{newline, newlines_in};
 ghost use Rattle.lp_relay_core.specs.Relaying.{as_it_came, items_of_bytes};
-ghost use Rattle.lp_relay_core.specs.RelaySteps.{EndsPiece, HoldsLess, TakesItems, TakesGiven, items_before, items_given, line_after};
-ghost use Rattle.lp_relay_core.specs.RelaySteps.{made, newlines_given, unwritten_of, unwritten_of_none};
+ghost use Rattle.lp_relay_core.specs.RelaySteps.{EndsPiece, HoldsLess, Made, TakesItems, TakesGiven, TakesRaw, first_line, items_before};
+ghost use Rattle.lp_relay_core.specs.RelaySteps.{items_given, line_after, made, newlines_given, unwritten_of, unwritten_of_none};
 ghost use Rattle.lp_relay_core.specs.TakenBack.{TakesBack};
 
 use crate::differing::{Part, differing_part, part_text};
-use crate::telling::{Faults, tell};
+use crate::objects::tell_as_object;
+use crate::telling::{Faults, tell_on_one_line};
+use crate::texts::{newlines_in, text_of};
 use crate::verdict::is_line;
 use influxdb_line_protocol::{
     Dialect, EscapedStr, FieldSet, ParsedLine, PieceTooLong, Series, TagSet, is_as_written, laws,
@@ -18,9 +20,7 @@ use lp_lines::freeing::{forget_line, free_line};
 use lp_rebuild::batch::{self, Progress, refuse};
 use lp_rebuild::program::BLOCK;
 use lp_scan::trim::trimmed;
-use simdutf8::basic::{self, Utf8Error};
 use std::alloc::{AllocError, Global};
-use std::str;
 
 /// How the lines of a relay go out.
 #[derive(Clone, Copy, Debug, PartialEq, Eq)]
@@ -116,6 +116,17 @@ pub(crate) fn items_before(settings: Settings) -> usize
     }
 }
 
+// The line on which the first piece begins, if lines are named.
+fn first_line(settings: Settings) -> Option<usize>
+    ensures { result ≡ first_line settings.faults settings.numbering settings.first }
+{
+    match (settings.faults, settings.numbering) {
+        (Faults::Json { first_line }, _) => Some(first_line.max(1)),
+        (_, Numbering::Items) => None,
+        (_, Numbering::Lines) => Some(settings.first.max(1)),
+    }
+}
+
 // Before the first item. It takes no memory.
 pub(crate) fn nothing_made(alloc: Global, settings: Settings) -> Pending
     ensures made { unwritten_of result ≡ unwritten_of_none settings }
@@ -126,10 +137,7 @@ pub(crate) fn nothing_made(alloc: Global, settings: Settings) -> Pending
         faults: String::new(alloc),
         carried: items_before(settings),
         refused: 0,
-        line: match settings.numbering {
-            Numbering::Items => None,
-            Numbering::Lines => Some(settings.first.max(1)),
-        },
+        line: first_line(settings),
     };
     let pieces = Vec::new(alloc);
     Pending { so_far, pieces }
@@ -141,6 +149,7 @@ fn take_as_it_came(so_far: &mut Progress, piece: &str) -> Result<(), AllocError>
     ensures taken { OnOk result (TakesItems Faults.Raw (made so_far.old) (as_it_came piece.now ∷ []) (made so_far.new)) }
     ensures counted { OnOk result
         (so_far.new.carried + so_far.new.refused ≡ so_far.old.carried + so_far.old.refused + 1) }
+    ensures line { so_far.new.line ≡ so_far.old.line }
 {
     so_far.batch.reserve(piece.len() + 1)?;
     so_far.batch.extend_from_slice(piece.as_bytes())?;
@@ -164,6 +173,7 @@ fn take_verbatim<'a>(
         (TakesItems Faults.Raw (made so_far.old) (items_of_bytes Lines.Verbatim (rules_of dialect) piece.now) (made so_far.new)) }
     ensures counted { OnOk result
         (so_far.new.carried + so_far.new.refused ≤ so_far.old.carried + so_far.old.refused + 1) }
+    ensures line { so_far.new.line ≡ so_far.old.line }
 {
     let text = trimmed(piece);
     if text.is_empty() {
@@ -184,7 +194,8 @@ fn take_back(
 ) -> Result<(), AllocError>
     requires some { 0 < so_far.old.carried }
     requires room { so_far.old.carried + so_far.old.refused ≤ usize.MAX }
-    ensures { OnOk result (TakesBack so_far.old start part so_far.new) }
+    ensures back { OnOk result (TakesBack so_far.old start part so_far.new) }
+    ensures line { so_far.new.line ≡ so_far.old.line }
 {
     so_far.batch.truncate(start);
     so_far.carried -= 1;
@@ -208,6 +219,7 @@ fn take_canonical<'a>(
         (TakesItems Faults.Raw (made so_far.old) (items_of_bytes Lines.Canonical (rules_of dialect) piece.now) (made so_far.new)) }
     ensures counted { OnOk result
         (so_far.new.carried + so_far.new.refused ≤ so_far.old.carried + so_far.old.refused + 1) }
+    ensures line { so_far.new.line ≡ so_far.old.line }
 {
     laws::written_lines_stay();
     let text = trimmed(piece);
@@ -242,6 +254,7 @@ fn take_text<'a>(
         (TakesItems Faults.Raw (made so_far.old) (items_of_bytes settings.lines (rules_of settings.dialect) piece.now) (made so_far.new)) }
     ensures counted { OnOk result
         (so_far.new.carried + so_far.new.refused ≤ so_far.old.carried + so_far.old.refused + 1) }
+    ensures line { so_far.new.line ≡ so_far.old.line }
 {
     match settings.lines {
         Lines::Rebuilt => batch::take_piece(alloc, settings.dialect, so_far, piece, line, spare),
@@ -263,6 +276,7 @@ fn take_alone(
         (TakesItems Faults.Raw (made so_far.old) (items_of_bytes settings.lines (rules_of settings.dialect) piece.now) (made so_far.new)) }
     ensures counted { OnOk result
         (so_far.new.carried + so_far.new.refused ≤ so_far.old.carried + so_far.old.refused + 1) }
+    ensures line { so_far.new.line ≡ so_far.old.line }
 {
     let mut line = ParsedLine {
         series: Series {
@@ -279,20 +293,6 @@ fn take_alone(
     taken
 }
 
-// From this length on `simdutf8` tests bytes. It is several times as fast as std if they are not ASCII; if they are, it
-// takes longer below this length.
-const LONG: usize = 128;
-
-// The text of bytes, if they are UTF-8.
-pub(crate) fn text_of(bytes: &[u8]) -> Result<&str, Utf8Error>
-    ensures cases { MatchResult result (λ text. (text.now ≡ bytes.now) × IsUtf8 bytes.now) (λ _. ¬ (IsUtf8 bytes.now)) }
-{
-    if bytes.len() < LONG {
-        return str::from_utf8(bytes).map_err(|_| Utf8Error);
-    }
-    basic::from_utf8(bytes)
-}
-
 // Takes what the stream gave: its text, or a fault if it is not UTF-8 or too long. An empty piece, which has no item, needs no
 // line.
 fn take_given(
@@ -306,6 +306,7 @@ fn take_given(
         (TakesItems Faults.Raw (made so_far.old) (items_given settings.lines (rules_of settings.dialect) piece.entry) (made so_far.new)) }
     ensures counted { OnOk result
         (so_far.new.carried + so_far.new.refused ≤ so_far.old.carried + so_far.old.refused + 1) }
+    ensures line { so_far.new.line ≡ so_far.old.line }
 {
     let Ok(bytes) = piece else {
         return refuse(so_far, TOO_LONG);
@@ -317,20 +318,6 @@ fn take_given(
         Ok(text) => take_alone(alloc, settings, so_far, text),
         Err(_) => refuse(so_far, NOT_UTF8),
     }
-}
-
-/// How many newlines there are. It goes over the bytes once, and takes no memory.
-pub fn newlines_in(bytes: &[u8]) -> usize
-    ensures few { result ≤ length bytes.now }
-    ensures value { result ≡ newlines_in bytes.now }
-{
-    let mut count = 0;
-    for at in 0..bytes.len() {
-        if bytes[at] == b'\n' {
-            count += 1;
-        }
-    }
-    count
 }
 
 // The line of the next piece, if fault lines name lines. It is refused if it, or the number of an item more, would not fit.
@@ -356,6 +343,29 @@ fn line_after(
     Ok(Some(end.checked_add(1).ok_or(AllocError)?))
 }
 
+// Tells as the settings say the fault line of a piece, which follows these first bytes.
+#[inline(always)]
+fn tell(
+    alloc: Global,
+    settings: Settings,
+    so_far: &mut Progress,
+    from: usize,
+    piece: Result<&[u8], PieceTooLong>,
+) -> Result<(), AllocError>
+    requires taken { (before : Made) × TakesRaw settings piece from before (made so_far.old) }
+    requires some { from < length (string_bytes so_far.old.faults) }
+    requires fits { so_far.old.carried + so_far.old.refused ≤ usize.MAX }
+    ensures told { OnOk result ((before : Made) → TakesRaw settings piece.entry from before (made so_far.old)
+        → TakesItems settings.faults before (items_given settings.lines (rules_of settings.dialect) piece.entry) (made so_far.new)) }
+    ensures counts { (so_far.new.carried ≡ so_far.old.carried) × (so_far.new.refused ≡ so_far.old.refused) }
+{
+    match settings.faults {
+        Faults::Raw => Ok(()),
+        Faults::OneLine => tell_on_one_line(&mut so_far.faults, from),
+        Faults::Json { .. } => tell_as_object(alloc, settings.dialect, so_far, from, piece),
+    }
+}
+
 // Adds a piece that was refused, as it came, and a newline.
 #[cold]
 #[inline(never)]
@@ -368,26 +378,26 @@ fn put_refused(pieces: &mut Vec<u8>, piece: &[u8]) -> Result<(), AllocError>
     Ok(())
 }
 
-// Ends a piece that was taken after so many bytes of fault lines and so many refused items: if its item was refused, its fault line
-// is told, and the piece goes out, if refused pieces do.
+// Ends a piece that was taken: if its item was refused, its fault line, which follows these first bytes, is told, and the piece goes
+// out, if refused pieces do.
 #[inline(always)]
 fn end_piece(
+    alloc: Global,
     settings: Settings,
     pending: &mut Pending,
     from: usize,
-    refused: usize,
     piece: Result<&[u8], PieceTooLong>,
 ) -> Result<(), AllocError>
-    requires front { IsUtf8 (take from (string_bytes pending.old.so_far.faults)) }
-    requires within { from ≤ length (string_bytes pending.old.so_far.faults) }
-    ensures ends { OnOk result (EndsPiece settings from refused piece.entry pending.old pending.new) }
+    requires taken { (before : Made) × TakesRaw settings piece from before (made pending.old.so_far) }
+    requires fits { pending.old.so_far.carried + pending.old.so_far.refused ≤ usize.MAX }
+    ensures ends { OnOk result (EndsPiece settings from piece.entry pending.old pending.new) }
     ensures counted { OnOk result ((pending.new.so_far.carried ≡ pending.old.so_far.carried)
         × (pending.new.so_far.refused ≡ pending.old.so_far.refused)) }
 {
-    if pending.so_far.refused == refused {
+    if from == pending.so_far.faults.len() {
         return Ok(());
     }
-    tell(settings.faults, &mut pending.so_far, from)?;
+    tell(alloc, settings, &mut pending.so_far, from, piece)?;
     let Ok(bytes) = piece else {
         return Ok(());
     };
@@ -412,9 +422,8 @@ pub(crate) fn take_piece(
 {
     let next = line_after(&pending.so_far, piece)?;
     let from = pending.so_far.faults.len();
-    let refused = pending.so_far.refused;
     take_given(alloc, settings, &mut pending.so_far, piece)?;
-    end_piece(settings, pending, from, refused, piece)?;
+    end_piece(alloc, settings, pending, from, piece)?;
     pending.so_far.line = next;
     Ok(())
 }
@@ -438,9 +447,8 @@ pub(crate) fn take_text_piece<'a>(
     let given = Ok(piece.as_bytes());
     let next = line_after(&pending.so_far, given)?;
     let from = pending.so_far.faults.len();
-    let refused = pending.so_far.refused;
     take_text(alloc, settings, &mut pending.so_far, piece, line, spare)?;
-    end_piece(settings, pending, from, refused, given)?;
+    end_piece(alloc, settings, pending, from, given)?;
     pending.so_far.line = next;
     Ok(())
 }
