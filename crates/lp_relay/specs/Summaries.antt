@@ -8,8 +8,8 @@ use Rattle.lp_relay.specs.declared.words.Settings.{Settings}
 abbrev pub summary_text : Totals → List ℕ
 summary_text totals =
     decimal totals.bytes ++ codes " bytes, " ++ decimal totals.lines ++ codes " lines, "
-    ++ decimal (totals.counts.carried + totals.counts.refused) ++ codes " items: " ++ decimal totals.counts.carried ++ codes " carried, "
-    ++ decimal totals.counts.refused ++ codes " refused"
+    ++ decimal (totals.carried + totals.refused) ++ codes " items: " ++ decimal totals.carried ++ codes " carried, "
+    ++ decimal totals.refused ++ codes " refused"
 
 -- the summary of a relay: none if its settings ask for none, and none after a fault
 abbrev pub asked_summary : Settings → Result Totals RunFault → Option Summary

@@ -85,7 +85,8 @@ fn relay_each<R: Source + Drop, W: Sink, E: Sink>(
     Ok(Totals {
         bytes,
         lines,
-        counts: total,
+        carried: total.carried,
+        refused: total.refused,
     })
 }
 
@@ -204,7 +205,7 @@ fn relay<'n>(rt: &HostRuntime, request: Request<'n>, names: &'n [&'n str]) -> u8
     if let Some(summary) = summary_of(request.settings, &answer) {
         let _ = eprintln!(rt; "{summary}");
     }
-    status_of_relay(&answer.map(|totals| totals.counts), notes.is_pipe_closed())
+    status_of_relay(&answer.map(|totals| totals.counts()), notes.is_pipe_closed())
 }
 
 // Prints where the inputs of these names can be cut into parts, a line for each end.

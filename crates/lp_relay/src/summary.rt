@@ -14,8 +14,22 @@ pub struct Totals {
     pub bytes: u64,
     /// How many lines were read.
     pub lines: u64,
-    /// How many items were carried, and how many were refused.
-    pub counts: Relayed,
+    /// How many items were carried.
+    pub carried: usize,
+    /// How many items were refused.
+    pub refused: usize,
+}
+
+impl Totals {
+    /// How many items were carried and refused.
+    pub fn counts(self) -> Relayed
+        ensures { result ≡ record { carried = self.carried; refused = self.refused } }
+    {
+        Relayed {
+            carried: self.carried,
+            refused: self.refused,
+        }
+    }
 }
 
 /// The totals of a relay, shown as `34 bytes, 4 lines, 3 items: 2 carried, 1 refused`.
@@ -31,13 +45,10 @@ impl fmt::Display for Summary {
     ghost output = { λ summary. Some (summary_text summary.totals) };
 
     fn fmt<W: fmt::Write>(&self, f: &mut fmt::Formatter<W>) -> fmt::Result {
-        let Totals {
-            bytes,
-            lines,
-            counts,
-        } = self.totals;
-        let carried = counts.carried;
-        let refused = counts.refused;
+        let bytes = self.totals.bytes;
+        let lines = self.totals.lines;
+        let carried = self.totals.carried;
+        let refused = self.totals.refused;
         let items = carried as u128 + refused as u128;
         write!(f, "{bytes} bytes, {lines} lines, {items} items: {carried} carried, {refused} refused")
     }
