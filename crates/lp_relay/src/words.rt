@@ -24,7 +24,8 @@ pub const VERSION: &str = "2.0.0";
 pub const HELP: &str =
     "Relays lines of InfluxDB line protocol from each FILE, one after another, or from standard input,
 to standard output as they come, and writes `item N: FAULT` to standard error for each item that
-it refuses. A FILE that is - is standard input; ./-x names a file -x.
+it refuses, with the name of its FILE before it if there are several. A FILE that is - is standard
+input; ./-x names a file -x.
 
   --strict           reads the strict dialect
   --verbatim         writes each line that can be read as it came, byte for byte; if it is not
@@ -38,13 +39,15 @@ it refuses. A FILE that is - is standard input; ./-x names a file -x.
   --faults FORM      line, as if it is not given: each fault on one line, with \\n, \\t, \\r, \\\\ and
                      \\x.. for what ASCII does not print, cut after 200 bytes; raw: as lp_rebuild
                      writes it, with newlines within; json: each as an object on one line, which
-                     names the item, the line, the kind of the fault and what is wrong
+                     names its FILE if there are several, the item, the line, the kind of the fault
+                     and what is wrong
   --max-line BYTES   a longer line is passed over, and is a fault: 16777216 if it is not given
   --progress         shows on standard error, if that is a terminal, how far the relay is: bytes
                      read, percent if all inputs are files, lines written, faults, and MB/s,
                      each second while input comes, and once more at the end
-  --summary          says at the end on standard error, if the status is 0 or 1, how many items
-                     there were: `N items: C carried, R refused`
+  --summary          says at the end on standard error, if the status is 0 or 1, how many bytes,
+                     lines and items there were:
+                     `B bytes, L lines, N items: C carried, R refused`
   --check            writes no line, but the faults and the status are as ever
   --output FILE, -o  writes the lines to FILE, which is there, and whole, once the status is 0 or 1
   --refused FILE     writes each piece that is refused to FILE as it came, with its newline; FILE is

@@ -20,7 +20,8 @@ mod verdict;
 
 pub use cuts::part_ends;
 pub use nowhere::Nowhere;
+pub use objects::put_json_text;
 pub use relaying::{Relayed, relay};
 pub use taking::{Lines, Numbering, Settings};
-pub use telling::Faults;
+pub use telling::{Faults, tell_bytes};
 pub use texts::newlines_in;

@@ -38,20 +38,25 @@ fn put_escape(faults: &mut String, byte: u8) -> Result<(), AllocError>
     }
 }
 
-// Adds a text to a string of JSON. What is between two bytes that have an escape is added as one run.
-fn put_text(faults: &mut String, text: &str) -> Result<(), AllocError>
-    ensures { OnOk result (string_bytes faults.new ≡ string_bytes faults.old ++ json_text text.now) }
+/// Adds a text as it stands in a string of JSON, without the quotes around it.
+///
+/// # Errors
+///
+/// If memory was refused; then a front of it was added.
+pub fn put_json_text(json: &mut String, text: &str) -> Result<(), AllocError>
+    ensures { OnOk result (string_bytes json.new ≡ string_bytes json.old ++ json_text text.now) }
 {
+    // What is between two bytes that have an escape is added as one run.
     let bytes = text.as_bytes();
     let mut start = 0;
     for at in 0..bytes.len() {
         if is_escaped(bytes[at]) {
-            faults.push_str(&text[start..at])?;
-            put_escape(faults, bytes[at])?;
+            json.push_str(&text[start..at])?;
+            put_escape(json, bytes[at])?;
             start = at + 1;
         }
     }
-    faults.push_str(&text[start..])
+    json.push_str(&text[start..])
 }
 
 // Adds the object of a fault, and a newline.
@@ -68,7 +73,7 @@ fn put_object(
         faults,
         "{{\"item\":{number},\"line\":{line},\"kind\":\"{kind}\",\"text\":\""
     )?;
-    put_text(faults, text)?;
+    put_json_text(faults, text)?;
     faults.push_str("\"}\n")
 }
 

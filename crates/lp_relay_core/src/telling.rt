@@ -56,12 +56,16 @@ fn tell_byte(faults: &mut String, byte: u8) -> Result<(), AllocError>
     }
 }
 
-// Adds bytes as they are told on one line.
-fn tell_bytes(faults: &mut String, bytes: &[u8]) -> Result<(), AllocError>
-    ensures { OnOk result (string_bytes faults.new ≡ string_bytes faults.old ++ flat_map told_byte bytes.now) }
+/// Adds bytes as they are told on one line, with Rust's escapes for what ASCII does not print.
+///
+/// # Errors
+///
+/// If memory was refused; then a front of them was added.
+pub fn tell_bytes(line: &mut String, bytes: &[u8]) -> Result<(), AllocError>
+    ensures { OnOk result (string_bytes line.new ≡ string_bytes line.old ++ flat_map told_byte bytes.now) }
 {
     for at in 0..bytes.len() {
-        tell_byte(faults, bytes[at])?;
+        tell_byte(line, bytes[at])?;
     }
     Ok(())
 }
